@@ -1,3 +1,4 @@
+pub mod Characters
 pub mod Edits
 pub mod EditsAt
 pub mod Falls
