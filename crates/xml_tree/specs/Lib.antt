@@ -1,4 +1,5 @@
 pub mod Characters
+pub mod Comments
 pub mod Edits
 pub mod EditsAt
 pub mod Falls
