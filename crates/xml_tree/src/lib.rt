@@ -3,11 +3,13 @@
 //! The standards are XML 1.0 (fifth edition) and Namespaces in XML 1.0.
 #![tactic(auto)]
 
+mod bindings;
 mod characters;
 mod list;
 mod names;
 mod nodes;
 mod path;
+mod scope;
 mod text;
 mod tree;
 
@@ -15,6 +17,7 @@ pub use characters::{is_char, is_name, is_name_char, is_name_start, is_space};
 pub use list::List;
 pub use names::{Attr, Decl, Name};
 pub use path::{Path, element_at};
+pub use scope::Scope;
 pub use std::alloc::AllocError as NoMemory;
 pub use text::Text;
 pub use tree::{Element, Node};
