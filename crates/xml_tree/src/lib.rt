@@ -10,6 +10,7 @@ mod nodes;
 mod path;
 mod text;
 mod tree;
+mod whole;
 
 pub use characters::{is_char, is_name, is_name_char, is_name_start, is_space};
 pub use list::List;
@@ -18,3 +19,4 @@ pub use path::{Path, element_at};
 pub use std::alloc::AllocError as NoMemory;
 pub use text::Text;
 pub use tree::{Element, Node};
+pub use whole::{copy_tree, depth, equal};
