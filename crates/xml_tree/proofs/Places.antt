@@ -1,10 +1,10 @@
 -- The nodes of an element, beside its content.
-use Rattle.std.proofs.Common.{◌≡◌, ℕ, zero, suc, ◌<◌, ◌≤◌, List, [], ◌∷◌, ◌++◌, length, get_or, slice_set, Some, IsSome, true, false, true≢false, refl, sym, ap, ◌∙◌, subst, arith, append_assoc, append-nil}
+use Rattle.std.proofs.Common.{◌≡◌, ℕ, zero, suc, ◌<◌, ◌≤◌, List, [], ◌∷◌, ◌++◌, length, get_or, slice_set, insert, Some, IsSome, true, false, true≢false, refl, sym, ap, ◌∙◌, subst, arith, append_assoc, append-nil}
 use Rattle.std.specs.List.{slice_get}
 use Rattle.xml_tree.specs.Tree.{Content, last, more, note, more_of, Tree, tree_of, kids, content_height}
-use Rattle.xml_tree.specs.Edits.{before, put, change, with_comment, with_elem, with_text}
+use Rattle.xml_tree.specs.Edits.{before, put, cut, change, with_comment, with_elem, with_text, IsFull, first_text, TextsMeet}
 use Rattle.xml_tree.specs.Falls.{content_height-before}
-use Rattle.xml_tree.specs.Nodes.{content_of, nodes_of, text_node, ends_in_text, is_text, node_with, node_height, IsFull, StartsApart, AreNormal, place, elem_of}
+use Rattle.xml_tree.specs.Nodes.{content_of, nodes_of, text_node, ends_in_text, is_text, node_with, node_height, StartsApart, AreNormal, place, gap_place, elem_of}
 use Rattle.xml_tree.specs.declared.tree.Node.{Node}
 use Rattle.xml_tree.specs.declared.tree.Node.TheVariants.{Elem, Chars, Comment}
 

@@ -1,3 +1,4 @@
+pub mod Attributes
 pub mod Characters
 pub mod Comments
 pub mod Edits

@@ -12,6 +12,7 @@ mod path;
 mod scope;
 mod text;
 mod tree;
+mod whole;
 
 pub use characters::{is_char, is_name, is_name_char, is_name_start, is_space};
 pub use list::List;
@@ -21,3 +22,4 @@ pub use scope::Scope;
 pub use std::alloc::AllocError as NoMemory;
 pub use text::Text;
 pub use tree::{Element, Node};
+pub use whole::{copy_tree, depth, equal};

@@ -12,7 +12,7 @@ use std::marker::Model;
 
 /// A node of an element.
 #[cycle(tree)]
-#[derive(Drop)]
+#[derive(Debug, Drop)]
 pub enum Node {
     Elem(Element),
     Chars(Text),
@@ -22,7 +22,7 @@ pub enum Node {
 /// An element. Contracts see a plain tree: its name, declarations, attributes and content. No text in it is empty, and no
 /// two texts stand side by side.
 #[cycle(tree)]
-#[derive(Drop)]
+#[derive(Debug, Drop)]
 pub struct Element {
     pub(crate) name: Name,
     pub(crate) decls: Vec<Decl>,
