@@ -1,0 +1,6 @@
+pub mod Addresses
+pub mod NodesFormed
+pub mod NodesValid
+pub mod Segments
+pub mod TextsRead
+pub mod Words

@@ -1,0 +1,6 @@
+pub mod Forms
+pub mod Keys
+pub mod Letters
+pub mod Rows
+pub mod Validity
+pub mod Words
