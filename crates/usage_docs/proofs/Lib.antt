@@ -1,4 +1,5 @@
 pub mod Addresses
+pub mod ClashLemmas
 pub mod NodesFormed
 pub mod NodesValid
 pub mod Segments
