@@ -2,3 +2,5 @@ pub mod KidLemmas
 pub mod Letters
 pub mod PathLemmas
 pub mod Places
+pub mod Removals
+pub mod RunLemmas

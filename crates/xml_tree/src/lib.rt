@@ -8,6 +8,7 @@ mod list;
 mod names;
 mod nodes;
 mod path;
+mod runs;
 mod text;
 mod tree;
 mod whole;
