@@ -4,3 +4,4 @@ pub mod PathLemmas
 pub mod Places
 pub mod Removals
 pub mod RunLemmas
+pub mod AttrLemmas

@@ -4,6 +4,7 @@
 #![tactic(auto)]
 
 mod characters;
+mod edits;
 mod list;
 mod names;
 mod nodes;
