@@ -6,5 +6,7 @@ pub mod Letters
 pub mod PathLemmas
 pub mod Places
 pub mod PrintLengths
-pub mod ScopeLemmas
 pub mod PrintedNodes
+pub mod Removals
+pub mod RunLemmas
+pub mod ScopeLemmas

@@ -10,6 +10,7 @@ mod names;
 mod nodes;
 mod path;
 mod printed;
+mod runs;
 mod scope;
 mod text;
 mod tree;
