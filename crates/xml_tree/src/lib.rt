@@ -3,13 +3,16 @@
 //! The standards are XML 1.0 (fifth edition) and Namespaces in XML 1.0.
 #![tactic(auto)]
 
+mod bindings;
 mod characters;
 mod edits;
 mod list;
 mod names;
 mod nodes;
 mod path;
+mod printed;
 mod runs;
+mod scope;
 mod text;
 mod tree;
 mod whole;
@@ -18,6 +21,8 @@ pub use characters::{is_char, is_name, is_name_char, is_name_start, is_space};
 pub use list::List;
 pub use names::{Attr, Decl, Name};
 pub use path::{Path, element_at};
+pub use printed::printed_len;
+pub use scope::Scope;
 pub use std::alloc::AllocError as NoMemory;
 pub use text::Text;
 pub use tree::{Element, Node};
