@@ -1,7 +1,13 @@
+pub mod AttrLemmas
 pub mod ByteOrder
+pub mod Escapes
+pub mod GatheringLemmas
 pub mod KidLemmas
 pub mod Letters
 pub mod PathLemmas
 pub mod Places
+pub mod PrintLengths
+pub mod PrintedNodes
+pub mod Removals
+pub mod RunLemmas
 pub mod ScopeLemmas
-pub mod GatheringLemmas

@@ -1,5 +1,5 @@
 -- A list of nodes, and the content that it stands for.
-use Rattle.std.specs.Prelude.{ℕ, zero, suc, Bool, true, false, List, [], ◌∷◌, ◌++◌, Option, None, Some, take, drop, option_and_then, slice_get}
+use Rattle.std.specs.Prelude.{ℕ, zero, suc, Bool, true, false, List, [], ◌∷◌, ◌++◌, Option, None, Some, take, drop, option_and_then, slice_get, slice_set, remove}
 use Rattle.xml_tree.specs.Tree.{Content, last, more, note, more_of, Tree, tree_of, height}
 use Rattle.xml_tree.specs.Edits.{before, IsFull}
 use Rattle.xml_tree.specs.declared.tree.Node.{Node}
@@ -104,6 +104,12 @@ joined (Some t) (Some u) = Some (t ++ u)
 abbrev pub joined_beside : ℕ → List Node → Option (List ℕ)
 joined_beside zero ns = None
 joined_beside (suc i) ns = joined (text_at i ns) (text_at (suc (suc i)) ns)
+
+-- without the i-th node; the texts beside it are exchanged for one, where one is given
+abbrev pub removed_joined : ℕ → Option (List ℕ) → List Node → List Node
+removed_joined zero t ns = remove ns 0
+removed_joined (suc i) None ns = remove ns (suc i)
+removed_joined (suc i) (Some t) ns = slice_set (remove (remove ns (suc i)) (suc i)) i (Chars t)
 
 -- ---- runs of nodes
 

@@ -5,10 +5,13 @@
 
 mod bindings;
 mod characters;
+mod edits;
 mod list;
 mod names;
 mod nodes;
 mod path;
+mod printed;
+mod runs;
 mod scope;
 mod text;
 mod tree;
@@ -18,6 +21,7 @@ pub use characters::{is_char, is_name, is_name_char, is_name_start, is_space};
 pub use list::List;
 pub use names::{Attr, Decl, Name};
 pub use path::{Path, element_at};
+pub use printed::printed_len;
 pub use scope::Scope;
 pub use std::alloc::AllocError as NoMemory;
 pub use text::Text;

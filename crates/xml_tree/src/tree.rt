@@ -214,7 +214,7 @@ impl Element {
 impl Node {
     ghost use Rattle.std.specs.Borrow.{sem};
     ghost use Rattle.xml_tree.specs.Lending.{LendsElem};
-    ghost use Rattle.xml_tree.specs.Nodes.{elem_of, is_text, node_with};
+    ghost use Rattle.xml_tree.specs.Nodes.{elem_of, is_text, node_with, text_of};
 
     pub(crate) fn elem_mut(&mut self) -> &mut Element
         requires { IsSome (elem_of self.old) }
@@ -236,6 +236,29 @@ impl Node {
             Node::Elem(_) => false,
             Node::Chars(_) => true,
             Node::Comment(_) => false,
+        }
+    }
+
+    // The text that it is.
+    pub(crate) fn text(&self) -> Option<&Text>
+        ensures { option_copied result ≡ text_of self.now }
+    {
+        match self {
+            Node::Elem(_) => None,
+            Node::Chars(text) => Some(text),
+            Node::Comment(_) => None,
+        }
+    }
+
+    // The element that it is.
+    pub(crate) fn into_elem(self) -> Element
+        requires { IsSome (elem_of self) }
+        ensures { elem_of self ≡ Some result }
+    {
+        match self {
+            Node::Elem(element) => element,
+            Node::Chars(_) => unreachable!(),
+            Node::Comment(_) => unreachable!(),
         }
     }
 
