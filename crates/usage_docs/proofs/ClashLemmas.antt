@@ -14,7 +14,7 @@ use Rattle.usage_docs.specs.declared.keys.Clash.{Clash}
 use Rattle.usage_docs.specs.Rows.{Scope, kind_of}
 use Rattle.usage_docs.specs.Keys.{key_of, value_of, key_value}
 use Rattle.usage_docs.specs.Clashes.{inside, Mark, mark, mark_of, mark_at, RepeatsAt, NoLater}
-use Rattle.usage_docs.specs.Siblings.{HasMark, RepeatsHere, IsFirst, RepeatedKey}
+use Rattle.usage_docs.specs.Siblings.{node_kids, HasMark, RepeatsHere, IsFirst, RepeatedKey}
 
 pub some_same : (kv : Option (List ℕ)) (a b : List ℕ) (r : Bool) → Some a ≡ kv → (IsTrue r ↔ (a ≡ b)) → IsTrue r ↔ (kv ≡ Some b)
 some_same kv a b r e f = (λ h. sym e ∙ ap Some (f.0 h), λ k. f.1 (same_Some _ _ (e ∙ k)))
@@ -56,12 +56,6 @@ unfolding key_value
 value_in kind key ats k = rw k
 
 -- ---- nodes and the elements among them
-
-abbrev pub node_kids : List Node → List Tree
-node_kids [] = []
-node_kids (Elem e ∷ ns) = e ∷ node_kids ns
-node_kids (Chars t ∷ ns) = node_kids ns
-node_kids (Comment x ∷ ns) = node_kids ns
 
 kids_before : (t : List ℕ) (content : Content) → kids (before t content) ≡ kids content
 kids_before t (last u) = refl

@@ -4,4 +4,5 @@ pub mod NodesFormed
 pub mod NodesValid
 pub mod Segments
 pub mod TextsRead
+pub mod UriLemmas
 pub mod Words

@@ -3,6 +3,8 @@ pub mod Forms
 pub mod Keys
 pub mod Letters
 pub mod Rows
+pub mod Services
 pub mod Siblings
+pub mod Uris
 pub mod Validity
 pub mod Words

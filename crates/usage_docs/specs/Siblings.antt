@@ -11,6 +11,13 @@ use Rattle.usage_docs.specs.Rows.{Scope, kind_of}
 use Rattle.usage_docs.specs.Keys.{key_of, value_of}
 use Rattle.usage_docs.specs.Clashes.{inside, Mark, mark, mark_of, RepeatsAt, NoLater}
 
+-- the elements among nodes
+abbrev pub node_kids : List Node → List Tree
+node_kids [] = []
+node_kids (Elem e ∷ ns) = e ∷ node_kids ns
+node_kids (Chars t ∷ ns) = node_kids ns
+node_kids (Comment x ∷ ns) = node_kids ns
+
 -- one of these nodes is an element with this mark
 abbrev pub HasMark : Kind → Scope → Mark → List Node → Type 0
 HasMark row c m [] = ⊥

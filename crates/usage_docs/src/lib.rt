@@ -8,10 +8,12 @@ mod forms;
 mod keys;
 mod letters;
 mod rows;
+mod uris;
 mod validity;
 
 pub use attributes::{attrs_pass, key_of, key_value, value_of};
 pub use forms::{all_formed, constraints, is_formed};
 pub use keys::{Clash, first_clash};
 pub use rows::{END, Key, Kind, Usage, follows, is_root, kind_of, part_of, root_kind};
+pub use uris::{ServiceUris, services};
 pub use validity::{is_valid_child, is_valid_in_row, schema};

@@ -5,6 +5,7 @@
 
 mod bindings;
 mod characters;
+mod declarations;
 mod edits;
 mod list;
 mod names;

@@ -5,8 +5,8 @@ use Rattle.xml_tree.specs.declared.names.Attr.{Attr}
 use Rattle.usage_docs.specs.declared.keys.Clash.{Clash}
 use Rattle.usage_docs.specs.Rows.{Scope, kind_of}
 use Rattle.usage_docs.specs.Clashes.{inside, RepeatsAt}
-use Rattle.usage_docs.specs.Siblings.{IsFirst, RepeatsHere, RepeatedKey}
-use Rattle.usage_docs.proofs.ClashLemmas.{at_none, at_here, at_below, kids_are, there_is, early_are, count_elem, count_other, found, passed, none_at_end, node_kids}
+use Rattle.usage_docs.specs.Siblings.{node_kids, IsFirst, RepeatsHere, RepeatedKey}
+use Rattle.usage_docs.proofs.ClashLemmas.{at_none, at_here, at_below, kids_are, there_is, early_are, count_elem, count_other, found, passed, none_at_end}
 use Rattle.usage_docs.proofs.keys.+clashes.Goals as goal
 use Rattle.usage_docs.proofs.keys.+clashes.Goals.{clash_inside-in-Elem+in_default-clash_at, clash_inside-in_default}
 use Rattle.xml_tree.specs.declared.tree.Node.{Node}
