@@ -1,0 +1,4 @@
+pub mod Adds
+pub mod Causes
+pub mod Connections
+pub mod Streams

@@ -1,0 +1,15 @@
+//! Sources and sinks of bytes, ports and peers with their connections, in memory and over real streams and sockets.
+//! Upward: bytes given are the next ones left, bytes taken are appended, and a failure comes only with a count that rose.
+//! The model is the project's own; no standard defines it.
+#![tactic(auto)]
+
+mod bytes;
+mod gatherer;
+mod line;
+mod writing;
+
+pub use bytes::Bytes;
+pub use gatherer::{Gatherer, flush, put};
+pub use line::{Failed, Line, Peer, Port, Sink, Source};
+pub use std::alloc::AllocError as NoMemory;
+pub use writing::write_all;
