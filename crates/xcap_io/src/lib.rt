@@ -6,10 +6,18 @@
 mod bytes;
 mod gatherer;
 mod line;
+mod mem_line;
+mod pair;
+mod std_streams;
+mod tcp;
 mod writing;
 
 pub use bytes::Bytes;
 pub use gatherer::{Gatherer, flush, put};
 pub use line::{Failed, Line, Peer, Port, Sink, Source};
+pub use mem_line::MemLine;
+pub use pair::Pair;
 pub use std::alloc::AllocError as NoMemory;
+pub use std_streams::{StdSink, StdSource};
+pub use tcp::{TcpPeer, TcpPort};
 pub use writing::write_all;
