@@ -28,6 +28,7 @@ impl<N: Net + Drop> TcpPort<N> {
           read_faults = 0;
           write_faults = 0;
           holds = [];
+          aside = [];
           port = no_port;
           peer = no_peer;
         } }
@@ -50,6 +51,7 @@ impl<N: Net + Drop> Line for TcpPort<N> {
       read_faults = p.read_faults;
       write_faults = p.write_faults;
       holds = [];
+      aside = [];
       port = record no_port { faults = p.faults };
       peer = no_peer;
     } };
@@ -75,6 +77,7 @@ impl<N: Net + Drop> TcpPeer<N> {
           read_faults = 0;
           write_faults = 0;
           holds = [];
+          aside = [];
           port = no_port;
           peer = no_peer;
         } }
@@ -96,6 +99,7 @@ impl<N: Net + Drop> Line for TcpPeer<N> {
       read_faults = p.read_faults;
       write_faults = p.write_faults;
       holds = [];
+      aside = [];
       port = no_port;
       peer = record no_peer { faults = p.faults };
     } };
