@@ -1,5 +1,6 @@
 pub mod Addresses
 pub mod ClashLemmas
+pub mod ListingLemmas
 pub mod NodesFormed
 pub mod NodesValid
 pub mod Segments

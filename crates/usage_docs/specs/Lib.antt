@@ -1,7 +1,9 @@
 pub mod Clashes
 pub mod Forms
+pub mod Indexes
 pub mod Keys
 pub mod Letters
+pub mod Listing
 pub mod Rows
 pub mod Services
 pub mod Siblings

@@ -10,6 +10,8 @@ use Rattle.xml_tree.specs.declared.names.Decl.{Decl}
 use Rattle.xml_tree.specs.declared.tree.Node.TheVariants.{Elem}
 use Rattle.usage_docs.specs.declared.rows.Kind.TheVariants.{RlsServices}
 use Rattle.usage_docs.specs.declared.rows.Key.TheVariants.{Uri}
+use Rattle.usage_docs.specs.declared.listing.IndexFault.{IndexFault}
+use Rattle.usage_docs.specs.declared.listing.IndexFault.TheVariants.{TooLarge, NoMemory}
 use Rattle.usage_docs.specs.Rows.{Scope, kind_of, services_space}
 use Rattle.usage_docs.specs.Keys.{value_of}
 use Rattle.usage_docs.specs.Clashes.{inside}
@@ -58,3 +60,12 @@ document_len t = 39 + byte_len (print t)
 -- the length of the index, printed
 abbrev pub index_len : List Tree → ℕ
 index_len ss = document_len (index_of ss)
+
+-- the greatest length of the index
+abbrev pub index_limit : ℕ
+index_limit = 16777216
+
+-- no index with these services can be: it would be so long, or there is no memory
+abbrev pub RefusesServices : List Tree → IndexFault → Type 0
+RefusesServices ss (TooLarge len) = (index_limit < index_len ss) × (len ≡ min (index_len ss) 18446744073709551615)
+RefusesServices ss NoMemory = Unit {0}
