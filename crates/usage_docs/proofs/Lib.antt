@@ -1,4 +1,5 @@
 pub mod Addresses
+pub mod CapabilitiesText
 pub mod ClashLemmas
 pub mod ListingLemmas
 pub mod NodesFormed

@@ -1,3 +1,4 @@
+pub mod Capabilities
 pub mod Clashes
 pub mod Forms
 pub mod Indexes

@@ -4,6 +4,7 @@
 #![tactic(auto)]
 
 mod attributes;
+mod capabilities;
 mod forms;
 mod keys;
 mod letters;
@@ -14,6 +15,7 @@ mod uris;
 mod validity;
 
 pub use attributes::{attrs_pass, key_of, key_value, value_of};
+pub use capabilities::caps;
 pub use forms::{all_formed, constraints, is_formed};
 pub use keys::{Clash, first_clash};
 pub use listing::{INDEX_LIMIT, IndexFault, IndexMaker};
