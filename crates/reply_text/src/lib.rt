@@ -14,3 +14,6 @@ pub use media_types::Media;
 pub use replies::Reply;
 pub use statuses::reason;
 pub use xml_tree::NoMemory;
+
+#[cfg(test)]
+mod tests;

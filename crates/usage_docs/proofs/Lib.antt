@@ -1,6 +1,7 @@
 pub mod Addresses
 pub mod CapabilitiesText
 pub mod ClashLemmas
+pub mod GapLemmas
 pub mod ListingLemmas
 pub mod NodesFormed
 pub mod NodesValid

@@ -1,8 +1,8 @@
 -- The services of the index, and its printed length.
-use Rattle.std.proofs.Common.{◌≡◌, ◌≤◌, ◌<◌, ◌+◌, ◌*◌, ◌==◌, if◌then◌else◌, ℕ, zero, suc, min, Bool, true, false, cond, List, [], ◌∷◌, ◌++◌, length, length-append, take, drop, map, filter, sum_by, codes, encode_utf8_all, refl, ap, sym, ◌∙◌, subst, arith, append-nil}
-use Rattle.xml_tree.specs.Tree.{Content, last, more, note, Tree, tree_of, kids, kids_of}
+use Rattle.std.proofs.Common.{◌≡◌, ◌≤◌, ◌<◌, ◌+◌, ◌==◌, if◌then◌else◌, ℕ, min, Bool, true, false, cond, List, [], ◌∷◌, ◌++◌, length, take, drop, map, filter, refl, ap, sym, ◌∙◌, arith, append-nil}
+use Rattle.xml_tree.specs.Tree.{Content, Tree, tree_of, kids, kids_of}
 use Rattle.xml_tree.specs.Nodes.{content_of, nodes_of, exchange_nodes}
-use Rattle.xml_tree.specs.Print.{print, print_content, opening, ending, closing, is_empty, byte_len}
+use Rattle.xml_tree.specs.Print.{print, print_content, opening, closing, byte_len}
 use Rattle.xml_tree.proofs.PrintLengths.{byte_len-append, ascii}
 use Rattle.xml_tree.specs.declared.tree.Node.{Node}
 use Rattle.xml_tree.specs.declared.tree.Node.TheVariants.{Elem, Chars, Comment}
@@ -11,9 +11,9 @@ use Rattle.usage_docs.specs.Rows.{Scope, services_space}
 use Rattle.usage_docs.specs.declared.listing.IndexFault.TheVariants.{TooLarge}
 use Rattle.std.proofs.lemmas.Str.{length-le-encodes}
 use Rattle.std.proofs.lemmas.Bool.Decides.{nat_tests}
-use Rattle.usage_docs.specs.Services.{index_limit, RefusesServices, is_service, listed_as, listed, index_name, index_decls, index_of, index_len, document_len}
-use Rattle.usage_docs.specs.Listing.{listed_nodes, elem_len, elems_len}
-use Rattle.usage_docs.specs.Indexes.{IsIndex, len_with}
+use Rattle.usage_docs.specs.Services.{index_limit, RefusesServices, is_service, listed_as, index_name, index_decls, index_of, index_len}
+use Rattle.usage_docs.specs.Listing.{listed_nodes, elems_len}
+use Rattle.usage_docs.specs.Indexes.{len_with}
 use Rattle.usage_docs.specs.Siblings.{node_kids}
 use Rattle.usage_docs.proofs.ClashLemmas.{kids_are}
 

@@ -1,6 +1,6 @@
 -- The addresses among nodes are those of the elements among them.
-use Rattle.std.proofs.Common.{◌≡◌, ℕ, List, [], ◌∷◌, filter_map, filter, map, refl, ap, sym, ◌∙◌}
-use Rattle.xml_tree.specs.Tree.{Content, Tree, kids}
+use Rattle.std.proofs.Common.{◌≡◌, List, [], ◌∷◌, filter_map, refl, ap, sym, ◌∙◌}
+use Rattle.xml_tree.specs.Tree.{Content, kids}
 use Rattle.xml_tree.specs.Nodes.{content_of}
 use Rattle.xml_tree.specs.declared.tree.Node.{Node}
 use Rattle.xml_tree.specs.declared.tree.Node.TheVariants.{Elem, Chars, Comment}

@@ -1,8 +1,8 @@
 -- What an index in the making keeps.
-use Rattle.std.specs.Prelude.{◌≡◌, ◌≤◌, ℕ, List, map, if◌then◌else◌, ◌==◌, ◌+◌, min}
+use Rattle.std.specs.Prelude.{◌≡◌, ℕ, map, if◌then◌else◌, ◌==◌, ◌+◌, min}
 use Rattle.xml_tree.specs.Tree.{Tree, kids_of}
 use Rattle.xml_tree.specs.declared.tree.Node.TheVariants.{Elem}
-use Rattle.usage_docs.specs.Services.{index_of, index_len, index_limit}
+use Rattle.usage_docs.specs.Services.{index_of}
 use Rattle.usage_docs.specs.Listing.{elems_len}
 
 -- the element is the index of its children, and their printed length is this

@@ -1,6 +1,7 @@
 pub mod Capabilities
 pub mod Clashes
 pub mod Forms
+pub mod Gaps
 pub mod Indexes
 pub mod Keys
 pub mod Letters

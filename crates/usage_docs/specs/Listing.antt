@@ -1,6 +1,5 @@
 -- The services of the index as nodes, and their length.
-use Rattle.std.specs.Prelude.{ℕ, ◌+◌, min, List, [], ◌∷◌, map, filter}
-use Rattle.xml_tree.specs.Tree.{Tree}
+use Rattle.std.specs.Prelude.{ℕ, ◌+◌, List, [], ◌∷◌, map, filter}
 use Rattle.xml_tree.specs.Print.{print, byte_len}
 use Rattle.xml_tree.specs.declared.tree.Node.{Node}
 use Rattle.xml_tree.specs.declared.tree.Node.TheVariants.{Elem, Chars, Comment}

@@ -1,6 +1,6 @@
 -- The addresses of a document's services, and the index of the services of many documents. RFC 4826, sections 4.4 and 4.4.7 to
 -- 4.4.8 (the global document rls-services/global/index).
-use Rattle.std.specs.Prelude.{◌≡◌, ℕ, ◌+◌, ◌≤◌, ◌<◌, min, Bool, List, [], ◌∷◌, ◌++◌, Option, None, Some, codes, map, filter, filter_map, flat_map, length, is_some, option_and_then}
+use Rattle.std.specs.Prelude.{◌≡◌, ℕ, ◌+◌, ◌<◌, min, Bool, List, [], ◌∷◌, Option, codes, map, filter, filter_map, flat_map, is_some, option_and_then}
 use Rattle.xml_tree.specs.Tree.{Tree, tree_of, kids_of}
 use Rattle.xml_tree.specs.Nodes.{content_of}
 use Rattle.xml_tree.specs.Scopes.{bindings_in}

@@ -6,6 +6,7 @@
 mod attributes;
 mod capabilities;
 mod forms;
+mod insertions;
 mod keys;
 mod letters;
 mod listing;
@@ -17,8 +18,12 @@ mod validity;
 pub use attributes::{attrs_pass, key_of, key_value, value_of};
 pub use capabilities::caps;
 pub use forms::{all_formed, constraints, is_formed};
+pub use insertions::insertion_is_local;
 pub use keys::{Clash, first_clash};
 pub use listing::{INDEX_LIMIT, IndexFault, IndexMaker};
 pub use rows::{END, Key, Kind, Usage, follows, is_root, kind_of, part_of, root_kind};
 pub use uris::{ServiceUris, services};
 pub use validity::{is_valid_child, is_valid_in_row, schema};
+
+#[cfg(test)]
+mod tests;

@@ -1,6 +1,4 @@
-use Rattle.std.proofs.Common.{◌≡◌, ◌∷◌, [], ◌++◌, List, map, refl, ap, sym, ◌∙◌, arith}
-use Rattle.xml_tree.specs.Tree.{kids_of}
-use Rattle.xml_tree.specs.declared.names.Decl.{Decl}
+use Rattle.std.proofs.Common.{◌≡◌, ◌∷◌, [], ◌++◌, ap, ◌∙◌, arith}
 use Rattle.usage_docs.specs.Rows.{Scope}
 use Rattle.usage_docs.specs.Listing.{listed_nodes}
 use Rattle.usage_docs.proofs.ListingLemmas.{all_listed}

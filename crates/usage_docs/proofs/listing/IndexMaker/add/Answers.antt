@@ -1,6 +1,5 @@
-use Rattle.std.proofs.Common.{◌≡◌, ◌≤◌, ◌+◌, ◌++◌, ℕ, List, length, map, min, ap, sym, ◌∙◌, subst, arith}
-use Rattle.xml_tree.specs.Tree.{Tree, kids_of}
-use Rattle.xml_tree.specs.Nodes.{nodes_of}
+use Rattle.std.proofs.Common.{◌≤◌, ◌+◌, ◌++◌, List, length, map, min, ap, sym, ◌∙◌, subst, arith}
+use Rattle.xml_tree.specs.Tree.{Tree}
 use Rattle.xml_tree.specs.declared.tree.Node.{Node}
 use Rattle.xml_tree.specs.declared.tree.Node.TheVariants.{Elem}
 use Rattle.usage_docs.specs.Services.{listed, index_of, index_len, index_limit}

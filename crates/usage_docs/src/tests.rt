@@ -1,0 +1,85 @@
+//! Documents of the two types, built by hand: each call that takes memory, and rows that show what the clauses mean.
+use crate::{IndexMaker, Usage, caps, constraints, first_clash, schema, services};
+use std::alloc::Global;
+use std::test::Fail;
+use xml_tree::{Attr, Decl, Element, Name, NoMemory, Text, depth, printed_len};
+
+const SERVICES: &str = "urn:ietf:params:xml:ns:rls-services";
+
+// A name without a prefix.
+fn name(alloc: Global, local: &str) -> Result<Name, NoMemory> {
+    let prefix = Text::from(alloc, "")?;
+    let local = Text::from(alloc, local)?;
+    Ok(Name { prefix, local })
+}
+
+// An element with an attribute.
+fn keyed(alloc: Global, local: &str, key: &str, value: &str) -> Result<Element, NoMemory> {
+    let mut made = Element::new(alloc, name(alloc, local)?);
+    let value = Text::from(alloc, value)?;
+    let name = name(alloc, key)?;
+    made.push_attr(Attr { name, value })?;
+    Ok(made)
+}
+
+// A service whose list is at an address.
+fn service(alloc: Global, uri: &str, address: &str) -> Result<Element, NoMemory> {
+    let mut list = Element::new(alloc, name(alloc, "resource-list")?);
+    list.push_chars(address)?;
+    let mut made = keyed(alloc, "service", "uri", uri)?;
+    made.push_elem(list)?;
+    Ok(made)
+}
+
+// An rls-services document without services.
+fn document(alloc: Global) -> Result<Element, NoMemory> {
+    let mut made = Element::new(alloc, name(alloc, "rls-services")?);
+    let prefix = Text::from(alloc, "")?;
+    let uri = Text::from(alloc, SERVICES)?;
+    made.push_decl(Decl { prefix, uri })?;
+    Ok(made)
+}
+
+#[test]
+fn a_service_twice_is_a_clash_at_the_later_one(rt: HostRuntime) -> Result<(), Fail> {
+    let alloc = rt.alloc();
+    let mut root = document(alloc)?;
+    root.push_elem(service(alloc, "sip:a@x", " http://x/l ")?)?;
+    root.push_elem(service(alloc, "sip:b@x", "https://x")?)?;
+    root.push_elem(service(alloc, "sip:a@x", "http://")?)?;
+    assert!(rt; depth(&root) <= 64);
+    assert!(rt; schema(Usage::RlsServices, &root));
+    assert!(rt; !schema(Usage::ResourceLists, &root));
+    assert!(rt; !constraints(Usage::RlsServices, &root));
+    let clash = first_clash(Usage::RlsServices, &root).ok_or("no clash")?;
+    assert_eq!(rt; clash.path.numbers(), [2].as_slice());
+    assert_eq!(rt; clash.key.word(), "uri");
+    let mut count = 0usize;
+    for uri in services(&root) {
+        assert!(rt; uri.starts_with("sip:"));
+        count = count.saturating_add(1);
+    }
+    assert_eq!(rt; count, 3);
+    Ok(())
+}
+
+#[test]
+fn the_index_shows_each_service_with_its_bindings(rt: HostRuntime) -> Result<(), Fail> {
+    let alloc = rt.alloc();
+    let mut root = document(alloc)?;
+    root.push_elem(service(alloc, "sip:a@x", "http://x")?)?;
+    let mut maker = IndexMaker::new(alloc)?;
+    maker.add(&root).ok().ok_or("too large")?;
+    let index = maker.finish();
+    let text =
+        "<rls:rls-services xmlns:rls=\"urn:ietf:params:xml:ns:rls-services\"><service xmlns=\"urn:ietf:params:xml:ns:rls-services\" uri=\"sip:a@x\"><resource-list>http://x</resource-list></service></rls:rls-services>";
+    assert_eq!(rt; printed_len(&index), text.len());
+    Ok(())
+}
+
+#[test]
+fn the_capabilities_are_made(rt: HostRuntime) -> Result<(), Fail> {
+    let root = caps(rt.alloc())?;
+    assert_eq!(rt; root.nodes().len(), 3);
+    Ok(())
+}
