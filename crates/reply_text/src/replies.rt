@@ -117,21 +117,11 @@ impl Reply {
     }
 
     /// The same reply without its body, as the answer to HEAD. Takes no memory.
-    pub fn head_only(self) -> Reply
+    pub fn head_only(mut self) -> Reply
         ensures { result ≡ record self { body = [] } }
     {
-        let Reply {
-            status,
-            closes,
-            head,
-            ..
-        } = self;
-        Reply {
-            status,
-            closes,
-            head,
-            body: None,
-        }
+        self.body = None;
+        self
     }
 
     /// The status. Takes no memory.
