@@ -1,5 +1,5 @@
 -- The services of the index, and its printed length.
-use Rattle.std.proofs.Common.{◌≡◌, ◌≤◌, ◌<◌, ◌+◌, ◌==◌, if◌then◌else◌, ℕ, min, Bool, true, false, cond, List, [], ◌∷◌, ◌++◌, length, take, drop, map, filter, refl, ap, sym, ◌∙◌, arith, append-nil}
+use Rattle.std.proofs.Common.{◌≡◌, ◌≤◌, ◌<◌, ◌+◌, ◌==◌, if◌then◌else◌, ℕ, min, Bool, true, false, cond, List, [], ◌∷◌, ◌++◌, length, take, drop, map, filter, flat_map, refl, ap, sym, ◌∙◌, arith, append-nil}
 use Rattle.xml_tree.specs.Tree.{Content, Tree, tree_of, kids, kids_of}
 use Rattle.xml_tree.specs.Nodes.{content_of, nodes_of, exchange_nodes}
 use Rattle.xml_tree.specs.Print.{print, print_content, opening, closing, byte_len}
@@ -11,7 +11,7 @@ use Rattle.usage_docs.specs.Rows.{Scope, services_space}
 use Rattle.usage_docs.specs.declared.listing.IndexFault.TheVariants.{TooLarge}
 use Rattle.std.proofs.lemmas.Str.{length-le-encodes}
 use Rattle.std.proofs.lemmas.Bool.Decides.{nat_tests}
-use Rattle.usage_docs.specs.Services.{index_limit, RefusesServices, is_service, listed_as, index_name, index_decls, index_of, index_len}
+use Rattle.usage_docs.specs.Services.{index_limit, RefusesServices, is_service, listed_as, index_name, index_decls, index_of, index_text, index_len}
 use Rattle.usage_docs.specs.Listing.{listed_nodes, elems_len}
 use Rattle.usage_docs.specs.Indexes.{len_with}
 use Rattle.usage_docs.specs.Siblings.{node_kids}
@@ -135,3 +135,14 @@ grown root before nodes ss new end made are is at = made ∙ ap (λ ns. exchange
 
 pub kids_grown : (root : Tree) (ss : List Tree) → root ≡ index_of ss → kids_of root ≡ ss
 kids_grown root ss is = ap kids_of is ∙ kids_of_elems ss
+
+-- ---- its print
+
+prints : (ss : List Tree) → print_content (content_of (map Elem ss)) ≡ flat_map print ss
+prints [] = refl
+prints (s ∷ ss) = ap (λ x. print s ++ x) (prints ss)
+
+pub index_prints : (ss : List Tree) → print (index_of ss) ≡ index_text ss
+unfolding index_name index_decls services_space
+index_prints [] = refl
+index_prints (s ∷ ss) = ap (λ p. opening index_name index_decls [] ++ (62 ∷ (p ++ closing index_name))) (prints (s ∷ ss))

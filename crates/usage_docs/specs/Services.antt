@@ -1,6 +1,6 @@
 -- The addresses of a document's services, and the index of the services of many documents. RFC 4826, sections 4.4 and 4.4.7 to
 -- 4.4.8 (the global document rls-services/global/index).
-use Rattle.std.specs.Prelude.{◌≡◌, ℕ, ◌+◌, ◌<◌, min, Bool, List, [], ◌∷◌, Option, codes, map, filter, filter_map, flat_map, is_some, option_and_then}
+use Rattle.std.specs.Prelude.{◌≡◌, ℕ, ◌+◌, ◌<◌, min, Bool, List, [], ◌∷◌, ◌++◌, Option, codes, map, filter, filter_map, flat_map, is_some, option_and_then}
 use Rattle.xml_tree.specs.Tree.{Tree, tree_of, kids_of}
 use Rattle.xml_tree.specs.Nodes.{content_of}
 use Rattle.xml_tree.specs.Scopes.{bindings_in}
@@ -52,6 +52,14 @@ index_of ss = tree_of index_name index_decls [] (content_of (map Elem ss))
 -- that of the services of these documents
 abbrev pub index_of_documents : List Tree → Tree
 index_of_documents ts = index_of (flat_map listed ts)
+
+-- the print of the index, without the line that stands before the root
+abbrev pub index_text : List Tree → List ℕ
+index_text [] = codes "<rls:rls-services xmlns:rls=" ++ (34 ∷ []) ++ codes "urn:ietf:params:xml:ns:rls-services" ++ (34 ∷ []) ++ codes "/>"
+index_text (s ∷ ss) =
+    codes "<rls:rls-services xmlns:rls=" ++ (34 ∷ []) ++ codes "urn:ietf:params:xml:ns:rls-services" ++ (34 ∷ []) ++ codes ">"
+    ++ flat_map print (s ∷ ss)
+    ++ codes "</rls:rls-services>"
 
 -- the length of a document's print, which has 39 bytes before its root: `<?xml version="1.0" encoding="UTF-8"?>` and a line end
 abbrev pub document_len : Tree → ℕ

@@ -146,7 +146,8 @@ fn len_with(inner: usize) -> usize
 }
 
 impl IndexMaker {
-    ghost use Rattle.usage_docs.specs.Services.{listed, index_of, index_len, index_limit, RefusesServices};
+    ghost use Rattle.xml_tree.specs.Print.{print};
+    ghost use Rattle.usage_docs.specs.Services.{listed, index_of, index_text, index_len, index_limit, RefusesServices};
 
     /// An index without services.
     ///
@@ -188,7 +189,8 @@ impl IndexMaker {
 
     /// The index. Takes no memory.
     pub fn finish(self) -> Element
-        ensures { result ≡ index_of self }
+        ensures index { result ≡ index_of self }
+        ensures text { print result ≡ index_text self }
     {
         let IndexMaker { root, .. } = self;
         root
