@@ -4,3 +4,5 @@ pub mod Leaves
 pub mod Heads
 pub mod Fronts
 pub mod Greedy
+pub mod UpTo
+pub mod Repeats
