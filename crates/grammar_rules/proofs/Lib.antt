@@ -6,3 +6,5 @@ pub mod Fronts
 pub mod Greedy
 pub mod UpTo
 pub mod Repeats
+pub mod Laws
+pub mod Closed

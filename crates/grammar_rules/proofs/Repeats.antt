@@ -14,11 +14,11 @@ module _ {Kind A : Type 0} (r : Rule Kind A) (K : Rest Kind) where
   abbrev pub more : A → Rest Kind
   more _ = ahead (many r) (λ _. K)
 
-  abbrev put : A × List A → List A
+  abbrev pub put : A × List A → List A
   put x = x.0 ∷ x.1
 
   -- a member and more of them
-  abbrev one_more : Rule Kind (List A)
+  abbrev pub one_more : Rule Kind (List A)
   one_more = valued put (sequence r (λ _. many r))
 
   at_back : (P : List ℕ → Type 0) (v front back : List ℕ) → v ≡ front ++ back → front ≡ [] → P back → P v
@@ -57,7 +57,7 @@ module _ {Kind A : Type 0} (r : Rule Kind A) (K : Rest Kind) where
       ))
       m.1.back_is
 
-  one_more_meets : (e : Event Kind) (u : List ℕ) → one_more.Meets e u → (many r).Meets e u
+  pub one_more_meets : (e : Event Kind) (u : List ℕ) → one_more.Meets e u → (many r).Meets e u
   one_more_meets e u (inl h) = ([], record { front = []; back = u; joined = refl; front_is = refl; back_is = h })
   one_more_meets e u (inr h) =
       let n = h.1.back_is in
