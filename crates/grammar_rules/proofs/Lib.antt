@@ -8,3 +8,4 @@ pub mod UpTo
 pub mod Repeats
 pub mod Laws
 pub mod Closed
+pub mod Marks
