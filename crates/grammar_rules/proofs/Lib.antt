@@ -9,3 +9,4 @@ pub mod Repeats
 pub mod Laws
 pub mod Closed
 pub mod Marks
+pub mod Whole
