@@ -10,3 +10,4 @@ pub mod Laws
 pub mod Closed
 pub mod Marks
 pub mod Whole
+pub mod Shapes
