@@ -11,3 +11,5 @@ pub mod Closed
 pub mod Marks
 pub mod Whole
 pub mod Shapes
+pub mod Led
+pub mod Spaced
