@@ -1,11 +1,11 @@
 -- Rules with marks are read exactly: whole texts that are judged, marked fronts, words that are known and refused.
-use Rattle.std.proofs.Common.{◌≡◌, ℕ, zero, suc, ◌+◌, ◌-◌, ◌<◌, ◌≤◌, Bool, true, false, cond, List, [], ◌∷◌, ◌++◌, length, take, drop, Result, Ok, Err, ◌⊎◌, inl, inr, ⊎_elim, refl, sym, ap, subst, ◌∙◌, append_assoc, arith}
+use Rattle.std.proofs.Common.{◌≡◌, ℕ, ◌+◌, ◌-◌, ◌<◌, ◌≤◌, Bool, true, false, cond, List, [], ◌∷◌, ◌++◌, length, take, drop, Result, Ok, Err, ◌⊎◌, inl, inr, ⊎_elim, refl, sym, ap, subst, ◌∙◌, append_assoc, arith}
 use Rattle.std.specs.Prelude.{Option, Some, None}
 use Rattle.std.proofs.lemmas.List.{length-append, append-nil, take-append-drop, length-drop}
-use Rattle.grammar_rules.specs.Rules.{Event, Begin, Mark, Rule, Split, word, marked, judged, trap}
+use Rattle.grammar_rules.specs.Rules.{Event, Begin, Mark, Rule, word, marked, judged, trap}
 use Rattle.grammar_rules.specs.Reading.{Stop, Syntax, Faulty, Reader, ◌>>=◌, starts, read_word, read_marked, judgement, read_judged, read_trap}
 use Rattle.grammar_rules.specs.Answers.{Faults}
-use Rattle.grammar_rules.proofs.Exact.{Rest, ahead, Passed, Behind, Later, IsRead, IsStopped, IsAtFault, Outcome, Exact, behind_passed}
+use Rattle.grammar_rules.proofs.Exact.{Rest, ahead, Passed, Behind, Later, IsRead, IsAtFault, Outcome, Exact}
 use Rattle.grammar_rules.proofs.Carry.{Idle, Carries, same, carried_same}
 use Rattle.grammar_rules.proofs.Leaves.{exact_word}
 use Rattle.grammar_rules.proofs.Fronts.{starts_is, no_start}

@@ -1,14 +1,13 @@
 -- The shapes that grammars often have are read exactly.
-use Rattle.std.proofs.Common.{◌≡◌, ℕ, zero, suc, ◌+◌, ◌<◌, ◌≤◌, Bool, true, false, List, [], ◌∷◌, ◌++◌, length, Result, Ok, Err, ◌⊎◌, inl, inr, ⊎_elim, refl, sym, ap, subst, ◌∙◌, append_assoc, arith}
-use Rattle.std.specs.Prelude.{Option, Some, None}
-use Rattle.std.proofs.lemmas.List.{length-append}
-use Rattle.grammar_rules.specs.Rules.{Event, Begin, Mark, Rule, Split, empty, one, word, AllPass, run, run_without, sequence, either, many, valued, optional, between, some_of, name_of, before, behind, quoted}
-use Rattle.grammar_rules.specs.Reading.{Reader, read_run, read_run_without, read_sequence, read_many, read_optional, read_between, read_some_of, read_name_of, read_before, read_behind, read_quoted}
+use Rattle.std.proofs.Common.{◌≡◌, ℕ, ◌<◌, Bool, true, false, List, [], ◌∷◌, ◌++◌, length, ◌⊎◌, inl, inr, ⊎_elim, refl, sym, ap, subst, ◌∙◌, append_assoc}
+use Rattle.std.specs.Prelude.{Some, None}
+use Rattle.grammar_rules.specs.Rules.{Event, Begin, Mark, Rule, empty, word, AllPass, run, run_without, sequence, many, valued, optional, between, some_of, name_of, before, behind, quoted}
+use Rattle.grammar_rules.specs.Reading.{Reader, read_run, read_run_without, read_optional, read_between, read_some_of, read_name_of, read_before, read_behind, read_quoted}
 use Rattle.grammar_rules.specs.Answers.{Faults}
 use Rattle.grammar_rules.proofs.Exact.{Rest, ahead, Exact, exact_sequence, exact_sequence_if}
 use Rattle.grammar_rules.proofs.Carry.{Idle, Covers, exact_valued, exact_either, covers_sequence}
 use Rattle.grammar_rules.proofs.Leaves.{exact_empty, exact_one, exact_word}
-use Rattle.grammar_rules.proofs.Heads.{Not, Heads, Starts, uses, starts_one, starts_sequence, starts_valued, heads_starts, heads_run, heads_run_without, heads_sequence}
+use Rattle.grammar_rules.proofs.Heads.{Not, Heads, Starts, uses, starts_one, starts_sequence, starts_valued}
 use Rattle.grammar_rules.proofs.Greedy.{exact_run, exact_run_without}
 use Rattle.grammar_rules.proofs.Repeats.{more, Repeats, exact_many, heads_many}
 

@@ -1,15 +1,15 @@
 -- Rules behind white space, as attributes behind a name: whether one more comes is seen behind the white space.
-use Rattle.std.proofs.Common.{◌≡◌, ℕ, zero, suc, ◌+◌, ◌<◌, ◌≤◌, Bool, true, false, List, [], ◌∷◌, ◌++◌, length, ◌⊎◌, inl, inr, ⊎_elim, refl, sym, ap, subst, ◌∙◌, append_assoc, arith}
-use Rattle.std.specs.Prelude.{◌&&◌, Option}
+use Rattle.std.proofs.Common.{◌≡◌, ℕ, ◌<◌, Bool, true, false, List, [], ◌∷◌, ◌++◌, length, ◌⊎◌, inl, inr, ⊎_elim, refl, sym, ap, subst, ◌∙◌, arith}
+use Rattle.std.specs.Prelude.{◌&&◌}
 use Rattle.std.proofs.lemmas.List.{length-append, append-nil}
-use Rattle.grammar_rules.specs.Rules.{Event, Begin, Mark, Rule, Split, one, AllPass, run, sequence, either, many, valued, sized, optional, some_of, behind}
+use Rattle.grammar_rules.specs.Rules.{Event, Begin, Mark, Rule, AllPass, run, sequence, many, valued, sized, optional, some_of, behind}
 use Rattle.grammar_rules.specs.Reading.{Reader, head_is, after_front, spaced, read_many, read_optional}
 use Rattle.grammar_rules.specs.Answers.{Faults}
 use Rattle.grammar_rules.proofs.Exact.{Rest, ahead, regroup, Exact}
-use Rattle.grammar_rules.proofs.Carry.{Idle, Covers, either_meets, either_whole, valued_meets, valued_whole}
+use Rattle.grammar_rules.proofs.Carry.{Idle, Covers}
 use Rattle.grammar_rules.proofs.Fronts.{pass_append}
 use Rattle.grammar_rules.proofs.Heads.{Heads, Follows, Starts}
-use Rattle.grammar_rules.proofs.Repeats.{more, many_meets, many_whole, Repeats, exact_many}
+use Rattle.grammar_rules.proofs.Repeats.{more, many_meets, many_whole, exact_many}
 use Rattle.grammar_rules.proofs.Shapes.{exact_optional}
 
 module _ (space : ℕ → Bool) where
