@@ -1,5 +1,5 @@
 -- Rules whose texts begin with one word and then a character of a class: the character behind the word tells which rule is there.
-use Rattle.std.proofs.Common.{◌≡◌, ℕ, ◌+◌, ◌≤◌, Bool, true, false, List, [], ◌∷◌, ◌++◌, length, Result, Ok, Err, ◌⊎◌, inl, inr, ⊎_elim, refl, sym, ap, subst, ◌∙◌, append_assoc, arith}
+use Rattle.std.proofs.Common.{◌≡◌, ℕ, ◌≤◌, Bool, true, false, List, [], ◌∷◌, ◌++◌, length, Result, Ok, Err, ◌⊎◌, inl, inr, ⊎_elim, refl, sym, ap, subst, ◌∙◌, append_assoc, arith}
 use Rattle.std.proofs.lemmas.List.{length-append, append-nil, append_cancel_left}
 use Rattle.grammar_rules.specs.Rules.{Event, Begin, Mark, Rule, word, sequence, either, valued, sized, only, judged, marked, trap, before, behind}
 use Rattle.grammar_rules.specs.Reading.{Stop, Syntax, Faulty, ◌>>=◌, starts}
