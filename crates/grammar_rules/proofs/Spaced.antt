@@ -159,6 +159,15 @@ module _ {Kind : Type 0} (space : ℕ → Bool) where
     whole = λ v m. behind_more space P v m.1.front m.1.back m.1.joined (h.spells m.1.front m.0 m.1.front_is);
   }
 
+  pub leads_weaker : {A : Type 0} {P Q : ℕ → Type 0} {r : Rule Kind A} → ((c : ℕ) → P c → Q c) → Leads space P r → Leads space Q r
+  leads_weaker {A} {P} {Q} {r} f h = record {
+    begins = h.begins;
+    meets = λ e v m. ⊎_elim (λ l. inl l) (λ l. inr (behind_weaker space P Q v f l)) (h.meets e v m);
+    spells = λ v a m. behind_weaker space P Q v f (h.spells v a m);
+    first = h.first;
+    first_spelled = h.first_spelled;
+  }
+
   pub spaced_weaker : {P Q : ℕ → Type 0} {J : Rest Kind} → ((c : ℕ) → P c → Q c) → Spaced space P J → Spaced space Q J
   spaced_weaker {P} {Q} {J} f h = record {
     begins = h.begins;
