@@ -117,6 +117,10 @@ module _ {Kind : Type 0} {faults : Faults Kind} where
     stops = λ text t. covers_sequence (d text t);
   }
 
+  -- Gaps of any rule.
+  pub exact_between : {A B : Type 0} {gap : Rule Kind A} {member : Rule Kind B} {K : Rest Kind} {P : ℕ → Type 0} {g : Reader Kind A} {q : Reader Kind B} (test : List ℕ → Bool) → Starts P member → test [] ≡ false → ((text : List ℕ) → test text ≡ true → Covers faults text K (ahead member (past_member gap member K))) → ((text : List ℕ) → test text ≡ false → Covers faults text (ahead member (past_member gap member K)) K) → Exact faults gap (λ _. ahead (many (sequence member (λ _. gap))) (λ _. K)) g → Exact faults member (past_member gap member K) q → Exact faults (between gap member) (λ _. K) (read_between test g q)
+  exact_between test starts at_end c d gaps h = exact_sequence gaps (λ _. exact_many (repeats_member starts at_end c d) (exact_sequence h (λ _. gaps)))
+
   -- The gaps are runs of a class that no member and nothing that follows begins with.
   pub exact_between_run : {B : Type 0} {p : ℕ → Bool} {member : Rule Kind B} {K : Rest Kind} {q : Reader Kind B} (test : List ℕ → Bool) → Starts (Not p) member → Heads (Not p) K → test [] ≡ false → ((text : List ℕ) → test text ≡ true → Covers faults text K (ahead member (past_member (run p) member K))) → ((text : List ℕ) → test text ≡ false → Covers faults text (ahead member (past_member (run p) member K)) K) → Exact faults member (past_member (run p) member K) q → Exact faults (between (run p) member) (λ _. K) (read_between test (read_run p) q)
   exact_between_run {B} {p} {member} {K} {q} test starts heads at_end c d h =

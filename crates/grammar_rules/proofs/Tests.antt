@@ -1,15 +1,13 @@
 -- Choices and repetitions by a test of the first character, or of a word and the character behind it.
-use Rattle.std.proofs.Common.{◌≡◌, ℕ, ◌+◌, ◌<◌, ◌≤◌, Bool, true, false, List, [], ◌∷◌, ◌++◌, length, ◌⊎◌, inl, inr, ⊎_elim, refl, sym, ap, subst, ◌∙◌, arith}
-use Rattle.std.specs.Prelude.{Option, nat_eq, ◌==◌}
-use Rattle.std.proofs.lemmas.Bool.Decides.{nat_tests}
-use Rattle.grammar_rules.specs.Rules.{Event, Begin, Mark, Rule, Split, AllPass, run, run_without, sequence, either, many, optional, between}
-use Rattle.grammar_rules.specs.Reading.{Reader, head_is, starts, read_run, read_run_without, read_either, read_many, read_optional, read_between}
+use Rattle.std.proofs.Common.{◌≡◌, ℕ, Bool, true, false, List, [], ◌∷◌, ◌++◌, ◌⊎◌, inr, refl, sym, ap, subst, ◌∙◌}
+use Rattle.grammar_rules.specs.Rules.{Event, Begin, Mark, Rule, run, either, many, optional, between}
+use Rattle.grammar_rules.specs.Reading.{Reader, head_is, starts, read_run, read_either, read_many, read_optional, read_between}
 use Rattle.grammar_rules.specs.Answers.{Faults}
 use Rattle.grammar_rules.proofs.Exact.{Rest, ahead, Exact}
 use Rattle.grammar_rules.proofs.Carry.{Idle, Covers, exact_either}
-use Rattle.grammar_rules.proofs.Heads.{Not, Heads, Starts, uses, starts_weaker, starts_covers, heads_weaker}
-use Rattle.grammar_rules.proofs.Repeats.{more, Repeats, exact_many}
-use Rattle.grammar_rules.proofs.Shapes.{exact_optional, exact_between_run, exact_between_run_without, past_member}
+use Rattle.grammar_rules.proofs.Heads.{Heads, Starts, uses, starts_weaker, starts_covers, heads_weaker}
+use Rattle.grammar_rules.proofs.Repeats.{more, exact_many}
+use Rattle.grammar_rules.proofs.Shapes.{exact_optional, exact_between_run, past_member}
 use Rattle.grammar_rules.proofs.Led.{Led, led_covers, next_true, next_false, next_is}
 
 -- the first character of a text, which passes
