@@ -5,6 +5,7 @@ pub mod GatheringLemmas
 pub mod KidLemmas
 pub mod Letters
 pub mod PathLemmas
+pub mod PlaceLaws
 pub mod Places
 pub mod PrintLengths
 pub mod PrintedNodes
