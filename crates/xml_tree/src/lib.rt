@@ -16,6 +16,8 @@ mod runs;
 mod scope;
 mod text;
 mod tree;
+#[cfg(test)]
+mod tree_tests;
 mod whole;
 
 pub use characters::{is_char, is_name, is_name_char, is_name_start, is_space};
