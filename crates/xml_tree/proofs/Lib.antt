@@ -1,5 +1,7 @@
+pub mod BindingLaws
 pub mod ByteOrder
 pub mod Escapes
+pub mod EverywhereLaws
 pub mod GatheringLemmas
 pub mod KidLemmas
 pub mod Letters
@@ -7,6 +9,8 @@ pub mod PathLemmas
 pub mod Places
 pub mod PrintLengths
 pub mod PrintedNodes
+pub mod ProperEdits
 pub mod Removals
 pub mod RunLemmas
 pub mod ScopeLemmas
+pub mod ScopesAlike
