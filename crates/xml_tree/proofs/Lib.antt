@@ -1,3 +1,4 @@
+pub mod AttrLemmas
 pub mod BindingLaws
 pub mod ByteOrder
 pub mod Escapes
@@ -6,6 +7,7 @@ pub mod GatheringLemmas
 pub mod KidLemmas
 pub mod Letters
 pub mod PathLemmas
+pub mod PlaceLaws
 pub mod Places
 pub mod PrintLengths
 pub mod PrintedNodes

@@ -1,8 +1,10 @@
 -- Changes of a tree: of a content, of one element, and of the element at a path.
-use Rattle.std.specs.Prelude.{ℕ, zero, suc, List, [], ◌∷◌, ◌++◌}
-use Rattle.xml_tree.specs.Tree.{Content, last, more, note, more_of, Tree, tree_of}
-use Rattle.xml_tree.specs.Attributes.{with_attr, without_attr, with_value}
+use Rattle.std.specs.Prelude.{ℕ, zero, suc, List, [], ◌∷◌, ◌++◌, Option, IsSomeAnd, option_and_then}
+use Rattle.std.specs.List.{find}
+use Rattle.xml_tree.specs.Tree.{Content, last, more, note, more_of, Tree, tree_of, at}
+use Rattle.xml_tree.specs.Attributes.{is_named, with_attr, without_attr, with_value}
 use Rattle.xml_tree.specs.declared.names.Name.{Name}
+use Rattle.xml_tree.specs.declared.names.Attr.{Attr}
 
 -- ---- content
 
@@ -112,13 +114,25 @@ change_at (n ∷ p) f e = change_kid n (change_at p f) e
 abbrev pub put_in : List ℕ → ℕ → Tree → Tree → Tree
 put_in p j k = change_at p (put_kid j k)
 
+-- the n-th element child of the element at the path is taken out, and texts that meet are joined
+abbrev pub take_in : List ℕ → ℕ → Tree → Tree
+take_in p n = change_at p (cut_kid n)
+
 -- the element at the path is exchanged
 abbrev pub put_over : List ℕ → Tree → Tree → Tree
 put_over p w = change_at p (λ _. w)
 
 -- the element at the path, which isn't the root, is taken out, and texts that meet are joined
 abbrev pub cut_out : List ℕ → Tree → Tree
-cut_out p = change_at (front p) (cut_kid (final p))
+cut_out p = take_in (front p) (final p)
+
+-- texts stand directly on both sides of the element at the path, which isn't the root
+abbrev pub TextsMeetAt : List ℕ → Tree → Type 0
+TextsMeetAt p t = IsSomeAnd (at (front p) t) (λ parent. TextsMeet (final p) parent.content)
+
+-- the attribute of this name of the element at the path
+abbrev pub attr_at : List ℕ → Name → Tree → Option Attr
+attr_at p n t = option_and_then (λ e. find (is_named n) e.attrs) (at p t)
 
 -- an attribute of the element at the path is written, or taken out
 abbrev pub set_at : List ℕ → Name → List ℕ → Tree → Tree

@@ -5,6 +5,8 @@
 
 mod bindings;
 mod characters;
+mod edits;
+mod laws;
 mod list;
 mod names;
 mod nodes;
@@ -19,6 +21,10 @@ mod tree;
 mod whole;
 
 pub use characters::{is_char, is_name, is_name_char, is_name_start, is_space};
+pub use laws::{
+    kids_after_edits, nodes_are_the_content, other_places_stay, paths_are_short, paths_go_on,
+    what_was_made_is_there,
+};
 pub use list::List;
 pub use names::{Attr, Decl, Name};
 pub use path::{Path, element_at};
