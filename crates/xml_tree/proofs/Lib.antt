@@ -1,6 +1,8 @@
 pub mod AttrLemmas
+pub mod BindingLaws
 pub mod ByteOrder
 pub mod Escapes
+pub mod EverywhereLaws
 pub mod GatheringLemmas
 pub mod KidLemmas
 pub mod Letters
@@ -9,6 +11,8 @@ pub mod PlaceLaws
 pub mod Places
 pub mod PrintLengths
 pub mod PrintedNodes
+pub mod ProperEdits
 pub mod Removals
 pub mod RunLemmas
 pub mod ScopeLemmas
+pub mod ScopesAlike

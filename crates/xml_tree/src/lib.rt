@@ -12,8 +12,10 @@ mod names;
 mod nodes;
 mod path;
 mod printed;
+mod proper_laws;
 mod runs;
 mod scope;
+mod scope_laws;
 mod text;
 mod tree;
 #[cfg(test)]
@@ -29,7 +31,11 @@ pub use list::List;
 pub use names::{Attr, Decl, Name};
 pub use path::{Path, element_at};
 pub use printed::printed_len;
+pub use proper_laws::{
+    proper_after_an_edit, proper_at_each_place, proper_in_scopes_that_bind_alike, proper_when_put,
+};
 pub use scope::Scope;
+pub use scope_laws::bindings_are_those_of_the_scope;
 pub use std::alloc::AllocError as NoMemory;
 pub use text::Text;
 pub use tree::{Element, Node};
