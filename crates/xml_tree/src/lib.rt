@@ -19,6 +19,8 @@ mod scope_laws;
 mod text;
 mod tree;
 mod whole;
+#[cfg(test)]
+mod word_tests;
 
 pub use characters::{is_char, is_name, is_name_char, is_name_start, is_space};
 pub use laws::{
