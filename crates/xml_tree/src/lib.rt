@@ -18,6 +18,8 @@ mod scope;
 mod scope_laws;
 mod text;
 mod tree;
+#[cfg(test)]
+mod tree_tests;
 mod whole;
 #[cfg(test)]
 mod word_tests;
