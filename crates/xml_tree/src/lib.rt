@@ -9,6 +9,7 @@ mod edits;
 mod laws;
 mod list;
 mod names;
+mod node_edits;
 mod nodes;
 mod path;
 mod printed;
