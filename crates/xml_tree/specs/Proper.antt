@@ -41,10 +41,6 @@ OfNode P c (Elem e) = Throughout P c e
 OfNode P c (Chars t) = Letters P c t
 OfNode P c (Comment x) = P c (remark x)
 
--- an element with its content changed
-abbrev pub with_content : (Content → Content) → Tree → Tree
-with_content f e = record e { content = f e.content }
-
 -- ---- names and declarations
 
 -- a prefix, which may be empty

@@ -9,6 +9,7 @@ mod edits;
 mod laws;
 mod list;
 mod names;
+mod node_edits;
 mod nodes;
 mod path;
 mod printed;
@@ -21,6 +22,8 @@ mod tree;
 #[cfg(test)]
 mod tree_tests;
 mod whole;
+#[cfg(test)]
+mod word_tests;
 
 pub use characters::{is_char, is_name, is_name_char, is_name_start, is_space};
 pub use laws::{

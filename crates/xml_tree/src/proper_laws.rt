@@ -2,8 +2,8 @@
 ghost use Rattle.std.specs.Prelude.{◌≡◌, ◌≤◌, ◌++◌, ℕ, List, Some, length};
 ghost use Rattle.std.specs.List.{AllByRecursion};
 ghost use Rattle.xml_tree.specs.Edits.{change_at, cut_out, put_in, put_over};
-ghost use Rattle.xml_tree.specs.Nodes.{content_of};
-ghost use Rattle.xml_tree.specs.Proper.{OfNode, One, ProperIn, with_content};
+ghost use Rattle.xml_tree.specs.Nodes.{exchange_nodes};
+ghost use Rattle.xml_tree.specs.Proper.{OfNode, One, ProperIn};
 ghost use Rattle.xml_tree.specs.Scopes.{bound, scope_around, scope_at};
 ghost use Rattle.xml_tree.specs.Tree.{Tree, at, kids_of};
 ghost use Rattle.xml_tree.specs.declared.names.Decl.{Decl};
@@ -23,8 +23,8 @@ pub fn proper_after_an_edit()
     ensures inserted { (c : List (List Decl)) (p : List ℕ) (j : ℕ) (e t : Tree) → ProperIn (c ++ scope_at p t) e → ProperIn c t → ProperIn c (put_in p j e t) }
     ensures exchanged { (c : List (List Decl)) (p : List ℕ) (e t : Tree) → ProperIn (c ++ scope_around p t) e → ProperIn c t → ProperIn c (put_over p e t) }
     ensures removed { (c : List (List Decl)) (p : List ℕ) (t : Tree) → ProperIn c t → ProperIn c (cut_out p t) }
-    ensures nodes { (c : List (List Decl)) (p : List ℕ) (ns : List Node) (t : Tree) → AllByRecursion (OfNode One (c ++ scope_at p t)) ns → ProperIn c t
-        → ProperIn c (change_at p (with_content (λ _. content_of ns)) t) }
+    ensures nodes { (c : List (List Decl)) (p : List ℕ) (from to : ℕ) (ns : List Node) (t : Tree) → AllByRecursion (OfNode One (c ++ scope_at p t)) ns → ProperIn c t
+        → ProperIn c (change_at p (exchange_nodes from to ns) t) }
 {}
 
 /// What was put into a tree that is proper afterwards is proper in the scope of its place.
