@@ -110,7 +110,8 @@ impl Element {
     /// # Errors
     /// `NoMemory` for want of memory.
     pub fn push_chars(&mut self, text: &str) -> Result<(), AllocError>
-        ensures ok { OnOk result (self.new ≡ record self.old { content = with_text (chars text.now) self.old.content }) }
+        ensures ok { OnOk result
+            (self.new ≡ record self.old { content = with_text (chars text.now) self.old.content }) }
         ensures err { OnErr result (self.new ≡ self.old) }
     {
         push_text(&mut self.nodes, text)
