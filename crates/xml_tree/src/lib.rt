@@ -27,8 +27,8 @@ mod word_tests;
 
 pub use characters::{is_char, is_name, is_name_char, is_name_start, is_space};
 pub use laws::{
-    kids_after_edits, nodes_are_the_content, other_places_stay, paths_are_short, paths_go_on,
-    what_was_made_is_there,
+    heights_after_edits, kids_after_edits, nodes_are_the_content, other_places_stay,
+    paths_are_short, paths_go_on, what_was_made_is_there,
 };
 pub use list::List;
 pub use names::{Attr, Decl, Name};
