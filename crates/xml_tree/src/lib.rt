@@ -42,4 +42,4 @@ pub use scope_laws::bindings_are_those_of_the_scope;
 pub use std::alloc::AllocError as NoMemory;
 pub use text::Text;
 pub use tree::{Element, Node};
-pub use whole::{copy_tree, depth, equal};
+pub use whole::{copy_nodes, copy_tree, depth, equal};

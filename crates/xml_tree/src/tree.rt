@@ -167,6 +167,20 @@ impl Element {
         &self.nodes
     }
 
+    /// The nodes, taken out of the element, which is dropped.
+    pub fn into_nodes(self) -> Vec<Node>
+        ensures nodes { result.items ≡ nodes_of self.content }
+        ensures normal { AreNormal result.items }
+    {
+        let Element {
+            name: _,
+            decls: _,
+            attrs: _,
+            nodes,
+        } = self;
+        nodes
+    }
+
     /// An element child, counted from 0: None exactly where there are not so many.
     pub fn kid(&self, child: usize) -> Option<&Element>
         ensures { option_copied result ≡ slice_get (kids_of self.now) child }
