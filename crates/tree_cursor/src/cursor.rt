@@ -1,5 +1,6 @@
 //! The cursor, its ways through the tree, and its edits.
-ghost use Rattle.std.specs.Prelude.{◌≡◌, ◌≤◌, ◌<◌, ◌↔◌, [], ◌∷◌, ◌++◌, length, Some, None, false, IsTrue, IsSome, IsSomeAnd, IfOk, IfErr, OnOk, OnErr, option_map, slice_get, remove};
+ghost use Rattle.std.specs.Prelude.{◌≡◌, ◌≤◌, ◌<◌, ◌↔◌, [], ◌∷◌, ◌++◌, length, Some, None, false, IsTrue, IsSome, IsSomeAnd, IfOk, IfErr, OnOk, OnErr, option_map, option_and_then, slice_get};
+ghost use Rattle.tree_cursor.specs.Standing.{without_attr_at};
 ghost use Rattle.xml_tree.specs.Tree.{at, kids_of};
 ghost use Rattle.xml_tree.specs.Edits.{TextsMeet, attr_at, change_at, put_in, put_over, set_at, take_in};
 ghost use Rattle.xml_tree.specs.Nodes.{exchange_nodes, nodes_of};
@@ -106,5 +107,83 @@ impl<'a> Cursor<'a> {
         ensures only_where_texts_meet { OnErr result (IsSomeAnd (at self.old.path self.old.root.now) (λ here. TextsMeet child here.content)) }
     {
         self.root.take_in(&self.path, child)
+    }
+
+    /// Writes the attribute of this prefix and local name, behind the others if it is new, and answers the old value.
+    ///
+    /// # Errors
+    /// `NoMemory` for want of memory, which comes only for a new attribute. The tree is then as before.
+    pub fn set_attr(&mut self, name: Name, value: Text) -> Result<Option<Text>, AllocError>
+        requires { IsSome (at self.old.path self.old.root.now) }
+        ensures same_reference { self.new.root.ghost_name ≡ self.old.root.ghost_name }
+        ensures place { self.new.path ≡ self.old.path }
+        ensures old { IfOk result (λ old. old ≡ option_map (λ attr. attr.value) (attr_at self.old.path name self.old.root.now)) }
+        ensures ok { OnOk result (self.new.root.now ≡ set_at self.old.path name value self.old.root.now) }
+        ensures err { OnErr result (self.new.root.now ≡ self.old.root.now) }
+        ensures only_for_new { OnErr result (attr_at self.old.path name self.old.root.now ≡ None) }
+    {
+        self.root.set_at(&self.path, name, value)
+    }
+
+    /// Takes an attribute out, counted from 0. Takes no memory.
+    pub fn remove_attr(&mut self, number: usize) -> Attr
+        requires { IsSomeAnd (at self.old.path self.old.root.now) (λ here. number < length here.attrs) }
+        ensures same_reference { self.new.root.ghost_name ≡ self.old.root.ghost_name }
+        ensures place { self.new.path ≡ self.old.path }
+        ensures taken { option_and_then (λ here. slice_get here.attrs number) (at self.old.path self.old.root.now) ≡ Some result }
+        ensures new { self.new.root.now ≡ change_at self.old.path (without_attr_at number) self.old.root.now }
+    {
+        self.root.edit_at(
+            &self.path,
+            |here: &mut Element| -> Attr
+                requires { number < length here.old.attrs }
+                ensures taken { slice_get here.old.attrs number ≡ Some result }
+                ensures new { here.new ≡ without_attr_at number here.old }
+            { here.take_attr(number) },
+        )
+    }
+
+    /// Puts nodes before the node of this number, or behind all. Texts that meet are joined, and empty ones vanish.
+    ///
+    /// # Errors
+    /// `NoMemory` for want of memory; the tree is then as before.
+    pub fn insert_nodes(&mut self, before: usize, nodes: Vec<Node>) -> Result<(), AllocError>
+        requires { IsSomeAnd (at self.old.path self.old.root.now) (λ here. before ≤ length (nodes_of here.content)) }
+        ensures same_reference { self.new.root.ghost_name ≡ self.old.root.ghost_name }
+        ensures place { self.new.path ≡ self.old.path }
+        ensures ok { OnOk result (self.new.root.now ≡ change_at self.old.path (exchange_nodes before before nodes.items) self.old.root.now) }
+        ensures err { OnErr result (self.new.root.now ≡ self.old.root.now) }
+    {
+        self.root.edit_at(
+            &self.path,
+            |here: &mut Element| -> Result<(), AllocError>
+                requires { before ≤ length (nodes_of here.old.content) }
+                ensures ok { OnOk result (here.new ≡ exchange_nodes before before nodes.items here.old) }
+                ensures err { OnErr result (here.new ≡ here.old) }
+            { here.insert_nodes(before, nodes) },
+        )
+    }
+
+    /// Takes out the nodes from one place to before another. Texts that meet are joined.
+    ///
+    /// # Errors
+    /// `NoMemory` for want of memory; the tree is then as before.
+    pub fn cut_nodes(&mut self, from: usize, to: usize) -> Result<(), AllocError>
+        requires order { from ≤ to }
+        requires within { IsSomeAnd (at self.old.path self.old.root.now) (λ here. to ≤ length (nodes_of here.content)) }
+        ensures same_reference { self.new.root.ghost_name ≡ self.old.root.ghost_name }
+        ensures place { self.new.path ≡ self.old.path }
+        ensures ok { OnOk result (self.new.root.now ≡ change_at self.old.path (exchange_nodes from to []) self.old.root.now) }
+        ensures err { OnErr result (self.new.root.now ≡ self.old.root.now) }
+    {
+        self.root.edit_at(
+            &self.path,
+            |here: &mut Element| -> Result<(), AllocError>
+                requires order { from ≤ to }
+                requires within { to ≤ length (nodes_of here.old.content) }
+                ensures ok { OnOk result (here.new ≡ exchange_nodes from to [] here.old) }
+                ensures err { OnErr result (here.new ≡ here.old) }
+            { here.cut_nodes(from, to) },
+        )
     }
 }

@@ -4,5 +4,7 @@
 #![tactic(auto)]
 
 mod cursor;
+#[cfg(test)]
+mod tests;
 
 pub use cursor::Cursor;
