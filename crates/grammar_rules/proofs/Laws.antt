@@ -1,13 +1,10 @@
--- What every rule keeps to: a whole text is a beginning, so is each front of a beginning, and marks lie in a beginning.
-use Rattle.std.proofs.Common.{◌≡◌, ℕ, ◌+◌, ◌<◌, ◌≤◌, Bool, List, [], ◌∷◌, ◌++◌, length, inl, inr, ⊎_elim, refl, sym, ap, subst, ◌∙◌, append_assoc, arith}
+-- What every rule keeps to: a whole text is a beginning, and a mark lies in the text that it ends, where a beginning goes on.
+use Rattle.std.proofs.Common.{◌≡◌, ℕ, ◌+◌, ◌<◌, ◌≤◌, Bool, List, [], ◌∷◌, ◌++◌, length, inl, inr, ⊎_elim, refl, sym, ap, ◌∙◌, arith}
 use Rattle.std.specs.Prelude.{Some}
-use Rattle.std.proofs.lemmas.List.{length-append, append-nil, append_cancel_left}
+use Rattle.std.proofs.lemmas.List.{length-append, append-nil}
 use Rattle.grammar_rules.specs.Digits.{Digits}
-use Rattle.grammar_rules.specs.Rules.{Begin, Mark, Rule, Split, never, empty, one, word, run, run_without, up_to, number, sequence, either, Each, many, valued, sized, only, marked, judged, trap, optional, between, some_of, name_of, before, behind, quoted}
+use Rattle.grammar_rules.specs.Rules.{Begin, Mark, Rule, never, empty, one, word, run, run_without, up_to, number, sequence, either, Each, many, valued, sized, only, atomic, marked, judged, trap, optional, between, some_of, name_of, before, behind, quoted}
 use Rattle.grammar_rules.proofs.Exact.{Rest, ahead, under}
-use Rattle.grammar_rules.proofs.Fronts.{compare, pass_front, lacks_front, last_front}
-use Rattle.grammar_rules.proofs.Greedy.{digits_front}
-use Rattle.grammar_rules.proofs.Repeats.{one_more_meets}
 
 -- A beginning goes beyond the place of a mark.
 pub record Goes (P : List ℕ → Type 0) (back : ℕ) (v : List ℕ) : Type 0 where
@@ -16,10 +13,6 @@ pub record Goes (P : List ℕ → Type 0) (back : ℕ) (v : List ℕ) : Type 0 w
   pub joined : v ≡ front ++ rest
   pub begun : P front
   pub beyond : length v < length front + back
-
-none_front : (u v : List ℕ) → u ++ v ≡ [] → u ≡ []
-none_front [] v j = refl
-none_front (c ∷ u) v j = absurd cc
 
 -- behind a front
 goes_under : (P Q : List ℕ → Type 0) (b : ℕ) (v u x : List ℕ) → v ≡ u ++ x → ((y : List ℕ) → Q y → P (u ++ y)) → Goes Q b x → Goes P b v
@@ -31,7 +24,6 @@ goes_as P Q b v f g = record { front = g.front; rest = g.rest; joined = g.joined
 module _ {Kind : Type 0} where
   pub record Lawful {A : Type 0} (r : Rule Kind A) : Type 0 where
     pub whole : (u : List ℕ) (a : A) → r.Spells u a → r.Meets Begin u
-    pub front : (u w : List ℕ) → r.Meets Begin (u ++ w) → r.Meets Begin u
     pub within : (k : Kind) (b : ℕ) (v : List ℕ) → r.Meets (Mark k b) v → b ≤ length v
     pub beyond : (k : Kind) (b : ℕ) (v : List ℕ) → r.Meets (Mark k b) v → Goes (r.Meets Begin) b v
 
@@ -47,56 +39,42 @@ module _ {Kind : Type 0} where
   inside_ahead h i = record { within = λ k b v m. ⊎_elim (λ l. h.within k b v l) (λ z. let n = (i z.0).within k b z.1.back z.1.back_is in omega (arith, ap length z.1.joined, length-append z.1.front z.1.back)) m }
 
   pub lawful_never : {A : Type 0} → let r : Rule Kind A = never in Lawful r
-  lawful_never = record { whole = λ u a h. h; front = λ u w h. h; within = λ k b v m. absurd m; beyond = λ k b v m. absurd m }
+  lawful_never = record { whole = λ u a h. h; within = λ k b v m. absurd m; beyond = λ k b v m. absurd m }
 
   pub lawful_empty : {A : Type 0} {value : A} → Lawful (empty value)
-  lawful_empty = record { whole = λ u a h. h.0; front = λ u w h. none_front u w h; within = λ k b v m. absurd m; beyond = λ k b v m. absurd m }
+  lawful_empty = record { whole = λ u a h. h.0; within = λ k b v m. absurd m; beyond = λ k b v m. absurd m }
 
   pub lawful_one : {p : ℕ → Bool} → Lawful (one p)
-  lawful_one {p} = record { whole = λ u a h. inr (a, h.0, h.1); front = one_front; within = λ k b v m. absurd m; beyond = λ k b v m. absurd m }
-    where
-      one_front : (u w : List ℕ) → (one {Kind = Kind} p).Meets Begin (u ++ w) → (one {Kind = Kind} p).Meets Begin u
-      one_front [] w h = inl refl
-      one_front (c ∷ u) w (inl h) = absurd cc
-      one_front (c ∷ []) w (inr h) = inr (h.0, h.1, let e = h.2 in let same : c ≡ h.0 = cc in ap (λ (z : ℕ). z ∷ []) same)
-      one_front (c ∷ d ∷ u) w (inr h) = absurd (let e = h.2 in cc)
+  lawful_one = record { whole = λ u a h. inr (a, h.0, h.1); within = λ k b v m. absurd m; beyond = λ k b v m. absurd m }
 
   pub lawful_word : (w : List ℕ) → Lawful (word w)
-  lawful_word w = record { whole = λ u a h. ([], sym (append-nil u ∙ h)); front = λ u t h. (t ++ h.0, h.1 ∙ append_assoc u t h.0); within = λ k b v m. absurd m; beyond = λ k b v m. absurd m }
+  lawful_word w = record { whole = λ u a h. ([], sym (append-nil u ∙ h)); within = λ k b v m. absurd m; beyond = λ k b v m. absurd m }
 
   pub lawful_run : {p : ℕ → Bool} → Lawful (run p)
-  lawful_run {p} = record { whole = λ u a h. h.0; front = pass_front p; within = λ k b v m. absurd m; beyond = λ k b v m. absurd m }
+  lawful_run {p} = record { whole = λ u a h. h.0; within = λ k b v m. absurd m; beyond = λ k b v m. absurd m }
 
   pub lawful_run_without : {p : ℕ → Bool} (w : List ℕ) → Lawful (run_without p w)
-  lawful_run_without {p} w = record { whole = λ u a h. (h.0, h.1); front = λ u t h. (pass_front p u t h.0, lacks_front w u t h.1); within = λ k b v m. absurd m; beyond = λ k b v m. absurd m }
+  lawful_run_without {p} w = record { whole = λ u a h. (h.0, h.1); within = λ k b v m. absurd m; beyond = λ k b v m. absurd m }
 
   pub lawful_up_to : {p : ℕ → Bool} (w : List ℕ) → Lawful (up_to p w)
-  lawful_up_to {p} w = record { whole = λ u a h. (h.1, h.2); front = λ u t h. (pass_front p u t h.0, last_front w u t h.1); within = λ k b v m. absurd m; beyond = λ k b v m. absurd m }
+  lawful_up_to {p} w = record { whole = λ u a h. (h.1, h.2); within = λ k b v m. absurd m; beyond = λ k b v m. absurd m }
 
   pub lawful_number : (d : Digits) (most : ℕ) (p : ℕ → Bool) → Lawful (number d most p)
-  lawful_number d most p = record { whole = λ u a h. h.0; front = digits_front d most 0; within = λ k b v m. absurd m; beyond = λ k b v m. absurd m }
+  lawful_number d most p = record { whole = λ u a h. h.0; within = λ k b v m. absurd m; beyond = λ k b v m. absurd m }
 
   pub lawful_sequence : {A B : Type 0} {r : Rule Kind A} {s : A → Rule Kind B} → Lawful r → ((a : A) → Lawful (s a)) → Lawful (sequence r s)
   lawful_sequence {A} {B} {r} {s} h i = record {
     whole = λ u x m. inr (x.0, record { front = m.front; back = m.back; joined = m.joined; front_is = m.front_is; back_is = (i x.0).whole m.back x.1 m.back_is });
-    front = λ u w m. ⊎_elim (λ l. inl (h.front u w l)) (λ l. by_cut u w l.0 l.1.front l.1.back l.1.joined l.1.front_is l.1.back_is) m;
     within = λ k b v m. ⊎_elim (λ l. h.within k b v l) (λ z. let n = (i z.0).within k b z.1.back z.1.back_is in omega (arith, ap length z.1.joined, length-append z.1.front z.1.back)) m;
     beyond = λ k b v m. ⊎_elim
         (λ l. goes_as ((sequence r s).Meets Begin) (r.Meets Begin) b v (λ y n. inl n) (h.beyond k b v l))
         (λ z. goes_under ((sequence r s).Meets Begin) ((s z.0).Meets Begin) b v z.1.front z.1.back z.1.joined (λ y n. inr (z.0, record { front = z.1.front; back = y; joined = refl; front_is = z.1.front_is; back_is = n })) ((i z.0).beyond k b z.1.back z.1.back_is))
         m;
   }
-    where
-      by_cut : (u w : List ℕ) (a : A) (front back : List ℕ) → u ++ w ≡ front ++ back → r.Spells front a → (s a).Meets Begin back → (sequence r s).Meets Begin u
-      by_cut u w a front back j sp m = ⊎_elim
-          (λ k. inl (h.front u k.0 (subst (r.Meets Begin) k.1 (h.whole front a sp))))
-          (λ k. inr (a, record { front = front; back = k.c ∷ k.rest; joined = k.front; front_is = sp; back_is = (i a).front (k.c ∷ k.rest) w (subst ((s a).Meets Begin) (append_cancel_left front back ((k.c ∷ k.rest) ++ w) (sym j ∙ ap (λ (z : List ℕ). z ++ w) k.front ∙ append_assoc front (k.c ∷ k.rest) w)) m) }))
-          (compare u w front back j)
 
   pub lawful_either : {A : Type 0} {r s : Rule Kind A} → Lawful r → Lawful s → Lawful (either r s)
   lawful_either {A} {r} {s} h i = record {
     whole = λ u a m. ⊎_elim (λ l. inl (h.whole u a l)) (λ l. inr (i.whole u a l)) m;
-    front = λ u w m. ⊎_elim (λ l. inl (h.front u w l)) (λ l. inr (i.front u w l)) m;
     within = λ k b v m. ⊎_elim (λ l. h.within k b v l) (λ l. i.within k b v l) m;
     beyond = λ k b v m. ⊎_elim
         (λ l. goes_as ((either r s).Meets Begin) (r.Meets Begin) b v (λ y n. inl n) (h.beyond k b v l))
@@ -105,18 +83,20 @@ module _ {Kind : Type 0} where
   }
 
   pub lawful_valued : {A B : Type 0} {r : Rule Kind A} (f : A → B) → Lawful r → Lawful (valued f r)
-  lawful_valued f h = record { whole = λ u a m. h.whole u m.0 m.1; front = h.front; within = h.within; beyond = h.beyond }
+  lawful_valued f h = record { whole = λ u a m. h.whole u m.0 m.1; within = h.within; beyond = h.beyond }
 
   pub lawful_sized : {A : Type 0} {r : Rule Kind A} → Lawful r → Lawful (sized r)
-  lawful_sized h = record { whole = λ u a m. h.whole u a.0 m.0; front = h.front; within = h.within; beyond = h.beyond }
+  lawful_sized h = record { whole = λ u a m. h.whole u a.0 m.0; within = h.within; beyond = h.beyond }
 
   pub lawful_only : {A : Type 0} {r : Rule Kind A} (t : A → Bool) → Lawful r → Lawful (only t r)
-  lawful_only t h = record { whole = λ u a m. h.whole u a m.0; front = h.front; within = h.within; beyond = h.beyond }
+  lawful_only t h = record { whole = λ u a m. h.whole u a m.0; within = h.within; beyond = h.beyond }
+
+  pub lawful_atomic : {A : Type 0} (r : Rule Kind A) → Lawful (atomic r)
+  lawful_atomic r = record { whole = λ u a m. inr (a, m); within = λ k b v m. absurd m; beyond = λ k b v m. absurd m }
 
   pub lawful_judged : {A : Type 0} {r : Rule Kind A} (Says : A → Kind → ℕ → Type 0) → ((u : List ℕ) (a : A) (k : Kind) (b : ℕ) → r.Spells u a → Says a k b → (0 < b) × (b ≤ length u)) → Lawful r → Lawful (judged Says r)
   lawful_judged {A} {r} Says f h = record {
     whole = h.whole;
-    front = h.front;
     within = λ k b v m. ⊎_elim (λ l. (f v l.0 k b l.1 l.2).1) (λ l. h.within k b v l) m;
     beyond = λ k b v m. ⊎_elim
         (λ l. record { front = v; rest = []; joined = sym (append-nil v); begun = h.whole v l.0 l.1; beyond = omega (arith, f v l.0 k b l.1 l.2) })
@@ -127,7 +107,6 @@ module _ {Kind : Type 0} where
   pub lawful_marked : {A : Type 0} {r : Rule Kind A} (kind : Kind) (Front : List ℕ → Type 0) → ((v : List ℕ) → Front v → (0 < length v) × r.Meets Begin v) → Lawful r → Lawful (marked kind Front r)
   lawful_marked {A} {r} kind Front f h = record {
     whole = h.whole;
-    front = h.front;
     within = λ k b v m. ⊎_elim (λ l. omega (arith, l.1)) (λ l. h.within k b v l) m;
     beyond = λ k b v m. ⊎_elim
         (λ l. let g = f v l.2 in record { front = v; rest = []; joined = sym (append-nil v); begun = g.1; beyond = omega (arith, g.0, l.1) })
@@ -138,28 +117,11 @@ module _ {Kind : Type 0} where
   pub lawful_trap : {A : Type 0} (kind : Kind) (seen rest : List ℕ) → 0 < length seen → let r : Rule Kind A = trap kind seen rest in Lawful r
   lawful_trap {A} kind seen rest some = record {
     whole = λ u a m. absurd m;
-    front = λ u w m. (w ++ m.0, m.1 ∙ append_assoc u w m.0);
     within = λ k b v m. omega (arith, m.1);
     beyond = λ k b v m. record { front = seen; rest = rest; joined = m.2; begun = ([], sym (append-nil seen)); beyond = omega (arith, m.1, some) };
   }
 
   module _ {A : Type 0} {r : Rule Kind A} (h : Lawful r) where
-    each_front : (xs : List A) (u w : List ℕ) → (sp : Split (u ++ w) (λ x. Each r xs x) (λ y. r.Meets Begin y)) → (many r).Meets Begin u
-    each_front [] u w sp = ([], record { front = []; back = u; joined = refl; front_is = refl; back_is = h.front u w (subst (r.Meets Begin) (sym (sp.joined ∙ ap (λ (z : List ℕ). z ++ sp.back) sp.front_is)) sp.back_is) })
-    each_front (x ∷ xs) u w sp = ⊎_elim
-        (λ k. one_more_meets r nothing Begin u (inl (h.front u k.0 (subst (r.Meets Begin) k.1 (h.whole f.front x f.front_is)))))
-        (λ k.
-        let rest = append_cancel_left f.front (f.back ++ sp.back) ((k.c ∷ k.rest) ++ w) (sym (append_assoc f.front f.back sp.back) ∙ sym (sp.joined ∙ ap (λ (z : List ℕ). z ++ sp.back) f.joined) ∙ ap (λ (z : List ℕ). z ++ w) k.front ∙ append_assoc f.front (k.c ∷ k.rest) w) in
-        let m = each_front xs (k.c ∷ k.rest) w (record { front = f.back; back = sp.back; joined = sym rest; front_is = f.back_is; back_is = sp.back_is }) in
-        one_more_meets r nothing Begin u (inr (x, record { front = f.front; back = k.c ∷ k.rest; joined = k.front; front_is = f.front_is; back_is = m })))
-        (compare u w f.front (f.back ++ sp.back) (sp.joined ∙ ap (λ (z : List ℕ). z ++ sp.back) f.joined ∙ append_assoc f.front f.back sp.back))
-      where
-        f : Split sp.front (λ u. r.Spells u x) (λ v. Each r xs v)
-        f = sp.front_is
-
-        nothing : Rest Kind
-        nothing = record { Meets = λ e v. ⊥; Whole = λ v. ⊥ }
-
     -- The empty text has to begin the rule, so that no member at all is a beginning.
     each_whole : r.Meets Begin [] → (xs : List A) (u : List ℕ) → Each r xs u → (many r).Meets Begin u
     each_whole e xs u s = (xs, record { front = u; back = []; joined = sym (append-nil u); front_is = s; back_is = e })
@@ -167,7 +129,6 @@ module _ {Kind : Type 0} where
     pub lawful_many : r.Meets Begin [] → Lawful (many r)
     lawful_many e = record {
       whole = λ u xs s. each_whole e xs u s;
-      front = λ u w m. each_front m.0 u w m.1;
       within = λ k b v m. let n = h.within k b m.1.back m.1.back_is in omega (arith, ap length m.1.joined, length-append m.1.front m.1.back);
       beyond = λ k b v m. goes_under ((many r).Meets Begin) (r.Meets Begin) b v m.1.front m.1.back m.1.joined (λ y n. (m.0, record { front = m.1.front; back = y; joined = refl; front_is = m.1.front_is; back_is = n })) (h.beyond k b m.1.back m.1.back_is);
     }
@@ -214,6 +175,9 @@ module _ {Kind : Type 0} where
 
   pub quiet_only : {A : Type 0} {r : Rule Kind A} (t : A → Bool) → Quiet r → Quiet (only t r)
   quiet_only t h = record { no_mark = h.no_mark }
+
+  pub quiet_atomic : {A : Type 0} (r : Rule Kind A) → Quiet (atomic r)
+  quiet_atomic r = record { no_mark = λ k b v m. m }
 
   pub quiet_empty : {A : Type 0} {value : A} → Quiet (empty value)
   quiet_empty = record { no_mark = λ k b v m. m }

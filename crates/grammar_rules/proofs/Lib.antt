@@ -14,3 +14,4 @@ pub mod Shapes
 pub mod Led
 pub mod Spaced
 pub mod Tests
+pub mod Beginnings
