@@ -12,7 +12,9 @@ use watch_port::Watcher;
 use xcap_io::{Peer, Port, Sink, Source};
 
 // What the words spell. No command is known yet.
-fn exit_of(words: &[String]) -> Exit {
+fn exit_of(words: &[String]) -> Exit
+    ensures { result ≡ Exit.Usage }
+{
     Exit::Usage
 }
 
