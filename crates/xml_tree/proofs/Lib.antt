@@ -4,6 +4,7 @@ pub mod ByteOrder
 pub mod Escapes
 pub mod EverywhereLaws
 pub mod GatheringLemmas
+pub mod HeightLaws
 pub mod KidLemmas
 pub mod Letters
 pub mod PathLemmas

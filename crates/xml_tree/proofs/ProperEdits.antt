@@ -6,7 +6,7 @@ use Rattle.xml_tree.specs.declared.names.Decl.{Decl}
 use Rattle.xml_tree.specs.declared.tree.Node.{Node}
 use Rattle.xml_tree.specs.Tree.{Content, last, more, note, Tree, tree_of, at, kids, kids_of}
 use Rattle.xml_tree.specs.Edits.{change, change_at, cut, cut_out, final, front, put, put_in, put_kid, put_over}
-use Rattle.xml_tree.specs.Nodes.{content_of, exchanged, exchange_nodes, nodes_of}
+use Rattle.xml_tree.specs.Nodes.{exchanged, exchange_nodes, nodes_of}
 use Rattle.xml_tree.specs.Scopes.{scope_around, scope_at}
 use Rattle.xml_tree.specs.Proper.{Part, Everywhere, OfNode, Throughout}
 use Rattle.xml_tree.proofs.EverywhereLaws.{scope_around-below, scope_at-around, inside, Throughout-change_at, Everywhere-put, put-Everywhere, Everywhere-cut, Everywhere-content_of, nodes-Everywhere}

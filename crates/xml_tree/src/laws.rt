@@ -1,9 +1,9 @@
 //! Laws of places and edits, each the contract of a function with nothing to do.
-ghost use Rattle.std.specs.Prelude.{◌≡◌, ℕ, ◌+◌, ◌≤◌, List, [], ◌∷◌, ◌++◌, length, Some, IsSome, option_map, option_and_then, insert, remove};
+ghost use Rattle.std.specs.Prelude.{◌≡◌, ℕ, suc, max, ◌+◌, ◌≤◌, List, [], ◌∷◌, ◌++◌, length, Some, IsSome, option_map, option_and_then, insert, remove};
 ghost use Rattle.std.specs.List.{filter_map};
-ghost use Rattle.xml_tree.specs.Tree.{Content, Tree, at, height, kids};
+ghost use Rattle.xml_tree.specs.Tree.{Content, Tree, at, height, kids, kids_of};
 ghost use Rattle.xml_tree.specs.Attributes.{change_item};
-ghost use Rattle.xml_tree.specs.Edits.{change, change_at, cut, put, put_over, with_comment, with_elem, with_text};
+ghost use Rattle.xml_tree.specs.Edits.{change, change_at, cut, put, put_in, put_over, take_in, with_comment, with_elem, with_text};
 ghost use Rattle.xml_tree.specs.Nodes.{AreNormal, content_of, elem_of, nodes_of};
 ghost use Rattle.xml_tree.specs.Apart.{Apart};
 ghost use Rattle.xml_tree.specs.declared.tree.Node.{Node};
@@ -46,4 +46,14 @@ pub fn kids_after_edits()
     ensures elem { (e : Tree) (c : Content) → kids (with_elem e c) ≡ kids c ++ e ∷ [] }
     ensures text { (s : List ℕ) (c : Content) → kids (with_text s c) ≡ kids c }
     ensures comment { (s : List ℕ) (c : Content) → kids (with_comment s c) ≡ kids c }
+{}
+
+/// How high a tree is after an edit at a path where an element is.
+pub fn heights_after_edits()
+    ensures put_in { (p : List ℕ) (j : ℕ) (k e t : Tree) → at p t ≡ Some e → j ≤ length (kids_of e)
+        → height (put_in p j k t) ≡ max (height t) (length p + suc (height k)) }
+    ensures put_over { (p : List ℕ) (w e t : Tree) → at p t ≡ Some e
+        → height (put_over p w t) ≤ max (height t) (length p + height w) }
+    ensures take_in { (p : List ℕ) (i : ℕ) (e t : Tree) → at p t ≡ Some e
+        → height (take_in p i t) ≤ height t }
 {}

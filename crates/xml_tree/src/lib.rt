@@ -27,8 +27,8 @@ mod word_tests;
 
 pub use characters::{is_char, is_name, is_name_char, is_name_start, is_space};
 pub use laws::{
-    kids_after_edits, nodes_are_the_content, other_places_stay, paths_are_short, paths_go_on,
-    what_was_made_is_there,
+    heights_after_edits, kids_after_edits, nodes_are_the_content, other_places_stay,
+    paths_are_short, paths_go_on, what_was_made_is_there,
 };
 pub use list::List;
 pub use names::{Attr, Decl, Name};
@@ -42,4 +42,4 @@ pub use scope_laws::bindings_are_those_of_the_scope;
 pub use std::alloc::AllocError as NoMemory;
 pub use text::Text;
 pub use tree::{Element, Node};
-pub use whole::{copy_tree, depth, equal};
+pub use whole::{copy_nodes, copy_tree, depth, equal};

@@ -1,5 +1,8 @@
 //! Each call that takes memory, once, on a tree that is made here.
-use crate::{Attr, Decl, Element, List, Name, NoMemory, Node, Path, Text, copy_tree, depth, element_at, equal};
+use crate::{
+    Attr, Decl, Element, List, Name, NoMemory, Node, Path, Text, copy_tree, depth, element_at,
+    equal,
+};
 use std::alloc::Global;
 use std::test::Fail;
 
@@ -13,7 +16,7 @@ fn element(alloc: Global, local: &str) -> Result<Element, NoMemory> {
     Ok(Element::new(alloc, name(alloc, "", local)?))
 }
 
-// <a xmlns="urn:x" k="1">x<b/>y<!--note--></a>
+// <a xmlns="urn:x" k="1">x<b/>y</a>
 fn sample(alloc: Global) -> Result<Element, NoMemory> {
     let mut root = element(alloc, "a")?;
     let decl = Decl {
@@ -46,6 +49,14 @@ fn an_element_is_made_part_by_part(rt: HostRuntime) -> Result<(), Fail> {
 }
 
 #[test]
+fn a_comment_is_added(rt: HostRuntime) -> Result<(), Fail> {
+    let mut root = element(rt.alloc(), "a")?;
+    root.push_comment(Text::from(rt.alloc(), "a-b")?)?;
+    assert_eq!(rt; root.nodes().len(), 1);
+    Ok(())
+}
+
+#[test]
 fn texts_meet_where_an_element_goes(rt: HostRuntime) -> Result<(), Fail> {
     let mut root = sample(rt.alloc())?;
     let first = Path::root().child(0).ok_or("too long")?;
@@ -63,9 +74,17 @@ fn texts_meet_where_an_element_goes(rt: HostRuntime) -> Result<(), Fail> {
 fn attributes_are_written_by_name(rt: HostRuntime) -> Result<(), Fail> {
     let mut root = sample(rt.alloc())?;
     let path = Path::root();
-    let old = root.set_at(&path, name(rt.alloc(), "", "k")?, Text::from(rt.alloc(), "2")?)?;
+    let old = root.set_at(
+        &path,
+        name(rt.alloc(), "", "k")?,
+        Text::from(rt.alloc(), "2")?,
+    )?;
     assert!(rt; old.is_some());
-    let new = root.set_at(&path, name(rt.alloc(), "p", "k")?, Text::from(rt.alloc(), "3")?)?;
+    let new = root.set_at(
+        &path,
+        name(rt.alloc(), "p", "k")?,
+        Text::from(rt.alloc(), "3")?,
+    )?;
     assert!(rt; new.is_none());
     assert_eq!(rt; root.attrs().len(), 2);
     let gone = root.drop_at(&path, &name(rt.alloc(), "", "k")?);
