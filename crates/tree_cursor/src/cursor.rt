@@ -1,5 +1,5 @@
 //! The cursor, its ways through the tree, and its edits.
-ghost use Rattle.std.specs.Prelude.{◌≡◌, ◌≤◌, ◌<◌, ◌↔◌, [], ◌∷◌, ◌++◌, length, Some, None, false, IsTrue, IsSome, IsSomeAnd, IfOk, IfErr, OnOk, OnErr, option_map, option_and_then, slice_get};
+ghost use Rattle.std.specs.Prelude.{◌≡◌, ◌≤◌, ◌<◌, ◌↔◌, [], ◌∷◌, ◌++◌, length, Some, None, true, false, is_some, IsTrue, IsSome, IsSomeAnd, IfOk, IfErr, OnOk, OnErr, option_map, option_and_then, slice_get};
 ghost use Rattle.tree_cursor.specs.Standing.{without_attr_at};
 ghost use Rattle.xml_tree.specs.Tree.{at, kids_of};
 ghost use Rattle.xml_tree.specs.Edits.{TextsMeet, attr_at, change_at, put_in, put_over, set_at, take_in};
@@ -8,11 +8,12 @@ ghost use Rattle.xml_tree.specs.Nodes.{exchange_nodes, nodes_of};
 use std::alloc::AllocError;
 use xml_tree::{Attr, Element, Name, Node, Path, Text, element_at};
 
-/// A cursor stands on the element at a path of a tree, which it borrows for writing.
+/// A cursor stands on the element at a path of a tree, which it borrows for writing. The element is always there.
 #[derive(Drop)]
 pub struct Cursor<'a> {
     root: &'a mut Element,
     path: Path,
+    ghost stands: { is_some (at path root.now) ≡ true },
 }
 
 /// Ways through the tree. None of them takes memory or changes the tree.
@@ -63,8 +64,7 @@ impl<'a> Cursor<'a> {
     }
 }
 
-/// Edits of the element under the cursor, which stays where it is. The element has to be there; it is after `at_root`, after `go`
-/// and `go_to` that answer true, and after each edit.
+/// Edits of the element under the cursor, which stays where it is.
 impl<'a> Cursor<'a> {
     /// Puts an element in a gap: gap 0 stands before all nodes, gap `j` directly behind the `j`-th element child.
     ///
@@ -83,7 +83,6 @@ impl<'a> Cursor<'a> {
 
     /// Exchanges the element, and answers the old one. Takes no memory.
     pub fn replace(&mut self, element: Element) -> Element
-        requires { IsSome (at self.old.path self.old.root.now) }
         ensures same_reference { self.new.root.ghost_name ≡ self.old.root.ghost_name }
         ensures place { self.new.path ≡ self.old.path }
         ensures old { at self.old.path self.old.root.now ≡ Some result }
@@ -114,7 +113,6 @@ impl<'a> Cursor<'a> {
     /// # Errors
     /// `NoMemory` for want of memory, which comes only for a new attribute. The tree is then as before.
     pub fn set_attr(&mut self, name: Name, value: Text) -> Result<Option<Text>, AllocError>
-        requires { IsSome (at self.old.path self.old.root.now) }
         ensures same_reference { self.new.root.ghost_name ≡ self.old.root.ghost_name }
         ensures place { self.new.path ≡ self.old.path }
         ensures old { IfOk result (λ old. old ≡ option_map (λ attr. attr.value) (attr_at self.old.path name self.old.root.now)) }

@@ -1,5 +1,5 @@
 -- The bindings of a scope: what they bind, and in which order they stand.
-use Rattle.std.proofs.Common.{◌≡◌, Ordering, Less, Equal, Greater, ℕ, Bool, true, false, cond, List, [], ◌∷◌, filter, Option, Some, None, IsTrue, bytes_eq, refl, sym, ap, ◌∙◌, subst, append-nil}
+use Rattle.std.proofs.Common.{◌≡◌, Ordering, Less, Equal, Greater, ℕ, Bool, true, false, cond, List, [], ◌∷◌, filter, not, ◌&&◌, Option, Some, None, IsTrue, bytes_eq, refl, sym, ap, ◌∙◌, subst, append-nil}
 use Rattle.std.specs.Cmp.Lexicographic.{bytes_decides, nat_list_cmp_total}
 use Rattle.std.specs.List.{AllByRecursion}
 use Rattle.std.specs.Option.{option_or}
@@ -147,3 +147,67 @@ bound-bindings_in c p = by (bytes_eq p xml_prefix) refl
         rw (is, append-nil (bindings_in c))
         (declared-binds (gathered [] (joined c)) p is (AreInOrder-gathered [] (joined c) tt)
         ∙ ap some_text (declared-gathered [] (joined c) p tt ∙ option_or-none (declared (joined c) p)))
+
+-- ---- no other list
+from_binds : (d : Decl) → IsTrue (binds d) → (bytes_eq d.uri [] ≡ false) × (bytes_eq d.prefix xml_prefix ≡ false)
+from_binds d h = by (bytes_eq d.uri []) (bytes_eq d.prefix xml_prefix) h
+  where
+    by : (a b : Bool) → (not a && not b) ≡ true → (a ≡ false) × (b ≡ false)
+    by false false e = (refl, refl)
+    by false true e = cc
+    by true b e = cc
+
+some_of : (u : List ℕ) → bytes_eq u [] ≡ false → some_text (Some u) ≡ Some u
+some_of [] h = cc
+some_of (c ∷ cs) h = refl
+
+-- what the first of a list in order declares
+of_first : (d : Decl) (ds : List Decl) → Behind d.prefix ds → IsTrue (binds d) → some_text (declared (d ∷ ds) d.prefix) ≡ Some d.uri
+of_first d ds h b = rw (none_behind d.prefix ds h, (bytes_decides d.prefix d.prefix).1 refl) (some_of d.uri (from_binds d b).0)
+
+abbrev Alike : List Decl → List Decl → Type 0
+Alike ds es = (p : List ℕ) → bytes_eq p xml_prefix ≡ false → some_text (declared ds p) ≡ some_text (declared es p)
+
+-- the first of one list is declared in the other
+not_behind : (d : Decl) (ds es : List Decl) → Behind d.prefix ds → IsTrue (binds d) → Behind d.prefix es → Alike (d ∷ ds) es → ⊥
+not_behind d ds es h b g alike =
+    let both : Some d.uri ≡ None = sym (of_first d ds h b) ∙ alike d.prefix (from_binds d b).1 ∙ ap some_text (none_behind d.prefix es g) in cc
+
+tails : (d e : Decl) (ds es : List Decl) → d.prefix ≡ e.prefix → Behind d.prefix ds → Behind e.prefix es → Alike (d ∷ ds) (e ∷ es) → Alike ds es
+tails d e ds es same h g alike p other = by (bytes_eq d.prefix p) refl
+  where
+    by : (b : Bool) → bytes_eq d.prefix p ≡ b → some_text (declared ds p) ≡ some_text (declared es p)
+    by true is =
+        ap some_text (sole d p ds h is ∙ sym (sole e p es g (ap (λ q. bytes_eq q p) (sym same) ∙ is)))
+    by false is =
+        let first = ap some_text (ap (λ b. option_or (declared ds p) (cond b (Some d.uri) None)) is ∙ option_or-none (declared ds p)) in
+        let second = ap some_text (ap (λ b. option_or (declared es p) (cond b (Some e.uri) None)) (ap (λ q. bytes_eq q p) (sym same) ∙ is) ∙ option_or-none (declared es p)) in
+        sym first ∙ alike p other ∙ second
+
+one_list : (ds es : List Decl) → AreInOrder ds → AreInOrder es → AllByRecursion (λ d. IsTrue (binds d)) ds → AllByRecursion (λ d. IsTrue (binds d)) es → Alike ds es → ds ≡ es
+one_list [] [] h g b a alike = refl
+one_list [] (e ∷ es) h g b a alike = absurd (not_behind e es [] g.0 a.0 tt (λ p other. sym (alike p other)))
+one_list (d ∷ ds) [] h g b a alike = absurd (not_behind d ds [] h.0 b.0 tt alike)
+one_list (d ∷ ds) (e ∷ es) h g b a alike = by (order d.prefix e.prefix) refl (λ rest. one_list ds es h.1 g.1 b.1 a.1 rest)
+  where
+    by : (o : Ordering) → order d.prefix e.prefix ≡ o → (Alike ds es → ds ≡ es) → d ∷ ds ≡ e ∷ es
+    by Less is rest = absurd (not_behind d ds (e ∷ es) h.0 b.0 (is, further d.prefix e.prefix es is g.0) alike)
+    by Greater is rest =
+        let turned = nat_list_cmp_total.antisymm e.prefix d.prefix ∙ ap ordering_reverse is in
+        absurd (not_behind e es (d ∷ ds) g.0 a.0 (turned, further e.prefix d.prefix ds turned h.0) (λ p other. sym (alike p other)))
+    by Equal is rest =
+        let same : d.prefix ≡ e.prefix = order_equal d.prefix e.prefix is in
+        let uris : Some d.uri ≡ Some e.uri =
+        sym (of_first d ds h.0 b.0) ∙ alike d.prefix (from_binds d b.0).1 ∙ ap (λ p. some_text (declared (e ∷ es) p)) same ∙ of_first e es g.0 a.0 in
+        let uri : d.uri ≡ e.uri = cc in
+        λ i. record { prefix = same i; uri = uri i } ∷ rest (tails d e ds es same h.0 g.0 alike) i
+
+pub bindings_in-sole : (c : List (List Decl)) (ds : List Decl) → AreInOrder ds → AllByRecursion (λ d. IsTrue (binds d)) ds → ((p : List ℕ) → bound (ds ∷ []) p ≡ bound c p)
+    → ds ≡ bindings_in c
+bindings_in-sole c ds h b alike = one_list ds (bindings_in c) h (AreInOrder-bindings_in c) b (binds-bindings_in c) (λ p other. under p other)
+  where
+    plain : (l : List Decl) (p : List ℕ) → bytes_eq p xml_prefix ≡ false → bound (l ∷ []) p ≡ some_text (declared l p)
+    plain l p other = rw (other, append-nil l) refl
+
+    under : (p : List ℕ) → bytes_eq p xml_prefix ≡ false → some_text (declared ds p) ≡ some_text (declared (bindings_in c) p)
+    under p other = sym (plain ds p other) ∙ alike p ∙ sym (bound-bindings_in c p) ∙ plain (bindings_in c) p other
