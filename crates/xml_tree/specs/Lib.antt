@@ -1,3 +1,4 @@
+pub mod Apart
 pub mod Attributes
 pub mod Characters
 pub mod Comments

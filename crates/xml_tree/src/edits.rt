@@ -90,7 +90,8 @@ impl Element {
     /// `NoMemory` for want of memory, which comes only for a new attribute. The element is then as before.
     #[tactic(auto, using(crate::proofs::AttrLemmas::by_place))]
     pub fn set_attr(&mut self, name: Name, value: Text) -> Result<Option<Text>, AllocError>
-        ensures old { IfOk result (λ old. old ≡ option_map (λ attr. attr.value) (find (is_named name) self.old.attrs)) }
+        ensures old { IfOk result
+            (λ old. old ≡ option_map (λ attr. attr.value) (find (is_named name) self.old.attrs)) }
         ensures ok { OnOk result (self.new ≡ write_attr name value self.old) }
         ensures err { OnErr result (self.new ≡ self.old) }
         ensures only_for_new { OnErr result (find (is_named name) self.old.attrs ≡ None) }
@@ -167,10 +168,12 @@ impl Element {
     /// changed then.
     pub fn take_in(&mut self, path: &Path, child: usize) -> Result<Element, AllocError>
         requires { IsSomeAnd (at path.now self.old) (λ parent. child < length (kids_of parent)) }
-        ensures taken { IfOk result (λ kid. IsSomeAnd (at path.now self.old) (λ parent. slice_get (kids_of parent) child ≡ Some kid)) }
+        ensures taken { IfOk result (λ kid. IsSomeAnd (at path.now self.old)
+            (λ parent. slice_get (kids_of parent) child ≡ Some kid)) }
         ensures ok { OnOk result (self.new ≡ take_in path.now child self.old) }
         ensures err { OnErr result (self.new ≡ self.old) }
-        ensures only_where_texts_meet { OnErr result (IsSomeAnd (at path.now self.old) (λ parent. TextsMeet child parent.content)) }
+        ensures only_where_texts_meet { OnErr result (IsSomeAnd (at path.now self.old)
+            (λ parent. TextsMeet child parent.content)) }
     {
         self.edit_at(
             path,
@@ -214,7 +217,8 @@ impl Element {
         value: Text,
     ) -> Result<Option<Text>, AllocError>
         requires { IsSome (at path.now self.old) }
-        ensures old { IfOk result (λ old. old ≡ option_map (λ attr. attr.value) (attr_at path.now name self.old)) }
+        ensures old { IfOk result
+            (λ old. old ≡ option_map (λ attr. attr.value) (attr_at path.now name self.old)) }
         ensures ok { OnOk result (self.new ≡ set_at path.now name value self.old) }
         ensures err { OnErr result (self.new ≡ self.old) }
         ensures only_for_new { OnErr result (attr_at path.now name self.old ≡ None) }
@@ -222,7 +226,8 @@ impl Element {
         self.edit_at(
             path,
             |here: &mut Element| -> Result<Option<Text>, AllocError>
-                ensures old { IfOk result (λ old. old ≡ option_map (λ attr. attr.value) (find (is_named name) here.old.attrs)) }
+                ensures old { IfOk result
+                    (λ old. old ≡ option_map (λ attr. attr.value) (find (is_named name) here.old.attrs)) }
                 ensures ok { OnOk result (here.new ≡ write_attr name value here.old) }
                 ensures err { OnErr result (here.new ≡ here.old) }
                 ensures only_for_new { OnErr result (find (is_named name) here.old.attrs ≡ None) }

@@ -207,7 +207,8 @@ pub(crate) fn take_elem(nodes: &mut Vec<Node>, child: usize) -> Result<Element, 
     ensures taken { IfOk result (λ element. slice_get (kids (content_of nodes.old.items)) child ≡ Some element) }
     ensures ok { OnOk result (content_of nodes.new.items ≡ cut child (content_of nodes.old.items)) }
     ensures err { OnErr result (content_of nodes.new.items ≡ content_of nodes.old.items) }
-    ensures only_where_texts_meet { AreNormal nodes.old.items → OnErr result (TextsMeet child (content_of nodes.old.items)) }
+    ensures only_where_texts_meet { AreNormal nodes.old.items
+        → OnErr result (TextsMeet child (content_of nodes.old.items)) }
 {
     let place = place_of(nodes, child);
     let joined = joined_beside(*nodes.allocator(), nodes, place)?;

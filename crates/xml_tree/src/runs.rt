@@ -76,7 +76,8 @@ pub(crate) fn exchange(
     requires order { from ≤ to }
     requires within { to ≤ length nodes.old.items }
     ensures normal { AreNormal nodes.old.items → AreNormal nodes.new.items }
-    ensures ok { OnOk result (content_of nodes.new.items ≡ content_of (take from nodes.old.items ++ (new.items ++ drop to nodes.old.items))) }
+    ensures ok { OnOk result (content_of nodes.new.items
+        ≡ content_of (take from nodes.old.items ++ (new.items ++ drop to nodes.old.items))) }
     ensures err { OnErr result (content_of nodes.new.items ≡ content_of nodes.old.items) }
 {
     let start = with_text_before(nodes, from, &mut new)?;

@@ -110,7 +110,8 @@ impl Element {
     /// # Errors
     /// `NoMemory` for want of memory.
     pub fn push_chars(&mut self, text: &str) -> Result<(), AllocError>
-        ensures ok { OnOk result (self.new ≡ record self.old { content = with_text (chars text.now) self.old.content }) }
+        ensures ok { OnOk result
+            (self.new ≡ record self.old { content = with_text (chars text.now) self.old.content }) }
         ensures err { OnErr result (self.new ≡ self.old) }
     {
         push_text(&mut self.nodes, text)
@@ -164,6 +165,20 @@ impl Element {
         ensures normal { AreNormal result.now }
     {
         &self.nodes
+    }
+
+    /// The nodes, taken out of the element, which is dropped.
+    pub fn into_nodes(self) -> Vec<Node>
+        ensures nodes { result.items ≡ nodes_of self.content }
+        ensures normal { AreNormal result.items }
+    {
+        let Element {
+            name: _,
+            decls: _,
+            attrs: _,
+            nodes,
+        } = self;
+        nodes
     }
 
     /// An element child, counted from 0: None exactly where there are not so many.

@@ -36,8 +36,12 @@ pub fn copy_tree(alloc: Global, element: &Element) -> Result<Element, AllocError
     })
 }
 
+/// Copies of nodes, in their order.
+///
+/// # Errors
+/// `NoMemory` for want of memory.
 #[cycle(copy)]
-fn copy_nodes(alloc: Global, nodes: &[Node]) -> Result<Vec<Node>, AllocError>
+pub fn copy_nodes(alloc: Global, nodes: &[Node]) -> Result<Vec<Node>, AllocError>
     ensures { IfOk result (λ made. made.items ≡ nodes.now) }
 {
     let mut made = Vec::with_capacity(alloc, nodes.len())?;

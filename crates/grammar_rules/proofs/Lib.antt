@@ -1,0 +1,17 @@
+pub mod Exact
+pub mod Carry
+pub mod Leaves
+pub mod Heads
+pub mod Fronts
+pub mod Greedy
+pub mod UpTo
+pub mod Repeats
+pub mod Laws
+pub mod Closed
+pub mod Marks
+pub mod Whole
+pub mod Shapes
+pub mod Led
+pub mod Spaced
+pub mod Tests
+pub mod Beginnings
