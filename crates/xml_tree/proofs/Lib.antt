@@ -1,4 +1,10 @@
+pub mod ByteOrder
+pub mod Escapes
+pub mod GatheringLemmas
 pub mod KidLemmas
 pub mod Letters
 pub mod PathLemmas
 pub mod Places
+pub mod PrintLengths
+pub mod ScopeLemmas
+pub mod PrintedNodes

@@ -2,9 +2,9 @@
 use Rattle.std.proofs.Common.{◌≡◌, ℕ, zero, suc, ◌<◌, ◌≤◌, List, [], ◌∷◌, ◌++◌, length, get_or, slice_set, insert, Some, IsSome, true, false, true≢false, refl, sym, ap, ◌∙◌, subst, arith, append_assoc, append-nil}
 use Rattle.std.specs.List.{slice_get}
 use Rattle.xml_tree.specs.Tree.{Content, last, more, note, more_of, Tree, tree_of, kids, content_height}
-use Rattle.xml_tree.specs.Edits.{before, put, change, with_elem, with_text}
+use Rattle.xml_tree.specs.Edits.{before, put, cut, change, with_comment, with_elem, with_text, IsFull, first_text, TextsMeet}
 use Rattle.xml_tree.specs.Falls.{content_height-before}
-use Rattle.xml_tree.specs.Nodes.{content_of, nodes_of, text_node, ends_in_text, is_text, node_with, node_height, IsFull, StartsApart, AreNormal, place, gap_place, elem_of}
+use Rattle.xml_tree.specs.Nodes.{content_of, nodes_of, text_node, ends_in_text, is_text, node_with, node_height, StartsApart, AreNormal, place, gap_place, elem_of}
 use Rattle.xml_tree.specs.declared.tree.Node.{Node}
 use Rattle.xml_tree.specs.declared.tree.Node.TheVariants.{Elem, Chars, Comment}
 
@@ -141,6 +141,22 @@ content_of-push_elem (Comment c ∷ ns) e = ap (note [] c) (content_of-push_elem
 
 pub AreNormal-push_elem : (ns : List Node) (e : Tree) → AreNormal ns → AreNormal (ns ++ Elem e ∷ [])
 AreNormal-push_elem ns e a = AreNormal-append ns (Elem e ∷ []) a tt (λ h. tt)
+
+-- ---- a comment behind all nodes
+
+with_comment-before : (t : List ℕ) (c : Content) (s : List ℕ) → with_comment s (before t c) ≡ before t (with_comment s c)
+with_comment-before t (last u) s = refl
+with_comment-before t (more u n ds ats c rest) s = refl
+with_comment-before t (note u c rest) s = refl
+
+pub content_of-push_comment : (ns : List Node) (s : List ℕ) → content_of (ns ++ Comment s ∷ []) ≡ with_comment s (content_of ns)
+content_of-push_comment [] s = refl
+content_of-push_comment (Chars t ∷ ns) s = ap (before t) (content_of-push_comment ns s) ∙ sym (with_comment-before t (content_of ns) s)
+content_of-push_comment (Elem k ∷ ns) s = ap (more_of [] k) (content_of-push_comment ns s)
+content_of-push_comment (Comment c ∷ ns) s = ap (note [] c) (content_of-push_comment ns s)
+
+pub AreNormal-push_comment : (ns : List Node) (s : List ℕ) → AreNormal ns → AreNormal (ns ++ Comment s ∷ [])
+AreNormal-push_comment ns s a = AreNormal-append ns (Comment s ∷ []) a tt (λ h. tt)
 
 -- ---- a text behind all nodes
 
@@ -306,4 +322,4 @@ node_height-le (Comment c ∷ ns) (suc i) d h = node_height-le ns i d (omega ari
 
 pub ruleset texts = (is_text-last, ends_in-nothing, content_of-unjoined, AreNormal-unjoined, content_of-join, AreNormal-join, content_of-push_text, AreNormal-push_text, with_text-nil)
 
-pub ruleset places = (kids-before, place_there, AreNormal-set, content_of-push_elem, AreNormal-push_elem)
+pub ruleset places = (kids-before, place_there, AreNormal-set, content_of-push_elem, AreNormal-push_elem, content_of-push_comment, AreNormal-push_comment)

@@ -3,18 +3,25 @@
 //! The standards are XML 1.0 (fifth edition) and Namespaces in XML 1.0.
 #![tactic(auto)]
 
+mod bindings;
 mod characters;
 mod list;
 mod names;
 mod nodes;
 mod path;
+mod printed;
+mod scope;
 mod text;
 mod tree;
+mod whole;
 
 pub use characters::{is_char, is_name, is_name_char, is_name_start, is_space};
 pub use list::List;
 pub use names::{Attr, Decl, Name};
 pub use path::{Path, element_at};
+pub use printed::printed_len;
+pub use scope::Scope;
 pub use std::alloc::AllocError as NoMemory;
 pub use text::Text;
 pub use tree::{Element, Node};
+pub use whole::{copy_tree, depth, equal};

@@ -3,7 +3,7 @@ ghost use Rattle.std.specs.Prelude.{◌≡◌, ◌<◌, ◌≤◌, length, Some,
 ghost use Rattle.std.specs.Borrow.{sem};
 ghost use Rattle.std.specs.Option.{option_copied};
 ghost use Rattle.xml_tree.specs.Tree.{kids};
-ghost use Rattle.xml_tree.specs.Edits.{with_elem, with_text};
+ghost use Rattle.xml_tree.specs.Edits.{with_comment, with_elem, with_text};
 ghost use Rattle.xml_tree.specs.Nodes.{AreNormal, content_of, ends_in_text, gap_place, place};
 ghost use Rattle.xml_tree.specs.Lending.{LendsKid};
 
@@ -64,6 +64,17 @@ pub(crate) fn push_elem_node(nodes: &mut Vec<Node>, element: Element) -> Result<
     ensures err { OnErr result (content_of nodes.new.items ≡ content_of nodes.old.items) }
 {
     nodes.push(Node::Elem(element))?;
+    Ok(())
+}
+
+// Adds a comment at the end.
+#[tactic(auto, using(crate::proofs::Places::places))]
+pub(crate) fn push_comment_node(nodes: &mut Vec<Node>, text: Text) -> Result<(), AllocError>
+    ensures normal { AreNormal nodes.old.items → AreNormal nodes.new.items }
+    ensures ok { OnOk result (content_of nodes.new.items ≡ with_comment text (content_of nodes.old.items)) }
+    ensures err { OnErr result (content_of nodes.new.items ≡ content_of nodes.old.items) }
+{
+    nodes.push(Node::Comment(text))?;
     Ok(())
 }
 
