@@ -1,0 +1,4 @@
+pub mod Rules
+pub mod Digits
+pub mod Reading
+pub mod Answers

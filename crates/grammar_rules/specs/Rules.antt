@@ -1,0 +1,232 @@
+-- Rules of a grammar. A rule says which texts it spells, as which values, and what a text may be that breaks off in it: its beginnings.
+-- A text is a list of characters. Rules are made of smaller ones as the productions of XML 1.0 (fifth edition, section 6) are.
+--
+-- What the beginnings of a rule are is told by cases:
+-- - the empty text and each whole text of the rule begin it, and so does each front of a fixed word;
+-- - a sequence is begun by some of its first parts, each whole, and a beginning of the next part;
+-- - a choice is begun by a beginning of one of its members, a repetition by some whole members and a beginning of one more;
+-- - what is forbidden inside a run of characters is forbidden in a beginning too, what is asked of the whole of it only where it is whole;
+-- - digits begin a number while the number so far is in its bound.
+-- So the longest beginning of a text is told by the rules alone, and no continuation has to be found.
+--
+-- Beside its beginnings a rule has marks: a front of a text may say something (a kind) of a place in it, as that a tag stands too deep.
+use Rattle.std.specs.Prelude.{◌≡◌, ℕ, ◌+◌, ◌*◌, ◌<◌, ◌≤◌, Bool, true, List, [], ◌∷◌, ◌++◌, ◌⊎◌, length, Option, Some, None}
+use Rattle.grammar_rules.specs.Digits.{Digits}
+
+-- What may be met at the end of a front of a text.
+pub data Event (Kind : Type 0) : Type 0 where
+  Begin : Event Kind  -- the front is a beginning
+  Mark : (kind : Kind) → (back : ℕ) → Event Kind  -- the front says this kind of the place that lies so many characters back
+
+-- A rule: which texts it spells, as which values, and what is met at the end of a text that breaks off in it.
+pub record Rule (Kind A : Type 0) : Type 1 where
+  pub Spells : List ℕ → A → Type 0
+  pub Meets : Event Kind → List ℕ → Type 0
+
+-- A text in two parts.
+pub record Split (text : List ℕ) (P Q : List ℕ → Type 0) : Type 0 where
+  pub front : List ℕ
+  pub back : List ℕ
+  pub joined : text ≡ front ++ back
+  pub front_is : P front
+  pub back_is : Q back
+
+-- Beginnings alone, without marks.
+abbrev pub breaks : {Kind : Type 0} → (List ℕ → Type 0) → Event Kind → List ℕ → Type 0
+breaks P Begin text = P text
+breaks P (Mark kind back) text = ⊥
+
+-- # Rules in which no other rule stands
+
+-- No text at all.
+abbrev pub never : {Kind A : Type 0} → Rule Kind A
+never = record { Spells = λ text a. ⊥; Meets = λ e text. ⊥ }
+
+-- The empty text, with this value.
+abbrev pub empty : {Kind A : Type 0} → A → Rule Kind A
+empty value = record { Spells = λ text a. (text ≡ []) × (a ≡ value); Meets = breaks (λ text. text ≡ []) }
+
+-- One character of a class.
+abbrev pub one : {Kind : Type 0} → (ℕ → Bool) → Rule Kind ℕ
+one p = record {
+  Spells = λ text c. (p c ≡ true) × (text ≡ c ∷ []);
+  Meets = breaks (λ text. (text ≡ []) ⊎ ((c : ℕ) × (p c ≡ true) × (text ≡ c ∷ [])));
+}
+
+-- A fixed word. Each front of it is a beginning.
+abbrev pub word : {Kind : Type 0} → List ℕ → Rule Kind (Unit {0})
+word w = record {
+  Spells = λ text _. text ≡ w;
+  Meets = breaks (λ text. (rest : List ℕ) × (w ≡ text ++ rest));
+}
+
+-- each character is of the class
+abbrev pub AllPass : (ℕ → Bool) → List ℕ → Type 0
+AllPass p [] = Unit {0}
+AllPass p (c ∷ cs) = (p c ≡ true) × AllPass p cs
+
+-- Any number of characters of a class, none among them.
+abbrev pub run : {Kind : Type 0} → (ℕ → Bool) → Rule Kind (List ℕ)
+run p = record {
+  Spells = λ text cs. AllPass p text × (cs ≡ text);
+  Meets = breaks (AllPass p);
+}
+
+-- the word stands nowhere in the text
+abbrev pub Lacks : List ℕ → List ℕ → Type 0
+Lacks w text = (u t : List ℕ) → text ≡ u ++ (w ++ t) → ⊥
+
+-- Any number of characters of a class, in which a word stands nowhere; nor may it stand in a beginning.
+abbrev pub run_without : {Kind : Type 0} → (ℕ → Bool) → List ℕ → Rule Kind (List ℕ)
+run_without p w = record {
+  Spells = λ text cs. AllPass p text × Lacks w text × (cs ≡ text);
+  Meets = breaks (λ text. AllPass p text × Lacks w text);
+}
+
+-- the word stands nowhere in the text but at its end
+abbrev pub OnlyLast : List ℕ → List ℕ → Type 0
+OnlyLast w text = (u t : List ℕ) → text ≡ u ++ (w ++ t) → t ≡ []
+
+-- Characters of a class up to the first time that a word stands there, and the word. The value is what stands before the word.
+abbrev pub up_to : {Kind : Type 0} → (ℕ → Bool) → List ℕ → Rule Kind (List ℕ)
+up_to p w = record {
+  Spells = λ text cs. (text ≡ cs ++ w) × AllPass p text × OnlyLast w text;
+  Meets = breaks (λ text. AllPass p text × OnlyLast w text);
+}
+
+-- digits, with the number never above the greatest, where those before them are worth n
+abbrev pub IsNumberSoFar : Digits → ℕ → ℕ → List ℕ → Type 0
+IsNumberSoFar d most n [] = Unit {0}
+IsNumberSoFar d most n (c ∷ cs) = (d.is_digit c ≡ true) × (n * d.base + d.value c ≤ most) × IsNumberSoFar d most (n * d.base + d.value c) cs
+
+-- what digits are worth behind others that are worth n
+abbrev pub number_from : Digits → ℕ → List ℕ → ℕ
+number_from d n [] = n
+number_from d n (c ∷ cs) = number_from d (n * d.base + d.value c) cs
+
+-- One or more digits that are worth at most this, and a number that passes. Whether it passes is asked only where the number is whole.
+abbrev pub number : {Kind : Type 0} → Digits → ℕ → (ℕ → Bool) → Rule Kind ℕ
+number d most p = record {
+  Spells = λ text n. IsNumberSoFar d most 0 text × (0 < length text) × (n ≡ number_from d 0 text) × (p n ≡ true);
+  Meets = breaks (IsNumberSoFar d most 0);
+}
+
+-- # Rules made of others
+
+-- One rule and then another, which may depend on the first one's value.
+abbrev pub sequence : {Kind A B : Type 0} → Rule Kind A → (A → Rule Kind B) → Rule Kind (A × B)
+sequence {Kind} {A} {B} r s = record {
+  Spells = λ text x. Split text (λ u. r.Spells u x.0) (λ v. (s x.0).Spells v x.1);
+  Meets = λ e text. r.Meets e text ⊎ ((a : A) × Split text (λ u. r.Spells u a) (λ v. (s a).Meets e v));
+}
+
+-- Either of two rules.
+abbrev pub either : {Kind A : Type 0} → Rule Kind A → Rule Kind A → Rule Kind A
+either r s = record {
+  Spells = λ text a. r.Spells text a ⊎ s.Spells text a;
+  Meets = λ e text. r.Meets e text ⊎ s.Meets e text;
+}
+
+-- a text in as many parts as there are values, each a text of the rule
+abbrev pub Each : {Kind A : Type 0} → Rule Kind A → List A → List ℕ → Type 0
+Each r [] text = text ≡ []
+Each r (x ∷ xs) text = Split text (λ u. r.Spells u x) (λ v. Each r xs v)
+
+-- Any number of members.
+abbrev pub many : {Kind A : Type 0} → Rule Kind A → Rule Kind (List A)
+many {Kind} {A} r = record {
+  Spells = λ text xs. Each r xs text;
+  Meets = λ e text. (xs : List A) × Split text (λ u. Each r xs u) (λ v. r.Meets e v);
+}
+
+-- The same texts, standing for other values.
+abbrev pub valued : {Kind A B : Type 0} → (A → B) → Rule Kind A → Rule Kind B
+valued {Kind} {A} {B} f r = record {
+  Spells = λ text b. (a : A) × r.Spells text a × (b ≡ f a);
+  Meets = r.Meets;
+}
+
+-- The same texts, whose value also says how many characters they have.
+abbrev pub sized : {Kind A : Type 0} → Rule Kind A → Rule Kind (A × ℕ)
+sized r = record {
+  Spells = λ text x. r.Spells text x.0 × (x.1 ≡ length text);
+  Meets = r.Meets;
+}
+
+-- The texts whose value passes. That is asked only of a whole text, so the beginnings stay.
+abbrev pub only : {Kind A : Type 0} → (A → Bool) → Rule Kind A → Rule Kind A
+only p r = record {
+  Spells = λ text a. r.Spells text a × (p a ≡ true);
+  Meets = r.Meets;
+}
+
+-- The same texts, each taken whole or not at all: a part of one is no beginning.
+abbrev pub atomic : {Kind A : Type 0} → Rule Kind A → Rule Kind A
+atomic {Kind} {A} r = record {
+  Spells = r.Spells;
+  Meets = breaks (λ text. (text ≡ []) ⊎ ((a : A) × r.Spells text a));
+}
+
+-- # Rules with marks
+
+-- what the marked rule meets
+abbrev pub MarkedMeets : {Kind A : Type 0} → Kind → (List ℕ → Type 0) → Rule Kind A → Event Kind → List ℕ → Type 0
+MarkedMeets kind P r Begin text = r.Meets Begin text
+MarkedMeets kind P r (Mark k back) text = ((k ≡ kind) × (back ≡ length text) × P text) ⊎ r.Meets (Mark k back) text
+
+-- The same texts, where a front that is so says this kind of its own first place.
+abbrev pub marked : {Kind A : Type 0} → Kind → (List ℕ → Type 0) → Rule Kind A → Rule Kind A
+marked kind P r = record {
+  Spells = r.Spells;
+  Meets = MarkedMeets kind P r;
+}
+
+-- what the judged rule meets
+abbrev pub JudgedMeets : {Kind A : Type 0} → (A → Kind → ℕ → Type 0) → Rule Kind A → Event Kind → List ℕ → Type 0
+JudgedMeets Says r Begin text = r.Meets Begin text
+JudgedMeets {Kind} {A} Says r (Mark k back) text = ((a : A) × r.Spells text a × Says a k back) ⊎ r.Meets (Mark k back) text
+
+-- The same texts, where a whole one says, by its value, kinds of places in it, each so many characters back from its end.
+abbrev pub judged : {Kind A : Type 0} → (A → Kind → ℕ → Type 0) → Rule Kind A → Rule Kind A
+judged Says r = record {
+  Spells = r.Spells;
+  Meets = JudgedMeets Says r;
+}
+
+-- what the trap meets
+abbrev pub TrapMeets : {Kind : Type 0} → Kind → List ℕ → List ℕ → Event Kind → List ℕ → Type 0
+TrapMeets kind seen rest Begin text = (more : List ℕ) × (seen ≡ text ++ more)
+TrapMeets kind seen rest (Mark k back) text = (k ≡ kind) × (back ≡ length text) × (text ≡ seen ++ rest)
+
+-- A word that is known and refused. Only fronts of its first part are beginnings; the whole word says this kind of its first place.
+abbrev pub trap : {Kind A : Type 0} → Kind → List ℕ → List ℕ → Rule Kind A
+trap kind seen rest = record { Spells = λ text a. ⊥; Meets = TrapMeets kind seen rest }
+
+-- # Shapes that grammars often have
+
+-- A rule, or nothing.
+abbrev pub optional : {Kind A : Type 0} → Rule Kind A → Rule Kind (Option A)
+optional r = either (valued Some r) (empty None)
+
+-- Members between gaps: a gap, and any number of members, each with a gap behind it. So no two gaps meet.
+abbrev pub between : {Kind A B : Type 0} → Rule Kind A → Rule Kind B → Rule Kind (A × List (B × A))
+between gap member = sequence gap (λ _. many (sequence member (λ _. gap)))
+
+-- One or more characters of a class.
+abbrev pub some_of : {Kind : Type 0} → (ℕ → Bool) → Rule Kind (List ℕ)
+some_of p = valued (λ x. x.0 ∷ x.1) (sequence (one p) (λ _. run p))
+
+-- A first character of one class, and any number of another.
+abbrev pub name_of : {Kind : Type 0} → (ℕ → Bool) → (ℕ → Bool) → Rule Kind (List ℕ)
+name_of first others = valued (λ x. x.0 ∷ x.1) (sequence (one first) (λ _. run others))
+
+-- What stands before something, and what stands behind something.
+abbrev pub before : {Kind A B : Type 0} → Rule Kind A → Rule Kind B → Rule Kind A
+before r s = valued (λ x. x.0) (sequence r (λ _. s))
+
+abbrev pub behind : {Kind A B : Type 0} → Rule Kind A → Rule Kind B → Rule Kind B
+behind r s = valued (λ x. x.1) (sequence r (λ _. s))
+
+-- A pair of equal quotes, and what stands between them, which may depend on the quote.
+abbrev pub quoted : {Kind A : Type 0} → (ℕ → Bool) → (ℕ → Rule Kind A) → Rule Kind A
+quoted is_quote inside = valued (λ x. x.1) (sequence (one is_quote) (λ q. before (inside q) (word (q ∷ []))))
