@@ -1,2 +1,4 @@
 pub mod RunLemmas
 pub mod Loops
+pub mod Shrinks
+pub mod NameLemmas

@@ -1,8 +1,8 @@
 -- A run, cut by its length.
-use Rattle.std.proofs.Common.{◌≡◌, ℕ, suc, ◌+◌, ◌-◌, ◌<◌, ◌≤◌, Bool, true, false, cond, List, [], ◌∷◌, length, take, drop, get_or, Ok, refl, sym, ap, ◌∙◌, arith, add-one}
+use Rattle.std.proofs.Common.{Err, ◌≡◌, ℕ, suc, ◌+◌, ◌-◌, ◌<◌, ◌≤◌, Bool, true, false, cond, List, [], ◌∷◌, length, take, drop, get_or, Ok, refl, sym, ap, ◌∙◌, arith, add-one}
 use Rattle.std.proofs.Math.Seq.{drop-cons, take-length}
 use Rattle.std.proofs.lemmas.List.{get_or_default, length-drop}
-use Rattle.grammar_rules.specs.Reading.{front_of, after_front, read_name_of}
+use Rattle.grammar_rules.specs.Reading.{Syntax, front_of, after_front, read_name_of, read_some_of}
 use Rattle.tree_text.specs.declared.kind.Kind.{Kind}
 use Rattle.tree_text.specs.Runs.{run_len}
 
@@ -63,3 +63,22 @@ name_read p q text front back c n h i t e f b =
   where
     pair : {x y u v : List ℕ} → x ≡ u → y ≡ v → let p : List ℕ × List ℕ = (x, y) in let q : List ℕ × List ℕ = (u, v) in p ≡ q
     pair {x} {y} {u} {v} h i = ap (λ (z : List ℕ). (z, y)) h ∙ ap (λ (z : List ℕ). (u, z)) i
+
+-- one or more
+some_by : (p : ℕ → Bool) (c : ℕ) (cs : List ℕ) (n : ℕ) (b : Bool) → p c ≡ b → n ≡ cond b (run_len p cs + 1) 0 → 0 < n → read_some_of {Kind = Kind} p (c ∷ cs) ≡ Ok (take n (c ∷ cs), drop n (c ∷ cs))
+some_by p c cs n true e h lt =
+    let k : n ≡ suc (run_len p cs) = omega arith in
+    rw e (rw k (rw (take_run p cs, drop_run p cs) refl))
+some_by p c cs n false e h lt = absurd (omega arith)
+
+pub some_read : (p : ℕ → Bool) (text front back : List ℕ) (n : ℕ) → n ≡ run_len p text → front ≡ take n text → back ≡ drop n text → 0 < n → read_some_of {Kind = Kind} p text ≡ Ok (front, back)
+some_read p [] front back n h f b lt = absurd (omega arith)
+some_read p (c ∷ cs) front back n h f b lt = rw (f, b) (some_by p c cs n (p c) refl h lt)
+
+none_by : (p : ℕ → Bool) (c : ℕ) (cs : List ℕ) (b : Bool) → p c ≡ b → cond b (run_len p cs + 1) 0 ≡ 0 → read_some_of {Kind = Kind} p (c ∷ cs) ≡ Err (Syntax (c ∷ cs))
+none_by p c cs true e h = absurd (omega arith)
+none_by p c cs false e h = rw e refl
+
+pub none_read : (p : ℕ → Bool) (text : List ℕ) → run_len p text ≡ 0 → read_some_of {Kind = Kind} p text ≡ Err (Syntax text)
+none_read p [] h = refl
+none_read p (c ∷ cs) h = none_by p c cs (p c) refl h

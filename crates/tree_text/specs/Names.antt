@@ -11,7 +11,8 @@ use Rattle.xml_tree.specs.declared.names.Decl.{Decl}
 use Rattle.xml_tree.specs.declared.names.Attr.{Attr}
 use Rattle.tree_text.specs.declared.kind.Kind.{Kind}
 use Rattle.tree_text.specs.declared.kind.Kind.TheVariants.{Encoded, Doctyped, Depth, Unbound, Repeated}
-use Rattle.tree_text.specs.Pieces.{Said, Tag, written}
+use Rattle.tree_text.specs.declared.said.Said.{Said}
+use Rattle.tree_text.specs.Pieces.{Tag, written}
 
 -- ---- declarations and attributes
 

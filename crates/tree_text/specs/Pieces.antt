@@ -4,6 +4,7 @@ use Rattle.xml_tree.specs.Tree.{Content, Tree}
 use Rattle.xml_tree.specs.Edits.{with_text, with_elem, with_comment}
 use Rattle.xml_tree.specs.declared.names.Name.{Name}
 use Rattle.grammar_rules.specs.Reading.{head_is}
+use Rattle.tree_text.specs.declared.said.Said.{Said}
 use Rattle.tree_text.specs.Words.{colon}
 
 -- Line ends (XML 1.0, 2.11): CR LF, and a CR that no LF follows, are read as LF. So a CR before an LF is read as nothing.
@@ -55,13 +56,7 @@ written_by (c ∷ cs) l = (c ∷ cs) ++ (colon ++ l)
 abbrev pub written : Name → List ℕ
 written n = written_by n.prefix n.local
 
--- an attribute or a declaration in a tag
-pub record Said : Type 0 where
-  pub name : Name
-  pub value : List ℕ
-  pub gap : ℕ  -- how many characters of white space stand before it
-  pub size : ℕ  -- how many characters it has
-
+-- an attribute or a declaration in a tag: its name, its value, how many characters of white space stand before it, and how many it has
 abbrev pub said_of : List ℕ × ((Name × List ℕ) × ℕ) → Said
 said_of x = record { name = x.1.0.0; value = x.1.0.1; gap = length x.0; size = x.1.1 }
 

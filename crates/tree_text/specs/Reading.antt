@@ -10,7 +10,8 @@ use Rattle.grammar_rules.specs.Reading.{Reader, head_is, starts, spaced, read_ne
 use Rattle.tree_text.specs.Words.{less, greater, empty_end, end_start, equals_sign, colon, ampersand, semicolon, hash, small_x, amp, lt, gt, quot, apos, comment_start, dashes, section_start, section_end, instruction_start, instruction_end, declaration_start, version, one_dot, encoding, standalone, yes, not_alone, bang, bang_bracket, doctype, byte_order_mark}
 use Rattle.tree_text.specs.declared.kind.Kind.{Kind}
 use Rattle.tree_text.specs.declared.kind.Kind.TheVariants.{Encoded, Doctyped, Depth}
-use Rattle.tree_text.specs.Pieces.{line_ends, value_of, qname_of, written, Said, said_of, Tag, tag_of, Markup, Reference, Section, Comment, Instruction, Inner, with_pieces}
+use Rattle.tree_text.specs.declared.said.Said.{Said}
+use Rattle.tree_text.specs.Pieces.{line_ends, value_of, qname_of, written, said_of, Tag, tag_of, Markup, Reference, Section, Comment, Instruction, Inner, with_pieces}
 use Rattle.tree_text.specs.Names.{inside, element_of, tag_fault}
 use Rattle.tree_text.specs.Grammar.{last_char, is_quote, is_raw, is_raw_in, is_target, is_letter, is_encoding_char, is_our_encoding}
 
@@ -19,8 +20,12 @@ use Rattle.tree_text.specs.Grammar.{last_char, is_quote, is_raw, is_raw_in, is_t
 abbrev pub read_name : Reader Kind (List ℕ)
 read_name = read_name_of is_name_start is_name_char
 
+-- a colon follows
+abbrev pub colon_follows : List ℕ → Bool
+colon_follows = head_is (λ c. c == 58)
+
 abbrev pub read_qname : Reader Kind Name
-read_qname = read_valued qname_of (read_sequence read_name (λ _. read_optional (head_is (λ c. c == 58)) (read_behind (read_word colon) read_name)))
+read_qname = read_valued qname_of (read_sequence read_name (λ _. read_optional colon_follows (read_behind (read_word colon) read_name)))
 
 abbrev pub read_spaces : Reader Kind (List ℕ)
 read_spaces = read_run is_space

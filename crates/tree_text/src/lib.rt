@@ -6,7 +6,10 @@
 mod fault;
 mod kind;
 mod parts;
+mod said;
 mod stop;
+mod texts;
 mod values;
+mod written;
 
 pub use fault::{TextFault, ValueFault};

@@ -1,5 +1,5 @@
 //! Words, white space and names: the parts in which no other rule stands.
-ghost use Rattle.std.specs.Prelude.{◌≡◌, ◌+◌, ◌≤◌, length, MatchResult, IfOk, IsOkAnd, Ok};
+ghost use Rattle.std.specs.Prelude.{◌≡◌, ◌+◌, ◌<◌, length, MatchResult, IfOk, IsOkAnd, Ok};
 ghost use Rattle.grammar_rules.specs.Reading.{read_word, read_run, read_some_of};
 ghost use Rattle.xml_tree.specs.Characters.{is_space, is_name_char};
 ghost use Rattle.tree_text.specs.Gives.{Gives, Fails};
@@ -11,7 +11,8 @@ use xml_tree::{is_name_char, is_name_start, is_space};
 
 /// What follows a fixed word.
 pub fn word<'a>(text: &'a [char], word: &[char]) -> Result<&'a [char], Stop<'a>>
-    ensures { Gives (λ rest. (tt, rest.now)) result (read_word word.now text.now) }
+    ensures read { Gives (λ rest. (tt, rest.now)) result (read_word word.now text.now) }
+    ensures sizes { IfOk result (λ rest. length word.now + length rest.now ≡ length text.now) }
 {
     let mut rest = text;
     for &expected in word {
@@ -66,9 +67,32 @@ fn name_len(text: &[char]) -> usize
 pub fn name(text: &[char]) -> Result<(&[char], &[char]), Stop<'_>>
     ensures read { Gives (λ x. (x.0.now, x.1.now)) result (read_name text.now) }
     ensures sizes { IfOk result (λ x. length x.0.now + length x.1.now ≡ length text.now) }
+    ensures some { IfOk result (λ x. 0 < length x.0.now) }
 {
     match text {
         [first, rest @ ..] if is_name_start(*first) => Ok(text.split_at(1 + name_len(rest))),
         _ => Err(Stop::Syntax(text)),
     }
+}
+
+/// White space, which may not be absent, and what follows it.
+#[tactic(auto, using(crate::proofs::RunLemmas::some_read, crate::proofs::RunLemmas::none_read, crate::proofs::RunLemmas::run_len_le))]
+pub fn some_spaces(text: &[char]) -> Result<(&[char], &[char]), Stop<'_>>
+    ensures read { Gives (λ x. (x.0.now, x.1.now)) result (read_some_spaces text.now) }
+    ensures sizes { IfOk result (λ x. length x.0.now + length x.1.now ≡ length text.now) }
+{
+    let len = spaces_len(text);
+    if len == 0 {
+        return Err(Stop::Syntax(text));
+    }
+    Ok(text.split_at(len))
+}
+
+/// `=` with white space round it: the white space behind it, and what follows.
+pub fn equals(text: &[char]) -> Result<(&[char], &[char]), Stop<'_>>
+    ensures { Gives (λ x. (x.0.now, x.1.now)) result (read_equals text.now) }
+{
+    let (_, rest) = spaces(text);
+    let rest = word(rest, &['='])?;
+    Ok(spaces(rest))
 }

@@ -11,6 +11,7 @@ ghost use Rattle.tree_text.specs.Reading.{read_stands_for, read_entity, read_num
 
 use crate::parts::word;
 use crate::stop::Stop;
+use crate::texts::no_text;
 use std::alloc::{AllocError, Global};
 use xml_tree::{Text, is_char};
 
@@ -179,13 +180,6 @@ fn push_raw_char(value: &mut Text, c: char, after: &[char]) -> Result<(), AllocE
         Some(c) => value.push(blank(c)),
         None => Ok(()),
     }
-}
-
-/// An empty text. Takes no memory.
-pub fn no_text(alloc: Global) -> Text
-    ensures { result ≡ [] }
-{
-    Text::own(String::new(alloc))
 }
 
 /// Adds raw characters of a value, as they are read.

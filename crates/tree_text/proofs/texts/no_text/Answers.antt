@@ -1,6 +1,6 @@
 use Rattle.std.proofs.Common.{◌≡◌, [], refl, ap, ◌∙◌}
 use Rattle.std.specs.Str.{chars}
-use Rattle.tree_text.proofs.values.no_text.Goals as goal
+use Rattle.tree_text.proofs.texts.no_text.Goals as goal
 
 nothing : chars [] ≡ []
 unfolding chars
