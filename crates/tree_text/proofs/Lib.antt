@@ -2,3 +2,4 @@ pub mod RunLemmas
 pub mod Loops
 pub mod Shrinks
 pub mod NameLemmas
+pub mod TagLemmas

@@ -77,8 +77,12 @@ read_attribute = read_sequence read_qname (λ _. read_behind read_equals (read_q
 abbrev pub read_said : Reader Kind Said
 read_said = read_valued said_of (read_sequence read_some_spaces (λ _. read_sized read_attribute))
 
+-- an attribute follows behind white space
+abbrev pub said_follows : List ℕ → Bool
+said_follows = spaced is_space is_name_start
+
 abbrev pub read_all_said : Reader Kind (List Said)
-read_all_said = read_many (spaced is_space is_name_start) read_said
+read_all_said = read_many said_follows read_said
 
 abbrev pub read_tag_end : Reader Kind Bool
 read_tag_end = read_either (head_is (λ c. c == 47)) (read_valued (λ _. true) (read_word empty_end)) (read_valued (λ _. false) (read_word greater))

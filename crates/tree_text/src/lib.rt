@@ -8,6 +8,7 @@ mod kind;
 mod parts;
 mod said;
 mod stop;
+mod tags;
 mod texts;
 mod values;
 mod written;

@@ -1,7 +1,7 @@
 //! Words, white space and names: the parts in which no other rule stands.
 ghost use Rattle.std.specs.Prelude.{◌≡◌, ◌+◌, ◌<◌, length, MatchResult, IfOk, IsOkAnd, Ok};
-ghost use Rattle.grammar_rules.specs.Reading.{read_word, read_run, read_some_of};
-ghost use Rattle.xml_tree.specs.Characters.{is_space, is_name_char};
+ghost use Rattle.grammar_rules.specs.Reading.{head_is, after_front, read_word};
+ghost use Rattle.xml_tree.specs.Characters.{is_space, is_name_start, is_name_char};
 ghost use Rattle.tree_text.specs.Gives.{Gives, Fails};
 ghost use Rattle.tree_text.specs.Runs.{run_len};
 ghost use Rattle.tree_text.specs.Reading.{read_name, read_spaces, read_some_spaces, read_equals};
@@ -44,6 +44,7 @@ fn spaces_len(text: &[char]) -> usize
 pub fn spaces(text: &[char]) -> (&[char], &[char])
     ensures read { read_spaces text.now ≡ Ok (result.0.now, result.1.now) }
     ensures sizes { length result.0.now + length result.1.now ≡ length text.now }
+    ensures after { result.1.now ≡ after_front is_space text.now }
 {
     text.split_at(spaces_len(text))
 }
@@ -86,6 +87,20 @@ pub fn some_spaces(text: &[char]) -> Result<(&[char], &[char]), Stop<'_>>
         return Err(Stop::Syntax(text));
     }
     Ok(text.split_at(len))
+}
+
+/// Whether white space stands in front.
+pub fn starts_with_space(text: &[char]) -> bool
+    ensures { result ≡ head_is is_space text.now }
+{
+    matches!(text, [c, ..] if is_space(*c))
+}
+
+/// Whether the first character of a name stands in front.
+pub fn starts_with_name(text: &[char]) -> bool
+    ensures { result ≡ head_is is_name_start text.now }
+{
+    matches!(text, [c, ..] if is_name_start(*c))
 }
 
 /// `=` with white space round it: the white space behind it, and what follows.
