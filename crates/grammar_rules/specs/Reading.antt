@@ -1,6 +1,6 @@
 -- Reading functions: they read a text from left to right by a rule, and answer a value and what is left, or a stop and what was left there.
 -- There is one for each way to make a rule, and code that reads equals one of them.
-use Rattle.std.specs.Prelude.{ℕ, zero, suc, ◌+◌, ◌-◌, ◌*◌, Bool, true, false, ◌&&◌, List, [], ◌∷◌, ◌++◌, Result, Ok, Err, if◌then◌else◌, nat_eq, nat_le, length, drop, take, Option, Some, None}
+use Rattle.std.specs.Prelude.{ℕ, zero, suc, ◌+◌, ◌-◌, ◌*◌, Bool, true, false, ◌&&◌, List, [], ◌∷◌, ◌++◌, Result, Ok, Err, if◌then◌else◌, nat_eq, nat_le, length, drop, Option, Some, None}
 use Rattle.grammar_rules.specs.Digits.{Digits}
 
 -- Why reading stops, with what was left of the text there.
@@ -66,7 +66,9 @@ read_run p text = Ok (front_of p text, after_front p text)
 
 -- all but the last character of a word
 abbrev pub all_but_last : List ℕ → List ℕ
-all_but_last w = take (length w - 1) w
+all_but_last [] = []
+all_but_last (c ∷ []) = []
+all_but_last (c ∷ d ∷ w) = c ∷ all_but_last (d ∷ w)
 
 -- the characters of a class in front, up to where the next one would end the word
 abbrev pub front_without : (ℕ → Bool) → List ℕ → List ℕ → List ℕ

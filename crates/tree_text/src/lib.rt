@@ -1,0 +1,16 @@
+//! Texts of XML documents, fragments and attribute bodies, read and printed.
+//! It promises that a text is read exactly as its grammar says, each fault with its place, and that what is printed reads back.
+//! XML 1.0 (fifth edition) and Namespaces in XML 1.0, as RFC 4825 exchanges them.
+#![tactic(auto)]
+
+mod fault;
+mod kind;
+mod parts;
+mod said;
+mod stop;
+mod tags;
+mod texts;
+mod values;
+mod written;
+
+pub use fault::{TextFault, ValueFault};

@@ -1,0 +1,4 @@
+pub mod Adding
+pub mod Exchanging
+pub mod Lines
+pub mod Steps

@@ -1,0 +1,48 @@
+-- How one call on a line follows another.
+use Rattle.std.proofs.Common.{◌≡◌, ℕ, Result, Ok, Err, refl, ◌∙◌, arith}
+use Rattle.xcap_io.specs.Causes.{LineState, Counts, Reads, OnlyReads, Writes, OnlyWrites}
+
+-- a call that counts, after a count that stayed
+pub counts_on : {T E : Type 0} (first mid last : ℕ) (result : Result T E) → mid ≡ first → Counts mid last result → Counts first last result
+counts_on first mid last (Ok x) stayed counts = counts ∙ stayed
+counts_on first mid last (Err e) stayed counts = omega arith
+
+pub reads_none : (line : LineState) → Reads line line
+reads_none line = record { later = omega arith; same_taken = refl; same_write_faults = refl; same_holds = refl; same_port = refl; same_peer = refl }
+
+pub writes_none : (line : LineState) → Writes line line
+writes_none line = record { later = omega arith; same_left = refl; same_read_faults = refl; same_holds = refl; same_port = refl; same_peer = refl }
+
+pub reads_on : (old mid new : LineState) → Reads old mid → Reads mid new → Reads old new
+reads_on old mid new first next = record {
+  later = omega (arith, first.later, next.later);
+  same_taken = next.same_taken ∙ first.same_taken;
+  same_write_faults = next.same_write_faults ∙ first.same_write_faults;
+  same_holds = next.same_holds ∙ first.same_holds;
+  same_port = next.same_port ∙ first.same_port;
+  same_peer = next.same_peer ∙ first.same_peer;
+}
+
+pub writes_on : (old mid new : LineState) → Writes old mid → Writes mid new → Writes old new
+writes_on old mid new first next = record {
+  later = omega (arith, first.later, next.later);
+  same_left = next.same_left ∙ first.same_left;
+  same_read_faults = next.same_read_faults ∙ first.same_read_faults;
+  same_holds = next.same_holds ∙ first.same_holds;
+  same_port = next.same_port ∙ first.same_port;
+  same_peer = next.same_peer ∙ first.same_peer;
+}
+
+-- a read after reads that did not fail
+pub only_reads_on : {T E : Type 0} (old mid new : LineState) (result : Result T E) → Reads old mid → mid.read_faults ≡ old.read_faults → OnlyReads mid new result → OnlyReads old new result
+only_reads_on old mid new result first stayed next = record {
+  reads = reads_on old mid new first next.reads;
+  counts = counts_on old.read_faults mid.read_faults new.read_faults result stayed next.counts;
+}
+
+-- a write after writes that did not fail
+pub only_writes_on : {T E : Type 0} (old mid new : LineState) (result : Result T E) → Writes old mid → mid.write_faults ≡ old.write_faults → OnlyWrites mid new result → OnlyWrites old new result
+only_writes_on old mid new result first stayed next = record {
+  writes = writes_on old mid new first next.writes;
+  counts = counts_on old.write_faults mid.write_faults new.write_faults result stayed next.counts;
+}

@@ -1,0 +1,98 @@
+-- What contracts see of a line, and what a call on it may change. This is the project's own model of input and output.
+use Rattle.std.specs.Prelude.{◌≡◌, ℕ, ◌+◌, ◌-◌, ◌^◌, ◌≤◌, min, List, Bool, Option, None, Result, MatchResult}
+use Rattle.std.specs.Borrow.{GName}
+
+-- The connections that have begun on a port: what was sent on each one that ended, and whether one is present.
+-- What was sent on the present one is what the line has taken.
+pub record Begun : Type 0 where
+  pub earlier : List (List ℕ)
+  pub is_present : Bool
+
+-- What a port is beside a source and a sink.
+pub record PortState : Type 0 where
+  -- the address of the last `listen` that answered `Ok`, and none before that, where the port tells it
+  pub listening : Option (Option (List ℕ))
+  -- the bytes that each connection still to come will give, where the port tells them
+  pub to_come : Option (List (List ℕ))
+  -- the connections that have begun, where the port tells what was sent on each
+  pub begun : Option Begun
+  -- how often `listen` and `next` have failed
+  pub faults : ℕ
+
+-- A connection of a peer that ended: the address that it was begun at, and the bytes that were taken on it.
+pub record Exchange : Type 0 where
+  pub address : List ℕ
+  pub taken : List ℕ
+
+-- The connections that a peer has begun: those that ended, and the address of the present one, if there is one.
+-- What was taken on the present one is what the line has taken.
+pub record Dialled : Type 0 where
+  pub earlier : List Exchange
+  pub present : Option (List ℕ)
+
+-- What a peer is beside a source and a sink.
+pub record PeerState : Type 0 where
+  -- the bytes that each connection still to come will give, where the peer tells them
+  pub to_come : Option (List (List ℕ))
+  -- the connections that have begun, where the peer tells them
+  pub begun : Option Dialled
+  -- how often `connect` has failed
+  pub faults : ℕ
+
+-- of a line that is no port
+abbrev pub no_port : PortState
+no_port = record { listening = None; to_come = None; begun = None; faults = 0 }
+
+-- of a line that is no peer
+abbrev pub no_peer : PeerState
+no_peer = record { to_come = None; begun = None; faults = 0 }
+
+-- A line at one moment.
+pub record LineState : Type 0 where
+  -- the bytes that reads will give from here on, where the line tells them
+  pub left : Option (List ℕ)
+  -- the bytes that writes have handed over so far, where the line tells them
+  pub taken : Option (List ℕ)
+  -- how often a read, and a write, has failed
+  pub read_faults : ℕ
+  pub write_faults : ℕ
+  -- the references that the line holds, by name: no call puts another one in their place
+  pub holds : List GName
+  pub port : PortState
+  pub peer : PeerState
+
+-- the count is greater now than before, or it stands at the greatest `u64`
+abbrev pub Rose : ℕ → ℕ → Type 0
+Rose before now = min (before + 1) (2 ^ 64 - 1) ≤ now
+
+-- the count stayed where the call answered `Ok`, and rose where it failed
+abbrev pub Counts : {T E : Type 0} → ℕ → ℕ → Result T E → Type 0
+Counts before now result = MatchResult result (λ _. now ≡ before) (λ _. Rose before now)
+
+-- Between the two there were reads alone, if any.
+pub record Reads (old new : LineState) : Type 0 where
+  pub later : old.read_faults ≤ new.read_faults
+  pub same_taken : new.taken ≡ old.taken
+  pub same_write_faults : new.write_faults ≡ old.write_faults
+  pub same_holds : new.holds ≡ old.holds
+  pub same_port : new.port ≡ old.port
+  pub same_peer : new.peer ≡ old.peer
+
+-- The call only read. Where it failed the count of read faults rose, and else that count stayed.
+pub record OnlyReads {T E : Type 0} (old new : LineState) (result : Result T E) : Type 0 where
+  pub reads : Reads old new
+  pub counts : Counts old.read_faults new.read_faults result
+
+-- Between the two there were writes alone, if any.
+pub record Writes (old new : LineState) : Type 0 where
+  pub later : old.write_faults ≤ new.write_faults
+  pub same_left : new.left ≡ old.left
+  pub same_read_faults : new.read_faults ≡ old.read_faults
+  pub same_holds : new.holds ≡ old.holds
+  pub same_port : new.port ≡ old.port
+  pub same_peer : new.peer ≡ old.peer
+
+-- The call only wrote. Where it failed the count of write faults rose, and else that count stayed.
+pub record OnlyWrites {T E : Type 0} (old new : LineState) (result : Result T E) : Type 0 where
+  pub writes : Writes old new
+  pub counts : Counts old.write_faults new.write_faults result

@@ -1,0 +1,29 @@
+//! Sources and sinks of bytes, ports and peers with their connections, in memory and over real streams and sockets.
+//! Upward: bytes given are the next ones left, bytes taken are appended, and a failure comes only with a count that rose.
+//! The model is the project's own; no standard defines it.
+#![tactic(auto)]
+
+mod bytes;
+mod gatherer;
+mod line;
+mod mem_line;
+mod mem_lines;
+mod mem_peer;
+mod mem_port;
+mod pair;
+mod remembered;
+mod std_streams;
+mod tcp;
+mod writing;
+
+pub use bytes::Bytes;
+pub use gatherer::{Gatherer, flush, put};
+pub use line::{Failed, Line, Peer, Port, Sink, Source};
+pub use mem_line::MemLine;
+pub use mem_peer::MemPeer;
+pub use mem_port::MemPort;
+pub use pair::Pair;
+pub use std::alloc::AllocError as NoMemory;
+pub use std_streams::{StdSink, StdSource};
+pub use tcp::{TcpPeer, TcpPort};
+pub use writing::write_all;
