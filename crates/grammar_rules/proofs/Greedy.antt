@@ -203,11 +203,11 @@ module _ (d : Digits) (most : ℕ) where
   abbrev Next : ℕ → ℕ → ℕ
   Next n c = n * d.base + d.value c
 
-  digits_pass : (n : ℕ) (v : List ℕ) → IsNumberSoFar d most n v → AllPass d.is_digit v
+  pub digits_pass : (n : ℕ) (v : List ℕ) → IsNumberSoFar d most n v → AllPass d.is_digit v
   digits_pass n [] h = tt
   digits_pass n (c ∷ cs) h = (h.0, digits_pass (Next n c) cs h.2)
 
-  digits_front : (n : ℕ) (u v : List ℕ) → IsNumberSoFar d most n (u ++ v) → IsNumberSoFar d most n u
+  pub digits_front : (n : ℕ) (u v : List ℕ) → IsNumberSoFar d most n (u ++ v) → IsNumberSoFar d most n u
   digits_front n [] v h = tt
   digits_front n (c ∷ u) v h = (h.0, h.1, digits_front (Next n c) u v h.2)
 
