@@ -1,2 +1,10 @@
+pub mod Faults
+pub mod Grammar
+pub mod Meaning
+pub mod Members
 pub mod Names
+pub mod Raw
+pub mod Reading
 pub mod Selection
+pub mod Stops
+pub mod Views

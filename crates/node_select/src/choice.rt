@@ -22,7 +22,7 @@ pub fn find_attr(element: &Element, scope: &Scope<'_>, uri: &str, local: &str) -
 }
 
 // The URI of what is in no namespace.
-fn no_uri() -> &'static str
+pub(crate) fn no_uri() -> &'static str
     ensures { chars result.now ≡ [] }
 {
     ""

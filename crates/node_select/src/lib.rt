@@ -5,10 +5,18 @@
 
 mod bindings;
 mod choice;
+mod fault;
+mod forms;
+mod meaning;
+mod raw;
+mod reading;
 mod selecting;
 mod selector;
+mod steps;
 
 pub use bindings::Bindings;
 pub use choice::find_attr;
+pub use fault::SelectorFault;
+pub use reading::{read_patch_selector, read_selector};
 pub use selecting::{longest_match, print_path, select, select_steps};
 pub use selector::{AttrTest, End, NameTest, PatchEnd, PatchSelector, Selector, Step};

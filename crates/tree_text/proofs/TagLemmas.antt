@@ -16,7 +16,7 @@ use Rattle.tree_text.proofs.Shrinks.{Shrinks, ok_small, shrinks_one, shrinks_wor
 shrinks_name : Shrinks read_name
 shrinks_name = shrinks_valued (λ x. x.0 ∷ x.1) (shrinks_sequence (shrinks_one is_name_start) (λ _. shrinks_run is_name_char))
 
-shrinks_qname : Shrinks read_qname
+pub shrinks_qname : Shrinks read_qname
 shrinks_qname = shrinks_valued qname_of (shrinks_sequence shrinks_name (λ _. shrinks_either colon_follows (shrinks_valued _ (shrinks_valued (λ x. x.1) (shrinks_sequence (shrinks_word (58 ∷ [])) (λ _. shrinks_name)))) (shrinks_empty _)))
 
 shrinks_equals : Shrinks read_equals
@@ -36,7 +36,7 @@ shrinks_numbered : Shrinks read_numbered
 shrinks_numbered = shrinks_valued (λ x. x.1) (shrinks_sequence (shrinks_word hash) (λ _.
     shrinks_either (head_is (λ c. c == 120)) (shrinks_valued (λ x. x.1) (shrinks_sequence (shrinks_word small_x) (λ _. shrinks_number hexadecimal last_char is_char))) (shrinks_number decimal last_char is_char)))
 
-shrinks_reference : Shrinks read_reference
+pub shrinks_reference : Shrinks read_reference
 shrinks_reference = shrinks_valued (λ x. x.1) (shrinks_sequence (shrinks_word ampersand) (λ _.
     shrinks_valued (λ x. x.0) (shrinks_sequence (shrinks_either (head_is (λ c. c == 35)) shrinks_numbered shrinks_entity) (λ _. shrinks_word semicolon))))
 

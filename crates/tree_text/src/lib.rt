@@ -14,3 +14,11 @@ mod values;
 mod written;
 
 pub use fault::{TextFault, ValueFault};
+
+// The parts that the grammar of selectors shares: words, names, references and the raw characters of values.
+pub use kind::Kind;
+pub use parts::word;
+pub use stop::Stop;
+pub use texts::{no_text, text_of};
+pub use values::{quote, raw_run, reference, reference_follows};
+pub use written::{Written, owned, qname};

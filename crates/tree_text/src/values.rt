@@ -143,7 +143,7 @@ fn raw_len(text: &[char], quote: char) -> usize
 
 /// The raw characters of a value between these quotes, and what follows them.
 #[tactic(auto, using(crate::proofs::RunLemmas::take_run, crate::proofs::RunLemmas::drop_run, crate::proofs::RunLemmas::run_len_le))]
-fn raw_run(text: &[char], quote: char) -> (&[char], &[char])
+pub fn raw_run(text: &[char], quote: char) -> (&[char], &[char])
     ensures { read_raw quote text.now ≡ Ok (result.0.now, result.1.now) }
 {
     text.split_at(raw_len(text, quote))
@@ -195,7 +195,7 @@ fn push_raw(value: &mut Text, run: &[char]) -> Result<(), AllocError>
 }
 
 /// Whether a reference follows.
-fn reference_follows(text: &[char]) -> bool
+pub fn reference_follows(text: &[char]) -> bool
     ensures { result ≡ reference_follows text.now }
 {
     matches!(text, ['&', ..])
