@@ -1,14 +1,10 @@
 -- Rules that end by themselves: they are read exactly before anything, and so before whatever follows.
-use Rattle.std.proofs.Common.{◌≡◌, ℕ, zero, suc, ◌+◌, ◌-◌, ◌<◌, ◌≤◌, Bool, true, false, cond, List, [], ◌∷◌, ◌++◌, length, take, drop, Result, Ok, Err, ◌⊎◌, inl, inr, ⊎_elim, refl, sym, ap, subst, ◌∙◌, append_assoc, arith}
-use Rattle.std.specs.Prelude.{Option, Some, None}
-use Rattle.std.proofs.lemmas.List.{length-append, append-nil, nil_from_length, take-append-drop, length-take, length-drop}
-use Rattle.grammar_rules.specs.Rules.{Event, Begin, Mark, Rule, Split, word, only, atomic, marked, judged, trap}
-use Rattle.grammar_rules.specs.Reading.{Stop, Syntax, Faulty, Reader, ◌>>=◌, head_is, starts, read_word, read_only, whole_or_stop, read_atomic, read_marked, judgement, read_judged, read_trap}
+use Rattle.std.proofs.Common.{◌≡◌, ℕ, ◌<◌, Bool, true, false, cond, List, [], ◌∷◌, ◌++◌, length, Result, Ok, Err, ◌⊎◌, inl, inr, ⊎_elim, refl, ap, subst, ◌∙◌, arith}
+use Rattle.std.proofs.lemmas.List.{length-append, append-nil}
+use Rattle.grammar_rules.specs.Rules.{Event, Begin, Mark, Rule, only, atomic}
+use Rattle.grammar_rules.specs.Reading.{Stop, Syntax, Faulty, Reader, ◌>>=◌, head_is, read_only, whole_or_stop, read_atomic}
 use Rattle.grammar_rules.specs.Answers.{Faults}
-use Rattle.grammar_rules.proofs.Exact.{Rest, ahead, regroup, Passed, Behind, Later, IsRead, IsStopped, IsAtFault, Outcome, Exact, behind_passed}
-use Rattle.grammar_rules.proofs.Carry.{Idle, Carries, same, carried_same}
-use Rattle.grammar_rules.proofs.Leaves.{exact_word}
-use Rattle.grammar_rules.proofs.Fronts.{starts_is, no_start}
+use Rattle.grammar_rules.proofs.Exact.{Rest, ahead, regroup, Passed, Behind, Later, IsRead, IsStopped, IsAtFault, Outcome, Exact}
 use Rattle.grammar_rules.proofs.Heads.{Heads, Not}
 use Rattle.grammar_rules.proofs.Laws.{Lawful, Quiet, Inside}
 

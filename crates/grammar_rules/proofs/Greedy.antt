@@ -1,13 +1,13 @@
 -- Rules that are read as far as they go: runs of a class, and numbers. What follows must not go on with the class.
-use Rattle.std.proofs.Common.{◌≡◌, ℕ, zero, suc, ◌+◌, ◌-◌, ◌*◌, ◌<◌, ◌≤◌, Bool, true, false, cond, List, [], ◌∷◌, ◌++◌, length, take, drop, Result, Ok, Err, ◌⊎◌, inl, inr, ⊎_elim, refl, sym, ap, subst, ◌∙◌, append_assoc, arith}
+use Rattle.std.proofs.Common.{◌≡◌, ℕ, ◌+◌, ◌-◌, ◌*◌, ◌<◌, ◌≤◌, Bool, true, false, cond, List, [], ◌∷◌, ◌++◌, length, drop, Result, Ok, Err, ◌⊎◌, inl, inr, ⊎_elim, refl, sym, ap, subst, ◌∙◌, append_assoc, arith}
 use Rattle.std.specs.Prelude.{◌&&◌, nat_le}
 use Rattle.std.proofs.lemmas.Bool.Decides.{nat_tests}
-use Rattle.std.proofs.lemmas.List.{append_cancel_left, length-append, append-nil, drop-append-le}
+use Rattle.std.proofs.lemmas.List.{append_cancel_left, length-append, append-nil}
 use Rattle.grammar_rules.specs.Digits.{Digits}
-use Rattle.grammar_rules.specs.Rules.{Event, Begin, Mark, Rule, Split, AllPass, run, Lacks, run_without, IsNumberSoFar, number_from, number}
-use Rattle.grammar_rules.specs.Reading.{Stop, Syntax, Faulty, Reader, starts, front_of, after_front, read_run, all_but_last, front_without, after_without, read_run_without, number_end, read_digits, read_number}
+use Rattle.grammar_rules.specs.Rules.{Event, Begin, Mark, AllPass, run, Lacks, run_without, IsNumberSoFar, number_from, number}
+use Rattle.grammar_rules.specs.Reading.{Stop, Syntax, Faulty, starts, front_of, after_front, read_run, all_but_last, front_without, after_without, read_run_without, number_end, read_digits, read_number}
 use Rattle.grammar_rules.specs.Answers.{Faults}
-use Rattle.grammar_rules.proofs.Exact.{Rest, ahead, regroup, Passed, Later, IsRead, IsStopped, IsAtFault, Outcome, Exact}
+use Rattle.grammar_rules.proofs.Exact.{Rest, ahead, regroup, Passed, Later, IsRead, IsStopped, Outcome, Exact}
 use Rattle.grammar_rules.proofs.Leaves.{leaf}
 use Rattle.grammar_rules.proofs.Heads.{Heads, Not}
 use Rattle.grammar_rules.proofs.Fronts.{compare, pass_front, pass_back, starts_is, lacks_front, lacks_short, lacks_step, Ended, ended}

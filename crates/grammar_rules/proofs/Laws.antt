@@ -1,13 +1,13 @@
 -- What every rule keeps to: a whole text is a beginning, so is each front of a beginning, and marks lie in a beginning.
-use Rattle.std.proofs.Common.{◌≡◌, ℕ, zero, suc, ◌+◌, ◌<◌, ◌≤◌, Bool, true, false, List, [], ◌∷◌, ◌++◌, length, ◌⊎◌, inl, inr, ⊎_elim, refl, sym, ap, subst, ◌∙◌, append_assoc, arith}
-use Rattle.std.specs.Prelude.{Option, Some, None}
+use Rattle.std.proofs.Common.{◌≡◌, ℕ, ◌+◌, ◌<◌, ◌≤◌, Bool, List, [], ◌∷◌, ◌++◌, length, inl, inr, ⊎_elim, refl, sym, ap, subst, ◌∙◌, append_assoc, arith}
+use Rattle.std.specs.Prelude.{Some}
 use Rattle.std.proofs.lemmas.List.{length-append, append-nil, append_cancel_left}
 use Rattle.grammar_rules.specs.Digits.{Digits}
-use Rattle.grammar_rules.specs.Rules.{Event, Begin, Mark, Rule, Split, never, empty, one, word, AllPass, run, run_without, up_to, IsNumberSoFar, number, sequence, either, Each, many, valued, sized, only, atomic, marked, judged, trap, optional, between, some_of, name_of, before, behind, quoted}
-use Rattle.grammar_rules.proofs.Exact.{Rest, ahead, regroup, under}
+use Rattle.grammar_rules.specs.Rules.{Begin, Mark, Rule, Split, never, empty, one, word, run, run_without, up_to, number, sequence, either, Each, many, valued, sized, only, marked, judged, trap, optional, between, some_of, name_of, before, behind, quoted}
+use Rattle.grammar_rules.proofs.Exact.{Rest, ahead, under}
 use Rattle.grammar_rules.proofs.Fronts.{compare, pass_front, lacks_front, last_front}
 use Rattle.grammar_rules.proofs.Greedy.{digits_front}
-use Rattle.grammar_rules.proofs.Repeats.{one_more, one_more_meets}
+use Rattle.grammar_rules.proofs.Repeats.{one_more_meets}
 
 -- A beginning goes beyond the place of a mark.
 pub record Goes (P : List ℕ → Type 0) (back : ℕ) (v : List ℕ) : Type 0 where

@@ -1,13 +1,14 @@
 -- Rules whose texts begin with one word and then a character of a class: the character behind the word tells which rule is there.
-use Rattle.std.proofs.Common.{◌≡◌, ℕ, zero, suc, ◌+◌, ◌<◌, ◌≤◌, Bool, true, false, List, [], ◌∷◌, ◌++◌, length, ◌⊎◌, inl, inr, ⊎_elim, refl, sym, ap, subst, ◌∙◌, append_assoc, arith}
-use Rattle.std.proofs.lemmas.List.{length-append, append-nil, append_cancel_left, nil_from_length}
-use Rattle.grammar_rules.specs.Rules.{Event, Begin, Mark, Rule, Split, word, sequence, either, valued, sized, only, judged, marked, trap, before, behind}
-use Rattle.grammar_rules.specs.Reading.{starts}
+use Rattle.std.proofs.Common.{◌≡◌, ℕ, ◌≤◌, Bool, true, false, List, [], ◌∷◌, ◌++◌, length, Result, Ok, Err, ◌⊎◌, inl, inr, ⊎_elim, refl, sym, ap, subst, ◌∙◌, append_assoc, arith}
+use Rattle.std.proofs.lemmas.List.{length-append, append-nil, append_cancel_left}
+use Rattle.grammar_rules.specs.Rules.{Event, Begin, Mark, Rule, word, sequence, either, valued, sized, only, judged, marked, trap, before, behind}
+use Rattle.grammar_rules.specs.Reading.{Stop, Syntax, Faulty, ◌>>=◌, starts}
 use Rattle.grammar_rules.specs.Answers.{Faults}
-use Rattle.grammar_rules.proofs.Exact.{Rest, ahead, regroup}
+use Rattle.grammar_rules.proofs.Exact.{Rest, ahead, regroup, Passed, IsStopped, Outcome}
 use Rattle.grammar_rules.proofs.Carry.{Idle, Covers}
-use Rattle.grammar_rules.proofs.Fronts.{compare, starts_is, starts_at}
+use Rattle.grammar_rules.proofs.Fronts.{GoesOn, compare, starts_is, starts_at}
 use Rattle.grammar_rules.proofs.Heads.{Starts}
+use Rattle.grammar_rules.proofs.Closed.{anything}
 
 -- The text goes on behind the word with such a character.
 pub record Past (w : List ℕ) (Q : ℕ → Type 0) (v : List ℕ) : Type 0 where
@@ -214,3 +215,49 @@ module _ {Kind : Type 0} {faults : Faults Kind} where
   -- Of two rules that are led by one word the one is covered by the other where the text doesn't go on with its class.
   pub led_covers : {A B : Type 0} {w : List ℕ} {P Q : ℕ → Type 0} {r : Rule Kind A} {s : Rule Kind B} {J : A → Rest Kind} {K : B → Rest Kind} {text : List ℕ} → Led w Q r → Led w P s → ((d : ℕ) (x : List ℕ) → text ≡ w ++ (d ∷ x) → Q d → ⊥) → Covers faults text (ahead r J) (ahead s K)
   led_covers {A} {B} {w} {P} {Q} {r} {s} {J} {K} {text} h i none = led_covers_rest h (λ u x y j k. inl (inl (i.fronts u x j))) none
+
+-- # Where a rule isn't
+
+module _ {Kind A : Type 0} (faults : Faults Kind) (w : List ℕ) (Q : ℕ → Type 0) (r : Rule Kind A) (K : A → Rest Kind) (h : Led w Q r) (text : List ℕ) (none : (d : ℕ) (x : List ℕ) → text ≡ w ++ (d ∷ x) → Q d → ⊥) where
+  not_there : (v t : List ℕ) → text ≡ v ++ t → Past w Q v → ⊥
+  not_there v t j p = none p.next (p.rest ++ t) (regroup t w (p.next ∷ p.rest) j p.joined) p.is
+
+  module _ (used left : List ℕ) (joined : text ≡ used ++ left) (is_front : (x : List ℕ) × (w ≡ used ++ x)) (longest : (v t x : List ℕ) → text ≡ v ++ t → w ≡ v ++ x → length v ≤ length used) where
+    led_settled : (e : Event Kind) (v t : List ℕ) → text ≡ v ++ t → (ahead r K).Meets e v → Passed faults e v used
+    led_settled e v t j (inl m) = ⊎_elim (λ l. by_begin e l.0 (longest v t l.1 j l.2)) (λ l. absurd (not_there v t j l)) (h.meets e v m)
+      where
+        by_begin : (e : Event Kind) → e ≡ Begin → length v ≤ length used → Passed faults e v used
+        by_begin Begin b n = n
+        by_begin (Mark k c) b n = absurd cc
+    led_settled e v t j (inr m) = absurd (not_there m.1.front (m.1.back ++ t) (regroup t m.1.front m.1.back j m.1.joined) (h.spells m.1.front m.0 m.1.front_is))
+
+    led_is_stopped : IsStopped faults r K text left
+    led_is_stopped = record {
+      used = used;
+      joined = joined;
+      begun = h.fronts used is_front.0 is_front.1;
+      settled = led_settled;
+      none = λ v t b j m _. not_there v t j (h.spells v b m);
+    }
+
+  -- The rule stops where its word stops, or behind the word.
+  pub led_stopped : (out : Result (Unit {0} × List ℕ) (Stop Kind)) → Outcome faults (word w) (λ _. anything) text out → Outcome faults r K text (out >>= λ x. Err (Syntax x.1))
+  led_stopped (Ok x) o = led_is_stopped o.used x.1 o.joined ([], sym o.spelled ∙ sym (append-nil o.used)) (λ v t y j k. ⊎_elim (λ p. p) (λ z. absurd z.2) (o.settled Begin v t j (inl (y, k))))
+  led_stopped (Err (Syntax left)) o = led_is_stopped o.used left o.joined o.begun (λ v t y j k. o.settled Begin v t j (inl (y, k)))
+  led_stopped (Err (Faulty kind left)) o = absurd o.met
+
+module _ {Kind : Type 0} {faults : Faults Kind} where
+  -- What reading breaks off in is covered by what each front of the longest beginning begins.
+  pub stopped_covers : {A : Type 0} {r : Rule Kind A} {J : A → Rest Kind} {X : Rest Kind} {text left : List ℕ} → (h : IsStopped faults r J text left) → ((u x : List ℕ) → h.used ≡ u ++ x → X.Meets Begin u ⊎ (u ≡ [])) → Covers faults text (ahead r J) X
+  stopped_covers {A} {r} {J} {X} {text} {left} h fronts = record {
+    events = λ e v w j m. by_event e v w j (h.settled e v w j m);
+    whole = λ m. h.none m.1.front m.1.back m.0 m.1.joined m.1.front_is m.1.back_is;
+  }
+    where
+      by_front : (v w : List ℕ) → text ≡ v ++ w → length v ≤ length h.used → ((y : List ℕ) × (h.used ≡ v ++ y)) ⊎ GoesOn v h.used left → X.Meets Begin v ⊎ (v ≡ [])
+      by_front v w j n (inl k) = fronts v k.0 k.1
+      by_front v w j n (inr k) = absurd (omega (arith, n, ap length k.front, length-append h.used (k.c ∷ k.rest)))
+
+      by_event : (e : Event Kind) (v w : List ℕ) → text ≡ v ++ w → Passed faults e v h.used → X.Meets e v ⊎ Idle faults e v
+      by_event Begin v w j p = by_front v w j p (compare v w h.used left (sym j ∙ h.joined))
+      by_event (Mark k b) v w j p = inr p

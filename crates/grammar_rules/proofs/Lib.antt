@@ -13,3 +13,4 @@ pub mod Whole
 pub mod Shapes
 pub mod Led
 pub mod Spaced
+pub mod Tests

@@ -1,12 +1,12 @@
 -- Rules with marks are read exactly: whole texts that are judged, marked fronts, words that are known and refused.
-use Rattle.std.proofs.Common.{◌≡◌, ℕ, zero, suc, ◌+◌, ◌-◌, ◌<◌, ◌≤◌, Bool, true, false, cond, List, [], ◌∷◌, ◌++◌, length, take, drop, Result, Ok, Err, ◌⊎◌, inl, inr, ⊎_elim, refl, sym, ap, subst, ◌∙◌, append_assoc, arith}
+use Rattle.std.proofs.Common.{◌≡◌, ℕ, ◌+◌, ◌-◌, ◌<◌, ◌≤◌, Bool, true, false, cond, List, [], ◌∷◌, ◌++◌, length, take, drop, Result, Ok, Err, ◌⊎◌, inl, inr, ⊎_elim, refl, sym, ap, subst, ◌∙◌, append_assoc, arith}
 use Rattle.std.specs.Prelude.{Option, Some, None}
 use Rattle.std.proofs.lemmas.List.{length-append, append-nil, take-append-drop, length-drop}
-use Rattle.grammar_rules.specs.Rules.{Event, Begin, Mark, Rule, Split, word, marked, judged, trap}
+use Rattle.grammar_rules.specs.Rules.{Event, Begin, Mark, Rule, word, marked, judged, trap}
 use Rattle.grammar_rules.specs.Reading.{Stop, Syntax, Faulty, Reader, ◌>>=◌, starts, read_word, read_marked, judgement, read_judged, read_trap}
 use Rattle.grammar_rules.specs.Answers.{Faults}
-use Rattle.grammar_rules.proofs.Exact.{Rest, ahead, Passed, Behind, Later, IsRead, IsStopped, IsAtFault, Outcome, Exact, behind_passed}
-use Rattle.grammar_rules.proofs.Carry.{Idle, Carries, same, carried_same}
+use Rattle.grammar_rules.proofs.Exact.{Rest, ahead, Passed, Behind, Later, IsRead, IsAtFault, Outcome, Exact}
+use Rattle.grammar_rules.proofs.Carry.{Idle, Covers, Carries, same, carried_same}
 use Rattle.grammar_rules.proofs.Leaves.{exact_word}
 use Rattle.grammar_rules.proofs.Fronts.{starts_is, no_start}
 use Rattle.grammar_rules.proofs.Laws.{Lawful, Quiet}
@@ -229,3 +229,29 @@ module _ {Kind : Type 0} {faults : Faults Kind} where
   exact_trap {A} {kind} seen rest {K} is_fault =
       let w : Exact faults (word seen) (λ _. anything) (read_word seen) = exact_word in
       record { by = λ text. trap_by faults kind seen rest K is_fault text (starts (seen ++ rest) text) (read_word seen text) refl (w.by text) }
+
+  -- A mark that is no fault changes nothing.
+  pub exact_unmarked : {A : Type 0} {kind : Kind} {Front : List ℕ → Type 0} {r : Rule Kind A} {p : Reader Kind A} → faults.is_fault kind ≡ false → Exact faults r (λ _. anything) p → Exact faults (marked kind Front r) (λ _. anything) p
+  exact_unmarked {A} {kind} {Front} {r} {p} harmless h = record { by = λ text. carried_same faults (unmarked text) (p text) (h.by text) }
+    where
+      to_marked : (e : Event Kind) (u : List ℕ) → r.Meets e u → (marked kind Front r).Meets e u
+      to_marked Begin u m = m
+      to_marked (Mark k b) u m = inr m
+
+      from_marked : (e : Event Kind) (v : List ℕ) → (ahead (marked kind Front r) (λ _. anything)).Meets e v → (ahead r (λ _. anything)).Meets e v ⊎ Idle faults e v
+      from_marked Begin v (inl m) = inl (inl m)
+      from_marked (Mark k b) v (inl (inl m)) = inr (ap faults.is_fault m.0 ∙ harmless)
+      from_marked (Mark k b) v (inl (inr m)) = inl (inl m)
+      from_marked e v (inr m) = inl (inr m)
+
+      unmarked : (text : List ℕ) → Carries faults text r (λ _. anything) (marked kind Front r) (λ _. anything) (same faults)
+      unmarked text = record { spells = λ u a m. m; meets = to_marked; later = λ u a e x m. m; events = λ e v w j m. from_marked e v m; whole = λ v w b j sp k. (b, sp, k, refl) }
+
+  -- Where the refused word doesn't stand, nothing of it is there but fronts of its first part.
+  pub trap_covers : {A : Type 0} {kind : Kind} (seen rest : List ℕ) {J : A → Rest Kind} {X : Rest Kind} {text : List ℕ} → ((u x y : List ℕ) → seen ≡ u ++ x → text ≡ u ++ y → X.Meets Begin u ⊎ (u ≡ [])) → starts (seen ++ rest) text ≡ false → Covers faults text (ahead (trap kind seen rest) J) X
+  trap_covers {A} {kind} seen rest {J} {X} {text} fronts absent = record { events = trap_events; whole = λ m. m.1.front_is }
+    where
+      trap_events : (e : Event Kind) (v w : List ℕ) → text ≡ v ++ w → (ahead (trap kind seen rest) J).Meets e v → X.Meets e v ⊎ Idle faults e v
+      trap_events Begin v w j (inl m) = fronts v m.0 w m.1 j
+      trap_events (Mark k b) v w j (inl m) = absurd (no_start (seen ++ rest) w absent (j ∙ ap (λ (z : List ℕ). z ++ w) m.2))
+      trap_events e v w j (inr m) = absurd m.1.front_is

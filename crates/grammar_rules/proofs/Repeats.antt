@@ -1,13 +1,12 @@
 -- Repetitions are read exactly where a test tells whether one more member follows.
-use Rattle.std.proofs.Common.{◌≡◌, ℕ, zero, suc, ◌+◌, ◌<◌, ◌≤◌, Bool, true, false, cond, List, [], ◌∷◌, ◌++◌, length, Result, Ok, Err, ◌⊎◌, inl, inr, ⊎_elim, refl, sym, ap, subst, ◌∙◌, append_assoc, arith}
+use Rattle.std.proofs.Common.{◌≡◌, ℕ, zero, suc, ◌<◌, ◌≤◌, Bool, true, false, cond, List, [], ◌∷◌, ◌++◌, length, Result, Ok, Err, ◌⊎◌, inl, inr, ⊎_elim, refl, sym, ap, subst, ◌∙◌, append_assoc, arith}
 use Rattle.std.proofs.lemmas.List.{length-append, nil_from_length}
-use Rattle.grammar_rules.specs.Rules.{Event, Begin, Mark, Rule, Split, AllPass, run, run_without, sequence, valued, Each, many, between}
-use Rattle.grammar_rules.specs.Reading.{Stop, Syntax, Faulty, Reader, ◌>>=◌, read_at_most, read_many, read_run, read_run_without, read_sequence, read_between}
+use Rattle.grammar_rules.specs.Rules.{Event, Mark, Rule, sequence, valued, Each, many}
+use Rattle.grammar_rules.specs.Reading.{Stop, Reader, ◌>>=◌, read_at_most, read_many}
 use Rattle.grammar_rules.specs.Answers.{Faults}
-use Rattle.grammar_rules.proofs.Exact.{Rest, ahead, regroup, Later, sequence_outcome, IsRead, Outcome, Exact, exact_sequence}
-use Rattle.grammar_rules.proofs.Carry.{Idle, idle_passed, Covers, Carries, same, carried_same, valued_meets, valued_whole, valued_outcome}
-use Rattle.grammar_rules.proofs.Heads.{Not, Starts, uses, starts_sequence, Heads, heads_starts, heads_run, heads_run_without, Follows}
-use Rattle.grammar_rules.proofs.Greedy.{exact_run, exact_run_without}
+use Rattle.grammar_rules.proofs.Exact.{Rest, ahead, regroup, sequence_outcome, IsRead, Outcome, Exact}
+use Rattle.grammar_rules.proofs.Carry.{idle_passed, Covers, Carries, same, carried_same, valued_outcome}
+use Rattle.grammar_rules.proofs.Heads.{Starts, Heads, heads_starts}
 
 module _ {Kind A : Type 0} (r : Rule Kind A) (K : Rest Kind) where
   -- what follows a member: more members, and what follows them
@@ -60,8 +59,7 @@ module _ {Kind A : Type 0} (r : Rule Kind A) (K : Rest Kind) where
   pub one_more_meets : (e : Event Kind) (u : List ℕ) → one_more.Meets e u → (many r).Meets e u
   one_more_meets e u (inl h) = ([], record { front = []; back = u; joined = refl; front_is = refl; back_is = h })
   one_more_meets e u (inr h) =
-      let n = h.1.back_is in
-      (
+      let n = h.1.back_is in (
         h.0 ∷ n.0,
         record {
           front = h.1.front ++ n.1.front;

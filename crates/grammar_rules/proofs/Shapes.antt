@@ -1,15 +1,15 @@
 -- The shapes that grammars often have are read exactly.
-use Rattle.std.proofs.Common.{◌≡◌, ℕ, zero, suc, ◌+◌, ◌<◌, ◌≤◌, Bool, true, false, List, [], ◌∷◌, ◌++◌, length, Result, Ok, Err, ◌⊎◌, inl, inr, ⊎_elim, refl, sym, ap, subst, ◌∙◌, append_assoc, arith}
-use Rattle.std.specs.Prelude.{Option, Some, None}
-use Rattle.std.proofs.lemmas.List.{length-append}
-use Rattle.grammar_rules.specs.Rules.{Event, Begin, Mark, Rule, Split, empty, one, word, AllPass, run, run_without, sequence, either, many, valued, optional, between, some_of, name_of, before, behind, quoted}
-use Rattle.grammar_rules.specs.Reading.{Reader, read_run, read_run_without, read_sequence, read_many, read_optional, read_between, read_some_of, read_name_of, read_before, read_behind, read_quoted}
+use Rattle.std.proofs.Common.{◌≡◌, ℕ, ◌<◌, Bool, true, false, List, [], ◌∷◌, ◌++◌, length, ◌⊎◌, inl, inr, ⊎_elim, refl, sym, ap, subst, ◌∙◌, append_assoc}
+use Rattle.std.specs.Prelude.{Some, None}
+use Rattle.grammar_rules.specs.Rules.{Event, Begin, Mark, Rule, empty, word, AllPass, run, run_without, sequence, either, many, valued, optional, between, some_of, name_of, before, behind, quoted}
+use Rattle.grammar_rules.specs.Reading.{Reader, read_run, read_run_without, read_optional, read_between, read_some_of, read_name_of, read_before, read_behind, read_quoted}
 use Rattle.grammar_rules.specs.Answers.{Faults}
 use Rattle.grammar_rules.proofs.Exact.{Rest, ahead, Exact, exact_sequence, exact_sequence_if}
 use Rattle.grammar_rules.proofs.Carry.{Idle, Covers, exact_valued, exact_either, covers_sequence}
 use Rattle.grammar_rules.proofs.Leaves.{exact_empty, exact_one, exact_word}
-use Rattle.grammar_rules.proofs.Heads.{Not, Heads, Starts, uses, starts_one, starts_sequence, starts_valued, heads_starts, heads_run, heads_run_without, heads_sequence}
+use Rattle.grammar_rules.proofs.Heads.{Not, Heads, Starts, uses, starts_one, starts_sequence, starts_valued, heads_sequence, heads_valued}
 use Rattle.grammar_rules.proofs.Greedy.{exact_run, exact_run_without}
+use Rattle.grammar_rules.proofs.Laws.{Lawful, lawful_sequence, lawful_many, Inside, inside_ahead}
 use Rattle.grammar_rules.proofs.Repeats.{more, Repeats, exact_many, heads_many}
 
 -- # What covers a sequence, another value, nothing
@@ -35,6 +35,14 @@ module _ {Kind : Type 0} where
   into_valued f r K e v (inl m) = inl m
   into_valued f r K e v (inr m) = inr (f m.0, record { front = m.1.front; back = m.1.back; joined = m.1.joined; front_is = (m.0, m.1.front_is, refl); back_is = m.1.back_is })
 
+  pub into_first : {A : Type 0} (r s : Rule Kind A) (K : A → Rest Kind) (e : Event Kind) (v : List ℕ) → (ahead r K).Meets e v → (ahead (either r s) K).Meets e v
+  into_first r s K e v (inl m) = inl (inl m)
+  into_first r s K e v (inr m) = inr (m.0, record { front = m.1.front; back = m.1.back; joined = m.1.joined; front_is = inl m.1.front_is; back_is = m.1.back_is })
+
+  pub into_second : {A : Type 0} (r s : Rule Kind A) (K : A → Rest Kind) (e : Event Kind) (v : List ℕ) → (ahead s K).Meets e v → (ahead (either r s) K).Meets e v
+  into_second r s K e v (inl m) = inl (inr m)
+  into_second r s K e v (inr m) = inr (m.0, record { front = m.1.front; back = m.1.back; joined = m.1.joined; front_is = inr m.1.front_is; back_is = m.1.back_is })
+
   pub into_empty : {A : Type 0} (value : A) (K : A → Rest Kind) (e : Event Kind) (v : List ℕ) → (K value).Meets e v → (ahead (empty value) K).Meets e v
   into_empty value K e v m = inr (value, record { front = []; back = v; joined = refl; front_is = (refl, refl); back_is = m })
 
@@ -51,6 +59,13 @@ module _ {Kind : Type 0} {faults : Faults Kind} where
 
   pub covered_valued : {A B : Type 0} {text : List ℕ} {X : Rest Kind} {r : Rule Kind A} (f : A → B) (K : B → Rest Kind) → Covers faults text X (ahead r (λ a. K (f a))) → Covers faults text X (ahead (valued f r) K)
   covered_valued {A} {B} {text} {X} {r} f K c = covers_by (into_valued f r K) c
+
+  -- what one member of a choice covers the choice covers
+  pub covered_first : {A : Type 0} {text : List ℕ} {X : Rest Kind} {r : Rule Kind A} (s : Rule Kind A) (K : A → Rest Kind) → Covers faults text X (ahead r K) → Covers faults text X (ahead (either r s) K)
+  covered_first {A} {text} {X} {r} s K c = covers_by (into_first r s K) c
+
+  pub covered_second : {A : Type 0} {text : List ℕ} {X : Rest Kind} (r : Rule Kind A) {s : Rule Kind A} (K : A → Rest Kind) → Covers faults text X (ahead s K) → Covers faults text X (ahead (either r s) K)
+  covered_second {A} {text} {X} r {s} K c = covers_by (into_second r s K) c
 
   pub covers_empty : {A : Type 0} {text : List ℕ} {X : Rest Kind} {value : A} {K : A → Rest Kind} → Covers faults text (K value) X → Covers faults text (ahead (empty value) K) X
   covers_empty {A} {text} {X} {value} {K} c = record { events = empty_events; whole = λ m. c.whole (subst (K value).Whole (sym (m.1.joined ∙ ap (λ (z : List ℕ). z ++ m.1.back) m.1.front_is.0)) (subst (λ (a : A). (K a).Whole m.1.back) m.1.front_is.1 m.1.back_is)) }
@@ -102,6 +117,10 @@ module _ {Kind : Type 0} {faults : Faults Kind} where
     stops = λ text t. covers_sequence (d text t);
   }
 
+  -- Gaps of any rule.
+  pub exact_between : {A B : Type 0} {gap : Rule Kind A} {member : Rule Kind B} {K : Rest Kind} {P : ℕ → Type 0} {g : Reader Kind A} {q : Reader Kind B} (test : List ℕ → Bool) → Starts P member → test [] ≡ false → ((text : List ℕ) → test text ≡ true → Covers faults text K (ahead member (past_member gap member K))) → ((text : List ℕ) → test text ≡ false → Covers faults text (ahead member (past_member gap member K)) K) → Exact faults gap (λ _. ahead (many (sequence member (λ _. gap))) (λ _. K)) g → Exact faults member (past_member gap member K) q → Exact faults (between gap member) (λ _. K) (read_between test g q)
+  exact_between test starts at_end c d gaps h = exact_sequence gaps (λ _. exact_many (repeats_member starts at_end c d) (exact_sequence h (λ _. gaps)))
+
   -- The gaps are runs of a class that no member and nothing that follows begins with.
   pub exact_between_run : {B : Type 0} {p : ℕ → Bool} {member : Rule Kind B} {K : Rest Kind} {q : Reader Kind B} (test : List ℕ → Bool) → Starts (Not p) member → Heads (Not p) K → test [] ≡ false → ((text : List ℕ) → test text ≡ true → Covers faults text K (ahead member (past_member (run p) member K))) → ((text : List ℕ) → test text ≡ false → Covers faults text (ahead member (past_member (run p) member K)) K) → Exact faults member (past_member (run p) member K) q → Exact faults (between (run p) member) (λ _. K) (read_between test (read_run p) q)
   exact_between_run {B} {p} {member} {K} {q} test starts heads at_end c d h =
@@ -129,3 +148,12 @@ module _ {Kind : Type 0} where
 
   pub starts_quoted : {A : Type 0} {P : ℕ → Type 0} {is_quote : ℕ → Bool} (inside : ℕ → Rule Kind A) → ((c : ℕ) → is_quote c ≡ true → P c) → Starts P (quoted is_quote inside)
   starts_quoted inside h = starts_valued (λ x. x.1) (starts_sequence (λ q. before (inside q) (word (q ∷ []))) (starts_one h))
+
+  pub heads_before : {A B : Type 0} {P : ℕ → Type 0} {r : Rule Kind A} {s : Rule Kind B} {K : A → Rest Kind} → Heads P (ahead r (λ a. ahead s (λ _. K a))) → Heads P (ahead (before r s) K)
+  heads_before {A} {B} {P} {r} {s} {K} h = heads_valued (λ x. x.0) (heads_sequence {s = λ _. s} {K = λ x. K x.0} h)
+
+  pub heads_behind : {A B : Type 0} {P : ℕ → Type 0} {r : Rule Kind A} {s : Rule Kind B} {K : B → Rest Kind} → Heads P (ahead r (λ _. ahead s K)) → Heads P (ahead (behind r s) K)
+  heads_behind {A} {B} {P} {r} {s} {K} h = heads_valued (λ x. x.1) (heads_sequence {s = λ _. s} {K = λ x. K x.1} h)
+
+  pub inside_past_member : {A B : Type 0} {gap : Rule Kind A} {member : Rule Kind B} {K : Rest Kind} → Lawful gap → Lawful member → member.Meets Begin [] → Inside K → (b : B) → Inside (past_member gap member K b)
+  inside_past_member {A} {B} {gap} {member} {K} h i e k b = inside_ahead h (λ _. inside_ahead (lawful_many (lawful_sequence i (λ _. h)) (inl e)) (λ _. k))

@@ -1,16 +1,16 @@
 -- Rules behind white space, as attributes behind a name: whether one more comes is seen behind the white space.
-use Rattle.std.proofs.Common.{◌≡◌, ℕ, zero, suc, ◌+◌, ◌<◌, ◌≤◌, Bool, true, false, List, [], ◌∷◌, ◌++◌, length, ◌⊎◌, inl, inr, ⊎_elim, refl, sym, ap, subst, ◌∙◌, append_assoc, arith}
-use Rattle.std.specs.Prelude.{◌&&◌, Option}
+use Rattle.std.proofs.Common.{◌≡◌, ℕ, ◌<◌, Bool, true, false, List, [], ◌∷◌, ◌++◌, length, ◌⊎◌, inl, inr, ⊎_elim, refl, sym, ap, subst, ◌∙◌, arith}
+use Rattle.std.specs.Prelude.{◌&&◌, Option, Some, None}
 use Rattle.std.proofs.lemmas.List.{length-append, append-nil}
-use Rattle.grammar_rules.specs.Rules.{Event, Begin, Mark, Rule, Split, one, AllPass, run, sequence, either, many, valued, sized, optional, some_of, behind}
+use Rattle.grammar_rules.specs.Rules.{Event, Begin, Mark, Rule, AllPass, empty, run, sequence, many, valued, sized, optional, some_of, before, behind}
 use Rattle.grammar_rules.specs.Reading.{Reader, head_is, after_front, spaced, read_many, read_optional}
 use Rattle.grammar_rules.specs.Answers.{Faults}
-use Rattle.grammar_rules.proofs.Exact.{Rest, ahead, regroup, Exact}
-use Rattle.grammar_rules.proofs.Carry.{Idle, Covers, either_meets, either_whole, valued_meets, valued_whole}
+use Rattle.grammar_rules.proofs.Exact.{Rest, ahead, regroup, sequence_meets, sequence_whole, Exact}
+use Rattle.grammar_rules.proofs.Carry.{Idle, Covers, valued_meets, valued_whole, either_meets, either_whole}
 use Rattle.grammar_rules.proofs.Fronts.{pass_append}
 use Rattle.grammar_rules.proofs.Heads.{Heads, Follows, Starts}
-use Rattle.grammar_rules.proofs.Repeats.{more, many_meets, many_whole, Repeats, exact_many}
-use Rattle.grammar_rules.proofs.Shapes.{exact_optional}
+use Rattle.grammar_rules.proofs.Repeats.{more, many_meets, many_whole, exact_many}
+use Rattle.grammar_rules.proofs.Shapes.{into_sequence, into_valued, exact_optional}
 
 module _ (space : ℕ → Bool) where
   -- The text goes on behind white space with such a character.
@@ -159,6 +159,15 @@ module _ {Kind : Type 0} (space : ℕ → Bool) where
     whole = λ v m. behind_more space P v m.1.front m.1.back m.1.joined (h.spells m.1.front m.0 m.1.front_is);
   }
 
+  pub leads_weaker : {A : Type 0} {P Q : ℕ → Type 0} {r : Rule Kind A} → ((c : ℕ) → P c → Q c) → Leads space P r → Leads space Q r
+  leads_weaker {A} {P} {Q} {r} f h = record {
+    begins = h.begins;
+    meets = λ e v m. ⊎_elim (λ l. inl l) (λ l. inr (behind_weaker space P Q v f l)) (h.meets e v m);
+    spells = λ v a m. behind_weaker space P Q v f (h.spells v a m);
+    first = h.first;
+    first_spelled = h.first_spelled;
+  }
+
   pub spaced_weaker : {P Q : ℕ → Type 0} {J : Rest Kind} → ((c : ℕ) → P c → Q c) → Spaced space P J → Spaced space Q J
   spaced_weaker {P} {Q} {J} f h = record {
     begins = h.begins;
@@ -174,6 +183,44 @@ module _ {Kind : Type 0} (space : ℕ → Bool) where
         meets = λ e v m. ⊎_elim (λ l. i.meets e v l) (λ l. g.meets e v l) (many_meets r K e v m);
         whole = λ v m. ⊎_elim (λ l. i.whole v l) (λ l. g.whole v l) (many_whole r K v m);
       }
+
+  pub spaced_sequence : {A B : Type 0} {P : ℕ → Type 0} {r : Rule Kind A} {s : A → Rule Kind B} {K : A × B → Rest Kind} → Spaced space P (ahead r (λ a. ahead (s a) (λ b. K (a, b)))) → Spaced space P (ahead (sequence r s) K)
+  spaced_sequence {A} {B} {P} {r} {s} {K} h = record {
+    begins = λ v m. into_sequence r s K Begin v (h.begins v m);
+    meets = λ e v m. h.meets e v (sequence_meets r s K e v m);
+    whole = λ v m. h.whole v (sequence_whole r s K v m);
+  }
+
+  pub spaced_valued : {A B : Type 0} {P : ℕ → Type 0} {r : Rule Kind A} {K : B → Rest Kind} (f : A → B) → Spaced space P (ahead r (λ a. K (f a))) → Spaced space P (ahead (valued f r) K)
+  spaced_valued {A} {B} {P} {r} {K} f h = record {
+    begins = λ v m. into_valued f r K Begin v (h.begins v m);
+    meets = λ e v m. h.meets e v (valued_meets f r K e v m);
+    whole = λ v m. h.whole v (valued_whole f r K v m);
+  }
+
+  pub spaced_behind : {A B : Type 0} {P : ℕ → Type 0} {r : Rule Kind A} {s : Rule Kind B} {K : B → Rest Kind} → Spaced space P (ahead r (λ _. ahead s K)) → Spaced space P (ahead (behind r s) K)
+  spaced_behind {A} {B} {P} {r} {s} {K} h = spaced_valued (λ x. x.1) (spaced_sequence {s = λ _. s} {K = λ x. K x.1} h)
+
+  pub spaced_before : {A B : Type 0} {P : ℕ → Type 0} {r : Rule Kind A} {s : Rule Kind B} {K : A → Rest Kind} → Spaced space P (ahead r (λ a. ahead s (λ _. K a))) → Spaced space P (ahead (before r s) K)
+  spaced_before {A} {B} {P} {r} {s} {K} h = spaced_valued (λ x. x.0) (spaced_sequence {s = λ _. s} {K = λ x. K x.0} h)
+
+  -- a rule behind white space that may be absent
+  pub spaced_optional : {A : Type 0} {P : ℕ → Type 0} {r : Rule Kind A} {K : Rest Kind} → Leads space P r → Spaced space P K → Spaced space P (ahead (optional r) (λ _. K))
+  spaced_optional {A} {P} {r} {K} h i =
+      let g : Spaced space P (ahead (valued Some r) (λ _. K)) = spaced_leads (leads_valued Some h) in
+      record {
+        begins = λ v m. inl (inl (h.begins v m));
+        meets = λ e v m. ⊎_elim (λ l. g.meets e v l) (λ l. by_empty e v l) (either_meets (valued Some r) (empty None) (λ _. K) e v m);
+        whole = λ v m. ⊎_elim (λ l. g.whole v l) (λ l. i.whole v (empty_whole None (λ _. K) v l)) (either_whole (valued Some r) (empty None) (λ _. K) v m);
+      }
+    where
+      by_empty : (e : Event Kind) (v : List ℕ) → (ahead (empty None) (λ (_ : Option A). K)).Meets e v → SpacedBy space P e v
+      by_empty Begin v (inl m) = inl (refl, subst (AllPass space) (sym m) tt)
+      by_empty (Mark k b) v (inl m) = elim m [ ]
+      by_empty e v (inr m) = i.meets e v (subst (λ (z : List ℕ). K.Meets e z) (sym (m.1.joined ∙ ap (λ (z : List ℕ). z ++ m.1.back) m.1.front_is.0)) m.1.back_is)
+
+      empty_whole : (value : Option A) (J : Option A → Rest Kind) (v : List ℕ) → (ahead (empty value) J).Whole v → (J value).Whole v
+      empty_whole value J v m = subst (J value).Whole (sym (m.1.joined ∙ ap (λ (z : List ℕ). z ++ m.1.back) m.1.front_is.0)) (subst (λ (a : Option A). (J a).Whole m.1.back) m.1.front_is.1 m.1.back_is)
 
 module _ {Kind : Type 0} {faults : Faults Kind} (space p : ℕ → Bool) where
   -- # Covers, by the character behind the white space

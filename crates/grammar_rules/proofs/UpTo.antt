@@ -1,8 +1,8 @@
 -- What stands before the first time that a word comes is read exactly, whatever follows the word.
-use Rattle.std.proofs.Common.{◌≡◌, ℕ, zero, suc, ◌+◌, ◌<◌, ◌≤◌, Bool, true, false, cond, List, [], ◌∷◌, ◌++◌, length, drop, Result, Ok, Err, ◌⊎◌, inl, inr, ⊎_elim, refl, sym, ap, subst, ◌∙◌, append_assoc, arith}
+use Rattle.std.proofs.Common.{◌≡◌, ℕ, ◌<◌, Bool, true, false, cond, List, [], ◌∷◌, ◌++◌, length, drop, Result, Ok, Err, ⊎_elim, refl, sym, ap, subst, ◌∙◌, append_assoc, arith}
 use Rattle.std.proofs.lemmas.List.{append_cancel_right, length-append, append-nil}
-use Rattle.grammar_rules.specs.Rules.{Rule, AllPass, Lacks, OnlyLast, up_to}
-use Rattle.grammar_rules.specs.Reading.{Stop, Syntax, Faulty, Reader, ◌>>=◌, starts, read_up_to}
+use Rattle.grammar_rules.specs.Rules.{AllPass, Lacks, OnlyLast, up_to}
+use Rattle.grammar_rules.specs.Reading.{Stop, Syntax, Faulty, ◌>>=◌, starts, read_up_to}
 use Rattle.grammar_rules.specs.Answers.{Faults}
 use Rattle.grammar_rules.proofs.Exact.{Rest, Outcome, Exact}
 use Rattle.grammar_rules.proofs.Leaves.{leaf_read, leaf_stopped}

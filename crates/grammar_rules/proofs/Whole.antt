@@ -1,11 +1,10 @@
 -- The theorem: what is read of a whole text, by a reader that is exact before the end of the text, is what the rule says of it.
-use Rattle.std.proofs.Common.{◌≡◌, ℕ, zero, suc, ◌+◌, ◌<◌, ◌≤◌, Bool, true, false, List, [], ◌∷◌, ◌++◌, length, Result, Ok, Err, ◌⊎◌, inl, inr, ⊎_elim, refl, sym, ap, subst, ◌∙◌, append_assoc, arith}
-use Rattle.std.proofs.lemmas.List.{length-append, append-nil, append_cancel_left, append_cancel_right, nil_from_length}
-use Rattle.grammar_rules.specs.Rules.{Event, Begin, Mark, Rule, Split, breaks}
+use Rattle.std.proofs.Common.{◌≡◌, ℕ, ◌+◌, ◌<◌, ◌≤◌, true, false, List, [], ◌∷◌, ◌++◌, length, Result, Ok, Err, ◌⊎◌, inl, inr, ⊎_elim, refl, sym, ap, subst, ◌∙◌, append_assoc, arith}
+use Rattle.std.proofs.lemmas.List.{length-append, append-nil}
+use Rattle.grammar_rules.specs.Rules.{Event, Begin, Mark, Rule, breaks}
 use Rattle.grammar_rules.specs.Reading.{Stop, Syntax, Faulty, Reader, ◌>>=◌, all_of, read_whole}
 use Rattle.grammar_rules.specs.Answers.{Faults, IsSaid, IsCalm, IsSpelled, BreaksOff, IsFirstFault, Answers}
-use Rattle.grammar_rules.proofs.Exact.{Rest, ahead, Passed, Behind, Later, IsRead, IsStopped, IsAtFault, Outcome, Exact}
-use Rattle.grammar_rules.proofs.Fronts.{compare}
+use Rattle.grammar_rules.proofs.Exact.{Rest, IsRead, IsStopped, IsAtFault, Outcome, Exact}
 use Rattle.grammar_rules.proofs.Heads.{Heads}
 use Rattle.grammar_rules.proofs.Laws.{Lawful, Inside}
 
@@ -90,8 +89,7 @@ module _ {Kind A : Type 0} (faults : Faults Kind) (r : Rule Kind A) (lawful : La
     first = λ other place t s. by_place other place s (h.settled (Mark other (length s.seen)) (s.before ++ s.seen) s.unseen (said_at other place s) (inl s.met) t);
     beyond =
         let g = lawful.beyond kind (length h.seen) (h.used ++ h.seen) h.met in
-        let j : text ≡ g.front ++ (g.rest ++ h.unseen) = h.joined ∙ ap (λ (z : List ℕ). h.used ++ z) h.left_is ∙ sym (append_assoc h.used h.seen h.unseen) ∙ ap (λ (z : List ℕ). z ++ h.unseen) g.joined ∙ append_assoc g.front g.rest h.unseen in
-        (
+        let j : text ≡ g.front ++ (g.rest ++ h.unseen) = h.joined ∙ ap (λ (z : List ℕ). h.used ++ z) h.left_is ∙ sym (append_assoc h.used h.seen h.unseen) ∙ ap (λ (z : List ℕ). z ++ h.unseen) g.joined ∙ append_assoc g.front g.rest h.unseen in (
           g.front,
           g.rest ++ h.unseen,
           j,
