@@ -1,4 +1,7 @@
 pub mod Bytes
+pub mod ExactParts
+pub mod ExactSelectors
+pub mod ExactSteps
 pub mod Positions
 pub mod Printed
 pub mod Reaching

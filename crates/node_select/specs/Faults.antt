@@ -65,3 +65,7 @@ pub record IsPatchSelectorAnswer (bindings : List Decl) (default text : List ℕ
 -- an answer, or want of memory
 abbrev pub Answered : {A : Type 0} → Result A SelectorFault → Result A SelectorFault → Type 0
 Answered stated r = (r ≡ stated) ⊎ (r ≡ Err NoMemory)
+
+-- an answer by the grammar, or want of memory
+abbrev pub GrammarAnswers : {A : Type 0} → (Result A SelectorFault → Type 0) → Result A SelectorFault → Type 0
+GrammarAnswers by_grammar r = (r ≡ Err NoMemory) ⊎ by_grammar r

@@ -13,6 +13,8 @@ mod reading;
 mod selecting;
 mod selector;
 mod steps;
+#[cfg(test)]
+mod tests;
 
 pub use bindings::Bindings;
 pub use choice::find_attr;

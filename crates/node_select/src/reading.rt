@@ -1,6 +1,6 @@
 //! Reading selectors.
 ghost use Rattle.std.specs.Prelude.{◌≡◌, ◌⊎◌, ◌+◌, ◌-◌, ◌≤◌, ◌<◌, ◌^◌, length, drop, map, IfOk, Err, chars, encode_utf8_all};
-ghost use Rattle.node_select.specs.Faults.{Answered, IsPatchSelectorAnswer, IsSelectorAnswer, byte_of, meant, patch_selector_read, selector_read, stop_place};
+ghost use Rattle.node_select.specs.Faults.{Answered, GrammarAnswers, IsPatchSelectorAnswer, IsSelectorAnswer, byte_of, meant, patch_selector_read, selector_read, stop_place};
 ghost use Rattle.node_select.specs.Raw.{HasRoom, first_unbound, first_unbound_in_patch, patch_selector_of, selector_of};
 ghost use Rattle.node_select.specs.Views.{patch_selector_in, selector_in, step_in};
 ghost use Rattle.node_select.specs.Meaning.{Means};
@@ -105,13 +105,8 @@ fn patch_resolved(
     Ok(PatchSelector { steps, end })
 }
 
-/// The selector that a text spells (RFC 4825, section 6.3). An element's name without prefix is in the namespace `default_uri`, an attribute's
-/// is in none.
-///
-/// # Errors
-/// `BadSelector` exactly where the text is no selector, `UnboundPrefix` exactly where it is one and has an unbound prefix, `NoMemory` for
-/// want of memory.
-pub fn read_selector(
+// The selector that a text spells.
+fn selector_of_text(
     alloc: Global,
     text: &str,
     bindings: &Bindings,
@@ -129,12 +124,8 @@ pub fn read_selector(
     }
 }
 
-/// The selector of a patch operation that a text spells (RFC 5261, section 4.1): an optional `/`, steps, and optionally an attribute or a text.
-/// Names are resolved as in `read_selector`.
-///
-/// # Errors
-/// As for `read_selector`.
-pub fn read_patch_selector(
+// The selector of a patch that a text spells.
+fn patch_selector_of_text(
     alloc: Global,
     text: &str,
     bindings: &Bindings,
@@ -150,4 +141,39 @@ pub fn read_patch_selector(
             Ok(selector) => Ok(selector),
         },
     }
+}
+
+/// The selector that a text spells (RFC 4825, section 6.3). An element's name without prefix is in the namespace `default_uri`, an attribute's
+/// is in none.
+///
+/// # Errors
+/// `BadSelector` exactly where the text is no selector, `UnboundPrefix` exactly where it is one and has an unbound prefix, `NoMemory` for
+/// want of memory.
+pub fn read_selector(
+    alloc: Global,
+    text: &str,
+    bindings: &Bindings,
+    default_uri: &str,
+) -> Result<Selector, SelectorFault>
+    ensures grammar { GrammarAnswers (IsSelectorAnswer bindings.now (chars default_uri.now) text.now) result }
+    ensures computed { Answered (selector_read bindings.now (chars default_uri.now) text.now) result }
+{
+    selector_of_text(alloc, text, bindings, default_uri)
+}
+
+/// The selector of a patch operation that a text spells (RFC 5261, section 4.1): an optional `/`, steps, and optionally an attribute or a text.
+/// Names are resolved as in `read_selector`.
+///
+/// # Errors
+/// As for `read_selector`.
+pub fn read_patch_selector(
+    alloc: Global,
+    text: &str,
+    bindings: &Bindings,
+    default_uri: &str,
+) -> Result<PatchSelector, SelectorFault>
+    ensures grammar { GrammarAnswers (IsPatchSelectorAnswer bindings.now (chars default_uri.now) text.now) result }
+    ensures computed { Answered (patch_selector_read bindings.now (chars default_uri.now) text.now) result }
+{
+    patch_selector_of_text(alloc, text, bindings, default_uri)
 }
