@@ -1,3 +1,4 @@
+pub mod Along
 pub mod Bytes
 pub mod ExactParts
 pub mod ExactSelectors

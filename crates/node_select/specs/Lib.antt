@@ -1,5 +1,6 @@
 pub mod Faults
 pub mod Grammar
+pub mod LastStep
 pub mod Meaning
 pub mod Members
 pub mod Names
