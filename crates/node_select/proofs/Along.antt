@@ -52,12 +52,14 @@ last_to (t ∷ steps) c e [] s i h = absurd (no_more steps h.1.2)
     no_more (u ∷ us) x = x
 last_to (t ∷ steps) c e (n ∷ p) s i h =
     let k = h.1 in
-    let r = last_to steps (inside c k.0) k.0 p s i k.2 in
-    ((h.0, (k.0, k.1, r.0)), record {
-      element = r.1.element;
-      there = ap (option_and_then (at p)) k.1 ∙ r.1.there;
-      selects = subst (λ (z : List (List Decl)). SelectsChild z s (kids_of r.1.element) i) (sym (scope_of_kid c n p e k.0 k.1)) r.1.selects;
-    })
+    let r = last_to steps (inside c k.0) k.0 p s i k.2 in (
+      (h.0, (k.0, k.1, r.0)),
+      record {
+        element = r.1.element;
+        there = ap (option_and_then (at p)) k.1 ∙ r.1.there;
+        selects = subst (λ (z : List (List Decl)). SelectsChild z s (kids_of r.1.element) i) (sym (scope_of_kid c n p e k.0 k.1)) r.1.selects;
+      },
+    )
 
 last_from : (steps : List Step) (c : List (List Decl)) (e : Tree) (p : List ℕ) (s : Step) (i : ℕ) → SelectsAmong c (kids_of e) steps p → Parent c e p s i → SelectsAmong c (kids_of e) (steps ++ s ∷ []) (p ++ i ∷ [])
 last_from [] c e [] s i h q =
@@ -69,12 +71,18 @@ last_from [] c e (n ∷ p) s i h q = absurd h
 last_from (t ∷ steps) c e [] s i h q = absurd h
 last_from (t ∷ steps) c e (n ∷ p) s i h q =
     let k = h.1 in
-    let there : at p k.0 ≡ Some q.element = sym (ap (option_and_then (at p)) k.1) ∙ q.there in
-    (h.0, (k.0, k.1, last_from steps (inside c k.0) k.0 p s i k.2 (record {
-      element = q.element;
-      there = there;
-      selects = subst (λ (z : List (List Decl)). SelectsChild z s (kids_of q.element) i) (scope_of_kid c n p e k.0 k.1) q.selects;
-    })))
+    let there : at p k.0 ≡ Some q.element = sym (ap (option_and_then (at p)) k.1) ∙ q.there in (
+      h.0,
+      (
+        k.0,
+        k.1,
+        last_from steps (inside c k.0) k.0 p s i k.2 (record {
+          element = q.element;
+          there = there;
+          selects = subst (λ (z : List (List Decl)). SelectsChild z s (kids_of q.element) i) (scope_of_kid c n p e k.0 k.1) q.selects;
+        }),
+      ),
+    )
 
 pub last_step_to : (first : Step) (steps : List Step) (s : Step) (root : Tree) (p : List ℕ) (i : ℕ) → SelectsPath (first ∷ (steps ++ s ∷ [])) root (p ++ i ∷ []) → SelectsPath (first ∷ steps) root p × Parent (root.decls ∷ []) root p s i
 last_step_to first steps s root p i h =
