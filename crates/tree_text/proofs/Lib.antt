@@ -1,0 +1,5 @@
+pub mod RunLemmas
+pub mod Loops
+pub mod Shrinks
+pub mod NameLemmas
+pub mod TagLemmas

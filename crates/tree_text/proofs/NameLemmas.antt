@@ -1,0 +1,28 @@
+-- Names as they are written, with a prefix or without.
+use Rattle.std.proofs.Common.{◌≡◌, ℕ, suc, ◌+◌, ◌<◌, Bool, true, false, cond, List, [], ◌∷◌, ◌++◌, length, Result, Ok, Err, refl, sym, ap, ◌∙◌, arith}
+use Rattle.std.specs.Prelude.{nat_eq}
+use Rattle.std.proofs.lemmas.List.{length-append}
+use Rattle.grammar_rules.specs.Reading.{Stop, Syntax, Faulty, Reader, ◌>>=◌, read_word}
+use Rattle.tree_text.specs.declared.kind.Kind.{Kind}
+use Rattle.tree_text.specs.Pieces.{written_by}
+
+-- with a prefix: the prefix, a colon and the local part
+pub prefixed : (p l : List ℕ) → 0 < length p → written_by p l ≡ p ++ (58 ∷ l)
+prefixed [] l h = absurd (omega arith)
+prefixed (c ∷ cs) l h = refl
+
+pub prefixed_size : (p l : List ℕ) → 0 < length p → length (written_by p l) ≡ length p + 1 + length l
+prefixed_size [] l h = absurd (omega arith)
+prefixed_size (c ∷ cs) l h = omega (arith, length-append cs (58 ∷ l))
+
+-- a word in two parts
+cond_then : (b : Bool) (p : Result (Unit {0} × List ℕ) (Stop Kind)) (e : Stop Kind) (f : Unit {0} × List ℕ → Result (Unit {0} × List ℕ) (Stop Kind)) → cond b (p >>= f) (Err e) ≡ cond b p (Err e) >>= f
+cond_then true p e f = refl
+cond_then false p e f = refl
+
+pub word_then : (a b text : List ℕ) → read_word {Kind = Kind} (a ++ b) text ≡ read_word a text >>= λ x. read_word b x.1
+word_then [] b text = refl
+word_then (c ∷ cs) b [] = refl
+word_then (c ∷ cs) b (d ∷ rest) =
+    ap (λ (r : Result (Unit {0} × List ℕ) (Stop Kind)). cond (nat_eq c d) r (Err (Syntax (d ∷ rest)))) (word_then cs b rest)
+    ∙ cond_then (nat_eq c d) (read_word cs rest) (Syntax (d ∷ rest)) (λ x. read_word b x.1)

@@ -1,0 +1,93 @@
+-- Which fault a text or a body has, and at which byte.
+use Rattle.std.specs.Prelude.{◌≡◌, ◌⊎◌, ℕ, ◌+◌, ◌-◌, ◌<◌, ◌==◌, List, [], ◌∷◌, length, Option, None, Some, option_map, unwrap_or, Result, Ok, Err, IsUtf8, encode_utf8_all, if◌then◌else◌}
+use Rattle.std.specs.Str.{chars, is_utf8}
+use Rattle.grammar_rules.specs.Reading.{Stop, Syntax, Faulty, read_whole}
+use Rattle.grammar_rules.specs.Answers.{Answers}
+use Rattle.xml_tree.specs.Tree.{Tree}
+use Rattle.xml_tree.specs.declared.names.Decl.{Decl}
+use Rattle.tree_text.specs.declared.kind.Kind.{Kind}
+use Rattle.tree_text.specs.declared.kind.Kind.TheVariants.{Encoded, Doctyped, Depth, Unbound, Repeated}
+use Rattle.tree_text.specs.declared.fault.TextFault.{TextFault}
+use Rattle.tree_text.specs.declared.fault.TextFault.TheVariants as texts
+use Rattle.tree_text.specs.declared.fault.ValueFault.{ValueFault}
+use Rattle.tree_text.specs.declared.fault.ValueFault.TheVariants as bodies
+use Rattle.tree_text.specs.Kinds.{faults}
+use Rattle.tree_text.specs.Grammar.{is_quote, document, spelling}
+use Rattle.tree_text.specs.Reading.{read_text, read_spelling}
+
+-- the byte at which this rest of the text begins
+abbrev pub place : List ℕ → List ℕ → ℕ
+place bytes left = length bytes - length (encode_utf8_all left)
+
+-- ---- documents and fragments
+
+-- the fault that each stop is: behind the longest beginning, or at the place of the first fault
+abbrev pub fault_of : List ℕ → Stop Kind → TextFault
+fault_of bytes (Syntax left) = texts.NotWellFormed (place bytes left)
+fault_of bytes (Faulty Encoded left) = texts.NotUtf8
+fault_of bytes (Faulty Doctyped left) = texts.Doctype (place bytes left)
+fault_of bytes (Faulty (Depth depth) left) = texts.TooDeep (place bytes left)
+fault_of bytes (Faulty Unbound left) = texts.Namespace (place bytes left)
+fault_of bytes (Faulty Repeated left) = texts.RepeatedAttribute (place bytes left)
+
+abbrev pub told : List ℕ → Result Tree (Stop Kind) → Result Tree TextFault
+told bytes (Ok tree) = Ok tree
+told bytes (Err stop) = Err (fault_of bytes stop)
+
+-- what reading answers, with so many levels at most and in this scope
+abbrev pub text_read : ℕ → List (List Decl) → List ℕ → Result Tree TextFault
+text_read limit scope bytes = if is_utf8 bytes then told bytes (read_whole (read_text limit scope) (chars bytes)) else Err texts.NotUtf8
+
+-- The answer for bytes by the grammar: the tree that they spell and no other, or the first fault. How many more levels than the limit
+-- the grammar is given makes no difference.
+pub record IsTextAnswer (limit : ℕ) (scope : List (List Decl)) (bytes : List ℕ) (answer : Result Tree TextFault) : Type 0 where
+  pub stated : Result Tree (Stop Kind)
+  pub by_grammar : (n : ℕ) → limit + 1 < n → Answers (faults limit) (document n scope) (chars bytes) stated
+  pub is_told : answer ≡ told bytes stated
+
+abbrev pub TextAnswer : ℕ → List (List Decl) → List ℕ → Result Tree TextFault → Type 0
+TextAnswer limit scope bytes answer = (IsUtf8 bytes × IsTextAnswer limit scope bytes answer) ⊎ ((IsUtf8 bytes → ⊥) × (answer ≡ Err texts.NotUtf8))
+
+-- ---- bodies that spell a value
+
+-- the inside of a text that ends with this quote, which stands nowhere else in it
+abbrev pub up_to_quote : ℕ → List ℕ → Option (List ℕ)
+up_to_quote quote [] = None
+up_to_quote quote (c ∷ []) = if c == quote then Some [] else None
+up_to_quote quote (c ∷ d ∷ cs) = if c == quote then None else option_map (λ inside. c ∷ inside) (up_to_quote quote (d ∷ cs))
+
+-- the inside of a body between two quotes of one kind, where that quote stands nowhere else
+abbrev pub in_quotes : List ℕ → Option (List ℕ)
+in_quotes [] = None
+in_quotes (c ∷ cs) = if is_quote c then up_to_quote c cs else None
+
+-- the part of a body that spells its value: that inside, or all of it
+abbrev pub spelling_of : List ℕ → List ℕ
+spelling_of body = unwrap_or (in_quotes body) body
+
+-- how many bytes stand behind it
+abbrev pub closing : Option (List ℕ) → ℕ
+closing None = 0
+closing (Some inside) = 1
+
+-- the byte of a body at which this rest of its spelling begins
+abbrev pub body_place : List ℕ → List ℕ → List ℕ → ℕ
+body_place body bytes left = place bytes left - closing (in_quotes body)
+
+abbrev pub body_told : List ℕ → List ℕ → Result (List ℕ) (Stop Kind) → Result (List ℕ) ValueFault
+body_told body bytes (Ok value) = Ok value
+body_told body bytes (Err (Syntax left)) = Err (bodies.NotValue (body_place body bytes left))
+body_told body bytes (Err (Faulty kind left)) = Err (bodies.NotValue (body_place body bytes left))
+
+-- what reading answers
+abbrev pub body_read : List ℕ → Result (List ℕ) ValueFault
+body_read bytes = if is_utf8 bytes then body_told (chars bytes) bytes (read_whole read_spelling (spelling_of (chars bytes))) else Err bodies.NotUtf8
+
+-- the answer for a body by the grammar
+pub record IsBodyAnswer (bytes : List ℕ) (answer : Result (List ℕ) ValueFault) : Type 0 where
+  pub stated : Result (List ℕ) (Stop Kind)
+  pub by_grammar : Answers (faults 0) spelling (spelling_of (chars bytes)) stated
+  pub is_told : answer ≡ body_told (chars bytes) bytes stated
+
+abbrev pub BodyAnswer : List ℕ → Result (List ℕ) ValueFault → Type 0
+BodyAnswer bytes answer = (IsUtf8 bytes × IsBodyAnswer bytes answer) ⊎ ((IsUtf8 bytes → ⊥) × (answer ≡ Err bodies.NotUtf8))

@@ -1,0 +1,15 @@
+-- What a reader of the code answers: what the reading function gives, unless memory ran out.
+use Rattle.std.specs.Prelude.{◌≡◌, Result, Ok, Err}
+use Rattle.grammar_rules.specs.Reading.{Stop, Syntax, Faulty}
+use Rattle.tree_text.specs.declared.kind.Kind.{Kind}
+use Rattle.tree_text.specs.declared.stop.Stop.{Stop as CodeStop}
+use Rattle.tree_text.specs.declared.stop.Stop.TheVariants as stops
+
+abbrev pub Fails : {Y : Type 0} → CodeStop → Result Y (Stop Kind) → Type 0
+Fails (stops.Syntax rest) read = read ≡ Err (Syntax rest.now)
+Fails (stops.Faulty kind rest) read = read ≡ Err (Faulty kind rest.now)
+Fails stops.Memory read = Unit {0}
+
+abbrev pub Gives : {X Y : Type 0} → (X → Y) → Result X CodeStop → Result Y (Stop Kind) → Type 0
+Gives view (Ok x) read = read ≡ Ok (view x)
+Gives view (Err e) read = Fails e read

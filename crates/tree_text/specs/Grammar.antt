@@ -1,0 +1,214 @@
+-- The texts that documents and fragments are read from, rule by rule: XML 1.0, fifth edition, and Namespaces in XML 1.0, without
+-- document types. The numbers in brackets are those of their productions. A rule says which texts it spells, as which values, and
+-- what may be met where a text breaks off in it.
+use Rattle.std.specs.Prelude.{◌≡◌, ℕ, zero, suc, ◌+◌, Bool, true, false, ◌&&◌, ◌||◌, ◌==◌, not, List, [], ◌∷◌, Option, Some}
+use Rattle.std.specs.Str.{bytes_eq, str_to_ascii_lowercase}
+use Rattle.xml_tree.specs.Characters.{is_char, is_space, is_name_start, is_name_char, within}
+use Rattle.xml_tree.specs.Tree.{Content, last, Tree}
+use Rattle.xml_tree.specs.declared.names.Name.{Name}
+use Rattle.xml_tree.specs.declared.names.Decl.{Decl}
+use Rattle.grammar_rules.specs.Digits.{is_digit, decimal, hexadecimal}
+use Rattle.grammar_rules.specs.Rules.{Rule, never, empty, one, word, run, run_without, up_to, number, sequence, either, many, valued, sized, only, atomic, marked, judged, trap, optional, between, some_of, name_of, before, behind, quoted}
+use Rattle.tree_text.specs.Words.{less, greater, empty_end, end_start, equals_sign, colon, ampersand, semicolon, hash, small_x, amp, lt, gt, quot, apos, comment_start, dashes, section_start, section_end, instruction_start, instruction_end, declaration_start, version, one_dot, encoding, standalone, yes, not_alone, bang, doctype, byte_order_mark, xml, utf_8, us_ascii}
+use Rattle.tree_text.specs.declared.kind.Kind.{Kind}
+use Rattle.tree_text.specs.declared.kind.Kind.TheVariants.{Encoded, Doctyped, Depth}
+use Rattle.tree_text.specs.declared.said.Said.{Said}
+use Rattle.tree_text.specs.Pieces.{line_ends, value_of, qname_of, written, said_of, Tag, tag_of, Markup, Reference, Section, Comment, Instruction, Inner, with_pieces}
+use Rattle.tree_text.specs.Names.{IsWrong, inside, element_of}
+
+-- ---- names and white space
+
+-- [4] NCName: a name start and name characters, without colons
+abbrev pub name : Rule Kind (List ℕ)
+name = name_of is_name_start is_name_char
+
+-- [7] QName: an NCName, or two with `:` between
+abbrev pub qname : Rule Kind Name
+qname = valued qname_of (sequence name (λ _. optional (behind (word colon) name)))
+
+-- [3] S, where it may be absent, and where it may not
+abbrev pub spaces : Rule Kind (List ℕ)
+spaces = run is_space
+
+abbrev pub some_spaces : Rule Kind (List ℕ)
+some_spaces = some_of is_space
+
+-- [25] Eq: S? `=` S?
+abbrev pub equals : Rule Kind (List ℕ)
+equals = behind spaces (behind (word equals_sign) spaces)
+
+-- ---- references and values
+
+-- an entity, and the character that it stands for
+abbrev pub stands_for : ℕ → List ℕ → Rule Kind ℕ
+stands_for c w = valued (λ _. c) (word w)
+
+-- [68] one of the five entities that there are
+abbrev pub entity : Rule Kind ℕ
+entity = either (stands_for 60 lt) (either (stands_for 62 gt) (either (stands_for 34 quot) (either (stands_for 39 apos) (stands_for 38 amp))))
+
+-- the last Char
+abbrev pub last_char : ℕ
+last_char = 0x10FFFF
+
+-- [66] `#` and digits, or `#x` and hexadecimal digits: the number so far is at most that of the last Char, the whole one is that of a Char
+abbrev pub numbered : Rule Kind ℕ
+numbered = behind (word hash) (either (behind (word small_x) (number hexadecimal last_char is_char)) (number decimal last_char is_char))
+
+-- [67] Reference: `&`, a number or an entity, `;`
+abbrev pub reference : Rule Kind ℕ
+reference = behind (word ampersand) (before (either numbered entity) (word semicolon))
+
+-- either quote
+abbrev pub is_quote : ℕ → Bool
+is_quote c = c == 34 || c == 39
+
+-- a character that stands raw in text: any Char but `<` and `&`; and in a value between quotes: nor its own quote
+abbrev pub is_raw : ℕ → Bool
+is_raw c = is_char c && not (c == 60) && not (c == 38)
+
+abbrev pub is_raw_in : ℕ → ℕ → Bool
+is_raw_in quote c = is_raw c && not (c == quote)
+
+-- [10] AttValue, between its quotes: raw characters and references
+abbrev pub value : ℕ → Rule Kind (List ℕ)
+value quote = valued value_of (between (run (is_raw_in quote)) reference)
+
+-- ---- tags
+
+-- [41] Attribute: a name, Eq and a value in quotes
+abbrev pub attribute : Rule Kind (Name × List ℕ)
+attribute = sequence qname (λ _. behind equals (quoted is_quote value))
+
+-- an attribute behind white space
+abbrev pub said : Rule Kind Said
+said = valued said_of (sequence some_spaces (λ _. sized attribute))
+
+-- `/>` ends an empty element, `>` a start tag
+abbrev pub tag_end : Rule Kind Bool
+tag_end = either (valued (λ _. true) (word empty_end)) (valued (λ _. false) (word greater))
+
+-- [40] STag and [44] EmptyElemTag: `<`, a name, attributes each after S, S?, and `>` or `/>`
+abbrev pub tag : Rule Kind Tag
+tag = valued tag_of (sized (behind (word less) (sequence qname (λ _. sequence (before (many said) spaces) (λ _. tag_end)))))
+
+-- [42] ETag: `</`, the name of the start tag, S?, `>`
+abbrev pub end_tag : Name → Rule Kind (Unit {0})
+end_tag n = behind (word end_start) (behind (word (written n)) (behind spaces (word greater)))
+
+-- ---- content
+
+-- [15] Comment: `<!--`, Chars without `--` that don't end in `-`, `-->`; so its first `--` stands before the `>`
+abbrev pub comment : Rule Kind (List ℕ)
+comment = valued line_ends (behind (word comment_start) (before (up_to is_char dashes) (word greater)))
+
+-- [18] CDSect: `<![CDATA[`, Chars up to the first `]]>`
+abbrev pub section : Rule Kind (List ℕ)
+section = valued line_ends (behind (word section_start) (up_to is_char section_end))
+
+-- [17] PITarget: an NCName that isn't `xml`, without regard to ASCII case
+abbrev pub is_target : List ℕ → Bool
+is_target n = not (bytes_eq (str_to_ascii_lowercase n) xml)
+
+-- what stands behind a target: nothing, or white space and Chars, up to the first `?>`
+abbrev pub instructed : Rule Kind (List ℕ)
+instructed = either (valued (λ _. []) (word instruction_end)) (behind (one is_space) (up_to is_char instruction_end))
+
+-- [16] PI: `<?`, a target and what stands behind it
+abbrev pub instruction : Rule Kind (List ℕ)
+instruction = behind (word instruction_start) (behind (only is_target name) instructed)
+
+-- [14] CharData: raw characters without `]]>`
+abbrev pub chars : Rule Kind (List ℕ)
+chars = valued line_ends (run_without is_raw section_end)
+
+-- what stands between runs of characters: a reference, a CDATA section, a comment, an instruction or an element
+abbrev pub markup : Rule Kind Tree → Rule Kind Markup
+markup inner =
+    either (valued Reference reference) (either (valued Section section) (either (valued Comment comment) (either (valued (λ _. Instruction) instruction) (valued Inner inner))))
+
+-- [43] content: of two neighbouring pieces at most one is a run of characters
+abbrev pub content : Rule Kind Tree → Rule Kind Content
+content inner = valued (λ x. with_pieces (last x.0) x.1) (between chars (markup inner))
+
+-- ---- elements
+
+-- what stands behind a start tag: content and the end tag; behind the tag of an empty element nothing
+abbrev pub behind_tag : Rule Kind Tree → Name → Bool → Rule Kind Content
+behind_tag inner n true = empty (last [])
+behind_tag inner n false = before (content inner) (end_tag n)
+
+-- a start tag's `<`, with the first character of its name
+abbrev pub StartsTag : List ℕ → Type 0
+StartsTag text = (c : ℕ) × (text ≡ 60 ∷ c ∷ []) × (is_name_start c ≡ true)
+
+-- [39] element, in the scope around it, at this depth, with fewer than n elements in one another. Its start says its depth. Its tag,
+-- where it is whole, says which of its names are wrong. What it contains stands in the scope of its declarations too.
+abbrev pub element : ℕ → List (List Decl) → ℕ → Rule Kind Tree
+element zero scope depth = never
+element (suc n) scope depth =
+    marked (Depth depth) StartsTag
+    (valued element_of (sequence (judged (IsWrong scope) tag) (λ t. behind_tag (element n (inside scope t) (depth + 1)) t.name t.is_empty)))
+
+-- ---- documents
+
+-- [26] VersionNum: `1.` and digits
+abbrev pub version_number : Rule Kind (List ℕ)
+version_number = behind (word one_dot) (some_of is_digit)
+
+-- [81] EncName: a letter, and letters, digits, `.`, `_` and `-`
+abbrev pub is_letter : ℕ → Bool
+is_letter c = within 65 90 c || within 97 122 c
+
+abbrev pub is_encoding_char : ℕ → Bool
+is_encoding_char c = is_letter c || is_digit c || c == 46 || c == 95 || c == 45
+
+abbrev pub encoding_name : Rule Kind (List ℕ)
+encoding_name = name_of is_letter is_encoding_char
+
+-- [32] `yes` or `no`
+abbrev pub yes_or_no : Rule Kind (Unit {0})
+yes_or_no = either (word yes) (word not_alone)
+
+-- S, a word, Eq and something in quotes
+abbrev pub declared : {A : Type 0} → List ℕ → Rule Kind A → Rule Kind A
+declared w r = behind some_spaces (behind (word w) (behind equals (quoted is_quote (λ _. r))))
+
+-- [23] XMLDecl: `<?xml`, the version, perhaps the encoding, perhaps whether it stands alone, S?, `?>`. Its value is the encoding.
+abbrev pub xml_declaration : Rule Kind (Option (List ℕ))
+xml_declaration =
+    behind (word declaration_start) (behind (declared version version_number) (before (optional (declared encoding encoding_name))
+    (behind (optional (declared standalone yes_or_no)) (behind spaces (word instruction_end)))))
+
+-- an encoding that we read, without regard to ASCII case
+abbrev pub is_our_encoding : List ℕ → Bool
+is_our_encoding e = bytes_eq (str_to_ascii_lowercase e) utf_8 || bytes_eq (str_to_ascii_lowercase e) us_ascii
+
+-- A whole XML declaration of another encoding says so, at its `?>`.
+abbrev pub IsForeign : Option (List ℕ) → Kind → ℕ → Type 0
+IsForeign e kind back = (n : List ℕ) × (e ≡ Some n) × (is_our_encoding n ≡ false) × (kind ≡ Encoded) × (back ≡ 2)
+
+-- [27] Misc: comments and instructions, with white space around each; they spell nothing
+abbrev pub misc : Rule Kind (List ℕ)
+misc = either comment instruction
+
+abbrev pub miscs : Rule Kind (List ℕ) → Rule Kind (List ℕ × List (List ℕ × List ℕ))
+miscs one_more = between spaces one_more
+
+-- [22] prolog, without the XML declaration: `<!` before the root element, where `DOCTYPE` follows, says so
+abbrev pub prolog : Rule Kind (List ℕ × List (List ℕ × List ℕ))
+prolog = miscs (either (trap Doctyped bang doctype) misc)
+
+abbrev pub epilog : Rule Kind (List ℕ × List (List ℕ × List ℕ))
+epilog = miscs misc
+
+-- [1] document: perhaps a byte order mark, perhaps an XML declaration, Misc, one element, Misc. A fragment is the same, in a scope.
+abbrev pub document : ℕ → List (List Decl) → Rule Kind Tree
+document n scope =
+    behind (optional (word byte_order_mark)) (behind (optional (judged IsForeign xml_declaration)) (behind prolog (before (element n scope 1) epilog)))
+
+-- ---- bodies that spell a value
+
+-- raw characters and references: a reference that isn't whole is no beginning
+abbrev pub spelling : Rule Kind (List ℕ)
+spelling = valued value_of (between (run is_raw) (atomic reference))

@@ -1,0 +1,11 @@
+pub mod Faults
+pub mod Gives
+pub mod Grammar
+pub mod Kinds
+pub mod Members
+pub mod Names
+pub mod Pieces
+pub mod Reading
+pub mod Runs
+pub mod Views
+pub mod Words

@@ -1,0 +1,131 @@
+-- Names in tags: which of them are declarations, and which are wrong in the scope of the tag. Namespaces in XML 1.0, sections 3 to 6.
+use Rattle.std.specs.Prelude.{◌≡◌, ◌⊎◌, ℕ, suc, ◌+◌, ◌-◌, Bool, true, ◌&&◌, ◌||◌, not, List, [], ◌∷◌, ◌++◌, length, if◌then◌else◌, Option, None, Some, is_some}
+use Rattle.std.specs.Str.{bytes_eq}
+use Rattle.std.specs.List.{list_any}
+use Rattle.xml_tree.specs.Tree.{Content, Tree, tree_of}
+use Rattle.xml_tree.specs.Scopes.{bound, xmlns_prefix}
+use Rattle.xml_tree.specs.Expanded.{attr_name, same_expanded}
+use Rattle.xml_tree.specs.Proper.{may_stand}
+use Rattle.xml_tree.specs.declared.names.Name.{Name}
+use Rattle.xml_tree.specs.declared.names.Decl.{Decl}
+use Rattle.xml_tree.specs.declared.names.Attr.{Attr}
+use Rattle.tree_text.specs.declared.kind.Kind.{Kind}
+use Rattle.tree_text.specs.declared.kind.Kind.TheVariants.{Encoded, Doctyped, Depth, Unbound, Repeated}
+use Rattle.tree_text.specs.declared.said.Said.{Said}
+use Rattle.tree_text.specs.Pieces.{Tag, written}
+
+-- ---- declarations and attributes
+
+-- an attribute named `xmlns`, or with the prefix `xmlns`, is a declaration
+abbrev pub declares : Name → Bool
+declares n = (bytes_eq n.prefix [] && bytes_eq n.local xmlns_prefix) || bytes_eq n.prefix xmlns_prefix
+
+-- the declaration that one is: `xmlns` declares the default namespace, `xmlns:p` the prefix `p`
+abbrev pub decl_of : Said → Decl
+decl_of s = record { prefix = if bytes_eq s.name.prefix [] then [] else s.name.local; uri = s.value }
+
+abbrev pub attr_of : Said → Attr
+attr_of s = record { name = s.name; value = s.value }
+
+-- the declarations of a tag, and its attributes, each in order
+abbrev pub decls_of : List Said → List Decl
+decls_of [] = []
+decls_of (s ∷ ss) = if declares s.name then (decl_of s ∷ decls_of ss) else decls_of ss
+
+abbrev pub attrs_of : List Said → List Attr
+attrs_of [] = []
+attrs_of (s ∷ ss) = if declares s.name then attrs_of ss else (attr_of s ∷ attrs_of ss)
+
+-- the scope inside a tag
+abbrev pub inside : List (List Decl) → Tag → List (List Decl)
+inside scope t = scope ++ decls_of t.said ∷ []
+
+-- the element of a tag and of what stands behind it
+abbrev pub element_of : Tag × Content → Tree
+element_of x = tree_of x.0.name (decls_of x.0.said) (attrs_of x.0.said) x.1
+
+-- ---- what is wrong with a name, in the scope inside its tag
+
+-- a prefix, which isn't bound
+abbrev pub is_unbound : List (List Decl) → Name → Bool
+is_unbound here n = not (bytes_eq n.prefix []) && not (is_some (bound here n.prefix))
+
+-- a declaration that may not stand, or an attribute with an unbound prefix
+abbrev pub is_misnamed : List (List Decl) → Said → Bool
+is_misnamed here s = if declares s.name then not (may_stand (decl_of s)) else is_unbound here s.name
+
+-- two declarations of one prefix, or two attributes of one expanded name
+abbrev pub says_again : List (List Decl) → Said → Said → Bool
+says_again here s e =
+    if declares s.name
+    then (declares e.name && bytes_eq (decl_of e).prefix (decl_of s).prefix)
+    else (not (declares e.name) && same_expanded (attr_name here e.name) (attr_name here s.name))
+
+-- one of those before it in the tag is such
+abbrev pub is_repeated : List (List Decl) → List Said → Said → Bool
+is_repeated here earlier s = list_any (says_again here s) earlier
+
+-- this is wrong with one of a tag, behind these
+abbrev pub IsWrongSaid : List (List Decl) → List Said → Said → Kind → Type 0
+IsWrongSaid here earlier s Unbound = is_misnamed here s ≡ true
+IsWrongSaid here earlier s Repeated = is_repeated here earlier s ≡ true
+IsWrongSaid here earlier s Encoded = ⊥
+IsWrongSaid here earlier s Doctyped = ⊥
+IsWrongSaid here earlier s (Depth d) = ⊥
+
+-- ---- where it stands in the tag
+
+-- how many characters these take
+abbrev pub widths : List Said → ℕ
+widths [] = 0
+widths (s ∷ ss) = s.gap + s.size + widths ss
+
+-- how many characters of a tag stand before its attributes: `<` and the name
+abbrev pub opening : Tag → ℕ
+opening t = suc (length (written t.name))
+
+-- the element's own name is wrong, so many characters before the end of the tag
+pub record IsWrongName (scope : List (List Decl)) (t : Tag) (kind : Kind) (back : ℕ) : Type 0 where
+  pub wrong : is_unbound (inside scope t) t.name ≡ true
+  pub kind_is : kind ≡ Unbound
+  pub place : back + 1 ≡ t.size
+
+-- one of the tag's attributes and declarations is wrong, its name standing so many characters before the end of the tag
+pub record HasWrongSaid (scope : List (List Decl)) (t : Tag) (kind : Kind) (back : ℕ) : Type 0 where
+  pub earlier : List Said
+  pub said : Said
+  pub later : List Said
+  pub among : t.said ≡ earlier ++ said ∷ later
+  pub wrong : IsWrongSaid (inside scope t) earlier said kind
+  pub place : back + (opening t + widths earlier + said.gap) ≡ t.size
+
+-- A whole tag says of each name in it that is wrong what is wrong with it, at the name.
+abbrev pub IsWrong : List (List Decl) → Tag → Kind → ℕ → Type 0
+IsWrong scope t kind back = IsWrongName scope t kind back ⊎ HasWrongSaid scope t kind back
+
+-- ---- the first wrong name of a tag
+
+-- what is wrong with one: Unbound comes first
+abbrev pub wrong_said : List (List Decl) → List Said → Said → Option Kind
+wrong_said here earlier s = if is_misnamed here s then Some Unbound else if is_repeated here earlier s then Some Repeated else None
+
+-- what is wrong at this place, or what comes later
+abbrev pub or_later : Option Kind → ℕ → Option (Kind × ℕ) → Option (Kind × ℕ)
+or_later None at later = later
+or_later (Some kind) at later = Some (kind, at)
+
+-- behind so many characters of the tag, and behind these of its attributes and declarations
+abbrev pub first_wrong : List (List Decl) → List Said → ℕ → List Said → Option (Kind × ℕ)
+first_wrong here earlier at [] = None
+first_wrong here earlier at (s ∷ later) = or_later (wrong_said here earlier s) (at + s.gap) (first_wrong here (earlier ++ s ∷ []) (at + (s.gap + s.size)) later)
+
+abbrev pub first_of_tag : List (List Decl) → Tag → Option (Kind × ℕ)
+first_of_tag here t = if is_unbound here t.name then Some (Unbound, 1) else first_wrong here [] (opening t) t.said
+
+-- counted back from the end of the tag
+abbrev pub counted_back : ℕ → Option (Kind × ℕ) → Option (Kind × ℕ)
+counted_back size None = None
+counted_back size (Some found) = Some (found.0, size - found.1)
+
+abbrev pub tag_fault : List (List Decl) → Tag → Option (Kind × ℕ)
+tag_fault scope t = counted_back t.size (first_of_tag (inside scope t) t)

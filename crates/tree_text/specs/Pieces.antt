@@ -1,0 +1,92 @@
+-- What the pieces of a text say: values, the parts of a tag, and content put together from left to right.
+use Rattle.std.specs.Prelude.{ℕ, Bool, length, List, [], ◌∷◌, ◌++◌, ◌==◌, if◌then◌else◌, ◌||◌, Option, None, Some}
+use Rattle.xml_tree.specs.Tree.{Content, Tree}
+use Rattle.xml_tree.specs.Edits.{with_text, with_elem, with_comment}
+use Rattle.xml_tree.specs.declared.names.Name.{Name}
+use Rattle.grammar_rules.specs.Reading.{head_is}
+use Rattle.tree_text.specs.declared.said.Said.{Said}
+use Rattle.tree_text.specs.Words.{colon}
+
+-- Line ends (XML 1.0, 2.11): CR LF, and a CR that no LF follows, are read as LF. So a CR before an LF is read as nothing.
+abbrev pub line_char : ℕ → List ℕ → Option ℕ
+line_char c after = if c == 13 then (if head_is (λ d. d == 10) after then None else Some 10) else Some c
+
+abbrev pub with_char : Option ℕ → List ℕ → List ℕ
+with_char None cs = cs
+with_char (Some c) cs = c ∷ cs
+
+abbrev pub line_ends : List ℕ → List ℕ
+line_ends [] = []
+line_ends (c ∷ cs) = with_char (line_char c cs) (line_ends cs)
+
+-- White space in values (XML 1.0, 3.3.3): a tab and an LF that stand raw are read as spaces.
+abbrev pub blank : ℕ → ℕ
+blank c = if c == 9 || c == 10 then 32 else c
+
+abbrev pub blanks : List ℕ → List ℕ
+blanks [] = []
+blanks (c ∷ cs) = blank c ∷ blanks cs
+
+-- raw characters of a value
+abbrev pub raw : List ℕ → List ℕ
+raw cs = blanks (line_ends cs)
+
+-- characters from references, each with the raw characters that follow it
+abbrev pub more_value : List (ℕ × List ℕ) → List ℕ
+more_value [] = []
+more_value ((c, cs) ∷ pieces) = c ∷ (raw cs ++ more_value pieces)
+
+-- a value: raw characters, and then references with what follows them
+abbrev pub value_of : List ℕ × List (ℕ × List ℕ) → List ℕ
+value_of x = raw x.0 ++ more_value x.1
+
+-- a name without a prefix, or with one
+abbrev pub qname_by : List ℕ → Option (List ℕ) → Name
+qname_by n None = record { prefix = []; local = n }
+qname_by n (Some l) = record { prefix = n; local = l }
+
+abbrev pub qname_of : List ℕ × Option (List ℕ) → Name
+qname_of x = qname_by x.0 x.1
+
+-- a name as it is written
+abbrev pub written_by : List ℕ → List ℕ → List ℕ
+written_by [] l = l
+written_by (c ∷ cs) l = (c ∷ cs) ++ (colon ++ l)
+
+abbrev pub written : Name → List ℕ
+written n = written_by n.prefix n.local
+
+-- an attribute or a declaration in a tag: its name, its value, how many characters of white space stand before it, and how many it has
+abbrev pub said_of : List ℕ × ((Name × List ℕ) × ℕ) → Said
+said_of x = record { name = x.1.0.0; value = x.1.0.1; gap = length x.0; size = x.1.1 }
+
+-- a start tag, or the tag of an empty element
+pub record Tag : Type 0 where
+  pub name : Name
+  pub said : List Said
+  pub is_empty : Bool
+  pub size : ℕ  -- how many characters it has
+
+abbrev pub tag_of : (Name × (List Said × Bool)) × ℕ → Tag
+tag_of x = record { name = x.0.0; said = x.0.1.0; is_empty = x.0.1.1; size = x.1 }
+
+-- what stands between the runs of characters of content
+pub data Markup : Type 0 where
+  Reference : (char : ℕ) → Markup
+  Section : (chars : List ℕ) → Markup
+  Comment : (chars : List ℕ) → Markup
+  Instruction : Markup
+  Inner : (tree : Tree) → Markup
+
+-- content with a piece of markup behind it
+abbrev pub with_markup : Markup → Content → Content
+with_markup (Reference c) content = with_text (c ∷ []) content
+with_markup (Section cs) content = with_text cs content
+with_markup (Comment cs) content = with_comment cs content
+with_markup Instruction content = content
+with_markup (Inner tree) content = with_elem tree content
+
+-- content with all these pieces behind it, in order, each markup with the characters that follow it
+abbrev pub with_pieces : Content → List (Markup × List ℕ) → Content
+with_pieces content [] = content
+with_pieces content ((m, cs) ∷ pieces) = with_pieces (with_text cs (with_markup m content)) pieces

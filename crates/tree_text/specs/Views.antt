@@ -1,0 +1,20 @@
+-- What the parts of the code stand for in clauses.
+use Rattle.std.specs.Prelude.{Bool, true, false}
+use Rattle.grammar_rules.specs.Digits.{Digits, decimal, hexadecimal}
+use Rattle.xml_tree.specs.declared.names.Name.{Name}
+use Rattle.tree_text.specs.declared.written.Written.{Written}
+use Rattle.tree_text.specs.declared.tags.Tag.{Tag as CodeTag}
+use Rattle.tree_text.specs.Pieces.{Tag}
+
+-- how a numeral is written: with hexadecimal digits, or with decimal ones
+abbrev pub digits_of : Bool → Digits
+digits_of true = hexadecimal
+digits_of false = decimal
+
+-- the name that stands in a text
+abbrev pub name_in : Written → Name
+name_in w = record { prefix = w.prefix.now; local = w.local.now }
+
+-- the tag that the code has read
+abbrev pub tag_in : CodeTag → Tag
+tag_in t = record { name = t.name; said = t.said.items; is_empty = t.is_empty; size = t.size }

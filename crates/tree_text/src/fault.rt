@@ -1,0 +1,64 @@
+//! Why a text or a body can't be read.
+ghost use Rattle.std.specs.Prelude.{◌≡◌};
+ghost use Rattle.tree_text.specs.declared.fault.TextFault.TheVariants as text_faults;
+ghost use Rattle.tree_text.specs.declared.fault.ValueFault.TheVariants as value_faults;
+
+use std::alloc::AllocError;
+use thiserror::Error;
+
+/// Why bytes are no document or fragment. Places are byte offsets. Where several hold, the one with the least place is told;
+/// of two at one place `Namespace`.
+#[derive(Debug, PartialEq, Eq, Drop, Error)]
+pub enum TextFault {
+    /// The bytes aren't UTF-8, or a whole XML declaration names another encoding than UTF-8 and US-ASCII.
+    #[error("not UTF-8")]
+    NotUtf8,
+    /// The longest beginning of a document ends here.
+    #[error("not well-formed at byte {0}")]
+    NotWellFormed(usize),
+    /// A name here has an unbound prefix, or declares what may not be declared (Namespaces in XML 1.0, sections 3 and 5).
+    #[error("namespace error at byte {0}")]
+    Namespace(usize),
+    /// The tag has declared this prefix before, or has an attribute of the same expanded name (section 6.3).
+    #[error("attribute repeated at byte {0}")]
+    RepeatedAttribute(usize),
+    /// A start tag that is deeper than the limit begins here.
+    #[error("too deep at byte {0}")]
+    TooDeep(usize),
+    /// A document type declaration begins here.
+    #[error("document type at byte {0}")]
+    Doctype(usize),
+    /// Want of memory.
+    #[error("out of memory")]
+    NoMemory,
+}
+
+/// Why bytes are no body that spells a value. The place is a byte offset.
+#[derive(Debug, PartialEq, Eq, Drop, Error)]
+pub enum ValueFault {
+    /// The bytes aren't UTF-8.
+    #[error("not UTF-8")]
+    NotUtf8,
+    /// Here stands a `<`, a `&` that begins no reference, or a character that is no Char: the first of them.
+    #[error("not a value at byte {0}")]
+    NotValue(usize),
+    /// Want of memory.
+    #[error("out of memory")]
+    NoMemory,
+}
+
+impl From<AllocError> for TextFault {
+    ghost from_gives = { λ _ e. e ≡ text_faults.NoMemory };
+
+    fn from(_error: AllocError) -> Self {
+        TextFault::NoMemory
+    }
+}
+
+impl From<AllocError> for ValueFault {
+    ghost from_gives = { λ _ e. e ≡ value_faults.NoMemory };
+
+    fn from(_error: AllocError) -> Self {
+        ValueFault::NoMemory
+    }
+}

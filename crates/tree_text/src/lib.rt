@@ -1,0 +1,24 @@
+//! Texts of XML documents, fragments and attribute bodies, read and printed.
+//! It promises that a text is read exactly as its grammar says, each fault with its place, and that what is printed reads back.
+//! XML 1.0 (fifth edition) and Namespaces in XML 1.0, as RFC 4825 exchanges them.
+#![tactic(auto)]
+
+mod fault;
+mod kind;
+mod parts;
+mod said;
+mod stop;
+mod tags;
+mod texts;
+mod values;
+mod written;
+
+pub use fault::{TextFault, ValueFault};
+
+// The parts that the grammar of selectors shares: words, names, references and the raw characters of values.
+pub use kind::Kind;
+pub use parts::word;
+pub use stop::Stop;
+pub use texts::{no_text, text_of};
+pub use values::{quote, raw_run, reference, reference_follows};
+pub use written::{Written, owned, qname};

@@ -1,0 +1,113 @@
+//! Words, white space and names: the parts in which no other rule stands.
+ghost use Rattle.std.specs.Prelude.{◌≡◌, ◌+◌, ◌<◌, length, MatchResult, IfOk, IsOkAnd, Ok};
+ghost use Rattle.grammar_rules.specs.Reading.{head_is, after_front, read_word};
+ghost use Rattle.xml_tree.specs.Characters.{is_space, is_name_start, is_name_char};
+ghost use Rattle.tree_text.specs.Gives.{Gives, Fails};
+ghost use Rattle.tree_text.specs.Runs.{run_len};
+ghost use Rattle.tree_text.specs.Reading.{read_name, read_spaces, read_some_spaces, read_equals};
+
+use crate::stop::Stop;
+use xml_tree::{is_name_char, is_name_start, is_space};
+
+/// What follows a fixed word.
+pub fn word<'a>(text: &'a [char], word: &[char]) -> Result<&'a [char], Stop<'a>>
+    ensures read { Gives (λ rest. (tt, rest.now)) result (read_word word.now text.now) }
+    ensures sizes { IfOk result (λ rest. length word.now + length rest.now ≡ length text.now) }
+{
+    let mut rest = text;
+    for &expected in word {
+        match rest {
+            [found, after @ ..] if *found == expected => rest = after,
+            _ => return Err(Stop::Syntax(rest)),
+        }
+    }
+    Ok(rest)
+}
+
+/// How much white space stands in front.
+#[tactic(auto, using(crate::proofs::RunLemmas::run_more, crate::proofs::RunLemmas::run_done))]
+fn spaces_len(text: &[char]) -> usize
+    ensures { result ≡ run_len is_space text.now }
+{
+    let mut len = 0;
+    for &c in text {
+        if !is_space(c) {
+            return len;
+        }
+        len += 1;
+    }
+    len
+}
+
+/// White space, which may be absent, and what follows it.
+#[tactic(auto, using(crate::proofs::RunLemmas::take_run, crate::proofs::RunLemmas::drop_run, crate::proofs::RunLemmas::run_len_le))]
+pub fn spaces(text: &[char]) -> (&[char], &[char])
+    ensures read { read_spaces text.now ≡ Ok (result.0.now, result.1.now) }
+    ensures sizes { length result.0.now + length result.1.now ≡ length text.now }
+    ensures after { result.1.now ≡ after_front is_space text.now }
+{
+    text.split_at(spaces_len(text))
+}
+
+#[tactic(auto, using(crate::proofs::RunLemmas::run_more, crate::proofs::RunLemmas::run_done))]
+fn name_len(text: &[char]) -> usize
+    ensures { result ≡ run_len is_name_char text.now }
+{
+    let mut len = 0;
+    for &c in text {
+        if !is_name_char(c) {
+            return len;
+        }
+        len += 1;
+    }
+    len
+}
+
+/// A name, and what follows it.
+#[tactic(auto, using(crate::proofs::RunLemmas::name_read, crate::proofs::RunLemmas::run_len_le))]
+pub fn name(text: &[char]) -> Result<(&[char], &[char]), Stop<'_>>
+    ensures read { Gives (λ x. (x.0.now, x.1.now)) result (read_name text.now) }
+    ensures sizes { IfOk result (λ x. length x.0.now + length x.1.now ≡ length text.now) }
+    ensures some { IfOk result (λ x. 0 < length x.0.now) }
+{
+    match text {
+        [first, rest @ ..] if is_name_start(*first) => Ok(text.split_at(1 + name_len(rest))),
+        _ => Err(Stop::Syntax(text)),
+    }
+}
+
+/// White space, which may not be absent, and what follows it.
+#[tactic(auto, using(crate::proofs::RunLemmas::some_read, crate::proofs::RunLemmas::none_read, crate::proofs::RunLemmas::run_len_le))]
+pub fn some_spaces(text: &[char]) -> Result<(&[char], &[char]), Stop<'_>>
+    ensures read { Gives (λ x. (x.0.now, x.1.now)) result (read_some_spaces text.now) }
+    ensures sizes { IfOk result (λ x. length x.0.now + length x.1.now ≡ length text.now) }
+{
+    let len = spaces_len(text);
+    if len == 0 {
+        return Err(Stop::Syntax(text));
+    }
+    Ok(text.split_at(len))
+}
+
+/// Whether white space stands in front.
+pub fn starts_with_space(text: &[char]) -> bool
+    ensures { result ≡ head_is is_space text.now }
+{
+    matches!(text, [c, ..] if is_space(*c))
+}
+
+/// Whether the first character of a name stands in front.
+pub fn starts_with_name(text: &[char]) -> bool
+    ensures { result ≡ head_is is_name_start text.now }
+{
+    matches!(text, [c, ..] if is_name_start(*c))
+}
+
+/// `=` with white space round it: the white space behind it, and what follows.
+pub fn equals(text: &[char]) -> Result<(&[char], &[char]), Stop<'_>>
+    ensures { Gives (λ x. (x.0.now, x.1.now)) result (read_equals text.now) }
+{
+    let (_, rest) = spaces(text);
+    let rest = word(rest, &['='])?;
+    Ok(spaces(rest))
+}

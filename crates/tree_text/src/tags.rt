@@ -1,0 +1,134 @@
+//! Start tags and the tags of empty elements.
+ghost use Rattle.std.specs.Prelude.{◌≡◌, ◌+◌, ◌≤◌, length, map, IfOk, Ok};
+ghost use Rattle.grammar_rules.specs.Reading.{spaced, read_quoted};
+ghost use Rattle.xml_tree.specs.Characters.{is_space, is_name_start};
+ghost use Rattle.tree_text.specs.Gives.{Gives};
+ghost use Rattle.tree_text.specs.Grammar.{is_quote};
+ghost use Rattle.tree_text.specs.Names.{widths, opening};
+ghost use Rattle.tree_text.specs.Reading.{read_value, read_attribute, read_said, read_all_said, said_follows, read_tag_end, read_tag};
+ghost use Rattle.tree_text.specs.Views.{tag_in};
+
+use crate::parts::{equals, some_spaces, spaces, starts_with_name, starts_with_space, word};
+use crate::said::Said;
+use crate::stop::Stop;
+use crate::values::{quote, value};
+use crate::written::{Written, owned, qname};
+use std::alloc::Global;
+use xml_tree::{Name, Text};
+
+/// A start tag, or the tag of an empty element.
+#[derive(Debug, Drop)]
+pub struct Tag<'a> {
+    /// Its name, as it stands in the text.
+    pub written: Written<'a>,
+    pub name: Name,
+    /// Its attributes and declarations, in order.
+    pub said: Vec<Said>,
+    pub is_empty: bool,
+    /// How many characters it has.
+    pub size: usize,
+}
+
+/// A value in quotes, and what follows it.
+fn quoted(alloc: Global, text: &[char]) -> Result<(Text, &[char]), Stop<'_>>
+    ensures { Gives (λ x. (x.0, x.1.now)) result (read_quoted is_quote read_value text.now) }
+{
+    let (quote, rest) = quote(text)?;
+    let (value, rest) = value(alloc, rest, quote)?;
+    Ok((value, word(rest, &[quote])?))
+}
+
+/// A name, Eq and a value in quotes, and what follows them.
+fn attribute(alloc: Global, text: &[char]) -> Result<(Name, Text, &[char]), Stop<'_>>
+    ensures { Gives (λ x. ((x.0, x.1), x.2.now)) result (read_attribute text.now) }
+{
+    let (name, rest) = qname(text)?;
+    let (_, rest) = equals(rest)?;
+    let (value, rest) = quoted(alloc, rest)?;
+    let name = owned(alloc, &name)?;
+    Ok((name, value, rest))
+}
+
+/// An attribute behind white space, and what follows it.
+fn one_said(alloc: Global, text: &[char]) -> Result<(Said, &[char]), Stop<'_>>
+    ensures read { Gives (λ x. (x.0, x.1.now)) result (read_said text.now) }
+    ensures sizes { IfOk result (λ x. x.0.gap + x.0.size + length x.1.now ≡ length text.now) }
+{
+    let (white, from) = some_spaces(text)?;
+    let (name, value, rest) = attribute(alloc, from)?;
+    let said = Said {
+        name,
+        value,
+        gap: white.len(),
+        size: from.len() - rest.len(),
+    };
+    Ok((said, rest))
+}
+
+/// Whether an attribute follows behind white space.
+fn said_follows(text: &[char]) -> bool
+    ensures { result ≡ said_follows text.now }
+{
+    if !starts_with_space(text) {
+        return false;
+    }
+    let (_, rest) = spaces(text);
+    starts_with_name(rest)
+}
+
+/// All attributes, each behind white space, and what follows them.
+fn all_said(alloc: Global, text: &[char]) -> Result<(Vec<Said>, &[char]), Stop<'_>>
+    ensures read { Gives (λ x. (x.0.items, x.1.now)) result (read_all_said text.now) }
+    ensures sizes { IfOk result (λ x. widths x.0.items + length x.1.now ≡ length text.now) }
+{
+    let mut all = Vec::new(alloc);
+    let mut rest = text;
+    for _ in 0..text.len() {
+        if !said_follows(rest) {
+            break;
+        }
+        let (said, after) = one_said(alloc, rest)?;
+        all.push(said)?;
+        rest = after;
+    }
+    Ok((all, rest))
+}
+
+/// Whether the tag is that of an empty element, and what follows its end.
+fn tag_end(text: &[char]) -> Result<(bool, &[char]), Stop<'_>>
+    ensures read { Gives (λ x. (x.0, x.1.now)) result (read_tag_end text.now) }
+    ensures sizes { IfOk result (λ x. length x.1.now ≤ length text.now) }
+{
+    match text {
+        ['/', ..] => {
+            let rest = word(text, &['/', '>'])?;
+            Ok((true, rest))
+        }
+        _ => {
+            let rest = word(text, &['>'])?;
+            Ok((false, rest))
+        }
+    }
+}
+
+/// A tag, and what follows it.
+pub fn whole_tag(alloc: Global, text: &[char]) -> Result<(Tag<'_>, &[char]), Stop<'_>>
+    ensures read { Gives (λ x. (tag_in x.0, x.1.now)) result (read_tag text.now) }
+    ensures sizes { IfOk result (λ x. opening (tag_in x.0) + widths x.0.said.items ≤ length text.now) }
+{
+    let rest = word(text, &['<'])?;
+    let (written, rest) = qname(rest)?;
+    let (said, rest) = all_said(alloc, rest)?;
+    let (_, rest) = spaces(rest);
+    let (is_empty, rest) = tag_end(rest)?;
+    let name = owned(alloc, &written)?;
+    let size = text.len() - rest.len();
+    let tag = Tag {
+        written,
+        name,
+        said,
+        is_empty,
+        size,
+    };
+    Ok((tag, rest))
+}

@@ -1,0 +1,23 @@
+//! Texts that are made of characters.
+ghost use Rattle.std.specs.Prelude.{◌≡◌, [], IfOk};
+
+use std::alloc::{AllocError, Global};
+use xml_tree::Text;
+
+/// An empty text. Takes no memory.
+pub fn no_text(alloc: Global) -> Text
+    ensures { result ≡ [] }
+{
+    Text::own(String::new(alloc))
+}
+
+/// A text of these characters.
+pub fn text_of(alloc: Global, chars: &[char]) -> Result<Text, AllocError>
+    ensures { IfOk result (λ text. text ≡ chars.now) }
+{
+    let mut text = no_text(alloc);
+    for &c in chars {
+        text.push(c)?;
+    }
+    Ok(text)
+}

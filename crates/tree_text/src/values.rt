@@ -1,0 +1,230 @@
+//! References, and values between quotes.
+ghost use Rattle.std.specs.Prelude.{◌≡◌, ◌+◌, ◌≤◌, ◌<◌, ◌++◌, true, false, [], ◌∷◌, length, map, MatchOption, OnOk, Ok, option_map};
+ghost use Rattle.grammar_rules.specs.Reading.{read_one, read_number};
+ghost use Rattle.xml_tree.specs.Characters.{is_char};
+ghost use Rattle.tree_text.specs.Gives.{Gives};
+ghost use Rattle.tree_text.specs.Runs.{run_len};
+ghost use Rattle.tree_text.specs.Pieces.{line_char, with_char, blank, raw, line_ends};
+ghost use Rattle.tree_text.specs.Views.{digits_of};
+ghost use Rattle.tree_text.specs.Grammar.{last_char, is_quote, is_raw, is_raw_in};
+ghost use Rattle.tree_text.specs.Reading.{read_stands_for, read_entity, read_numbered, read_named, read_reference, read_raw, reference_follows, read_value};
+
+use crate::parts::word;
+use crate::stop::Stop;
+use crate::texts::no_text;
+use std::alloc::{AllocError, Global};
+use xml_tree::{Text, is_char};
+
+/// What a digit is worth, where numbers are written in hexadecimal or in decimal digits.
+fn digit(c: char, hexadecimal: bool) -> Option<u32>
+    ensures { MatchOption result ((digits_of hexadecimal).is_digit c ≡ false) (λ d. ((digits_of hexadecimal).is_digit c ≡ true) × (d ≡ (digits_of hexadecimal).value c) × (d < 16)) }
+{
+    match c {
+        '0'..='9' => Some(c as u32 - 48),
+        'A'..='F' if hexadecimal => Some(c as u32 - 55),
+        'a'..='f' if hexadecimal => Some(c as u32 - 87),
+        _ => None,
+    }
+}
+
+fn base(hexadecimal: bool) -> u32
+    ensures value { result ≡ (digits_of hexadecimal).base }
+    ensures small { result ≤ 16 }
+{
+    if hexadecimal { 16 } else { 10 }
+}
+
+/// The Char whose number stands here, and what follows it.
+fn number(text: &[char], hexadecimal: bool) -> Result<(char, &[char]), Stop<'_>>
+    ensures { Gives (λ x. (x.0, x.1.now)) result (read_number (digits_of hexadecimal) last_char is_char text.now) }
+{
+    let base = base(hexadecimal);
+    let mut value = 0u32;
+    let mut rest = text;
+    while let [c, after @ ..] = rest {
+        let Some(digit) = digit(*c, hexadecimal) else {
+            break;
+        };
+        if value * base + digit > 0x10FFFF {
+            return Err(Stop::Syntax(rest));
+        }
+        value = value * base + digit;
+        rest = after;
+    }
+    match char::from_u32(value) {
+        Some(c) if is_char(c) && rest.len() < text.len() => Ok((c, rest)),
+        _ => Err(Stop::Syntax(rest)),
+    }
+}
+
+/// `#` and a number.
+fn numbered(text: &[char]) -> Result<(char, &[char]), Stop<'_>>
+    ensures { Gives (λ x. (x.0, x.1.now)) result (read_numbered text.now) }
+{
+    let rest = word(text, &['#'])?;
+    if let ['x', ..] = rest {
+        let rest = word(rest, &['x'])?;
+        return number(rest, true);
+    }
+    number(rest, false)
+}
+
+/// The name of an entity, which stands for this character.
+fn stands_for<'a>(c: char, text: &'a [char], name: &[char]) -> Result<(char, &'a [char]), Stop<'a>>
+    ensures { Gives (λ x. (x.0, x.1.now)) result (read_stands_for c name.now text.now) }
+{
+    let rest = word(text, name)?;
+    Ok((c, rest))
+}
+
+/// The character that an entity stands for, and what follows its name.
+fn entity(text: &[char]) -> Result<(char, &[char]), Stop<'_>>
+    ensures { Gives (λ x. (x.0, x.1.now)) result (read_entity text.now) }
+{
+    match text {
+        ['l', ..] => stands_for('<', text, &['l', 't']),
+        ['g', ..] => stands_for('>', text, &['g', 't']),
+        ['q', ..] => stands_for('"', text, &['q', 'u', 'o', 't']),
+        ['a', 'p', ..] => stands_for('\'', text, &['a', 'p', 'o', 's']),
+        _ => stands_for('&', text, &['a', 'm', 'p']),
+    }
+}
+
+/// A number or the name of an entity.
+fn named(text: &[char]) -> Result<(char, &[char]), Stop<'_>>
+    ensures { Gives (λ x. (x.0, x.1.now)) result (read_named text.now) }
+{
+    match text {
+        ['#', ..] => numbered(text),
+        _ => entity(text),
+    }
+}
+
+/// The character that a reference stands for, and what follows it.
+pub fn reference(text: &[char]) -> Result<(char, &[char]), Stop<'_>>
+    ensures { Gives (λ x. (x.0, x.1.now)) result (read_reference text.now) }
+{
+    let rest = word(text, &['&'])?;
+    let (c, rest) = named(rest)?;
+    Ok((c, word(rest, &[';'])?))
+}
+
+/// A quote, and what follows it.
+pub fn quote(text: &[char]) -> Result<(char, &[char]), Stop<'_>>
+    ensures { Gives (λ x. (x.0, x.1.now)) result (read_one is_quote text.now) }
+{
+    match text {
+        [quote, rest @ ..] if *quote == '"' || *quote == '\'' => Ok((*quote, rest)),
+        _ => Err(Stop::Syntax(text)),
+    }
+}
+
+/// Whether a character stands raw in content.
+pub fn is_raw(c: char) -> bool
+    ensures { result ≡ is_raw c }
+{
+    is_char(c) && c != '<' && c != '&'
+}
+
+/// How many raw characters stand in front, in a value between these quotes.
+#[tactic(auto, using(crate::proofs::RunLemmas::run_more, crate::proofs::RunLemmas::run_done))]
+fn raw_len(text: &[char], quote: char) -> usize
+    ensures { result ≡ run_len (is_raw_in quote) text.now }
+{
+    let mut len = 0;
+    for &c in text {
+        if !is_raw(c) || c == quote {
+            return len;
+        }
+        len += 1;
+    }
+    len
+}
+
+/// The raw characters of a value between these quotes, and what follows them.
+#[tactic(auto, using(crate::proofs::RunLemmas::take_run, crate::proofs::RunLemmas::drop_run, crate::proofs::RunLemmas::run_len_le))]
+pub fn raw_run(text: &[char], quote: char) -> (&[char], &[char])
+    ensures { read_raw quote text.now ≡ Ok (result.0.now, result.1.now) }
+{
+    text.split_at(raw_len(text, quote))
+}
+
+/// How a character is read that these follow: a CR before a LF as nothing.
+fn line_char(c: char, after: &[char]) -> Option<char>
+    ensures { result ≡ line_char c after.now }
+{
+    match c {
+        '\r' => match after {
+            ['\n', ..] => None,
+            _ => Some('\n'),
+        },
+        _ => Some(c),
+    }
+}
+
+/// How a raw character is read in a value.
+fn blank(c: char) -> char
+    ensures { result ≡ blank c }
+{
+    match c {
+        '\t' | '\n' => ' ',
+        _ => c,
+    }
+}
+
+/// Adds a raw character of a value, which these follow.
+fn push_raw_char(value: &mut Text, c: char, after: &[char]) -> Result<(), AllocError>
+    ensures { OnOk result (value.new ≡ value.old ++ with_char (option_map blank (line_char c after.now)) []) }
+{
+    match line_char(c, after) {
+        Some(c) => value.push(blank(c)),
+        None => Ok(()),
+    }
+}
+
+/// Adds raw characters of a value, as they are read.
+fn push_raw(value: &mut Text, run: &[char]) -> Result<(), AllocError>
+    ensures { OnOk result (value.new ≡ value.old ++ raw run.now) }
+{
+    let mut rest = run;
+    while let [c, after @ ..] = rest {
+        push_raw_char(value, *c, after)?;
+        rest = after;
+    }
+    Ok(())
+}
+
+/// Whether a reference follows.
+pub fn reference_follows(text: &[char]) -> bool
+    ensures { result ≡ reference_follows text.now }
+{
+    matches!(text, ['&', ..])
+}
+
+/// Adds a character from a reference, and the raw characters behind it.
+fn push_piece(value: &mut Text, c: char, run: &[char]) -> Result<(), AllocError>
+    ensures { OnOk result (value.new ≡ value.old ++ (c ∷ raw run.now)) }
+{
+    value.push(c)?;
+    push_raw(value, run)
+}
+
+/// A value up to its quote, and what follows it.
+pub fn value(alloc: Global, text: &[char], quote: char) -> Result<(Text, &[char]), Stop<'_>>
+    ensures { Gives (λ x. (x.0, x.1.now)) result (read_value quote text.now) }
+{
+    let mut value = no_text(alloc);
+    let (first, start) = raw_run(text, quote);
+    push_raw(&mut value, first)?;
+    let mut rest = start;
+    for _ in 0..start.len() {
+        if !reference_follows(rest) {
+            break;
+        }
+        let (c, after) = reference(rest)?;
+        let (more, after) = raw_run(after, quote);
+        push_piece(&mut value, c, more)?;
+        rest = after;
+    }
+    Ok((value, rest))
+}

@@ -1,0 +1,86 @@
+//! Names as they stand in a text.
+ghost use Rattle.std.specs.Prelude.{◌≡◌, ◌+◌, ◌<◌, length, IfOk};
+ghost use Rattle.grammar_rules.specs.Reading.{head_is, read_word};
+ghost use Rattle.tree_text.specs.Gives.{Gives};
+ghost use Rattle.tree_text.specs.Pieces.{written};
+ghost use Rattle.tree_text.specs.Reading.{colon_follows, read_qname, read_end_tag};
+ghost use Rattle.tree_text.specs.Views.{name_in};
+
+use crate::parts::{name, spaces, word};
+use crate::stop::Stop;
+use crate::texts::text_of;
+use std::alloc::{AllocError, Global};
+use xml_tree::Name;
+
+/// A name in a text: its prefix, empty where it has none, and its local part.
+#[derive(Clone, Copy, Debug)]
+pub struct Written<'a> {
+    pub prefix: &'a [char],
+    pub local: &'a [char],
+}
+
+fn colon_follows(text: &[char]) -> bool
+    ensures { result ≡ colon_follows text.now }
+{
+    matches!(text, [':', ..])
+}
+
+/// A name, with a prefix or without, and what follows it.
+#[tactic(auto, using(crate::proofs::NameLemmas::prefixed_size))]
+pub fn qname(text: &[char]) -> Result<(Written<'_>, &[char]), Stop<'_>>
+    ensures read { Gives (λ x. (name_in x.0, x.1.now)) result (read_qname text.now) }
+    ensures sizes { IfOk result (λ x. length (written (name_in x.0)) + length x.1.now ≡ length text.now) }
+{
+    let (first, rest) = name(text)?;
+    if !colon_follows(rest) {
+        let prefix = &first[..0];
+        return Ok((
+            Written {
+                prefix,
+                local: first,
+            },
+            rest,
+        ));
+    }
+    let rest = word(rest, &[':'])?;
+    let (local, rest) = name(rest)?;
+    Ok((
+        Written {
+            prefix: first,
+            local,
+        },
+        rest,
+    ))
+}
+
+/// What follows a name that is written as this one.
+#[tactic(auto, using(crate::proofs::NameLemmas::word_then, crate::proofs::NameLemmas::prefixed))]
+fn same_name<'a>(text: &'a [char], name: &Written<'_>) -> Result<&'a [char], Stop<'a>>
+    ensures { Gives (λ rest. (tt, rest.now)) result (read_word (written (name_in name.now)) text.now) }
+{
+    if name.prefix.is_empty() {
+        return word(text, name.local);
+    }
+    let rest = word(text, name.prefix)?;
+    let rest = word(rest, &[':'])?;
+    word(rest, name.local)
+}
+
+/// What follows the end tag of an element of this name.
+pub fn end_tag<'a>(text: &'a [char], name: &Written<'_>) -> Result<&'a [char], Stop<'a>>
+    ensures { Gives (λ rest. (tt, rest.now)) result (read_end_tag (name_in name.now) text.now) }
+{
+    let rest = word(text, &['<', '/'])?;
+    let rest = same_name(rest, name)?;
+    let (_, rest) = spaces(rest);
+    word(rest, &['>'])
+}
+
+/// A name that owns its parts.
+pub fn owned(alloc: Global, name: &Written<'_>) -> Result<Name, AllocError>
+    ensures { IfOk result (λ owned. owned ≡ name_in name.now) }
+{
+    let prefix = text_of(alloc, name.prefix)?;
+    let local = text_of(alloc, name.local)?;
+    Ok(Name { prefix, local })
+}
