@@ -3,3 +3,4 @@ pub mod Loops
 pub mod Shrinks
 pub mod NameLemmas
 pub mod TagLemmas
+pub mod JudgeLemmas

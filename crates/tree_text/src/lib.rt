@@ -5,6 +5,7 @@
 
 mod fault;
 mod kind;
+mod names;
 mod parts;
 mod said;
 mod stop;
