@@ -12,3 +12,7 @@ read_piece quote = read_sequence read_reference (λ _. read_raw quote)
 -- a value so far, and the pieces that follow
 abbrev pub value_with : List ℕ → List (ℕ × List ℕ) → List ℕ
 value_with front pieces = front ++ more_value pieces
+
+-- what spells nothing, and more of it
+abbrev pub nothing_with : Unit {0} → List (Unit {0} × Unit {0}) → Unit {0}
+nothing_with so_far more = tt

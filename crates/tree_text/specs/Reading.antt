@@ -95,20 +95,34 @@ read_end_tag n = read_behind (read_word end_start) (read_behind (read_word (writ
 
 -- ---- content
 
+abbrev pub read_comment_inside : Reader Kind (List ℕ)
+read_comment_inside = read_behind (read_word comment_start) (read_before (read_up_to is_char dashes) (read_word greater))
+
 abbrev pub read_comment : Reader Kind (List ℕ)
-read_comment = read_valued line_ends (read_behind (read_word comment_start) (read_before (read_up_to is_char dashes) (read_word greater)))
+read_comment = read_valued line_ends read_comment_inside
 
 abbrev pub read_section : Reader Kind (List ℕ)
 read_section = read_valued line_ends (read_behind (read_word section_start) (read_up_to is_char section_end))
 
-abbrev pub read_instructed : Reader Kind (List ℕ)
-read_instructed = read_either (λ t. not (head_is is_space t)) (read_valued (λ _. []) (read_word instruction_end)) (read_behind (read_one is_space) (read_up_to is_char instruction_end))
+abbrev pub read_dropped : {A : Type 0} → Reader Kind A → Reader Kind (Unit {0})
+read_dropped p = read_valued (λ _. tt) p
 
-abbrev pub read_instruction : Reader Kind (List ℕ)
+-- white space follows
+abbrev pub space_follows : List ℕ → Bool
+space_follows = head_is is_space
+
+abbrev pub read_instructed : Reader Kind (Unit {0})
+read_instructed = read_either space_follows (read_dropped (read_behind (read_one is_space) (read_up_to is_char instruction_end))) (read_word instruction_end)
+
+abbrev pub read_instruction : Reader Kind (Unit {0})
 read_instruction = read_behind (read_word instruction_start) (read_behind (read_only is_target read_name) read_instructed)
 
+-- raw characters of content
+abbrev pub read_raw_run : Reader Kind (List ℕ)
+read_raw_run = read_run_without is_raw section_end
+
 abbrev pub read_chars : Reader Kind (List ℕ)
-read_chars = read_valued line_ends (read_run_without is_raw section_end)
+read_chars = read_valued line_ends read_raw_run
 
 abbrev pub read_markup : Reader Kind Tree → Reader Kind Markup
 read_markup inner =
@@ -171,20 +185,23 @@ encoding_fault (Some e) = if is_our_encoding e then None else Some (Encoded, 2)
 abbrev pub declaration_follows : List ℕ → Bool
 declaration_follows t = starts (declaration_start ++ 32 ∷ []) t || starts (declaration_start ++ 9 ∷ []) t || starts (declaration_start ++ 10 ∷ []) t || starts (declaration_start ++ 13 ∷ []) t
 
-abbrev pub read_misc : Reader Kind (List ℕ)
-read_misc = read_either (starts bang) read_comment read_instruction
+abbrev pub read_misc : Reader Kind (Unit {0})
+read_misc = read_either (starts bang) (read_dropped read_comment) read_instruction
 
 -- `<!` or `<?`
 abbrev pub misc_follows : List ℕ → Bool
 misc_follows t = starts bang t || starts instruction_start t
 
-abbrev pub read_miscs : Reader Kind (List ℕ) → Reader Kind (List ℕ × List (List ℕ × List ℕ))
-read_miscs one_more = read_between misc_follows read_spaces one_more
+abbrev pub read_miscs : Reader Kind (Unit {0}) → Reader Kind (Unit {0})
+read_miscs one_more = read_dropped (read_between misc_follows (read_dropped read_spaces) one_more)
 
-abbrev pub read_prolog : Reader Kind (List ℕ × List (List ℕ × List ℕ))
-read_prolog = read_miscs (read_either (starts (bang ++ doctype)) (read_trap Doctyped bang doctype) read_misc)
+abbrev pub read_prolog_misc : Reader Kind (Unit {0})
+read_prolog_misc = read_either (starts (bang ++ doctype)) (read_trap Doctyped bang doctype) read_misc
 
-abbrev pub read_epilog : Reader Kind (List ℕ × List (List ℕ × List ℕ))
+abbrev pub read_prolog : Reader Kind (Unit {0})
+read_prolog = read_miscs read_prolog_misc
+
+abbrev pub read_epilog : Reader Kind (Unit {0})
 read_epilog = read_miscs read_misc
 
 -- a document, with so many levels

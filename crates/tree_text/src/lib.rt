@@ -5,8 +5,10 @@
 
 mod fault;
 mod kind;
+mod markup;
 mod names;
 mod parts;
+mod runs;
 mod said;
 mod stop;
 mod tags;
