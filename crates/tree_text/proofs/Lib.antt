@@ -4,3 +4,4 @@ pub mod Shrinks
 pub mod NameLemmas
 pub mod TagLemmas
 pub mod JudgeLemmas
+pub mod CommentLemmas
