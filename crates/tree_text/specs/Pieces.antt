@@ -5,6 +5,8 @@ use Rattle.xml_tree.specs.Edits.{with_text, with_elem, with_comment}
 use Rattle.xml_tree.specs.declared.names.Name.{Name}
 use Rattle.std.specs.Char.{to_ascii_lowercase}
 use Rattle.grammar_rules.specs.Reading.{head_is}
+use Rattle.tree_text.specs.declared.markup.Markup.{Markup}
+use Rattle.tree_text.specs.declared.markup.Markup.TheVariants.{Reference, Section, Comment, Instruction, Inner}
 use Rattle.tree_text.specs.declared.said.Said.{Said}
 use Rattle.tree_text.specs.Words.{colon}
 
@@ -77,14 +79,6 @@ same_letters [] [] = true
 same_letters [] (d ∷ ds) = false
 same_letters (c ∷ cs) [] = false
 same_letters (c ∷ cs) (d ∷ ds) = if to_ascii_lowercase c == d then same_letters cs ds else false
-
--- what stands between the runs of characters of content
-pub data Markup : Type 0 where
-  Reference : (char : ℕ) → Markup
-  Section : (chars : List ℕ) → Markup
-  Comment : (chars : List ℕ) → Markup
-  Instruction : Markup
-  Inner : (tree : Tree) → Markup
 
 -- content with a piece of markup behind it
 abbrev pub with_markup : Markup → Content → Content

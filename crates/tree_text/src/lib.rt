@@ -4,8 +4,10 @@
 #![tactic(auto)]
 
 mod fault;
+mod elements;
 mod kind;
 mod markup;
+mod pieces;
 mod names;
 mod parts;
 mod runs;

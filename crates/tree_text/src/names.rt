@@ -4,10 +4,12 @@ ghost use Rattle.std.specs.Str.{bytes_eq};
 ghost use Rattle.xml_tree.specs.Scopes.{xml_prefix, xmlns_prefix, xml_uri, xmlns_uri};
 ghost use Rattle.xml_tree.specs.Expanded.{attr_name, same_uri, same_expanded};
 ghost use Rattle.xml_tree.specs.Proper.{may_stand};
-ghost use Rattle.tree_text.specs.Names.{declares, decl_of, decls_of, attr_of, attrs_of, is_unbound, is_misnamed, says_again, is_repeated, wrong_said, widths, first_wrong};
+ghost use Rattle.tree_text.specs.Names.{declares, decl_of, decls_of, attr_of, attrs_of, is_unbound, is_misnamed, says_again, is_repeated, wrong_said, widths, opening, first_wrong, first_of_tag};
+ghost use Rattle.tree_text.specs.Views.{tag_in};
 
 use crate::kind::Kind;
 use crate::said::Said;
+use crate::tags::Tag;
 use crate::texts::no_text;
 use std::alloc::{AllocError, Global};
 use xml_tree::{Attr, Decl, Name, Scope, Text};
@@ -265,4 +267,16 @@ pub fn first_wrong(here: &Scope<'_>, all: &[Said], opening: usize) -> Option<(Ki
         at += said.gap + said.size;
     }
     None
+}
+
+/// The first wrong name of a tag, in the scope inside it, and how many characters of the tag stand before it.
+pub fn first_of_tag(here: &Scope<'_>, tag: &Tag<'_>) -> Option<(Kind, usize)>
+    requires opening { tag.now.opening ≡ opening (tag_in tag.now) }
+    requires fits { tag.now.opening + widths tag.now.said.items < 2 ^ 64 }
+    ensures { result ≡ first_of_tag here.now (tag_in tag.now) }
+{
+    if is_unbound(here, &tag.name) {
+        return Some((Kind::Unbound, 1));
+    }
+    first_wrong(here, &tag.said, tag.opening)
 }

@@ -5,8 +5,8 @@ use Rattle.tree_text.specs.declared.kind.Kind.{Kind}
 use Rattle.tree_text.specs.Members.{nothing_with}
 use Rattle.tree_text.specs.Reading.{misc_follows, read_dropped, read_spaces, read_misc, read_epilog}
 use Rattle.tree_text.proofs.Loops.{start, both_ok, first_stops, goes_on, ends, is_done, is_stopped, dropped_ok}
-use Rattle.tree_text.proofs.markup.epilog.Goals as goal
-use Rattle.tree_text.proofs.markup.epilog.Goals.{else-loop-test, then-loop-test+then-not-misc_follows}
+use Rattle.tree_text.proofs.pieces.epilog.Goals as goal
+use Rattle.tree_text.proofs.pieces.epilog.Goals.{else-loop-test, then-loop-test+then-not-misc_follows}
 
 pub loop-init : goal.loop-init
 loop-init c =
