@@ -44,7 +44,7 @@ fn judged_tag<'a>(
 {
     let (tag, rest) = whole_tag(alloc, text)?;
     let decls = decls_of(alloc, &tag.said)?;
-    if let Some((kind, at)) = first_of_tag(&scope.with(&decls), &tag) {
+    if let Some((kind, at)) = first_of_tag(&scope.inside(&decls), &tag) {
         let place = before(text, rest, tag.size.saturating_sub(at));
         return Err(Stop::Faulty(kind, place));
     }
@@ -154,4 +154,131 @@ fn no_level(text: &[char], depth: usize) -> Stop<'_>
         }
         _ => Stop::Syntax(text),
     }
+}
+
+/// A piece of markup, and what follows it.
+#[cycle(element)]
+fn markup<'a>(
+    alloc: Global,
+    text: &'a [char],
+    scope: &Scope<'_>,
+    depth: usize,
+    levels: usize,
+) -> Result<(Markup, &'a [char]), Stop<'a>>
+    requires lists { length scope.now + levels ≤ 67 }
+    requires deep { depth + levels ≤ 1000 }
+    ensures read { Gives (λ x. (x.0, x.1.now)) result (read_markup (read_element levels scope.now depth) text.now) }
+    ensures may_stand { IfOk result (λ x. MayStand x.0) }
+{
+    if let ['&', ..] = text {
+        let (c, rest) = reference(text)?;
+        return Ok((Markup::Reference(c), rest));
+    }
+    if starts(text, &['<', '!', '[']) {
+        let (chars, rest) = section(alloc, text)?;
+        return Ok((Markup::Section(chars), rest));
+    }
+    if starts(text, &['<', '!']) {
+        let (chars, rest) = comment(alloc, text)?;
+        return Ok((Markup::Comment(chars), rest));
+    }
+    if starts(text, &['<', '?']) {
+        let rest = instruction(text)?;
+        return Ok((Markup::Instruction, rest));
+    }
+    let (inner, rest) = element(alloc, text, scope, depth, levels)?;
+    Ok((Markup::Inner(inner), rest))
+}
+
+/// Content, as that of an element of this name, and what follows it.
+#[cycle(element)]
+fn content<'a>(
+    alloc: Global,
+    text: &'a [char],
+    scope: &Scope<'_>,
+    depth: usize,
+    levels: usize,
+    name: Name,
+) -> Result<(Element, &'a [char]), Stop<'a>>
+    requires lists { length scope.now + levels ≤ 67 }
+    requires deep { depth + levels ≤ 1000 }
+    ensures { Gives (λ x. (x.0, x.1.now)) result (read_bare (read_element levels scope.now depth) name text.now) }
+{
+    let mut element = Element::new(alloc, name);
+    let (first, start) = raw_run(text);
+    push_run(alloc, &mut element, first)?;
+    let mut rest = start;
+    for _ in 0..start.len() {
+        if !markup_follows(rest) {
+            break;
+        }
+        let (markup, after) = markup(alloc, rest, scope, depth, levels)?;
+        let (run, after) = raw_run(after);
+        push_piece(alloc, &mut element, markup, run)?;
+        rest = after;
+    }
+    Ok((element, rest))
+}
+
+/// What stands behind a tag, as content of an element of its name, and what follows.
+#[cycle(element)]
+fn behind_tag<'a>(
+    alloc: Global,
+    text: &'a [char],
+    scope: &Scope<'_>,
+    depth: usize,
+    levels: usize,
+    written: &Written<'_>,
+    name: Name,
+    is_empty: bool,
+) -> Result<(Element, &'a [char]), Stop<'a>>
+    requires lists { length scope.now + levels ≤ 67 }
+    requires deep { depth + levels ≤ 1000 }
+    requires named { name ≡ name_in written.now }
+    ensures { Gives (λ x. (x.0, x.1.now)) result (read_bare_behind (read_element levels scope.now depth) name is_empty text.now) }
+{
+    if is_empty {
+        return Ok((Element::new(alloc, name), text));
+    }
+    let (element, rest) = content(alloc, text, scope, depth, levels, name)?;
+    let rest = end_tag(rest, written)?;
+    Ok((element, rest))
+}
+
+/// An element at this depth, with this many levels at most, and what follows it.
+#[cycle(element)]
+pub fn element<'a>(
+    alloc: Global,
+    text: &'a [char],
+    scope: &Scope<'_>,
+    depth: usize,
+    levels: usize,
+) -> Result<(Element, &'a [char]), Stop<'a>>
+    requires lists { length scope.now + levels ≤ 67 }
+    requires deep { depth + levels ≤ 1000 }
+    ensures { Gives (λ x. (x.0, x.1.now)) result (read_element levels scope.now depth text.now) }
+{
+    let Some(inner) = levels.checked_sub(1) else {
+        return Err(no_level(text, depth));
+    };
+    let (tag, decls, rest) = judged_tag(alloc, text, scope)?;
+    let Tag {
+        written,
+        name,
+        said,
+        is_empty,
+        opening: _,
+        size: _,
+    } = tag;
+    let (bare, rest) = behind_tag(
+        alloc,
+        rest,
+        &scope.inside(&decls),
+        depth + 1,
+        inner,
+        &written,
+        name,
+        is_empty,
+    )?;
+    Ok((dressed(alloc, bare, decls, said)?, rest))
 }

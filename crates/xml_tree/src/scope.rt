@@ -76,6 +76,26 @@ impl<'a> Scope<'a> {
         }
     }
 
+    /// The scope with one list more, for as long as that list is lent. Takes no memory.
+    pub fn inside<'b>(&self, decls: &'b [Decl]) -> Scope<'b>
+    where
+        'a: 'b,
+        requires { length self.now < SCOPE_LIMIT }
+        ensures { result ≡ self.now ++ decls.now ∷ [] }
+    {
+        let mut lists = [decls; 67];
+        let mut len = 0;
+        for &list in &self.lists[..self.len] {
+            lists[len] = list;
+            len += 1;
+        }
+        lists[len] = decls;
+        Scope {
+            lists,
+            len: len + 1,
+        }
+    }
+
     /// An equal scope, which borrows the same lists. Takes no memory.
     pub fn copy(&self) -> Scope<'a>
         ensures { result ≡ self.now }
