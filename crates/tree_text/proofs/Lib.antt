@@ -5,3 +5,4 @@ pub mod NameLemmas
 pub mod TagLemmas
 pub mod JudgeLemmas
 pub mod CommentLemmas
+pub mod ElementLemmas
