@@ -129,7 +129,7 @@ pub without_len_le : (p : ℕ → Bool) (w xs : List ℕ) → without_len p w xs
 without_len_le p w [] = omega arith
 without_len_le p w (c ∷ cs) = le_either (starts w (c ∷ cs)) (p c) (length w - 1) (without_len p w cs) (length cs) (λ t. let r = starts_front w (c ∷ cs) t in omega (arith, ap length r.1, length-append w r.0)) (without_len_le p w cs)
 
-rest_of_drop : (n : ℕ) (xs : List ℕ) → take (length xs - n) (drop n xs) ≡ drop n xs
+pub rest_of_drop : (n : ℕ) (xs : List ℕ) → take (length xs - n) (drop n xs) ≡ drop n xs
 rest_of_drop n xs = let e : length xs - n ≡ length (drop n xs) = omega (arith, length-drop n xs) in rw e (take-length (drop n xs))
 
 -- a run up to a word: the loop that looks for it

@@ -158,8 +158,8 @@ element (suc n) scope depth =
 -- ---- documents
 
 -- [26] VersionNum: `1.` and digits
-abbrev pub version_number : Rule Kind (List ℕ)
-version_number = behind (word one_dot) (some_of is_digit)
+abbrev pub version_number : Rule Kind (Unit {0})
+version_number = dropped (behind (word one_dot) (some_of is_digit))
 
 -- [81] EncName: a letter, and letters, digits, `.`, `_` and `-`
 abbrev pub is_letter : ℕ → Bool
@@ -210,7 +210,8 @@ epilog = miscs misc
 -- [1] document: perhaps a byte order mark, perhaps an XML declaration, Misc, one element, Misc. A fragment is the same, in a scope.
 abbrev pub document : ℕ → List (List Decl) → Rule Kind Tree
 document n scope =
-    behind (optional (word byte_order_mark)) (behind (optional (judged IsForeign xml_declaration)) (behind prolog (before (element n scope 1) epilog)))
+    behind (dropped (optional (word byte_order_mark))) (behind (dropped (optional (judged IsForeign xml_declaration)))
+    (behind prolog (before (element n scope 1) epilog)))
 
 -- ---- bodies that spell a value
 

@@ -1,6 +1,6 @@
 -- Reading functions, one for each rule of the grammar: they read from left to right, and a test of what comes next tells which
 -- member of a choice is read, and whether a repetition goes on.
-use Rattle.std.specs.Prelude.{ℕ, zero, suc, ◌+◌, Bool, true, false, ◌&&◌, ◌||◌, ◌==◌, not, List, [], ◌∷◌, ◌++◌, Option, None, Some, if◌then◌else◌}
+use Rattle.std.specs.Prelude.{drop, ℕ, zero, suc, ◌+◌, Bool, true, false, ◌&&◌, ◌||◌, ◌==◌, not, List, [], ◌∷◌, ◌++◌, Option, None, Some, if◌then◌else◌}
 use Rattle.xml_tree.specs.Characters.{is_char, is_space, is_name_start, is_name_char}
 use Rattle.xml_tree.specs.Tree.{Content, last, Tree}
 use Rattle.xml_tree.specs.declared.names.Name.{Name}
@@ -160,8 +160,8 @@ read_element (suc n) scope depth =
 
 -- ---- documents
 
-abbrev pub read_version_number : Reader Kind (List ℕ)
-read_version_number = read_behind (read_word one_dot) (read_some_of is_digit)
+abbrev pub read_version_number : Reader Kind (Unit {0})
+read_version_number = read_dropped (read_behind (read_word one_dot) (read_some_of is_digit))
 
 abbrev pub read_encoding_name : Reader Kind (List ℕ)
 read_encoding_name = read_name_of is_letter is_encoding_char
@@ -172,20 +172,51 @@ read_yes_or_no = read_either (head_is (λ c. c == 121)) (read_word yes) (read_wo
 abbrev pub read_declared : {A : Type 0} → List ℕ → Reader Kind A → Reader Kind A
 read_declared w r = read_behind read_some_spaces (read_behind (read_word w) (read_behind read_equals (read_quoted is_quote (λ _. r))))
 
+-- white space and this letter follow
+abbrev pub letter_follows : ℕ → List ℕ → Bool
+letter_follows letter = spaced is_space (λ c. c == letter)
+
+abbrev pub read_version : Reader Kind (Unit {0})
+read_version = read_declared version read_version_number
+
+abbrev pub read_encoding : Reader Kind (List ℕ)
+read_encoding = read_declared encoding read_encoding_name
+
+abbrev pub read_standalone : Reader Kind (Unit {0})
+read_standalone = read_declared standalone read_yes_or_no
+
+abbrev pub read_encoding_if : Reader Kind (Option (List ℕ))
+read_encoding_if = read_optional (letter_follows 101) read_encoding
+
+abbrev pub read_standalone_if : Reader Kind (Option (Unit {0}))
+read_standalone_if = read_optional (letter_follows 115) read_standalone
+
 abbrev pub read_xml_declaration : Reader Kind (Option (List ℕ))
 read_xml_declaration =
-    read_behind (read_word declaration_start) (read_behind (read_declared version read_version_number)
-    (read_before (read_optional (spaced is_space (λ c. c == 101)) (read_declared encoding read_encoding_name))
-    (read_behind (read_optional (spaced is_space (λ c. c == 115)) (read_declared standalone read_yes_or_no)) (read_behind read_spaces (read_word instruction_end)))))
+    read_behind (read_word declaration_start) (read_behind read_version
+    (read_before read_encoding_if (read_behind read_standalone_if (read_behind read_spaces (read_word instruction_end)))))
 
 -- a foreign encoding, told at the `?>`
 abbrev pub encoding_fault : Option (List ℕ) → Option (Kind × ℕ)
 encoding_fault None = None
 encoding_fault (Some e) = if is_our_encoding e then None else Some (Encoded, 2)
 
--- `<?xml` and white space
+-- `<?xml` and white space follow
 abbrev pub declaration_follows : List ℕ → Bool
-declaration_follows t = starts (declaration_start ++ 32 ∷ []) t || starts (declaration_start ++ 9 ∷ []) t || starts (declaration_start ++ 10 ∷ []) t || starts (declaration_start ++ 13 ∷ []) t
+declaration_follows t = starts declaration_start t && head_is is_space (drop 5 t)
+
+abbrev pub read_declaration : Reader Kind (Option (List ℕ))
+read_declaration = read_judged encoding_fault read_xml_declaration
+
+abbrev pub read_declaration_if : Reader Kind (Unit {0})
+read_declaration_if = read_dropped (read_optional declaration_follows read_declaration)
+
+-- a byte order mark follows
+abbrev pub mark_follows : List ℕ → Bool
+mark_follows = head_is (λ c. c == 0xFEFF)
+
+abbrev pub read_mark_if : Reader Kind (Unit {0})
+read_mark_if = read_dropped (read_optional mark_follows (read_word byte_order_mark))
 
 abbrev pub read_misc : Reader Kind (Unit {0})
 read_misc = read_either (starts bang) (read_dropped read_comment) read_instruction
@@ -208,10 +239,7 @@ read_epilog = read_miscs read_misc
 
 -- a document, with so many levels
 abbrev pub read_text : ℕ → List (List Decl) → Reader Kind Tree
-read_text n scope =
-    read_behind (read_optional (head_is (λ c. c == 0xFEFF)) (read_word byte_order_mark))
-    (read_behind (read_optional declaration_follows (read_judged encoding_fault read_xml_declaration))
-    (read_behind read_prolog (read_before (read_element n scope 1) read_epilog)))
+read_text levels scope = read_behind read_mark_if (read_behind read_declaration_if (read_behind read_prolog (read_before (read_element levels scope 1) read_epilog)))
 
 -- ---- bodies that spell a value
 

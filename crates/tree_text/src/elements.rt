@@ -13,6 +13,7 @@ use crate::kind::Kind;
 use crate::markup::Markup;
 use crate::names::{attrs_of, decls_of, first_of_tag};
 use crate::parts::starts_with_name;
+use crate::places::before;
 use crate::pieces::{comment, instruction, section};
 use crate::runs::{lines, raw_run, starts};
 use crate::said::Said;
@@ -23,13 +24,6 @@ use crate::values::reference;
 use crate::written::{Written, end_tag};
 use std::alloc::{AllocError, Global};
 use xml_tree::{Decl, Element, Name, Scope};
-
-/// The place so many characters before this rest of a text.
-fn before<'a>(text: &'a [char], rest: &[char], back: usize) -> &'a [char]
-    ensures { result.now ≡ drop (length text.now - length rest.now - back) text.now }
-{
-    &text[text.len().saturating_sub(rest.len()).saturating_sub(back)..]
-}
 
 /// A tag whose names are right in the scope round it, its declarations, and what follows it.
 fn judged_tag<'a>(

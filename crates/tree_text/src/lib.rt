@@ -4,10 +4,12 @@
 #![tactic(auto)]
 
 mod fault;
+mod declaration;
 mod elements;
 mod kind;
 mod markup;
 mod pieces;
+mod places;
 mod names;
 mod parts;
 mod runs;
