@@ -6,3 +6,4 @@ pub mod TagLemmas
 pub mod JudgeLemmas
 pub mod CommentLemmas
 pub mod ElementLemmas
+pub mod Told

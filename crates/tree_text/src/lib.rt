@@ -12,6 +12,7 @@ mod pieces;
 mod places;
 mod names;
 mod parts;
+mod reading;
 mod runs;
 mod said;
 mod stop;
@@ -21,3 +22,4 @@ mod values;
 mod written;
 
 pub use fault::{TextFault, ValueFault};
+pub use reading::{read_document, read_fragment};
