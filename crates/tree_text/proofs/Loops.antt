@@ -5,6 +5,7 @@ use Rattle.tree_text.specs.declared.kind.Kind.{Kind}
 use Rattle.tree_text.specs.declared.stop.Stop.{Stop as CodeStop}
 use Rattle.tree_text.specs.declared.stop.Stop.TheVariants as stops
 use Rattle.tree_text.specs.Gives.{Fails}
+use Rattle.tree_text.specs.Reading.{read_dropped}
 
 -- what members that are read make of what there is
 abbrev pub finish : {A S B : Type 0} → (S → List A → B) → S → Result (List A × List ℕ) (Stop Kind) → Result (B × List ℕ) (Stop Kind)
@@ -71,3 +72,7 @@ pub first_stops : {A B : Type 0} (p : Reader Kind A) (q : A → Reader Kind B) (
 first_stops p q text stops.Memory h = tt
 first_stops p q text (stops.Syntax left) h = first_fails p q text (Syntax left.now) h
 first_stops p q text (stops.Faulty kind left) h = first_fails p q text (Faulty kind left.now) h
+
+-- what is read and dropped
+pub dropped_ok : {A : Type 0} (p : Reader Kind A) (text rest : List ℕ) (a : A) → p text ≡ Ok (a, rest) → read_dropped p text ≡ Ok (tt, rest)
+dropped_ok {A} p text rest a h = ap (λ (r : Result (A × List ℕ) (Stop Kind)). r >>= λ x. let z : Unit {0} × List ℕ = (tt, x.1) in Ok z) h

@@ -1,10 +1,12 @@
 -- A run, cut by its length.
-use Rattle.std.proofs.Common.{Err, ◌≡◌, ℕ, suc, ◌+◌, ◌-◌, ◌<◌, ◌≤◌, Bool, true, false, cond, List, [], ◌∷◌, length, take, drop, get_or, Ok, refl, sym, ap, ◌∙◌, arith, add-one}
-use Rattle.std.proofs.Math.Seq.{drop-cons, take-length}
-use Rattle.std.proofs.lemmas.List.{get_or_default, length-drop}
-use Rattle.grammar_rules.specs.Reading.{Syntax, front_of, after_front, read_name_of, read_some_of}
+use Rattle.std.proofs.Common.{◌≡◌, ℕ, suc, ◌+◌, ◌-◌, ◌<◌, ◌≤◌, Bool, true, false, cond, List, [], ◌∷◌, ◌++◌, length, take, drop, get_or, Result, Ok, Err, refl, sym, ap, ◌∙◌, append_assoc, arith, add-one}
+use Rattle.std.specs.Prelude.{nat_eq}
+use Rattle.std.proofs.lemmas.Bool.{eqb-true}
+use Rattle.std.proofs.Math.Seq.{drop-cons, take-length, take-suc}
+use Rattle.std.proofs.lemmas.List.{get_or_default, length-append, length-drop, take-append-le, append-nil}
+use Rattle.grammar_rules.specs.Reading.{Stop, Syntax, ◌>>=◌, starts, front_of, after_front, all_but_last, front_without, after_without, with_front, read_up_to, read_name_of, read_some_of}
 use Rattle.tree_text.specs.declared.kind.Kind.{Kind}
-use Rattle.tree_text.specs.Runs.{run_len}
+use Rattle.tree_text.specs.Runs.{run_len, without_len}
 
 take_by : (c : ℕ) (cs : List ℕ) (n : ℕ) (front : List ℕ) (b : Bool) → take n cs ≡ front → take (cond b (n + 1) 0) (c ∷ cs) ≡ cond b (c ∷ front) []
 take_by c cs n front true e = rw add-one (ap (λ (z : List ℕ). c ∷ z) e)
@@ -82,3 +84,84 @@ none_by p c cs false e h = rw e refl
 pub none_read : (p : ℕ → Bool) (text : List ℕ) → run_len p text ≡ 0 → read_some_of {Kind = Kind} p text ≡ Err (Syntax text)
 none_read p [] h = refl
 none_read p (c ∷ cs) h = none_by p c cs (p c) refl h
+
+-- a run without a word
+starts_by : (c d : ℕ) (cs text : List ℕ) (b : Bool) → nat_eq c d ≡ b → (starts cs text ≡ true → (rest : List ℕ) × (text ≡ cs ++ rest)) → cond b (starts cs text) false ≡ true → (rest : List ℕ) × (d ∷ text ≡ c ∷ (cs ++ rest))
+starts_by c d cs text true e f h = let r = f h in (r.0, let k = eqb-true c d e in let j = r.1 in cc)
+starts_by c d cs text false e f h = absurd cc
+
+pub starts_front : (w text : List ℕ) → starts w text ≡ true → (rest : List ℕ) × (text ≡ w ++ rest)
+starts_front [] text h = (text, refl)
+starts_front (c ∷ cs) [] h = absurd cc
+starts_front (c ∷ cs) (d ∷ text) h = starts_by c d cs text (nat_eq c d) refl (starts_front cs text) h
+
+take_but_last : (w : List ℕ) → take (length w - 1) w ≡ all_but_last w
+take_but_last [] = refl
+take_but_last (c ∷ []) = refl
+take_but_last (c ∷ d ∷ w) =
+    let e : length (c ∷ d ∷ w) - 1 ≡ suc (length (d ∷ w) - 1) = omega arith in
+    rw e (ap (λ (z : List ℕ). c ∷ z) (take_but_last (d ∷ w)))
+
+take_front : (w text : List ℕ) → starts w text ≡ true → take (length w - 1) text ≡ all_but_last w
+take_front w text h = let r = starts_front w text h in let le : length w - 1 ≤ length w = omega arith in (ap (take (length w - 1)) r.1 ∙ take-append-le (length w - 1) w r.0 le) ∙ take_but_last w
+
+take_either : (a b : Bool) (c : ℕ) (cs w front : List ℕ) (n : ℕ) → (a ≡ true → take (length w - 1) (c ∷ cs) ≡ all_but_last w) → take n cs ≡ front → take (cond a (length w - 1) (cond b (n + 1) 0)) (c ∷ cs) ≡ cond a (all_but_last w) (cond b (c ∷ front) [])
+take_either true b c cs w front n h e = h refl
+take_either false b c cs w front n h e = take_by c cs n front b e
+
+pub take_without : (p : ℕ → Bool) (w xs : List ℕ) → take (without_len p w xs) xs ≡ front_without p w xs
+take_without p w [] = refl
+take_without p w (c ∷ cs) = take_either (starts w (c ∷ cs)) (p c) c cs w (front_without p w cs) (without_len p w cs) (take_front w (c ∷ cs)) (take_without p w cs)
+
+drop_either : (a b : Bool) (c : ℕ) (cs left : List ℕ) (m n : ℕ) → drop n cs ≡ left → drop (cond a m (cond b (n + 1) 0)) (c ∷ cs) ≡ cond a (drop m (c ∷ cs)) (cond b left (c ∷ cs))
+drop_either true b c cs left m n e = refl
+drop_either false b c cs left m n e = drop_by c cs n left b e
+
+pub drop_without : (p : ℕ → Bool) (w xs : List ℕ) → drop (without_len p w xs) xs ≡ after_without p w xs
+drop_without p w [] = refl
+drop_without p w (c ∷ cs) = drop_either (starts w (c ∷ cs)) (p c) c cs (after_without p w cs) (length w - 1) (without_len p w cs) (drop_without p w cs)
+
+le_either : (a b : Bool) (m n k : ℕ) → (a ≡ true → m ≤ suc k) → n ≤ k → cond a m (cond b (n + 1) 0) ≤ suc k
+le_either true b m n k h e = h refl
+le_either false b m n k h e = len_by n k b e
+
+pub without_len_le : (p : ℕ → Bool) (w xs : List ℕ) → without_len p w xs ≤ length xs
+without_len_le p w [] = omega arith
+without_len_le p w (c ∷ cs) = le_either (starts w (c ∷ cs)) (p c) (length w - 1) (without_len p w cs) (length cs) (λ t. let r = starts_front w (c ∷ cs) t in omega (arith, ap length r.1, length-append w r.0)) (without_len_le p w cs)
+
+pub rest_of_drop : (n : ℕ) (xs : List ℕ) → take (length xs - n) (drop n xs) ≡ drop n xs
+rest_of_drop n xs = let e : length xs - n ≡ length (drop n xs) = omega (arith, length-drop n xs) in rw e (take-length (drop n xs))
+
+-- a run up to a word: the loop that looks for it
+module _ (p : ℕ → Bool) (w : List ℕ) where
+  inside_cons : (front : List ℕ) (c : ℕ) (out : Result (List ℕ × List ℕ) (Stop Kind)) → with_front front (out >>= λ x. Ok (c ∷ x.0, x.1)) ≡ with_front (front ++ c ∷ []) out
+  inside_cons front c (Ok y) = ap (λ (z : List ℕ). Ok (z, y.1)) (sym (append_assoc front (c ∷ []) y.0))
+  inside_cons front c (Err e) = refl
+
+  inside_more : (text : List ℕ) (i : ℕ) (total : Result (List ℕ × List ℕ) (Stop Kind)) → i < length text → starts w (drop i text) ≡ false → p (get_or text i 0) ≡ true → total ≡ with_front (take i text) (read_up_to p w (drop i text)) → total ≡ with_front (take (i + 1) text) (read_up_to p w (drop (i + 1) text))
+  inside_more text i total lt s t so_far =
+      let d : drop i text ≡ get_or text i 0 ∷ drop (suc i) text = drop-cons text i 0 lt in
+      let s2 : starts w (get_or text i 0 ∷ drop (suc i) text) ≡ false = ap (starts w) (sym d) ∙ s in
+      let one : read_up_to p w (drop i text) ≡ (read_up_to p w (drop (suc i) text) >>= λ x. Ok (get_or text i 0 ∷ x.0, x.1)) = ap (read_up_to p w) d ∙ rw (s2, t) refl in
+      let front : take (suc i) text ≡ take i text ++ get_or text i 0 ∷ [] = take-suc text i 0 lt in
+      so_far ∙ ap (with_front (take i text)) one ∙ inside_cons (take i text) (get_or text i 0) (read_up_to p w (drop (suc i) text)) ∙ rw add-one (ap (λ (z : List ℕ). with_front z (read_up_to p w (drop (suc i) text))) (sym front))
+
+  tail : (text : List ℕ) (i : ℕ) → take (length text - i) (drop i text) ≡ drop i text
+  tail text i = let e : length text - i ≡ length (drop i text) = omega (arith, length-drop i text) in rw e (take-length (drop i text))
+
+  pub inside_next : (text : List ℕ) (i c : ℕ) (total : Result (List ℕ × List ℕ) (Stop Kind)) → i < length text → starts w (take (length text - i) (drop i text)) ≡ false → c ≡ get_or text i c → p c ≡ true → total ≡ with_front (take i text) (read_up_to p w (drop i text)) → total ≡ with_front (take (i + 1) text) (read_up_to p w (drop (i + 1) text))
+  inside_next text i c total lt s e t so_far = inside_more text i total lt (ap (starts w) (sym (tail text i)) ∙ s) (ap p (get_or_default text i 0 c lt ∙ sym e) ∙ t) so_far
+
+  found_by : (c : ℕ) (cs : List ℕ) (b : Bool) → starts w (c ∷ cs) ≡ b → b ≡ true → read_up_to {Kind = Kind} p w (c ∷ cs) ≡ Ok ([], drop (length w) (c ∷ cs))
+  found_by c cs true e t = rw e refl
+  found_by c cs false e t = absurd cc
+
+  -- the word stands here
+  pub inside_found : (text : List ℕ) (i : ℕ) (total : Result (List ℕ × List ℕ) (Stop Kind)) → i < length text → starts w (take (length text - i) (drop i text)) ≡ true → total ≡ with_front (take i text) (read_up_to p w (drop i text))
+      → total ≡ Ok (take i text, take (length (take (length text - i) (drop i text)) - length w) (drop (length w) (take (length text - i) (drop i text))))
+  inside_found text i total lt s so_far =
+      let d : drop i text ≡ get_or text i 0 ∷ drop (suc i) text = drop-cons text i 0 lt in
+      let here : starts w (get_or text i 0 ∷ drop (suc i) text) ≡ true = ap (starts w) (sym d) ∙ ap (starts w) (sym (tail text i)) ∙ s in
+      let one : read_up_to p w (drop i text) ≡ Ok ([], drop (length w) (drop i text)) = ap (read_up_to p w) d ∙ found_by (get_or text i 0) (drop (suc i) text) (starts w (get_or text i 0 ∷ drop (suc i) text)) refl here ∙ ap (λ (z : List ℕ). Ok ([], drop (length w) z)) (sym d) in
+      let back : take (length (drop i text) - length w) (drop (length w) (drop i text)) ≡ drop (length w) (drop i text) = rest_of_drop (length w) (drop i text) in
+      so_far ∙ ap (with_front (take i text)) one ∙ rw (append-nil (take i text)) (rw (tail text i) (rw back refl))

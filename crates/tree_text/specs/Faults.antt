@@ -1,7 +1,7 @@
 -- Which fault a text or a body has, and at which byte.
-use Rattle.std.specs.Prelude.{◌≡◌, ◌⊎◌, ℕ, ◌+◌, ◌-◌, ◌<◌, ◌==◌, List, [], ◌∷◌, length, Option, None, Some, option_map, unwrap_or, Result, Ok, Err, IsUtf8, encode_utf8_all, if◌then◌else◌}
+use Rattle.std.specs.Prelude.{◌≡◌, ◌⊎◌, ℕ, ◌+◌, ◌-◌, ◌<◌, Bool, ◌==◌, not, List, [], ◌∷◌, length, Option, None, Some, unwrap_or, Result, Ok, Err, IsUtf8, encode_utf8_all, if◌then◌else◌}
 use Rattle.std.specs.Str.{chars, is_utf8}
-use Rattle.grammar_rules.specs.Reading.{Stop, Syntax, Faulty, read_whole}
+use Rattle.grammar_rules.specs.Reading.{Stop, Syntax, Faulty, front_of, after_front, read_whole}
 use Rattle.grammar_rules.specs.Answers.{Answers}
 use Rattle.xml_tree.specs.Tree.{Tree}
 use Rattle.xml_tree.specs.declared.names.Decl.{Decl}
@@ -11,6 +11,8 @@ use Rattle.tree_text.specs.declared.fault.TextFault.{TextFault}
 use Rattle.tree_text.specs.declared.fault.TextFault.TheVariants as texts
 use Rattle.tree_text.specs.declared.fault.ValueFault.{ValueFault}
 use Rattle.tree_text.specs.declared.fault.ValueFault.TheVariants as bodies
+use Rattle.tree_text.specs.declared.stop.Stop.{Stop as CodeStop}
+use Rattle.tree_text.specs.declared.stop.Stop.TheVariants as stops
 use Rattle.tree_text.specs.Kinds.{faults}
 use Rattle.tree_text.specs.Grammar.{is_quote, document, spelling}
 use Rattle.tree_text.specs.Reading.{read_text, read_spelling}
@@ -18,6 +20,10 @@ use Rattle.tree_text.specs.Reading.{read_text, read_spelling}
 -- the byte at which this rest of the text begins
 abbrev pub place : List ℕ → List ℕ → ℕ
 place bytes left = length bytes - length (encode_utf8_all left)
+
+-- what is stated, unless memory ran out
+abbrev pub Unless : {A E : Type 0} → E → Result A E → Result A E → Type 0
+Unless memory stated answer = (answer ≡ stated) ⊎ (answer ≡ Err memory)
 
 -- ---- documents and fragments
 
@@ -29,6 +35,12 @@ fault_of bytes (Faulty Doctyped left) = texts.Doctype (place bytes left)
 fault_of bytes (Faulty (Depth depth) left) = texts.TooDeep (place bytes left)
 fault_of bytes (Faulty Unbound left) = texts.Namespace (place bytes left)
 fault_of bytes (Faulty Repeated left) = texts.RepeatedAttribute (place bytes left)
+
+-- the same of a stop of the code
+abbrev pub FaultOf : List ℕ → CodeStop → TextFault → Type 0
+FaultOf bytes (stops.Syntax rest) fault = fault ≡ fault_of bytes (Syntax rest.now)
+FaultOf bytes (stops.Faulty kind rest) fault = fault ≡ fault_of bytes (Faulty kind rest.now)
+FaultOf bytes stops.Memory fault = fault ≡ texts.NoMemory
 
 abbrev pub told : List ℕ → Result Tree (Stop Kind) → Result Tree TextFault
 told bytes (Ok tree) = Ok tree
@@ -50,16 +62,20 @@ TextAnswer limit scope bytes answer = (IsUtf8 bytes × IsTextAnswer limit scope 
 
 -- ---- bodies that spell a value
 
--- the inside of a text that ends with this quote, which stands nowhere else in it
-abbrev pub up_to_quote : ℕ → List ℕ → Option (List ℕ)
-up_to_quote quote [] = None
-up_to_quote quote (c ∷ []) = if c == quote then Some [] else None
-up_to_quote quote (c ∷ d ∷ cs) = if c == quote then None else option_map (λ inside. c ∷ inside) (up_to_quote quote (d ∷ cs))
+-- a text up to its last character, where nothing else follows the first part
+abbrev pub all_but_one : List ℕ → List ℕ → Option (List ℕ)
+all_but_one front [] = None
+all_but_one front (c ∷ []) = Some front
+all_but_one front (c ∷ d ∷ cs) = None
+
+-- no quote of this kind
+abbrev pub is_other : ℕ → ℕ → Bool
+is_other quote c = not (c == quote)
 
 -- the inside of a body between two quotes of one kind, where that quote stands nowhere else
 abbrev pub in_quotes : List ℕ → Option (List ℕ)
 in_quotes [] = None
-in_quotes (c ∷ cs) = if is_quote c then up_to_quote c cs else None
+in_quotes (c ∷ cs) = if is_quote c then all_but_one (front_of (is_other c) cs) (after_front (is_other c) cs) else None
 
 -- the part of a body that spells its value: that inside, or all of it
 abbrev pub spelling_of : List ℕ → List ℕ

@@ -13,3 +13,8 @@ Fails stops.Memory read = Unit {0}
 abbrev pub Gives : {X Y : Type 0} → (X → Y) → Result X CodeStop → Result Y (Stop Kind) → Type 0
 Gives view (Ok x) read = read ≡ Ok (view x)
 Gives view (Err e) read = Fails e read
+
+-- the same, where nothing is left
+abbrev pub GivesAll : {X : Type 0} → Result X CodeStop → Result X (Stop Kind) → Type 0
+GivesAll (Ok x) read = read ≡ Ok x
+GivesAll (Err e) read = Fails e read

@@ -2,7 +2,6 @@
 -- document types. The numbers in brackets are those of their productions. A rule says which texts it spells, as which values, and
 -- what may be met where a text breaks off in it.
 use Rattle.std.specs.Prelude.{◌≡◌, ℕ, zero, suc, ◌+◌, Bool, true, false, ◌&&◌, ◌||◌, ◌==◌, not, List, [], ◌∷◌, Option, Some}
-use Rattle.std.specs.Str.{bytes_eq, str_to_ascii_lowercase}
 use Rattle.xml_tree.specs.Characters.{is_char, is_space, is_name_start, is_name_char, within}
 use Rattle.xml_tree.specs.Tree.{Content, last, Tree}
 use Rattle.xml_tree.specs.declared.names.Name.{Name}
@@ -12,8 +11,10 @@ use Rattle.grammar_rules.specs.Rules.{Rule, never, empty, one, word, run, run_wi
 use Rattle.tree_text.specs.Words.{less, greater, empty_end, end_start, equals_sign, colon, ampersand, semicolon, hash, small_x, amp, lt, gt, quot, apos, comment_start, dashes, section_start, section_end, instruction_start, instruction_end, declaration_start, version, one_dot, encoding, standalone, yes, not_alone, bang, doctype, byte_order_mark, xml, utf_8, us_ascii}
 use Rattle.tree_text.specs.declared.kind.Kind.{Kind}
 use Rattle.tree_text.specs.declared.kind.Kind.TheVariants.{Encoded, Doctyped, Depth}
+use Rattle.tree_text.specs.declared.markup.Markup.{Markup}
+use Rattle.tree_text.specs.declared.markup.Markup.TheVariants.{Reference, Section, Comment, Instruction, Inner}
 use Rattle.tree_text.specs.declared.said.Said.{Said}
-use Rattle.tree_text.specs.Pieces.{line_ends, value_of, qname_of, written, said_of, Tag, tag_of, Markup, Reference, Section, Comment, Instruction, Inner, with_pieces}
+use Rattle.tree_text.specs.Pieces.{line_ends, value_of, qname_of, written, said_of, Tag, tag_of, same_letters, with_pieces}
 use Rattle.tree_text.specs.Names.{IsWrong, inside, element_of}
 
 -- ---- names and white space
@@ -108,14 +109,18 @@ section = valued line_ends (behind (word section_start) (up_to is_char section_e
 
 -- [17] PITarget: an NCName that isn't `xml`, without regard to ASCII case
 abbrev pub is_target : List ℕ → Bool
-is_target n = not (bytes_eq (str_to_ascii_lowercase n) xml)
+is_target n = not (same_letters n xml)
+
+-- the same texts, which spell nothing
+abbrev pub dropped : {A : Type 0} → Rule Kind A → Rule Kind (Unit {0})
+dropped r = valued (λ _. tt) r
 
 -- what stands behind a target: nothing, or white space and Chars, up to the first `?>`
-abbrev pub instructed : Rule Kind (List ℕ)
-instructed = either (valued (λ _. []) (word instruction_end)) (behind (one is_space) (up_to is_char instruction_end))
+abbrev pub instructed : Rule Kind (Unit {0})
+instructed = either (dropped (behind (one is_space) (up_to is_char instruction_end))) (word instruction_end)
 
 -- [16] PI: `<?`, a target and what stands behind it
-abbrev pub instruction : Rule Kind (List ℕ)
+abbrev pub instruction : Rule Kind (Unit {0})
 instruction = behind (word instruction_start) (behind (only is_target name) instructed)
 
 -- [14] CharData: raw characters without `]]>`
@@ -153,8 +158,8 @@ element (suc n) scope depth =
 -- ---- documents
 
 -- [26] VersionNum: `1.` and digits
-abbrev pub version_number : Rule Kind (List ℕ)
-version_number = behind (word one_dot) (some_of is_digit)
+abbrev pub version_number : Rule Kind (Unit {0})
+version_number = dropped (behind (word one_dot) (some_of is_digit))
 
 -- [81] EncName: a letter, and letters, digits, `.`, `_` and `-`
 abbrev pub is_letter : ℕ → Bool
@@ -180,32 +185,33 @@ xml_declaration =
     behind (word declaration_start) (behind (declared version version_number) (before (optional (declared encoding encoding_name))
     (behind (optional (declared standalone yes_or_no)) (behind spaces (word instruction_end)))))
 
--- an encoding that we read, without regard to ASCII case
+-- an encoding that is read, without regard to ASCII case
 abbrev pub is_our_encoding : List ℕ → Bool
-is_our_encoding e = bytes_eq (str_to_ascii_lowercase e) utf_8 || bytes_eq (str_to_ascii_lowercase e) us_ascii
+is_our_encoding e = same_letters e utf_8 || same_letters e us_ascii
 
 -- A whole XML declaration of another encoding says so, at its `?>`.
 abbrev pub IsForeign : Option (List ℕ) → Kind → ℕ → Type 0
 IsForeign e kind back = (n : List ℕ) × (e ≡ Some n) × (is_our_encoding n ≡ false) × (kind ≡ Encoded) × (back ≡ 2)
 
--- [27] Misc: comments and instructions, with white space around each; they spell nothing
-abbrev pub misc : Rule Kind (List ℕ)
-misc = either comment instruction
+-- [27] Misc: comments and instructions, with white space around each; outside the root element they spell nothing
+abbrev pub misc : Rule Kind (Unit {0})
+misc = either (dropped comment) instruction
 
-abbrev pub miscs : Rule Kind (List ℕ) → Rule Kind (List ℕ × List (List ℕ × List ℕ))
-miscs one_more = between spaces one_more
+abbrev pub miscs : Rule Kind (Unit {0}) → Rule Kind (Unit {0})
+miscs one_more = dropped (between (dropped spaces) one_more)
 
 -- [22] prolog, without the XML declaration: `<!` before the root element, where `DOCTYPE` follows, says so
-abbrev pub prolog : Rule Kind (List ℕ × List (List ℕ × List ℕ))
+abbrev pub prolog : Rule Kind (Unit {0})
 prolog = miscs (either (trap Doctyped bang doctype) misc)
 
-abbrev pub epilog : Rule Kind (List ℕ × List (List ℕ × List ℕ))
+abbrev pub epilog : Rule Kind (Unit {0})
 epilog = miscs misc
 
 -- [1] document: perhaps a byte order mark, perhaps an XML declaration, Misc, one element, Misc. A fragment is the same, in a scope.
 abbrev pub document : ℕ → List (List Decl) → Rule Kind Tree
 document n scope =
-    behind (optional (word byte_order_mark)) (behind (optional (judged IsForeign xml_declaration)) (behind prolog (before (element n scope 1) epilog)))
+    behind (dropped (optional (word byte_order_mark))) (behind (dropped (optional (judged IsForeign xml_declaration)))
+    (behind prolog (before (element n scope 1) epilog)))
 
 -- ---- bodies that spell a value
 

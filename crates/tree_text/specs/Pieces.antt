@@ -1,9 +1,12 @@
 -- What the pieces of a text say: values, the parts of a tag, and content put together from left to right.
-use Rattle.std.specs.Prelude.{ℕ, Bool, length, List, [], ◌∷◌, ◌++◌, ◌==◌, if◌then◌else◌, ◌||◌, Option, None, Some}
+use Rattle.std.specs.Prelude.{ℕ, Bool, true, false, length, List, [], ◌∷◌, ◌++◌, ◌==◌, if◌then◌else◌, ◌||◌, Option, None, Some}
 use Rattle.xml_tree.specs.Tree.{Content, Tree}
 use Rattle.xml_tree.specs.Edits.{with_text, with_elem, with_comment}
 use Rattle.xml_tree.specs.declared.names.Name.{Name}
+use Rattle.std.specs.Char.{to_ascii_lowercase}
 use Rattle.grammar_rules.specs.Reading.{head_is}
+use Rattle.tree_text.specs.declared.markup.Markup.{Markup}
+use Rattle.tree_text.specs.declared.markup.Markup.TheVariants.{Reference, Section, Comment, Instruction, Inner}
 use Rattle.tree_text.specs.declared.said.Said.{Said}
 use Rattle.tree_text.specs.Words.{colon}
 
@@ -70,13 +73,12 @@ pub record Tag : Type 0 where
 abbrev pub tag_of : (Name × (List Said × Bool)) × ℕ → Tag
 tag_of x = record { name = x.0.0; said = x.0.1.0; is_empty = x.0.1.1; size = x.1 }
 
--- what stands between the runs of characters of content
-pub data Markup : Type 0 where
-  Reference : (char : ℕ) → Markup
-  Section : (chars : List ℕ) → Markup
-  Comment : (chars : List ℕ) → Markup
-  Instruction : Markup
-  Inner : (tree : Tree) → Markup
+-- whether two words are one without regard to ASCII case, the second being in small letters
+abbrev pub same_letters : List ℕ → List ℕ → Bool
+same_letters [] [] = true
+same_letters [] (d ∷ ds) = false
+same_letters (c ∷ cs) [] = false
+same_letters (c ∷ cs) (d ∷ ds) = if to_ascii_lowercase c == d then same_letters cs ds else false
 
 -- content with a piece of markup behind it
 abbrev pub with_markup : Markup → Content → Content

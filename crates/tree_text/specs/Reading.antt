@@ -1,6 +1,6 @@
 -- Reading functions, one for each rule of the grammar: they read from left to right, and a test of what comes next tells which
 -- member of a choice is read, and whether a repetition goes on.
-use Rattle.std.specs.Prelude.{ℕ, zero, suc, ◌+◌, Bool, true, false, ◌&&◌, ◌||◌, ◌==◌, not, List, [], ◌∷◌, ◌++◌, Option, None, Some, if◌then◌else◌}
+use Rattle.std.specs.Prelude.{drop, ℕ, zero, suc, ◌+◌, Bool, true, false, ◌&&◌, ◌||◌, ◌==◌, not, List, [], ◌∷◌, ◌++◌, Option, None, Some, if◌then◌else◌}
 use Rattle.xml_tree.specs.Characters.{is_char, is_space, is_name_start, is_name_char}
 use Rattle.xml_tree.specs.Tree.{Content, last, Tree}
 use Rattle.xml_tree.specs.declared.names.Name.{Name}
@@ -10,8 +10,10 @@ use Rattle.grammar_rules.specs.Reading.{Reader, head_is, starts, spaced, read_ne
 use Rattle.tree_text.specs.Words.{less, greater, empty_end, end_start, equals_sign, colon, ampersand, semicolon, hash, small_x, amp, lt, gt, quot, apos, comment_start, dashes, section_start, section_end, instruction_start, instruction_end, declaration_start, version, one_dot, encoding, standalone, yes, not_alone, bang, bang_bracket, doctype, byte_order_mark}
 use Rattle.tree_text.specs.declared.kind.Kind.{Kind}
 use Rattle.tree_text.specs.declared.kind.Kind.TheVariants.{Encoded, Doctyped, Depth}
+use Rattle.tree_text.specs.declared.markup.Markup.{Markup}
+use Rattle.tree_text.specs.declared.markup.Markup.TheVariants.{Reference, Section, Comment, Instruction, Inner}
 use Rattle.tree_text.specs.declared.said.Said.{Said}
-use Rattle.tree_text.specs.Pieces.{line_ends, value_of, qname_of, written, said_of, Tag, tag_of, Markup, Reference, Section, Comment, Instruction, Inner, with_pieces}
+use Rattle.tree_text.specs.Pieces.{line_ends, value_of, qname_of, written, said_of, Tag, tag_of, with_pieces}
 use Rattle.tree_text.specs.Names.{inside, element_of, tag_fault}
 use Rattle.tree_text.specs.Grammar.{last_char, is_quote, is_raw, is_raw_in, is_target, is_letter, is_encoding_char, is_our_encoding}
 
@@ -95,20 +97,34 @@ read_end_tag n = read_behind (read_word end_start) (read_behind (read_word (writ
 
 -- ---- content
 
+abbrev pub read_comment_inside : Reader Kind (List ℕ)
+read_comment_inside = read_behind (read_word comment_start) (read_before (read_up_to is_char dashes) (read_word greater))
+
 abbrev pub read_comment : Reader Kind (List ℕ)
-read_comment = read_valued line_ends (read_behind (read_word comment_start) (read_before (read_up_to is_char dashes) (read_word greater)))
+read_comment = read_valued line_ends read_comment_inside
 
 abbrev pub read_section : Reader Kind (List ℕ)
 read_section = read_valued line_ends (read_behind (read_word section_start) (read_up_to is_char section_end))
 
-abbrev pub read_instructed : Reader Kind (List ℕ)
-read_instructed = read_either (λ t. not (head_is is_space t)) (read_valued (λ _. []) (read_word instruction_end)) (read_behind (read_one is_space) (read_up_to is_char instruction_end))
+abbrev pub read_dropped : {A : Type 0} → Reader Kind A → Reader Kind (Unit {0})
+read_dropped p = read_valued (λ _. tt) p
 
-abbrev pub read_instruction : Reader Kind (List ℕ)
+-- white space follows
+abbrev pub space_follows : List ℕ → Bool
+space_follows = head_is is_space
+
+abbrev pub read_instructed : Reader Kind (Unit {0})
+read_instructed = read_either space_follows (read_dropped (read_behind (read_one is_space) (read_up_to is_char instruction_end))) (read_word instruction_end)
+
+abbrev pub read_instruction : Reader Kind (Unit {0})
 read_instruction = read_behind (read_word instruction_start) (read_behind (read_only is_target read_name) read_instructed)
 
+-- raw characters of content
+abbrev pub read_raw_run : Reader Kind (List ℕ)
+read_raw_run = read_run_without is_raw section_end
+
 abbrev pub read_chars : Reader Kind (List ℕ)
-read_chars = read_valued line_ends (read_run_without is_raw section_end)
+read_chars = read_valued line_ends read_raw_run
 
 abbrev pub read_markup : Reader Kind Tree → Reader Kind Markup
 read_markup inner =
@@ -144,8 +160,8 @@ read_element (suc n) scope depth =
 
 -- ---- documents
 
-abbrev pub read_version_number : Reader Kind (List ℕ)
-read_version_number = read_behind (read_word one_dot) (read_some_of is_digit)
+abbrev pub read_version_number : Reader Kind (Unit {0})
+read_version_number = read_dropped (read_behind (read_word one_dot) (read_some_of is_digit))
 
 abbrev pub read_encoding_name : Reader Kind (List ℕ)
 read_encoding_name = read_name_of is_letter is_encoding_char
@@ -156,43 +172,74 @@ read_yes_or_no = read_either (head_is (λ c. c == 121)) (read_word yes) (read_wo
 abbrev pub read_declared : {A : Type 0} → List ℕ → Reader Kind A → Reader Kind A
 read_declared w r = read_behind read_some_spaces (read_behind (read_word w) (read_behind read_equals (read_quoted is_quote (λ _. r))))
 
+-- white space and this letter follow
+abbrev pub letter_follows : ℕ → List ℕ → Bool
+letter_follows letter = spaced is_space (λ c. c == letter)
+
+abbrev pub read_version : Reader Kind (Unit {0})
+read_version = read_declared version read_version_number
+
+abbrev pub read_encoding : Reader Kind (List ℕ)
+read_encoding = read_declared encoding read_encoding_name
+
+abbrev pub read_standalone : Reader Kind (Unit {0})
+read_standalone = read_declared standalone read_yes_or_no
+
+abbrev pub read_encoding_if : Reader Kind (Option (List ℕ))
+read_encoding_if = read_optional (letter_follows 101) read_encoding
+
+abbrev pub read_standalone_if : Reader Kind (Option (Unit {0}))
+read_standalone_if = read_optional (letter_follows 115) read_standalone
+
 abbrev pub read_xml_declaration : Reader Kind (Option (List ℕ))
 read_xml_declaration =
-    read_behind (read_word declaration_start) (read_behind (read_declared version read_version_number)
-    (read_before (read_optional (spaced is_space (λ c. c == 101)) (read_declared encoding read_encoding_name))
-    (read_behind (read_optional (spaced is_space (λ c. c == 115)) (read_declared standalone read_yes_or_no)) (read_behind read_spaces (read_word instruction_end)))))
+    read_behind (read_word declaration_start) (read_behind read_version
+    (read_before read_encoding_if (read_behind read_standalone_if (read_behind read_spaces (read_word instruction_end)))))
 
 -- a foreign encoding, told at the `?>`
 abbrev pub encoding_fault : Option (List ℕ) → Option (Kind × ℕ)
 encoding_fault None = None
 encoding_fault (Some e) = if is_our_encoding e then None else Some (Encoded, 2)
 
--- `<?xml` and white space
+-- `<?xml` and white space follow
 abbrev pub declaration_follows : List ℕ → Bool
-declaration_follows t = starts (declaration_start ++ 32 ∷ []) t || starts (declaration_start ++ 9 ∷ []) t || starts (declaration_start ++ 10 ∷ []) t || starts (declaration_start ++ 13 ∷ []) t
+declaration_follows t = starts declaration_start t && head_is is_space (drop 5 t)
 
-abbrev pub read_misc : Reader Kind (List ℕ)
-read_misc = read_either (starts bang) read_comment read_instruction
+abbrev pub read_declaration : Reader Kind (Option (List ℕ))
+read_declaration = read_judged encoding_fault read_xml_declaration
+
+abbrev pub read_declaration_if : Reader Kind (Unit {0})
+read_declaration_if = read_dropped (read_optional declaration_follows read_declaration)
+
+-- a byte order mark follows
+abbrev pub mark_follows : List ℕ → Bool
+mark_follows = head_is (λ c. c == 0xFEFF)
+
+abbrev pub read_mark_if : Reader Kind (Unit {0})
+read_mark_if = read_dropped (read_optional mark_follows (read_word byte_order_mark))
+
+abbrev pub read_misc : Reader Kind (Unit {0})
+read_misc = read_either (starts bang) (read_dropped read_comment) read_instruction
 
 -- `<!` or `<?`
 abbrev pub misc_follows : List ℕ → Bool
 misc_follows t = starts bang t || starts instruction_start t
 
-abbrev pub read_miscs : Reader Kind (List ℕ) → Reader Kind (List ℕ × List (List ℕ × List ℕ))
-read_miscs one_more = read_between misc_follows read_spaces one_more
+abbrev pub read_miscs : Reader Kind (Unit {0}) → Reader Kind (Unit {0})
+read_miscs one_more = read_dropped (read_between misc_follows (read_dropped read_spaces) one_more)
 
-abbrev pub read_prolog : Reader Kind (List ℕ × List (List ℕ × List ℕ))
-read_prolog = read_miscs (read_either (starts (bang ++ doctype)) (read_trap Doctyped bang doctype) read_misc)
+abbrev pub read_prolog_misc : Reader Kind (Unit {0})
+read_prolog_misc = read_either (starts (bang ++ doctype)) (read_trap Doctyped bang doctype) read_misc
 
-abbrev pub read_epilog : Reader Kind (List ℕ × List (List ℕ × List ℕ))
+abbrev pub read_prolog : Reader Kind (Unit {0})
+read_prolog = read_miscs read_prolog_misc
+
+abbrev pub read_epilog : Reader Kind (Unit {0})
 read_epilog = read_miscs read_misc
 
 -- a document, with so many levels
 abbrev pub read_text : ℕ → List (List Decl) → Reader Kind Tree
-read_text n scope =
-    read_behind (read_optional (head_is (λ c. c == 0xFEFF)) (read_word byte_order_mark))
-    (read_behind (read_optional declaration_follows (read_judged encoding_fault read_xml_declaration))
-    (read_behind read_prolog (read_before (read_element n scope 1) read_epilog)))
+read_text levels scope = read_behind read_mark_if (read_behind read_declaration_if (read_behind read_prolog (read_before (read_element levels scope 1) read_epilog)))
 
 -- ---- bodies that spell a value
 

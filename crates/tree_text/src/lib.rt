@@ -4,8 +4,16 @@
 #![tactic(auto)]
 
 mod fault;
+mod declaration;
+mod elements;
 mod kind;
+mod markup;
+mod pieces;
+mod places;
+mod names;
 mod parts;
+mod reading;
+mod runs;
 mod said;
 mod stop;
 mod tags;
@@ -14,6 +22,7 @@ mod values;
 mod written;
 
 pub use fault::{TextFault, ValueFault};
+pub use reading::{read_document, read_fragment};
 
 // The parts that the grammar of selectors shares: words, names, references and the raw characters of values.
 pub use kind::Kind;

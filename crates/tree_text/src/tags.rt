@@ -6,7 +6,7 @@ ghost use Rattle.tree_text.specs.Gives.{Gives};
 ghost use Rattle.tree_text.specs.Grammar.{is_quote};
 ghost use Rattle.tree_text.specs.Names.{widths, opening};
 ghost use Rattle.tree_text.specs.Reading.{read_value, read_attribute, read_said, read_all_said, said_follows, read_tag_end, read_tag};
-ghost use Rattle.tree_text.specs.Views.{tag_in};
+ghost use Rattle.tree_text.specs.Views.{name_in, tag_in};
 
 use crate::parts::{equals, some_spaces, spaces, starts_with_name, starts_with_space, word};
 use crate::said::Said;
@@ -25,6 +25,8 @@ pub struct Tag<'a> {
     /// Its attributes and declarations, in order.
     pub said: Vec<Said>,
     pub is_empty: bool,
+    /// How many characters stand before its attributes.
+    pub opening: usize,
     /// How many characters it has.
     pub size: usize,
 }
@@ -114,10 +116,13 @@ fn tag_end(text: &[char]) -> Result<(bool, &[char]), Stop<'_>>
 /// A tag, and what follows it.
 pub fn whole_tag(alloc: Global, text: &[char]) -> Result<(Tag<'_>, &[char]), Stop<'_>>
     ensures read { Gives (λ x. (tag_in x.0, x.1.now)) result (read_tag text.now) }
-    ensures sizes { IfOk result (λ x. opening (tag_in x.0) + widths x.0.said.items ≤ length text.now) }
+    ensures named { IfOk result (λ x. x.0.name ≡ name_in x.0.written) }
+    ensures opening { IfOk result (λ x. x.0.opening ≡ opening (tag_in x.0)) }
+    ensures sizes { IfOk result (λ x. x.0.opening + widths x.0.said.items ≤ length text.now) }
 {
     let rest = word(text, &['<'])?;
     let (written, rest) = qname(rest)?;
+    let opening = text.len() - rest.len();
     let (said, rest) = all_said(alloc, rest)?;
     let (_, rest) = spaces(rest);
     let (is_empty, rest) = tag_end(rest)?;
@@ -128,6 +133,7 @@ pub fn whole_tag(alloc: Global, text: &[char]) -> Result<(Tag<'_>, &[char]), Sto
         name,
         said,
         is_empty,
+        opening,
         size,
     };
     Ok((tag, rest))

@@ -150,7 +150,7 @@ pub fn raw_run(text: &[char], quote: char) -> (&[char], &[char])
 }
 
 /// How a character is read that these follow: a CR before a LF as nothing.
-fn line_char(c: char, after: &[char]) -> Option<char>
+pub fn line_char(c: char, after: &[char]) -> Option<char>
     ensures { result ≡ line_char c after.now }
 {
     match c {

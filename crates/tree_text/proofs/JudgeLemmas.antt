@@ -1,0 +1,28 @@
+-- The names of a tag, judged from the first to the last.
+use Rattle.std.proofs.Common.{◌≡◌, ℕ, suc, ◌+◌, ◌<◌, Bool, true, false, cond, List, [], ◌∷◌, ◌++◌, length, take, drop, get_or, refl, sym, ap, ◌∙◌, append_assoc, arith, add-one}
+use Rattle.std.specs.Prelude.{◌&&◌}
+use Rattle.std.proofs.Math.Seq.{drop-cons}
+use Rattle.xml_tree.specs.declared.names.Decl.{Decl}
+use Rattle.xml_tree.specs.declared.names.Attr.{Attr}
+use Rattle.tree_text.specs.declared.said.Said.{Said}
+use Rattle.tree_text.specs.Names.{declares, decl_of, attr_of, widths, first_wrong, wrong_said, or_later, decls_of, attrs_of}
+
+pub no_and : (a : Bool) → a && false ≡ false
+no_and true = refl
+no_and false = refl
+
+cons_or : {A : Type 0} (b : Bool) (x : A) (front last rest : List A) → rest ≡ front ++ last → cond b (x ∷ rest) rest ≡ cond b (x ∷ front) front ++ last
+cons_or {A} true x front last rest e = ap (λ (z : List A). x ∷ z) e
+cons_or false x front last rest e = e
+
+or_cons : {A : Type 0} (b : Bool) (x : A) (front last rest : List A) → rest ≡ front ++ last → cond b rest (x ∷ rest) ≡ cond b front (x ∷ front) ++ last
+or_cons {A} true x front last rest e = e
+or_cons {A} false x front last rest e = ap (λ (z : List A). x ∷ z) e
+
+pub decls-append : (front : List Said) (s : Said) → decls_of (front ++ s ∷ []) ≡ decls_of front ++ decls_of (s ∷ [])
+decls-append [] s = refl
+decls-append (x ∷ xs) s = cons_or (declares x.name) (decl_of x) (decls_of xs) (decls_of (s ∷ [])) (decls_of (xs ++ s ∷ [])) (decls-append xs s)
+
+pub attrs-append : (front : List Said) (s : Said) → attrs_of (front ++ s ∷ []) ≡ attrs_of front ++ attrs_of (s ∷ [])
+attrs-append [] s = refl
+attrs-append (x ∷ xs) s = or_cons (declares x.name) (attr_of x) (attrs_of xs) (attrs_of (s ∷ [])) (attrs_of (xs ++ s ∷ [])) (attrs-append xs s)

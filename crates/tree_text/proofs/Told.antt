@@ -1,0 +1,38 @@
+-- What is told of bytes: that they are no UTF-8, or what reading their characters gives.
+use Rattle.std.proofs.Common.{◌≡◌, ℕ, Bool, true, false, List, Result, Ok, Err, inl, inr, refl, sym, ap, ◌∙◌}
+use Rattle.std.specs.Prelude.{IsUtf8}
+use Rattle.std.specs.Str.{chars, is_utf8}
+use Rattle.std.proofs.lemmas.Str.{IsUtf8-from_is_utf8, is_utf8-from_IsUtf8}
+use Rattle.grammar_rules.specs.Reading.{Stop, Syntax, Faulty, read_whole}
+use Rattle.xml_tree.specs.Tree.{Tree}
+use Rattle.xml_tree.specs.declared.names.Decl.{Decl}
+use Rattle.tree_text.specs.declared.kind.Kind.{Kind}
+use Rattle.tree_text.specs.declared.fault.TextFault.{TextFault}
+use Rattle.tree_text.specs.declared.fault.TextFault.TheVariants as texts
+use Rattle.tree_text.specs.declared.stop.Stop.{Stop as CodeStop}
+use Rattle.tree_text.specs.declared.stop.Stop.TheVariants as stops
+use Rattle.tree_text.specs.Faults.{Unless, FaultOf, told, text_read}
+use Rattle.tree_text.specs.Gives.{Fails}
+use Rattle.tree_text.specs.Reading.{read_text}
+
+not_by : (bytes : List ℕ) (b : Bool) → is_utf8 bytes ≡ b → (IsUtf8 bytes → ⊥) → is_utf8 bytes ≡ false
+not_by bytes true e n = absurd (n (IsUtf8-from_is_utf8 bytes e))
+not_by bytes false e n = e
+
+pub not_read : (limit : ℕ) (scope : List (List Decl)) (bytes : List ℕ) → (IsUtf8 bytes → ⊥) → text_read limit scope bytes ≡ Err texts.NotUtf8
+not_read limit scope bytes n = rw (not_by bytes (is_utf8 bytes) refl n) refl
+
+module _ (limit : ℕ) (scope : List (List Decl)) (bytes text all : List ℕ) (same : text ≡ bytes) (utf8 : IsUtf8 bytes) (decoded : all ≡ chars text) where
+  pub is_read : (out : Result Tree (Stop Kind)) → read_whole (read_text limit scope) all ≡ out → text_read limit scope bytes ≡ told bytes out
+  is_read out h =
+      let yes : is_utf8 bytes ≡ true = is_utf8-from_IsUtf8 bytes utf8 in
+      let read : read_whole (read_text limit scope) (chars bytes) ≡ out = ap (read_whole (read_text limit scope)) (sym (decoded ∙ ap chars same)) ∙ h in
+      rw yes (ap (told bytes) read)
+
+  pub ok_told : (tree : Tree) → read_whole (read_text limit scope) all ≡ Ok tree → Unless texts.NoMemory (text_read limit scope bytes) (Ok tree)
+  ok_told tree h = inl (sym (is_read (Ok tree) h))
+
+  pub fault_told : (stop : CodeStop) (fault : TextFault) → Fails stop (read_whole (read_text limit scope) all) → FaultOf bytes stop fault → Unless texts.NoMemory (text_read limit scope bytes) (Err fault)
+  fault_told (stops.Syntax rest) fault h f = inl (ap (λ (z : TextFault). let w : Result Tree TextFault = Err z in w) f ∙ sym (is_read (Err (Syntax rest.now)) h))
+  fault_told (stops.Faulty kind rest) fault h f = inl (ap (λ (z : TextFault). let w : Result Tree TextFault = Err z in w) f ∙ sym (is_read (Err (Faulty kind rest.now)) h))
+  fault_told stops.Memory fault h f = inr (ap (λ (z : TextFault). let w : Result Tree TextFault = Err z in w) f)

@@ -1,0 +1,8 @@
+use Rattle.std.proofs.Common.{◌≡◌, ◌≤◌, ◌-◌, length, take, drop, sym, ◌∙◌, arith}
+use Rattle.std.proofs.lemmas.List.{length-take, length-drop}
+use Rattle.tree_text.specs.Grammar.{is_letter, is_encoding_char}
+use Rattle.tree_text.proofs.RunLemmas.{name_read, run_len_le}
+use Rattle.tree_text.proofs.declaration.encoding_name.Goals as goal
+
+pub returns-in-len1-up : goal.returns-in-len1-up
+returns-in-len1-up c = name_read is_letter is_encoding_char c.args.text.now c.split_at.result.0.now c.split_at.result.1.now c.first-item.result c.encoding_len.result c.in-len1-up.len_at_least c.first-item.is (sym c.is_letter.ensures ∙ c.if-is_letter.true) c.encoding_len.ensures c.split_at.ensures.front c.split_at.ensures.back

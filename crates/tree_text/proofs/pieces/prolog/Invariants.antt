@@ -1,0 +1,9 @@
+use Rattle.std.proofs.Common.{◌≡◌, ◌-◌}
+use Rattle.grammar_rules.specs.Reading.{read_sequence, read_at_most}
+use Rattle.tree_text.specs.Members.{nothing_with}
+use Rattle.tree_text.specs.Reading.{misc_follows, read_dropped, read_spaces, read_prolog_misc, read_prolog}
+use Rattle.tree_text.proofs.Loops.{finish}
+use Rattle.tree_text.proofs.pieces.prolog.Given as goal
+
+abbrev pub invariant-loop : goal.invariant-loop
+invariant-loop l = read_prolog l.text ≡ finish nothing_with tt (read_at_most misc_follows (read_sequence read_prolog_misc (λ _. read_dropped read_spaces)) (l.end - l.counter) l.rest)

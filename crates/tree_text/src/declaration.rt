@@ -1,0 +1,242 @@
+//! The XML declaration and the byte order mark, which may stand before everything else.
+ghost use Rattle.std.specs.Prelude.{◌≡◌, true, false, [], ◌∷◌, length, option_map, Ok};
+ghost use Rattle.grammar_rules.specs.Digits.{is_digit};
+ghost use Rattle.grammar_rules.specs.Reading.{read_some_of};
+ghost use Rattle.tree_text.specs.Gives.{Gives};
+ghost use Rattle.tree_text.specs.Grammar.{is_letter, is_encoding_char, is_our_encoding};
+ghost use Rattle.tree_text.specs.Reading.{letter_follows, read_version_number, read_encoding_name, read_yes_or_no, read_version, read_encoding, read_standalone, read_encoding_if, read_standalone_if, read_xml_declaration, declaration_follows, read_declaration, read_declaration_if, mark_follows, read_mark_if};
+ghost use Rattle.tree_text.specs.Runs.{run_len};
+
+use crate::kind::Kind;
+use crate::parts::{equals, some_spaces, spaces, starts_with_space, word};
+use crate::places::before;
+use crate::runs::{same_letters, starts};
+use crate::stop::Stop;
+use crate::values::quote;
+
+fn is_digit(c: char) -> bool
+    ensures { result ≡ is_digit c }
+{
+    matches!(c, '0'..='9')
+}
+
+fn is_letter(c: char) -> bool
+    ensures { result ≡ is_letter c }
+{
+    matches!(c, 'A'..='Z' | 'a'..='z')
+}
+
+/// Whether a character may stand in the name of an encoding, behind its first letter.
+fn is_encoding_char(c: char) -> bool
+    ensures { result ≡ is_encoding_char c }
+{
+    is_letter(c) || is_digit(c) || matches!(c, '.' | '_' | '-')
+}
+
+#[tactic(auto, using(crate::proofs::RunLemmas::run_more, crate::proofs::RunLemmas::run_done))]
+fn digits_len(text: &[char]) -> usize
+    ensures { result ≡ run_len is_digit text.now }
+{
+    let mut len = 0;
+    for &c in text {
+        if !is_digit(c) {
+            return len;
+        }
+        len += 1;
+    }
+    len
+}
+
+#[tactic(auto, using(crate::proofs::RunLemmas::run_more, crate::proofs::RunLemmas::run_done))]
+fn encoding_len(text: &[char]) -> usize
+    ensures { result ≡ run_len is_encoding_char text.now }
+{
+    let mut len = 0;
+    for &c in text {
+        if !is_encoding_char(c) {
+            return len;
+        }
+        len += 1;
+    }
+    len
+}
+
+/// One or more digits, and what follows them.
+fn digits(text: &[char]) -> Result<(&[char], &[char]), Stop<'_>>
+    ensures { Gives (λ x. (x.0.now, x.1.now)) result (read_some_of is_digit text.now) }
+{
+    let len = digits_len(text);
+    if len == 0 {
+        return Err(Stop::Syntax(text));
+    }
+    Ok(text.split_at(len))
+}
+
+/// What follows a version number.
+fn version_number(text: &[char]) -> Result<&[char], Stop<'_>>
+    ensures { Gives (λ rest. (tt, rest.now)) result (read_version_number text.now) }
+{
+    let rest = word(text, &['1', '.'])?;
+    let (_, rest) = digits(rest)?;
+    Ok(rest)
+}
+
+/// The name of an encoding, and what follows it.
+#[tactic(auto, using(crate::proofs::RunLemmas::run_len_le))]
+fn encoding_name(text: &[char]) -> Result<(&[char], &[char]), Stop<'_>>
+    ensures { Gives (λ x. (x.0.now, x.1.now)) result (read_encoding_name text.now) }
+{
+    match text {
+        [first, rest @ ..] if is_letter(*first) => Ok(text.split_at(1 + encoding_len(rest))),
+        _ => Err(Stop::Syntax(text)),
+    }
+}
+
+/// What follows `yes` or `no`.
+fn yes_or_no(text: &[char]) -> Result<&[char], Stop<'_>>
+    ensures { Gives (λ rest. (tt, rest.now)) result (read_yes_or_no text.now) }
+{
+    match text {
+        ['y', ..] => word(text, &['y', 'e', 's']),
+        _ => word(text, &['n', 'o']),
+    }
+}
+
+/// What follows the version.
+fn version(text: &[char]) -> Result<&[char], Stop<'_>>
+    ensures { Gives (λ rest. (tt, rest.now)) result (read_version text.now) }
+{
+    let (_, rest) = some_spaces(text)?;
+    let rest = word(rest, &['v', 'e', 'r', 's', 'i', 'o', 'n'])?;
+    let (_, rest) = equals(rest)?;
+    let (quote, rest) = quote(rest)?;
+    let rest = version_number(rest)?;
+    word(rest, &[quote])
+}
+
+/// The declared encoding, and what follows it.
+fn encoding(text: &[char]) -> Result<(&[char], &[char]), Stop<'_>>
+    ensures { Gives (λ x. (x.0.now, x.1.now)) result (read_encoding text.now) }
+{
+    let (_, rest) = some_spaces(text)?;
+    let rest = word(rest, &['e', 'n', 'c', 'o', 'd', 'i', 'n', 'g'])?;
+    let (_, rest) = equals(rest)?;
+    let (quote, rest) = quote(rest)?;
+    let (name, rest) = encoding_name(rest)?;
+    Ok((name, word(rest, &[quote])?))
+}
+
+/// What follows the word on whether the document stands alone.
+fn standalone(text: &[char]) -> Result<&[char], Stop<'_>>
+    ensures { Gives (λ rest. (tt, rest.now)) result (read_standalone text.now) }
+{
+    let (_, rest) = some_spaces(text)?;
+    let rest = word(rest, &['s', 't', 'a', 'n', 'd', 'a', 'l', 'o', 'n', 'e'])?;
+    let (_, rest) = equals(rest)?;
+    let (quote, rest) = quote(rest)?;
+    let rest = yes_or_no(rest)?;
+    word(rest, &[quote])
+}
+
+/// Whether white space and this letter follow.
+fn letter_follows(text: &[char], letter: char) -> bool
+    ensures { result ≡ letter_follows letter text.now }
+{
+    if !starts_with_space(text) {
+        return false;
+    }
+    let (_, rest) = spaces(text);
+    matches!(rest, [c, ..] if *c == letter)
+}
+
+/// The declared encoding, if there is one, and what follows it.
+fn encoding_if(text: &[char]) -> Result<(Option<&[char]>, &[char]), Stop<'_>>
+    ensures { Gives (λ x. (option_map (λ name. name.now) x.0, x.1.now)) result (read_encoding_if text.now) }
+{
+    if !letter_follows(text, 'e') {
+        return Ok((None, text));
+    }
+    let (name, rest) = encoding(text)?;
+    Ok((Some(name), rest))
+}
+
+/// Whether it is said that the document stands alone or not, and what follows.
+fn standalone_if(text: &[char]) -> Result<(Option<()>, &[char]), Stop<'_>>
+    ensures { Gives (λ x. (x.0, x.1.now)) result (read_standalone_if text.now) }
+{
+    if !letter_follows(text, 's') {
+        return Ok((None, text));
+    }
+    let rest = standalone(text)?;
+    Ok((Some(()), rest))
+}
+
+/// An XML declaration: the encoding that it names, if it does, and what follows it.
+fn xml_declaration(text: &[char]) -> Result<(Option<&[char]>, &[char]), Stop<'_>>
+    ensures { Gives (λ x. (option_map (λ name. name.now) x.0, x.1.now)) result (read_xml_declaration text.now) }
+{
+    let rest = word(text, &['<', '?', 'x', 'm', 'l'])?;
+    let rest = version(rest)?;
+    let (name, rest) = encoding_if(rest)?;
+    let (_, rest) = standalone_if(rest)?;
+    let (_, rest) = spaces(rest);
+    Ok((name, word(rest, &['?', '>'])?))
+}
+
+/// Whether an encoding is read.
+fn is_our_encoding(name: &[char]) -> bool
+    ensures { result ≡ is_our_encoding name.now }
+{
+    if same_letters(name, &['u', 't', 'f', '-', '8']) {
+        return true;
+    }
+    same_letters(name, &['u', 's', '-', 'a', 's', 'c', 'i', 'i'])
+}
+
+/// An XML declaration whose encoding is read, and what follows it.
+fn declaration(text: &[char]) -> Result<(Option<&[char]>, &[char]), Stop<'_>>
+    ensures { Gives (λ x. (option_map (λ name. name.now) x.0, x.1.now)) result (read_declaration text.now) }
+{
+    let (name, rest) = xml_declaration(text)?;
+    match name {
+        Some(name) => {
+            if !is_our_encoding(name) {
+                return Err(Stop::Faulty(Kind::Encoded, before(text, rest, 2)));
+            }
+            Ok((Some(name), rest))
+        }
+        None => Ok((None, rest)),
+    }
+}
+
+/// Whether `<?xml` and white space follow.
+#[tactic(auto, using(crate::proofs::RunLemmas::rest_of_drop))]
+fn declaration_follows(text: &[char]) -> bool
+    ensures { result ≡ declaration_follows text.now }
+{
+    if !starts(text, &['<', '?', 'x', 'm', 'l']) {
+        return false;
+    }
+    starts_with_space(&text[5..])
+}
+
+/// What follows an XML declaration, which may be absent.
+pub fn declaration_if(text: &[char]) -> Result<&[char], Stop<'_>>
+    ensures { Gives (λ rest. (tt, rest.now)) result (read_declaration_if text.now) }
+{
+    if !declaration_follows(text) {
+        return Ok(text);
+    }
+    let (_, rest) = declaration(text)?;
+    Ok(rest)
+}
+
+/// What follows a byte order mark, which may be absent.
+pub fn mark_if(text: &[char]) -> &[char]
+    ensures { read_mark_if text.now ≡ Ok (tt, result.now) }
+{
+    match text {
+        ['\u{FEFF}', rest @ ..] => rest,
+        _ => text,
+    }
+}

@@ -1,0 +1,282 @@
+//! Names in tags: declarations and attributes, and the first of a tag's names that is wrong.
+ghost use Rattle.std.specs.Prelude.{◌≡◌, ◌+◌, ◌<◌, ◌^◌, [], ◌++◌, ◌∷◌, length, map, IfOk, option_map, chars, not, if◌then◌else◌};
+ghost use Rattle.std.specs.Str.{bytes_eq};
+ghost use Rattle.xml_tree.specs.Scopes.{xml_prefix, xmlns_prefix, xml_uri, xmlns_uri};
+ghost use Rattle.xml_tree.specs.Expanded.{attr_name, same_uri, same_expanded};
+ghost use Rattle.xml_tree.specs.Proper.{may_stand};
+ghost use Rattle.tree_text.specs.Names.{declares, decl_of, decls_of, attr_of, attrs_of, is_unbound, is_misnamed, says_again, is_repeated, wrong_said, widths, opening, first_wrong, first_of_tag};
+ghost use Rattle.tree_text.specs.Views.{tag_in};
+
+use crate::kind::Kind;
+use crate::said::Said;
+use crate::tags::Tag;
+use crate::texts::no_text;
+use std::alloc::{AllocError, Global};
+use xml_tree::{Attr, Decl, Name, Scope, Text};
+
+fn is_nothing(text: &Text) -> bool
+    ensures { result ≡ bytes_eq text.now [] }
+{
+    text.is("")
+}
+
+fn is_xml(text: &Text) -> bool
+    ensures { result ≡ bytes_eq text.now xml_prefix }
+{
+    text.is("xml")
+}
+
+fn is_xmlns(text: &Text) -> bool
+    ensures { result ≡ bytes_eq text.now xmlns_prefix }
+{
+    text.is("xmlns")
+}
+
+fn is_xml_uri(text: &Text) -> bool
+    ensures { result ≡ bytes_eq text.now xml_uri }
+{
+    text.is("http://www.w3.org/XML/1998/namespace")
+}
+
+fn is_xmlns_uri(text: &Text) -> bool
+    ensures { result ≡ bytes_eq text.now xmlns_uri }
+{
+    text.is("http://www.w3.org/2000/xmlns/")
+}
+
+/// Whether an attribute of this name is a declaration.
+pub fn declares(name: &Name) -> bool
+    ensures { result ≡ declares name.now }
+{
+    if is_xmlns(&name.prefix) {
+        return true;
+    }
+    if !is_nothing(&name.prefix) {
+        return false;
+    }
+    is_xmlns(&name.local)
+}
+
+/// The prefix that a declaration declares.
+fn declared_prefix(said: &Said) -> &Text
+    ensures { result.now ≡ (decl_of said.now).prefix }
+{
+    if is_nothing(&said.name.prefix) {
+        &said.name.prefix
+    } else {
+        &said.name.local
+    }
+}
+
+/// The declaration that one is.
+fn decl_of(alloc: Global, said: &Said) -> Result<Decl, AllocError>
+    ensures { IfOk result (λ decl. decl ≡ decl_of said.now) }
+{
+    let prefix = declared_prefix(said).copy(alloc)?;
+    let uri = said.value.copy(alloc)?;
+    Ok(Decl { prefix, uri })
+}
+
+/// Adds a declaration, unless it is an attribute.
+fn push_decl(alloc: Global, decls: &mut Vec<Decl>, said: &Said) -> Result<(), AllocError>
+    ensures { IfOk result (λ _. decls.new.items ≡ decls.old.items ++ decls_of (said.now ∷ [])) }
+{
+    if !declares(&said.name) {
+        return Ok(());
+    }
+    let decl = decl_of(alloc, said)?;
+    decls.push(decl)?;
+    Ok(())
+}
+
+/// The declarations among these, in order.
+pub fn decls_of(alloc: Global, all: &[Said]) -> Result<Vec<Decl>, AllocError>
+    ensures { IfOk result (λ decls. decls.items ≡ decls_of all.now) }
+{
+    let mut decls = Vec::new(alloc);
+    for said in all {
+        push_decl(alloc, &mut decls, said)?;
+    }
+    Ok(decls)
+}
+
+/// Adds an attribute, unless it is a declaration.
+fn push_attr(attrs: &mut Vec<Attr>, said: Said) -> Result<(), AllocError>
+    ensures { IfOk result (λ _. attrs.new.items ≡ attrs.old.items ++ attrs_of (said ∷ [])) }
+{
+    if declares(&said.name) {
+        return Ok(());
+    }
+    let Said {
+        name,
+        value,
+        gap: _,
+        size: _,
+    } = said;
+    attrs.push(Attr { name, value })?;
+    Ok(())
+}
+
+/// The attributes among these, in order.
+pub fn attrs_of(alloc: Global, all: Vec<Said>) -> Result<Vec<Attr>, AllocError>
+    ensures { IfOk result (λ attrs. attrs.items ≡ attrs_of all.items) }
+{
+    let mut attrs = Vec::new(alloc);
+    for said in all {
+        push_attr(&mut attrs, said)?;
+    }
+    Ok(attrs)
+}
+
+/// Whether `xml` is bound to its own namespace, and nothing else to that.
+fn fits_xml(prefix: &Text, uri: &Text) -> bool
+    ensures { result ≡ (if bytes_eq prefix.now xml_prefix then bytes_eq uri.now xml_uri else not (bytes_eq uri.now xml_uri)) }
+{
+    let own = is_xml_uri(uri);
+    if is_xml(prefix) { own } else { !own }
+}
+
+/// Whether a declaration may stand.
+fn may_stand(prefix: &Text, uri: &Text) -> bool
+    ensures { result ≡ may_stand (record { prefix = prefix.now; uri = uri.now }) }
+{
+    if is_xmlns(prefix) {
+        return false;
+    }
+    if is_xmlns_uri(uri) {
+        return false;
+    }
+    if !fits_xml(prefix, uri) {
+        return false;
+    }
+    if is_nothing(prefix) {
+        return true;
+    }
+    !is_nothing(uri)
+}
+
+/// Whether a name has a prefix that isn't bound.
+pub fn is_unbound(here: &Scope<'_>, name: &Name) -> bool
+    ensures { result ≡ is_unbound here.now name.now }
+{
+    if is_nothing(&name.prefix) {
+        return false;
+    }
+    match here.resolve(name.prefix.as_str()) {
+        Some(_) => false,
+        None => true,
+    }
+}
+
+/// Whether a declaration may not stand, or an attribute has an unbound prefix.
+fn is_misnamed(here: &Scope<'_>, said: &Said) -> bool
+    ensures { result ≡ is_misnamed here.now said.now }
+{
+    if declares(&said.name) {
+        return !may_stand(declared_prefix(said), &said.value);
+    }
+    is_unbound(here, &said.name)
+}
+
+/// The namespace of an attribute of this name.
+fn attr_uri<'a>(here: &Scope<'a>, name: &Name) -> Option<&'a str>
+    ensures { option_map (λ uri. chars uri.now) result ≡ (attr_name here.now name.now).uri }
+{
+    if is_nothing(&name.prefix) {
+        return None;
+    }
+    here.resolve(name.prefix.as_str())
+}
+
+fn same_text(a: &str, b: &str) -> bool
+    ensures { result ≡ bytes_eq (chars a.now) (chars b.now) }
+{
+    a == b
+}
+
+/// Whether two namespaces are one.
+fn same_uri(a: Option<&str>, b: Option<&str>) -> bool
+    ensures { result ≡ same_uri (option_map (λ uri. chars uri.now) a.entry) (option_map (λ uri. chars uri.now) b.entry) }
+{
+    match a {
+        Some(a) => match b {
+            Some(b) => same_text(a, b),
+            None => false,
+        },
+        None => b.is_none(),
+    }
+}
+
+/// Whether two attributes have one expanded name.
+#[tactic(auto, using(crate::proofs::JudgeLemmas::no_and))]
+fn same_expanded(here: &Scope<'_>, a: &Name, b: &Name) -> bool
+    ensures { result ≡ same_expanded (attr_name here.now a.now) (attr_name here.now b.now) }
+{
+    if !a.local.is(b.local.as_str()) {
+        return false;
+    }
+    same_uri(attr_uri(here, a), attr_uri(here, b))
+}
+
+/// Whether an earlier one of the tag declares the same prefix or has the same expanded name.
+fn says_again(here: &Scope<'_>, said: &Said, earlier: &Said) -> bool
+    ensures { result ≡ says_again here.now said.now earlier.now }
+{
+    if declares(&said.name) {
+        if !declares(&earlier.name) {
+            return false;
+        }
+        return declared_prefix(earlier).is(declared_prefix(said).as_str());
+    }
+    if declares(&earlier.name) {
+        return false;
+    }
+    same_expanded(here, &earlier.name, &said.name)
+}
+
+/// Whether some earlier one does.
+fn is_repeated(here: &Scope<'_>, earlier: &[Said], said: &Said) -> bool
+    ensures { result ≡ is_repeated here.now earlier.now said.now }
+{
+    earlier.iter().any(|e| says_again(here, said, e))
+}
+
+/// What is wrong with one of a tag, behind these.
+fn wrong_said(here: &Scope<'_>, earlier: &[Said], said: &Said) -> Option<Kind>
+    ensures { result ≡ wrong_said here.now earlier.now said.now }
+{
+    if is_misnamed(here, said) {
+        return Some(Kind::Unbound);
+    }
+    if is_repeated(here, earlier, said) {
+        return Some(Kind::Repeated);
+    }
+    None
+}
+
+/// The first of these that is wrong, and how many characters of the tag stand before its name, of which this many before all.
+pub fn first_wrong(here: &Scope<'_>, all: &[Said], opening: usize) -> Option<(Kind, usize)>
+    requires { opening + widths all.now < 2 ^ 64 }
+    ensures { result ≡ first_wrong here.now [] opening all.now }
+{
+    let mut at = opening;
+    for (i, said) in all.iter().enumerate() {
+        if let Some(kind) = wrong_said(here, &all[..i], said) {
+            return Some((kind, at + said.gap));
+        }
+        at += said.gap + said.size;
+    }
+    None
+}
+
+/// The first wrong name of a tag, in the scope inside it, and how many characters of the tag stand before it.
+pub fn first_of_tag(here: &Scope<'_>, tag: &Tag<'_>) -> Option<(Kind, usize)>
+    requires opening { tag.now.opening ≡ opening (tag_in tag.now) }
+    requires fits { tag.now.opening + widths tag.now.said.items < 2 ^ 64 }
+    ensures { result ≡ first_of_tag here.now (tag_in tag.now) }
+{
+    if is_unbound(here, &tag.name) {
+        return Some((Kind::Unbound, 1));
+    }
+    first_wrong(here, &tag.said, tag.opening)
+}

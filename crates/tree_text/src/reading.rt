@@ -1,0 +1,113 @@
+//! Reading documents, fragments and bodies.
+ghost use Rattle.std.specs.Prelude.{◌≡◌, ◌+◌, ◌≤◌, length, [], IfOk};
+ghost use Rattle.std.specs.Str.{chars};
+ghost use Rattle.grammar_rules.specs.Reading.{read_whole};
+ghost use Rattle.tree_text.specs.Faults.{Unless, FaultOf, text_read, body_read};
+ghost use Rattle.tree_text.specs.Gives.{Fails, GivesAll};
+ghost use Rattle.tree_text.specs.Reading.{read_text};
+ghost use Rattle.tree_text.specs.declared.fault.TextFault.TheVariants as texts;
+ghost use Rattle.tree_text.specs.declared.fault.ValueFault.TheVariants as bodies;
+
+use crate::declaration::{declaration_if, mark_if};
+use crate::elements::element;
+use crate::fault::TextFault;
+use crate::kind::Kind;
+use crate::pieces::{epilog, prolog};
+use crate::places::place;
+use crate::stop::Stop;
+use std::alloc::{AllocError, Global};
+use xml_tree::{Element, Scope};
+
+/// The root element of a whole text, with this many levels at most.
+fn root<'a>(
+    alloc: Global,
+    text: &'a [char],
+    scope: &Scope<'_>,
+    depth: usize,
+) -> Result<Element, Stop<'a>>
+    requires { length scope.now + depth ≤ 67 }
+    ensures { GivesAll result (read_whole (read_text depth scope.now) text.now) }
+{
+    let rest = mark_if(text);
+    let rest = declaration_if(rest)?;
+    let rest = prolog(rest)?;
+    let (root, rest) = element(alloc, rest, scope, 1, depth)?;
+    let rest = epilog(rest)?;
+    if !rest.is_empty() {
+        return Err(Stop::Syntax(rest));
+    }
+    Ok(root)
+}
+
+/// The characters of a text.
+pub fn decoded(alloc: Global, text: &str) -> Result<Vec<char>, AllocError>
+    ensures { IfOk result (λ all. all.items ≡ chars text.now) }
+{
+    text.chars().collect(alloc)
+}
+
+/// The fault that a stop is, in the text of these bytes.
+fn fault(bytes: &[u8], stop: Stop<'_>) -> TextFault
+    ensures { FaultOf bytes.now stop.entry result }
+{
+    match stop {
+        Stop::Syntax(rest) => TextFault::NotWellFormed(place(bytes, rest)),
+        Stop::Faulty(kind, rest) => match kind {
+            Kind::Encoded => TextFault::NotUtf8,
+            Kind::Doctyped => TextFault::Doctype(place(bytes, rest)),
+            Kind::Depth(_) => TextFault::TooDeep(place(bytes, rest)),
+            Kind::Unbound => TextFault::Namespace(place(bytes, rest)),
+            Kind::Repeated => TextFault::RepeatedAttribute(place(bytes, rest)),
+        },
+        Stop::Memory => TextFault::NoMemory,
+    }
+}
+
+/// The tree that bytes spell in a scope.
+fn read(
+    alloc: Global,
+    bytes: &[u8],
+    scope: &Scope<'_>,
+    depth: usize,
+) -> Result<Element, TextFault>
+    requires { length scope.now + depth ≤ 67 }
+    ensures { Unless texts.NoMemory (text_read depth scope.now bytes.now) result }
+{
+    let Ok(text) = str::from_utf8(bytes) else {
+        return Err(TextFault::NotUtf8);
+    };
+    let all = decoded(alloc, text)?;
+    match root(alloc, &all, scope, depth) {
+        Ok(root) => Ok(root),
+        Err(stop) => Err(fault(bytes, stop)),
+    }
+}
+
+/// The tree that the bytes of a document spell, with at most `depth` levels (XML 1.0; Namespaces in XML 1.0).
+///
+/// # Errors
+/// The fault with the least place; `NoMemory` for want of memory.
+pub fn read_document(alloc: Global, bytes: &[u8], depth: usize) -> Result<Element, TextFault>
+    requires least { 1 ≤ depth }
+    requires most { depth ≤ 67 }
+    ensures { Unless texts.NoMemory (text_read depth [] bytes.now) result }
+{
+    read(alloc, bytes, &Scope::empty(), depth)
+}
+
+/// The tree that the bytes of a fragment spell, with at most `depth` levels: the grammar of documents, where prefixes may also
+/// be bound by the scope around it (RFC 4825, section 8.2).
+///
+/// # Errors
+/// The fault with the least place; `NoMemory` for want of memory. With a depth of 0 every root element is `TooDeep`.
+pub fn read_fragment(
+    alloc: Global,
+    bytes: &[u8],
+    scope: &Scope<'_>,
+    depth: usize,
+) -> Result<Element, TextFault>
+    requires { length scope.now + depth ≤ 67 }
+    ensures { Unless texts.NoMemory (text_read depth scope.now bytes.now) result }
+{
+    read(alloc, bytes, scope, depth)
+}

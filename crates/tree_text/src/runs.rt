@@ -1,0 +1,112 @@
+//! Runs of characters: raw ones in content, and those up to a word that ends them.
+ghost use Rattle.std.specs.Prelude.{◌≡◌, ◌+◌, ◌<◌, ◌≤◌, ◌++◌, true, [], ◌∷◌, length, OnOk, IfOk, IsTrue, Ok};
+ghost use Rattle.grammar_rules.specs.Reading.{starts, read_up_to, read_run_without};
+ghost use Rattle.xml_tree.specs.Characters.{is_char};
+ghost use Rattle.tree_text.specs.Gives.{Gives};
+ghost use Rattle.tree_text.specs.Grammar.{is_raw};
+ghost use Rattle.tree_text.specs.Pieces.{line_char, with_char, line_ends, same_letters};
+ghost use Rattle.tree_text.specs.Reading.{read_raw_run};
+ghost use Rattle.tree_text.specs.Runs.{without_len};
+ghost use Rattle.tree_text.specs.Words.{section_end};
+
+use crate::stop::Stop;
+use crate::texts::no_text;
+use crate::values::{is_raw, line_char};
+use std::alloc::{AllocError, Global};
+use xml_tree::{Text, is_char};
+
+/// Whether a word stands in front.
+pub fn starts(text: &[char], word: &[char]) -> bool
+    ensures test { result ≡ starts word.now text.now }
+    ensures room { IsTrue result → length word.now ≤ length text.now }
+{
+    let mut rest = text;
+    for &expected in word {
+        match rest {
+            [found, after @ ..] if *found == expected => rest = after,
+            _ => return false,
+        }
+    }
+    true
+}
+
+/// Whether these are the letters of a word, in small letters or in capitals.
+pub fn same_letters(text: &[char], word: &[char]) -> bool
+    ensures { result ≡ same_letters text.now word.now }
+{
+    let mut rest = text;
+    for &expected in word {
+        match rest {
+            [found, after @ ..] if found.to_ascii_lowercase() == expected => rest = after,
+            _ => return false,
+        }
+    }
+    matches!(rest, [])
+}
+
+/// How many raw characters of content stand in front of a `>` that would end `]]>`, or of what isn't raw.
+fn raw_len(text: &[char]) -> usize
+    ensures { result ≡ without_len is_raw section_end text.now }
+{
+    let mut len = 0;
+    let mut rest = text;
+    while let [c, after @ ..] = rest {
+        if starts(rest, &[']', ']', '>']) {
+            return len + 2;
+        }
+        if !is_raw(*c) {
+            return len;
+        }
+        len += 1;
+        rest = after;
+    }
+    len
+}
+
+/// Raw characters of content, which may be none, and what follows them.
+#[tactic(auto, using(crate::proofs::RunLemmas::take_without, crate::proofs::RunLemmas::drop_without, crate::proofs::RunLemmas::without_len_le))]
+pub fn raw_run(text: &[char]) -> (&[char], &[char])
+    ensures { read_raw_run text.now ≡ Ok (result.0.now, result.1.now) }
+{
+    text.split_at(raw_len(text))
+}
+
+/// The Chars up to the first time that a word stands there, and what follows the word.
+pub fn up_to<'a>(text: &'a [char], end: &[char]) -> Result<(&'a [char], &'a [char]), Stop<'a>>
+    requires { 0 < length end.now }
+    ensures { Gives (λ x. (x.0.now, x.1.now)) result (read_up_to is_char end.now text.now) }
+{
+    for i in 0..text.len() {
+        let rest = &text[i..];
+        if starts(rest, end) {
+            return Ok((&text[..i], &rest[end.len()..]));
+        }
+        if !is_char(text[i]) {
+            return Err(Stop::Syntax(rest));
+        }
+    }
+    Err(Stop::Syntax(&[]))
+}
+
+/// Adds a raw character of content, which these follow.
+fn push_char(text: &mut Text, c: char, after: &[char]) -> Result<(), AllocError>
+    ensures { OnOk result (text.new ≡ text.old ++ with_char (line_char c after.now) []) }
+{
+    match line_char(c, after) {
+        Some(c) => text.push(c),
+        None => Ok(()),
+    }
+}
+
+/// The text that a run is read as: its line ends are LF.
+pub fn lines(alloc: Global, run: &[char]) -> Result<Text, AllocError>
+    ensures { IfOk result (λ text. text ≡ line_ends run.now) }
+{
+    let mut text = no_text(alloc);
+    let mut rest = run;
+    while let [c, after @ ..] = rest {
+        push_char(&mut text, *c, after)?;
+        rest = after;
+    }
+    Ok(text)
+}
