@@ -1,10 +1,10 @@
 -- Where one rule, in one text, is as good as another, what is known of reading the one carries over to the other: other values, choices.
-use Rattle.std.proofs.Common.{◌≡◌, ℕ, ◌+◌, ◌-◌, ◌<◌, ◌≤◌, Bool, true, false, cond, List, [], ◌∷◌, ◌++◌, length, Result, Ok, Err, ◌⊎◌, inl, inr, ⊎_elim, refl, sym, ap, subst, ◌∙◌, append_assoc, arith}
+use Rattle.std.proofs.Common.{◌≡◌, ℕ, ◌-◌, Bool, true, false, cond, List, [], ◌++◌, length, Result, Ok, Err, ◌⊎◌, inl, inr, ⊎_elim, refl, ap, subst, ◌∙◌, arith}
 use Rattle.std.proofs.lemmas.List.{length-append}
-use Rattle.grammar_rules.specs.Rules.{Event, Begin, Mark, Rule, Split, sequence, either, valued, sized}
+use Rattle.grammar_rules.specs.Rules.{Event, Begin, Mark, Rule, sequence, either, valued, sized}
 use Rattle.grammar_rules.specs.Reading.{Stop, Syntax, Faulty, Reader, ◌>>=◌, read_either, read_valued, read_sized}
 use Rattle.grammar_rules.specs.Answers.{Faults}
-use Rattle.grammar_rules.proofs.Exact.{Rest, ahead, sequence_meets, sequence_whole, Passed, Behind, Later, IsRead, IsStopped, IsAtFault, Outcome, Exact, behind_passed}
+use Rattle.grammar_rules.proofs.Exact.{Rest, ahead, sequence_meets, sequence_whole, Passed, IsRead, IsStopped, IsAtFault, Outcome, Exact, behind_passed}
 
 module _ {Kind : Type 0} (faults : Faults Kind) where
   -- It is of no weight: the beginning is empty, the mark no fault.

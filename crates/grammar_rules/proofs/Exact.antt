@@ -1,5 +1,5 @@
 -- What it means that a reading function reads a rule exactly, whatever may follow the rule.
-use Rattle.std.proofs.Common.{◌≡◌, ℕ, ◌+◌, ◌<◌, ◌≤◌, Bool, true, false, List, [], ◌∷◌, ◌++◌, length, Result, Ok, Err, ◌⊎◌, inl, inr, ⊎_elim, refl, sym, ap, subst, ◌∙◌, append_assoc, arith}
+use Rattle.std.proofs.Common.{◌≡◌, ℕ, ◌+◌, ◌<◌, ◌≤◌, true, false, List, ◌++◌, length, Result, Ok, Err, ◌⊎◌, inl, inr, ⊎_elim, refl, sym, ap, subst, ◌∙◌, append_assoc, arith}
 use Rattle.std.proofs.lemmas.List.{append_cancel_left, length-append}
 use Rattle.grammar_rules.specs.Rules.{Event, Begin, Mark, Rule, Split, sequence}
 use Rattle.grammar_rules.specs.Reading.{Stop, Syntax, Faulty, Reader, ◌>>=◌, read_sequence}

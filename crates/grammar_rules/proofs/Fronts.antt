@@ -1,7 +1,7 @@
 -- Fronts of one text, and words in them.
-use Rattle.std.proofs.Common.{◌≡◌, ℕ, zero, suc, ◌+◌, ◌-◌, ◌<◌, ◌≤◌, Bool, true, false, cond, List, [], ◌∷◌, ◌++◌, length, take, drop, ◌⊎◌, inl, inr, ⊎_elim, refl, sym, ap, subst, ◌∙◌, append_assoc, arith, eqb}
+use Rattle.std.proofs.Common.{◌≡◌, ℕ, ◌+◌, ◌<◌, Bool, true, false, cond, List, [], ◌∷◌, ◌++◌, length, drop, ◌⊎◌, inl, inr, ⊎_elim, refl, sym, ap, ◌∙◌, append_assoc, arith, eqb}
 use Rattle.std.proofs.lemmas.Bool.{eqb-true, eq-eqb}
-use Rattle.std.proofs.lemmas.List.{append_cancel_left, length-append, nil_from_length, append-nil}
+use Rattle.std.proofs.lemmas.List.{length-append, nil_from_length}
 use Rattle.grammar_rules.specs.Rules.{AllPass, Lacks, OnlyLast}
 use Rattle.grammar_rules.specs.Reading.{starts, all_but_last}
 

@@ -1,13 +1,13 @@
 -- Rules that are read as far as they go: runs of a class, and numbers. What follows must not go on with the class.
-use Rattle.std.proofs.Common.{◌≡◌, ℕ, zero, suc, ◌+◌, ◌-◌, ◌*◌, ◌<◌, ◌≤◌, Bool, true, false, cond, List, [], ◌∷◌, ◌++◌, length, take, drop, Result, Ok, Err, ◌⊎◌, inl, inr, ⊎_elim, refl, sym, ap, subst, ◌∙◌, append_assoc, arith}
+use Rattle.std.proofs.Common.{◌≡◌, ℕ, ◌+◌, ◌-◌, ◌*◌, ◌<◌, ◌≤◌, Bool, true, false, cond, List, [], ◌∷◌, ◌++◌, length, drop, Result, Ok, Err, ◌⊎◌, inl, inr, ⊎_elim, refl, sym, ap, subst, ◌∙◌, append_assoc, arith}
 use Rattle.std.specs.Prelude.{◌&&◌, nat_le}
 use Rattle.std.proofs.lemmas.Bool.Decides.{nat_tests}
-use Rattle.std.proofs.lemmas.List.{append_cancel_left, length-append, append-nil, drop-append-le}
+use Rattle.std.proofs.lemmas.List.{append_cancel_left, length-append, append-nil}
 use Rattle.grammar_rules.specs.Digits.{Digits}
-use Rattle.grammar_rules.specs.Rules.{Event, Begin, Mark, Rule, Split, AllPass, run, Lacks, run_without, IsNumberSoFar, number_from, number}
-use Rattle.grammar_rules.specs.Reading.{Stop, Syntax, Faulty, Reader, starts, front_of, after_front, read_run, all_but_last, front_without, after_without, read_run_without, number_end, read_digits, read_number}
+use Rattle.grammar_rules.specs.Rules.{Event, Begin, Mark, AllPass, run, Lacks, run_without, IsNumberSoFar, number_from, number}
+use Rattle.grammar_rules.specs.Reading.{Stop, Syntax, Faulty, starts, front_of, after_front, read_run, all_but_last, front_without, after_without, read_run_without, number_end, read_digits, read_number}
 use Rattle.grammar_rules.specs.Answers.{Faults}
-use Rattle.grammar_rules.proofs.Exact.{Rest, ahead, regroup, Passed, Later, IsRead, IsStopped, IsAtFault, Outcome, Exact}
+use Rattle.grammar_rules.proofs.Exact.{Rest, ahead, regroup, Passed, Later, IsRead, IsStopped, Outcome, Exact}
 use Rattle.grammar_rules.proofs.Leaves.{leaf}
 use Rattle.grammar_rules.proofs.Heads.{Heads, Not}
 use Rattle.grammar_rules.proofs.Fronts.{compare, pass_front, pass_back, starts_is, lacks_front, lacks_short, lacks_step, Ended, ended}
@@ -203,11 +203,11 @@ module _ (d : Digits) (most : ℕ) where
   abbrev Next : ℕ → ℕ → ℕ
   Next n c = n * d.base + d.value c
 
-  digits_pass : (n : ℕ) (v : List ℕ) → IsNumberSoFar d most n v → AllPass d.is_digit v
+  pub digits_pass : (n : ℕ) (v : List ℕ) → IsNumberSoFar d most n v → AllPass d.is_digit v
   digits_pass n [] h = tt
   digits_pass n (c ∷ cs) h = (h.0, digits_pass (Next n c) cs h.2)
 
-  digits_front : (n : ℕ) (u v : List ℕ) → IsNumberSoFar d most n (u ++ v) → IsNumberSoFar d most n u
+  pub digits_front : (n : ℕ) (u v : List ℕ) → IsNumberSoFar d most n (u ++ v) → IsNumberSoFar d most n u
   digits_front n [] v h = tt
   digits_front n (c ∷ u) v h = (h.0, h.1, digits_front (Next n c) u v h.2)
 

@@ -1,9 +1,8 @@
 -- Which characters a rule, or what may follow it, begins with.
-use Rattle.std.proofs.Common.{◌≡◌, ℕ, zero, suc, ◌+◌, ◌<◌, ◌≤◌, Bool, true, false, cond, List, [], ◌∷◌, ◌++◌, length, Result, Ok, Err, ◌⊎◌, inl, inr, ⊎_elim, refl, sym, ap, subst, ◌∙◌, append_assoc, arith}
-use Rattle.std.specs.Prelude.{Option, Some, None}
-use Rattle.std.proofs.lemmas.List.{length-append}
+use Rattle.std.proofs.Common.{◌≡◌, ℕ, ◌<◌, Bool, true, false, List, [], ◌∷◌, ◌++◌, length, ◌⊎◌, inl, inr, ⊎_elim, refl, sym, ap, subst, ◌∙◌, arith}
+use Rattle.std.specs.Prelude.{Some}
 use Rattle.grammar_rules.specs.Digits.{Digits}
-use Rattle.grammar_rules.specs.Rules.{Event, Begin, Mark, Rule, Split, breaks, empty, one, word, AllPass, run, run_without, number, IsNumberSoFar, sequence, either, Each, many, valued, sized, only, atomic, marked, judged, trap, optional}
+use Rattle.grammar_rules.specs.Rules.{Event, Begin, Mark, Rule, Split, empty, one, word, AllPass, run, run_without, number, sequence, either, valued, sized, only, atomic, marked, judged, trap, optional}
 use Rattle.grammar_rules.specs.Answers.{Faults}
 use Rattle.grammar_rules.proofs.Exact.{Rest, ahead, sequence_meets, sequence_whole}
 use Rattle.grammar_rules.proofs.Carry.{Idle, Covers, valued_meets, valued_whole, sized_meets, sized_whole, either_meets, either_whole}
@@ -284,4 +283,3 @@ module _ {Kind : Type 0} {faults : Faults Kind} where
   -- The same, of a rule.
   pub starts_covers : {A : Type 0} {P : ℕ → Type 0} {r : Rule Kind A} {J : A → Rest Kind} {K : Rest Kind} {text : List ℕ} → Starts P r → ((c : ℕ) (x : List ℕ) → text ≡ c ∷ x → P c → ⊥) → Covers faults text (ahead r J) K
   starts_covers h none = none_covers (heads_starts h) (follows_starts h) none
-

@@ -1,9 +1,9 @@
 -- Rules whose whole texts are told from the text alone, whatever follows: one character, a word, nothing at all.
-use Rattle.std.proofs.Common.{◌≡◌, ℕ, ◌+◌, ◌<◌, ◌≤◌, Bool, true, false, cond, List, [], ◌∷◌, ◌++◌, length, Result, Ok, Err, ◌⊎◌, inl, inr, ⊎_elim, refl, sym, ap, subst, ◌∙◌, append_assoc, arith, eqb}
+use Rattle.std.proofs.Common.{◌≡◌, ℕ, ◌≤◌, Bool, true, false, cond, List, [], ◌∷◌, ◌++◌, length, Result, Ok, Err, ◌⊎◌, inl, inr, ⊎_elim, refl, sym, ap, subst, ◌∙◌, arith, eqb}
 use Rattle.std.proofs.lemmas.Bool.{eqb-true, eq-eqb}
 use Rattle.std.proofs.lemmas.List.{length-append}
-use Rattle.grammar_rules.specs.Rules.{Event, Begin, Mark, Rule, Split, breaks, never, empty, one, word}
-use Rattle.grammar_rules.specs.Reading.{Stop, Syntax, Faulty, Reader, read_never, read_empty, read_one, read_word}
+use Rattle.grammar_rules.specs.Rules.{Event, Begin, Mark, Rule, breaks, empty, one, word}
+use Rattle.grammar_rules.specs.Reading.{Stop, Syntax, Faulty, read_empty, read_one, read_word}
 use Rattle.grammar_rules.specs.Answers.{Faults}
 use Rattle.grammar_rules.proofs.Exact.{Rest, ahead, regroup, Passed, Later, IsRead, IsStopped, Outcome, Exact}
 

@@ -4,3 +4,14 @@ pub mod Leaves
 pub mod Heads
 pub mod Fronts
 pub mod Greedy
+pub mod UpTo
+pub mod Repeats
+pub mod Laws
+pub mod Closed
+pub mod Marks
+pub mod Whole
+pub mod Shapes
+pub mod Led
+pub mod Spaced
+pub mod Tests
+pub mod Beginnings

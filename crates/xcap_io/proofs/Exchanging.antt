@@ -3,7 +3,7 @@ use Rattle.std.proofs.Common.{◌≡◌, ◌≢◌, ℕ, ◌+◌, ◌<◌, ◌�
 use Rattle.std.specs.Prelude.{slice_set}
 use Rattle.std.proofs.lemmas.List.{drop-set-lt}
 use Rattle.xcap_io.specs.Causes.{Exchange, Dialled, OnlyReads, OnlyWrites}
-use Rattle.xcap_io.specs.Connections.{asked, asked_by, Comes, Connects}
+use Rattle.xcap_io.specs.Connections.{asked_by, Comes, Connects}
 use Rattle.xcap_io.specs.Memory.{MemoryLine, MemoryLines, MemoryPeer, line_at, no_line, present_line, next_number, begin_next, lines_state, lines_to_come, LinesRead, LinesWrite, exchanges, lines_dialled, peer_state}
 
 -- a line behind those of these addresses doesn't matter
@@ -71,6 +71,7 @@ peer_reads old new wanted result tied addresses faults only read = record {
     same_taken = only.reads.same_taken;
     same_write_faults = only.reads.same_write_faults;
     same_holds = only.reads.same_holds;
+    same_aside = only.reads.same_aside;
     same_port = only.reads.same_port;
     same_peer = same_peer old new tied (stays_by_read old.lines.present old.lines new.lines wanted result read) addresses faults;
   };
@@ -86,6 +87,7 @@ peer_writes old new piece result tied addresses faults only write = record {
     same_left = only.writes.same_left;
     same_read_faults = only.writes.same_read_faults;
     same_holds = only.writes.same_holds;
+    same_aside = only.writes.same_aside;
     same_port = only.writes.same_port;
     same_peer = same_peer old new tied (stays_by_write old.lines.present old.lines new.lines piece result write) addresses faults;
   };
@@ -131,6 +133,7 @@ begins_next old until_fault address tied within =
       same_read_faults = refl;
       same_write_faults = refl;
       same_holds = refl;
+      same_aside = refl;
       same_port = refl;
     }
 

@@ -1,6 +1,6 @@
 -- Lines in memory, and ports and peers made of them, as their callers see them. This is the project's own.
 use Rattle.std.specs.Prelude.{◌≡◌, ◌≢◌, ℕ, zero, suc, ◌+◌, ◌-◌, ◌^◌, ◌<◌, ◌≤◌, min, List, [], ◌∷◌, ◌++◌, length, map, take, drop, Bool, true, false, Option, None, Some, Result, Ok, Err, option_map, unwrap_or, IsErr, ◌⊎◌, slice_index_or, slice_set}
-use Rattle.xcap_io.specs.Causes.{Begun, PortState, Exchange, Dialled, PeerState, LineState, no_port, no_peer}
+use Rattle.xcap_io.specs.Causes.{Begun, Exchange, Dialled, LineState, no_port, no_peer}
 
 -- A line in memory.
 pub record MemoryLine : Type 0 where
@@ -51,6 +51,7 @@ line_state line = record {
   read_faults = line.read_faults;
   write_faults = line.write_faults;
   holds = [];
+  aside = [];
   port = no_port;
   peer = no_peer;
 }
@@ -115,6 +116,7 @@ lines_state m = record {
   read_faults = m.read_faults;
   write_faults = m.write_faults;
   holds = [];
+  aside = [];
   port = no_port;
   peer = no_peer;
 }

@@ -4,6 +4,7 @@
 #![tactic(auto)]
 
 mod bytes;
+mod echo;
 mod gatherer;
 mod line;
 mod mem_line;
@@ -14,9 +15,12 @@ mod pair;
 mod remembered;
 mod std_streams;
 mod tcp;
+#[cfg(test)]
+mod tests;
 mod writing;
 
 pub use bytes::Bytes;
+pub use echo::echo_once;
 pub use gatherer::{Gatherer, flush, put};
 pub use line::{Failed, Line, Peer, Port, Sink, Source};
 pub use mem_line::MemLine;

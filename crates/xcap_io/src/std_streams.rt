@@ -23,6 +23,7 @@ impl<R: Read> StdSource<R> {
           read_faults = 0;
           write_faults = 0;
           holds = [];
+          aside = [];
           port = no_port;
           peer = no_peer;
         } }
@@ -38,6 +39,7 @@ impl<R: Read> Line for StdSource<R> {
       read_faults = s.faults;
       write_faults = 0;
       holds = [];
+      aside = [];
       port = no_port;
       peer = no_peer;
     } };
@@ -69,6 +71,7 @@ impl<W: Write> StdSink<W> {
           read_faults = 0;
           write_faults = 0;
           holds = [];
+          aside = [];
           port = no_port;
           peer = no_peer;
         } }
@@ -84,6 +87,7 @@ impl<W: Write> Line for StdSink<W> {
       read_faults = 0;
       write_faults = s.faults;
       holds = [];
+      aside = [];
       port = no_port;
       peer = no_peer;
     } };

@@ -1,11 +1,12 @@
 // Real sockets. These few lines are the trusted edge: no contract says what a socket gives or takes.
-ghost use Rattle.std.specs.Prelude.{◌≡◌, ◌<◌, ◌≤◌, ℕ, [], None, length, IfSome};
+ghost use Rattle.std.specs.Prelude.{◌≡◌, ◌<◌, ◌≤◌, ℕ, [], None, length, IfSome, IfOk, IsTrue};
 ghost use Rattle.xcap_io.specs.Causes.{no_port, no_peer};
+ghost use Rattle.xcap_io.specs.Connections.{OnlyNext};
 
 use crate::line::fault;
 use crate::{Failed, Line, Peer, Port, Sink, Source};
 use std::io::{Read, Write};
-use std::net::{Net, OpenListener, TcpListener, TcpStream};
+use std::net::{Net, OpenListener, OpenStream, TcpListener, TcpStream};
 
 /// Connections that come in over TCP. It tells no bytes, no address and no connections, only its counts of faults.
 /// A want of memory inside a call is a fault like any other.
@@ -28,6 +29,7 @@ impl<N: Net + Drop> TcpPort<N> {
           read_faults = 0;
           write_faults = 0;
           holds = [];
+          aside = [];
           port = no_port;
           peer = no_peer;
         } }
@@ -50,6 +52,7 @@ impl<N: Net + Drop> Line for TcpPort<N> {
       read_faults = p.read_faults;
       write_faults = p.write_faults;
       holds = [];
+      aside = [];
       port = record no_port { faults = p.faults };
       peer = no_peer;
     } };
@@ -75,6 +78,7 @@ impl<N: Net + Drop> TcpPeer<N> {
           read_faults = 0;
           write_faults = 0;
           holds = [];
+          aside = [];
           port = no_port;
           peer = no_peer;
         } }
@@ -96,6 +100,7 @@ impl<N: Net + Drop> Line for TcpPeer<N> {
       read_faults = p.read_faults;
       write_faults = p.write_faults;
       holds = [];
+      aside = [];
       port = no_port;
       peer = record no_peer { faults = p.faults };
     } };
@@ -138,6 +143,11 @@ fn accept_next<L: OpenListener>(listener: &Option<L>) -> Option<L::Stream> {
     }
 }
 
+// Writes are few and large here, so none waits in the system for more. A socket that can't do so works all the same.
+fn send_at_once<S: OpenStream>(stream: &S) {
+    let _ = stream.set_nodelay(true);
+}
+
 impl<N: Net + Drop> Source for TcpPort<N> {
     fn read(&mut self, buf: &mut [u8]) -> Result<usize, Failed> {
         match read_some(&mut self.stream, buf) {
@@ -167,11 +177,17 @@ impl<N: Net + Drop> Port for TcpPort<N> {
         }
     }
 
-    fn next(&mut self) -> Result<bool, Failed> {
+    // Connections may always come.
+    fn next(&mut self) -> Result<bool, Failed>
+        ensures only_next { OnlyNext
+            (⟦<TcpPort<N> as Line>⟧.state self.old) (⟦<TcpPort<N> as Line>⟧.state self.new) result }
+        ensures endless { IfOk result (λ begins. IsTrue begins) }
+    {
         // The peer waits for the end of the present connection, so it is closed first.
         self.stream = None;
         match accept_next(&self.listener) {
             Some(stream) => {
+                send_at_once(&stream);
                 self.stream = Some(stream);
                 Ok(true)
             }
@@ -204,6 +220,7 @@ impl<N: Net + Drop> Peer for TcpPeer<N> {
         self.stream = None;
         match TcpStream::connect(&self.net, address) {
             Ok(stream) => {
+                send_at_once(&stream);
                 self.stream = Some(stream);
                 Ok(())
             }

@@ -31,7 +31,7 @@ same_front [] a b = refl
 same_front (x ∷ xs) a b = same_first x x (xs ++ a) (xs ++ b) refl ∙ same_front xs a b
 
 -- ---- numbers in digits of 64
-abbrev next : ℕ → ℕ
+abbrev pub next : ℕ → ℕ
 next x = 128 + x % 64
 
 digits : (x y : ℕ) → x < y → (x / 64 < y / 64) ⊎ ((x / 64 ≡ y / 64) × (x % 64 < y % 64))
@@ -81,19 +81,19 @@ four k x y r t h =
     middles e = rw (twice x, twice y) (ap (λ n. next (n / 64)) e)
 
 -- ---- the bytes of a character, by how many they are
-encode_two : (c : ℕ) → 128 ≤ c → c < 2048 → encode c ≡ (192 + c / 64) ∷ next c ∷ []
+pub encode_two : (c : ℕ) → 128 ≤ c → c < 2048 → encode c ≡ (192 + c / 64) ∷ next c ∷ []
 unfolding encode
 encode_two c low high = grind (arith, nat_tests)
 
-encode_three : (c : ℕ) → 2048 ≤ c → c < 65536 → encode c ≡ (224 + c / 4096) ∷ next (c / 64) ∷ next c ∷ []
+pub encode_three : (c : ℕ) → 2048 ≤ c → c < 65536 → encode c ≡ (224 + c / 4096) ∷ next (c / 64) ∷ next c ∷ []
 unfolding encode
 encode_three c low high = grind (arith, nat_tests)
 
-encode_four : (c : ℕ) → 65536 ≤ c → encode c ≡ (240 + c / 262144) ∷ next (c / 4096) ∷ next (c / 64) ∷ next c ∷ []
+pub encode_four : (c : ℕ) → 65536 ≤ c → encode c ≡ (240 + c / 262144) ∷ next (c / 4096) ∷ next (c / 64) ∷ next c ∷ []
 unfolding encode
 encode_four c low = grind (arith, nat_tests)
 
-data Width (c : ℕ) : Type 0 where
+pub data Width (c : ℕ) : Type 0 where
   of_one : c < 128 → Width c
   of_two : 128 ≤ c → c < 2048 → Width c
   of_three : 2048 ≤ c → c < 65536 → Width c
@@ -102,7 +102,7 @@ data Width (c : ℕ) : Type 0 where
 least : (c n : ℕ) → (c < n) ⊎ (n ≤ c)
 least c n = grind arith
 
-width : (c : ℕ) → Width c
+pub width : (c : ℕ) → Width c
 width c =
     elim (least c 128) [
       | inl a ↦ of_one a

@@ -1,7 +1,7 @@
 -- An element, one of whose element children was written.
-use Rattle.std.proofs.Common.{◌≡◌, ℕ, Some, sym, ap}
+use Rattle.std.proofs.Common.{◌≡◌, ℕ, List, ◌∷◌, Some, option_and_then, sym, ap, ◌∙◌}
 use Rattle.std.specs.List.{slice_get}
-use Rattle.xml_tree.specs.Tree.{Content, Tree, kids_of}
+use Rattle.xml_tree.specs.Tree.{Content, Tree, kids_of, at}
 use Rattle.xml_tree.specs.Edits.{change_kid}
 use Rattle.xml_tree.specs.Lending.{nodes_with_kid}
 use Rattle.xml_tree.proofs.Places.{AreNormal-set, content_of-kid, content_of-same}
@@ -18,3 +18,7 @@ module _ (i : Inside) (n : ℕ) (k w : Tree) (is : slice_get (kids_of (view i)) 
 
   pub unchanged : w ≡ k → view (record i { nodes = nodes_with_kid i.nodes n w }) ≡ view i
   unchanged same = ap (λ (x : Content). record (view i) { content = x }) (content_of-same n i.nodes.items k w is same)
+
+  -- a path that goes on from the child
+  pub below : (p : List ℕ) (e : Tree) → at p k ≡ Some e → at (n ∷ p) (view i) ≡ Some e
+  below p e there = ap (option_and_then (at p)) is ∙ there

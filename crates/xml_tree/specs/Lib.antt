@@ -1,3 +1,5 @@
+pub mod Apart
+pub mod Attributes
 pub mod Characters
 pub mod Comments
 pub mod Edits

@@ -1,11 +1,13 @@
 -- The print of a tree: the one text that stands for it, of the many that XML 1.0 allows (sections 2.2, 2.4, 2.5, 2.11, 3.1 and 3.3.3).
 -- Characters that a reader would take for markup, or change, are written as references.
-use Rattle.std.specs.Prelude.{ℕ, Bool, true, false, ◌==◌, codes, List, [], ◌∷◌, ◌++◌, flat_map, if◌then◌else◌}
+use Rattle.std.specs.Prelude.{ℕ, Bool, true, false, ◌==◌, codes, List, [], ◌∷◌, ◌++◌, flat_map, length, encode_utf8_all, if◌then◌else◌}
 use Rattle.std.specs.Str.{bytes_eq}
 use Rattle.xml_tree.specs.Tree.{Content, last, more, note, Tree}
 use Rattle.xml_tree.specs.declared.names.Name.{Name}
 use Rattle.xml_tree.specs.declared.names.Decl.{Decl}
 use Rattle.xml_tree.specs.declared.names.Attr.{Attr}
+use Rattle.xml_tree.specs.declared.tree.Node.{Node}
+use Rattle.xml_tree.specs.declared.tree.Node.TheVariants.{Elem, Chars, Comment}
 
 -- a character of a text: `&`, `<`, `>` and CR are references
 abbrev pub text_escape : ℕ → List ℕ
@@ -72,3 +74,13 @@ print_content (note t x rest) = print_text t ++ (print_comment x ++ print_conten
 -- an element
 abbrev pub print : Tree → List ℕ
 print e = opening e.name e.decls e.attrs ++ ending e.name (is_empty e.content) (print_content e.content)
+
+-- a node
+abbrev pub print_node : Node → List ℕ
+print_node (Elem e) = print e
+print_node (Chars t) = print_text t
+print_node (Comment x) = print_comment x
+
+-- the length of a text in bytes, as UTF-8
+abbrev pub byte_len : List ℕ → ℕ
+byte_len t = length (encode_utf8_all t)

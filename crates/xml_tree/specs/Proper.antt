@@ -11,6 +11,8 @@ use Rattle.xml_tree.specs.Expanded.{attr_name, same_expanded}
 use Rattle.xml_tree.specs.declared.names.Name.{Name}
 use Rattle.xml_tree.specs.declared.names.Decl.{Decl}
 use Rattle.xml_tree.specs.declared.names.Attr.{Attr}
+use Rattle.xml_tree.specs.declared.tree.Node.{Node}
+use Rattle.xml_tree.specs.declared.tree.Node.TheVariants.{Elem, Chars, Comment}
 
 -- ---- what holds everywhere in a tree
 
@@ -32,6 +34,12 @@ Everywhere P c (note t x rest) = Letters P c t × P c (remark x) × Everywhere P
 -- the same of an element and all in it, where c is the scope around it
 abbrev pub Throughout : (List (List Decl) → Part → Type 0) → List (List Decl) → Tree → Type 0
 Throughout P c e = P (c ++ e.decls ∷ []) (tag e.name e.decls e.attrs) × Everywhere P (c ++ e.decls ∷ []) e.content
+
+-- the same of a node
+abbrev pub OfNode : (List (List Decl) → Part → Type 0) → List (List Decl) → Node → Type 0
+OfNode P c (Elem e) = Throughout P c e
+OfNode P c (Chars t) = Letters P c t
+OfNode P c (Comment x) = P c (remark x)
 
 -- ---- names and declarations
 

@@ -1,9 +1,11 @@
 -- Scopes: what prefixes are bound to. Namespaces in XML 1.0, sections 2.2, 3, 5 and 6.
-use Rattle.std.specs.Prelude.{ℕ, Bool, not, ◌&&◌, codes, List, [], ◌∷◌, ◌++◌, Option, Some, None, option_map, unwrap_or, slice_get, filter, if◌then◌else◌}
+use Rattle.std.specs.Prelude.{◌≡◌, ℕ, Bool, not, ◌&&◌, codes, List, [], ◌∷◌, ◌++◌, Option, Some, None, option_map, unwrap_or, slice_get, filter, if◌then◌else◌}
 use Rattle.std.specs.Cmp.Lexicographic.{slice_cmp}
+use Rattle.std.specs.List.{AllByRecursion}
 use Rattle.std.specs.Option.{option_or}
 use Rattle.std.specs.Ordering.{match_ordering, nat_cmp}
 use Rattle.std.specs.Str.{bytes_eq}
+use Rattle.std.specs.declared.cmp.Ordering.TheVariants.{Less}
 use Rattle.xml_tree.specs.Tree.{Tree, kids_of}
 use Rattle.xml_tree.specs.Edits.{front}
 use Rattle.xml_tree.specs.declared.names.Decl.{Decl}
@@ -80,3 +82,10 @@ binds d = not (bytes_eq d.uri []) && not (bytes_eq d.prefix xml_prefix)
 -- all bindings in scope but that of `xml`: the default first, then the prefixes by code point
 abbrev pub bindings_in : List (List Decl) → List Decl
 bindings_in c = filter binds (gathered [] (joined c))
+
+-- ---- what can be said of such a list
+
+-- each prefix stands before those behind it, by code point
+abbrev pub AreInOrder : List Decl → Type 0
+AreInOrder [] = Unit {0}
+AreInOrder (d ∷ ds) = AllByRecursion (λ x. slice_cmp nat_cmp d.prefix x.prefix ≡ Less) ds × AreInOrder ds

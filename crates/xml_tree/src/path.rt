@@ -1,5 +1,5 @@
 //! Places in a tree.
-ghost use Rattle.std.specs.Prelude.{◌≡◌, ◌≤◌, ◌<◌, ◌++◌, [], ◌∷◌, length, IsSome, IfSome, ◌↔◌};
+ghost use Rattle.std.specs.Prelude.{◌≡◌, ◌≤◌, ◌<◌, ◌++◌, [], ◌∷◌, length, IsSome, IfSome, IsTrue, ◌↔◌};
 ghost use Rattle.std.specs.Option.{option_copied};
 ghost use Rattle.xml_tree.specs.Tree.{at};
 
@@ -69,6 +69,13 @@ impl Path {
             numbers: self.numbers,
             len: self.len,
         }
+    }
+
+    /// Whether two paths have the same numbers. Takes no memory.
+    pub fn same(&self, other: &Path) -> bool
+        ensures { IsTrue result ↔ (self.now ≡ other.now) }
+    {
+        self.numbers() == other.numbers()
     }
 
     /// The path of the parent, and the number below it: None exactly for the root. Takes no memory.

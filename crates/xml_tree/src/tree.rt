@@ -12,7 +12,7 @@ use std::marker::Model;
 
 /// A node of an element.
 #[cycle(tree)]
-#[derive(Drop)]
+#[derive(Debug, Drop)]
 pub enum Node {
     Elem(Element),
     Chars(Text),
@@ -22,7 +22,7 @@ pub enum Node {
 /// An element. Contracts see a plain tree: its name, declarations, attributes and content. No text in it is empty, and no
 /// two texts stand side by side.
 #[cycle(tree)]
-#[derive(Drop)]
+#[derive(Debug, Drop)]
 pub struct Element {
     pub(crate) name: Name,
     pub(crate) decls: Vec<Decl>,
@@ -110,7 +110,8 @@ impl Element {
     /// # Errors
     /// `NoMemory` for want of memory.
     pub fn push_chars(&mut self, text: &str) -> Result<(), AllocError>
-        ensures ok { OnOk result (self.new ≡ record self.old { content = with_text (chars text.now) self.old.content }) }
+        ensures ok { OnOk result
+            (self.new ≡ record self.old { content = with_text (chars text.now) self.old.content }) }
         ensures err { OnErr result (self.new ≡ self.old) }
     {
         push_text(&mut self.nodes, text)
@@ -166,6 +167,20 @@ impl Element {
         &self.nodes
     }
 
+    /// The nodes, taken out of the element, which is dropped.
+    pub fn into_nodes(self) -> Vec<Node>
+        ensures nodes { result.items ≡ nodes_of self.content }
+        ensures normal { AreNormal result.items }
+    {
+        let Element {
+            name: _,
+            decls: _,
+            attrs: _,
+            nodes,
+        } = self;
+        nodes
+    }
+
     /// An element child, counted from 0: None exactly where there are not so many.
     pub fn kid(&self, child: usize) -> Option<&Element>
         ensures { option_copied result ≡ slice_get (kids_of self.now) child }
@@ -214,7 +229,7 @@ impl Element {
 impl Node {
     ghost use Rattle.std.specs.Borrow.{sem};
     ghost use Rattle.xml_tree.specs.Lending.{LendsElem};
-    ghost use Rattle.xml_tree.specs.Nodes.{elem_of, is_text, node_with};
+    ghost use Rattle.xml_tree.specs.Nodes.{elem_of, is_text, node_with, text_of};
 
     pub(crate) fn elem_mut(&mut self) -> &mut Element
         requires { IsSome (elem_of self.old) }
@@ -236,6 +251,29 @@ impl Node {
             Node::Elem(_) => false,
             Node::Chars(_) => true,
             Node::Comment(_) => false,
+        }
+    }
+
+    // The text that it is.
+    pub(crate) fn text(&self) -> Option<&Text>
+        ensures { option_copied result ≡ text_of self.now }
+    {
+        match self {
+            Node::Elem(_) => None,
+            Node::Chars(text) => Some(text),
+            Node::Comment(_) => None,
+        }
+    }
+
+    // The element that it is.
+    pub(crate) fn into_elem(self) -> Element
+        requires { IsSome (elem_of self) }
+        ensures { elem_of self ≡ Some result }
+    {
+        match self {
+            Node::Elem(element) => element,
+            Node::Chars(_) => unreachable!(),
+            Node::Comment(_) => unreachable!(),
         }
     }
 

@@ -1,4 +1,4 @@
-use Rattle.std.proofs.Common.{◌≡◌, ◌∷◌, refl, subst, ap, ◌∙◌}
+use Rattle.std.proofs.Common.{◌∷◌, refl, subst, ap, ◌∙◌}
 use Rattle.xcap_io.specs.Connections.{Connects}
 use Rattle.xcap_io.specs.Memory.{MemoryPeer, peer_state}
 use Rattle.xcap_io.specs.contracts.mem_peer.MemPeer.{the_view}

@@ -1,6 +1,6 @@
-use Rattle.std.proofs.Common.{◌≡◌, length, refl, subst}
+use Rattle.std.proofs.Common.{refl, subst}
 use Rattle.xcap_io.specs.Causes.{OnlyWrites}
-use Rattle.xcap_io.specs.Memory.{MemoryPeer, next_number, peer_state}
+use Rattle.xcap_io.specs.Memory.{MemoryPeer, peer_state}
 use Rattle.xcap_io.specs.contracts.mem_peer.MemPeer.{the_view}
 use Rattle.xcap_io.proofs.Exchanging.{peer_writes}
 use Rattle.xcap_io.proofs.mem_peer.MemPeerSink.write.Goals as goal

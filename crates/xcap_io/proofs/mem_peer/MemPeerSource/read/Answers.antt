@@ -1,6 +1,6 @@
-use Rattle.std.proofs.Common.{◌≡◌, length, refl, subst}
+use Rattle.std.proofs.Common.{length, refl, subst}
 use Rattle.xcap_io.specs.Causes.{OnlyReads}
-use Rattle.xcap_io.specs.Memory.{MemoryPeer, next_number, peer_state}
+use Rattle.xcap_io.specs.Memory.{MemoryPeer, peer_state}
 use Rattle.xcap_io.specs.contracts.mem_peer.MemPeer.{the_view}
 use Rattle.xcap_io.proofs.Exchanging.{peer_reads}
 use Rattle.xcap_io.proofs.mem_peer.MemPeerSource.read.Goals as goal

@@ -1,8 +1,8 @@
-use Rattle.std.proofs.Common.{option_and_then, sym, ap, ◌∙◌, rules}
+use Rattle.std.proofs.Common.{sym, ap, rules}
 use Rattle.std.proofs.lemmas.List.{nil_from_length}
 use Rattle.xml_tree.specs.Tree.{at}
 use Rattle.xml_tree.specs.Edits.{put_over}
-use Rattle.xml_tree.proofs.KidLemmas.{whole, changed}
+use Rattle.xml_tree.proofs.KidLemmas.{below, whole, changed}
 use Rattle.xml_tree.proofs.tree.Element.+edit_below.Goals as goal
 
 pub invariant_of-self : goal.invariant_of-self
@@ -20,7 +20,7 @@ returns-in-Some g t c =
     record {
       here = done.here;
       left = done.left;
-      there = rw (c.in-Some.ensures.cases.0, ← c.self.view_is) (ap (option_and_then (at p)) c.kid_in-kid.ensures.value ∙ done.there);
+      there = rw (c.in-Some.ensures.cases.0, ← c.self.view_is) (below c.self.inside n c.kid_in-kid.result.now c.edit_below.new.self c.kid_in-kid.ensures.value p done.here done.there);
       edits = done.edits;
       put = rw (c.in-Some.ensures.cases.0, ← c.self.view_is) (changed c.self.inside n c.kid_in-kid.result.now c.edit_below.new.self c.kid_in-kid.ensures.value (put_over p done.left) done.put);
     }

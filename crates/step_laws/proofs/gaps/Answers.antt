@@ -1,0 +1,11 @@
+use Rattle.step_laws.proofs.Inserted.{set-insert}
+use Rattle.step_laws.proofs.GapLaws.{lawful_is, lawful_between, lawful_anywhere}
+use Rattle.step_laws.proofs.gaps.Goals as goal
+
+pub returns : goal.returns
+returns g c = record {
+  lawful = lawful_is;
+  interval = lawful_between;
+  anywhere = lawful_anywhere;
+  put_again = λ named tested position kids new gap le l. (l, set-insert kids gap new le);
+}

@@ -1,0 +1,13 @@
+//! The program's one call: it reads the words of the command line and runs the command that they spell.
+//! Upward: a status and what was written by it, each with its cause; nothing else is read, written, begun or told.
+//! The commands are the project's own; they follow RFC 4825.
+#![tactic(auto)]
+
+mod exit;
+mod telling;
+#[cfg(test)]
+mod tests;
+mod top;
+
+pub use exit::Exit;
+pub use top::run;
