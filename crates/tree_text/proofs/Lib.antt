@@ -7,3 +7,4 @@ pub mod JudgeLemmas
 pub mod CommentLemmas
 pub mod ElementLemmas
 pub mod Told
+pub mod PrintLemmas

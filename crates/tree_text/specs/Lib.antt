@@ -4,6 +4,7 @@ pub mod Grammar
 pub mod Kinds
 pub mod Members
 pub mod Names
+pub mod Printing
 pub mod Pieces
 pub mod Reading
 pub mod Runs

@@ -12,6 +12,7 @@ mod pieces;
 mod places;
 mod names;
 mod parts;
+mod printing;
 mod reading;
 mod runs;
 mod said;

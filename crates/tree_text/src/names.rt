@@ -14,7 +14,8 @@ use crate::texts::no_text;
 use std::alloc::{AllocError, Global};
 use xml_tree::{Attr, Decl, Name, Scope, Text};
 
-fn is_nothing(text: &Text) -> bool
+/// Whether a text is empty.
+pub fn is_nothing(text: &Text) -> bool
     ensures { result ≡ bytes_eq text.now [] }
 {
     text.is("")

@@ -1,0 +1,279 @@
+//! Printing documents, elements and bodies.
+ghost use Rattle.std.specs.Prelude.{◌≡◌, [], ◌∷◌, ◌++◌, IfOk, OnOk, chars, encode_utf8_all, flat_map};
+ghost use Rattle.xml_tree.specs.Print.{closing, declaring, ending, is_empty, opening, print, print_content, print_attr, print_comment, print_decl, print_name, print_node, print_text, quoted, text_escape, value_escape};
+ghost use Rattle.xml_tree.specs.Nodes.{content_of};
+ghost use Rattle.tree_text.specs.Printing.{header, document_print, body_escape, body_print};
+
+use crate::names::is_nothing;
+use crate::texts::no_text;
+use std::alloc::{AllocError, Global};
+use xcap_io::Bytes;
+use xml_tree::{Attr, Decl, Element, Name, Node, Text};
+
+/// Adds a character of a text.
+#[tactic(auto, using(crate::proofs::PrintLemmas::literals))]
+fn push_text_char(out: &mut Text, c: char) -> Result<(), AllocError>
+    ensures { OnOk result (out.new ≡ out.old ++ text_escape c) }
+{
+    match c {
+        '&' => out.push_str("&amp;"),
+        '<' => out.push_str("&lt;"),
+        '>' => out.push_str("&gt;"),
+        '\r' => out.push_str("&#xD;"),
+        _ => out.push(c),
+    }
+}
+
+/// Adds a character of a value in quotes.
+#[tactic(auto, using(crate::proofs::PrintLemmas::literals))]
+fn push_value_char(out: &mut Text, c: char) -> Result<(), AllocError>
+    ensures { OnOk result (out.new ≡ out.old ++ value_escape c) }
+{
+    match c {
+        '&' => out.push_str("&amp;"),
+        '<' => out.push_str("&lt;"),
+        '"' => out.push_str("&quot;"),
+        '\t' => out.push_str("&#x9;"),
+        '\n' => out.push_str("&#xA;"),
+        '\r' => out.push_str("&#xD;"),
+        _ => out.push(c),
+    }
+}
+
+/// Adds a character of a body.
+#[tactic(auto, using(crate::proofs::PrintLemmas::literals))]
+fn push_body_char(out: &mut Text, c: char) -> Result<(), AllocError>
+    ensures { OnOk result (out.new ≡ out.old ++ body_escape c) }
+{
+    match c {
+        '&' => out.push_str("&amp;"),
+        '<' => out.push_str("&lt;"),
+        '"' => out.push_str("&quot;"),
+        '\'' => out.push_str("&apos;"),
+        '\t' => out.push_str("&#x9;"),
+        '\n' => out.push_str("&#xA;"),
+        '\r' => out.push_str("&#xD;"),
+        _ => out.push(c),
+    }
+}
+
+fn push_text(out: &mut Text, text: &str) -> Result<(), AllocError>
+    ensures { OnOk result (out.new ≡ out.old ++ print_text (chars text.now)) }
+{
+    for c in text.chars() {
+        push_text_char(out, c)?;
+    }
+    Ok(())
+}
+
+fn push_value(out: &mut Text, value: &str) -> Result<(), AllocError>
+    ensures { OnOk result (out.new ≡ out.old ++ flat_map value_escape (chars value.now)) }
+{
+    for c in value.chars() {
+        push_value_char(out, c)?;
+    }
+    Ok(())
+}
+
+fn push_body(out: &mut Text, value: &str) -> Result<(), AllocError>
+    ensures { OnOk result (out.new ≡ out.old ++ body_print (chars value.now)) }
+{
+    for c in value.chars() {
+        push_body_char(out, c)?;
+    }
+    Ok(())
+}
+
+/// Adds `=` and a value in quotes.
+#[tactic(auto, using(crate::proofs::PrintLemmas::set_value))]
+fn push_set(out: &mut Text, value: &Text) -> Result<(), AllocError>
+    ensures { OnOk result (out.new ≡ out.old ++ 61 ∷ quoted value.now) }
+{
+    out.push('=')?;
+    out.push('"')?;
+    push_value(out, value.as_str())?;
+    out.push('"')
+}
+
+#[tactic(auto, using(crate::proofs::PrintLemmas::three))]
+fn push_name(out: &mut Text, name: &Name) -> Result<(), AllocError>
+    ensures { OnOk result (out.new ≡ out.old ++ print_name name.now) }
+{
+    if is_nothing(&name.prefix) {
+        return out.push_str(name.local.as_str());
+    }
+    out.push_str(name.prefix.as_str())?;
+    out.push(':')?;
+    out.push_str(name.local.as_str())
+}
+
+/// Adds the name that declares a prefix.
+#[tactic(auto, using(crate::proofs::PrintLemmas::literals))]
+fn push_declaring(out: &mut Text, prefix: &Text) -> Result<(), AllocError>
+    ensures { OnOk result (out.new ≡ out.old ++ declaring prefix.now) }
+{
+    if is_nothing(prefix) {
+        return out.push_str("xmlns");
+    }
+    out.push_str("xmlns:")?;
+    out.push_str(prefix.as_str())?;
+    Ok(())
+}
+
+#[tactic(auto, using(crate::proofs::PrintLemmas::three))]
+fn push_decl(out: &mut Text, decl: &Decl) -> Result<(), AllocError>
+    ensures { OnOk result (out.new ≡ out.old ++ print_decl decl.now) }
+{
+    out.push(' ')?;
+    push_declaring(out, &decl.prefix)?;
+    push_set(out, &decl.uri)
+}
+
+#[tactic(auto, using(crate::proofs::PrintLemmas::three))]
+fn push_attr(out: &mut Text, attr: &Attr) -> Result<(), AllocError>
+    ensures { OnOk result (out.new ≡ out.old ++ print_attr attr.now) }
+{
+    out.push(' ')?;
+    push_name(out, &attr.name)?;
+    push_set(out, &attr.value)
+}
+
+fn push_decls(out: &mut Text, decls: &[Decl]) -> Result<(), AllocError>
+    ensures { OnOk result (out.new ≡ out.old ++ flat_map print_decl decls.now) }
+{
+    for decl in decls {
+        push_decl(out, decl)?;
+    }
+    Ok(())
+}
+
+fn push_attrs(out: &mut Text, attrs: &[Attr]) -> Result<(), AllocError>
+    ensures { OnOk result (out.new ≡ out.old ++ flat_map print_attr attrs.now) }
+{
+    for attr in attrs {
+        push_attr(out, attr)?;
+    }
+    Ok(())
+}
+
+/// Adds `<`, a name, declarations and attributes.
+fn push_opening(out: &mut Text, element: &Element) -> Result<(), AllocError>
+    ensures { OnOk result (out.new ≡ out.old ++ opening element.now.name element.now.decls element.now.attrs) }
+{
+    out.push('<')?;
+    push_name(out, element.name())?;
+    push_decls(out, element.decls())?;
+    push_attrs(out, element.attrs())
+}
+
+/// Adds an end tag.
+fn push_closing(out: &mut Text, name: &Name) -> Result<(), AllocError>
+    ensures { OnOk result (out.new ≡ out.old ++ closing name.now) }
+{
+    out.push('<')?;
+    out.push('/')?;
+    push_name(out, name)?;
+    out.push('>')
+}
+
+/// Adds a comment.
+#[tactic(auto, using(crate::proofs::PrintLemmas::literals, crate::proofs::PrintLemmas::three))]
+fn push_comment(out: &mut Text, text: &Text) -> Result<(), AllocError>
+    ensures { OnOk result (out.new ≡ out.old ++ print_comment text.now) }
+{
+    out.push_str("<!--")?;
+    out.push_str(text.as_str())?;
+    out.push_str("-->")
+}
+
+/// Adds the print of a node.
+#[cycle(print)]
+fn push_node(out: &mut Text, node: &Node) -> Result<(), AllocError>
+    ensures { OnOk result (out.new ≡ out.old ++ print_node node.now) }
+{
+    match node {
+        Node::Elem(element) => push_element(out, element),
+        Node::Chars(text) => push_text(out, text.as_str()),
+        Node::Comment(text) => push_comment(out, text),
+    }
+}
+
+/// Adds what follows the attributes of an element: `/>`, or `>`, its nodes and its end tag.
+#[cycle(print)]
+fn push_ending(out: &mut Text, element: &Element) -> Result<(), AllocError>
+    ensures { OnOk result (out.new ≡ out.old ++ ending element.now.name (is_empty element.now.content) (print_content element.now.content)) }
+{
+    let nodes = element.nodes();
+    if nodes.is_empty() {
+        out.push_str("/>")?;
+        return Ok(());
+    }
+    out.push('>')?;
+    for node in nodes {
+        push_node(out, node)?;
+    }
+    push_closing(out, element.name())?;
+    Ok(())
+}
+
+/// Adds the print of an element.
+#[cycle(print)]
+fn push_element(out: &mut Text, element: &Element) -> Result<(), AllocError>
+    ensures { OnOk result (out.new ≡ out.old ++ print element.now) }
+{
+    push_opening(out, element)?;
+    push_ending(out, element)
+}
+
+/// The bytes of a text, in UTF-8.
+fn bytes_of(alloc: Global, text: &Text) -> Result<Bytes, AllocError>
+    ensures { IfOk result (λ bytes. bytes ≡ encode_utf8_all text.now) }
+{
+    Bytes::from(alloc, text.as_str().as_bytes())
+}
+
+/// The print of an element: the one text, of those that are read, that stands for it.
+///
+/// # Errors
+/// `NoMemory` for want of memory.
+pub fn print_element(alloc: Global, element: &Element) -> Result<Bytes, AllocError>
+    ensures { IfOk result (λ bytes. bytes ≡ encode_utf8_all (print element.now)) }
+{
+    let mut out = no_text(alloc);
+    push_element(&mut out, element)?;
+    bytes_of(alloc, &out)
+}
+
+/// The XML declaration and a line feed.
+#[tactic(auto, using(crate::proofs::PrintLemmas::literals))]
+fn push_header(out: &mut Text) -> Result<(), AllocError>
+    ensures { OnOk result (out.new ≡ out.old ++ header) }
+{
+    out.push_str("<?xml version=\"1.0\" encoding=\"UTF-8\"?>\n")?;
+    Ok(())
+}
+
+/// The print of a document with this root element: the XML declaration, a line feed and the element.
+///
+/// # Errors
+/// `NoMemory` for want of memory.
+pub fn print_document(alloc: Global, root: &Element) -> Result<Bytes, AllocError>
+    ensures { IfOk result (λ bytes. bytes ≡ encode_utf8_all (document_print root.now)) }
+{
+    let mut out = no_text(alloc);
+    push_header(&mut out)?;
+    push_element(&mut out, root)?;
+    bytes_of(alloc, &out)
+}
+
+/// The print of an attribute body that spells this value.
+///
+/// # Errors
+/// `NoMemory` for want of memory.
+pub fn print_att_value(alloc: Global, value: &str) -> Result<Bytes, AllocError>
+    ensures { IfOk result (λ bytes. bytes ≡ encode_utf8_all (body_print (chars value.now))) }
+{
+    let mut out = no_text(alloc);
+    push_body(&mut out, value)?;
+    bytes_of(alloc, &out)
+}
