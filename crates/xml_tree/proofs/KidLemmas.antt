@@ -1,0 +1,20 @@
+-- An element, one of whose element children was written.
+use Rattle.std.proofs.Common.{◌≡◌, ℕ, Some, sym, ap}
+use Rattle.std.specs.List.{slice_get}
+use Rattle.xml_tree.specs.Tree.{Content, Tree, kids_of}
+use Rattle.xml_tree.specs.Edits.{change_kid}
+use Rattle.xml_tree.specs.Lending.{nodes_with_kid}
+use Rattle.xml_tree.proofs.Places.{AreNormal-set, content_of-kid, content_of-same}
+use Rattle.xml_tree.specs.declared.tree.Element.TheInside.{Inside}
+use Rattle.xml_tree.specs.contracts.tree.Element.{the_view as view, the_invariant as IsWhole}
+
+-- the parts `i` of an element whose child number `n` was `k` and is now `w`
+module _ (i : Inside) (n : ℕ) (k w : Tree) (is : slice_get (kids_of (view i)) n ≡ Some k) where
+  pub whole : IsWhole i → IsWhole (record i { nodes = nodes_with_kid i.nodes n w })
+  whole a = AreNormal-set n i.nodes.items w a
+
+  pub changed : (f : Tree → Tree) → w ≡ f k → view (record i { nodes = nodes_with_kid i.nodes n w }) ≡ change_kid n f (view i)
+  changed f made = ap (λ (x : Content). record (view i) { content = x }) (content_of-kid n i.nodes.items f k w is (sym made))
+
+  pub unchanged : w ≡ k → view (record i { nodes = nodes_with_kid i.nodes n w }) ≡ view i
+  unchanged same = ap (λ (x : Content). record (view i) { content = x }) (content_of-same n i.nodes.items k w is same)

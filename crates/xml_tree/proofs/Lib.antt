@@ -1,0 +1,4 @@
+pub mod KidLemmas
+pub mod Letters
+pub mod PathLemmas
+pub mod Places

@@ -1,0 +1,309 @@
+-- The nodes of an element, beside its content.
+use Rattle.std.proofs.Common.{◌≡◌, ℕ, zero, suc, ◌<◌, ◌≤◌, List, [], ◌∷◌, ◌++◌, length, get_or, slice_set, insert, Some, IsSome, true, false, true≢false, refl, sym, ap, ◌∙◌, subst, arith, append_assoc, append-nil}
+use Rattle.std.specs.List.{slice_get}
+use Rattle.xml_tree.specs.Tree.{Content, last, more, note, more_of, Tree, tree_of, kids, content_height}
+use Rattle.xml_tree.specs.Edits.{before, put, change, with_elem, with_text}
+use Rattle.xml_tree.specs.Falls.{content_height-before}
+use Rattle.xml_tree.specs.Nodes.{content_of, nodes_of, text_node, ends_in_text, is_text, node_with, node_height, IsFull, StartsApart, AreNormal, place, gap_place, elem_of}
+use Rattle.xml_tree.specs.declared.tree.Node.{Node}
+use Rattle.xml_tree.specs.declared.tree.Node.TheVariants.{Elem, Chars, Comment}
+
+-- ---- a text before a content
+
+pub before-nil : (c : Content) → before [] c ≡ c
+before-nil (last u) = refl
+before-nil (more u n ds ats c rest) = refl
+before-nil (note u c rest) = refl
+
+pub before-before : (t u : List ℕ) (c : Content) → before (t ++ u) c ≡ before t (before u c)
+before-before t u (last v) = ap last (append_assoc t u v)
+before-before t u (more v n ds ats c rest) = ap (λ x. more x n ds ats c rest) (append_assoc t u v)
+before-before t u (note v c rest) = ap (λ x. note x c rest) (append_assoc t u v)
+
+pub kids-before : (t : List ℕ) (c : Content) → kids (before t c) ≡ kids c
+kids-before t (last u) = refl
+kids-before t (more u n ds ats c rest) = refl
+kids-before t (note u c rest) = refl
+
+pub change-before : (t : List ℕ) (c : Content) (i : ℕ) (f : Tree → Tree) → change i f (before t c) ≡ before t (change i f c)
+change-before t (last u) i f = refl
+change-before t (more u n ds ats c rest) zero f = refl
+change-before t (more u n ds ats c rest) (suc i) f = refl
+change-before t (note u c rest) i f = refl
+
+pub put-before : (t : List ℕ) (c : Content) (j : ℕ) (e : Tree) → put (suc j) e (before t c) ≡ before t (put (suc j) e c)
+put-before t (last u) j e = refl
+put-before t (more u n ds ats c rest) j e = refl
+put-before t (note u c rest) j e = refl
+
+-- ---- the place of an element among the nodes
+
+there_below : {X : Type 0} (n : ℕ) (xs : List X) (x : X) → slice_get xs n ≡ Some x → n < length xs
+there_below n [] x is = absurd (cc)
+there_below zero (y ∷ xs) x is = omega arith
+there_below (suc n) (y ∷ xs) x is = omega (arith, there_below n xs x is)
+
+abbrev kids_in : List Node → List Tree
+kids_in ns = kids (content_of ns)
+
+-- an element that is there has a place
+pub place_there : (n : ℕ) (ns : List Node) → n < length (kids_in ns) → place n ns < length ns
+place_there n [] h = absurd (omega arith)
+place_there n (Chars t ∷ ns) h = omega (arith, place_there n ns (rw kids-before at h))
+place_there n (Comment c ∷ ns) h = omega (arith, place_there n ns h)
+place_there zero (Elem e ∷ ns) h = omega arith
+place_there (suc n) (Elem e ∷ ns) h = omega (arith, place_there n ns (omega arith))
+
+-- the node there is the element
+pub elem_at_place : (n : ℕ) (ns : List Node) (d : Node) → n < length (kids_in ns) → elem_of (get_or ns (place n ns) d) ≡ slice_get (kids_in ns) n
+elem_at_place n [] d h = absurd (omega arith)
+elem_at_place n (Chars t ∷ ns) d h = elem_at_place n ns d (rw kids-before at h) ∙ rw kids-before
+elem_at_place n (Comment c ∷ ns) d h = elem_at_place n ns d h
+elem_at_place zero (Elem e ∷ ns) d h = refl
+elem_at_place (suc n) (Elem e ∷ ns) d h = elem_at_place n ns d (omega arith)
+
+pub elem_there : (n : ℕ) (ns : List Node) (d : Node) → n < length (kids_in ns) → IsSome (elem_of (get_or ns (place n ns) d))
+elem_there n [] d h = absurd (omega arith)
+elem_there n (Chars t ∷ ns) d h = elem_there n ns d (rw kids-before at h)
+elem_there n (Comment c ∷ ns) d h = elem_there n ns d h
+elem_there zero (Elem e ∷ ns) d h = refl
+elem_there (suc n) (Elem e ∷ ns) d h = elem_there n ns d (omega arith)
+
+pub kid_within : (n : ℕ) (ns : List Node) (k : Tree) → slice_get (kids_in ns) n ≡ Some k → n < length (kids_in ns)
+kid_within n ns k is = there_below n (kids_in ns) k is
+
+-- ---- an element exchanged
+
+-- at its place stands what f makes of it
+pub content_of-kid : (n : ℕ) (ns : List Node) (f : Tree → Tree) (k w : Tree) → slice_get (kids_in ns) n ≡ Some k → f k ≡ w
+    → content_of (slice_set ns (place n ns) (Elem w)) ≡ change n f (content_of ns)
+content_of-kid n [] f k w is made = cc
+content_of-kid n (Chars t ∷ ns) f k w is made = ap (before t) (content_of-kid n ns f k w (rw kids-before at is) made) ∙ sym (change-before t (content_of ns) n f)
+content_of-kid n (Comment c ∷ ns) f k w is made = ap (note [] c) (content_of-kid n ns f k w is made)
+content_of-kid zero (Elem e ∷ ns) f k w is made = ap (λ x. more_of [] x (content_of ns)) (sym made ∙ ap f (sym (cc)))
+content_of-kid (suc n) (Elem e ∷ ns) f k w is made = ap (more_of [] e) (content_of-kid n ns f k w is made)
+
+change-same : (n : ℕ) (c : Content) → change n (λ e. e) c ≡ c
+change-same n (last t) = refl
+change-same zero (more t m ds ats c rest) = refl
+change-same (suc n) (more t m ds ats c rest) = ap (more t m ds ats c) (change-same n rest)
+change-same n (note t c rest) = ap (note t c) (change-same n rest)
+
+-- written back as it was, it changes nothing
+pub content_of-same : (n : ℕ) (ns : List Node) (k w : Tree) → slice_get (kids_in ns) n ≡ Some k → w ≡ k → content_of (slice_set ns (place n ns) (Elem w)) ≡ content_of ns
+content_of-same n ns k w is same = content_of-kid n ns (λ e. e) k w is (sym same) ∙ change-same n (content_of ns)
+
+StartsApart-set : (n : ℕ) (ns : List Node) (w : Tree) → StartsApart ns → StartsApart (slice_set ns (place n ns) (Elem w))
+StartsApart-set n [] w a = tt
+StartsApart-set n (Chars t ∷ ns) w a = absurd a
+StartsApart-set n (Comment c ∷ ns) w a = tt
+StartsApart-set zero (Elem e ∷ ns) w a = tt
+StartsApart-set (suc n) (Elem e ∷ ns) w a = tt
+
+pub AreNormal-set : (n : ℕ) (ns : List Node) (w : Tree) → AreNormal ns → AreNormal (slice_set ns (place n ns) (Elem w))
+AreNormal-set n [] w a = tt
+AreNormal-set n (Chars t ∷ ns) w a = (a.0, StartsApart-set n ns w a.1, AreNormal-set n ns w a.2)
+AreNormal-set n (Comment c ∷ ns) w a = AreNormal-set n ns w a
+AreNormal-set zero (Elem e ∷ ns) w a = a
+AreNormal-set (suc n) (Elem e ∷ ns) w a = AreNormal-set n ns w a
+
+-- ---- nodes behind nodes
+
+ends-cons : (x : Node) (xs : List Node) → ends_in_text xs ≡ true → ends_in_text (x ∷ xs) ≡ true
+ends-cons x [] h = absurd (true≢false (sym h))
+ends-cons x (y ∷ ys) h = h
+
+StartsApart-append : (x : Node) (xs ys : List Node) → StartsApart (x ∷ xs) → StartsApart (x ∷ (xs ++ ys))
+StartsApart-append (Elem e) xs ys a = tt
+StartsApart-append (Chars t) xs ys a = absurd a
+StartsApart-append (Comment c) xs ys a = tt
+
+-- normal nodes behind normal nodes are normal, unless two texts meet between them
+pub AreNormal-append : (xs ys : List Node) → AreNormal xs → AreNormal ys → (ends_in_text xs ≡ true → StartsApart ys) → AreNormal (xs ++ ys)
+AreNormal-append [] ys a b apart = b
+AreNormal-append (Elem e ∷ xs) ys a b apart = AreNormal-append xs ys a b (λ h. apart (ends-cons (Elem e) xs h))
+AreNormal-append (Comment c ∷ xs) ys a b apart = AreNormal-append xs ys a b (λ h. apart (ends-cons (Comment c) xs h))
+AreNormal-append (Chars t ∷ []) ys a b apart = (a.0, apart refl, b)
+AreNormal-append (Chars t ∷ x ∷ xs) ys a b apart = (a.0, StartsApart-append x xs ys a.1, AreNormal-append (x ∷ xs) ys a.2 b apart)
+
+-- ---- an element behind all nodes
+
+with_elem-before : (t : List ℕ) (c : Content) (e : Tree) → with_elem e (before t c) ≡ before t (with_elem e c)
+with_elem-before t (last u) e = refl
+with_elem-before t (more u n ds ats c rest) e = refl
+with_elem-before t (note u c rest) e = refl
+
+pub content_of-push_elem : (ns : List Node) (e : Tree) → content_of (ns ++ Elem e ∷ []) ≡ with_elem e (content_of ns)
+content_of-push_elem [] e = refl
+content_of-push_elem (Chars t ∷ ns) e = ap (before t) (content_of-push_elem ns e) ∙ sym (with_elem-before t (content_of ns) e)
+content_of-push_elem (Elem k ∷ ns) e = ap (more_of [] k) (content_of-push_elem ns e)
+content_of-push_elem (Comment c ∷ ns) e = ap (note [] c) (content_of-push_elem ns e)
+
+pub AreNormal-push_elem : (ns : List Node) (e : Tree) → AreNormal ns → AreNormal (ns ++ Elem e ∷ [])
+AreNormal-push_elem ns e a = AreNormal-append ns (Elem e ∷ []) a tt (λ h. tt)
+
+-- ---- a text behind all nodes
+
+with_text-before : (t : List ℕ) (c : Content) (s : List ℕ) → with_text s (before t c) ≡ before t (with_text s c)
+with_text-before t (last u) s = ap last (append_assoc t u s)
+with_text-before t (more u n ds ats c rest) s = refl
+with_text-before t (note u c rest) s = refl
+
+-- what stands last
+pub is_text-last : (ns : List Node) (i : ℕ) (d : Node) → suc i ≡ length ns → is_text (get_or ns i d) ≡ ends_in_text ns
+is_text-last [] i d h = absurd (omega arith)
+is_text-last (x ∷ []) zero d h = refl
+is_text-last (x ∷ []) (suc i) d h = absurd (omega arith)
+is_text-last (x ∷ y ∷ ns) zero d h = absurd (omega arith)
+is_text-last (x ∷ y ∷ ns) (suc i) d h = is_text-last (y ∷ ns) i d (omega arith)
+
+pub ends_in-nothing : (ns : List Node) → length ns ≡ 0 → ends_in_text ns ≡ false
+ends_in-nothing [] h = refl
+ends_in-nothing (x ∷ ns) h = absurd (omega arith)
+
+content_of-join_at : (ns : List Node) (i : ℕ) (s : List ℕ) (d : Node) → suc i ≡ length ns → is_text (get_or ns i d) ≡ true
+    → content_of (slice_set ns i (node_with s (get_or ns i d))) ≡ with_text s (content_of ns)
+content_of-join_at [] i s d h e = absurd (omega arith)
+content_of-join_at (Elem k ∷ ns) zero s d h e = cc
+content_of-join_at (Comment c ∷ ns) zero s d h e = cc
+content_of-join_at (Chars t ∷ []) zero s d h e = ap last (append-nil (t ++ s) ∙ ap (λ x. x ++ s) (sym (append-nil t)))
+content_of-join_at (Chars t ∷ x ∷ ns) zero s d h e = absurd (omega arith)
+content_of-join_at (Elem k ∷ ns) (suc i) s d h e = ap (more_of [] k) (content_of-join_at ns i s d (omega arith) e)
+content_of-join_at (Comment c ∷ ns) (suc i) s d h e = ap (note [] c) (content_of-join_at ns i s d (omega arith) e)
+content_of-join_at (Chars t ∷ ns) (suc i) s d h e = ap (before t) (content_of-join_at ns i s d (omega arith) e) ∙ sym (with_text-before t (content_of ns) s)
+
+-- a text that stands last grows
+pub content_of-join : (ns : List Node) (i : ℕ) (x y : Node) (s : List ℕ) → suc i ≡ length ns → x ≡ get_or ns i x → is_text x ≡ true → y ≡ node_with s x
+    → content_of (slice_set ns i y) ≡ with_text s (content_of ns)
+content_of-join ns i x y s h is e made = ap (λ z. content_of (slice_set ns i z)) (made ∙ ap (node_with s) is) ∙ content_of-join_at ns i s x h (ap is_text (sym is) ∙ e)
+
+IsFull-append : (t s : List ℕ) → IsFull t → IsFull (t ++ s)
+IsFull-append [] s f = absurd f
+IsFull-append (c ∷ cs) s f = tt
+
+StartsApart-join : (ns : List Node) (i : ℕ) (s : List ℕ) (d : Node) → StartsApart ns → StartsApart (slice_set ns i (node_with s (get_or ns i d)))
+StartsApart-join [] i s d a = tt
+StartsApart-join (Chars t ∷ ns) i s d a = absurd a
+StartsApart-join (Elem e ∷ ns) zero s d a = tt
+StartsApart-join (Elem e ∷ ns) (suc i) s d a = tt
+StartsApart-join (Comment c ∷ ns) zero s d a = tt
+StartsApart-join (Comment c ∷ ns) (suc i) s d a = tt
+
+AreNormal-join_at : (ns : List Node) (i : ℕ) (s : List ℕ) (d : Node) → AreNormal ns → AreNormal (slice_set ns i (node_with s (get_or ns i d)))
+AreNormal-join_at [] i s d a = tt
+AreNormal-join_at (Chars t ∷ ns) zero s d a = (IsFull-append t s a.0, a.1, a.2)
+AreNormal-join_at (Chars t ∷ ns) (suc i) s d a = (a.0, StartsApart-join ns i s d a.1, AreNormal-join_at ns i s d a.2)
+AreNormal-join_at (Elem e ∷ ns) zero s d a = a
+AreNormal-join_at (Elem e ∷ ns) (suc i) s d a = AreNormal-join_at ns i s d a
+AreNormal-join_at (Comment c ∷ ns) zero s d a = a
+AreNormal-join_at (Comment c ∷ ns) (suc i) s d a = AreNormal-join_at ns i s d a
+
+pub AreNormal-join : (ns : List Node) (i : ℕ) (x y : Node) (s : List ℕ) → x ≡ get_or ns i x → y ≡ node_with s x → AreNormal ns → AreNormal (slice_set ns i y)
+AreNormal-join ns i x y s is made a = subst (λ z. AreNormal (slice_set ns i z)) (sym (made ∙ ap (node_with s) is)) (AreNormal-join_at ns i s x a)
+
+same_node : (ns : List Node) (i : ℕ) (x : Node) → x ≡ get_or ns i x → i < length ns → slice_set ns i x ≡ ns
+same_node [] i x is h = refl
+same_node (y ∷ ns) zero x is h = ap (λ z. z ∷ ns) is
+same_node (y ∷ ns) (suc i) x is h = ap (λ z. y ∷ z) (same_node ns i x is (omega arith))
+
+-- written back as it was, a node changes nothing
+pub content_of-unjoined : (ns : List Node) (i : ℕ) (x y : Node) → x ≡ get_or ns i x → i < length ns → y ≡ x → content_of (slice_set ns i y) ≡ content_of ns
+content_of-unjoined ns i x y is h made = ap (λ z. content_of (slice_set ns i z)) made ∙ ap content_of (same_node ns i x is h)
+
+pub AreNormal-unjoined : (ns : List Node) (i : ℕ) (x y : Node) → x ≡ get_or ns i x → i < length ns → y ≡ x → AreNormal ns → AreNormal (slice_set ns i y)
+AreNormal-unjoined ns i x y is h made a = subst (λ z. AreNormal (slice_set ns i z)) (sym made) (subst AreNormal (sym (same_node ns i x is h)) a)
+
+pub content_of-push_text : (ns : List Node) (s : List ℕ) → content_of (ns ++ Chars s ∷ []) ≡ with_text s (content_of ns)
+content_of-push_text [] s = rw append-nil
+content_of-push_text (Chars t ∷ ns) s = ap (before t) (content_of-push_text ns s) ∙ sym (with_text-before t (content_of ns) s)
+content_of-push_text (Elem k ∷ ns) s = ap (more_of [] k) (content_of-push_text ns s)
+content_of-push_text (Comment c ∷ ns) s = ap (note [] c) (content_of-push_text ns s)
+
+full : (s : List ℕ) → 0 < length s → IsFull s
+full [] h = absurd (omega arith)
+full (c ∷ cs) h = tt
+
+pub AreNormal-push_text : (ns : List Node) (s : List ℕ) → 0 < length s → ends_in_text ns ≡ false → AreNormal ns → AreNormal (ns ++ Chars s ∷ [])
+AreNormal-push_text ns s h e a = AreNormal-append ns (Chars s ∷ []) a (full s h, tt, tt) (λ yes. absurd (true≢false (sym yes ∙ e)))
+
+pub with_text-nil : (c : Content) → with_text [] c ≡ c
+with_text-nil (last t) = rw append-nil
+with_text-nil (more t n ds ats c rest) = ap (more t n ds ats c) (with_text-nil rest)
+with_text-nil (note t c rest) = ap (note t c) (with_text-nil rest)
+
+-- ---- the nodes of a content
+
+abbrev pub text_then : List ℕ → Content → List Node
+text_then [] c = nodes_of c
+text_then (c ∷ cs) rest = Chars (c ∷ cs) ∷ nodes_of rest
+
+-- a content that doesn't start with a text
+abbrev OpensApart : Content → Type 0
+OpensApart (last []) = Unit {0}
+OpensApart (last (c ∷ cs)) = ⊥
+OpensApart (more [] n ds ats c rest) = Unit {0}
+OpensApart (more (x ∷ xs) n ds ats c rest) = ⊥
+OpensApart (note [] c rest) = Unit {0}
+OpensApart (note (x ∷ xs) c rest) = ⊥
+
+opens : (ns : List Node) → StartsApart ns → OpensApart (content_of ns)
+opens [] a = tt
+opens (Elem e ∷ ns) a = tt
+opens (Chars t ∷ ns) a = absurd a
+opens (Comment c ∷ ns) a = tt
+
+nodes_of-before : (t : List ℕ) (c : Content) → IsFull t → OpensApart c → nodes_of (before t c) ≡ Chars t ∷ nodes_of c
+nodes_of-before [] c f o = absurd f
+nodes_of-before (x ∷ xs) (last []) f o = ap (λ z. Chars (x ∷ z) ∷ []) (append-nil xs)
+nodes_of-before (x ∷ xs) (last (c ∷ cs)) f o = absurd o
+nodes_of-before (x ∷ xs) (more [] n ds ats c rest) f o = ap (λ z. Chars (x ∷ z) ∷ nodes_of (more [] n ds ats c rest)) (append-nil xs)
+nodes_of-before (x ∷ xs) (more (y ∷ ys) n ds ats c rest) f o = absurd o
+nodes_of-before (x ∷ xs) (note [] c rest) f o = ap (λ z. Chars (x ∷ z) ∷ nodes_of (note [] c rest)) (append-nil xs)
+nodes_of-before (x ∷ xs) (note (y ∷ ys) c rest) f o = absurd o
+
+-- normal nodes are those of their content
+pub nodes_of-content_of : (ns : List Node) → AreNormal ns → nodes_of (content_of ns) ≡ ns
+nodes_of-content_of [] a = refl
+nodes_of-content_of (Elem e ∷ ns) a = ap (λ x. Elem e ∷ x) (nodes_of-content_of ns a)
+nodes_of-content_of (Comment c ∷ ns) a = ap (λ x. Comment c ∷ x) (nodes_of-content_of ns a)
+nodes_of-content_of (Chars t ∷ ns) a = nodes_of-before t (content_of ns) a.0 (opens ns a.1) ∙ ap (λ x. Chars t ∷ x) (nodes_of-content_of ns a.2)
+
+-- normal nodes of one content are the same nodes
+pub same_nodes : (ns ms : List Node) → AreNormal ns → AreNormal ms → content_of ns ≡ content_of ms → ns ≡ ms
+same_nodes ns ms a b e = sym (nodes_of-content_of ns a) ∙ ap nodes_of e ∙ nodes_of-content_of ms b
+
+text_content : (t : List ℕ) (ns : List Node) → content_of (text_node t ++ ns) ≡ before t (content_of ns)
+text_content [] ns = sym (before-nil (content_of ns))
+text_content (c ∷ cs) ns = refl
+
+-- each content is that of its nodes
+pub content_of-nodes_of : (c : Content) → content_of (nodes_of c) ≡ c
+content_of-nodes_of (last []) = refl
+content_of-nodes_of (last (c ∷ cs)) = ap (λ x. last (c ∷ x)) (append-nil cs)
+content_of-nodes_of (more t n ds ats c rest) = text_content t _ ∙ (λ i. more (append-nil t i) n ds ats c (content_of-nodes_of rest i))
+content_of-nodes_of (note t c rest) = text_content t _ ∙ (λ i. note (append-nil t i) c (content_of-nodes_of rest i))
+
+text_apart : (t : List ℕ) (ns : List Node) → StartsApart ns → AreNormal ns → AreNormal (text_node t ++ ns)
+text_apart [] ns s a = a
+text_apart (c ∷ cs) ns s a = (tt, s, a)
+
+-- which are normal
+pub AreNormal-nodes_of : (c : Content) → AreNormal (nodes_of c)
+AreNormal-nodes_of (last []) = tt
+AreNormal-nodes_of (last (c ∷ cs)) = (tt, tt, tt)
+AreNormal-nodes_of (more t n ds ats c rest) = text_apart t (Elem (tree_of n ds ats c) ∷ nodes_of rest) tt (AreNormal-nodes_of rest)
+AreNormal-nodes_of (note t c rest) = text_apart t (Comment c ∷ nodes_of rest) tt (AreNormal-nodes_of rest)
+
+-- each node is less high than the element
+pub node_height-le : (ns : List Node) (i : ℕ) (d : Node) → i < length ns → node_height (get_or ns i d) ≤ content_height (content_of ns)
+node_height-le [] i d h = absurd (omega arith)
+node_height-le (Elem e ∷ ns) zero d h = omega arith
+node_height-le (Chars t ∷ ns) zero d h = omega arith
+node_height-le (Comment c ∷ ns) zero d h = omega arith
+node_height-le (Elem e ∷ ns) (suc i) d h = omega (arith, node_height-le ns i d (omega arith))
+node_height-le (Chars t ∷ ns) (suc i) d h = rw content_height-before (node_height-le ns i d (omega arith))
+node_height-le (Comment c ∷ ns) (suc i) d h = node_height-le ns i d (omega arith)
+
+pub ruleset texts = (is_text-last, ends_in-nothing, content_of-unjoined, AreNormal-unjoined, content_of-join, AreNormal-join, content_of-push_text, AreNormal-push_text, with_text-nil)
+
+pub ruleset places = (kids-before, place_there, AreNormal-set, content_of-push_elem, AreNormal-push_elem)

@@ -1,0 +1,125 @@
+-- Changes of a tree: of a content, of one element, and of the element at a path.
+use Rattle.std.specs.Prelude.{ℕ, zero, suc, Bool, List, [], ◌∷◌, ◌++◌, if◌then◌else◌, ◌&&◌}
+use Rattle.std.specs.Str.{bytes_eq}
+use Rattle.xml_tree.specs.Tree.{Content, last, more, note, more_of, Tree, tree_of}
+use Rattle.xml_tree.specs.declared.names.Name.{Name}
+use Rattle.xml_tree.specs.declared.names.Decl.{Decl}
+use Rattle.xml_tree.specs.declared.names.Attr.{Attr}
+
+-- ---- content
+
+-- with a text before it, which joins the first one
+abbrev pub before : List ℕ → Content → Content
+before t (last u) = last (t ++ u)
+before t (more u n ds ats c rest) = more (t ++ u) n ds ats c rest
+before t (note u c rest) = note (t ++ u) c rest
+
+-- with a text behind it, which joins the last one
+abbrev pub with_text : List ℕ → Content → Content
+with_text s (last t) = last (t ++ s)
+with_text s (more t n ds ats c rest) = more t n ds ats c (with_text s rest)
+with_text s (note t c rest) = note t c (with_text s rest)
+
+-- with an element behind it
+abbrev pub with_elem : Tree → Content → Content
+with_elem e (last t) = more_of t e (last [])
+with_elem e (more t n ds ats c rest) = more t n ds ats c (with_elem e rest)
+with_elem e (note t c rest) = note t c (with_elem e rest)
+
+-- with a comment behind it
+abbrev pub with_comment : List ℕ → Content → Content
+with_comment s (last t) = note t s (last [])
+with_comment s (more t n ds ats c rest) = more t n ds ats c (with_comment s rest)
+with_comment s (note t c rest) = note t c (with_comment s rest)
+
+-- with an element in a gap: gap 0 stands before everything, gap j directly behind the j-th element
+abbrev pub put : ℕ → Tree → Content → Content
+put zero e c = more_of [] e c
+put (suc j) e (last t) = last t
+put (suc j) e (more t n ds ats c rest) = more t n ds ats c (put j e rest)
+put (suc j) e (note t c rest) = note t c (put (suc j) e rest)
+
+-- without its i-th element, counted from 0; the texts beside it are joined
+abbrev pub cut : ℕ → Content → Content
+cut i (last t) = last t
+cut zero (more t n ds ats c rest) = before t rest
+cut (suc i) (more t n ds ats c rest) = more t n ds ats c (cut i rest)
+cut i (note t c rest) = note t c (cut i rest)
+
+-- with its i-th element changed by f
+abbrev pub change : ℕ → (Tree → Tree) → Content → Content
+change i f (last t) = last t
+change zero f (more t n ds ats c rest) = more_of t (f (tree_of n ds ats c)) rest
+change (suc i) f (more t n ds ats c rest) = more t n ds ats c (change i f rest)
+change i f (note t c rest) = note t c (change i f rest)
+
+-- ---- attributes
+
+-- whether two names are written alike
+abbrev pub same_name : Name → Name → Bool
+same_name a b = bytes_eq a.prefix b.prefix && bytes_eq a.local b.local
+
+-- the first attribute of this name gets the value; where there is none, one stands at the end
+abbrev pub with_attr : Name → List ℕ → List Attr → List Attr
+with_attr n v [] = record { name = n; value = v } ∷ []
+with_attr n v (a ∷ ats) = if same_name a.name n then record a { value = v } ∷ ats else (a ∷ with_attr n v ats)
+
+-- without the first attribute of this name
+abbrev pub without_attr : Name → List Attr → List Attr
+without_attr n [] = []
+without_attr n (a ∷ ats) = if same_name a.name n then ats else (a ∷ without_attr n ats)
+
+-- ---- one element
+
+abbrev pub put_kid : ℕ → Tree → Tree → Tree
+put_kid j k e = record e { content = put j k e.content }
+
+abbrev pub cut_kid : ℕ → Tree → Tree
+cut_kid i e = record e { content = cut i e.content }
+
+abbrev pub change_kid : ℕ → (Tree → Tree) → Tree → Tree
+change_kid n f e = record e { content = change n f e.content }
+
+abbrev pub write_attr : Name → List ℕ → Tree → Tree
+write_attr n v e = record e { attrs = with_attr n v e.attrs }
+
+abbrev pub drop_attr : Name → Tree → Tree
+drop_attr n e = record e { attrs = without_attr n e.attrs }
+
+-- ---- the element at a path, and nothing else
+
+-- the number that stands last on a path; 0 on the empty one
+abbrev pub final : List ℕ → ℕ
+final [] = 0
+final (n ∷ []) = n
+final (n ∷ m ∷ p) = final (m ∷ p)
+
+-- a path without its last number
+abbrev pub front : List ℕ → List ℕ
+front [] = []
+front (n ∷ []) = []
+front (n ∷ m ∷ p) = n ∷ front (m ∷ p)
+
+-- the element at the path is changed by f
+abbrev pub change_at : List ℕ → (Tree → Tree) → Tree → Tree
+change_at [] f e = f e
+change_at (n ∷ p) f e = change_kid n (change_at p f) e
+
+-- an element is put in a gap of the element at the path
+abbrev pub put_in : List ℕ → ℕ → Tree → Tree → Tree
+put_in p j k = change_at p (put_kid j k)
+
+-- the element at the path is exchanged
+abbrev pub put_over : List ℕ → Tree → Tree → Tree
+put_over p w = change_at p (λ _. w)
+
+-- the element at the path, which isn't the root, is taken out, and texts that meet are joined
+abbrev pub cut_out : List ℕ → Tree → Tree
+cut_out p = change_at (front p) (cut_kid (final p))
+
+-- an attribute of the element at the path is written, or taken out
+abbrev pub set_at : List ℕ → Name → List ℕ → Tree → Tree
+set_at p n v = change_at p (write_attr n v)
+
+abbrev pub drop_at : List ℕ → Name → Tree → Tree
+drop_at p n = change_at p (drop_attr n)

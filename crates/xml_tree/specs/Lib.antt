@@ -1,0 +1,7 @@
+pub mod Characters
+pub mod Edits
+pub mod EditsAt
+pub mod Falls
+pub mod Lending
+pub mod Nodes
+pub mod Tree

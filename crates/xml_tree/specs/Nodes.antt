@@ -1,0 +1,90 @@
+-- A list of nodes, and the content that it stands for.
+use Rattle.std.specs.Prelude.{ℕ, zero, suc, Bool, true, false, List, [], ◌∷◌, ◌++◌, Option, None, Some}
+use Rattle.xml_tree.specs.Tree.{Content, last, more, note, more_of, Tree, tree_of, height}
+use Rattle.xml_tree.specs.Edits.{before}
+use Rattle.xml_tree.specs.declared.tree.Node.{Node}
+use Rattle.xml_tree.specs.declared.tree.Node.TheVariants.{Elem, Chars, Comment}
+
+-- the content that nodes stand for: texts that meet are joined, and empty ones vanish
+abbrev pub content_of : List Node → Content
+content_of [] = last []
+content_of (Elem e ∷ ns) = more_of [] e (content_of ns)
+content_of (Chars t ∷ ns) = before t (content_of ns)
+content_of (Comment c ∷ ns) = note [] c (content_of ns)
+
+-- a text as a node; none where it is empty
+abbrev pub text_node : List ℕ → List Node
+text_node [] = []
+text_node (c ∷ cs) = Chars (c ∷ cs) ∷ []
+
+-- the nodes of a content
+abbrev pub nodes_of : Content → List Node
+nodes_of (last t) = text_node t
+nodes_of (more t n ds ats c rest) = text_node t ++ Elem (tree_of n ds ats c) ∷ nodes_of rest
+nodes_of (note t c rest) = text_node t ++ Comment c ∷ nodes_of rest
+
+-- the text has a character
+abbrev pub IsFull : List ℕ → Type 0
+IsFull [] = ⊥
+IsFull (c ∷ cs) = Unit {0}
+
+-- no text stands first
+abbrev pub StartsApart : List Node → Type 0
+StartsApart [] = Unit {0}
+StartsApart (Elem e ∷ ns) = Unit {0}
+StartsApart (Chars t ∷ ns) = ⊥
+StartsApart (Comment c ∷ ns) = Unit {0}
+
+-- no text is empty, and no two texts meet
+abbrev pub AreNormal : List Node → Type 0
+AreNormal [] = Unit {0}
+AreNormal (Elem e ∷ ns) = AreNormal ns
+AreNormal (Chars t ∷ ns) = IsFull t × StartsApart ns × AreNormal ns
+AreNormal (Comment c ∷ ns) = AreNormal ns
+
+-- how many elements of a node are one in another
+abbrev pub node_height : Node → ℕ
+node_height (Elem e) = height e
+node_height (Chars t) = 0
+node_height (Comment c) = 0
+
+-- ---- kinds of nodes
+
+-- whether a node is a text
+abbrev pub is_text : Node → Bool
+is_text (Elem e) = false
+is_text (Chars t) = true
+is_text (Comment c) = false
+
+-- the element that a node is
+abbrev pub elem_of : Node → Option Tree
+elem_of (Elem e) = Some e
+elem_of (Chars t) = None
+elem_of (Comment c) = None
+
+-- a text with these characters added; other nodes as they are
+abbrev pub node_with : List ℕ → Node → Node
+node_with s (Elem e) = Elem e
+node_with s (Chars t) = Chars (t ++ s)
+node_with s (Comment c) = Comment c
+
+-- whether a text stands last
+abbrev pub ends_in_text : List Node → Bool
+ends_in_text [] = false
+ends_in_text (x ∷ []) = is_text x
+ends_in_text (x ∷ y ∷ ns) = ends_in_text (y ∷ ns)
+
+-- ---- places among nodes
+
+-- the place of the n-th element, or the number of nodes where there are fewer elements
+abbrev pub place : ℕ → List Node → ℕ
+place n [] = 0
+place n (Chars t ∷ ns) = suc (place n ns)
+place n (Comment c ∷ ns) = suc (place n ns)
+place zero (Elem e ∷ ns) = 0
+place (suc n) (Elem e ∷ ns) = suc (place n ns)
+
+-- the place of a gap: before all nodes, or behind an element
+abbrev pub gap_place : ℕ → List Node → ℕ
+gap_place zero ns = 0
+gap_place (suc n) ns = suc (place n ns)

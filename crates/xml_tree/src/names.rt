@@ -1,0 +1,89 @@
+//! Names, declarations and attributes, as they are written (Namespaces in XML 1.0, 3 and 4).
+ghost use Rattle.std.specs.Prelude.{◌≡◌, ◌↔◌, IsTrue, IfOk};
+
+use crate::text::Text;
+use std::alloc::{AllocError, Global};
+
+/// A name as it is written: a prefix, which is empty where there is none, and a local name.
+#[derive(Debug, Drop)]
+pub struct Name {
+    pub prefix: Text,
+    pub local: Text,
+}
+
+/// A declaration of a prefix. The empty prefix is the default namespace, and an empty URI undeclares it.
+#[derive(Debug, Drop)]
+pub struct Decl {
+    pub prefix: Text,
+    pub uri: Text,
+}
+
+/// An attribute that is no declaration.
+#[derive(Debug, Drop)]
+pub struct Attr {
+    pub name: Name,
+    pub value: Text,
+}
+
+impl Name {
+    /// An equal name.
+    ///
+    /// # Errors
+    /// `NoMemory` for want of memory.
+    pub fn copy(&self, alloc: Global) -> Result<Name, AllocError>
+        ensures { IfOk result (λ made. made ≡ self.now) }
+    {
+        let prefix = self.prefix.copy(alloc)?;
+        let local = self.local.copy(alloc)?;
+        Ok(Name { prefix, local })
+    }
+
+    /// Whether two names are written alike. Takes no memory.
+    pub fn same(&self, other: &Name) -> bool
+        ensures { IsTrue result ↔ (self.now ≡ other.now) }
+    {
+        self.prefix.same(&other.prefix) && self.local.same(&other.local)
+    }
+}
+
+impl Decl {
+    /// An equal declaration.
+    ///
+    /// # Errors
+    /// `NoMemory` for want of memory.
+    pub fn copy(&self, alloc: Global) -> Result<Decl, AllocError>
+        ensures { IfOk result (λ made. made ≡ self.now) }
+    {
+        let prefix = self.prefix.copy(alloc)?;
+        let uri = self.uri.copy(alloc)?;
+        Ok(Decl { prefix, uri })
+    }
+
+    /// Whether two declarations are equal. Takes no memory.
+    pub fn same(&self, other: &Decl) -> bool
+        ensures { IsTrue result ↔ (self.now ≡ other.now) }
+    {
+        self.prefix.same(&other.prefix) && self.uri.same(&other.uri)
+    }
+}
+
+impl Attr {
+    /// An equal attribute.
+    ///
+    /// # Errors
+    /// `NoMemory` for want of memory.
+    pub fn copy(&self, alloc: Global) -> Result<Attr, AllocError>
+        ensures { IfOk result (λ made. made ≡ self.now) }
+    {
+        let name = self.name.copy(alloc)?;
+        let value = self.value.copy(alloc)?;
+        Ok(Attr { name, value })
+    }
+
+    /// Whether two attributes have the same prefix, local name and value. Takes no memory.
+    pub fn same(&self, other: &Attr) -> bool
+        ensures { IsTrue result ↔ (self.now ≡ other.now) }
+    {
+        self.name.same(&other.name) && self.value.same(&other.value)
+    }
+}

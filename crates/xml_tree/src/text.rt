@@ -1,0 +1,146 @@
+//! Texts, which contracts see as their characters.
+ghost use Rattle.std.specs.Prelude.{◌≡◌, ◌++◌, ◌∷◌, [], ◌↔◌, length, IsTrue, IfOk, OnOk, OnErr, chars, encode_utf8_all, string_bytes};
+ghost use Rattle.std.specs.Str.{bytes_eq};
+
+use std::alloc::{AllocError, Global};
+use std::hash::{Hash, Hasher};
+use std::marker::Model;
+
+/// A text that owns its memory. Contracts see the list of its characters, as code points.
+#[derive(Debug, Drop)]
+pub struct Text {
+    string: String,
+}
+
+impl Model for Text {
+    ghost use Rattle.std.specs.Prelude.{ℕ, List, chars, string_bytes};
+
+    ghost Value = { List ℕ };
+
+    ghost view = { λ t. chars (string_bytes t.string) };
+}
+
+impl Text {
+    /// A copy of a text.
+    ///
+    /// # Errors
+    /// `NoMemory` for want of memory.
+    pub fn from(alloc: Global, text: &str) -> Result<Text, AllocError>
+        ensures { IfOk result (λ made. made ≡ chars text.now) }
+    {
+        let string = String::from_str(alloc, text)?;
+        Ok(Text { string })
+    }
+
+    /// The text that a string holds, which is not copied. Takes no memory.
+    pub fn own(string: String) -> Text
+        ensures { result ≡ chars (string_bytes string) }
+    {
+        Text { string }
+    }
+
+    /// The text, lent. Takes no memory.
+    pub fn as_str(&self) -> &str
+        ensures letters { chars result.now ≡ self.now }
+        ensures bytes { result.now ≡ encode_utf8_all self.now }
+    {
+        self.string.as_str()
+    }
+
+    /// An equal text.
+    ///
+    /// # Errors
+    /// `NoMemory` for want of memory.
+    pub fn copy(&self, alloc: Global) -> Result<Text, AllocError>
+        ensures { IfOk result (λ made. made ≡ self.now) }
+    {
+        Text::from(alloc, self.as_str())
+    }
+
+    /// Adds a text at the end.
+    ///
+    /// # Errors
+    /// `NoMemory` for want of memory; the text is then as before.
+    pub fn push_str(&mut self, text: &str) -> Result<(), AllocError>
+        ensures ok { OnOk result (self.new ≡ self.old ++ chars text.now) }
+        ensures err { OnErr result (self.new ≡ self.old) }
+    {
+        self.string.push_str(text)?;
+        Ok(())
+    }
+
+    /// Adds a character at the end.
+    ///
+    /// # Errors
+    /// `NoMemory` for want of memory; the text is then as before.
+    pub fn push(&mut self, c: char) -> Result<(), AllocError>
+        ensures ok { OnOk result (self.new ≡ self.old ++ c ∷ []) }
+        ensures err { OnErr result (self.new ≡ self.old) }
+    {
+        self.string.push(c)?;
+        Ok(())
+    }
+
+    /// Whether two texts have the same characters. Takes no memory.
+    pub fn same(&self, other: &Text) -> bool
+        ensures { IsTrue result ↔ (self.now ≡ other.now) }
+    {
+        self.as_str() == other.as_str()
+    }
+
+    /// Whether it has these characters. Takes no memory.
+    pub fn is(&self, text: &str) -> bool
+        ensures { result ≡ bytes_eq self.now (chars text.now) }
+    {
+        self.as_str() == text
+    }
+
+    /// Whether it has no character. Takes no memory.
+    pub fn is_empty(&self) -> bool
+        ensures { IsTrue result ↔ (self.now ≡ []) }
+    {
+        self.as_str().is_empty()
+    }
+
+    /// How many characters it has. Takes no memory.
+    pub fn count(&self) -> usize
+        ensures { result ≡ length self.now }
+    {
+        self.as_str().chars().count()
+    }
+}
+
+impl PartialEq for Text {
+    ghost use Rattle.std.specs.Str.{bytes_eq};
+    ghost use Rattle.std.specs.Cmp.{partial_equiv_from_equiv};
+    ghost use Rattle.std.specs.Cmp.Lexicographic.{nat_list_eq_equiv};
+
+    ghost eq = { bytes_eq };
+
+    ghost laws = { partial_equiv_from_equiv nat_list_eq_equiv };
+
+    fn eq(&self, other: &Text) -> bool {
+        self.as_str() == other.as_str()
+    }
+}
+
+impl Eq for Text {
+    ghost use Rattle.std.specs.Cmp.Lexicographic.{nat_list_eq_equiv};
+
+    ghost laws = { nat_list_eq_equiv };
+}
+
+impl Hash for Text {
+    ghost use Rattle.std.proofs.Common.{ap};
+    ghost use Rattle.std.specs.Prelude.{encode_utf8_all};
+    ghost use Rattle.std.specs.Cmp.Lexicographic.{bytes_decides};
+    ghost use Rattle.std.specs.Hash as fed;
+
+    ghost hash_input = { λ cs. fed.str (encode_utf8_all cs) };
+
+    ghost respects_eq = { λ x y h. ap (λ cs. fed.str (encode_utf8_all cs)) ((bytes_decides x y).0 h) };
+
+    fn hash<H: Hasher>(&self, state: &mut H) {
+        self.as_str().hash(state);
+    }
+}
