@@ -1,0 +1,11 @@
+//! Requests of a connection, read from its bytes however they are cut, and replies written to it.
+//! Upward it promises: each answer is the next item of the connection's bytes, and a fault comes only with its count.
+//! HTTP/1.1 by RFC 9112, with the fields of RFC 9110.
+#![tactic(auto)]
+
+mod framing;
+mod request;
+mod wire;
+
+pub use request::{Asked, Field, Request};
+pub use wire::ReadFault;
