@@ -35,10 +35,10 @@ IsAsked before given left NoMemory held = (request : Request) × (rest : List �
 
 -- Bytes were read from the source, and the answer is by those held and those read; where a read failed, no item lies
 -- whole in them.
-pub record Asks {E : Type 0} (old : WireState) (left : Option (List ℕ)) (result : Result Asked E) (new : WireState) (left' : Option (List ℕ)) : Type 0 where
+pub record Asks {E : Type 0} (before : ℕ) (held : List ℕ) (left : Option (List ℕ)) (result : Result Asked E) (held' : List ℕ) (left' : Option (List ℕ)) : Type 0 where
   pub read : List ℕ
   pub given : Consumes left left' read
-  pub answer : MatchResult result (λ asked. IsAsked old.requests (old.held ++ read) left' asked new.held) (λ _. IsUnfinished (old.held ++ read))
+  pub answer : MatchResult result (λ asked. IsAsked before (held ++ read) left' asked held') (λ _. IsUnfinished (held ++ read))
 
 -- How the wire stands after an answer: it is spent, but after a request that doesn't close.
 abbrev pub StandsAfter : {E : Type 0} → WireState → Result Asked E → WireState → Type 0

@@ -1,8 +1,8 @@
 -- Chunked bodies (RFC 9112, section 7.1), as this server takes them. Each form is a tree, a printer from the tree to its
 -- bytes, and a fact that says which trees are valid.
-use Rattle.std.specs.Prelude.{◌≡◌, ℕ, ◌+◌, ◌<◌, ◌≤◌, Bool, not, ◌||◌, ◌==◌, List, [], ◌++◌, length, IsTrue, Option, None, Some, flat_map, sum_by}
+use Rattle.std.specs.Prelude.{◌≡◌, ℕ, ◌+◌, ◌<◌, ◌≤◌, Bool, not, ◌||◌, ◌==◌, List, [], ◌++◌, length, IsTrue, Option, None, Some, flat_map}
 use Rattle.std.specs.List.{list_all, AllByRecursion}
-use Rattle.std.specs.Char.{is_ascii_hexdigit}
+use Rattle.std.specs.Char.{is_digit}
 use Rattle.httparse.specs.Ascii.{line_feed, carriage_return, crlf_bytes}
 use Rattle.httparse.specs.Grammar.{ChunkLine, print_extension, chunk_size, is_ows, is_value_byte}
 
@@ -24,7 +24,7 @@ extension_text (Some text) = text
 pub record IsLine (l : ChunkLine) : Type 0 where
   pub some : 0 < length l.digits
   pub few : length l.digits ≤ 16
-  pub digits : IsTrue (list_all is_ascii_hexdigit l.digits)
+  pub digits : IsTrue (list_all (λ b. is_digit b 16) l.digits)
   pub pad : IsTrue (list_all is_ows l.pad)
   pub extension : IsTrue (list_all is_value_byte (extension_text l.extension))
   pub short : length (print_line l) ≤ 256
@@ -94,7 +94,8 @@ HasNoBody bytes = (c : ChunkedBody) (rest : List ℕ) → ¬ (ReadsBody bytes c 
 abbrev pub MayBecomeBody : List ℕ → Type 0
 MayBecomeBody bytes = (more : List ℕ) × (c : ChunkedBody) × ReadsBody (bytes ++ more) c []
 
--- the bytes begin with chunks and one more chunk line, whose numbers sum to more than 262,144
+-- the bytes begin with chunks and one more chunk line, and the bytes of the chunks and the number of that line sum to more
+-- than 262,144
 pub record PassesLimit (bytes : List ℕ) : Type 0 where
   pub chunks : List Chunk
   pub line : ChunkLine
@@ -102,4 +103,4 @@ pub record PassesLimit (bytes : List ℕ) : Type 0 where
   pub are_chunks : AllByRecursion IsChunk chunks
   pub is_line : IsLine line
   pub reads : bytes ≡ print_chunks chunks ++ (print_line line ++ rest)
-  pub over : 262_144 < sum_by (λ c. chunk_size c.line) chunks + chunk_size line
+  pub over : 262_144 < length (joined chunks) + chunk_size line

@@ -2,8 +2,7 @@
 -- in the place of one. Here the whole list of bytes is at hand, and nothing depends on the pieces that it comes in.
 use Rattle.std.specs.Prelude.{◌≡◌, ℕ, ◌+◌, ◌<◌, ◌≤◌, ◌⊎◌, ◌==◌, Bool, true, ◌||◌, List, [], ◌∷◌, ◌++◌, length, map}
 use Rattle.std.specs.Bool.{MatchBool}
-use Rattle.httparse.specs.Grammar.{RequestHead, field_value}
-use Rattle.httparse.specs.Grammar as http
+use Rattle.httparse.specs.Grammar.{RequestHead}
 use Rattle.httparse.specs.Spans.{name_and_value}
 use Rattle.http_wire.specs.declared.framing.Framing.{Framing}
 use Rattle.http_wire.specs.declared.framing.Framing.TheVariants.{Bad, Coded, TooLong, Length, Chunked}
@@ -19,9 +18,9 @@ pub data Item : Type 0 where
   asks : Request → Item
   bad too_long coded : Item
 
--- the field of a head
-abbrev pub field_of : http.Field → Field
-field_of f = record { name = f.name; value = field_value f }
+-- the field with that name and value
+abbrev pub field_of : List ℕ × List ℕ → Field
+field_of f = record { name = f.0; value = f.1 }
 
 -- the reply to a request ends the connection: it is the 1,000th, behind 999 others, or of HTTP/1.0, or it asks for that
 abbrev pub ends_after : ℕ → RequestHead → Bool
@@ -33,7 +32,7 @@ request_of before head body = record {
   method = head.method;
   target = head.target;
   closes = ends_after before head;
-  fields = map field_of head.fields;
+  fields = map field_of (map name_and_value head.fields);
   body = body;
 }
 

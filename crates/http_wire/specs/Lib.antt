@@ -3,5 +3,7 @@ pub mod Fields
 pub mod Framing
 pub mod Chunked
 pub mod Items
+pub mod Decoding
+pub mod Inflow
 pub mod Asking
 pub mod Serving

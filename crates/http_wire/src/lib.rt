@@ -3,9 +3,14 @@
 //! HTTP/1.1 by RFC 9112, with the fields of RFC 9110.
 #![tactic(auto)]
 
+mod chunks;
+mod decoding;
 mod framing;
+mod heads;
 mod request;
+mod requests;
 mod wire;
 
 pub use request::{Asked, Field, Request};
-pub use wire::ReadFault;
+pub use requests::next_request;
+pub use wire::{ReadFault, Wire};
