@@ -1,3 +1,5 @@
 pub mod Adding
+pub mod Exchanging
 pub mod Lines
+pub mod Pairing
 pub mod Steps

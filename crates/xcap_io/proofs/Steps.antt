@@ -1,6 +1,6 @@
 -- How one call after another adds to what a line has given or taken.
-use Rattle.std.proofs.Common.{ℕ, ◌+◌, List, ◌++◌, length, take, drop, Option, Result, Ok, Err, sym, subst, arith, length-append}
-use Rattle.std.proofs.lemmas.List.{take-append-le}
+use Rattle.std.proofs.Common.{◌≡◌, ℕ, ◌+◌, ◌-◌, ◌<◌, ◌≤◌, min, List, [], ◌++◌, length, take, drop, Option, Result, Ok, Err, sym, ap, ◌∙◌, subst, arith, length-drop, length-append, take-append-drop}
+use Rattle.std.proofs.lemmas.List.{length-take-le, take_at, take-append-le, drop-drop, drop_all}
 use Rattle.std.specs.Io.KnownBytes.{Appends}
 use Rattle.std.proofs.KnownBytes.{Appends-trans}
 use Rattle.std.proofs.Math.Seq.{take-add, take-append-add}
@@ -27,3 +27,13 @@ stopped_first a b first next stopped = (
   omega (arith, length-append first next, stopped.1),
   subst (Appends a b) (sym (take-append-le stopped.0 first next (omega (arith, stopped.1)))) stopped.2,
 )
+
+-- what a line has left is the bytes that it gives next, at the front of a buffer, and then the rest
+pub gives_next : (input front rest : List ℕ) (given count : ℕ) → given + count ≤ length input → front ≡ take count (drop given input) → drop given input ≡ take count (front ++ rest) ++ drop (given + count) input
+gives_next input front rest given count fits is =
+    let long : length front ≡ count = ap length is ∙ length-take-le count (drop given input) (omega (arith, length-drop given input)) in
+    sym (take-append-drop count (drop given input)) ∙ ap (λ (l : List ℕ). l ++ drop count (drop given input)) (sym is ∙ sym (take_at front rest count long)) ∙ ap (λ (l : List ℕ). take count (front ++ rest) ++ l) (drop-drop count given input)
+
+-- where nothing was given although something was wanted, nothing is left
+pub none_left : (input : List ℕ) (given count most : ℕ) → count ≡ min most (length input - given) → 0 < most → count ≡ 0 → drop (given + count) input ≡ []
+none_left input given count most is some none = drop_all (given + count) input (omega arith)

@@ -47,6 +47,17 @@ no_port = record { listening = None; to_come = None; begun = None; faults = 0 }
 abbrev pub no_peer : PeerState
 no_peer = record { to_come = None; begun = None; faults = 0 }
 
+-- What a line that works through two others doesn't show of one of them: of an input what it has taken and its count
+-- of failed writes, of an output what it has left and its count of failed reads; of both their connections, and how many
+-- references and objects like this one they work through themselves.
+pub record Aside : Type 0 where
+  pub bytes : Option (List ℕ)
+  pub faults : ℕ
+  pub port : PortState
+  pub peer : PeerState
+  pub holds : ℕ
+  pub aside : ℕ
+
 -- A line at one moment.
 pub record LineState : Type 0 where
   -- the bytes that reads will give from here on, where the line tells them
@@ -58,6 +69,8 @@ pub record LineState : Type 0 where
   pub write_faults : ℕ
   -- the references that the line holds, by name: no call puts another one in their place
   pub holds : List GName
+  -- what the line doesn't show of those that it works through: no call changes it
+  pub aside : List Aside
   pub port : PortState
   pub peer : PeerState
 
@@ -75,6 +88,7 @@ pub record Reads (old new : LineState) : Type 0 where
   pub same_taken : new.taken ≡ old.taken
   pub same_write_faults : new.write_faults ≡ old.write_faults
   pub same_holds : new.holds ≡ old.holds
+  pub same_aside : new.aside ≡ old.aside
   pub same_port : new.port ≡ old.port
   pub same_peer : new.peer ≡ old.peer
 
@@ -89,6 +103,7 @@ pub record Writes (old new : LineState) : Type 0 where
   pub same_left : new.left ≡ old.left
   pub same_read_faults : new.read_faults ≡ old.read_faults
   pub same_holds : new.holds ≡ old.holds
+  pub same_aside : new.aside ≡ old.aside
   pub same_port : new.port ≡ old.port
   pub same_peer : new.peer ≡ old.peer
 
@@ -96,3 +111,10 @@ pub record Writes (old new : LineState) : Type 0 where
 pub record OnlyWrites {T E : Type 0} (old new : LineState) (result : Result T E) : Type 0 where
   pub writes : Writes old new
   pub counts : Counts old.write_faults new.write_faults result
+
+-- Between the two there were calls of any kind, if any.
+pub record Works (old new : LineState) : Type 0 where
+  pub later_reads : old.read_faults ≤ new.read_faults
+  pub later_writes : old.write_faults ≤ new.write_faults
+  pub same_holds : new.holds ≡ old.holds
+  pub same_aside : new.aside ≡ old.aside

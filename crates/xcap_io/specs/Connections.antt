@@ -58,6 +58,7 @@ pub record Next (old new : LineState) : Type 0 where
   pub same_read_faults : new.read_faults ≡ old.read_faults
   pub same_write_faults : new.write_faults ≡ old.write_faults
   pub same_holds : new.holds ≡ old.holds
+  pub same_aside : new.aside ≡ old.aside
   pub same_peer : new.peer ≡ old.peer
 
 -- On `Ok(true)` the next connection began. `Ok(false)` changes nothing and says that none is left.
@@ -81,6 +82,7 @@ pub record Connects (old new : LineState) (address : List ℕ) : Type 0 where
   pub same_read_faults : new.read_faults ≡ old.read_faults
   pub same_write_faults : new.write_faults ≡ old.write_faults
   pub same_holds : new.holds ≡ old.holds
+  pub same_aside : new.aside ≡ old.aside
   pub same_port : new.port ≡ old.port
 
 -- On `Ok` a connection at the address began. On a failure the count of the peer's faults rose, and nothing else changed.

@@ -1,4 +1,7 @@
 pub mod Adds
 pub mod Causes
 pub mod Connections
+pub mod Echoes
+pub mod Memory
+pub mod Pairs
 pub mod Streams

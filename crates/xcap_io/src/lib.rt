@@ -4,12 +4,30 @@
 #![tactic(auto)]
 
 mod bytes;
+mod echo;
 mod gatherer;
 mod line;
+mod mem_line;
+mod mem_lines;
+mod mem_peer;
+mod mem_port;
+mod pair;
+mod remembered;
+mod std_streams;
+mod tcp;
+#[cfg(test)]
+mod tests;
 mod writing;
 
 pub use bytes::Bytes;
+pub use echo::echo_once;
 pub use gatherer::{Gatherer, flush, put};
 pub use line::{Failed, Line, Peer, Port, Sink, Source};
+pub use mem_line::MemLine;
+pub use mem_peer::MemPeer;
+pub use mem_port::MemPort;
+pub use pair::Pair;
 pub use std::alloc::AllocError as NoMemory;
+pub use std_streams::{StdSink, StdSource};
+pub use tcp::{TcpPeer, TcpPort};
 pub use writing::write_all;

@@ -1,14 +1,25 @@
 // What contracts see of a line, and the calls that read it, write to it and begin its connections.
-ghost use Rattle.std.specs.Prelude.{◌<◌, length};
+ghost use Rattle.std.specs.Prelude.{◌≡◌, ◌<◌, ◌≤◌, length};
 ghost use Rattle.std.specs.Io.{ReadsAtMost};
 ghost use Rattle.std.specs.Io.KnownBytes.{ReadConsumes, WriteAppends};
-ghost use Rattle.xcap_io.specs.Causes.{LineState, OnlyReads, OnlyWrites};
+ghost use Rattle.xcap_io.specs.Causes.{LineState, Rose, OnlyReads, OnlyWrites};
 ghost use Rattle.xcap_io.specs.Connections.{Listens, OnlyNext, OnlyConnects};
+ghost use Rattle.xcap_io.specs.Memory.{one_more};
 ghost use Rattle.xcap_io.specs.Streams.{WritesSome};
 
 /// A call on a line failed. The line's count of such faults rose in that call, or stands at the greatest `u64`.
 #[derive(Clone, Copy, Debug, PartialEq, Eq)]
 pub struct Failed;
+
+/// Counts one fault more.
+pub(crate) fn fault(count: &mut u64) -> Failed
+    ensures value { count.new ≡ one_more count.old }
+    ensures later { count.old ≤ count.new }
+    ensures rose { Rose count.old count.new }
+{
+    *count = count.saturating_add(1);
+    Failed
+}
 
 /// What contracts see of a source, a sink, a port or a peer. It has no calls.
 pub trait Line {

@@ -1,0 +1,78 @@
+-- What is known of the two objects of a pair, after calls on the pair.
+use Rattle.std.proofs.Common.{◌≡◌, ◌≤◌, List, [], ◌∷◌, ◌++◌, length, ap, arith}
+use Rattle.std.specs.Borrow.{GName}
+use Rattle.xcap_io.specs.Causes.{Aside, LineState, Reads, Writes}
+use Rattle.xcap_io.specs.Pairs.{unread, unwritten}
+
+-- two lists that are one, and begin with parts of one length, have one part first
+first_part : {A : Type 0} (xs ys xs' ys' : List A) → length xs' ≡ length xs → xs' ++ ys' ≡ xs ++ ys → xs' ≡ xs
+first_part [] ys [] ys' same e = cc
+first_part [] ys (x' ∷ xs') ys' same e = absurd (omega arith)
+first_part (x ∷ xs) ys [] ys' same e = absurd (omega arith)
+first_part (x ∷ xs) ys (x' ∷ xs') ys' same e =
+    let head : x' ≡ x = cc in
+    let rest : xs' ++ ys' ≡ xs ++ ys = cc in
+    let tail : xs' ≡ xs = first_part xs ys xs' ys' (omega arith) rest in
+    cc
+
+-- and so they have one part behind it
+second_part : {A : Type 0} (xs ys xs' ys' : List A) → length xs' ≡ length xs → xs' ++ ys' ≡ xs ++ ys → ys' ≡ ys
+second_part [] ys [] ys' same e = e
+second_part [] ys (x' ∷ xs') ys' same e = absurd (omega arith)
+second_part (x ∷ xs) ys [] ys' same e = absurd (omega arith)
+second_part (x ∷ xs) ys (x' ∷ xs') ys' same e =
+    let rest : xs' ++ ys' ≡ xs ++ ys = cc in
+    second_part xs ys xs' ys' (omega arith) rest
+
+-- Between the two there were only calls on a pair of them, which hold and set aside the same: so each of the two has these as before.
+pub record Through (input output input' output' : LineState) : Type 0 where
+  pub same_unread : unread input' ≡ unread input
+  pub same_unwritten : unwritten output' ≡ unwritten output
+  pub same_input_holds : input'.holds ≡ input.holds
+  pub same_output_holds : output'.holds ≡ output.holds
+  pub same_input_aside : input'.aside ≡ input.aside
+  pub same_output_aside : output'.aside ≡ output.aside
+
+pub through : {a o a' o' : GName} (input output input' output' : LineState)
+    → a' ∷ o' ∷ (input'.holds ++ output'.holds) ≡ a ∷ o ∷ (input.holds ++ output.holds)
+    → unread input' ∷ unwritten output' ∷ (input'.aside ++ output'.aside) ≡ unread input ∷ unwritten output ∷ (input.aside ++ output.aside)
+    → Through input output input' output'
+through input output input' output' holds aside =
+    let held : input'.holds ++ output'.holds ≡ input.holds ++ output.holds = cc in
+    let set : input'.aside ++ output'.aside ≡ input.aside ++ output.aside = cc in
+    let same : unread input' ≡ unread input = cc in
+    let same' : unwritten output' ≡ unwritten output = cc in
+    let long : length input'.holds ≡ length input.holds = ap (λ (m : Aside). m.holds) same in
+    let long' : length input'.aside ≡ length input.aside = ap (λ (m : Aside). m.aside) same in
+    record {
+      same_unread = same;
+      same_unwritten = same';
+      same_input_holds = first_part input.holds output.holds input'.holds output'.holds long held;
+      same_output_holds = second_part input.holds output.holds input'.holds output'.holds long held;
+      same_input_aside = first_part input.aside output.aside input'.aside output'.aside long' set;
+      same_output_aside = second_part input.aside output.aside input'.aside output'.aside long' set;
+    }
+
+-- so the input was only read
+pub input_reads : (input output input' output' : LineState) → Through input output input' output' → input.read_faults ≤ input'.read_faults → Reads input input'
+input_reads input output input' output' t later = record {
+  later = later;
+  same_taken = ap (λ (m : Aside). m.bytes) t.same_unread;
+  same_write_faults = ap (λ (m : Aside). m.faults) t.same_unread;
+  same_holds = t.same_input_holds;
+  same_aside = t.same_input_aside;
+  same_port = ap (λ (m : Aside). m.port) t.same_unread;
+  same_peer = ap (λ (m : Aside). m.peer) t.same_unread;
+}
+
+-- and the output was only written to
+pub output_writes : (input output input' output' : LineState) → Through input output input' output' → output.write_faults ≤ output'.write_faults → Writes output output'
+output_writes input output input' output' t later = record {
+  later = later;
+  same_left = ap (λ (m : Aside). m.bytes) t.same_unwritten;
+  same_read_faults = ap (λ (m : Aside). m.faults) t.same_unwritten;
+  same_holds = t.same_output_holds;
+  same_aside = t.same_output_aside;
+  same_port = ap (λ (m : Aside). m.port) t.same_unwritten;
+  same_peer = ap (λ (m : Aside). m.peer) t.same_unwritten;
+}

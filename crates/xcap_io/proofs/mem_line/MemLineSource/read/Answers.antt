@@ -1,0 +1,18 @@
+use Rattle.std.proofs.Common.{◌≡◌, ◌+◌, ◌-◌, ◌<◌, List, ℕ, take, drop, length, min, ap, sym, ◌∙◌, arith}
+use Rattle.xcap_io.proofs.Steps.{gives_next, none_left}
+use Rattle.xcap_io.proofs.mem_line.MemLineSource.read.Goals as goal
+
+pub most_given-requires : goal.most_given-requires
+most_given-requires c = let some : 0 < length c.args.buf.now = c.requires in omega (arith, c.self.invariant.0, c.min-wanted.ensures)
+
+pub returns-clause-bytes : goal.returns-clause-bytes
+returns-clause-bytes c =
+    let input : List ℕ = c.self.inside.input.items in
+    let given : ℕ = c.self.inside.given in
+    let count : ℕ = c.min-count.result in
+    let size : c.len.result ≡ length input = grind (arith, c.len.ensures) in
+    let same : given + count - given ≡ count = omega arith in
+    let front : c.copy_from_slice.new.self ≡ take count (drop given input) = c.copy_from_slice.ensures.after ∙ ap (λ (n : ℕ). take n (drop given c.deref.result.now)) same ∙ ap (λ (l : List ℕ). take count (drop given l)) c.deref.ensures.value in (
+      ap (λ m. m.left) (sym c.self.view_is) ∙ gives_next input c.copy_from_slice.new.self _ given count (omega arith) front,
+      λ none some. none_left input given count c.in-Some.most (c.min-count.ensures ∙ ap (λ (n : ℕ). min c.in-Some.most (n - given)) size) c.in-Some.ensures.some.0 none,
+    )

@@ -1,0 +1,146 @@
+// A source and a sink in memory, for tests and for programs over known bytes.
+ghost use Rattle.std.specs.Prelude.{◌≡◌, ◌<◌, ◌≤◌, [], length, IfOk, IfSome, ◌≢◌, Some, min, unwrap_or};
+ghost use Rattle.std.specs.Io.{ReadsAtMost};
+ghost use Rattle.std.specs.Io.KnownBytes.{ReadConsumes, WriteAppends};
+ghost use Rattle.xcap_io.specs.Causes.{OnlyReads, OnlyWrites};
+ghost use Rattle.xcap_io.specs.Memory.{Gives, MemoryRead, MemoryWrite, line_state};
+ghost use Rattle.xcap_io.specs.Streams.{WritesSome};
+
+use crate::line::fault;
+use crate::{Failed, Line, NoMemory, Sink, Source};
+use std::alloc::Global;
+use std::marker::Model;
+
+/// A line in memory. It gives its bytes in steps, takes bytes until its room is full, and fails where it was told to.
+#[derive(Drop)]
+pub struct MemLine {
+    input: Vec<u8>,
+    given: usize,
+    step: usize,
+    read_fails_at: Option<usize>,
+    output: Vec<u8>,
+    held: usize,
+    read_faults: u64,
+    write_faults: u64,
+}
+
+impl Model for MemLine {
+    ghost use Rattle.std.specs.Prelude.{◌-◌, ◌<◌, ◌≤◌, length, take, drop, option_map};
+    ghost use Rattle.xcap_io.specs.Memory.{MemoryLine};
+
+    ghost Value = { MemoryLine };
+
+    ghost view = { λ m. record {
+      left = drop m.given m.input.items;
+      step = m.step;
+      until_fault = option_map (λ place. place - m.given) m.read_fails_at;
+      taken = take m.held m.output.items;
+      room = length m.output.items;
+      read_faults = m.read_faults;
+      write_faults = m.write_faults;
+    } };
+
+    ghost invariant = { λ m. (0 < m.step) × (m.given ≤ length m.input.items) × (m.held ≤ length m.output.items) };
+}
+
+impl MemLine {
+    /// A line that gives `bytes`, at most `step` at a time, which is at least 1, and takes `room` bytes in all.
+    /// A read at the place `read_fails_at` or beyond it fails.
+    pub fn new(
+        alloc: Global,
+        bytes: &[u8],
+        step: usize,
+        read_fails_at: Option<usize>,
+        room: usize,
+    ) -> Result<MemLine, NoMemory>
+        requires { 0 < step }
+        ensures { IfOk result (λ line. line ≡ record {
+          left = bytes.now;
+          step = step;
+          until_fault = read_fails_at;
+          taken = [];
+          room = room;
+          read_faults = 0;
+          write_faults = 0;
+        }) }
+    {
+        Ok(MemLine {
+            input: bytes.to_vec(alloc)?,
+            given: 0,
+            step,
+            read_fails_at,
+            output: vec![in alloc; 0; room]?,
+            held: 0,
+            read_faults: 0,
+            write_faults: 0,
+        })
+    }
+
+    /// What writes have handed over. Takes no memory.
+    pub fn sent(&self) -> &[u8]
+        ensures { result.now ≡ self.now.taken }
+    {
+        &self.output[..self.held]
+    }
+
+    /// Forgets what was handed over, as at the beginning of a connection.
+    pub(crate) fn forget_sent(&mut self)
+        ensures { self.new ≡ record self.old { taken = [] } }
+    {
+        self.held = 0;
+    }
+}
+
+impl Line for MemLine {
+    ghost state = { line_state };
+}
+
+// How many of the wanted bytes a read gives before the place where reads fail; nothing from there on.
+fn most_given(wanted: usize, given: usize, fails_at: Option<usize>) -> Option<usize>
+    requires { 0 < wanted }
+    ensures some { IfSome result (λ most. (0 < most) × (most ≤ wanted)) }
+    ensures value { Gives wanted given fails_at result }
+{
+    match fails_at {
+        Some(place) if given >= place => None,
+        Some(place) => Some(wanted.min(place - given)),
+        None => Some(wanted),
+    }
+}
+
+impl Source for MemLine {
+    fn read(&mut self, buf: &mut [u8]) -> Result<usize, Failed>
+        requires { 0 < length buf.old }
+        ensures bound { ReadsAtMost result buf.new }
+        ensures bytes { ReadConsumes (line_state self.old).left (line_state self.new).left result buf.new }
+        ensures only_reads { OnlyReads (line_state self.old) (line_state self.new) result }
+        ensures exact { MemoryRead self.old self.new (length buf.old) result }
+    {
+        let wanted = buf.len().min(self.step);
+        let Some(most) = most_given(wanted, self.given, self.read_fails_at) else {
+            return Err(fault(&mut self.read_faults));
+        };
+        let count = most.min(self.input.len() - self.given);
+        buf[..count].copy_from_slice(&self.input[self.given..self.given + count]);
+        self.given += count;
+        Ok(count)
+    }
+}
+
+impl Sink for MemLine {
+    fn write(&mut self, piece: &[u8]) -> Result<usize, Failed>
+        requires { 0 < length piece.now }
+        ensures bound { WritesSome result piece.now }
+        ensures bytes { WriteAppends (line_state self.old).taken (line_state self.new).taken result piece.now }
+        ensures only_writes { OnlyWrites (line_state self.old) (line_state self.new) result }
+        ensures exact { MemoryWrite self.old self.new piece.now result }
+    {
+        let count = piece.len().min(self.output.len() - self.held);
+        if count == 0 {
+            return Err(fault(&mut self.write_faults));
+        }
+        self.output[self.held..self.held + count].copy_from_slice(&piece[..count]);
+        self.held += count;
+        Ok(count)
+    }
+}

@@ -1,0 +1,29 @@
+// Texts that only contracts see. They take no memory, and do nothing at run time.
+ghost use Rattle.std.specs.Prelude.{◌≡◌, ℕ, List, [], ◌∷◌};
+ghost use Rattle.std.specs.Borrow.{ftrue};
+
+use std::marker::Model;
+
+/// Texts that a value in memory was given, the latest first, as a contract sees them.
+#[derive(Drop)]
+pub(crate) struct Remembered {
+    pub(crate) ghost texts: { List (List ℕ) },
+}
+
+impl Model for Remembered {
+    ghost also_owns = { λ _. ftrue };
+}
+
+impl Remembered {
+    /// Nothing yet.
+    pub(crate) fn new() -> Remembered
+        ensures { result.texts ≡ [] }
+    {
+        Remembered {}
+    }
+
+    /// One text more.
+    pub(crate) fn add(&mut self, _text: &[u8])
+        ensures { self.new.texts ≡ _text.now ∷ self.old.texts }
+    {}
+}
