@@ -2,9 +2,9 @@
 use Rattle.std.proofs.Common.{◌≡◌, ℕ, zero, suc, ◌<◌, ◌≤◌, List, [], ◌∷◌, ◌++◌, length, get_or, slice_set, insert, Some, IsSome, true, false, true≢false, refl, sym, ap, ◌∙◌, subst, arith, append_assoc, append-nil}
 use Rattle.std.specs.List.{slice_get}
 use Rattle.xml_tree.specs.Tree.{Content, last, more, note, more_of, Tree, tree_of, kids, content_height}
-use Rattle.xml_tree.specs.Edits.{before, put, change, with_elem, with_text}
+use Rattle.xml_tree.specs.Edits.{before, put, change, with_comment, with_elem, with_text, IsFull}
 use Rattle.xml_tree.specs.Falls.{content_height-before}
-use Rattle.xml_tree.specs.Nodes.{content_of, nodes_of, text_node, ends_in_text, is_text, node_with, node_height, IsFull, StartsApart, AreNormal, place, gap_place, elem_of}
+use Rattle.xml_tree.specs.Nodes.{content_of, nodes_of, text_node, ends_in_text, is_text, node_with, node_height, StartsApart, AreNormal, place, gap_place, elem_of}
 use Rattle.xml_tree.specs.declared.tree.Node.{Node}
 use Rattle.xml_tree.specs.declared.tree.Node.TheVariants.{Elem, Chars, Comment}
 
@@ -43,7 +43,7 @@ there_below n [] x is = absurd (cc)
 there_below zero (y ∷ xs) x is = omega arith
 there_below (suc n) (y ∷ xs) x is = omega (arith, there_below n xs x is)
 
-abbrev kids_in : List Node → List Tree
+abbrev pub kids_in : List Node → List Tree
 kids_in ns = kids (content_of ns)
 
 -- an element that is there has a place
@@ -107,6 +107,37 @@ AreNormal-set n (Comment c ∷ ns) w a = AreNormal-set n ns w a
 AreNormal-set zero (Elem e ∷ ns) w a = a
 AreNormal-set (suc n) (Elem e ∷ ns) w a = AreNormal-set n ns w a
 
+-- ---- an element put in a gap
+
+content_of-insert_behind : (j : ℕ) (ns : List Node) (e : Tree) → j < length (kids_in ns) → content_of (insert ns (suc (place j ns)) (Elem e)) ≡ put (suc j) e (content_of ns)
+content_of-insert_behind j [] e h = absurd (omega arith)
+content_of-insert_behind j (Chars t ∷ ns) e h = ap (before t) (content_of-insert_behind j ns e (rw kids-before at h)) ∙ sym (put-before t (content_of ns) j e)
+content_of-insert_behind j (Comment c ∷ ns) e h = ap (note [] c) (content_of-insert_behind j ns e h)
+content_of-insert_behind zero (Elem k ∷ ns) e h = refl
+content_of-insert_behind (suc j) (Elem k ∷ ns) e h = ap (more_of [] k) (content_of-insert_behind j ns e (omega arith))
+
+pub content_of-insert : (j : ℕ) (ns : List Node) (e : Tree) → j ≤ length (kids_in ns) → content_of (insert ns (gap_place j ns) (Elem e)) ≡ put j e (content_of ns)
+content_of-insert zero ns e h = refl
+content_of-insert (suc j) ns e h = content_of-insert_behind j ns e (omega arith)
+
+StartsApart-insert : (i : ℕ) (ns : List Node) (e : Tree) → StartsApart ns → StartsApart (insert ns i (Elem e))
+StartsApart-insert zero ns e a = tt
+StartsApart-insert (suc i) [] e a = tt
+StartsApart-insert (suc i) (Elem k ∷ ns) e a = tt
+StartsApart-insert (suc i) (Chars t ∷ ns) e a = absurd a
+StartsApart-insert (suc i) (Comment c ∷ ns) e a = tt
+
+pub AreNormal-insert : (i : ℕ) (ns : List Node) (e : Tree) → AreNormal ns → AreNormal (insert ns i (Elem e))
+AreNormal-insert zero ns e a = a
+AreNormal-insert (suc i) [] e a = tt
+AreNormal-insert (suc i) (Elem k ∷ ns) e a = AreNormal-insert i ns e a
+AreNormal-insert (suc i) (Chars t ∷ ns) e a = (a.0, StartsApart-insert i ns e a.1, AreNormal-insert i ns e a.2)
+AreNormal-insert (suc i) (Comment c ∷ ns) e a = AreNormal-insert i ns e a
+
+pub gap_there : (j : ℕ) (ns : List Node) → j ≤ length (kids_in ns) → gap_place j ns ≤ length ns
+gap_there zero ns h = omega arith
+gap_there (suc j) ns h = omega (arith, place_there j ns (omega arith))
+
 -- ---- nodes behind nodes
 
 ends-cons : (x : Node) (xs : List Node) → ends_in_text xs ≡ true → ends_in_text (x ∷ xs) ≡ true
@@ -141,6 +172,22 @@ content_of-push_elem (Comment c ∷ ns) e = ap (note [] c) (content_of-push_elem
 
 pub AreNormal-push_elem : (ns : List Node) (e : Tree) → AreNormal ns → AreNormal (ns ++ Elem e ∷ [])
 AreNormal-push_elem ns e a = AreNormal-append ns (Elem e ∷ []) a tt (λ h. tt)
+
+-- ---- a comment behind all nodes
+
+with_comment-before : (t : List ℕ) (c : Content) (s : List ℕ) → with_comment s (before t c) ≡ before t (with_comment s c)
+with_comment-before t (last u) s = refl
+with_comment-before t (more u n ds ats c rest) s = refl
+with_comment-before t (note u c rest) s = refl
+
+pub content_of-push_comment : (ns : List Node) (s : List ℕ) → content_of (ns ++ Comment s ∷ []) ≡ with_comment s (content_of ns)
+content_of-push_comment [] s = refl
+content_of-push_comment (Chars t ∷ ns) s = ap (before t) (content_of-push_comment ns s) ∙ sym (with_comment-before t (content_of ns) s)
+content_of-push_comment (Elem k ∷ ns) s = ap (more_of [] k) (content_of-push_comment ns s)
+content_of-push_comment (Comment c ∷ ns) s = ap (note [] c) (content_of-push_comment ns s)
+
+pub AreNormal-push_comment : (ns : List Node) (s : List ℕ) → AreNormal ns → AreNormal (ns ++ Comment s ∷ [])
+AreNormal-push_comment ns s a = AreNormal-append ns (Comment s ∷ []) a tt (λ h. tt)
 
 -- ---- a text behind all nodes
 
@@ -177,7 +224,7 @@ pub content_of-join : (ns : List Node) (i : ℕ) (x y : Node) (s : List ℕ) →
     → content_of (slice_set ns i y) ≡ with_text s (content_of ns)
 content_of-join ns i x y s h is e made = ap (λ z. content_of (slice_set ns i z)) (made ∙ ap (node_with s) is) ∙ content_of-join_at ns i s x h (ap is_text (sym is) ∙ e)
 
-IsFull-append : (t s : List ℕ) → IsFull t → IsFull (t ++ s)
+pub IsFull-append : (t s : List ℕ) → IsFull t → IsFull (t ++ s)
 IsFull-append [] s f = absurd f
 IsFull-append (c ∷ cs) s f = tt
 
@@ -225,6 +272,13 @@ full (c ∷ cs) h = tt
 
 pub AreNormal-push_text : (ns : List Node) (s : List ℕ) → 0 < length s → ends_in_text ns ≡ false → AreNormal ns → AreNormal (ns ++ Chars s ∷ [])
 AreNormal-push_text ns s h e a = AreNormal-append ns (Chars s ∷ []) a (full s h, tt, tt) (λ yes. absurd (true≢false (sym yes ∙ e)))
+
+nonempty : (s : List ℕ) → (s ≡ [] → ⊥) → IsFull s
+nonempty [] h = absurd (h refl)
+nonempty (c ∷ cs) h = tt
+
+pub AreNormal-push_own : (ns : List Node) (s : List ℕ) → (s ≡ [] → ⊥) → ends_in_text ns ≡ false → AreNormal ns → AreNormal (ns ++ Chars s ∷ [])
+AreNormal-push_own ns s h e a = AreNormal-append ns (Chars s ∷ []) a (nonempty s h, tt, tt) (λ yes. absurd (true≢false (sym yes ∙ e)))
 
 pub with_text-nil : (c : Content) → with_text [] c ≡ c
 with_text-nil (last t) = rw append-nil
@@ -306,4 +360,6 @@ node_height-le (Comment c ∷ ns) (suc i) d h = node_height-le ns i d (omega ari
 
 pub ruleset texts = (is_text-last, ends_in-nothing, content_of-unjoined, AreNormal-unjoined, content_of-join, AreNormal-join, content_of-push_text, AreNormal-push_text, with_text-nil)
 
-pub ruleset places = (kids-before, place_there, AreNormal-set, content_of-push_elem, AreNormal-push_elem)
+pub ruleset places = (kids-before, place_there, gap_there, content_of-insert, AreNormal-insert, AreNormal-set, content_of-push_elem, AreNormal-push_elem, content_of-push_comment, AreNormal-push_comment)
+
+pub ruleset pushes = (content_of-push_elem, content_of-push_comment, content_of-push_text)

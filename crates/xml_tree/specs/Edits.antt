@@ -1,12 +1,23 @@
 -- Changes of a tree: of a content, of one element, and of the element at a path.
-use Rattle.std.specs.Prelude.{ℕ, zero, suc, Bool, List, [], ◌∷◌, ◌++◌, if◌then◌else◌, ◌&&◌}
-use Rattle.std.specs.Str.{bytes_eq}
-use Rattle.xml_tree.specs.Tree.{Content, last, more, note, more_of, Tree, tree_of}
+use Rattle.std.specs.Prelude.{ℕ, zero, suc, List, [], ◌∷◌, ◌++◌, Option, IsSomeAnd, option_and_then}
+use Rattle.std.specs.List.{find}
+use Rattle.xml_tree.specs.Tree.{Content, last, more, note, more_of, Tree, tree_of, at}
+use Rattle.xml_tree.specs.Attributes.{is_named, with_attr, without_attr, with_value}
 use Rattle.xml_tree.specs.declared.names.Name.{Name}
-use Rattle.xml_tree.specs.declared.names.Decl.{Decl}
 use Rattle.xml_tree.specs.declared.names.Attr.{Attr}
 
 -- ---- content
+
+-- the text has a character
+abbrev pub IsFull : List ℕ → Type 0
+IsFull [] = ⊥
+IsFull (c ∷ cs) = Unit {0}
+
+-- the text that a content begins with
+abbrev pub first_text : Content → List ℕ
+first_text (last t) = t
+first_text (more t n ds ats c rest) = t
+first_text (note t c rest) = t
 
 -- with a text before it, which joins the first one
 abbrev pub before : List ℕ → Content → Content
@@ -46,28 +57,19 @@ cut zero (more t n ds ats c rest) = before t rest
 cut (suc i) (more t n ds ats c rest) = more t n ds ats c (cut i rest)
 cut i (note t c rest) = note t c (cut i rest)
 
+-- whether texts stand directly on both sides of the i-th element, so that they meet where it is taken out
+abbrev pub TextsMeet : ℕ → Content → Type 0
+TextsMeet i (last t) = ⊥
+TextsMeet zero (more t n ds ats c rest) = IsFull t × IsFull (first_text rest)
+TextsMeet (suc i) (more t n ds ats c rest) = TextsMeet i rest
+TextsMeet i (note t c rest) = TextsMeet i rest
+
 -- with its i-th element changed by f
 abbrev pub change : ℕ → (Tree → Tree) → Content → Content
 change i f (last t) = last t
 change zero f (more t n ds ats c rest) = more_of t (f (tree_of n ds ats c)) rest
 change (suc i) f (more t n ds ats c rest) = more t n ds ats c (change i f rest)
 change i f (note t c rest) = note t c (change i f rest)
-
--- ---- attributes
-
--- whether two names are written alike
-abbrev pub same_name : Name → Name → Bool
-same_name a b = bytes_eq a.prefix b.prefix && bytes_eq a.local b.local
-
--- the first attribute of this name gets the value; where there is none, one stands at the end
-abbrev pub with_attr : Name → List ℕ → List Attr → List Attr
-with_attr n v [] = record { name = n; value = v } ∷ []
-with_attr n v (a ∷ ats) = if same_name a.name n then record a { value = v } ∷ ats else (a ∷ with_attr n v ats)
-
--- without the first attribute of this name
-abbrev pub without_attr : Name → List Attr → List Attr
-without_attr n [] = []
-without_attr n (a ∷ ats) = if same_name a.name n then ats else (a ∷ without_attr n ats)
 
 -- ---- one element
 
@@ -79,6 +81,9 @@ cut_kid i e = record e { content = cut i e.content }
 
 abbrev pub change_kid : ℕ → (Tree → Tree) → Tree → Tree
 change_kid n f e = record e { content = change n f e.content }
+
+abbrev pub change_attr : ℕ → List ℕ → Tree → Tree
+change_attr i v e = record e { attrs = with_value i v e.attrs }
 
 abbrev pub write_attr : Name → List ℕ → Tree → Tree
 write_attr n v e = record e { attrs = with_attr n v e.attrs }
@@ -109,13 +114,25 @@ change_at (n ∷ p) f e = change_kid n (change_at p f) e
 abbrev pub put_in : List ℕ → ℕ → Tree → Tree → Tree
 put_in p j k = change_at p (put_kid j k)
 
+-- the n-th element child of the element at the path is taken out, and texts that meet are joined
+abbrev pub take_in : List ℕ → ℕ → Tree → Tree
+take_in p n = change_at p (cut_kid n)
+
 -- the element at the path is exchanged
 abbrev pub put_over : List ℕ → Tree → Tree → Tree
 put_over p w = change_at p (λ _. w)
 
 -- the element at the path, which isn't the root, is taken out, and texts that meet are joined
 abbrev pub cut_out : List ℕ → Tree → Tree
-cut_out p = change_at (front p) (cut_kid (final p))
+cut_out p = take_in (front p) (final p)
+
+-- texts stand directly on both sides of the element at the path, which isn't the root
+abbrev pub TextsMeetAt : List ℕ → Tree → Type 0
+TextsMeetAt p t = IsSomeAnd (at (front p) t) (λ parent. TextsMeet (final p) parent.content)
+
+-- the attribute of this name of the element at the path
+abbrev pub attr_at : List ℕ → Name → Tree → Option Attr
+attr_at p n t = option_and_then (λ e. find (is_named n) e.attrs) (at p t)
 
 -- an attribute of the element at the path is written, or taken out
 abbrev pub set_at : List ℕ → Name → List ℕ → Tree → Tree

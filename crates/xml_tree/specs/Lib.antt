@@ -1,7 +1,15 @@
+pub mod Apart
+pub mod Attributes
 pub mod Characters
+pub mod Comments
 pub mod Edits
 pub mod EditsAt
+pub mod Expanded
 pub mod Falls
+pub mod Gathering
 pub mod Lending
 pub mod Nodes
+pub mod Print
+pub mod Proper
+pub mod Scopes
 pub mod Tree

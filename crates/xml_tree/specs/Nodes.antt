@@ -1,7 +1,7 @@
 -- A list of nodes, and the content that it stands for.
-use Rattle.std.specs.Prelude.{ℕ, zero, suc, Bool, true, false, List, [], ◌∷◌, ◌++◌, Option, None, Some}
+use Rattle.std.specs.Prelude.{ℕ, zero, suc, Bool, true, false, List, [], ◌∷◌, ◌++◌, Option, None, Some, take, drop, option_and_then, slice_get, slice_set, remove}
 use Rattle.xml_tree.specs.Tree.{Content, last, more, note, more_of, Tree, tree_of, height}
-use Rattle.xml_tree.specs.Edits.{before}
+use Rattle.xml_tree.specs.Edits.{before, IsFull}
 use Rattle.xml_tree.specs.declared.tree.Node.{Node}
 use Rattle.xml_tree.specs.declared.tree.Node.TheVariants.{Elem, Chars, Comment}
 
@@ -22,11 +22,6 @@ abbrev pub nodes_of : Content → List Node
 nodes_of (last t) = text_node t
 nodes_of (more t n ds ats c rest) = text_node t ++ Elem (tree_of n ds ats c) ∷ nodes_of rest
 nodes_of (note t c rest) = text_node t ++ Comment c ∷ nodes_of rest
-
--- the text has a character
-abbrev pub IsFull : List ℕ → Type 0
-IsFull [] = ⊥
-IsFull (c ∷ cs) = Unit {0}
 
 -- no text stands first
 abbrev pub StartsApart : List Node → Type 0
@@ -62,6 +57,12 @@ elem_of (Elem e) = Some e
 elem_of (Chars t) = None
 elem_of (Comment c) = None
 
+-- the text that a node is
+abbrev pub text_of : Node → Option (List ℕ)
+text_of (Elem e) = None
+text_of (Chars t) = Some t
+text_of (Comment c) = None
+
 -- a text with these characters added; other nodes as they are
 abbrev pub node_with : List ℕ → Node → Node
 node_with s (Elem e) = Elem e
@@ -88,3 +89,34 @@ place (suc n) (Elem e ∷ ns) = suc (place n ns)
 abbrev pub gap_place : ℕ → List Node → ℕ
 gap_place zero ns = 0
 gap_place (suc n) ns = suc (place n ns)
+
+-- the text that is the i-th node, where it is one
+abbrev pub text_at : ℕ → List Node → Option (List ℕ)
+text_at i ns = option_and_then text_of (slice_get ns i)
+
+-- two texts one behind the other, where both are there
+abbrev pub joined : Option (List ℕ) → Option (List ℕ) → Option (List ℕ)
+joined None u = None
+joined (Some t) None = None
+joined (Some t) (Some u) = Some (t ++ u)
+
+-- the texts directly before and behind the i-th node, joined, where both nodes there are texts
+abbrev pub joined_beside : ℕ → List Node → Option (List ℕ)
+joined_beside zero ns = None
+joined_beside (suc i) ns = joined (text_at i ns) (text_at (suc (suc i)) ns)
+
+-- without the i-th node; the texts beside it are exchanged for one, where one is given
+abbrev pub removed_joined : ℕ → Option (List ℕ) → List Node → List Node
+removed_joined zero t ns = remove ns 0
+removed_joined (suc i) None ns = remove ns (suc i)
+removed_joined (suc i) (Some t) ns = slice_set (remove (remove ns (suc i)) (suc i)) i (Chars t)
+
+-- ---- runs of nodes
+
+-- a content whose nodes from one place to before another are exchanged for others; texts that meet are joined, and empty
+-- ones vanish
+abbrev pub exchanged : ℕ → ℕ → List Node → Content → Content
+exchanged from to new c = content_of (take from (nodes_of c) ++ (new ++ drop to (nodes_of c)))
+
+abbrev pub exchange_nodes : ℕ → ℕ → List Node → Tree → Tree
+exchange_nodes from to new e = record e { content = exchanged from to new e.content }

@@ -3,18 +3,43 @@
 //! The standards are XML 1.0 (fifth edition) and Namespaces in XML 1.0.
 #![tactic(auto)]
 
+mod bindings;
 mod characters;
+mod edits;
+mod laws;
 mod list;
 mod names;
+mod node_edits;
 mod nodes;
 mod path;
+mod printed;
+mod proper_laws;
+mod runs;
+mod scope;
+mod scope_laws;
 mod text;
 mod tree;
+#[cfg(test)]
+mod tree_tests;
+mod whole;
+#[cfg(test)]
+mod word_tests;
 
 pub use characters::{is_char, is_name, is_name_char, is_name_start, is_space};
+pub use laws::{
+    kids_after_edits, nodes_are_the_content, other_places_stay, paths_are_short, paths_go_on,
+    what_was_made_is_there,
+};
 pub use list::List;
 pub use names::{Attr, Decl, Name};
 pub use path::{Path, element_at};
+pub use printed::printed_len;
+pub use proper_laws::{
+    proper_after_an_edit, proper_at_each_place, proper_in_scopes_that_bind_alike, proper_when_put,
+};
+pub use scope::Scope;
+pub use scope_laws::bindings_are_those_of_the_scope;
 pub use std::alloc::AllocError as NoMemory;
 pub use text::Text;
 pub use tree::{Element, Node};
+pub use whole::{copy_tree, depth, equal};

@@ -1,5 +1,6 @@
 //! Names, declarations and attributes, as they are written (Namespaces in XML 1.0, 3 and 4).
-ghost use Rattle.std.specs.Prelude.{◌≡◌, ◌↔◌, IsTrue, IfOk};
+ghost use Rattle.std.specs.Prelude.{◌≡◌, ◌↔◌, ◌≤◌, length, IsTrue, IfOk};
+ghost use Rattle.xml_tree.specs.Attributes.{first_place, is_named, same_name};
 
 use crate::text::Text;
 use std::alloc::{AllocError, Global};
@@ -40,9 +41,10 @@ impl Name {
 
     /// Whether two names are written alike. Takes no memory.
     pub fn same(&self, other: &Name) -> bool
-        ensures { IsTrue result ↔ (self.now ≡ other.now) }
+        ensures equal { IsTrue result ↔ (self.now ≡ other.now) }
+        ensures test { result ≡ same_name self.now other.now }
     {
-        self.prefix.same(&other.prefix) && self.local.same(&other.local)
+        self.prefix == other.prefix && self.local == other.local
     }
 }
 
@@ -86,4 +88,65 @@ impl Attr {
     {
         self.name.same(&other.name) && self.value.same(&other.value)
     }
+}
+
+// The place of the first attribute of this name, or the number of attributes.
+pub(crate) fn place_of_attr(attrs: &[Attr], name: &Name) -> usize
+    ensures place { result ≡ first_place (is_named name.now) attrs.now }
+    ensures within { result ≤ length attrs.now }
+{
+    for (i, attr) in attrs.iter().enumerate() {
+        if attr.name.same(name) {
+            return i;
+        }
+    }
+    attrs.len()
+}
+
+pub(crate) fn same_decls(a: &[Decl], b: &[Decl]) -> bool
+    ensures { IsTrue result ↔ (a.now ≡ b.now) }
+{
+    if a.len() != b.len() {
+        return false;
+    }
+    for i in 0..a.len() {
+        if !a[i].same(&b[i]) {
+            return false;
+        }
+    }
+    true
+}
+
+pub(crate) fn same_attrs(a: &[Attr], b: &[Attr]) -> bool
+    ensures { IsTrue result ↔ (a.now ≡ b.now) }
+{
+    if a.len() != b.len() {
+        return false;
+    }
+    for i in 0..a.len() {
+        if !a[i].same(&b[i]) {
+            return false;
+        }
+    }
+    true
+}
+
+pub(crate) fn copy_decls(alloc: Global, decls: &[Decl]) -> Result<Vec<Decl>, AllocError>
+    ensures { IfOk result (λ made. made.items ≡ decls.now) }
+{
+    let mut made = Vec::with_capacity(alloc, decls.len())?;
+    for decl in decls {
+        made.push(decl.copy(alloc)?)?;
+    }
+    Ok(made)
+}
+
+pub(crate) fn copy_attrs(alloc: Global, attrs: &[Attr]) -> Result<Vec<Attr>, AllocError>
+    ensures { IfOk result (λ made. made.items ≡ attrs.now) }
+{
+    let mut made = Vec::with_capacity(alloc, attrs.len())?;
+    for attr in attrs {
+        made.push(attr.copy(alloc)?)?;
+    }
+    Ok(made)
 }

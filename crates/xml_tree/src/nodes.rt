@@ -1,15 +1,15 @@
 //! Work on the nodes of an element.
-ghost use Rattle.std.specs.Prelude.{◌≡◌, ◌<◌, ◌≤◌, length, Some, OnOk, OnErr, IfErr, slice_get, chars};
+ghost use Rattle.std.specs.Prelude.{◌≡◌, ◌<◌, ◌≤◌, ◌+◌, length, Some, IsSome, OnOk, OnErr, IfOk, IfErr, slice_get, chars};
 ghost use Rattle.std.specs.Borrow.{sem};
 ghost use Rattle.std.specs.Option.{option_copied};
 ghost use Rattle.xml_tree.specs.Tree.{kids};
-ghost use Rattle.xml_tree.specs.Edits.{with_elem, with_text};
-ghost use Rattle.xml_tree.specs.Nodes.{AreNormal, content_of, ends_in_text, gap_place, place};
+ghost use Rattle.xml_tree.specs.Edits.{TextsMeet, cut, put, with_comment, with_elem, with_text};
+ghost use Rattle.xml_tree.specs.Nodes.{AreNormal, content_of, ends_in_text, gap_place, joined_beside, place, removed_joined, text_at};
 ghost use Rattle.xml_tree.specs.Lending.{LendsKid};
 
 use crate::text::Text;
 use crate::tree::{Element, Node};
-use std::alloc::AllocError;
+use std::alloc::{AllocError, AllocFailed, Global};
 
 // The place of an element child among the nodes, or the number of nodes.
 pub(crate) fn place_of(nodes: &[Node], child: usize) -> usize
@@ -67,6 +67,17 @@ pub(crate) fn push_elem_node(nodes: &mut Vec<Node>, element: Element) -> Result<
     Ok(())
 }
 
+// Adds a comment at the end.
+#[tactic(auto, using(crate::proofs::Places::places))]
+pub(crate) fn push_comment_node(nodes: &mut Vec<Node>, text: Text) -> Result<(), AllocError>
+    ensures normal { AreNormal nodes.old.items → AreNormal nodes.new.items }
+    ensures ok { OnOk result (content_of nodes.new.items ≡ with_comment text (content_of nodes.old.items)) }
+    ensures err { OnErr result (content_of nodes.new.items ≡ content_of nodes.old.items) }
+{
+    nodes.push(Node::Comment(text))?;
+    Ok(())
+}
+
 // Whether a text stands last.
 #[tactic(auto, using(crate::proofs::Places::texts))]
 pub(crate) fn ends_in_text(nodes: &[Node]) -> bool
@@ -77,6 +88,22 @@ pub(crate) fn ends_in_text(nodes: &[Node]) -> bool
         return false;
     }
     nodes[count - 1].is_text()
+}
+
+// Adds a text at the end, as push_text does, and copies it only where it joins another.
+#[tactic(auto, using(crate::proofs::Places::texts))]
+pub(crate) fn push_own_text(nodes: &mut Vec<Node>, text: Text) -> Result<(), AllocError>
+    ensures normal { AreNormal nodes.old.items → AreNormal nodes.new.items }
+    ensures ok { OnOk result (content_of nodes.new.items ≡ with_text text (content_of nodes.old.items)) }
+{
+    if text.is_empty() {
+        return Ok(());
+    }
+    if ends_in_text(nodes) {
+        return push_text(nodes, text.as_str());
+    }
+    nodes.push(Node::Chars(text))?;
+    Ok(())
 }
 
 // Adds a text at the end: it joins a text that stands last, and an empty one is ignored.
@@ -96,4 +123,94 @@ pub(crate) fn push_text(nodes: &mut Vec<Node>, text: &str) -> Result<(), AllocEr
     let text = Text::from(*nodes.allocator(), text)?;
     nodes.push(Node::Chars(text))?;
     Ok(())
+}
+
+// The text at a place among the nodes, where one is there.
+pub(crate) fn text_at(nodes: &[Node], place: usize) -> Option<&Text>
+    ensures { option_copied result ≡ text_at place nodes.now }
+{
+    if place >= nodes.len() {
+        return None;
+    }
+    nodes[place].text()
+}
+
+// The place of a gap among the nodes.
+pub(crate) fn place_of_gap(nodes: &[Node], gap: usize) -> usize
+    ensures { result ≡ gap_place gap nodes.now }
+{
+    if gap == 0 {
+        0
+    } else {
+        place_of(nodes, gap - 1) + 1
+    }
+}
+
+// Puts an element in a gap.
+#[tactic(auto, using(crate::proofs::Places::places))]
+pub(crate) fn put_elem(
+    nodes: &mut Vec<Node>,
+    gap: usize,
+    element: Element,
+) -> Result<(), (AllocError, Element)>
+    requires { gap ≤ length (kids (content_of nodes.old.items)) }
+    ensures normal { AreNormal nodes.old.items → AreNormal nodes.new.items }
+    ensures ok { OnOk result (content_of nodes.new.items ≡ put gap element (content_of nodes.old.items)) }
+    ensures err { OnErr result (content_of nodes.new.items ≡ content_of nodes.old.items) }
+    ensures back { IfErr result (λ refused. refused.1 ≡ element) }
+{
+    let place = place_of_gap(nodes, gap);
+    match nodes.insert(place, Node::Elem(element)) {
+        Ok(()) => Ok(()),
+        Err(AllocFailed { value }) => Err((AllocError, value.into_elem())),
+    }
+}
+
+// The texts directly before and behind a node, joined, where both nodes there are texts.
+fn joined_beside(alloc: Global, nodes: &[Node], place: usize) -> Result<Option<Text>, AllocError>
+    ensures value { IfOk result (λ text. text ≡ joined_beside place nodes.now) }
+    ensures only_for_two { OnErr result (IsSome (joined_beside place nodes.now)) }
+{
+    if place == 0 {
+        return Ok(None);
+    }
+    let Some(before) = text_at(nodes, place - 1) else {
+        return Ok(None);
+    };
+    let Some(behind) = text_at(nodes, place + 1) else {
+        return Ok(None);
+    };
+    let mut text = before.copy(alloc)?;
+    text.push_str(behind.as_str())?;
+    Ok(Some(text))
+}
+
+// Takes a node out. The texts beside it are exchanged for one, where one is given.
+fn remove_joined(nodes: &mut Vec<Node>, place: usize, joined: Option<Text>) -> Node
+    requires there { place < length nodes.old.items }
+    requires between { IsSome joined → (0 < place) × (place + 1 < length nodes.old.items) }
+    ensures taken { slice_get nodes.old.items place ≡ Some result }
+    ensures rest { nodes.new.items ≡ removed_joined place joined nodes.old.items }
+{
+    let taken = nodes.remove(place);
+    if let Some(text) = joined {
+        let _behind = nodes.remove(place);
+        nodes[place - 1] = Node::Chars(text);
+    }
+    taken
+}
+
+// Takes an element out. Texts that meet are joined, and only for that memory is taken, before anything changes.
+pub(crate) fn take_elem(nodes: &mut Vec<Node>, child: usize) -> Result<Element, AllocError>
+    requires { child < length (kids (content_of nodes.old.items)) }
+    ensures normal { AreNormal nodes.old.items → AreNormal nodes.new.items }
+    ensures taken { IfOk result (λ element. slice_get (kids (content_of nodes.old.items)) child ≡ Some element) }
+    ensures ok { OnOk result (content_of nodes.new.items ≡ cut child (content_of nodes.old.items)) }
+    ensures err { OnErr result (content_of nodes.new.items ≡ content_of nodes.old.items) }
+    ensures only_where_texts_meet { AreNormal nodes.old.items → OnErr result (TextsMeet child (content_of nodes.old.items)) }
+{
+    let place = place_of(nodes, child);
+    let joined = joined_beside(*nodes.allocator(), nodes, place)?;
+    let taken = remove_joined(nodes, place, joined);
+    Ok(taken.into_elem())
 }

@@ -4,7 +4,7 @@ ghost use Rattle.std.specs.Option.{option_copied};
 ghost use Rattle.xml_tree.specs.Tree.{height};
 
 use crate::names::{Attr, Decl, Name};
-use crate::nodes::{kid_in, kid_of, push_elem_node, push_text};
+use crate::nodes::{kid_in, kid_of, push_comment_node, push_elem_node, push_text};
 use crate::path::Path;
 use crate::text::Text;
 use std::alloc::{AllocError, Global};
@@ -12,7 +12,7 @@ use std::marker::Model;
 
 /// A node of an element.
 #[cycle(tree)]
-#[derive(Drop)]
+#[derive(Debug, Drop)]
 pub enum Node {
     Elem(Element),
     Chars(Text),
@@ -22,7 +22,7 @@ pub enum Node {
 /// An element. Contracts see a plain tree: its name, declarations, attributes and content. No text in it is empty, and no
 /// two texts stand side by side.
 #[cycle(tree)]
-#[derive(Drop)]
+#[derive(Debug, Drop)]
 pub struct Element {
     pub(crate) name: Name,
     pub(crate) decls: Vec<Decl>,
@@ -54,7 +54,9 @@ impl Model for Element {
 /// Making an element, part by part.
 impl Element {
     ghost use Rattle.xml_tree.specs.Tree.{last, tree_of};
-    ghost use Rattle.xml_tree.specs.Edits.{with_elem, with_text};
+    ghost use Rattle.std.specs.Prelude.{IsTrue};
+    ghost use Rattle.xml_tree.specs.Comments.{is_comment};
+    ghost use Rattle.xml_tree.specs.Edits.{with_comment, with_elem, with_text};
 
     /// An element with this name and nothing else. Takes no memory; what is added later takes it from `alloc`.
     pub fn new(alloc: Global, name: Name) -> Element
@@ -112,6 +114,18 @@ impl Element {
         ensures err { OnErr result (self.new ≡ self.old) }
     {
         push_text(&mut self.nodes, text)
+    }
+
+    /// Adds a comment behind all nodes. Its text has Chars other than CR alone, no `--`, and no `-` at its end.
+    ///
+    /// # Errors
+    /// `NoMemory` for want of memory.
+    pub fn push_comment(&mut self, text: Text) -> Result<(), AllocError>
+        requires { IsTrue (is_comment text) }
+        ensures ok { OnOk result (self.new ≡ record self.old { content = with_comment text self.old.content }) }
+        ensures err { OnErr result (self.new ≡ self.old) }
+    {
+        push_comment_node(&mut self.nodes, text)
     }
 }
 
@@ -200,7 +214,7 @@ impl Element {
 impl Node {
     ghost use Rattle.std.specs.Borrow.{sem};
     ghost use Rattle.xml_tree.specs.Lending.{LendsElem};
-    ghost use Rattle.xml_tree.specs.Nodes.{elem_of, is_text, node_with};
+    ghost use Rattle.xml_tree.specs.Nodes.{elem_of, is_text, node_with, text_of};
 
     pub(crate) fn elem_mut(&mut self) -> &mut Element
         requires { IsSome (elem_of self.old) }
@@ -222,6 +236,29 @@ impl Node {
             Node::Elem(_) => false,
             Node::Chars(_) => true,
             Node::Comment(_) => false,
+        }
+    }
+
+    // The text that it is.
+    pub(crate) fn text(&self) -> Option<&Text>
+        ensures { option_copied result ≡ text_of self.now }
+    {
+        match self {
+            Node::Elem(_) => None,
+            Node::Chars(text) => Some(text),
+            Node::Comment(_) => None,
+        }
+    }
+
+    // The element that it is.
+    pub(crate) fn into_elem(self) -> Element
+        requires { IsSome (elem_of self) }
+        ensures { elem_of self ≡ Some result }
+    {
+        match self {
+            Node::Elem(element) => element,
+            Node::Chars(_) => unreachable!(),
+            Node::Comment(_) => unreachable!(),
         }
     }
 

@@ -1,0 +1,108 @@
+-- Trees that are proper before an edit and after it.
+use Rattle.std.proofs.Common.{◌≡◌, ◌≤◌, ℕ, zero, suc, List, [], ◌∷◌, ◌++◌, length, take, drop, Option, Some, None, option_and_then, refl, sym, ap, ◌∙◌, subst, append_assoc}
+use Rattle.std.proofs.Math.Seq.{take-nil, drop-nil}
+use Rattle.std.specs.List.{AllByRecursion, slice_get}
+use Rattle.xml_tree.specs.declared.names.Decl.{Decl}
+use Rattle.xml_tree.specs.declared.tree.Node.{Node}
+use Rattle.xml_tree.specs.Tree.{Content, last, more, note, Tree, tree_of, at, kids, kids_of}
+use Rattle.xml_tree.specs.Edits.{change, change_at, cut, cut_out, final, front, put, put_in, put_kid, put_over}
+use Rattle.xml_tree.specs.Nodes.{content_of, exchanged, exchange_nodes, nodes_of}
+use Rattle.xml_tree.specs.Scopes.{scope_around, scope_at}
+use Rattle.xml_tree.specs.Proper.{Part, Everywhere, OfNode, Throughout}
+use Rattle.xml_tree.proofs.EverywhereLaws.{scope_around-below, scope_at-around, inside, Throughout-change_at, Everywhere-put, put-Everywhere, Everywhere-cut, Everywhere-content_of, nodes-Everywhere}
+use Rattle.xml_tree.proofs.Places.{content_of-nodes_of}
+
+-- ---- the changed place in the changed tree
+kid-change : (n : ℕ) (g : Tree → Tree) (k : Content) (x : Tree) → slice_get (kids k) n ≡ Some x → slice_get (kids (change n g k)) n ≡ Some (g x)
+kid-change n g (last t) x is = cc
+kid-change zero g (more t m ds ats k rest) x is = let same : tree_of m ds ats k ≡ x = cc in ap (λ y. Some (g y)) same
+kid-change (suc n) g (more t m ds ats k rest) x is = kid-change n g rest x is
+kid-change n g (note t y rest) x is = kid-change n g rest x is
+
+pub at-change_at : (p : List ℕ) (f : Tree → Tree) (t e : Tree) → at p t ≡ Some e → at p (change_at p f t) ≡ Some (f e)
+at-change_at [] f t e there = let same : t ≡ e = cc in ap (λ y. Some (f y)) same
+at-change_at (n ∷ p) f t e there = by (slice_get (kids_of t) n) refl there (λ k. at-change_at p f k e)
+  where
+    by : (o : Option Tree) → slice_get (kids_of t) n ≡ o → option_and_then (at p) o ≡ Some e → ((k : Tree) → at p k ≡ Some e → at p (change_at p f k) ≡ Some (f e))
+        → at (n ∷ p) (change_at (n ∷ p) f t) ≡ Some (f e)
+    by None is h go = cc
+    by (Some k) is h go = ap (option_and_then (at p)) (kid-change n (change_at p f) t.content k is) ∙ go k h
+
+pub around-change_at : (p : List ℕ) (f : Tree → Tree) (t e : Tree) → at p t ≡ Some e → scope_around p (change_at p f t) ≡ scope_around p t
+around-change_at [] f t e there = refl
+around-change_at (n ∷ p) f t e there = by (slice_get (kids_of t) n) refl there (λ k. around-change_at p f k e)
+  where
+    by : (o : Option Tree) → slice_get (kids_of t) n ≡ o → option_and_then (at p) o ≡ Some e → ((k : Tree) → at p k ≡ Some e → scope_around p (change_at p f k) ≡ scope_around p k)
+        → scope_around (n ∷ p) (change_at (n ∷ p) f t) ≡ scope_around (n ∷ p) t
+    by None is h go = cc
+    by (Some k) is h go =
+        scope_around-below n p (change_at (n ∷ p) f t) (change_at p f k) (kid-change n (change_at p f) t.content k is) ∙ ap (λ s. t.decls ∷ s) (go k h)
+        ∙ sym (scope_around-below n p t k is)
+
+-- an element with its content changed
+abbrev pub with_content : (Content → Content) → Tree → Tree
+with_content f e = record e { content = f e.content }
+
+module _ (P : List (List Decl) → Part → Type 0) where
+  -- the scope of a place, behind a scope around the tree
+  own : (c : List (List Decl)) (p : List ℕ) (t e : Tree) → at p t ≡ Some e → (c ++ scope_around p t) ++ e.decls ∷ [] ≡ c ++ scope_at p t
+  own c p t e there = append_assoc c (scope_around p t) (e.decls ∷ []) ∙ ap (λ s. c ++ s) (sym (scope_at-around p t e there))
+
+  pub content-at : (c : List (List Decl)) (p : List ℕ) (t e : Tree) → at p t ≡ Some e → Throughout P c t → Everywhere P (c ++ scope_at p t) e.content
+  content-at c p t e there h = subst (λ s. Everywhere P s e.content) (own c p t e there) (inside P p c t e there h).1
+
+  -- another content, where it holds in the scope of the place
+  pub with-content : (c : List (List Decl)) (p : List ℕ) (f : Content → Content) (t : Tree)
+      → ((k : Content) → Everywhere P (c ++ scope_at p t) k → Everywhere P (c ++ scope_at p t) (f k)) → Throughout P c t → Throughout P c (change_at p (with_content f) t)
+  with-content c p f t keeps = Throughout-change_at P p (with_content f) c t (λ e there h. (
+    h.0,
+    subst (λ s. Everywhere P s (f e.content)) (sym (own c p t e there)) (keeps e.content (subst (λ s. Everywhere P s e.content) (own c p t e there) h.1)),
+  ))
+
+  pub with-element : (c : List (List Decl)) (p : List ℕ) (j : ℕ) (e t : Tree) → Throughout P (c ++ scope_at p t) e → Throughout P c t → Throughout P c (put_in p j e t)
+  with-element c p j e t h = with-content c p (λ k. put j e k) t (λ k g. Everywhere-put P (c ++ scope_at p t) j e k h g)
+
+  pub with-other : (c : List (List Decl)) (p : List ℕ) (e t : Tree) → Throughout P (c ++ scope_around p t) e → Throughout P c t → Throughout P c (put_over p e t)
+  with-other c p e t h = Throughout-change_at P p (λ _. e) c t (λ _ _ _. h)
+
+  pub without : (c : List (List Decl)) (p : List ℕ) (t : Tree) → Throughout P c t → Throughout P c (cut_out p t)
+  without c p t = with-content c (front p) (λ k. cut (final p) k) t (λ k g. Everywhere-cut P (c ++ scope_at (front p) t) (final p) k g)
+
+  -- ---- other nodes
+  All-append : (s : List (List Decl)) (xs ys : List Node) → AllByRecursion (OfNode P s) xs → AllByRecursion (OfNode P s) ys → AllByRecursion (OfNode P s) (xs ++ ys)
+  All-append s [] ys h g = g
+  All-append s (x ∷ xs) ys h g = (h.0, All-append s xs ys h.1 g)
+
+  All-take : (s : List (List Decl)) (i : ℕ) (xs : List Node) → AllByRecursion (OfNode P s) xs → AllByRecursion (OfNode P s) (take i xs)
+  All-take s i [] h = rw (take-nil i) tt
+  All-take s zero (x ∷ xs) h = tt
+  All-take s (suc i) (x ∷ xs) h = (h.0, All-take s i xs h.1)
+
+  All-drop : (s : List (List Decl)) (i : ℕ) (xs : List Node) → AllByRecursion (OfNode P s) xs → AllByRecursion (OfNode P s) (drop i xs)
+  All-drop s i [] h = rw (drop-nil i) tt
+  All-drop s zero (x ∷ xs) h = h
+  All-drop s (suc i) (x ∷ xs) h = All-drop s i xs h.1
+
+  Everywhere-exchanged : (s : List (List Decl)) (from to : ℕ) (ns : List Node) (k : Content) → AllByRecursion (OfNode P s) ns → Everywhere P s k → Everywhere P s (exchanged from to ns k)
+  Everywhere-exchanged s from to ns k h g =
+      let all : AllByRecursion (OfNode P s) (nodes_of k) = nodes-Everywhere P s (nodes_of k) (subst (Everywhere P s) (sym (content_of-nodes_of k)) g) in
+      Everywhere-content_of P s (take from (nodes_of k) ++ (ns ++ drop to (nodes_of k)))
+      (All-append s (take from (nodes_of k)) (ns ++ drop to (nodes_of k)) (All-take s from (nodes_of k) all)
+      (All-append s ns (drop to (nodes_of k)) h (All-drop s to (nodes_of k) all)))
+
+  pub with-nodes : (c : List (List Decl)) (p : List ℕ) (from to : ℕ) (ns : List Node) (t : Tree) → AllByRecursion (OfNode P (c ++ scope_at p t)) ns → Throughout P c t
+      → Throughout P c (change_at p (exchange_nodes from to ns) t)
+  with-nodes c p from to ns t h = with-content c p (exchanged from to ns) t (λ k g. Everywhere-exchanged (c ++ scope_at p t) from to ns k h g)
+
+  -- ---- what was put, in a tree in which it holds
+  pub put-element : (c : List (List Decl)) (p : List ℕ) (j : ℕ) (e t k : Tree) → at p t ≡ Some k → j ≤ length (kids_of k) → Throughout P c (put_in p j e t)
+      → Throughout P (c ++ scope_at p t) e
+  put-element c p j e t k there within h =
+      let low = inside P p c (put_in p j e t) (put_kid j e k) (at-change_at p (put_kid j e) t k there) h in
+      let here = put-Everywhere P ((c ++ scope_around p (put_in p j e t)) ++ k.decls ∷ []) j e k.content within low.1 in
+      let scopes = ap (λ s. (c ++ s) ++ k.decls ∷ []) (around-change_at p (put_kid j e) t k there) ∙ own c p t k there in
+      subst (λ s. Throughout P s e) scopes here
+
+  pub put-other : (c : List (List Decl)) (p : List ℕ) (e t k : Tree) → at p t ≡ Some k → Throughout P c (put_over p e t) → Throughout P (c ++ scope_around p t) e
+  put-other c p e t k there h =
+      subst (λ s. Throughout P s e) (ap (λ s. c ++ s) (around-change_at p (λ _. e) t k there)) (inside P p c (put_over p e t) e (at-change_at p (λ _. e) t k there) h)

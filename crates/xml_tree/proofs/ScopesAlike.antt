@@ -1,0 +1,73 @@
+-- Scopes that bind alike, and what is proper in both.
+use Rattle.std.proofs.Common.{◌≡◌, ℕ, Bool, true, false, List, [], ◌∷◌, ◌++◌, map, Option, Some, None, IsSome, bytes_eq, refl, sym, ap, ◌∙◌, subst, append_assoc, append-nil, if◌then◌else◌}
+use Rattle.std.specs.List.{AllByRecursion, IsDistinct}
+use Rattle.std.specs.Option.{option_or}
+use Rattle.xml_tree.specs.declared.names.Name.{Name}
+use Rattle.xml_tree.specs.declared.names.Decl.{Decl}
+use Rattle.xml_tree.specs.declared.names.Attr.{Attr}
+use Rattle.xml_tree.specs.Tree.{Content, last, more, note, Tree}
+use Rattle.xml_tree.specs.Expanded.{attr_name, same_expanded}
+use Rattle.xml_tree.specs.Scopes.{bound, declared, joined, some_text, xml_prefix, xml_uri}
+use Rattle.xml_tree.specs.Proper.{IsAttribute, IsNamed, IsTag, Proper, ProperIn}
+use Rattle.xml_tree.proofs.ScopeLemmas.{declared-append}
+
+pub joined-append : (c d : List (List Decl)) → joined (c ++ d) ≡ joined c ++ joined d
+joined-append [] d = refl
+joined-append (ds ∷ c) d = ap (λ l. ds ++ l) (joined-append c d) ∙ sym (append_assoc ds (joined c) (joined d))
+
+-- a scope with one list more
+pub declared-inner : (c : List (List Decl)) (ds : List Decl) (p : List ℕ) → declared (joined (c ++ ds ∷ [])) p ≡ option_or (declared ds p) (declared (joined c) p)
+declared-inner c ds p =
+    ap (λ l. declared l p) (joined-append c (ds ∷ []) ∙ ap (λ l. joined c ++ l) (append-nil ds)) ∙ declared-append (joined c) ds p
+
+pub bound-inner : (c : List (List Decl)) (ds : List Decl) (p : List ℕ)
+    → bound (c ++ ds ∷ []) p ≡ (if bytes_eq p xml_prefix then Some xml_uri else some_text (option_or (declared ds p) (declared (joined c) p)))
+bound-inner c ds p = ap (λ o. if bytes_eq p xml_prefix then Some xml_uri else some_text o) (declared-inner c ds p)
+
+module _ (c d : List (List Decl)) (alike : (p : List ℕ) → bound c p ≡ bound d p) where
+  -- they bind alike with the same declarations inside
+  pub alike-inner : (ds : List Decl) (p : List ℕ) → bound (c ++ ds ∷ []) p ≡ bound (d ++ ds ∷ []) p
+  alike-inner ds p = bound-inner c ds p ∙ by (bytes_eq p xml_prefix) refl (declared ds p) ∙ sym (bound-inner d ds p)
+    where
+      by : (b : Bool) → bytes_eq p xml_prefix ≡ b → (o : Option (List ℕ))
+          → (if bytes_eq p xml_prefix then Some xml_uri else some_text (option_or o (declared (joined c) p)))
+          ≡ (if bytes_eq p xml_prefix then Some xml_uri else some_text (option_or o (declared (joined d) p)))
+      by true is o = rw is refl
+      by false is (Some u) = refl
+      by false is None = alike p
+
+  named : (n : Name) → IsNamed c n → IsNamed d n
+  named n h = record { prefix = h.prefix; local = h.local; known = λ some. subst (λ o. IsSome o) (alike n.prefix) (h.known some) }
+
+  attributes : (ats : List Attr) → AllByRecursion (IsAttribute c) ats → AllByRecursion (IsAttribute d) ats
+  attributes [] h = tt
+  attributes (a ∷ ats) h = (record { named = named a.name h.0.named; other = h.0.other; value = h.0.value }, attributes ats h.1)
+
+  names : (ats : List Attr) → map (λ a. attr_name c a.name) ats ≡ map (λ a. attr_name d a.name) ats
+  names [] = refl
+  names (a ∷ ats) = λ i. record { uri = if bytes_eq a.name.prefix [] then None else alike a.name.prefix i; local = a.name.local } ∷ names ats i
+
+  pub IsTag-alike : (n : Name) (ds : List Decl) (ats : List Attr) → IsTag c n ds ats → IsTag d n ds ats
+  IsTag-alike n ds ats h = record {
+    named = named n h.named;
+    declarations = h.declarations;
+    attributes = attributes ats h.attributes;
+    prefixes = h.prefixes;
+    names = subst (λ l. IsDistinct same_expanded l) (names ats) h.names;
+  }
+
+pub Proper-alike : (c d : List (List Decl)) (k : Content) → ((p : List ℕ) → bound c p ≡ bound d p) → Proper c k → Proper d k
+Proper-alike c d (last t) alike h = h
+Proper-alike c d (more t n ds ats k rest) alike h =
+    let inner = alike-inner c d alike ds in (
+      h.0,
+      IsTag-alike (c ++ ds ∷ []) (d ++ ds ∷ []) inner n ds ats h.1,
+      Proper-alike (c ++ ds ∷ []) (d ++ ds ∷ []) k inner h.2,
+      Proper-alike c d rest alike h.3,
+    )
+Proper-alike c d (note t x rest) alike h = (h.0, h.1, Proper-alike c d rest alike h.2)
+
+pub ProperIn-alike : (c d : List (List Decl)) (t : Tree) → ((p : List ℕ) → bound c p ≡ bound d p) → ProperIn c t → ProperIn d t
+ProperIn-alike c d t alike h =
+    let inner = alike-inner c d alike t.decls in
+    (IsTag-alike (c ++ t.decls ∷ []) (d ++ t.decls ∷ []) inner t.name t.decls t.attrs h.0, Proper-alike (c ++ t.decls ∷ []) (d ++ t.decls ∷ []) t.content inner h.1)

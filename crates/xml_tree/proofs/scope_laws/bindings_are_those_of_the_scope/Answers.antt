@@ -1,0 +1,5 @@
+use Rattle.xml_tree.proofs.BindingLaws.{AreInOrder-bindings_in, binds-bindings_in, bound-bindings_in}
+use Rattle.xml_tree.proofs.scope_laws.bindings_are_those_of_the_scope.Goals as goal
+
+pub returns : goal.returns
+returns c = record { same = bound-bindings_in; ordered = AreInOrder-bindings_in; binding = binds-bindings_in }

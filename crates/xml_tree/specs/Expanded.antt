@@ -1,0 +1,30 @@
+-- Expanded names: what names mean in a scope. Namespaces in XML 1.0, sections 2.1 and 6.2.
+use Rattle.std.specs.Prelude.{ℕ, Bool, true, false, ◌&&◌, List, [], Option, None, Some, if◌then◌else◌}
+use Rattle.std.specs.Str.{bytes_eq}
+use Rattle.xml_tree.specs.Scopes.{bound}
+use Rattle.xml_tree.specs.declared.names.Name.{Name}
+use Rattle.xml_tree.specs.declared.names.Decl.{Decl}
+
+-- a namespace name, or none, and a local name
+pub record Expanded : Type 0 where
+  pub uri : Option (List ℕ)
+  pub local : List ℕ
+
+-- the name of an element; without a prefix it has the default namespace
+abbrev pub element_name : List (List Decl) → Name → Expanded
+element_name c n = record { uri = bound c n.prefix; local = n.local }
+
+-- the name of an attribute; without a prefix it has no namespace
+abbrev pub attr_name : List (List Decl) → Name → Expanded
+attr_name c n = record { uri = if bytes_eq n.prefix [] then None else bound c n.prefix; local = n.local }
+
+-- whether two namespaces are one
+abbrev pub same_uri : Option (List ℕ) → Option (List ℕ) → Bool
+same_uri None None = true
+same_uri None (Some v) = false
+same_uri (Some u) None = false
+same_uri (Some u) (Some v) = bytes_eq u v
+
+-- whether two expanded names are one
+abbrev pub same_expanded : Expanded → Expanded → Bool
+same_expanded a b = same_uri a.uri b.uri && bytes_eq a.local b.local

@@ -1,0 +1,91 @@
+-- Scopes: what prefixes are bound to. Namespaces in XML 1.0, sections 2.2, 3, 5 and 6.
+use Rattle.std.specs.Prelude.{◌≡◌, ℕ, Bool, not, ◌&&◌, codes, List, [], ◌∷◌, ◌++◌, Option, Some, None, option_map, unwrap_or, slice_get, filter, if◌then◌else◌}
+use Rattle.std.specs.Cmp.Lexicographic.{slice_cmp}
+use Rattle.std.specs.List.{AllByRecursion}
+use Rattle.std.specs.Option.{option_or}
+use Rattle.std.specs.Ordering.{match_ordering, nat_cmp}
+use Rattle.std.specs.Str.{bytes_eq}
+use Rattle.std.specs.declared.cmp.Ordering.TheVariants.{Less}
+use Rattle.xml_tree.specs.Tree.{Tree, kids_of}
+use Rattle.xml_tree.specs.Edits.{front}
+use Rattle.xml_tree.specs.declared.names.Decl.{Decl}
+
+-- ---- the reserved names (Namespaces in XML 1.0, section 3)
+
+abbrev pub xml_prefix : List ℕ
+xml_prefix = codes "xml"
+
+abbrev pub xmlns_prefix : List ℕ
+xmlns_prefix = codes "xmlns"
+
+unfoldable pub xml_uri : List ℕ
+xml_uri = codes "http://www.w3.org/XML/1998/namespace"
+
+unfoldable pub xmlns_uri : List ℕ
+xmlns_uri = codes "http://www.w3.org/2000/xmlns/"
+
+-- ---- what is bound in a scope, which is a list of lists of declarations, outermost first
+
+-- the declarations of all lists as one list, in which a later one is nearer
+abbrev pub joined : List (List Decl) → List Decl
+joined [] = []
+joined (ds ∷ c) = ds ++ joined c
+
+-- the URI of the last declaration of a prefix
+abbrev pub declared : List Decl → List ℕ → Option (List ℕ)
+declared [] p = None
+declared (d ∷ ds) p = option_or (declared ds p) (if bytes_eq d.prefix p then Some d.uri else None)
+
+-- an empty URI binds nothing, and hides what is declared further out
+abbrev pub some_text : Option (List ℕ) → Option (List ℕ)
+some_text None = None
+some_text (Some []) = None
+some_text (Some (c ∷ cs)) = Some (c ∷ cs)
+
+-- the URI that a prefix is bound to: by the nearest declaration, and `xml` always to its own namespace
+abbrev pub bound : List (List Decl) → List ℕ → Option (List ℕ)
+bound c p = if bytes_eq p xml_prefix then Some xml_uri else some_text (declared (joined c) p)
+
+-- ---- the scopes of a tree
+
+-- the declarations of all elements on a path, the last included; of a path that leads nowhere, those of the elements that are there
+abbrev pub scope_at : List ℕ → Tree → List (List Decl)
+scope_at [] e = e.decls ∷ []
+scope_at (n ∷ p) e = e.decls ∷ unwrap_or (option_map (scope_at p) (slice_get (kids_of e) n)) []
+
+-- the same without those of the element itself
+abbrev pub scope_below : List ℕ → Tree → List (List Decl)
+scope_below [] e = []
+scope_below (n ∷ p) e = unwrap_or (option_map (scope_at p) (slice_get (kids_of e) n)) []
+
+-- those of all elements around the one at the path
+abbrev pub scope_around : List ℕ → Tree → List (List Decl)
+scope_around [] e = []
+scope_around (n ∷ p) e = scope_at (front (n ∷ p)) e
+
+-- ---- all bindings of a scope, in order
+
+-- one declaration more, in a list in the order of the prefixes by code point: it takes the place of the one of its prefix
+abbrev pub placed : Decl → List Decl → List Decl
+placed d [] = d ∷ []
+placed d (x ∷ ds) = match_ordering (slice_cmp nat_cmp d.prefix x.prefix) (d ∷ x ∷ ds) (d ∷ ds) (x ∷ placed d ds)
+
+-- the nearest declaration of each prefix, in the order of the prefixes; these stand in the list before
+abbrev pub gathered : List Decl → List Decl → List Decl
+gathered acc [] = acc
+gathered acc (d ∷ ds) = gathered (placed d acc) ds
+
+-- whether a declaration binds a prefix that isn't bound anyway
+abbrev pub binds : Decl → Bool
+binds d = not (bytes_eq d.uri []) && not (bytes_eq d.prefix xml_prefix)
+
+-- all bindings in scope but that of `xml`: the default first, then the prefixes by code point
+abbrev pub bindings_in : List (List Decl) → List Decl
+bindings_in c = filter binds (gathered [] (joined c))
+
+-- ---- what can be said of such a list
+
+-- each prefix stands before those behind it, by code point
+abbrev pub AreInOrder : List Decl → Type 0
+AreInOrder [] = Unit {0}
+AreInOrder (d ∷ ds) = AllByRecursion (λ x. slice_cmp nat_cmp d.prefix x.prefix ≡ Less) ds × AreInOrder ds

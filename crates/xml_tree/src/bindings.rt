@@ -1,0 +1,52 @@
+//! All bindings of a scope, in the order of their prefixes.
+ghost use Rattle.std.specs.Prelude.{◌≡◌, [], map, filter, IfOk, OnOk};
+ghost use Rattle.xml_tree.specs.Scopes.{bindings_in, binds, gathered, joined};
+ghost use Rattle.xml_tree.specs.Gathering.{AreKeyed, values_in};
+
+use crate::names::Decl;
+use crate::scope::is_xml;
+use std::alloc::{AllocError, Global};
+use std::collections::BTreeMap;
+
+// Puts declarations beside those that are there: of those of one prefix the last stays.
+fn gather<'a>(found: &mut BTreeMap<&'a str, &'a Decl>, decls: &'a [Decl]) -> Result<(), AllocError>
+    requires { AreKeyed found.old.entries }
+    ensures keyed { OnOk result (AreKeyed found.new.entries) }
+    ensures gathered { OnOk result (values_in found.new.entries ≡ gathered (values_in found.old.entries) decls.now) }
+{
+    for decl in decls {
+        found.insert(decl.prefix.as_str(), decl)?;
+    }
+    Ok(())
+}
+
+// Whether a declaration binds a prefix that isn't bound anyway.
+fn binds(decl: &Decl) -> bool
+    ensures { result ≡ binds decl.now }
+{
+    !decl.uri.is_empty() && !is_xml(decl.prefix.as_str())
+}
+
+/// All bindings in these lists of declarations, outermost first, without that of `xml`: the default, then the prefixes by code point.
+pub(crate) fn bindings(alloc: Global, lists: &[&[Decl]]) -> Result<Vec<Decl>, AllocError>
+    ensures { IfOk result (λ made. made.items ≡ bindings_in (map (λ x. x.now) lists.now)) }
+{
+    let mut found = BTreeMap::new(alloc);
+    for list in lists {
+        gather(&mut found, list)?;
+    }
+    binding_ones(alloc, &found)
+}
+
+// Copies of the declarations that bind, in order.
+fn binding_ones(alloc: Global, found: &BTreeMap<&str, &Decl>) -> Result<Vec<Decl>, AllocError>
+    ensures { IfOk result (λ made. made.items ≡ filter binds (values_in found.now.entries)) }
+{
+    let mut ones = Vec::new(alloc);
+    for decl in found.values() {
+        if binds(decl) {
+            ones.push(decl.copy(alloc)?)?;
+        }
+    }
+    Ok(ones)
+}

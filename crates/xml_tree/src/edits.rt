@@ -1,0 +1,247 @@
+//! Edits of one element, and of the element at a path. Each says the whole new tree.
+ghost use Rattle.std.specs.Prelude.{◌≡◌, ◌<◌, ◌≤◌, length, Some, None, IsSome, IsSomeAnd, IfOk, IfErr, OnOk, OnErr, option_map, slice_get};
+ghost use Rattle.std.specs.List.{find, remove};
+ghost use Rattle.xml_tree.specs.Attributes.{is_named};
+ghost use Rattle.xml_tree.specs.Tree.{at, kids_of};
+ghost use Rattle.xml_tree.specs.Edits.{TextsMeet, TextsMeetAt, attr_at, change_attr, cut_kid, cut_out, drop_at, drop_attr, put_in, put_kid, put_over, set_at, take_in, write_attr};
+ghost use Rattle.xml_tree.specs.Nodes.{exchange_nodes, nodes_of};
+
+use crate::names::{Attr, Name, place_of_attr};
+use crate::nodes::{put_elem, take_elem};
+use crate::path::Path;
+use crate::runs::exchange;
+use crate::text::Text;
+use crate::tree::{Element, Node};
+use std::alloc::AllocError;
+use std::mem;
+
+/// Edits of its nodes.
+impl Element {
+    /// Puts an element in a gap: gap 0 stands before all nodes, gap `j` directly behind the `j`-th element child.
+    ///
+    /// # Errors
+    /// `NoMemory` for want of memory. The element comes back, and this one is as before.
+    pub fn put_kid(&mut self, gap: usize, element: Element) -> Result<(), (AllocError, Element)>
+        requires { gap ≤ length (kids_of self.old) }
+        ensures ok { OnOk result (self.new ≡ put_kid gap element self.old) }
+        ensures err { OnErr result (self.new ≡ self.old) }
+        ensures back { IfErr result (λ refused. refused.1 ≡ element) }
+    {
+        put_elem(&mut self.nodes, gap, element)
+    }
+
+    /// Takes an element child out, counted from 0, and joins texts that meet.
+    ///
+    /// # Errors
+    /// `NoMemory` for want of memory, which comes only where texts stand directly on both sides of the element. Nothing has
+    /// changed then.
+    pub fn take_kid(&mut self, child: usize) -> Result<Element, AllocError>
+        requires { child < length (kids_of self.old) }
+        ensures taken { IfOk result (λ kid. slice_get (kids_of self.old) child ≡ Some kid) }
+        ensures ok { OnOk result (self.new ≡ cut_kid child self.old) }
+        ensures err { OnErr result (self.new ≡ self.old) }
+        ensures only_where_texts_meet { OnErr result (TextsMeet child self.old.content) }
+    {
+        take_elem(&mut self.nodes, child)
+    }
+
+    /// Exchanges the nodes from one place to before another for others. Texts that meet are joined, and empty ones vanish.
+    ///
+    /// # Errors
+    /// `NoMemory` for want of memory; the element is then as before.
+    pub fn exchange_nodes(
+        &mut self,
+        from: usize,
+        to: usize,
+        nodes: Vec<Node>,
+    ) -> Result<(), AllocError>
+        requires order { from ≤ to }
+        requires within { to ≤ length (nodes_of self.old.content) }
+        ensures ok { OnOk result (self.new ≡ exchange_nodes from to nodes.items self.old) }
+        ensures err { OnErr result (self.new ≡ self.old) }
+    {
+        exchange(&mut self.nodes, from, to, nodes)
+    }
+}
+
+/// Edits of its attributes.
+impl Element {
+    /// Exchanges the value of an attribute, counted from 0, and answers the old one. Takes no memory.
+    pub fn exchange_value(&mut self, at: usize, value: Text) -> Text
+        requires { at < length self.old.attrs }
+        ensures old { option_map (λ attr. attr.value) (slice_get self.old.attrs at) ≡ Some result }
+        ensures new { self.new ≡ change_attr at value self.old }
+    {
+        mem::replace(&mut self.attrs[at].value, value)
+    }
+
+    /// Takes an attribute out, counted from 0. Takes no memory.
+    pub fn take_attr(&mut self, at: usize) -> Attr
+        requires { at < length self.old.attrs }
+        ensures taken { slice_get self.old.attrs at ≡ Some result }
+        ensures new { self.new ≡ record self.old { attrs = remove self.old.attrs at } }
+    {
+        self.attrs.remove(at)
+    }
+
+    /// Writes the attribute of this prefix and local name, behind the others if it is new, and answers the old value.
+    ///
+    /// # Errors
+    /// `NoMemory` for want of memory, which comes only for a new attribute. The element is then as before.
+    #[tactic(auto, using(crate::proofs::AttrLemmas::by_place))]
+    pub fn set_attr(&mut self, name: Name, value: Text) -> Result<Option<Text>, AllocError>
+        ensures old { IfOk result (λ old. old ≡ option_map (λ attr. attr.value) (find (is_named name) self.old.attrs)) }
+        ensures ok { OnOk result (self.new ≡ write_attr name value self.old) }
+        ensures err { OnErr result (self.new ≡ self.old) }
+        ensures only_for_new { OnErr result (find (is_named name) self.old.attrs ≡ None) }
+    {
+        let place = place_of_attr(&self.attrs, &name);
+        if place < self.attrs.len() {
+            return Ok(Some(self.exchange_value(place, value)));
+        }
+        self.push_attr(Attr { name, value })?;
+        Ok(None)
+    }
+
+    /// Takes out the attribute of this prefix and local name: None where there is none. Takes no memory.
+    #[tactic(auto, using(crate::proofs::AttrLemmas::by_place))]
+    pub fn drop_attr(&mut self, name: &Name) -> Option<Attr>
+        ensures taken { result ≡ find (is_named name.now) self.old.attrs }
+        ensures new { self.new ≡ drop_attr name.now self.old }
+    {
+        let place = place_of_attr(&self.attrs, name);
+        if place < self.attrs.len() {
+            return Some(self.take_attr(place));
+        }
+        None
+    }
+}
+
+/// Edits of the element at a path, which has to be there.
+impl Element {
+    /// Puts an element in a gap of the element at a path.
+    ///
+    /// # Errors
+    /// `NoMemory` for want of memory. The element comes back, and the tree is as before.
+    pub fn put_in(
+        &mut self,
+        path: &Path,
+        gap: usize,
+        element: Element,
+    ) -> Result<(), (AllocError, Element)>
+        requires { IsSomeAnd (at path.now self.old) (λ parent. gap ≤ length (kids_of parent)) }
+        ensures ok { OnOk result (self.new ≡ put_in path.now gap element self.old) }
+        ensures err { OnErr result (self.new ≡ self.old) }
+        ensures back { IfErr result (λ refused. refused.1 ≡ element) }
+    {
+        self.edit_at(
+            path,
+            |here: &mut Element| -> Result<(), (AllocError, Element)>
+                requires { gap ≤ length (kids_of here.old) }
+                ensures ok { OnOk result (here.new ≡ put_kid gap element here.old) }
+                ensures err { OnErr result (here.new ≡ here.old) }
+                ensures back { IfErr result (λ refused. refused.1 ≡ element) }
+            { here.put_kid(gap, element) },
+        )
+    }
+
+    /// Exchanges the element at a path, and answers the old one. Takes no memory.
+    pub fn put_over(&mut self, path: &Path, element: Element) -> Element
+        requires { IsSome (at path.now self.old) }
+        ensures old { at path.now self.old ≡ Some result }
+        ensures new { self.new ≡ put_over path.now element self.old }
+    {
+        self.edit_at(
+            path,
+            |here: &mut Element| -> Element
+                ensures old { result ≡ here.old }
+                ensures new { here.new ≡ element }
+            { mem::replace(here, element) },
+        )
+    }
+
+    /// Takes an element child of the element at a path out, counted from 0, and joins texts that meet.
+    ///
+    /// # Errors
+    /// `NoMemory` for want of memory, which comes only where texts stand directly on both sides of the child. Nothing has
+    /// changed then.
+    pub fn take_in(&mut self, path: &Path, child: usize) -> Result<Element, AllocError>
+        requires { IsSomeAnd (at path.now self.old) (λ parent. child < length (kids_of parent)) }
+        ensures taken { IfOk result (λ kid. IsSomeAnd (at path.now self.old) (λ parent. slice_get (kids_of parent) child ≡ Some kid)) }
+        ensures ok { OnOk result (self.new ≡ take_in path.now child self.old) }
+        ensures err { OnErr result (self.new ≡ self.old) }
+        ensures only_where_texts_meet { OnErr result (IsSomeAnd (at path.now self.old) (λ parent. TextsMeet child parent.content)) }
+    {
+        self.edit_at(
+            path,
+            |here: &mut Element| -> Result<Element, AllocError>
+                requires { child < length (kids_of here.old) }
+                ensures taken { IfOk result (λ kid. slice_get (kids_of here.old) child ≡ Some kid) }
+                ensures ok { OnOk result (here.new ≡ cut_kid child here.old) }
+                ensures err { OnErr result (here.new ≡ here.old) }
+                ensures only_where_texts_meet { OnErr result (TextsMeet child here.old.content) }
+            { here.take_kid(child) },
+        )
+    }
+
+    /// Takes the element at a path out, which isn't the root, and joins texts that meet.
+    ///
+    /// # Errors
+    /// `NoMemory` for want of memory, which comes only where texts stand directly on both sides of the element. Nothing has
+    /// changed then.
+    pub fn cut_out(&mut self, path: &Path) -> Result<Element, AllocError>
+        requires below { 0 < length path.now }
+        requires there { IsSome (at path.now self.old) }
+        ensures taken { IfOk result (λ cut. at path.now self.old ≡ Some cut) }
+        ensures ok { OnOk result (self.new ≡ cut_out path.now self.old) }
+        ensures err { OnErr result (self.new ≡ self.old) }
+        ensures only_where_texts_meet { OnErr result (TextsMeetAt path.now self.old) }
+    {
+        match path.split_last() {
+            None => unreachable!(),
+            Some((parent, child)) => self.take_in(&parent, child),
+        }
+    }
+
+    /// Writes an attribute of the element at a path, as `set_attr` does.
+    ///
+    /// # Errors
+    /// `NoMemory` for want of memory, which comes only for a new attribute. The tree is then as before.
+    pub fn set_at(
+        &mut self,
+        path: &Path,
+        name: Name,
+        value: Text,
+    ) -> Result<Option<Text>, AllocError>
+        requires { IsSome (at path.now self.old) }
+        ensures old { IfOk result (λ old. old ≡ option_map (λ attr. attr.value) (attr_at path.now name self.old)) }
+        ensures ok { OnOk result (self.new ≡ set_at path.now name value self.old) }
+        ensures err { OnErr result (self.new ≡ self.old) }
+        ensures only_for_new { OnErr result (attr_at path.now name self.old ≡ None) }
+    {
+        self.edit_at(
+            path,
+            |here: &mut Element| -> Result<Option<Text>, AllocError>
+                ensures old { IfOk result (λ old. old ≡ option_map (λ attr. attr.value) (find (is_named name) here.old.attrs)) }
+                ensures ok { OnOk result (here.new ≡ write_attr name value here.old) }
+                ensures err { OnErr result (here.new ≡ here.old) }
+                ensures only_for_new { OnErr result (find (is_named name) here.old.attrs ≡ None) }
+            { here.set_attr(name, value) },
+        )
+    }
+
+    /// Takes an attribute of the element at a path out, as `drop_attr` does. Takes no memory.
+    pub fn drop_at(&mut self, path: &Path, name: &Name) -> Option<Attr>
+        requires { IsSome (at path.now self.old) }
+        ensures taken { result ≡ attr_at path.now name.now self.old }
+        ensures new { self.new ≡ drop_at path.now name.now self.old }
+    {
+        self.edit_at(
+            path,
+            |here: &mut Element| -> Option<Attr>
+                ensures taken { result ≡ find (is_named name.entry.now) here.old.attrs }
+                ensures new { here.new ≡ drop_attr name.entry.now here.old }
+            { here.drop_attr(name) },
+        )
+    }
+}

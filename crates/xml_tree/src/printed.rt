@@ -1,0 +1,183 @@
+//! The length of the print of an element. It is counted from the tree, and nothing is printed.
+ghost use Rattle.std.specs.Prelude.{◌≡◌, flat_map, length, min};
+ghost use Rattle.xml_tree.specs.Print.{byte_len, closing, declaring, opening, print, print_attr, print_comment, print_decl, print_name, print_node, quoted, text_escape, value_escape};
+
+use crate::names::{Attr, Decl, Name};
+use crate::text::Text;
+use crate::tree::{Element, Node};
+
+// How many bytes a byte of a text is written as.
+fn text_width(byte: u8) -> usize
+    ensures { result ≡ length (text_escape byte) }
+{
+    match byte {
+        b'&' | b'\r' => 5,
+        b'<' | b'>' => 4,
+        _ => 1,
+    }
+}
+
+// How many bytes a byte of a value in quotes is written as.
+fn value_width(byte: u8) -> usize
+    ensures { result ≡ length (value_escape byte) }
+{
+    match byte {
+        b'"' => 6,
+        b'&' | b'\t' | b'\n' | b'\r' => 5,
+        b'<' => 4,
+        _ => 1,
+    }
+}
+
+// The length of the print of a text; the greatest number where it is longer, as in all that follows.
+fn text_len(text: &[u8]) -> usize
+    ensures { result ≡ min (length (flat_map text_escape text.now)) usize.MAX }
+{
+    let mut total = 0usize;
+    for byte in text {
+        total = total.saturating_add(text_width(*byte));
+    }
+    total
+}
+
+// The length of a value as it is written, without the quotes.
+fn value_len(value: &[u8]) -> usize
+    ensures { result ≡ min (length (flat_map value_escape value.now)) usize.MAX }
+{
+    let mut total = 0usize;
+    for byte in value {
+        total = total.saturating_add(value_width(*byte));
+    }
+    total
+}
+
+// The length of a value in its quotes.
+#[tactic(auto, using(crate::proofs::PrintLengths::lengths))]
+fn quoted_len(value: &Text) -> usize
+    ensures { result ≡ min (byte_len (quoted value.now)) usize.MAX }
+{
+    value_len(value.as_str().as_bytes()).saturating_add(2)
+}
+
+// The length of a name.
+#[tactic(auto, using(crate::proofs::PrintLengths::lengths))]
+fn name_len(name: &Name) -> usize
+    ensures { result ≡ min (byte_len (print_name name.now)) usize.MAX }
+{
+    let local = name.local.as_str().len();
+    if name.prefix.is_empty() {
+        return local;
+    }
+    name.prefix
+        .as_str()
+        .len()
+        .saturating_add(local)
+        .saturating_add(1)
+}
+
+// The length of the name that declares a prefix.
+#[tactic(auto, using(crate::proofs::PrintLengths::lengths))]
+fn declaring_len(prefix: &Text) -> usize
+    ensures { result ≡ min (byte_len (declaring prefix.now)) usize.MAX }
+{
+    if prefix.is_empty() {
+        return 5;
+    }
+    prefix.as_str().len().saturating_add(6)
+}
+
+// The length of a declaration.
+#[tactic(auto, using(crate::proofs::PrintLengths::lengths))]
+fn decl_len(decl: &Decl) -> usize
+    ensures { result ≡ min (byte_len (print_decl decl.now)) usize.MAX }
+{
+    declaring_len(&decl.prefix)
+        .saturating_add(quoted_len(&decl.uri))
+        .saturating_add(2)
+}
+
+// The length of an attribute.
+#[tactic(auto, using(crate::proofs::PrintLengths::lengths))]
+fn attr_len(attr: &Attr) -> usize
+    ensures { result ≡ min (byte_len (print_attr attr.now)) usize.MAX }
+{
+    name_len(&attr.name)
+        .saturating_add(quoted_len(&attr.value))
+        .saturating_add(2)
+}
+
+// The length of all declarations of an element.
+#[tactic(auto, using(crate::proofs::PrintLengths::lengths))]
+fn decls_len(decls: &[Decl]) -> usize
+    ensures { result ≡ min (byte_len (flat_map print_decl decls.now)) usize.MAX }
+{
+    let mut total = 0usize;
+    for decl in decls {
+        total = total.saturating_add(decl_len(decl));
+    }
+    total
+}
+
+// The length of all attributes of an element.
+#[tactic(auto, using(crate::proofs::PrintLengths::lengths))]
+fn attrs_len(attrs: &[Attr]) -> usize
+    ensures { result ≡ min (byte_len (flat_map print_attr attrs.now)) usize.MAX }
+{
+    let mut total = 0usize;
+    for attr in attrs {
+        total = total.saturating_add(attr_len(attr));
+    }
+    total
+}
+
+// The length of what begins an element: its name, declarations and attributes.
+#[tactic(auto, using(crate::proofs::PrintLengths::lengths))]
+fn opening_len(element: &Element) -> usize
+    ensures { result ≡ min (byte_len (opening element.now.name element.now.decls element.now.attrs)) usize.MAX }
+{
+    let names = name_len(element.name());
+    let lists = decls_len(element.decls()).saturating_add(attrs_len(element.attrs()));
+    names.saturating_add(lists).saturating_add(1)
+}
+
+// The length of a comment.
+#[tactic(auto, using(crate::proofs::PrintLengths::lengths))]
+fn comment_len(text: &Text) -> usize
+    ensures { result ≡ min (byte_len (print_comment text.now)) usize.MAX }
+{
+    text.as_str().len().saturating_add(7)
+}
+
+/// The length in bytes of the print of an element; the greatest number where it is longer. Takes no memory.
+#[cycle(printed)]
+#[tactic(auto, using(crate::proofs::PrintLengths::lengths))]
+pub fn printed_len(element: &Element) -> usize
+    ensures { result ≡ min (byte_len (print element.now)) usize.MAX }
+{
+    let opening = opening_len(element);
+    let nodes = element.nodes();
+    if nodes.is_empty() {
+        return opening.saturating_add(2);
+    }
+    let mut inside = 0usize;
+    for node in nodes {
+        inside = inside.saturating_add(node_len(node));
+    }
+    opening
+        .saturating_add(inside)
+        .saturating_add(name_len(element.name()))
+        .saturating_add(4)
+}
+
+// The length of the print of a node.
+#[cycle(printed)]
+#[tactic(auto, using(crate::proofs::PrintLengths::lengths))]
+fn node_len(node: &Node) -> usize
+    ensures { result ≡ min (byte_len (print_node node.now)) usize.MAX }
+{
+    match node {
+        Node::Elem(element) => printed_len(element),
+        Node::Chars(text) => text_len(text.as_str().as_bytes()),
+        Node::Comment(text) => comment_len(text),
+    }
+}

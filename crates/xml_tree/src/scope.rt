@@ -1,0 +1,166 @@
+//! Scopes: what prefixes are bound to (Namespaces in XML 1.0, sections 2.2, 3, 5 and 6).
+ghost use Rattle.std.specs.Prelude.{◌≡◌, ◌<◌, ◌++◌, [], ◌∷◌, length, map, option_map, chars, IfOk};
+ghost use Rattle.std.specs.Option.{option_copied};
+ghost use Rattle.std.specs.Str.{bytes_eq};
+ghost use Rattle.xml_tree.specs.Tree.{at};
+ghost use Rattle.xml_tree.specs.Scopes.{bindings_in, bound, declared, joined, scope_at, some_text, xml_prefix, xml_uri};
+
+use crate::bindings::bindings;
+use crate::names::Decl;
+use crate::path::Path;
+use crate::text::Text;
+use crate::tree::Element;
+use std::alloc::{AllocError, Global};
+use std::marker::Model;
+
+/// How many lists of declarations a scope holds at most.
+pub const SCOPE_LIMIT: usize = 67;
+
+/// Lists of declarations, lent, outermost first. Contracts see them as a list of lists; in each a later declaration is nearer.
+#[derive(Drop)]
+pub struct Scope<'a> {
+    lists: [&'a [Decl]; 67],
+    len: usize,
+}
+
+impl<'a> Model for Scope<'a> {
+    ghost use Rattle.std.specs.Prelude.{ℕ, ◌≤◌, List, map, take};
+    ghost use Rattle.std.specs.Coded.{coded_list};
+    ghost use Rattle.xml_tree.specs.Tree.{decls_code};
+    ghost use Rattle.xml_tree.specs.declared.names.Decl.{Decl};
+
+    ghost Value = { List (List Decl) };
+
+    ghost coded = { coded_list decls_code };
+
+    ghost view = { λ s. map (λ x. x.now) (take s.len s.lists) };
+
+    ghost invariant = { λ s. s.len ≤ 67 };
+}
+
+impl<'a> Scope<'a> {
+    /// The scope of no declarations. Takes no memory.
+    pub fn empty() -> Scope<'a>
+        ensures { result ≡ [] }
+    {
+        Scope {
+            lists: [&[]; 67],
+            len: 0,
+        }
+    }
+
+    /// The scope at an element: the declarations of all elements on its path, its own included. None exactly where no element
+    /// is at the path. Takes no memory.
+    pub fn at(root: &'a Element, path: &Path) -> Option<Scope<'a>>
+        ensures { result ≡ option_map (λ _. scope_at path.now root.now) (at path.now root.now) }
+    {
+        let mut here = root;
+        let mut scope = Scope::empty().with(root.decls());
+        for number in path.numbers() {
+            here = here.kid(*number)?;
+            scope = scope.with(here.decls());
+        }
+        Some(scope)
+    }
+
+    /// The scope with one list more, which is the innermost. Takes no memory.
+    pub fn with(&self, decls: &'a [Decl]) -> Scope<'a>
+        requires { length self.now < SCOPE_LIMIT }
+        ensures { result ≡ self.now ++ decls.now ∷ [] }
+    {
+        let mut lists = self.lists;
+        lists[self.len] = decls;
+        Scope {
+            lists,
+            len: self.len + 1,
+        }
+    }
+
+    /// An equal scope, which borrows the same lists. Takes no memory.
+    pub fn copy(&self) -> Scope<'a>
+        ensures { result ≡ self.now }
+    {
+        Scope {
+            lists: self.lists,
+            len: self.len,
+        }
+    }
+
+    /// How many lists it holds. Takes no memory.
+    pub fn depth(&self) -> usize
+        ensures { result ≡ length self.now }
+    {
+        self.len
+    }
+
+    /// All bindings in scope without that of `xml`: the default first, then the prefixes by code point.
+    ///
+    /// # Errors
+    /// `NoMemory` for want of memory.
+    pub fn bindings(&self, alloc: Global) -> Result<Vec<Decl>, AllocError>
+        ensures { IfOk result (λ made. made.items ≡ bindings_in self.now) }
+    {
+        bindings(alloc, &self.lists[..self.len])
+    }
+
+    /// The URI that a prefix is bound to, the empty prefix being the default namespace. Takes no memory.
+    pub fn resolve(&self, prefix: &str) -> Option<&'a str>
+        ensures { option_map (λ uri. chars uri.now) result ≡ bound self.now (chars prefix.now) }
+    {
+        if is_xml(prefix) {
+            return Some(xml_uri());
+        }
+        some_text(nearest(&self.lists[..self.len], prefix))
+    }
+}
+
+// Whether a prefix is `xml`, which is always bound.
+pub(crate) fn is_xml(prefix: &str) -> bool
+    ensures { result ≡ bytes_eq (chars prefix.now) xml_prefix }
+{
+    prefix == "xml"
+}
+
+// The namespace of `xml`.
+fn xml_uri() -> &'static str
+    ensures { chars result.now ≡ xml_uri }
+{
+    "http://www.w3.org/XML/1998/namespace"
+}
+
+// A URI, unless it is empty, which binds nothing.
+fn some_text<'a>(uri: Option<&'a Text>) -> Option<&'a str>
+    ensures { option_map (λ text. chars text.now) result ≡ some_text (option_copied uri.entry) }
+{
+    match uri {
+        Some(text) if !text.is_empty() => Some(text.as_str()),
+        _ => None,
+    }
+}
+
+// What the lists declare of a prefix, the last of them first.
+#[tactic(auto, using(crate::proofs::ScopeLemmas::declared_steps))]
+fn nearest<'a>(lists: &[&'a [Decl]], prefix: &str) -> Option<&'a Text>
+    ensures { option_copied result ≡ declared (joined (map (λ x. x.now) lists.now)) (chars prefix.now) }
+{
+    let mut found = None;
+    for list in lists {
+        if let Some(uri) = declared(list, prefix) {
+            found = Some(uri);
+        }
+    }
+    found
+}
+
+// What a list declares of a prefix.
+fn declared<'a>(decls: &'a [Decl], prefix: &str) -> Option<&'a Text>
+    ensures { option_copied result ≡ declared decls.now (chars prefix.now) }
+{
+    let mut found = None;
+    for decl in decls {
+        if decl.prefix.is(prefix) {
+            found = Some(&decl.uri);
+        }
+    }
+    found
+}

@@ -1,0 +1,13 @@
+//! Laws of scopes, each the contract of a function that does nothing.
+ghost use Rattle.std.specs.Prelude.{◌≡◌, ℕ, List, [], ◌∷◌, IsTrue};
+ghost use Rattle.std.specs.List.{AllByRecursion};
+ghost use Rattle.xml_tree.specs.Scopes.{AreInOrder, bindings_in, binds, bound};
+ghost use Rattle.xml_tree.specs.declared.names.Decl.{Decl};
+
+/// All bindings of a scope, as one list: they bind what the scope binds, stand in the order of their prefixes by code point,
+/// and each binds a prefix other than `xml`.
+pub fn bindings_are_those_of_the_scope()
+    ensures same { (c : List (List Decl)) (p : List ℕ) → bound (bindings_in c ∷ []) p ≡ bound c p }
+    ensures ordered { (c : List (List Decl)) → AreInOrder (bindings_in c) }
+    ensures binding { (c : List (List Decl)) → AllByRecursion (λ d. IsTrue (binds d)) (bindings_in c) }
+{}

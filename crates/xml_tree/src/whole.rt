@@ -1,0 +1,94 @@
+//! What is asked of a whole tree: its depth, a copy of it, and whether it is another one.
+ghost use Rattle.std.specs.Prelude.{◌≡◌, ◌↔◌, IsTrue, IfOk, min};
+ghost use Rattle.xml_tree.specs.Tree.{height};
+
+use crate::names::{copy_attrs, copy_decls, same_attrs, same_decls};
+use crate::tree::{Element, Node};
+use std::alloc::{AllocError, Global};
+
+/// How many elements are one in another, the root being 1; the greatest number where there are more. Takes no memory.
+pub fn depth(element: &Element) -> usize
+    ensures { result ≡ min (height element.now) usize.MAX }
+{
+    let mut below = 0usize;
+    for node in &element.nodes {
+        if let Node::Elem(kid) = node {
+            below = below.max(depth(kid));
+        }
+    }
+    below.saturating_add(1)
+}
+
+/// A copy of a tree.
+///
+/// # Errors
+/// `NoMemory` for want of memory.
+#[cycle(copy)]
+pub fn copy_tree(alloc: Global, element: &Element) -> Result<Element, AllocError>
+    ensures { IfOk result (λ made. made ≡ element.now) }
+{
+    let nodes = copy_nodes(alloc, &element.nodes)?;
+    Ok(Element {
+        name: element.name.copy(alloc)?,
+        decls: copy_decls(alloc, &element.decls)?,
+        attrs: copy_attrs(alloc, &element.attrs)?,
+        nodes,
+    })
+}
+
+#[cycle(copy)]
+fn copy_nodes(alloc: Global, nodes: &[Node]) -> Result<Vec<Node>, AllocError>
+    ensures { IfOk result (λ made. made.items ≡ nodes.now) }
+{
+    let mut made = Vec::with_capacity(alloc, nodes.len())?;
+    for node in nodes {
+        let copy = match node {
+            Node::Elem(kid) => Node::Elem(copy_tree(alloc, kid)?),
+            Node::Chars(text) => Node::Chars(text.copy(alloc)?),
+            Node::Comment(text) => Node::Comment(text.copy(alloc)?),
+        };
+        made.push(copy)?;
+    }
+    Ok(made)
+}
+
+/// Whether two trees are the same, prefixes and the order of declarations and attributes included. Takes no memory.
+#[cycle(equal)]
+pub fn equal(a: &Element, b: &Element) -> bool
+    ensures { IsTrue result ↔ (a.now ≡ b.now) }
+{
+    if !a.name.same(&b.name) {
+        return false;
+    }
+    if !same_decls(&a.decls, &b.decls) || !same_attrs(&a.attrs, &b.attrs) {
+        return false;
+    }
+    equal_nodes(&a.nodes, &b.nodes)
+}
+
+#[cycle(equal)]
+fn equal_nodes(a: &[Node], b: &[Node]) -> bool
+    ensures { IsTrue result ↔ (a.now ≡ b.now) }
+{
+    if a.len() != b.len() {
+        return false;
+    }
+    for i in 0..a.len() {
+        if !equal_node(&a[i], &b[i]) {
+            return false;
+        }
+    }
+    true
+}
+
+#[cycle(equal)]
+fn equal_node(a: &Node, b: &Node) -> bool
+    ensures { IsTrue result ↔ (a.now ≡ b.now) }
+{
+    match (a, b) {
+        (Node::Elem(a), Node::Elem(b)) => equal(a, b),
+        (Node::Chars(a), Node::Chars(b)) => a.same(b),
+        (Node::Comment(a), Node::Comment(b)) => a.same(b),
+        _ => false,
+    }
+}
