@@ -5,6 +5,7 @@
 
 mod bindings;
 mod characters;
+mod declarations;
 mod edits;
 mod laws;
 mod list;

@@ -1,0 +1,81 @@
+-- The bytes of a reply. RFC 9112, sections 2.1 (message), 4 (status line), 5 (field lines), 6.2 (Content-Length) and 9.6 (close);
+-- RFC 9110, sections 8.3 (Content-Type), 8.8.3 (ETag) and 10.2.1 (Allow).
+use Rattle.std.specs.Prelude.{ℕ, ◌==◌, Bool, List, [], ◌∷◌, ◌++◌, Option, codes, decimal, if◌then◌else◌}
+use Rattle.std.specs.Option.{option_map_or}
+use Rattle.reply_text.specs.declared.media_types.Media.{Media}
+use Rattle.reply_text.specs.declared.media_types.Media.TheVariants.{ResourceLists, RlsServices, XcapCaps, Element, Attribute, Namespaces, Error, Diff}
+use Rattle.reply_text.specs.Statuses.{reason}
+
+-- CR LF
+abbrev pub line_end : List ℕ
+line_end = 13 ∷ 10 ∷ []
+
+-- status-line = HTTP-version SP status-code SP reason-phrase CRLF
+unfoldable pub status_line : ℕ → List ℕ
+status_line n = codes "HTTP/1.1 " ++ decimal n ++ (32 ∷ []) ++ reason n ++ line_end
+
+-- the document's tag, a number in quotes
+unfoldable pub tag_line : ℕ → List ℕ
+tag_line n = codes "ETag: " ++ (34 ∷ []) ++ decimal n ++ (34 ∷ []) ++ line_end
+
+-- the methods that a resource takes: those that read, or all
+unfoldable pub allow_line : Bool → List ℕ
+allow_line read_only = codes "Allow: " ++ (if read_only then codes "GET, HEAD" else codes "GET, HEAD, PUT, DELETE") ++ line_end
+
+-- the names of the media types (RFC 4825, section 15.2; RFC 4826, section 7; RFC 5874, section 8)
+unfoldable pub media_type : Media → List ℕ
+media_type ResourceLists = codes "application/resource-lists+xml"
+media_type RlsServices = codes "application/rls-services+xml"
+media_type XcapCaps = codes "application/xcap-caps+xml"
+media_type Element = codes "application/xcap-el+xml"
+media_type Attribute = codes "application/xcap-att+xml"
+media_type Namespaces = codes "application/xcap-ns+xml"
+media_type Error = codes "application/xcap-error+xml"
+media_type Diff = codes "application/xcap-diff+xml"
+
+unfoldable pub media_line : Media → List ℕ
+media_line media = codes "Content-Type: " ++ media_type media ++ line_end
+
+unfoldable pub length_line : ℕ → List ℕ
+length_line n = codes "Content-Length: " ++ decimal n ++ line_end
+
+unfoldable pub close_line : List ℕ
+close_line = codes "Connection: close" ++ line_end
+
+-- what a head says
+pub record Parts : Type 0 where
+  pub status : ℕ
+  pub tag : Option ℕ
+  pub read_only : Option Bool  -- for the Allow field
+  pub media : Option Media
+  pub size : ℕ
+  pub closes : Bool
+
+-- the head, up to and with the empty line: the status line and those of the field lines that apply; a 304 has no length
+abbrev pub head_of : Parts → List ℕ
+head_of p =
+    status_line p.status
+    ++ option_map_or tag_line p.tag []
+    ++ option_map_or allow_line p.read_only []
+    ++ option_map_or media_line p.media []
+    ++ (if p.status == 304 then [] else length_line p.size)
+    ++ (if p.closes then close_line else [])
+    ++ line_end
+
+-- a reply, seen as its status, whether it closes, and its bytes in two parts
+pub record Sent : Type 0 where
+  pub status : ℕ
+  pub closes : Bool
+  pub head : List ℕ
+  pub body : List ℕ
+
+-- all bytes of a reply
+abbrev pub bytes_of : Sent → List ℕ
+bytes_of r = r.head ++ r.body
+
+-- the reply with these parts and this body
+abbrev pub sent : Parts → List ℕ → Sent
+sent p body = record { status = p.status; closes = p.closes; head = head_of p; body = body }
+
+abbrev pub parts : ℕ → Option ℕ → Option Bool → Option Media → ℕ → Bool → Parts
+parts status tag read_only media size closes = record { status = status; tag = tag; read_only = read_only; media = media; size = size; closes = closes }

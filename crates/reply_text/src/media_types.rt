@@ -1,0 +1,34 @@
+//! The media types of bodies (RFC 4825, section 15.2; RFC 4826, section 7; RFC 5874, section 8).
+ghost use Rattle.std.specs.Prelude.{◌≡◌, ◌≤◌, length};
+ghost use Rattle.reply_text.specs.Heads.{media_type};
+
+/// What a body is.
+#[derive(Debug, Clone, Copy, PartialEq, Eq)]
+pub enum Media {
+    ResourceLists,
+    RlsServices,
+    XcapCaps,
+    Element,
+    Attribute,
+    Namespaces,
+    Error,
+    Diff,
+}
+
+// The name of a media type.
+#[tactic(auto, unfolding(crate::specs::Heads::media_type))]
+pub(crate) fn media_type(media: Media) -> &'static str
+    ensures value { result.now ≡ media_type media }
+    ensures short { length result.now ≤ 30 }
+{
+    match media {
+        Media::ResourceLists => "application/resource-lists+xml",
+        Media::RlsServices => "application/rls-services+xml",
+        Media::XcapCaps => "application/xcap-caps+xml",
+        Media::Element => "application/xcap-el+xml",
+        Media::Attribute => "application/xcap-att+xml",
+        Media::Namespaces => "application/xcap-ns+xml",
+        Media::Error => "application/xcap-error+xml",
+        Media::Diff => "application/xcap-diff+xml",
+    }
+}

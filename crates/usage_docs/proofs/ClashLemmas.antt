@@ -1,0 +1,260 @@
+-- Clashes at a place, and those found so far.
+use Rattle.std.proofs.Common.{◌≡◌, ◌↔◌, ◌<◌, ℕ, zero, suc, Bool, List, [], ◌∷◌, ◌++◌, length, take, get_or, IsTrue, Option, None, Some, slice_get, option_map, option_and_then, refl, ap, sym, ◌∙◌, subst, inl, inr, arith, append_assoc, append-nil}
+use Rattle.std.proofs.lemmas.Option.{same_Some}
+use Rattle.std.proofs.lemmas.Bool.{cases_lt}
+use Rattle.xml_tree.specs.Tree.{Content, last, more, note, Tree, kids, kids_of}
+use Rattle.xml_tree.specs.Edits.{before}
+use Rattle.xml_tree.specs.Nodes.{content_of}
+use Rattle.xml_tree.specs.declared.names.Attr.{Attr}
+use Rattle.xml_tree.specs.declared.tree.Node.{Node}
+use Rattle.xml_tree.specs.declared.tree.Node.TheVariants.{Elem, Chars, Comment}
+use Rattle.usage_docs.specs.declared.rows.Kind.{Kind}
+use Rattle.usage_docs.specs.declared.rows.Key.{Key}
+use Rattle.usage_docs.specs.declared.keys.Clash.{Clash}
+use Rattle.usage_docs.specs.Rows.{Scope, kind_of}
+use Rattle.usage_docs.specs.Keys.{key_of, value_of, key_value}
+use Rattle.usage_docs.specs.Clashes.{inside, Mark, mark, mark_of, mark_at, RepeatsAt, NoLater}
+use Rattle.usage_docs.specs.Siblings.{node_kids, HasMark, RepeatsHere, IsFirst, RepeatedKey}
+
+pub some_same : (kv : Option (List ℕ)) (a b : List ℕ) (r : Bool) → Some a ≡ kv → (IsTrue r ↔ (a ≡ b)) → IsTrue r ↔ (kv ≡ Some b)
+some_same kv a b r e f = (λ h. sym e ∙ ap Some (f.0 h), λ k. f.1 (same_Some _ _ (e ∙ k)))
+
+-- ---- marks
+
+mark_in : (row : Kind) (c : Scope) (e : Tree) (kind : Kind) (key : Key) (value : List ℕ) → kind_of row (inside c e) e.name ≡ Some kind → key_of kind ≡ Some key → value_of key e.attrs ≡ Some value → mark_of row c e ≡ Some (mark kind value)
+unfolding mark_of key_value
+mark_in row c e kind key value k w v = rw (k, w, v)
+
+-- what a kind and a value give, if it is a mark
+record Given (kind : Kind) (o : Option (List ℕ)) (m : Mark) : Type 0 where
+  same_kind : kind ≡ m.kind
+  is_value : o ≡ Some m.value
+
+given : (kind : Kind) (o : Option (List ℕ)) (m : Mark) → option_map (mark kind) o ≡ Some m → Given kind o m
+given kind None m h = cc
+given kind (Some v) m h =
+    let e = same_Some (mark kind v) m h in
+    record { same_kind = ap (λ (x : Mark). x.kind) e; is_value = ap (λ (x : Mark). Some x.value) e }
+
+-- the parts of a mark
+record Marked (o : Option Kind) (ats : List Attr) (m : Mark) : Type 0 where
+  by_kind : o ≡ Some m.kind
+  by_value : key_value m.kind ats ≡ Some m.value
+
+marked : (o : Option Kind) (ats : List Attr) (m : Mark) → option_and_then (λ kind. option_map (mark kind) (key_value kind ats)) o ≡ Some m → Marked o ats m
+marked None ats m h = cc
+marked (Some kind) ats m h =
+    let g = given kind (key_value kind ats) m h in
+    record { by_kind = ap Some g.same_kind; by_value = subst (λ k. key_value k ats ≡ Some m.value) g.same_kind g.is_value }
+
+mark_parts : (row : Kind) (c : Scope) (e : Tree) (m : Mark) → mark_of row c e ≡ Some m → Marked (kind_of row (inside c e) e.name) e.attrs m
+unfolding mark_of
+mark_parts row c e m h = marked (kind_of row (inside c e) e.name) e.attrs m h
+
+value_in : (kind : Kind) (key : Key) (ats : List Attr) → key_of kind ≡ Some key → key_value kind ats ≡ value_of key ats
+unfolding key_value
+value_in kind key ats k = rw k
+
+-- ---- nodes and the elements among them
+
+kids_before : (t : List ℕ) (content : Content) → kids (before t content) ≡ kids content
+kids_before t (last u) = refl
+kids_before t (more u n ds ats k rest) = refl
+kids_before t (note u x rest) = refl
+
+kids_of_nodes : (ns : List Node) → kids (content_of ns) ≡ node_kids ns
+kids_of_nodes [] = refl
+kids_of_nodes (Elem e ∷ ns) = ap (λ ks. e ∷ ks) (kids_of_nodes ns)
+kids_of_nodes (Chars t ∷ ns) = kids_before t (content_of ns) ∙ kids_of_nodes ns
+kids_of_nodes (Comment x ∷ ns) = kids_of_nodes ns
+
+pub kids_are : (ns : List Node) (content : Content) → content_of ns ≡ content → kids content ≡ node_kids ns
+kids_are ns content e = ap kids (sym e) ∙ kids_of_nodes ns
+
+elem_same : (e kid : Tree) → Elem e ≡ Elem kid → e ≡ kid
+elem_same e kid h = cc
+
+pub kid_at : (ns : List Node) (place : ℕ) (node : Node) (kid : Tree) → place < length ns → node ≡ get_or ns place node → node ≡ Elem kid → slice_get (node_kids ns) (length (node_kids (take place ns))) ≡ Some kid
+kid_at [] place node kid lt is elem = absurd (omega arith)
+kid_at (Elem e ∷ ns) zero node kid lt is elem = ap Some (elem_same e kid (sym is ∙ elem))
+kid_at (Chars t ∷ ns) zero node kid lt is elem = cc
+kid_at (Comment x ∷ ns) zero node kid lt is elem = cc
+kid_at (Elem e ∷ ns) (suc place) node kid lt is elem = kid_at ns place node kid (omega arith) is elem
+kid_at (Chars t ∷ ns) (suc place) node kid lt is elem = kid_at ns place node kid (omega arith) is elem
+kid_at (Comment x ∷ ns) (suc place) node kid lt is elem = kid_at ns place node kid (omega arith) is elem
+
+pub kid_early : (ns : List Node) (place j : ℕ) → j < length (node_kids (take place ns)) → slice_get (node_kids ns) j ≡ slice_get (node_kids (take place ns)) j
+kid_early [] zero j lt = absurd (omega arith)
+kid_early [] (suc place) j lt = absurd (omega arith)
+kid_early (n ∷ ns) zero j lt = absurd (omega arith)
+kid_early (Elem e ∷ ns) (suc place) zero lt = refl
+kid_early (Elem e ∷ ns) (suc place) (suc j) lt = kid_early ns place j (omega arith)
+kid_early (Chars t ∷ ns) (suc place) j lt = kid_early ns place j lt
+kid_early (Comment x ∷ ns) (suc place) j lt = kid_early ns place j lt
+
+-- one node more
+pub one_more : Node → ℕ → ℕ
+one_more (Elem e) k = suc k
+one_more (Chars t) k = k
+one_more (Comment x) k = k
+
+pub count_next : (ns : List Node) (place : ℕ) (node : Node) → place < length ns → node ≡ get_or ns place node → length (node_kids (take (suc place) ns)) ≡ one_more node (length (node_kids (take place ns)))
+unfolding one_more
+count_next [] place node lt is = absurd (omega arith)
+count_next (Elem e ∷ ns) zero node lt is = rw is
+count_next (Chars t ∷ ns) zero node lt is = rw is
+count_next (Comment x ∷ ns) zero node lt is = rw is
+count_next (Elem e ∷ ns) (suc place) (Elem k) lt is = ap suc (count_next ns place (Elem k) (omega arith) is)
+count_next (Elem e ∷ ns) (suc place) (Chars t) lt is = ap suc (count_next ns place (Chars t) (omega arith) is)
+count_next (Elem e ∷ ns) (suc place) (Comment x) lt is = ap suc (count_next ns place (Comment x) (omega arith) is)
+count_next (Chars t ∷ ns) (suc place) node lt is = count_next ns place node (omega arith) is
+count_next (Comment x ∷ ns) (suc place) node lt is = count_next ns place node (omega arith) is
+
+pub count_elem : (ns : List Node) (place : ℕ) (node : Node) (kid : Tree) → place < length ns → node ≡ get_or ns place node → node ≡ Elem kid → length (node_kids (take (suc place) ns)) ≡ suc (length (node_kids (take place ns)))
+unfolding one_more
+count_elem ns place node kid lt is elem = count_next ns place node lt is ∙ ap (λ n. one_more n (length (node_kids (take place ns)))) elem
+
+pub count_other : (ns : List Node) (place : ℕ) (node : Node) → place < length ns → node ≡ get_or ns place node → ((kid : Tree) → node ≡ Elem kid → ⊥) → length (node_kids (take (suc place) ns)) ≡ length (node_kids (take place ns))
+unfolding one_more
+count_other ns place (Elem e) lt is other = absurd (other e refl)
+count_other ns place (Chars t) lt is other = count_next ns place (Chars t) lt is
+count_other ns place (Comment x) lt is other = count_next ns place (Comment x) lt is
+
+has_mark_to : (row : Kind) (c : Scope) (m : Mark) (ns : List Node) → HasMark row c m ns → (j : ℕ) × (mark_at row c (node_kids ns) j ≡ Some m)
+has_mark_to row c m [] h = absurd h
+has_mark_to row c m (Elem e ∷ ns) (inl h) = (0, h)
+has_mark_to row c m (Elem e ∷ ns) (inr h) = let r = has_mark_to row c m ns h in (suc r.0, r.1)
+has_mark_to row c m (Chars t ∷ ns) h = has_mark_to row c m ns h
+has_mark_to row c m (Comment x ∷ ns) h = has_mark_to row c m ns h
+
+has_mark_from : (row : Kind) (c : Scope) (m : Mark) (ns : List Node) (j : ℕ) → mark_at row c (node_kids ns) j ≡ Some m → HasMark row c m ns
+has_mark_from row c m [] j h = cc
+has_mark_from row c m (Elem e ∷ ns) zero h = inl h
+has_mark_from row c m (Elem e ∷ ns) (suc j) h = inr (has_mark_from row c m ns j h)
+has_mark_from row c m (Chars t ∷ ns) j h = has_mark_from row c m ns j h
+has_mark_from row c m (Comment x ∷ ns) j h = has_mark_from row c m ns j h
+
+mark_within : (row : Kind) (c : Scope) (m : Mark) (ks : List Tree) (j : ℕ) → mark_at row c ks j ≡ Some m → j < length ks
+mark_within row c m [] j h = cc
+mark_within row c m (k ∷ ks) zero h = omega arith
+mark_within row c m (k ∷ ks) (suc j) h = let lt = mark_within row c m ks j h in omega arith
+
+-- the child at a place among the nodes, and those before it
+pub there_is : (xs : List Tree) (ns : List Node) (place i : ℕ) (node : Node) (kid : Tree) → xs ≡ node_kids ns → i ≡ length (node_kids (take place ns)) → place < length ns → node ≡ get_or ns place node → node ≡ Elem kid → slice_get xs i ≡ Some kid
+there_is xs ns place i node kid kids count lt is elem = ap (λ ks. slice_get ks i) kids ∙ ap (slice_get (node_kids ns)) count ∙ kid_at ns place node kid lt is elem
+
+pub early_are : (xs : List Tree) (ns : List Node) (place : ℕ) → xs ≡ node_kids ns → (j : ℕ) → j < length (node_kids (take place ns)) → slice_get xs j ≡ slice_get (node_kids (take place ns)) j
+early_are xs ns place kids j lt = ap (λ ks. slice_get ks j) kids ∙ kid_early ns place j lt
+
+-- ---- the first clash at an element
+
+pub key_found : (row : Kind) (c : Scope) (earlier : List Node) (kind : Kind) (ats : List Attr) (key : Key) (value : List ℕ) → key_of kind ≡ Some key → value_of key ats ≡ Some value → HasMark row c (mark kind value) earlier → RepeatedKey row c earlier kind ats (Some key)
+key_found row c earlier kind ats key value k v h = λ other. (
+  λ e. let same = same_Some key other e in (value, (k ∙ e, subst (λ x. value_of x ats ≡ Some value) same v, h)),
+  λ r. sym k ∙ r.1.0,
+)
+
+module _ (row : Kind) (c : Scope) (earlier : List Node) (e : Tree) where
+  -- an element without a kind
+  none_of_kind : kind_of row (inside c e) e.name ≡ None → (p : List ℕ) (key : Key) → RepeatsHere row c earlier e p key → ⊥
+  none_of_kind none [] key h = let m = mark_parts row c e h.0 h.1.0 in let k = m.by_kind in cc
+  none_of_kind none (n ∷ p) key h = let k = h.1.0 in cc
+
+  pub at_none : (here : List ℕ) → kind_of row (inside c e) e.name ≡ None → IsFirst (RepeatsHere row c earlier e) here None
+  at_none here none = none_of_kind none
+
+  module _ (kind : Kind) (of_kind : kind_of row (inside c e) e.name ≡ Some kind) where
+    -- it repeats a key itself
+    here_from : (key : Key) → RepeatedKey row c earlier kind e.attrs (Some key) → RepeatsHere row c earlier e [] key
+    here_from key h = let r = (h key).0 refl in (mark kind r.0, (mark_in row c e kind key r.0 of_kind r.1.0 r.1.1, r.1.2, r.1.0))
+
+    here_to : (o : Option Key) (key : Key) → RepeatedKey row c earlier kind e.attrs o → RepeatsHere row c earlier e [] key → o ≡ Some key
+    here_to o key h r =
+        let parts = mark_parts row c e r.0 r.1.0 in
+        let same : kind ≡ r.0.kind = same_Some _ _ (sym of_kind ∙ parts.by_kind) in
+        let k : key_of kind ≡ Some key = subst (λ x. key_of x ≡ Some key) (sym same) r.1.2 in
+        let v : key_value kind e.attrs ≡ Some r.0.value = subst (λ x. key_value x e.attrs ≡ Some r.0.value) (sym same) parts.by_value in
+        let m : HasMark row c (mark kind r.0.value) earlier = subst (λ x. HasMark row c (mark x r.0.value) earlier) (sym same) r.1.1 in
+        (h key).1 (r.0.value, (k, sym (value_in kind key e.attrs k) ∙ v, m))
+
+    pub at_here : (here : List ℕ) (clash : Clash) → clash.path ≡ here → RepeatedKey row c earlier kind e.attrs (Some clash.key) → IsFirst (RepeatsHere row c earlier e) here (Some clash)
+    at_here here clash is h = ([], (is ∙ sym (append-nil here), here_from clash.key h, λ q key r. tt))
+
+    below_to : (n : ℕ) (p : List ℕ) (key : Key) → RepeatsHere row c earlier e (n ∷ p) key → RepeatsAt kind (inside c e) (kids_of e) (n ∷ p) key
+    below_to n p key r = subst (λ x. RepeatsAt x (inside c e) (kids_of e) (n ∷ p) key) (same_Some _ _ (sym r.1.0 ∙ of_kind)) r.1.1
+
+    not_here : RepeatedKey row c earlier kind e.attrs None → (key : Key) → RepeatsHere row c earlier e [] key → ⊥
+    not_here h key r = let k = here_to None key h r in cc
+
+    -- it doesn't, and so the first is that below it
+    later : (p : List ℕ) → RepeatedKey row c earlier kind e.attrs None → ((q : List ℕ) (key : Key) → RepeatsAt kind (inside c e) (kids_of e) q key → NoLater p q) → (q : List ℕ) (key : Key) → RepeatsHere row c earlier e q key → NoLater p q
+    later p h first [] key r = absurd (not_here h key r)
+    later p h first (m ∷ q) key r = first (m ∷ q) key (below_to m q key r)
+
+    nothing : RepeatedKey row c earlier kind e.attrs None → ((q : List ℕ) (key : Key) → RepeatsAt kind (inside c e) (kids_of e) q key → ⊥) → (q : List ℕ) (key : Key) → RepeatsHere row c earlier e q key → ⊥
+    nothing h none [] key r = not_here h key r
+    nothing h none (m ∷ q) key r = none (m ∷ q) key (below_to m q key r)
+
+    below_from : (p : List ℕ) (key : Key) → RepeatsAt kind (inside c e) (kids_of e) p key → RepeatsHere row c earlier e p key
+    below_from [] key r = absurd r
+    below_from (n ∷ p) key r = (kind, (of_kind, r))
+
+    pub at_below : (here : List ℕ) (r : Option Clash) → RepeatedKey row c earlier kind e.attrs None → IsFirst (RepeatsAt kind (inside c e) (kids_of e)) here r → IsFirst (RepeatsHere row c earlier e) here r
+    at_below here None h f = nothing h f
+    at_below here (Some clash) h f = (f.0, (f.1.0, below_from f.0 clash.key f.1.1, later f.0 h f.1.2))
+
+-- ---- the first clash among the children of an element
+
+abbrev pub NoneBefore : Kind → Scope → List Tree → ℕ → Type 0
+NoneBefore row c xs i = (n : ℕ) (p : List ℕ) (key : Key) → n < i → RepeatsAt row c xs (n ∷ p) key → ⊥
+
+-- the i-th child is this one, behind these nodes
+module _ (row : Kind) (c : Scope) (xs : List Tree) (early : List Node) (kid : Tree) (i : ℕ) (there : slice_get xs i ≡ Some kid) (count : i ≡ length (node_kids early)) (before_it : (j : ℕ) → j < length (node_kids early) → slice_get xs j ≡ slice_get (node_kids early) j) where
+  here_to_kid : (p : List ℕ) (key : Key) → RepeatsAt row c xs (i ∷ p) key → RepeatsHere row c early kid p key
+  here_to_kid [] key r =
+      let at : slice_get xs r.earlier ≡ slice_get (node_kids early) r.earlier = before_it r.earlier (subst (λ n. r.earlier < n) count r.comes_first) in
+      (r.shared, (sym (ap (option_and_then (mark_of row c)) there) ∙ r.this, has_mark_from row c r.shared early r.earlier (sym (ap (option_and_then (mark_of row c)) at) ∙ r.that), r.by_key))
+  here_to_kid (n ∷ p) key r =
+      let same = same_Some _ _ (sym r.1.1.0 ∙ there) in
+      (r.1.0, (subst (λ x. kind_of row (inside c x) x.name ≡ Some r.1.0) same r.1.1.1, subst (λ x. RepeatsAt r.1.0 (inside c x) (kids_of x) (n ∷ p) key) same r.1.1.2))
+
+  kid_to_here : (p : List ℕ) (key : Key) → RepeatsHere row c early kid p key → RepeatsAt row c xs (i ∷ p) key
+  kid_to_here [] key r =
+      let m = has_mark_to row c r.0 early r.1.1 in
+      let lt = mark_within row c r.0 (node_kids early) m.0 m.1 in
+      record { shared = r.0; earlier = m.0; comes_first = subst (λ n. m.0 < n) (sym count) lt; that = ap (option_and_then (mark_of row c)) (before_it m.0 lt) ∙ m.1; this = ap (option_and_then (mark_of row c)) there ∙ r.1.0; by_key = r.1.2 }
+  kid_to_here (n ∷ p) key r = (kid, (r.0, (there, r.1.0, r.1.1)))
+
+  no_later : (p : List ℕ) → NoneBefore row c xs i → ((q : List ℕ) (key : Key) → RepeatsHere row c early kid q key → NoLater p q) → (q : List ℕ) (key : Key) → RepeatsAt row c xs q key → NoLater (i ∷ p) q
+  no_later p none first [] key r = r
+  no_later p none first (n ∷ q) key r =
+      elim (cases_lt n i) [
+        | inl lt ↦ absurd (none n q key lt r)
+        | inr ge ↦ elim (cases_lt i n) [
+          | inl lt ↦ inl lt
+          | inr le ↦ (let e : n ≡ i = omega arith in inr (sym e, first q key (here_to_kid q key (subst (λ m. RepeatsAt row c xs (m ∷ q) key) e r))))
+        ]
+      ]
+
+  pub found : (path here : List ℕ) (clash : Clash) → here ≡ path ++ i ∷ [] → NoneBefore row c xs i → IsFirst (RepeatsHere row c early kid) here (Some clash) → IsFirst (RepeatsAt row c xs) path (Some clash)
+  found path here clash is none f = (i ∷ f.0, (f.1.0 ∙ ap (λ x. x ++ f.0) is ∙ append_assoc path (i ∷ []) f.0, kid_to_here f.0 clash.key f.1.1, no_later f.0 none f.1.2))
+
+  pub passed : NoneBefore row c xs i → ((p : List ℕ) (key : Key) → RepeatsHere row c early kid p key → ⊥) → (next : ℕ) → next ≡ suc i → NoneBefore row c xs next
+  passed none not_it next is n p key lt r =
+      elim (cases_lt n i) [
+        | inl less ↦ none n p key less r
+        | inr ge ↦ (let e : n ≡ i = omega arith in not_it p key (here_to_kid p key (subst (λ m. RepeatsAt row c xs (m ∷ p) key) e r)))
+      ]
+
+there_within : (xs : List Tree) (n : ℕ) (kid : Tree) → slice_get xs n ≡ Some kid → n < length xs
+there_within [] n kid h = cc
+there_within (x ∷ xs) zero kid h = omega arith
+there_within (x ∷ xs) (suc n) kid h = let lt = there_within xs n kid h in omega arith
+
+repeats_within : (row : Kind) (c : Scope) (xs : List Tree) (n : ℕ) (p : List ℕ) (key : Key) → RepeatsAt row c xs (n ∷ p) key → n < length xs
+repeats_within row c xs n [] key r = mark_within row c r.shared xs n r.this
+repeats_within row c xs n (m ∷ p) key r = there_within xs n r.0 r.1.1.0
+
+pub none_at_end : (row : Kind) (c : Scope) (xs : List Tree) (i : ℕ) → i ≡ length xs → NoneBefore row c xs i → (p : List ℕ) (key : Key) → RepeatsAt row c xs p key → ⊥
+none_at_end row c xs i is none [] key r = r
+none_at_end row c xs i is none (n ∷ p) key r = none n p key (subst (λ m. n < m) (sym is) (repeats_within row c xs n p key r)) r

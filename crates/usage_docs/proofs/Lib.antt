@@ -1,0 +1,10 @@
+pub mod Addresses
+pub mod CapabilitiesText
+pub mod ClashLemmas
+pub mod ListingLemmas
+pub mod NodesFormed
+pub mod NodesValid
+pub mod Segments
+pub mod TextsRead
+pub mod UriLemmas
+pub mod Words

@@ -1,0 +1,13 @@
+pub mod Capabilities
+pub mod Clashes
+pub mod Forms
+pub mod Indexes
+pub mod Keys
+pub mod Letters
+pub mod Listing
+pub mod Rows
+pub mod Services
+pub mod Siblings
+pub mod Uris
+pub mod Validity
+pub mod Words

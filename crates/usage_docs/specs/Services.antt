@@ -1,0 +1,71 @@
+-- The addresses of a document's services, and the index of the services of many documents. RFC 4826, sections 4.4 and 4.4.7 to
+-- 4.4.8 (the global document rls-services/global/index).
+use Rattle.std.specs.Prelude.{◌≡◌, ℕ, ◌+◌, ◌≤◌, ◌<◌, min, Bool, List, [], ◌∷◌, ◌++◌, Option, None, Some, codes, map, filter, filter_map, flat_map, length, is_some, option_and_then}
+use Rattle.xml_tree.specs.Tree.{Tree, tree_of, kids_of}
+use Rattle.xml_tree.specs.Nodes.{content_of}
+use Rattle.xml_tree.specs.Scopes.{bindings_in}
+use Rattle.xml_tree.specs.Print.{print, byte_len}
+use Rattle.xml_tree.specs.declared.names.Name.{Name}
+use Rattle.xml_tree.specs.declared.names.Decl.{Decl}
+use Rattle.xml_tree.specs.declared.tree.Node.TheVariants.{Elem}
+use Rattle.usage_docs.specs.declared.rows.Kind.TheVariants.{RlsServices}
+use Rattle.usage_docs.specs.declared.rows.Key.TheVariants.{Uri}
+use Rattle.usage_docs.specs.declared.listing.IndexFault.{IndexFault}
+use Rattle.usage_docs.specs.declared.listing.IndexFault.TheVariants.{TooLarge, NoMemory}
+use Rattle.usage_docs.specs.Rows.{Scope, kind_of, services_space}
+use Rattle.usage_docs.specs.Keys.{value_of}
+use Rattle.usage_docs.specs.Clashes.{inside}
+
+-- whether a child of a root is a service, in the scope inside the root
+abbrev pub is_service : Scope → Tree → Bool
+is_service c e = is_some (kind_of RlsServices (inside c e) e.name)
+
+-- the address of a child of a root, if it is a service and has one
+unfoldable pub service_uri : Scope → Tree → Option (List ℕ)
+service_uri c e = option_and_then (λ _. value_of Uri e.attrs) (kind_of RlsServices (inside c e) e.name)
+
+-- the addresses of a document's services, in order
+abbrev pub service_uris : Tree → List (List ℕ)
+service_uris t = filter_map (service_uri (t.decls ∷ [])) (kids_of t)
+
+-- ---- the index
+
+-- a service as the index shows it: with all bindings that it has in its own document
+abbrev pub listed_as : Scope → Tree → Tree
+listed_as c e = tree_of e.name (bindings_in (inside c e)) e.attrs e.content
+
+-- the services of a document, as the index shows them
+abbrev pub listed : Tree → List Tree
+listed t = map (listed_as (t.decls ∷ [])) (filter (is_service (t.decls ∷ [])) (kids_of t))
+
+-- the name and the one declaration of the index
+unfoldable pub index_name : Name
+index_name = record { prefix = codes "rls"; local = codes "rls-services" }
+
+unfoldable pub index_decls : List Decl
+index_decls = record { prefix = codes "rls"; uri = services_space } ∷ []
+
+-- the index of these services
+abbrev pub index_of : List Tree → Tree
+index_of ss = tree_of index_name index_decls [] (content_of (map Elem ss))
+
+-- that of the services of these documents
+abbrev pub index_of_documents : List Tree → Tree
+index_of_documents ts = index_of (flat_map listed ts)
+
+-- the length of a document's print, which has 39 bytes before its root: `<?xml version="1.0" encoding="UTF-8"?>` and a line end
+abbrev pub document_len : Tree → ℕ
+document_len t = 39 + byte_len (print t)
+
+-- the length of the index, printed
+abbrev pub index_len : List Tree → ℕ
+index_len ss = document_len (index_of ss)
+
+-- the greatest length of the index
+abbrev pub index_limit : ℕ
+index_limit = 16777216
+
+-- no index with these services can be: it would be so long, or there is no memory
+abbrev pub RefusesServices : List Tree → IndexFault → Type 0
+RefusesServices ss (TooLarge len) = (index_limit < index_len ss) × (len ≡ min (index_len ss) 18446744073709551615)
+RefusesServices ss NoMemory = Unit {0}

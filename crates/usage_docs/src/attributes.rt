@@ -1,0 +1,155 @@
+//! The attributes of the table's elements, and the keys among them (RFC 4826, sections 3.2 and 4.2).
+ghost use Rattle.std.specs.Prelude.{◌≡◌, Some, None, IsTrue, chars, option_map, if◌then◌else◌, is_some, unwrap_or, not};
+ghost use Rattle.std.specs.List.{list_all};
+ghost use Rattle.usage_docs.specs.Words.{is_ascii};
+ghost use Rattle.usage_docs.specs.Keys.{word, key_of, is_optional, is_key, value_of, key_value, is_other_space, attr_passes, has_needed, attrs_pass, space_of_attr, is_own_word};
+
+use crate::rows::{Key, Kind, is_word, lists_space, services_space};
+use xml_tree::{Attr, Scope};
+
+impl Key {
+    /// The local name of the attribute. Takes no memory.
+    #[tactic(auto, unfolding(crate::specs::Keys::word))]
+    pub fn word(self) -> &'static str
+        ensures value { result.now ≡ word self }
+        ensures ascii { IsTrue (is_ascii result.now) }
+    {
+        match self {
+            Key::Name => "name",
+            Key::Uri => "uri",
+            Key::Ref => "ref",
+            Key::Anchor => "anchor",
+        }
+    }
+
+    // Whether the attribute may be left out.
+    #[tactic(auto, unfolding(crate::specs::Keys::is_optional))]
+    fn is_optional(self) -> bool
+        ensures { result ≡ is_optional self }
+    {
+        matches!(self, Key::Name)
+    }
+}
+
+/// The one attribute without a namespace that a row takes, which is its key. Takes no memory.
+#[tactic(auto, unfolding(crate::specs::Keys::key_of))]
+pub fn key_of(kind: Kind) -> Option<Key>
+    ensures { result ≡ key_of kind }
+{
+    match kind {
+        Kind::EntryList => Some(Key::Name),
+        Kind::Entry => Some(Key::Uri),
+        Kind::EntryRef => Some(Key::Ref),
+        Kind::External => Some(Key::Anchor),
+        Kind::Service => Some(Key::Uri),
+        _ => None,
+    }
+}
+
+// Whether it is the unprefixed attribute of this key.
+fn is_key(key: Key, attr: &Attr) -> bool
+    ensures { result ≡ is_key key attr.now }
+{
+    is_word(attr.name.prefix.as_str(), "") && is_word(attr.name.local.as_str(), key.word())
+}
+
+/// The value of a key, where it is written. Takes no memory.
+#[tactic(auto, unfolding(crate::specs::Keys::value_of))]
+pub fn value_of<'a>(key: Key, attrs: &'a [Attr]) -> Option<&'a str>
+    ensures { option_map (λ value. chars value.now) result ≡ value_of key attrs.now }
+{
+    for attr in attrs {
+        if is_key(key, attr) {
+            return Some(attr.value.as_str());
+        }
+    }
+    None
+}
+
+/// The value of the key that elements of this kind have, where it is written. Takes no memory.
+#[tactic(auto, unfolding(crate::specs::Keys::key_value))]
+pub fn key_value<'a>(kind: Kind, attrs: &'a [Attr]) -> Option<&'a str>
+    ensures { option_map (λ value. chars value.now) result ≡ key_value kind attrs.now }
+{
+    match key_of(kind) {
+        Some(key) => value_of(key, attrs),
+        None => None,
+    }
+}
+
+// The namespace of a prefixed attribute.
+fn space_of<'a>(scope: &Scope<'a>, attr: &Attr) -> &'a str
+    ensures { chars result.now ≡ space_of_attr scope.now attr.now }
+{
+    match scope.resolve(attr.name.prefix.as_str()) {
+        Some(space) => space,
+        None => "",
+    }
+}
+
+// Whether a namespace is of neither document type.
+fn is_other_space(space: &str) -> bool
+    ensures { result ≡ is_other_space (chars space.now) }
+{
+    !is_word(space, lists_space()) && !is_word(space, services_space())
+}
+
+// Whether the local name is that of the row's own attribute.
+fn is_own_word(row: Kind, local: &str) -> bool
+    ensures { result ≡ is_own_word row (chars local.now) }
+{
+    match key_of(row) {
+        Some(key) => is_word(local, key.word()),
+        None => false,
+    }
+}
+
+// Whether an attribute may stand in an element of this row.
+#[tactic(auto, unfolding(crate::specs::Keys::attr_passes))]
+fn attr_passes(row: Kind, scope: &Scope<'_>, attr: &Attr) -> bool
+    ensures { result ≡ attr_passes row scope.now attr.now }
+{
+    if is_word(attr.name.prefix.as_str(), "") {
+        return is_own_word(row, attr.name.local.as_str());
+    }
+    is_other_space(space_of(scope, attr))
+}
+
+// Whether the row's own attribute is there, unless it may be left out.
+#[tactic(auto, unfolding(crate::specs::Keys::has_needed))]
+fn has_needed(row: Kind, attrs: &[Attr]) -> bool
+    ensures { result ≡ has_needed row attrs.now }
+{
+    match key_of(row) {
+        Some(key) => key.is_optional() || has_value(key, attrs),
+        None => true,
+    }
+}
+
+// Whether the attribute of a key is there.
+fn has_value(key: Key, attrs: &[Attr]) -> bool
+    ensures { result ≡ is_some (value_of key attrs.now) }
+{
+    value_of(key, attrs).is_some()
+}
+
+// Whether each attribute may stand in an element of this row.
+fn all_pass(row: Kind, scope: &Scope<'_>, attrs: &[Attr]) -> bool
+    ensures { result ≡ list_all (attr_passes row scope.now) attrs.now }
+{
+    for attr in attrs {
+        if !attr_passes(row, scope, attr) {
+            return false;
+        }
+    }
+    true
+}
+
+/// Whether these may be the attributes of an element of this row, in the scope that ends with its own declarations.
+/// Takes no memory.
+#[tactic(auto, unfolding(crate::specs::Keys::attrs_pass))]
+pub fn attrs_pass(row: Kind, scope: &Scope<'_>, attrs: &[Attr]) -> bool
+    ensures { result ≡ attrs_pass row scope.now attrs.now }
+{
+    all_pass(row, scope, attrs) && has_needed(row, attrs)
+}

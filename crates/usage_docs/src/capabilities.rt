@@ -1,0 +1,77 @@
+//! The capabilities document (RFC 4825, section 12).
+ghost use Rattle.std.specs.Prelude.{◌≡◌, [], IfOk, IsTrue};
+ghost use Rattle.xml_tree.specs.Print.{print};
+ghost use Rattle.usage_docs.specs.Words.{is_ascii};
+ghost use Rattle.usage_docs.specs.Capabilities.{text_elem, around, row, auids, namespaces, capabilities, capabilities_text};
+
+use crate::making::{declaration, name};
+use std::alloc::Global;
+use xml_tree::{Element, NoMemory};
+
+// An element of this name, with nothing in it.
+fn empty(alloc: Global, local: &str) -> Result<Element, NoMemory>
+    requires { IsTrue (is_ascii local.now) }
+    ensures { IfOk result (λ made. made ≡ around local.now (row [])) }
+{
+    Ok(Element::new(alloc, name(alloc, "", local)?))
+}
+
+// An element of this name, with this text.
+#[tactic(auto, using(crate::proofs::Words::chars_ascii))]
+fn text_elem(alloc: Global, local: &str, text: &str) -> Result<Element, NoMemory>
+    requires local { IsTrue (is_ascii local.now) }
+    requires text { IsTrue (is_ascii text.now) }
+    ensures { IfOk result (λ made. made ≡ text_elem local.now text.now) }
+{
+    let mut made = empty(alloc, local)?;
+    made.push_chars(text)?;
+    Ok(made)
+}
+
+// The application usages.
+fn auids(alloc: Global) -> Result<Element, NoMemory>
+    ensures { IfOk result (λ made. made ≡ auids) }
+{
+    let mut made = empty(alloc, "auids")?;
+    made.push_elem(text_elem(alloc, "auid", "resource-lists")?)?;
+    made.push_elem(text_elem(alloc, "auid", "rls-services")?)?;
+    made.push_elem(text_elem(alloc, "auid", "xcap-caps")?)?;
+    Ok(made)
+}
+
+// The namespaces.
+fn namespaces(alloc: Global) -> Result<Element, NoMemory>
+    ensures { IfOk result (λ made. made ≡ namespaces) }
+{
+    let mut made = empty(alloc, "namespaces")?;
+    made.push_elem(text_elem(alloc, "namespace", "urn:ietf:params:xml:ns:resource-lists")?)?;
+    made.push_elem(text_elem(alloc, "namespace", "urn:ietf:params:xml:ns:rls-services")?)?;
+    made.push_elem(text_elem(alloc, "namespace", "urn:ietf:params:xml:ns:xcap-caps")?)?;
+    made.push_elem(text_elem(alloc, "namespace", "urn:ietf:params:xml:ns:xcap-diff")?)?;
+    made.push_elem(text_elem(alloc, "namespace", "urn:ietf:params:xml:ns:xcap-error")?)?;
+    Ok(made)
+}
+
+// The document, made part by part.
+fn capabilities(alloc: Global) -> Result<Element, NoMemory>
+    ensures { IfOk result (λ made. made ≡ capabilities) }
+{
+    let mut made = empty(alloc, "xcap-caps")?;
+    made.push_decl(declaration(alloc, "", "urn:ietf:params:xml:ns:xcap-caps")?)?;
+    made.push_elem(auids(alloc)?)?;
+    made.push_elem(empty(alloc, "extensions")?)?;
+    made.push_elem(namespaces(alloc)?)?;
+    Ok(made)
+}
+
+/// The document xcap-caps/global/index.
+///
+/// # Errors
+/// `NoMemory` for want of memory.
+pub fn caps(alloc: Global) -> Result<Element, NoMemory>
+    ensures tree { IfOk result (λ root. root ≡ capabilities) }
+    ensures text { IfOk result (λ root. print root ≡ capabilities_text) }
+{
+    let root = capabilities(alloc)?;
+    Ok(root)
+}

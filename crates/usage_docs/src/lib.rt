@@ -1,0 +1,24 @@
+//! The documents resource-lists and rls-services as one table, with their keys and references, the index of services and the
+//! capabilities document. Promises upward: validity, the first clash, constraints and computed documents, each exactly.
+//! The standard is RFC 4826; the capabilities are those of RFC 4825, section 12.
+#![tactic(auto)]
+
+mod attributes;
+mod capabilities;
+mod forms;
+mod keys;
+mod letters;
+mod listing;
+mod making;
+mod rows;
+mod uris;
+mod validity;
+
+pub use attributes::{attrs_pass, key_of, key_value, value_of};
+pub use capabilities::caps;
+pub use forms::{all_formed, constraints, is_formed};
+pub use keys::{Clash, first_clash};
+pub use listing::{INDEX_LIMIT, IndexFault, IndexMaker};
+pub use rows::{END, Key, Kind, Usage, follows, is_root, kind_of, part_of, root_kind};
+pub use uris::{ServiceUris, services};
+pub use validity::{is_valid_child, is_valid_in_row, schema};

@@ -1,0 +1,206 @@
+//! The index of the services of many documents (RFC 4826, section 4).
+ghost use Rattle.std.specs.Prelude.{◌≡◌, ◌≤◌, ◌+◌, ◌∷◌, [], ◌++◌, map, min, length, IfOk, IfErr, OnOk, OnErr};
+ghost use Rattle.xml_tree.specs.declared.tree.Node.TheVariants.{Elem};
+ghost use Rattle.usage_docs.specs.declared.listing.IndexFault.TheVariants as IndexFault;
+ghost use Rattle.usage_docs.specs.Services.{is_service, listed_as, listed, index_of};
+ghost use Rattle.usage_docs.specs.Listing.{listed_nodes, elem_len, elems_len};
+ghost use Rattle.usage_docs.specs.Indexes.{len_with};
+
+use crate::making::{declaration, name};
+use crate::rows::{Kind, kind_of, services_space};
+use std::alloc::Global;
+use std::marker::Model;
+use xml_tree::{Element, NoMemory, Node, Scope, copy_tree, printed_len};
+
+/// Why a document's services can't be added to an index.
+#[derive(Debug, Drop)]
+pub enum IndexFault {
+    /// The index would have so many bytes, printed, and that is too many.
+    TooLarge(usize),
+    NoMemory,
+}
+
+impl From<NoMemory> for IndexFault {
+    ghost from_gives = { λ _ fault. fault ≡ IndexFault.NoMemory };
+
+    fn from(_error: NoMemory) -> IndexFault {
+        IndexFault::NoMemory
+    }
+}
+
+/// The greatest length of the index, printed, in bytes.
+pub const INDEX_LIMIT: usize = 16_777_216;
+
+// The length of the index without services.
+const EMPTY_LEN: usize = 106;
+
+// The length of what stands around the services.
+const AROUND_LEN: usize = 124;
+
+/// An index in the making. Contracts see the services that it has.
+#[derive(Drop)]
+pub struct IndexMaker {
+    alloc: Global,
+    root: Element,
+    inner: usize,
+}
+
+impl Model for IndexMaker {
+    ghost use Rattle.std.specs.Prelude.{List};
+    ghost use Rattle.std.specs.Coded.{coded_list};
+    ghost use Rattle.xml_tree.specs.Tree.{Tree, tree_code};
+
+    ghost Value = { List Tree };
+
+    ghost coded = { coded_list tree_code };
+
+    ghost use Rattle.xml_tree.specs.Tree.{kids_of};
+    ghost use Rattle.usage_docs.specs.Indexes.{IsIndex};
+
+    ghost view = { λ m. kids_of m.root };
+
+    ghost invariant = { λ m. IsIndex m.root m.inner };
+}
+
+// Whether a child of a root, in the scope inside the root, is a service.
+fn is_service<'a>(scope: &Scope<'a>, kid: &'a Element) -> bool
+    requires { length scope.now ≤ 1 }
+    ensures { result ≡ is_service scope.now kid.now }
+{
+    let inside = scope.with(kid.decls());
+    kind_of(Kind::RlsServices, &inside, kid.name()).is_some()
+}
+
+// A service as the index shows it.
+fn listed_as<'a>(alloc: Global, scope: &Scope<'a>, kid: &'a Element) -> Result<Element, NoMemory>
+    requires { length scope.now ≤ 1 }
+    ensures { IfOk result (λ made. made ≡ listed_as scope.now kid.now) }
+{
+    let bindings = scope.with(kid.decls()).bindings(alloc)?;
+    let mut made = copy_tree(alloc, kid)?;
+    let _ = made.exchange_decls(bindings);
+    Ok(made)
+}
+
+// Adds a node to services as the index shows them, if it is one.
+fn push_listed<'a>(
+    alloc: Global,
+    scope: &Scope<'a>,
+    node: &'a Node,
+    made: &mut Vec<Node>,
+) -> Result<(), NoMemory>
+    requires { length scope.now ≤ 1 }
+    ensures { OnOk result (made.new.items ≡ made.old.items ++ listed_nodes scope.now (node.now ∷ [])) }
+{
+    if let Node::Elem(kid) = node {
+        if is_service(scope, kid) {
+            made.push(Node::Elem(listed_as(alloc, scope, kid)?))?;
+        }
+    }
+    Ok(())
+}
+
+// The services of a document, as the index shows them.
+fn listed(alloc: Global, root: &Element) -> Result<Vec<Node>, NoMemory>
+    ensures { IfOk result (λ made. made.items ≡ map Elem (listed root.now)) }
+{
+    let scope = Scope::empty().with(root.decls());
+    let mut made = Vec::new(alloc);
+    for node in root.nodes() {
+        push_listed(alloc, &scope, node, &mut made)?;
+    }
+    Ok(made)
+}
+
+// The printed length of an element that is a node.
+fn elem_len(node: &Node) -> usize
+    ensures { result ≡ min (elem_len node.now) usize.MAX }
+{
+    match node {
+        Node::Elem(element) => printed_len(element),
+        Node::Chars(_) => 0,
+        Node::Comment(_) => 0,
+    }
+}
+
+// The printed length of elements.
+fn elems_len(nodes: &[Node]) -> usize
+    ensures { result ≡ min (elems_len nodes.now) usize.MAX }
+{
+    let mut total = 0usize;
+    for node in nodes {
+        total = total.saturating_add(elem_len(node));
+    }
+    total
+}
+
+// The length of an index whose services have this length.
+fn len_with(inner: usize) -> usize
+    ensures { result ≡ len_with inner }
+{
+    if inner == 0 {
+        EMPTY_LEN
+    } else {
+        inner.saturating_add(AROUND_LEN)
+    }
+}
+
+impl IndexMaker {
+    ghost use Rattle.usage_docs.specs.Services.{listed, index_of, index_len, index_limit, RefusesServices};
+
+    /// An index without services.
+    ///
+    /// # Errors
+    /// `NoMemory` for want of memory.
+    pub fn new(alloc: Global) -> Result<IndexMaker, NoMemory>
+        ensures { IfOk result (λ made. made ≡ []) }
+    {
+        let root = empty_index(alloc)?;
+        Ok(IndexMaker {
+            alloc,
+            root,
+            inner: 0,
+        })
+    }
+
+    /// Adds the services of an rls-services document behind those that are there.
+    ///
+    /// # Errors
+    /// `TooLarge` exactly where the printed index would have more than 16,777,216 bytes, with their number; else `NoMemory`.
+    /// The index is then as before.
+    pub fn add(&mut self, root: &Element) -> Result<(), IndexFault>
+        ensures ok { OnOk result (self.new ≡ self.old ++ listed root.now) }
+        ensures err { OnErr result (self.new ≡ self.old) }
+        ensures fits { OnOk result (index_len self.new ≤ index_limit) }
+        ensures refused { IfErr result (λ fault. RefusesServices (self.old ++ listed root.now) fault) }
+    {
+        let services = listed(self.alloc, root)?;
+        let inner = self.inner.saturating_add(elems_len(&services));
+        let len = len_with(inner);
+        if len > INDEX_LIMIT {
+            return Err(IndexFault::TooLarge(len));
+        }
+        let end = self.root.nodes().len();
+        self.root.exchange_nodes(end, end, services)?;
+        self.inner = inner;
+        Ok(())
+    }
+
+    /// The index. Takes no memory.
+    pub fn finish(self) -> Element
+        ensures { result ≡ index_of self }
+    {
+        let IndexMaker { root, .. } = self;
+        root
+    }
+}
+
+// The index without services.
+#[tactic(auto, unfolding(crate::specs::Services::index_name, crate::specs::Services::index_decls))]
+fn empty_index(alloc: Global) -> Result<Element, NoMemory>
+    ensures { IfOk result (λ made. made ≡ index_of []) }
+{
+    let mut root = Element::new(alloc, name(alloc, "rls", "rls-services")?);
+    root.push_decl(declaration(alloc, "rls", services_space())?)?;
+    Ok(root)
+}

@@ -1,0 +1,37 @@
+//! Names, declarations and elements made of words of ASCII.
+ghost use Rattle.std.specs.Prelude.{◌≡◌, IfOk, IsTrue};
+ghost use Rattle.usage_docs.specs.Words.{is_ascii, name_of, declaration_of};
+
+use std::alloc::Global;
+use xml_tree::{Decl, Name, NoMemory, Text};
+
+// A text of these letters.
+#[tactic(auto, using(crate::proofs::Words::chars_ascii))]
+fn text(alloc: Global, word: &str) -> Result<Text, NoMemory>
+    requires { IsTrue (is_ascii word.now) }
+    ensures { IfOk result (λ made. made ≡ word.now) }
+{
+    Text::from(alloc, word)
+}
+
+/// A name.
+pub(crate) fn name(alloc: Global, prefix: &str, local: &str) -> Result<Name, NoMemory>
+    requires prefix { IsTrue (is_ascii prefix.now) }
+    requires local { IsTrue (is_ascii local.now) }
+    ensures { IfOk result (λ made. made ≡ name_of prefix.now local.now) }
+{
+    let prefix = text(alloc, prefix)?;
+    let local = text(alloc, local)?;
+    Ok(Name { prefix, local })
+}
+
+/// A declaration.
+pub(crate) fn declaration(alloc: Global, prefix: &str, uri: &str) -> Result<Decl, NoMemory>
+    requires prefix { IsTrue (is_ascii prefix.now) }
+    requires uri { IsTrue (is_ascii uri.now) }
+    ensures { IfOk result (λ made. made ≡ declaration_of prefix.now uri.now) }
+{
+    let prefix = text(alloc, prefix)?;
+    let uri = text(alloc, uri)?;
+    Ok(Decl { prefix, uri })
+}

@@ -1,0 +1,309 @@
+//! The table: what an element may hold, by its kind (RFC 4826, sections 3.2 and 4.2).
+ghost use Rattle.std.specs.Prelude.{◌≡◌, Some, None, IsTrue, chars, if◌then◌else◌};
+ghost use Rattle.usage_docs.specs.Words.{is_ascii};
+ghost use Rattle.std.specs.Str.{bytes_eq};
+ghost use Rattle.usage_docs.specs.declared.rows.Kind.TheVariants as Kind;
+ghost use Rattle.usage_docs.specs.Rows.{lists_space, services_space, root_kind, root_word, own_space, child_named, part_named, foreign_part, single_parts, needs_first, follows, space_of, kind_by, is_foreign, part_by, kind_of, part_of, is_root};
+
+use xml_tree::{Name, Scope, Text};
+
+/// A type of document that is stored.
+#[derive(Debug, Clone, Copy, PartialEq, Eq)]
+pub enum Usage {
+    /// Lists of a user's contacts (RFC 4826, section 3).
+    ResourceLists,
+    /// Services that stand for a list (RFC 4826, section 4).
+    RlsServices,
+}
+
+/// A kind of element: a row of the table.
+#[derive(Debug, Clone, Copy, PartialEq, Eq)]
+pub enum Kind {
+    /// The root of a resource-lists document.
+    ResourceLists,
+    /// A `list`, of either namespace.
+    EntryList,
+    Entry,
+    EntryRef,
+    External,
+    DisplayName,
+    /// The root of an rls-services document.
+    RlsServices,
+    Service,
+    ResourceList,
+    Packages,
+    Package,
+}
+
+/// An attribute without a namespace, which is the key of its element.
+#[derive(Debug, Clone, Copy, PartialEq, Eq)]
+pub enum Key {
+    Name,
+    Uri,
+    Ref,
+    Anchor,
+}
+
+const LISTS: &str = "urn:ietf:params:xml:ns:resource-lists";
+
+const SERVICES: &str = "urn:ietf:params:xml:ns:rls-services";
+
+// The namespace of resource-lists.
+#[tactic(auto, unfolding(crate::specs::Rows::lists_space))]
+pub(crate) fn lists_space() -> &'static str
+    ensures value { result.now ≡ lists_space }
+    ensures ascii { IsTrue (is_ascii result.now) }
+{
+    LISTS
+}
+
+// The namespace of rls-services.
+#[tactic(auto, unfolding(crate::specs::Rows::services_space))]
+pub(crate) fn services_space() -> &'static str
+    ensures value { result.now ≡ services_space }
+    ensures ascii { IsTrue (is_ascii result.now) }
+{
+    SERVICES
+}
+
+/// The kind of a document's root.
+#[tactic(auto, unfolding(crate::specs::Rows::root_kind))]
+pub fn root_kind(usage: Usage) -> Kind
+    ensures { result ≡ root_kind usage }
+{
+    match usage {
+        Usage::ResourceLists => Kind::ResourceLists,
+        Usage::RlsServices => Kind::RlsServices,
+    }
+}
+
+// The local name of a document's root.
+#[tactic(auto, unfolding(crate::specs::Rows::root_word))]
+fn root_word(usage: Usage) -> &'static str
+    ensures value { result.now ≡ root_word usage }
+    ensures ascii { IsTrue (is_ascii result.now) }
+{
+    match usage {
+        Usage::ResourceLists => "resource-lists",
+        Usage::RlsServices => "rls-services",
+    }
+}
+
+// The namespace of a row's children.
+#[tactic(auto, unfolding(crate::specs::Rows::own_space))]
+fn own_space(row: Kind) -> &'static str
+    ensures value { result.now ≡ own_space row }
+    ensures ascii { IsTrue (is_ascii result.now) }
+{
+    match row {
+        Kind::ResourceLists
+        | Kind::EntryList
+        | Kind::Entry
+        | Kind::EntryRef
+        | Kind::External
+        | Kind::DisplayName => lists_space(),
+        Kind::RlsServices | Kind::Service | Kind::ResourceList | Kind::Packages | Kind::Package =>
+            services_space(),
+    }
+}
+
+// What a child of the row's namespace is, by its local name.
+#[tactic(auto, unfolding(crate::specs::Rows::child_named))]
+fn child_named(row: Kind, local: &Text) -> Option<Kind>
+    ensures { result ≡ child_named row local.now }
+{
+    match row {
+        Kind::ResourceLists => only(local, "list", Kind::EntryList),
+        Kind::EntryList => child_of_list(local),
+        Kind::Entry => only(local, "display-name", Kind::DisplayName),
+        Kind::EntryRef => only(local, "display-name", Kind::DisplayName),
+        Kind::External => only(local, "display-name", Kind::DisplayName),
+        Kind::RlsServices => only(local, "service", Kind::Service),
+        Kind::Service => child_of_service(local),
+        Kind::Packages => only(local, "package", Kind::Package),
+        Kind::DisplayName | Kind::ResourceList | Kind::Package => None,
+    }
+}
+
+// This kind, where the name is this word.
+fn only(local: &Text, word: &str, kind: Kind) -> Option<Kind>
+    requires { IsTrue (is_ascii word.now) }
+    ensures { result ≡ (if bytes_eq local.now word.now then Some kind else None) }
+{
+    if is_word(local.as_str(), word) {
+        Some(kind)
+    } else {
+        None
+    }
+}
+
+// A child of a list.
+#[tactic(auto, unfolding(crate::specs::Rows::child_named))]
+fn child_of_list(local: &Text) -> Option<Kind>
+    ensures { result ≡ child_named Kind.EntryList local.now }
+{
+    if is_word(local.as_str(), "display-name") {
+        return Some(Kind::DisplayName);
+    }
+    if is_word(local.as_str(), "list") {
+        return Some(Kind::EntryList);
+    }
+    if is_word(local.as_str(), "external") {
+        return Some(Kind::External);
+    }
+    if is_word(local.as_str(), "entry") {
+        return Some(Kind::Entry);
+    }
+    only(local, "entry-ref", Kind::EntryRef)
+}
+
+// A child of a service.
+#[tactic(auto, unfolding(crate::specs::Rows::child_named))]
+fn child_of_service(local: &Text) -> Option<Kind>
+    ensures { result ≡ child_named Kind.Service local.now }
+{
+    if is_word(local.as_str(), "resource-list") {
+        return Some(Kind::ResourceList);
+    }
+    if is_word(local.as_str(), "list") {
+        return Some(Kind::EntryList);
+    }
+    only(local, "packages", Kind::Packages)
+}
+
+// The part of a child of some kind.
+#[tactic(auto, unfolding(crate::specs::Rows::part_named))]
+fn part_named(row: Kind, kind: Kind) -> u8
+    ensures { result ≡ part_named row kind }
+{
+    match (row, kind) {
+        (Kind::EntryList, Kind::DisplayName) => 1,
+        (Kind::EntryList, _) => 2,
+        (Kind::Service, Kind::Packages) => 2,
+        _ => 1,
+    }
+}
+
+// The part of the foreign elements.
+#[tactic(auto, unfolding(crate::specs::Rows::foreign_part))]
+fn foreign_part(row: Kind) -> u8
+    ensures { result ≡ foreign_part row }
+{
+    match row {
+        Kind::EntryList | Kind::Service => 3,
+        Kind::Entry | Kind::EntryRef | Kind::External => 2,
+        Kind::Packages => 1,
+        _ => 0,
+    }
+}
+
+// How many of the first parts are of one child at most.
+#[tactic(auto, unfolding(crate::specs::Rows::single_parts))]
+fn single_parts(row: Kind) -> u8
+    ensures { result ≡ single_parts row }
+{
+    match row {
+        Kind::Service => 2,
+        Kind::EntryList | Kind::Entry | Kind::EntryRef | Kind::External => 1,
+        _ => 0,
+    }
+}
+
+// Whether the first part has to be there.
+#[tactic(auto, unfolding(crate::specs::Rows::needs_first))]
+fn needs_first(row: Kind) -> bool
+    ensures { result ≡ needs_first row }
+{
+    matches!(row, Kind::Service)
+}
+
+/// Whether a child of the part `next` may stand directly behind one of the part `before`, in an element of this row.
+/// Parts count from 1; before the first child stands part 0, behind the last one the part `END`. Takes no memory.
+#[tactic(auto, unfolding(crate::specs::Rows::follows))]
+pub fn follows(row: Kind, before: u8, next: u8) -> bool
+    ensures { result ≡ follows row before next }
+{
+    let in_order = before < next || (before == next && single_parts(row) < next);
+    let passed_over = needs_first(row) && before == 0 && 1 < next;
+    in_order && !passed_over
+}
+
+/// The part behind the last child.
+pub const END: u8 = 4;
+
+// The namespace of an element's name, in the scope that ends with its own declarations.
+fn space_of<'a>(scope: &Scope<'a>, name: &Name) -> &'a str
+    ensures { chars result.now ≡ space_of scope.now name.now }
+{
+    match scope.resolve(name.prefix.as_str()) {
+        Some(space) => space,
+        None => "",
+    }
+}
+
+// Whether a text is this word of ASCII.
+pub(crate) fn is_word(text: &str, word: &str) -> bool
+    requires { IsTrue (is_ascii word.now) }
+    ensures { result ≡ bytes_eq (chars text.now) word.now }
+{
+    text == word
+}
+
+// A child's kind by its expanded name.
+fn kind_by(row: Kind, space: &str, local: &Text) -> Option<Kind>
+    ensures { result ≡ kind_by row (chars space.now) local.now }
+{
+    if is_word(space, own_space(row)) {
+        child_named(row, local)
+    } else {
+        None
+    }
+}
+
+// Whether an element of this namespace is foreign to the row.
+fn is_foreign(row: Kind, space: &str) -> bool
+    ensures { result ≡ is_foreign row (chars space.now) }
+{
+    !is_word(space, own_space(row)) && !is_word(space, "")
+}
+
+/// The kind of a child, by the row of its parent and the scope that ends with its own declarations. Foreign elements and
+/// those that may not stand have none. Takes no memory.
+#[tactic(auto, unfolding(crate::specs::Rows::kind_of))]
+pub fn kind_of(row: Kind, scope: &Scope<'_>, name: &Name) -> Option<Kind>
+    ensures { result ≡ kind_of row scope.now name.now }
+{
+    kind_by(row, space_of(scope, name), &name.local)
+}
+
+/// The part that a child belongs to, counted from 1; 0 where it may not stand. Takes no memory.
+#[tactic(auto, unfolding(crate::specs::Rows::part_of))]
+pub fn part_of(row: Kind, scope: &Scope<'_>, name: &Name) -> u8
+    ensures { result ≡ part_of row scope.now name.now }
+{
+    let space = space_of(scope, name);
+    match kind_by(row, space, &name.local) {
+        Some(kind) => part_named(row, kind),
+        None => part_without_kind(row, space),
+    }
+}
+
+// The part of a child that has no kind.
+fn part_without_kind(row: Kind, space: &str) -> u8
+    ensures { result ≡ (if is_foreign row (chars space.now) then foreign_part row else 0) }
+{
+    if is_foreign(row, space) {
+        foreign_part(row)
+    } else {
+        0
+    }
+}
+
+/// Whether a name is that of a document's root, in the scope of the root's declarations. Takes no memory.
+#[tactic(auto, unfolding(crate::specs::Rows::is_root))]
+pub fn is_root(usage: Usage, scope: &Scope<'_>, name: &Name) -> bool
+    ensures { result ≡ is_root usage scope.now name.now }
+{
+    is_word(space_of(scope, name), own_space(root_kind(usage)))
+        && is_word(name.local.as_str(), root_word(usage))
+}
