@@ -108,7 +108,7 @@ unfolding zero_line
 is_zero_line = (record { some = omega arith; few = omega arith; digits = refl; pad = refl; extension = refl; short = omega arith }, refl)
 
 -- bytes that go on to a whole body
-becomes_body : (raw more : List ℕ) (c : ChunkedBody) → IsBody c → raw ++ more ≡ print_body c → MayBecomeBody raw
+pub becomes_body : (raw more : List ℕ) (c : ChunkedBody) → IsBody c → raw ++ more ≡ print_body c → MayBecomeBody raw
 becomes_body raw more c is same = (more, c, (is, same ∙ sym (append-nil (print_body c))))
 
 -- bytes that go on to whole chunks
@@ -124,7 +124,7 @@ print_chunks-push : (chunks : List Chunk) (c : Chunk) → print_chunks (chunks +
 print_chunks-push chunks c = flat_map-append print_chunk chunks (c ∷ []) ∙ ap (λ (l : List ℕ). print_chunks chunks ++ l) (append-nil (print_chunk c))
 
 -- bytes that go on to whole chunks and one more chunk line
-becomes_line : (raw more : List ℕ) (chunks : List Chunk) (line : ChunkLine) → AllByRecursion IsChunk chunks → IsLine line → raw ++ more ≡ print_chunks chunks ++ print_line line → MayBecomeBody raw
+pub becomes_line : (raw more : List ℕ) (chunks : List Chunk) (line : ChunkLine) → AllByRecursion IsChunk chunks → IsLine line → raw ++ more ≡ print_chunks chunks ++ print_line line → MayBecomeBody raw
 becomes_line raw more chunks line are is same = elim (cases_eq (chunk_size line) 0) [
   | inl none ↦ (
       let c : ChunkedBody = record { chunks = chunks; last = line; trailers = [] } in

@@ -24,7 +24,7 @@ begins-append bytes more head rest begins = record {
 }
 
 -- a text that is no longer than the front lies in it
-lies_in_front : (front behind text rest : List ℕ) → front ++ behind ≡ text ++ rest → length text ≤ length front → front ≡ text ++ take (length front - length text) rest
+pub lies_in_front : (front behind text rest : List ℕ) → front ++ behind ≡ text ++ rest → length text ≤ length front → front ≡ text ++ take (length front - length text) rest
 lies_in_front front behind text rest same short =
     sym (take_at front behind (length front) refl)
     ∙ ap (take (length front)) same

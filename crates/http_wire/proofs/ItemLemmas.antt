@@ -220,7 +220,7 @@ chunks_cut before held left body held' left' headers spans o d =
     asks_read before held d.read left left' Bad held' d.given (inr (no_body (follows_at held d.read headers spans Chunked HasNoBodyYet o d.outcome.0), d.outcome.1))
 
 -- more bytes behind those that pass the limit
-passes-append : (bytes more : List ℕ) → PassesLimit bytes → PassesLimit (bytes ++ more)
+pub passes-append : (bytes more : List ℕ) → PassesLimit bytes → PassesLimit (bytes ++ more)
 passes-append bytes more p = record {
   chunks = p.chunks;
   line = p.line;

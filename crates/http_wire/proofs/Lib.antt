@@ -8,3 +8,6 @@ pub mod BodyRuns
 pub mod BodyFacts
 pub mod ItemLemmas
 pub mod DecodingLemmas
+pub mod OneTalk
+pub mod WholeItems
+pub mod Connections

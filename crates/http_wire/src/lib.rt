@@ -7,10 +7,14 @@ mod chunks;
 mod decoding;
 mod framing;
 mod heads;
+mod laws;
+mod replies;
 mod request;
 mod requests;
 mod wire;
 
+pub use laws::{bytes_have_one_talk, whole_items_stay};
+pub use replies::write_reply;
 pub use request::{Asked, Field, Request};
 pub use requests::next_request;
 pub use wire::{ReadFault, Wire};
