@@ -1,0 +1,256 @@
+-- Items, by what was found at the front of the bytes given.
+use Rattle.std.proofs.Common.{◌≡◌, ℕ, ◌+◌, ◌-◌, ◌<◌, ◌≤◌, ◌⊎◌, inl, inr, Bool, ◌==◌, ◌||◌, List, [], ◌∷◌, ◌++◌, length, take, drop, map, slice_range, Option, None, Some, Result, Ok, Err, MatchResult, refl, sym, ap, subst, ◌∙◌, arith, length-append, length-drop, append_assoc, take-append-drop}
+use Rattle.std.proofs.lemmas.List.{append-nil, drop-drop, drop-append-le, length-take-le, take_at, drop_all}
+use Rattle.std.proofs.lemmas.List.Elements.{recursion_from_All}
+use Rattle.std.proofs.KnownBytes.{Consumes-nil, Consumes-trans}
+use Rattle.std.specs.Io.KnownBytes.{Consumes, IsAtEnd}
+use Rattle.httparse.specs.Grammar.{RequestHead, ReadsRequest, print_request}
+use Rattle.httparse.specs.Spans.{header_bytes, span_bytes, name_and_value}
+use Rattle.httparse.specs.declared.spans.HeaderSpan.{HeaderSpan}
+use Rattle.httparse.specs.declared.spans.RequestSpans.{RequestSpans}
+use Rattle.http_wire.specs.declared.framing.Framing.{Framing}
+use Rattle.http_wire.specs.declared.framing.Framing.TheVariants.{Bad as BadFields, Coded as OtherCoding, TooLong as LongBody, Length, Chunked}
+use Rattle.http_wire.specs.declared.decoding.Decoded.TheVariants.{Whole, TooLong as LongChunks, Bad as BadChunks, Cut}
+use Rattle.http_wire.specs.declared.request.Field.{Field}
+use Rattle.http_wire.specs.declared.request.Request.{Request}
+use Rattle.http_wire.specs.declared.request.Asked.{Asked}
+use Rattle.http_wire.specs.declared.request.Asked.TheVariants.{Request as Requested, Bad, TooLong, Coded, End, NoMemory}
+use Rattle.http_wire.specs.Fields.{asks_to_close}
+use Rattle.http_wire.specs.Framing.{framing}
+use Rattle.http_wire.specs.Heads.{BeginsWithHead, HasNoHead, NeverHasHead}
+use Rattle.http_wire.specs.Chunked.{print_line, print_chunks, joined, HasNoBody, MayBecomeBody, PassesLimit}
+use Rattle.http_wire.specs.Items.{Item, asks, bad, too_long, coded, field_of, ends_after, request_of, Opens, Follows, IsFramed, AsksFor, IsBad, bad_fields, body_cut, no_head, no_body, IsTooLong, long_body, long_chunks, FirstItem, IsUnfinished, lacks_head, lacks_body, lacks_chunks}
+use Rattle.http_wire.specs.Asking.{IsNext, IsAsked, Asks}
+use Rattle.http_wire.specs.Inflow.{Gains, IsHeadAt, IsOpenAt, HasBody, HasNoBodyYet, Decodes}
+use Rattle.http_wire.proofs.Fronts.{begins-append, head_at-append, head_at_front}
+
+-- Reads, one after the other.
+
+pub gains_none : (held : List ℕ) (left : Option (List ℕ)) → Gains held held left left
+gains_none held left = record { read = []; added = sym (append-nil held); given = Consumes-nil left }
+
+pub gains_on : (a b c : List ℕ) (l m n : Option (List ℕ)) → Gains a b l m → Gains b c m n → Gains a c l n
+gains_on a b c l m n first next = record {
+  read = first.read ++ next.read;
+  added = next.added ∙ ap (λ (s : List ℕ). s ++ next.read) first.added ∙ append_assoc a first.read next.read;
+  given = Consumes-trans l m n first.read next.read first.given next.given;
+}
+
+-- an answer by the bytes that are held
+pub asks_now : {E : Type 0} (before : ℕ) (held : List ℕ) (left : Option (List ℕ)) (asked : Asked) (held' : List ℕ) → IsAsked before held left asked held' → Asks {E = E} before held left (Ok asked) held' left
+asks_now before held left asked held' is = record {
+  read = [];
+  given = Consumes-nil left;
+  answer = subst (λ (l : List ℕ). IsAsked before l left asked held') (sym (append-nil held)) is;
+}
+
+-- an answer by bytes that were read before and those read then
+pub asks_after : {E : Type 0} (before : ℕ) (held mid : List ℕ) (left left1 : Option (List ℕ)) (result : Result Asked E) (held' : List ℕ) (left' : Option (List ℕ)) → Gains held mid left left1 → Asks before mid left1 result held' left' → Asks before held left result held' left'
+asks_after {E} before held mid left left1 result held' left' gains then = record {
+  read = gains.read ++ then.read;
+  given = Consumes-trans left left1 left' gains.read then.read gains.given then.given;
+  answer = moved result (ap (λ (l : List ℕ). l ++ then.read) gains.added ∙ append_assoc held gains.read then.read) then.answer;
+}
+  where
+    moved : (r : Result Asked E) → mid ++ then.read ≡ held ++ (gains.read ++ then.read)
+        → MatchResult r (λ asked. IsAsked before (mid ++ then.read) left' asked held') (λ _. IsUnfinished (mid ++ then.read))
+        → MatchResult r (λ asked. IsAsked before (held ++ (gains.read ++ then.read)) left' asked held') (λ _. IsUnfinished (held ++ (gains.read ++ then.read)))
+    moved (Ok asked) same is = subst (λ (l : List ℕ). IsAsked before l left' asked held') same is
+    moved (Err e) same is = subst IsUnfinished same is
+
+-- a read failed, and no item lies whole in the bytes given
+pub asks_failed : {E : Type 0} (before : ℕ) (held mid : List ℕ) (left left' : Option (List ℕ)) (e : E) → Gains held mid left left' → IsUnfinished mid → Asks before held left (Err e) mid left'
+asks_failed before held mid left left' e gains is = record {
+  read = gains.read;
+  given = gains.given;
+  answer = subst IsUnfinished gains.added is;
+}
+
+-- A head at the front, and what its fields say.
+
+pub opens-append : (bytes more : List ℕ) (head : RequestHead) (what : Framing) (rest : List ℕ) → Opens bytes head what rest → Opens (bytes ++ more) head what (rest ++ more)
+opens-append bytes more head what rest opens = record { begins = begins-append bytes more head rest opens.begins; framed = opens.framed }
+
+-- what was found at the front stands there after more reads
+pub open_at-append : (held more : List ℕ) (headers : List HeaderSpan) (spans : RequestSpans) (what : Framing) → IsOpenAt held headers spans what → IsOpenAt (held ++ more) headers spans what
+open_at-append held more headers spans what o = record { head = o.head; at = head_at-append held more headers spans o.head o.at; framed = o.framed }
+
+pub open_gains : (held held' : List ℕ) (left left' : Option (List ℕ)) (headers : List HeaderSpan) (spans : RequestSpans) (what : Framing) → IsOpenAt held headers spans what → Gains held held' left left' → IsOpenAt held' headers spans what
+open_gains held held' left left' headers spans what o gains = subst (λ (l : List ℕ). IsOpenAt l headers spans what) (sym gains.added) (open_at-append held gains.read headers spans what o)
+
+pub opens_at : (held : List ℕ) (headers : List HeaderSpan) (spans : RequestSpans) (what : Framing) (o : IsOpenAt held headers spans what) → Opens held o.head what (drop spans.len held)
+opens_at held headers spans what o = record { begins = o.at.begins; framed = o.framed }
+
+-- what the spans say is what the fields of the head say
+pub framed_at : (held : List ℕ) (headers : List HeaderSpan) (spans : RequestSpans) (head : RequestHead) → IsHeadAt held headers spans head → framing spans.version (map (header_bytes held) (take spans.headers headers)) ≡ framing head.minor (map name_and_value head.fields)
+framed_at held headers spans head at = ap (λ (v : ℕ). framing v (map (header_bytes held) (take spans.headers headers))) at.parts.version ∙ ap (framing head.minor) at.parts.fields
+
+-- the head alone decides, whatever follows
+pub framed_on : (held more : List ℕ) (headers : List HeaderSpan) (spans : RequestSpans) (what : Framing) → IsOpenAt held headers spans what → IsFramed what (held ++ more)
+framed_on held more headers spans what o = (o.head, drop spans.len held ++ more, opens-append held more o.head what (drop spans.len held) (opens_at held headers spans what o))
+
+-- behind the head stand bytes of that kind
+pub follows_at : (held more : List ℕ) (headers : List HeaderSpan) (spans : RequestSpans) (what : Framing) (P : List ℕ → Type 0) → IsOpenAt held headers spans what → P (drop spans.len held ++ more) → Follows what (held ++ more) P
+follows_at held more headers spans what P o behind = record {
+  head = o.head;
+  rest = drop spans.len held ++ more;
+  opens = opens-append held more o.head what (drop spans.len held) (opens_at held headers spans what o);
+  behind = behind;
+}
+
+-- A request, from the parts that the spans cover.
+
+abbrev request_by : List ℕ → List ℕ → Bool → List Field → List ℕ → Request
+request_by m t c f d = record { method = m; target = t; closes = c; fields = f; body = d }
+
+same_request : (a b : Request) → a.method ≡ b.method → a.target ≡ b.target → a.closes ≡ b.closes → a.fields ≡ b.fields → a.body ≡ b.body → a ≡ b
+same_request a b method target closes fields body =
+    ap (λ (x : List ℕ). request_by x a.target a.closes a.fields a.body) method
+    ∙ ap (λ (x : List ℕ). request_by b.method x a.closes a.fields a.body) target
+    ∙ ap (λ (x : Bool). request_by b.method b.target x a.fields a.body) closes
+    ∙ ap (λ (x : List Field). request_by b.method b.target b.closes x a.body) fields
+    ∙ ap (λ (x : List ℕ). request_by b.method b.target b.closes b.fields x) body
+
+pub request_at : (before : ℕ) (held : List ℕ) (headers : List HeaderSpan) (spans : RequestSpans) (head : RequestHead) (request : Request) (body : List ℕ) → IsHeadAt held headers spans head
+    → request.method ≡ span_bytes held spans.method → request.target ≡ span_bytes held spans.path
+    → request.closes ≡ ((before == 999) || ((spans.version == 0) || asks_to_close (map (header_bytes held) (take spans.headers headers))))
+    → request.fields ≡ map field_of (map (header_bytes held) (take spans.headers headers)) → request.body ≡ body
+    → request ≡ request_of before head body
+request_at before held headers spans head request body at method target closes fields same =
+    same_request request (request_of before head body)
+    (method ∙ at.parts.method)
+    (target ∙ at.parts.path)
+    (closes ∙ ap (λ (v : ℕ). (before == 999) || ((v == 0) || asks_to_close (map (header_bytes held) (take spans.headers headers)))) at.parts.version ∙ ap (λ (l : List (List ℕ × List ℕ)). (before == 999) || ((head.minor == 0) || asks_to_close l)) at.parts.fields)
+    (fields ∙ ap (map field_of) at.parts.fields)
+    same
+
+-- a body of the length that the head says
+pub body_at : (held : List ℕ) (headers : List HeaderSpan) (spans : RequestSpans) (len : ℕ) (o : IsOpenAt held headers spans (Length len)) → spans.len + len ≤ length held
+    → Opens held o.head (Length (length (slice_range held spans.len (spans.len + len)))) (slice_range held spans.len (spans.len + len) ++ drop (spans.len + len) held)
+body_at held headers spans len o enough =
+    let behind : List ℕ = drop spans.len held in
+    let body : List ℕ = slice_range held spans.len (spans.len + len) in
+    let front : body ≡ take len behind = ap (λ (n : ℕ). take n behind) (omega arith) in
+    let size : length body ≡ len = ap length front ∙ length-take-le len behind (omega (arith, length-drop spans.len held, enough)) in
+    let split : behind ≡ body ++ drop (spans.len + len) held = sym (take-append-drop len behind) ∙ ap (λ (l : List ℕ). l ++ drop len behind) (sym front) ∙ ap (λ (l : List ℕ). body ++ l) (drop-drop len spans.len held) in
+    subst (λ (n : ℕ). Opens held o.head (Length n) (body ++ drop (spans.len + len) held)) (sym size) (subst (Opens held o.head (Length len)) split (opens_at held headers spans (Length len) o))
+
+pub asks_plain : (before : ℕ) (held : List ℕ) (headers : List HeaderSpan) (spans : RequestSpans) (len : ℕ) (request : Request) (o : IsOpenAt held headers spans (Length len)) → spans.len + len ≤ length held
+    → request ≡ request_of before o.head (slice_range held spans.len (spans.len + len)) → AsksFor before held request (drop (spans.len + len) held)
+asks_plain before held headers spans len request o enough is = inl (record {
+  head = o.head;
+  body = slice_range held spans.len (spans.len + len);
+  opens = body_at held headers spans len o enough;
+  is = is;
+})
+
+pub asks_in_chunks : (before : ℕ) (held read : List ℕ) (headers : List HeaderSpan) (spans : RequestSpans) (request : Request) (body rest : List ℕ) (o : IsOpenAt held headers spans Chunked) → HasBody (drop spans.len held ++ read) body rest
+    → request ≡ request_of before o.head body → AsksFor before (held ++ read) request rest
+asks_in_chunks before held read headers spans request body rest o has is = inr (record {
+  head = o.head;
+  behind = drop spans.len held ++ read;
+  body = has.whole;
+  opens = opens-append held read o.head Chunked (drop spans.len held) (opens_at held headers spans Chunked o);
+  reads = has.reads;
+  short = omega (arith, has.short, ap length has.gives);
+  is = is ∙ ap (request_of before o.head) (sym has.gives);
+})
+
+-- with fewer bytes than the body has, the request isn't whole
+pub lacks : (held : List ℕ) (headers : List HeaderSpan) (spans : RequestSpans) (len : ℕ) → IsOpenAt held headers spans (Length len) → length held < spans.len + len → Follows (Length len) held (λ rest. length rest < len)
+lacks held headers spans len o fewer = record {
+  head = o.head;
+  rest = drop spans.len held;
+  opens = opens_at held headers spans (Length len) o;
+  behind = omega (arith, length-drop spans.len held, o.at.within.section.len_fits, fewer);
+}
+
+-- Answers, by what was found.
+
+-- the bytes that were given, and then more
+given_and_more : (held read more : List ℕ) → held ++ (read ++ more) ≡ (held ++ read) ++ more
+given_and_more held read more = sym (append_assoc held read more)
+
+-- the fields can't be taken, or name another coding, or a length beyond the limit
+pub next_bad : (before : ℕ) (held : List ℕ) (left : Option (List ℕ)) (held' : List ℕ) (headers : List HeaderSpan) (spans : RequestSpans) → IsOpenAt held headers spans BadFields → IsNext before held left bad held'
+next_bad before held left held' headers spans o = inl (λ more. bad_fields (framed_on held more headers spans BadFields o))
+
+pub next_coded : (before : ℕ) (held : List ℕ) (left : Option (List ℕ)) (held' : List ℕ) (headers : List HeaderSpan) (spans : RequestSpans) → IsOpenAt held headers spans OtherCoding → IsNext before held left coded held'
+next_coded before held left held' headers spans o = inl (λ more. framed_on held more headers spans OtherCoding o)
+
+pub next_long : (before : ℕ) (held : List ℕ) (left : Option (List ℕ)) (held' : List ℕ) (headers : List HeaderSpan) (spans : RequestSpans) → IsOpenAt held headers spans LongBody → IsNext before held left too_long held'
+next_long before held left held' headers spans o = inl (λ more. long_body (framed_on held more headers spans LongBody o))
+
+-- there is no head, and none can come or the bytes have ended
+pub next_headless : (before : ℕ) (held : List ℕ) (left : Option (List ℕ)) (held' : List ℕ) → 0 < length held → (NeverHasHead held × (0 < length held)) ⊎ (HasNoHead held × IsAtEnd left) → IsNext before held left bad held'
+next_headless before held left held' some (inl never) = inl (λ more. no_head (omega (arith, length-append held more)) (never.0 more))
+next_headless before held left held' some (inr (none, ended)) = inr (no_head some none, ended)
+
+-- the body is cut short by the end
+pub asks_cut : {E : Type 0} (before : ℕ) (held mid : List ℕ) (left left' : Option (List ℕ)) (headers : List HeaderSpan) (spans : RequestSpans) (len : ℕ) → IsOpenAt held headers spans (Length len) → Gains held mid left left' → length mid < spans.len + len → IsAtEnd left' → Asks {E = E} before held left (Ok Bad) mid left'
+asks_cut before held mid left left' headers spans len o gains fewer ended =
+    asks_after before held mid left left' (Ok Bad) mid left' gains
+    (asks_now before mid left' Bad mid (inr (body_cut len (lacks mid headers spans len (open_gains held mid left left' headers spans (Length len) o gains) fewer), ended)))
+
+pub asks_unfinished : {E : Type 0} (before : ℕ) (held mid : List ℕ) (left left' : Option (List ℕ)) (headers : List HeaderSpan) (spans : RequestSpans) (len : ℕ) (e : E) → IsOpenAt held headers spans (Length len) → Gains held mid left left' → length mid < spans.len + len → Asks before held left (Err e) mid left'
+asks_unfinished before held mid left left' headers spans len e o gains fewer =
+    asks_failed before held mid left left' e gains (lacks_body len (lacks mid headers spans len (open_gains held mid left left' headers spans (Length len) o gains) fewer))
+
+-- A chunked body.
+
+-- an answer by the bytes that were held and those that were read
+asks_read : {E : Type 0} (before : ℕ) (held read : List ℕ) (left left' : Option (List ℕ)) (asked : Asked) (held' : List ℕ) → Consumes left left' read → IsAsked before (held ++ read) left' asked held' → Asks {E = E} before held left (Ok asked) held' left'
+asks_read before held read left left' asked held' given is = record { read = read; given = given; answer = is }
+
+pub chunks_unfinished : {E : Type 0} (before : ℕ) (held : List ℕ) (left : Option (List ℕ)) (body held' : List ℕ) (left' : Option (List ℕ)) (headers : List HeaderSpan) (spans : RequestSpans) (e : E) → IsOpenAt held headers spans Chunked → Decodes spans.len held left (Err e) body held' left' → Asks before held left (Err e) held' left'
+chunks_unfinished before held left body held' left' headers spans e o d = record {
+  read = d.read;
+  given = d.given;
+  answer = lacks_chunks (follows_at held d.read headers spans Chunked (λ rest. MayBecomeBody rest × HasNoBody rest × ¬ (PassesLimit rest)) o (d.outcome.0, d.outcome.1.0, d.outcome.1.1));
+}
+
+pub chunks_bad : {E : Type 0} (before : ℕ) (held : List ℕ) (left : Option (List ℕ)) (body held' : List ℕ) (left' : Option (List ℕ)) (headers : List HeaderSpan) (spans : RequestSpans) → IsOpenAt held headers spans Chunked → Decodes {E = E} spans.len held left (Ok BadChunks) body held' left' → Asks {E = E} before held left (Ok Bad) held' left'
+chunks_bad before held left body held' left' headers spans o d =
+    asks_read before held d.read left left' Bad held' d.given
+    (inl (λ more. subst IsBad (given_and_more held d.read more)
+    (no_body (follows_at held (d.read ++ more) headers spans Chunked HasNoBodyYet o (subst HasNoBodyYet (append_assoc (drop spans.len held) d.read more) (d.outcome more))))))
+
+pub chunks_cut : {E : Type 0} (before : ℕ) (held : List ℕ) (left : Option (List ℕ)) (body held' : List ℕ) (left' : Option (List ℕ)) (headers : List HeaderSpan) (spans : RequestSpans) → IsOpenAt held headers spans Chunked → Decodes {E = E} spans.len held left (Ok Cut) body held' left' → Asks {E = E} before held left (Ok Bad) held' left'
+chunks_cut before held left body held' left' headers spans o d =
+    asks_read before held d.read left left' Bad held' d.given (inr (no_body (follows_at held d.read headers spans Chunked HasNoBodyYet o d.outcome.0), d.outcome.1))
+
+-- more bytes behind those that pass the limit
+pub passes-append : (bytes more : List ℕ) → PassesLimit bytes → PassesLimit (bytes ++ more)
+passes-append bytes more p = record {
+  chunks = p.chunks;
+  line = p.line;
+  rest = p.rest ++ more;
+  are_chunks = p.are_chunks;
+  is_line = p.is_line;
+  reads = ap (λ (l : List ℕ). l ++ more) p.reads ∙ append_assoc (print_chunks p.chunks) (print_line p.line ++ p.rest) more ∙ ap (λ (l : List ℕ). print_chunks p.chunks ++ l) (append_assoc (print_line p.line) p.rest more);
+  over = p.over;
+}
+
+pub chunks_long : {E : Type 0} (before : ℕ) (held : List ℕ) (left : Option (List ℕ)) (body held' : List ℕ) (left' : Option (List ℕ)) (headers : List HeaderSpan) (spans : RequestSpans) → IsOpenAt held headers spans Chunked → Decodes {E = E} spans.len held left (Ok LongChunks) body held' left' → Asks {E = E} before held left (Ok TooLong) held' left'
+chunks_long before held left body held' left' headers spans o d =
+    asks_read before held d.read left left' TooLong held' d.given
+    (inl (λ more. subst IsTooLong (given_and_more held d.read more)
+    (long_chunks (follows_at held (d.read ++ more) headers spans Chunked PassesLimit o (subst PassesLimit (append_assoc (drop spans.len held) d.read more) (passes-append (drop spans.len held ++ d.read) more d.outcome))))))
+
+-- the request, whose parts the spans cover in what is held
+pub chunks_whole : {E : Type 0} (before : ℕ) (held : List ℕ) (left : Option (List ℕ)) (body held' : List ℕ) (left' : Option (List ℕ)) (headers : List HeaderSpan) (spans : RequestSpans) (end : ℕ) (request : Request) (o : IsOpenAt held headers spans Chunked) → Decodes {E = E} spans.len held left (Ok (Whole end)) body held' left' → request ≡ request_of before o.head body → Asks {E = E} before held left (Ok (Requested request)) (drop end held') left'
+chunks_whole before held left body held' left' headers spans end request o d is =
+    asks_read before held d.read left left' (Requested request) (drop end held') d.given (asks_in_chunks before held d.read headers spans request body (drop end held') o d.outcome.2 is)
+
+pub chunks_no_memory : {E : Type 0} (before : ℕ) (held : List ℕ) (left : Option (List ℕ)) (body held' : List ℕ) (left' : Option (List ℕ)) (headers : List HeaderSpan) (spans : RequestSpans) (end : ℕ) (o : IsOpenAt held headers spans Chunked) → Decodes {E = E} spans.len held left (Ok (Whole end)) body held' left' → Asks {E = E} before held left (Ok NoMemory) held' left'
+chunks_no_memory before held left body held' left' headers spans end o d =
+    let request : Request = request_of before o.head body in
+    asks_read before held d.read left left' NoMemory held' d.given (request, drop end held', asks_in_chunks before held d.read headers spans request body (drop end held') o d.outcome.2 refl)
+
+-- what the spans say is so of the head that was found
+pub open_by : (held bytes : List ℕ) (left : Option (List ℕ)) (headers : List HeaderSpan) (spans : RequestSpans) (what read : Framing) → (head : RequestHead) × IsHeadAt held headers spans head → bytes ≡ held → read ≡ framing spans.version (map (header_bytes bytes) (take spans.headers headers)) → read ≡ what → IsOpenAt held headers spans what
+open_by held bytes left headers spans what read found same value is = record {
+  head = found.0;
+  at = found.1;
+  framed = sym (framed_at held headers spans found.0 found.1) ∙ ap (λ (l : List ℕ). framing spans.version (map (header_bytes l) (take spans.headers headers))) (sym same) ∙ sym value ∙ is;
+}

@@ -1,0 +1,13 @@
+pub mod Buffers
+pub mod FieldSteps
+pub mod Fronts
+pub mod Steps
+pub mod BodyForms
+pub mod BodyReached
+pub mod BodyRuns
+pub mod BodyFacts
+pub mod ItemLemmas
+pub mod DecodingLemmas
+pub mod OneTalk
+pub mod WholeItems
+pub mod Connections

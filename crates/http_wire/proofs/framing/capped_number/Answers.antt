@@ -1,0 +1,10 @@
+use Rattle.std.proofs.Common.{ℕ, ◌∙◌, arith}
+use Rattle.std.proofs.lemmas.Grind.{common_steps}
+use Rattle.http_wire.proofs.FieldSteps.{number_more}
+use Rattle.http_wire.proofs.framing.capped_number.Goals as goal
+
+pub digits-preserved : goal.digits-preserved
+digits-preserved c = record {
+  digits = grind (arith, common_steps);
+  value = c.min-value.ensures ∙ number_more c.args.digits.now c.digits.digit-index c.digits.value c.digits-test.true c.if-not-is_ascii_digit.ensures.cases c.digits.invariant.value;
+}

@@ -1,0 +1,23 @@
+use Rattle.std.specs.Prelude.{Ok}
+use Rattle.http_wire.specs.declared.framing.Framing.TheVariants.{Bad as BadFields, Coded as OtherCoding, TooLong as LongBody}
+use Rattle.http_wire.specs.declared.request.Asked.TheVariants.{Bad, TooLong, Coded}
+use Rattle.http_wire.proofs.ItemLemmas.{asks_after, asks_now, next_bad, next_coded, next_long, open_by}
+use Rattle.http_wire.proofs.requests.read_item.Goals as goal
+
+pub returns-in-Bad-clause-asks : goal.returns-in-Bad-clause-asks
+returns-in-Bad-clause-asks g c =
+    let o = open_by c.next_head.new.inflow c.bytes.result.now (g.S.Line.state c.next_head.new.source).left c.next_head.new.headers c.in-Some.spans BadFields c.read_framing.result (rw c.in-Some.is at c.in_ok-spans.ensures.ok) c.bytes.ensures.value c.read_framing.ensures.value c.in-Bad.is in
+    asks_after c.args.before c.args.inflow.now c.next_head.new.inflow _ _ (Ok Bad) c.next_head.new.inflow _ c.in_ok-spans.ensures.gains
+    (asks_now c.args.before c.next_head.new.inflow _ Bad c.next_head.new.inflow (next_bad c.args.before c.next_head.new.inflow _ c.next_head.new.inflow c.next_head.new.headers c.in-Some.spans o))
+
+pub returns-in-Coded-clause-asks : goal.returns-in-Coded-clause-asks
+returns-in-Coded-clause-asks g c =
+    let o = open_by c.next_head.new.inflow c.bytes.result.now (g.S.Line.state c.next_head.new.source).left c.next_head.new.headers c.in-Some.spans OtherCoding c.read_framing.result (rw c.in-Some.is at c.in_ok-spans.ensures.ok) c.bytes.ensures.value c.read_framing.ensures.value c.in-Coded.is in
+    asks_after c.args.before c.args.inflow.now c.next_head.new.inflow _ _ (Ok Coded) c.next_head.new.inflow _ c.in_ok-spans.ensures.gains
+    (asks_now c.args.before c.next_head.new.inflow _ Coded c.next_head.new.inflow (next_coded c.args.before c.next_head.new.inflow _ c.next_head.new.inflow c.next_head.new.headers c.in-Some.spans o))
+
+pub returns-in-Length-clause-asks : goal.returns-in-Length-clause-asks
+returns-in-Length-clause-asks g c = asks_after c.args.before c.args.inflow.now c.next_head.new.inflow _ _ c.read_plain.result c.read_plain.new.inflow _ c.in_ok-spans.ensures.gains c.read_plain.ensures.asks
+
+pub returns-in-Chunked-clause-asks : goal.returns-in-Chunked-clause-asks
+returns-in-Chunked-clause-asks g c = asks_after c.args.before c.args.inflow.now c.next_head.new.inflow _ _ c.read_chunked.result c.read_chunked.new.inflow _ c.in_ok-spans.ensures.gains c.read_chunked.ensures.asks

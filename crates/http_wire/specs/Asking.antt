@@ -1,0 +1,51 @@
+-- What a call that asks for the next request answers, and what it leaves.
+use Rattle.std.specs.Prelude.{◌≡◌, ℕ, ◌+◌, Bool, true, false, ◌⊎◌, List, [], ◌++◌, Option, Result, Ok, Err, MatchResult}
+use Rattle.std.specs.Io.KnownBytes.{Consumes, IsAtEnd}
+use Rattle.http_wire.specs.declared.request.Request.{Request}
+use Rattle.http_wire.specs.declared.request.Asked.{Asked}
+use Rattle.http_wire.specs.declared.request.Asked.TheVariants.{Request as Requested, Bad, TooLong, Coded, End, NoMemory}
+use Rattle.http_wire.specs.Items.{Item, asks, bad, too_long, coded, AsksFor, FirstItem, IsUnfinished}
+
+-- A connection's wire at one moment: the bytes that were given and not used yet, how many requests were asked for since
+-- it was made or reset, and whether it gives no more.
+pub record WireState : Type 0 where
+  pub held : List ℕ
+  pub requests : ℕ
+  pub spent : Bool
+
+-- the wire of a connection that begins
+abbrev pub fresh_wire : WireState
+fresh_wire = record { held = []; requests = 0; spent = false }
+
+-- The item is the first one of the connection's bytes: whatever follows those given, or as the source has ended.
+abbrev pub IsNext : ℕ → List ℕ → Option (List ℕ) → Item → List ℕ → Type 0
+IsNext before given left item held =
+    ((more : List ℕ) → FirstItem before (given ++ more) item (held ++ more))
+    ⊎ (FirstItem before given item held × IsAtEnd left)
+
+-- What was asked, by the bytes given: those that were held and those that were read; what the source has left; and what
+-- is held afterwards. Want of memory comes only in the place of a request.
+abbrev pub IsAsked : ℕ → List ℕ → Option (List ℕ) → Asked → List ℕ → Type 0
+IsAsked before given left (Requested request) held = AsksFor before given request held
+IsAsked before given left Bad held = IsNext before given left bad held
+IsAsked before given left TooLong held = IsNext before given left too_long held
+IsAsked before given left Coded held = IsNext before given left coded held
+IsAsked before given left End held = (given ≡ []) × IsAtEnd left
+IsAsked before given left NoMemory held = (request : Request) × (rest : List ℕ) × AsksFor before given request rest
+
+-- Bytes were read from the source, and the answer is by those held and those read; where a read failed, no item lies
+-- whole in them.
+pub record Asks {E : Type 0} (before : ℕ) (held : List ℕ) (left : Option (List ℕ)) (result : Result Asked E) (held' : List ℕ) (left' : Option (List ℕ)) : Type 0 where
+  pub read : List ℕ
+  pub given : Consumes left left' read
+  pub answer : MatchResult result (λ asked. IsAsked before (held ++ read) left' asked held') (λ _. IsUnfinished (held ++ read))
+
+-- How the wire stands after an answer: it is spent, but after a request that doesn't close.
+abbrev pub StandsAfter : {E : Type 0} → WireState → Result Asked E → WireState → Type 0
+StandsAfter old (Ok (Requested request)) new = (new.requests ≡ old.requests + 1) × (new.spent ≡ request.closes)
+StandsAfter old (Ok Bad) new = (new.requests ≡ old.requests) × (new.spent ≡ true)
+StandsAfter old (Ok TooLong) new = (new.requests ≡ old.requests) × (new.spent ≡ true)
+StandsAfter old (Ok Coded) new = (new.requests ≡ old.requests) × (new.spent ≡ true)
+StandsAfter old (Ok End) new = (new.requests ≡ old.requests) × (new.spent ≡ true)
+StandsAfter old (Ok NoMemory) new = (new.requests ≡ old.requests) × (new.spent ≡ true)
+StandsAfter old (Err e) new = (new.requests ≡ old.requests) × (new.spent ≡ true)

@@ -1,0 +1,106 @@
+-- Chunked bodies (RFC 9112, section 7.1), as this server takes them. Each form is a tree, a printer from the tree to its
+-- bytes, and a fact that says which trees are valid.
+use Rattle.std.specs.Prelude.{◌≡◌, ℕ, ◌+◌, ◌<◌, ◌≤◌, Bool, not, ◌||◌, ◌==◌, List, [], ◌++◌, length, IsTrue, Option, None, Some, flat_map}
+use Rattle.std.specs.List.{list_all, AllByRecursion}
+use Rattle.std.specs.Char.{is_digit}
+use Rattle.httparse.specs.Ascii.{line_feed, carriage_return, crlf_bytes}
+use Rattle.httparse.specs.Grammar.{ChunkLine, print_extension, chunk_size, is_ows, is_value_byte}
+
+-- the bytes of a chunk line in front of its line end: digits, blanks, and an extension behind `;`
+abbrev pub line_text : ChunkLine → List ℕ
+line_text l = l.digits ++ (l.pad ++ print_extension l.extension)
+
+-- chunk-line = 1*16HEXDIG *( SP / HTAB ) [ ";" extension ] CR LF
+abbrev pub print_line : ChunkLine → List ℕ
+print_line l = line_text l ++ crlf_bytes
+
+-- the bytes behind `;`
+abbrev pub extension_text : Option (List ℕ) → List ℕ
+extension_text None = []
+extension_text (Some text) = text
+
+-- each part is of its class, an extension being tabs, spaces, visible bytes and those past ASCII; the whole line has at
+-- most 256 bytes
+pub record IsLine (l : ChunkLine) : Type 0 where
+  pub some : 0 < length l.digits
+  pub few : length l.digits ≤ 16
+  pub digits : IsTrue (list_all (λ b. is_digit b 16) l.digits)
+  pub pad : IsTrue (list_all is_ows l.pad)
+  pub extension : IsTrue (list_all is_value_byte (extension_text l.extension))
+  pub short : length (print_line l) ≤ 256
+
+-- chunk = chunk-line bytes CR LF
+pub record Chunk : Type 0 where
+  pub line : ChunkLine
+  pub bytes : List ℕ
+
+abbrev pub print_chunk : Chunk → List ℕ
+print_chunk c = print_line c.line ++ (c.bytes ++ crlf_bytes)
+
+-- the line's number is how many bytes follow, which is not 0
+pub record IsChunk (c : Chunk) : Type 0 where
+  pub line : IsLine c.line
+  pub sized : chunk_size c.line ≡ length c.bytes
+  pub some : 0 < length c.bytes
+
+abbrev pub print_chunks : List Chunk → List ℕ
+print_chunks chunks = flat_map print_chunk chunks
+
+-- a byte of a trailer line: any but CR and LF
+abbrev pub is_trailer_byte : ℕ → Bool
+is_trailer_byte b = not (b == carriage_return || b == line_feed)
+
+-- trailer-line = 1*trailer-byte CR LF
+pub record IsTrailer (text : List ℕ) : Type 0 where
+  pub some : 0 < length text
+  pub bytes : IsTrue (list_all is_trailer_byte text)
+
+abbrev pub print_trailer : List ℕ → List ℕ
+print_trailer text = text ++ crlf_bytes
+
+abbrev pub print_trailers : List (List ℕ) → List ℕ
+print_trailers trailers = flat_map print_trailer trailers
+
+-- chunked-body = *chunk last-chunk-line *trailer-line CR LF
+pub record ChunkedBody : Type 0 where
+  pub chunks : List Chunk
+  pub last : ChunkLine
+  pub trailers : List (List ℕ)
+
+abbrev pub print_body : ChunkedBody → List ℕ
+print_body c = print_chunks c.chunks ++ (print_line c.last ++ (print_trailers c.trailers ++ crlf_bytes))
+
+-- the last line's number is 0, and the trailer lines have at most 16,384 bytes together
+pub record IsBody (c : ChunkedBody) : Type 0 where
+  pub chunks : AllByRecursion IsChunk c.chunks
+  pub last : IsLine c.last
+  pub ends : chunk_size c.last ≡ 0
+  pub trailers : AllByRecursion IsTrailer c.trailers
+  pub short : length (print_trailers c.trailers) ≤ 16_384
+
+-- the bytes of the chunks, joined
+abbrev pub joined : List Chunk → List ℕ
+joined chunks = flat_map (λ c. c.bytes) chunks
+
+-- the bytes are that body, and then rest
+abbrev pub ReadsBody : List ℕ → ChunkedBody → List ℕ → Type 0
+ReadsBody bytes c rest = IsBody c × (bytes ≡ print_body c ++ rest)
+
+-- no prefix of the bytes is a chunked body
+abbrev pub HasNoBody : List ℕ → Type 0
+HasNoBody bytes = (c : ChunkedBody) (rest : List ℕ) → ¬ (ReadsBody bytes c rest)
+
+-- some bytes can follow that make these a chunked body
+abbrev pub MayBecomeBody : List ℕ → Type 0
+MayBecomeBody bytes = (more : List ℕ) × (c : ChunkedBody) × ReadsBody (bytes ++ more) c []
+
+-- the bytes begin with chunks and one more chunk line, and the bytes of the chunks and the number of that line sum to more
+-- than 262,144
+pub record PassesLimit (bytes : List ℕ) : Type 0 where
+  pub chunks : List Chunk
+  pub line : ChunkLine
+  pub rest : List ℕ
+  pub are_chunks : AllByRecursion IsChunk chunks
+  pub is_line : IsLine line
+  pub reads : bytes ≡ print_chunks chunks ++ (print_line line ++ rest)
+  pub over : 262_144 < length (joined chunks) + chunk_size line

@@ -1,0 +1,18 @@
+-- The head of a request at the front of a connection's bytes (RFC 9112, sections 2 to 5), by the grammar of `httparse`
+-- and within this server's limits.
+use Rattle.std.specs.Prelude.{ℕ, ◌≤◌, List, ◌++◌, length}
+use Rattle.httparse.specs.Grammar.{RequestHead, ReadsRequest, print_request}
+
+-- the bytes are a head of at most 16,384 bytes and 64 field lines, and then rest
+pub record BeginsWithHead (bytes : List ℕ) (head : RequestHead) (rest : List ℕ) : Type 0 where
+  pub reads : ReadsRequest bytes head rest
+  pub short : length (print_request head) ≤ 16_384
+  pub few : length head.fields ≤ 64
+
+-- no prefix of the bytes is such a head
+abbrev pub HasNoHead : List ℕ → Type 0
+HasNoHead bytes = (head : RequestHead) (rest : List ℕ) → ¬ (BeginsWithHead bytes head rest)
+
+-- no prefix is one, whatever follows the bytes
+abbrev pub NeverHasHead : List ℕ → Type 0
+NeverHasHead bytes = (more : List ℕ) → HasNoHead (bytes ++ more)

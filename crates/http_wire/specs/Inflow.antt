@@ -1,0 +1,114 @@
+-- What reads add to the bytes that a connection holds, and what is looked for in them.
+use Rattle.std.specs.Prelude.{◌≡◌, ℕ, ◌+◌, ◌<◌, ◌≤◌, ◌⊎◌, List, map, [], ◌∷◌, ◌++◌, length, drop, take, Option, None, Some, Bool, true, false, Result, Ok, Err}
+use Rattle.std.specs.Io.KnownBytes.{Consumes, IsAtEnd}
+use Rattle.httparse.specs.Grammar.{RequestHead}
+use Rattle.httparse.specs.Spans.{IsRequestAt, IsRequestWithin, name_and_value, span_bytes, header_bytes}
+use Rattle.httparse.specs.declared.spans.HeaderSpan.{HeaderSpan}
+use Rattle.httparse.specs.declared.spans.RequestSpans.{RequestSpans}
+use Rattle.http_wire.specs.declared.heads.Front.{Front}
+use Rattle.http_wire.specs.declared.heads.Front.TheVariants.{Head, Open, Hopeless}
+use Rattle.http_wire.specs.declared.framing.Named.{Named}
+use Rattle.http_wire.specs.declared.framing.Named.TheVariants.{Absent, Once, Repeated}
+use Rattle.http_wire.specs.declared.framing.Framing.{Framing}
+use Rattle.http_wire.specs.declared.framing.Framing.TheVariants.{Bad as BadFields, Coded, TooLong as LongBody, Length, Chunked}
+use Rattle.http_wire.specs.declared.decoding.Decoded.{Decoded}
+use Rattle.http_wire.specs.declared.decoding.Decoded.TheVariants.{Whole, TooLong, Bad, Cut}
+use Rattle.http_wire.specs.Heads.{BeginsWithHead, HasNoHead, NeverHasHead}
+use Rattle.http_wire.specs.Framing.{framing}
+use Rattle.http_wire.specs.Decoding.{Decoding, start, is_settled, ReadsOn}
+use Rattle.http_wire.specs.Chunked.{ChunkedBody, ReadsBody, HasNoBody, MayBecomeBody, PassesLimit, joined}
+
+-- the next bytes of the source were added to those that are held
+pub record Gains (held held' : List ℕ) (left left' : Option (List ℕ)) : Type 0 where
+  pub read : List ℕ
+  pub added : held' ≡ held ++ read
+  pub given : Consumes left left' read
+
+-- one byte was added or more, or none as the source had ended
+abbrev pub GainedOrEnded : Bool → List ℕ → List ℕ → Option (List ℕ) → Type 0
+GainedOrEnded true held held' left' = length held < length held'
+GainedOrEnded false held held' left' = (held' ≡ held) × IsAtEnd left'
+
+-- so many bytes are held, or fewer as the source had ended
+abbrev pub HoldsOrEnded : Bool → ℕ → List ℕ → Option (List ℕ) → Type 0
+HoldsOrEnded true count held left = count ≤ length held
+HoldsOrEnded false count held left = (length held < count) × IsAtEnd left
+
+-- the spans cover the parts of the head at the front
+pub record IsHeadAt (bytes : List ℕ) (headers : List HeaderSpan) (spans : RequestSpans) (head : RequestHead) : Type 0 where
+  pub begins : BeginsWithHead bytes head (drop spans.len bytes)
+  pub within : IsRequestWithin bytes headers spans
+  pub parts : IsRequestAt bytes headers spans head
+
+-- what the answer on the front of some bytes says
+abbrev pub IsFront : List ℕ → List HeaderSpan → Front → Type 0
+IsFront bytes headers (Head spans) = (head : RequestHead) × IsHeadAt bytes headers spans head
+IsFront bytes headers Open = HasNoHead bytes × (length bytes < 16_384)
+IsFront bytes headers Hopeless = NeverHasHead bytes × (0 < length bytes)
+
+-- a head stands at the front, or none however the bytes go on, or none as they have ended
+abbrev pub HeadOrNone : List ℕ → Option (List ℕ) → List HeaderSpan → Option RequestSpans → Type 0
+HeadOrNone held left headers (Some spans) = (head : RequestHead) × IsHeadAt held headers spans head
+HeadOrNone held left headers None = (NeverHasHead held × (0 < length held)) ⊎ (HasNoHead held × IsAtEnd left)
+
+-- a head was found at the front, and this is what its fields say of the body
+pub record IsOpenAt (bytes : List ℕ) (headers : List HeaderSpan) (spans : RequestSpans) (what : Framing) : Type 0 where
+  pub head : RequestHead
+  pub at : IsHeadAt bytes headers spans head
+  pub framed : framing head.minor (map name_and_value head.fields) ≡ what
+
+-- what a search for a field by its name found
+abbrev pub Found : Named → List (List ℕ) → Type 0
+Found Absent values = values ≡ []
+Found (Once value) values = values ≡ value.now ∷ []
+Found Repeated values = 2 ≤ length values
+
+-- a length is within the limit
+abbrev pub IsWithinLimit : Framing → Type 0
+IsWithinLimit BadFields = Unit {0}
+IsWithinLimit Coded = Unit {0}
+IsWithinLimit LongBody = Unit {0}
+IsWithinLimit (Length len) = len ≤ 262_144
+IsWithinLimit Chunked = Unit {0}
+
+-- the bytes begin with a whole body within the limit, and then the rest
+pub record HasBody (raw body rest : List ℕ) : Type 0 where
+  pub whole : ChunkedBody
+  pub reads : ReadsBody raw whole rest
+  pub gives : joined whole.chunks ≡ body
+  pub short : length body ≤ 262_144
+
+-- no body lies at the front of the bytes, and the limit isn't passed
+abbrev pub HasNoBodyYet : List ℕ → Type 0
+HasNoBodyYet raw = HasNoBody raw × ¬ (PassesLimit raw)
+
+-- what was made of the bytes behind a head
+abbrev pub IsDecoded : List ℕ → Option (List ℕ) → Decoded → List ℕ → List ℕ → ℕ → Type 0
+IsDecoded raw left (Whole end) body held head = (head ≤ end) × (end ≤ length held) × HasBody raw body (drop end held)
+IsDecoded raw left TooLong body held head = PassesLimit raw
+IsDecoded raw left Bad body held head = (more : List ℕ) → HasNoBodyYet (raw ++ more)
+IsDecoded raw left Cut body held head = HasNoBodyYet raw × IsAtEnd left
+
+abbrev pub DecodedOrNot : {E : Type 0} → List ℕ → Option (List ℕ) → Result Decoded E → List ℕ → List ℕ → ℕ → Type 0
+DecodedOrNot raw left (Ok decoded) body held head = IsDecoded raw left decoded body held head
+DecodedOrNot raw left (Err e) body held head = MayBecomeBody raw × HasNoBodyYet raw
+
+-- the bytes behind the head were decoded as they came; those of the head stay
+pub record Decodes {E : Type 0} (head : ℕ) (held : List ℕ) (left : Option (List ℕ)) (result : Result Decoded E) (body held' : List ℕ) (left' : Option (List ℕ)) : Type 0 where
+  pub read : List ℕ
+  pub given : Consumes left left' read
+  pub same_head : take head held' ≡ take head held
+  pub inside : head ≤ length held'
+  pub outcome : DecodedOrNot (drop head held ++ read) left' result body held' head
+
+-- so far: these bytes behind the head were decoded, and those from a place on are still held
+pub record DecodesSoFar (head : ℕ) (held : List ℕ) (left : Option (List ℕ)) (decoder : Decoding) (held' : List ℕ) (left' : Option (List ℕ)) (used : ℕ) : Type 0 where
+  pub raw : List ℕ
+  pub read : List ℕ
+  pub given : Consumes left left' read
+  pub same_head : take head held' ≡ take head held
+  pub inside : head + used ≤ length held'
+  pub reads : ReadsOn start raw decoder
+  pub split : drop head held ++ read ≡ raw ++ drop (head + used) held'
+  pub all : is_settled decoder.stage ≡ false → head + used ≡ length held'
+  pub room : length held' ≤ 278_528

@@ -1,0 +1,133 @@
+-- The items into which the bytes of a connection are cut (RFC 9112, sections 2.2, 6 and 9.3): requests, and what stands
+-- in the place of one. Here the whole list of bytes is at hand, and nothing depends on the pieces that it comes in.
+use Rattle.std.specs.Prelude.{◌≡◌, ℕ, ◌+◌, ◌<◌, ◌≤◌, ◌⊎◌, ◌==◌, Bool, true, ◌||◌, ⊤, List, [], ◌∷◌, ◌++◌, length, map}
+use Rattle.std.specs.Bool.{MatchBool}
+use Rattle.httparse.specs.Grammar.{RequestHead}
+use Rattle.httparse.specs.Spans.{name_and_value}
+use Rattle.http_wire.specs.declared.framing.Framing.{Framing}
+use Rattle.http_wire.specs.declared.framing.Framing.TheVariants.{Bad, Coded, TooLong, Length, Chunked}
+use Rattle.http_wire.specs.declared.request.Field.{Field}
+use Rattle.http_wire.specs.declared.request.Request.{Request}
+use Rattle.http_wire.specs.Heads.{BeginsWithHead, HasNoHead}
+use Rattle.http_wire.specs.Fields.{asks_to_close}
+use Rattle.http_wire.specs.Framing.{framing}
+use Rattle.http_wire.specs.Chunked.{ChunkedBody, ReadsBody, HasNoBody, MayBecomeBody, PassesLimit, joined}
+
+-- An item: a request, or what is answered 400, 413 or 501 in the place of one.
+pub data Item : Type 0 where
+  asks : Request → Item
+  bad too_long coded : Item
+
+-- the field with that name and value
+abbrev pub field_of : List ℕ × List ℕ → Field
+field_of f = record { name = f.0; value = f.1 }
+
+-- the reply to a request ends the connection: it is the 1,000th, behind 999 others, or of HTTP/1.0, or it asks for that
+abbrev pub ends_after : ℕ → RequestHead → Bool
+ends_after before head = (before == 999) || ((head.minor == 0) || asks_to_close (map name_and_value head.fields))
+
+-- the request of that head and body, behind so many requests of the connection
+abbrev pub request_of : ℕ → RequestHead → List ℕ → Request
+request_of before head body = record {
+  method = head.method;
+  target = head.target;
+  closes = ends_after before head;
+  fields = map field_of (map name_and_value head.fields);
+  body = body;
+}
+
+-- the bytes begin with that head, whose fields say this of the body, and then rest
+pub record Opens (bytes : List ℕ) (head : RequestHead) (what : Framing) (rest : List ℕ) : Type 0 where
+  pub begins : BeginsWithHead bytes head rest
+  pub framed : framing head.minor (map name_and_value head.fields) ≡ what
+
+-- behind a head of that framing stand bytes with the property
+pub record Follows (what : Framing) (bytes : List ℕ) (Behind : List ℕ → Type 0) : Type 0 where
+  pub head : RequestHead
+  pub rest : List ℕ
+  pub opens : Opens bytes head what rest
+  pub behind : Behind rest
+
+-- the head alone decides
+abbrev pub IsFramed : Framing → List ℕ → Type 0
+IsFramed what bytes = (head : RequestHead) × (rest : List ℕ) × Opens bytes head what rest
+
+-- the bytes begin with the request, whose body has the length that its head says, and then rest
+pub record AsksWithLength (before : ℕ) (bytes : List ℕ) (request : Request) (rest : List ℕ) : Type 0 where
+  pub head : RequestHead
+  pub body : List ℕ
+  pub opens : Opens bytes head (Length (length body)) (body ++ rest)
+  pub is : request ≡ request_of before head body
+
+-- the bytes begin with the request, whose body is chunked and has at most 262,144 bytes, and then rest
+pub record AsksInChunks (before : ℕ) (bytes : List ℕ) (request : Request) (rest : List ℕ) : Type 0 where
+  pub head : RequestHead
+  pub behind : List ℕ
+  pub body : ChunkedBody
+  pub opens : Opens bytes head Chunked behind
+  pub reads : ReadsBody behind body rest
+  pub short : length (joined body.chunks) ≤ 262_144
+  pub is : request ≡ request_of before head (joined body.chunks)
+
+-- The bytes begin with a whole request, and then rest.
+abbrev pub AsksFor : ℕ → List ℕ → Request → List ℕ → Type 0
+AsksFor before bytes request rest = AsksWithLength before bytes request rest ⊎ AsksInChunks before bytes request rest
+
+-- The bytes, of which there are some, are no request: there is no head, or its fields can't be taken, or its body is cut
+-- short by their end, or no chunked body stands where one is due.
+pub data IsBad (bytes : List ℕ) : Type 0 where
+  no_head : 0 < length bytes → HasNoHead bytes → IsBad bytes
+  bad_fields : IsFramed Bad bytes → IsBad bytes
+  body_cut : (len : ℕ) → Follows (Length len) bytes (λ rest. length rest < len) → IsBad bytes
+  no_body : Follows Chunked bytes (λ rest. HasNoBody rest × ¬ (PassesLimit rest)) → IsBad bytes
+
+-- The body is beyond the limit, by its length or by the numbers of its chunks.
+pub data IsTooLong (bytes : List ℕ) : Type 0 where
+  long_body : IsFramed TooLong bytes → IsTooLong bytes
+  long_chunks : Follows Chunked bytes PassesLimit → IsTooLong bytes
+
+-- The first item of all the bytes of a connection, behind so many requests, and what stands behind it; behind an item
+-- that is no request nothing is looked at.
+abbrev pub FirstItem : ℕ → List ℕ → Item → List ℕ → Type 0
+FirstItem before bytes (asks request) rest = AsksFor before bytes request rest
+FirstItem before bytes bad rest = IsBad bytes
+FirstItem before bytes too_long rest = IsTooLong bytes
+FirstItem before bytes coded rest = IsFramed Coded bytes
+
+-- what stands behind two first items, where it is looked at, is the same
+abbrev pub SameRest : Item → List ℕ → List ℕ → Type 0
+SameRest (asks request) rest other = rest ≡ other
+SameRest bad rest other = ⊤
+SameRest too_long rest other = ⊤
+SameRest coded rest other = ⊤
+
+-- the reply to the item ends the connection
+abbrev pub ends_connection : Item → Bool
+ends_connection (asks request) = request.closes
+ends_connection bad = true
+ends_connection too_long = true
+ends_connection coded = true
+
+-- The talk of a connection's bytes, behind so many requests: the items one after the other, up to one that ends the
+-- connection, or to the end of the bytes.
+abbrev pub Talk : ℕ → List ℕ → List Item → Type 0
+Talk before bytes [] = bytes ≡ []
+Talk before bytes (item ∷ items) =
+    (rest : List ℕ) × FirstItem before bytes item rest
+    × MatchBool (ends_connection item) (items ≡ []) (Talk (before + 1) rest items)
+
+-- The item lies whole at the front of these bytes, whatever follows them: a head and a body, or as much as shows that
+-- there is none.
+abbrev pub LiesWhole : ℕ → List ℕ → Item → Type 0
+LiesWhole before bytes (asks request) = (rest : List ℕ) × AsksFor before bytes request rest
+LiesWhole before bytes bad =
+    IsFramed Bad bytes ⊎ Follows Chunked bytes (λ rest. ¬ (MayBecomeBody rest) × HasNoBody rest × ¬ (PassesLimit rest))
+LiesWhole before bytes too_long = IsTooLong bytes
+LiesWhole before bytes coded = IsFramed Coded bytes
+
+-- No item lies whole in these bytes: there is no head, or its body isn't whole yet.
+pub data IsUnfinished (bytes : List ℕ) : Type 0 where
+  lacks_head : HasNoHead bytes → IsUnfinished bytes
+  lacks_body : (len : ℕ) → Follows (Length len) bytes (λ rest. length rest < len) → IsUnfinished bytes
+  lacks_chunks : Follows Chunked bytes (λ rest. MayBecomeBody rest × HasNoBody rest × ¬ (PassesLimit rest))
+      → IsUnfinished bytes

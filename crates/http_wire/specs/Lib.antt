@@ -1,0 +1,9 @@
+pub mod Heads
+pub mod Fields
+pub mod Framing
+pub mod Chunked
+pub mod Items
+pub mod Decoding
+pub mod Inflow
+pub mod Asking
+pub mod Serving

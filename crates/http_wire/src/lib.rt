@@ -1,0 +1,22 @@
+//! Requests of a connection, read from its bytes however they are cut, and replies written to it.
+//! Upward it promises: each answer is the next item of the connection's bytes, and a fault comes only with its count.
+//! HTTP/1.1 by RFC 9112, with the fields of RFC 9110.
+#![tactic(auto)]
+
+mod chunks;
+mod decoding;
+mod framing;
+mod heads;
+mod laws;
+mod replies;
+mod request;
+mod requests;
+#[cfg(test)]
+mod tests;
+mod wire;
+
+pub use laws::{bytes_have_one_talk, whole_items_stay};
+pub use replies::write_reply;
+pub use request::{Asked, Field, Request};
+pub use requests::next_request;
+pub use wire::{ReadFault, Wire};

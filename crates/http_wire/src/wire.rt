@@ -1,0 +1,176 @@
+// What a connection has read and not used yet.
+ghost use Rattle.std.specs.Prelude.{◌≡◌, ◌<◌, ◌≤◌, ◌↔◌, [], length, drop, take, IfOk, OnErr, IsTrue};
+ghost use Rattle.xcap_io.specs.Causes.{OnlyReads};
+ghost use Rattle.http_wire.specs.Asking.{WireState, fresh_wire};
+ghost use Rattle.http_wire.specs.Inflow.{Gains, GainedOrEnded, HoldsOrEnded};
+
+use crate::chunks::Decoder;
+use std::alloc::Global;
+use std::marker::Model;
+use xcap_io::{Failed, Line, NoMemory, Source};
+
+/// The longest head that is read.
+pub const MAX_HEAD: usize = 16_384;
+
+/// The longest body that is read.
+pub const MAX_BODY: usize = 262_144;
+
+/// The most bytes that are held: a head and a body.
+pub const MAX_HELD: usize = 278_528;
+
+/// A read of the source failed, and its count of such faults rose.
+#[derive(Clone, Copy, Debug, PartialEq, Eq)]
+pub struct ReadFault;
+
+// The bytes read and not used yet, in a buffer that has room for a head and a body.
+#[derive(Drop)]
+pub struct Inflow {
+    buffer: Vec<u8>,
+    held: usize,
+}
+
+impl Model for Inflow {
+    ghost use Rattle.std.specs.Prelude.{◌≡◌, ◌≤◌, ℕ, List, length, take};
+
+    ghost Value = { List ℕ };
+
+    ghost view = { λ i. take i.held i.buffer.items };
+
+    ghost invariant = { λ i. (i.held ≤ 278_528) × (length i.buffer.items ≡ 278_528) };
+}
+
+impl Inflow {
+    pub fn new(alloc: Global) -> Result<Inflow, NoMemory>
+        ensures { IfOk result (λ inflow. inflow ≡ []) }
+    {
+        Ok(Inflow {
+            buffer: vec![in alloc; 0; MAX_HELD]?,
+            held: 0,
+        })
+    }
+
+    pub fn bytes(&self) -> &[u8]
+        ensures value { result.now ≡ self.now }
+        ensures limit { length self.now ≤ 278_528 }
+    {
+        &self.buffer[..self.held]
+    }
+
+    pub fn len(&self) -> usize
+        ensures count { result ≡ length self.now }
+        ensures limit { length self.now ≤ 278_528 }
+    {
+        self.held
+    }
+
+    pub fn is_empty(&self) -> bool
+        ensures { IsTrue result ↔ (self.now ≡ []) }
+    {
+        self.held == 0
+    }
+
+    // Keeps the first bytes alone.
+    pub fn truncate(&mut self, count: usize)
+        requires { count ≤ length self.old }
+        ensures { self.new ≡ take count self.old }
+    {
+        self.held = count;
+    }
+
+    // Lets the first bytes go.
+    pub fn pass(&mut self, count: usize)
+        requires { count ≤ length self.old }
+        ensures { self.new ≡ drop count self.old }
+    {
+        self.buffer[0..self.held].rotate_left(count);
+        self.held -= count;
+    }
+
+    // One read, into the room that is left. False at the end of the source.
+    pub fn fill<S: Source>(&mut self, source: &mut S) -> Result<bool, ReadFault>
+        requires { length self.old < 278_528 }
+        ensures gains { Gains self.old self.new (S.state source.old).left (S.state source.new).left }
+        ensures ok { IfOk result (λ more. GainedOrEnded more self.old self.new (S.state source.new).left) }
+        ensures err { OnErr result (self.new ≡ self.old) }
+        ensures only_reads { OnlyReads (S.state source.old) (S.state source.new) result }
+    {
+        match source.read(&mut self.buffer[self.held..]) {
+            Ok(count) => {
+                self.held += count;
+                Ok(count > 0)
+            }
+            Err(Failed) => Err(ReadFault),
+        }
+    }
+
+    // Reads until so many bytes are held. False where the source ends before.
+    pub fn hold<S: Source>(&mut self, source: &mut S, count: usize) -> Result<bool, ReadFault>
+        requires { count ≤ 278_528 }
+        ensures gains { Gains self.old self.new (S.state source.old).left (S.state source.new).left }
+        ensures ok { IfOk result (λ enough. HoldsOrEnded enough count self.new (S.state source.new).left) }
+        ensures err { OnErr result (length self.new < count) }
+        ensures only_reads { OnlyReads (S.state source.old) (S.state source.new) result }
+    {
+        'reading: while self.len() < count {
+            if !self.fill(source)? {
+                return Ok(false);
+            }
+        }
+        Ok(true)
+    }
+}
+
+/// The wire of a connection: the bytes that it gave and that are not used yet, how many requests were asked for, and
+/// whether it gives no more. One wire serves connections one after the other.
+#[derive(Drop)]
+pub struct Wire {
+    pub(crate) inflow: Inflow,
+    pub(crate) decoder: Decoder,
+    pub(crate) requests: usize,
+    pub(crate) spent: bool,
+}
+
+impl Model for Wire {
+    ghost use Rattle.std.specs.Prelude.{◌≡◌, ◌<◌, false};
+    ghost use Rattle.http_wire.specs.Asking.{WireState};
+
+    ghost Value = { WireState };
+
+    ghost view = { λ w. record { held = w.inflow; requests = w.requests; spent = w.spent } };
+
+    ghost invariant = { λ w. w.spent ≡ false → w.requests < 1000 };
+}
+
+impl Wire {
+    /// A wire for a connection that begins. It takes the buffers, and no other call on it takes memory but for a request.
+    ///
+    /// # Errors
+    /// `NoMemory` for want of memory.
+    pub fn new(alloc: Global) -> Result<Wire, NoMemory>
+        ensures { IfOk result (λ wire. wire ≡ fresh_wire) }
+    {
+        Ok(Wire {
+            inflow: Inflow::new(alloc)?,
+            decoder: Decoder::new(alloc)?,
+            requests: 0,
+            spent: false,
+        })
+    }
+
+    /// Makes it the wire of a connection that begins: what is held is forgotten. Takes no memory.
+    pub fn reset(&mut self)
+        ensures { self.new ≡ fresh_wire }
+    {
+        self.inflow.truncate(0);
+        self.requests = 0;
+        self.spent = false;
+    }
+
+    /// How many bytes were given and are not used yet: 278,528 at most. Takes no memory.
+    pub fn held(&self) -> usize
+        ensures count { result ≡ length self.now.held }
+        ensures limit { result ≤ 278_528 }
+    {
+        self.inflow.len()
+    }
+}
