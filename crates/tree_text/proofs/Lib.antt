@@ -18,3 +18,5 @@ pub mod ReadAnswers
 pub mod ProperTags
 pub mod ProperComments
 pub mod ProperTrees
+pub mod ReadProper
+pub mod ProperBodies

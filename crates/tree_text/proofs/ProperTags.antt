@@ -34,7 +34,7 @@ pub weaker : (p q : ℕ → Bool) → ((c : ℕ) → p c ≡ true → q c ≡ tr
 weaker p q f [] h = tt
 weaker p q f (c ∷ cs) h = (f c h.0, weaker p q f cs h.1)
 
-pass_all : (p : ℕ → Bool) (cs : List ℕ) → AllPass p cs → list_all p cs ≡ true
+pub pass_all : (p : ℕ → Bool) (cs : List ℕ) → AllPass p cs → list_all p cs ≡ true
 pass_all p [] h = refl
 pass_all p (c ∷ cs) h = join (p c) (list_all p cs) h.0 (pass_all p cs h.1)
 
@@ -83,7 +83,7 @@ blank_by : (a : Bool) (c : ℕ) → is_char c ≡ true → is_char (cond a 32 c)
 blank_by true c h = refl
 blank_by false c h = h
 
-blanks_chars : (cs : List ℕ) → AllPass is_char cs → AllPass is_char (blanks cs)
+pub blanks_chars : (cs : List ℕ) → AllPass is_char cs → AllPass is_char (blanks cs)
 blanks_chars [] h = tt
 blanks_chars (c ∷ cs) h = (blank_by (c == 9 || c == 10) c h.0, blanks_chars cs h.1)
 
