@@ -8,3 +8,15 @@ pub mod CommentLemmas
 pub mod ElementLemmas
 pub mod Told
 pub mod PrintLemmas
+pub mod JudgeTags
+pub mod ReadParts
+pub mod ReadTexts
+pub mod ReadElements
+pub mod ReadDocuments
+pub mod ReadBodies
+pub mod ReadAnswers
+pub mod ProperTags
+pub mod ProperComments
+pub mod ProperTrees
+pub mod ReadProper
+pub mod ProperBodies

@@ -225,17 +225,21 @@ read_misc = read_either (starts bang) (read_dropped read_comment) read_instructi
 abbrev pub misc_follows : List ℕ → Bool
 misc_follows t = starts bang t || starts instruction_start t
 
-abbrev pub read_miscs : Reader Kind (Unit {0}) → Reader Kind (Unit {0})
-read_miscs one_more = read_dropped (read_between misc_follows (read_dropped read_spaces) one_more)
+-- `<`: behind the root element nothing else can begin with it
+abbrev pub less_follows : List ℕ → Bool
+less_follows = head_is (λ c. c == 60)
+
+abbrev pub read_miscs : (List ℕ → Bool) → Reader Kind (Unit {0}) → Reader Kind (Unit {0})
+read_miscs follows one_more = read_dropped (read_between follows (read_dropped read_spaces) one_more)
 
 abbrev pub read_prolog_misc : Reader Kind (Unit {0})
 read_prolog_misc = read_either (starts (bang ++ doctype)) (read_trap Doctyped bang doctype) read_misc
 
 abbrev pub read_prolog : Reader Kind (Unit {0})
-read_prolog = read_miscs read_prolog_misc
+read_prolog = read_miscs misc_follows read_prolog_misc
 
 abbrev pub read_epilog : Reader Kind (Unit {0})
-read_epilog = read_miscs read_misc
+read_epilog = read_miscs less_follows read_misc
 
 -- a document, with so many levels
 abbrev pub read_text : ℕ → List (List Decl) → Reader Kind Tree

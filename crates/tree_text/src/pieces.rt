@@ -6,7 +6,7 @@ ghost use Rattle.xml_tree.specs.Comments.{is_comment};
 ghost use Rattle.tree_text.specs.Gives.{Gives};
 ghost use Rattle.tree_text.specs.Grammar.{is_target};
 ghost use Rattle.tree_text.specs.Pieces.{line_ends};
-ghost use Rattle.tree_text.specs.Reading.{space_follows, misc_follows, read_comment_inside, read_comment, read_section, read_instructed, read_instruction, read_misc, read_prolog_misc, read_prolog, read_epilog, read_dropped};
+ghost use Rattle.tree_text.specs.Reading.{space_follows, misc_follows, less_follows, read_comment_inside, read_comment, read_section, read_instructed, read_instruction, read_misc, read_prolog_misc, read_prolog, read_epilog, read_dropped};
 
 use crate::kind::Kind;
 use crate::parts::{name, spaces, word};
@@ -123,6 +123,13 @@ pub fn prolog(text: &[char]) -> Result<&[char], Stop<'_>>
     Ok(rest)
 }
 
+/// Whether a `<` follows: behind the root element only a comment or an instruction can begin with it.
+fn less_follows(text: &[char]) -> bool
+    ensures { result ≡ less_follows text.now }
+{
+    matches!(text, ['<', ..])
+}
+
 /// What follows white space, comments and instructions behind the root element.
 pub fn epilog(text: &[char]) -> Result<&[char], Stop<'_>>
     ensures { Gives (λ rest. (tt, rest.now)) result (read_epilog text.now) }
@@ -130,7 +137,7 @@ pub fn epilog(text: &[char]) -> Result<&[char], Stop<'_>>
     let (_, start) = spaces(text);
     let mut rest = start;
     for _ in 0..start.len() {
-        if !misc_follows(rest) {
+        if !less_follows(rest) {
             break;
         }
         let after = misc(rest)?;

@@ -3,30 +3,30 @@ use Rattle.std.proofs.lemmas.Result.{err_from_is_err_and}
 use Rattle.grammar_rules.specs.Reading.{Stop, ◌>>=◌, read_sequence}
 use Rattle.tree_text.specs.declared.kind.Kind.{Kind}
 use Rattle.tree_text.specs.Members.{nothing_with}
-use Rattle.tree_text.specs.Reading.{misc_follows, read_dropped, read_spaces, read_misc, read_epilog}
+use Rattle.tree_text.specs.Reading.{less_follows, read_dropped, read_spaces, read_misc, read_epilog}
 use Rattle.tree_text.proofs.Loops.{start, both_ok, first_stops, goes_on, ends, is_done, is_stopped, dropped_ok}
 use Rattle.tree_text.proofs.pieces.epilog.Goals as goal
-use Rattle.tree_text.proofs.pieces.epilog.Goals.{else-loop-test, then-loop-test+then-not-misc_follows}
+use Rattle.tree_text.proofs.pieces.epilog.Goals.{else-loop-test, then-loop-test+then-not-less_follows}
 
 pub loop-init : goal.loop-init
 loop-init c =
     let all : length c.spaces.result.1.now - 0 ≡ length c.spaces.result.1.now = omega arith in
-    rw all (start misc_follows (read_dropped read_spaces) read_misc (λ _. tt) c.args.text.now c.spaces.result.1.now tt (dropped_ok read_spaces c.args.text.now c.spaces.result.1.now c.spaces.result.0.now c.spaces.ensures.read))
+    rw all (start less_follows (read_dropped read_spaces) read_misc (λ _. tt) c.args.text.now c.spaces.result.1.now tt (dropped_ok read_spaces c.args.text.now c.spaces.result.1.now c.spaces.result.0.now c.spaces.ensures.read))
 
 pub returns-in_err-after : goal.returns-in_err-after
 returns-in_err-after c =
     let p = err_from_is_err_and c.from_residual.result c.from_residual.ensures.1 in
-    rw (p.1, p.2) (ends misc_follows (read_sequence read_misc (λ _. read_dropped read_spaces)) nothing_with c.in_err-after.field-0.0 tt _ c.loop.counter c.loop.rest.now (read_epilog c.args.text.now) c.loop-test.true (sym c.misc_follows.ensures ∙ c.if-not-misc_follows.false)
+    rw (p.1, p.2) (ends less_follows (read_sequence read_misc (λ _. read_dropped read_spaces)) nothing_with c.in_err-after.field-0.0 tt _ c.loop.counter c.loop.rest.now (read_epilog c.args.text.now) c.loop-test.true (sym c.less_follows.ensures ∙ c.if-not-less_follows.false)
     (first_stops read_misc (λ _. read_dropped read_spaces) c.loop.rest.now c.in_err-after.field-0.0 c.in_err-after.ensures) c.loop.invariant)
 
 pub loop-preserved : goal.loop-preserved
 loop-preserved c =
-    goes_on misc_follows (read_sequence read_misc (λ _. read_dropped read_spaces)) nothing_with tt tt _ c.loop.counter c.loop.rest.now c.spaces-in-loop.result.1.now (tt, tt) (read_epilog c.args.text.now) c.loop-test.true (sym c.misc_follows.ensures ∙ c.if-not-misc_follows.false)
+    goes_on less_follows (read_sequence read_misc (λ _. read_dropped read_spaces)) nothing_with tt tt _ c.loop.counter c.loop.rest.now c.spaces-in-loop.result.1.now (tt, tt) (read_epilog c.args.text.now) c.loop-test.true (sym c.less_follows.ensures ∙ c.if-not-less_follows.false)
     (both_ok read_misc (λ _. read_dropped read_spaces) c.loop.rest.now c.in_ok-after.after.now c.spaces-in-loop.result.1.now tt tt c.in_ok-after.ensures (dropped_ok read_spaces c.in_ok-after.after.now c.spaces-in-loop.result.1.now c.spaces-in-loop.result.0.now c.spaces-in-loop.ensures.read))
     (λ xs. refl) c.loop.invariant
 
 pub returns : goal.returns
 returns c = elim c.loop-test.branch [
-  | else-loop-test w ↦ is_done misc_follows (read_sequence read_misc (λ _. read_dropped read_spaces)) nothing_with tt _ c.loop.counter c.loop.rest.now (read_epilog c.args.text.now) w.loop-test.false c.loop.invariant
-  | then-loop-test+then-not-misc_follows w ↦ is_stopped misc_follows (read_sequence read_misc (λ _. read_dropped read_spaces)) nothing_with tt _ c.loop.counter c.loop.rest.now (read_epilog c.args.text.now) (sym w.misc_follows.ensures ∙ w.if-not-misc_follows.true) c.loop.invariant
+  | else-loop-test w ↦ is_done less_follows (read_sequence read_misc (λ _. read_dropped read_spaces)) nothing_with tt _ c.loop.counter c.loop.rest.now (read_epilog c.args.text.now) w.loop-test.false c.loop.invariant
+  | then-loop-test+then-not-less_follows w ↦ is_stopped less_follows (read_sequence read_misc (λ _. read_dropped read_spaces)) nothing_with tt _ c.loop.counter c.loop.rest.now (read_epilog c.args.text.now) (sym w.less_follows.ensures ∙ w.if-not-less_follows.true) c.loop.invariant
 ]

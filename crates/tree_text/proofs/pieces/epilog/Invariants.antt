@@ -1,9 +1,9 @@
 use Rattle.std.proofs.Common.{◌≡◌, ◌-◌}
 use Rattle.grammar_rules.specs.Reading.{read_sequence, read_at_most}
 use Rattle.tree_text.specs.Members.{nothing_with}
-use Rattle.tree_text.specs.Reading.{misc_follows, read_dropped, read_spaces, read_misc, read_epilog}
+use Rattle.tree_text.specs.Reading.{less_follows, read_dropped, read_spaces, read_misc, read_epilog}
 use Rattle.tree_text.proofs.Loops.{finish}
 use Rattle.tree_text.proofs.pieces.epilog.Given as goal
 
 abbrev pub invariant-loop : goal.invariant-loop
-invariant-loop l = read_epilog l.text ≡ finish nothing_with tt (read_at_most misc_follows (read_sequence read_misc (λ _. read_dropped read_spaces)) (l.end - l.counter) l.rest)
+invariant-loop l = read_epilog l.text ≡ finish nothing_with tt (read_at_most less_follows (read_sequence read_misc (λ _. read_dropped read_spaces)) (l.end - l.counter) l.rest)

@@ -1,0 +1,32 @@
+-- The spelling of a body is read exactly.
+use Rattle.std.proofs.Common.{◌≡◌, ℕ, List, inl, refl, arith}
+use Rattle.std.specs.Prelude.{◌==◌}
+use Rattle.std.proofs.lemmas.Bool.Decides.{nat_tests}
+use Rattle.grammar_rules.specs.Reading.{read_whole}
+use Rattle.grammar_rules.specs.Answers.{Faults, Answers}
+use Rattle.grammar_rules.proofs.Exact.{Exact}
+use Rattle.grammar_rules.proofs.Carry.{exact_valued}
+use Rattle.grammar_rules.proofs.Heads.{starts_atomic}
+use Rattle.grammar_rules.proofs.Laws.{Lawful, lawful_run, lawful_atomic, lawful_valued, lawful_between}
+use Rattle.grammar_rules.proofs.Closed.{exact_atomic}
+use Rattle.grammar_rules.proofs.Tests.{exact_between_run_head}
+use Rattle.grammar_rules.proofs.Whole.{ends, heads_ends, answers_whole}
+use Rattle.tree_text.specs.declared.kind.Kind.{Kind}
+use Rattle.tree_text.specs.Pieces.{value_of}
+use Rattle.tree_text.specs.Grammar.{reference, spelling}
+use Rattle.tree_text.specs.Reading.{read_spelling}
+use Rattle.tree_text.proofs.ReadParts.{closed_reference, starts_reference, quiet_reference, same}
+
+module _ (faults : Faults Kind) where
+  pub exact_spelling : Exact faults spelling (λ _. ends) read_spelling
+  exact_spelling = exact_valued value_of (exact_between_run_head (λ c. c == 38) (starts_atomic (starts_reference faults {P = λ c. c ≡ 38} refl))
+      (λ c e. (same 38 c e, grind (arith, nat_tests)))
+      (heads_ends {P = λ c. ⊥}) (λ c n. absurd n) (λ c t n. n)
+      (exact_atomic (quiet_reference faults) (closed_reference faults)))
+
+  pub lawful_spelling : Lawful spelling
+  lawful_spelling = lawful_valued value_of (lawful_between lawful_run (lawful_atomic reference) (inl refl))
+
+  -- A spelling is read as the grammar says.
+  pub answers_spelling : (text : List ℕ) → Answers faults spelling text (read_whole read_spelling text)
+  answers_spelling text = answers_whole lawful_spelling exact_spelling text
