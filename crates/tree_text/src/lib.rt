@@ -4,6 +4,7 @@
 #![tactic(auto)]
 
 mod fault;
+mod bodies;
 mod declaration;
 mod elements;
 mod kind;
@@ -22,5 +23,7 @@ mod texts;
 mod values;
 mod written;
 
+pub use bodies::read_att_value;
 pub use fault::{TextFault, ValueFault};
+pub use printing::{print_att_value, print_document, print_element};
 pub use reading::{read_document, read_fragment};
