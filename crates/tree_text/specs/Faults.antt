@@ -90,6 +90,12 @@ closing (Some inside) = 1
 abbrev pub body_place : List ℕ → List ℕ → List ℕ → ℕ
 body_place body bytes left = place bytes left - closing (in_quotes body)
 
+-- the same of a stop of the code, of a body behind whose spelling so many bytes stand
+abbrev pub BodyFaultOf : List ℕ → ℕ → CodeStop → ValueFault → Type 0
+BodyFaultOf bytes behind (stops.Syntax rest) fault = fault ≡ bodies.NotValue (place bytes rest.now - behind)
+BodyFaultOf bytes behind (stops.Faulty kind rest) fault = fault ≡ bodies.NotValue (place bytes rest.now - behind)
+BodyFaultOf bytes behind stops.Memory fault = fault ≡ bodies.NoMemory
+
 abbrev pub body_told : List ℕ → List ℕ → Result (List ℕ) (Stop Kind) → Result (List ℕ) ValueFault
 body_told body bytes (Ok value) = Ok value
 body_told body bytes (Err (Syntax left)) = Err (bodies.NotValue (body_place body bytes left))

@@ -8,11 +8,15 @@ use Rattle.tree_text.specs.declared.kind.Kind.{Kind}
 use Rattle.tree_text.specs.declared.markup.Markup.{Markup}
 use Rattle.tree_text.specs.declared.markup.Markup.TheVariants.{Reference, Section, Comment, Instruction, Inner}
 use Rattle.tree_text.specs.Pieces.{more_value, with_pieces}
-use Rattle.tree_text.specs.Reading.{read_reference, read_raw, read_chars, read_markup, read_content, read_behind_tag}
+use Rattle.tree_text.specs.Reading.{read_plain, read_whole_reference, read_reference, read_raw, read_chars, read_markup, read_content, read_behind_tag}
 
 -- a reference of a value, and the raw characters behind it
 abbrev pub read_piece : ℕ → Reader Kind (ℕ × List ℕ)
 read_piece quote = read_sequence read_reference (λ _. read_raw quote)
+
+-- the same of a spelling
+abbrev pub read_spelled_piece : Reader Kind (ℕ × List ℕ)
+read_spelled_piece = read_sequence read_whole_reference (λ _. read_plain)
 
 -- a value so far, and the pieces that follow
 abbrev pub value_with : List ℕ → List (ℕ × List ℕ) → List ℕ

@@ -247,5 +247,11 @@ read_text levels scope = read_behind read_mark_if (read_behind read_declaration_
 
 -- ---- bodies that spell a value
 
+abbrev pub read_plain : Reader Kind (List ℕ)
+read_plain = read_run is_raw
+
+abbrev pub read_whole_reference : Reader Kind ℕ
+read_whole_reference = read_atomic read_reference
+
 abbrev pub read_spelling : Reader Kind (List ℕ)
-read_spelling = read_valued value_of (read_between reference_follows (read_run is_raw) (read_atomic read_reference))
+read_spelling = read_valued value_of (read_between reference_follows read_plain read_whole_reference)

@@ -4,6 +4,7 @@
 #![tactic(auto)]
 
 mod fault;
+mod bodies;
 mod declaration;
 mod elements;
 mod kind;
@@ -22,7 +23,9 @@ mod texts;
 mod values;
 mod written;
 
+pub use bodies::read_att_value;
 pub use fault::{TextFault, ValueFault};
+pub use printing::{print_att_value, print_document, print_element};
 pub use reading::{read_document, read_fragment};
 
 // The parts that the grammar of selectors shares: words, names, references and the raw characters of values.

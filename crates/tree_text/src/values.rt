@@ -109,12 +109,19 @@ pub fn reference(text: &[char]) -> Result<(char, &[char]), Stop<'_>>
     Ok((c, word(rest, &[';'])?))
 }
 
+/// Whether a character is a quote.
+pub fn is_quote(c: char) -> bool
+    ensures { result ≡ is_quote c }
+{
+    matches!(c, '"' | '\'')
+}
+
 /// A quote, and what follows it.
 pub fn quote(text: &[char]) -> Result<(char, &[char]), Stop<'_>>
     ensures { Gives (λ x. (x.0, x.1.now)) result (read_one is_quote text.now) }
 {
     match text {
-        [quote, rest @ ..] if *quote == '"' || *quote == '\'' => Ok((*quote, rest)),
+        [quote, rest @ ..] if is_quote(*quote) => Ok((*quote, rest)),
         _ => Err(Stop::Syntax(text)),
     }
 }
@@ -183,7 +190,7 @@ fn push_raw_char(value: &mut Text, c: char, after: &[char]) -> Result<(), AllocE
 }
 
 /// Adds raw characters of a value, as they are read.
-fn push_raw(value: &mut Text, run: &[char]) -> Result<(), AllocError>
+pub fn push_raw(value: &mut Text, run: &[char]) -> Result<(), AllocError>
     ensures { OnOk result (value.new ≡ value.old ++ raw run.now) }
 {
     let mut rest = run;
@@ -202,7 +209,7 @@ pub fn reference_follows(text: &[char]) -> bool
 }
 
 /// Adds a character from a reference, and the raw characters behind it.
-fn push_piece(value: &mut Text, c: char, run: &[char]) -> Result<(), AllocError>
+pub fn push_piece(value: &mut Text, c: char, run: &[char]) -> Result<(), AllocError>
     ensures { OnOk result (value.new ≡ value.old ++ (c ∷ raw run.now)) }
 {
     value.push(c)?;

@@ -1,0 +1,39 @@
+use Rattle.std.proofs.Common.{◌≡◌, ℕ, ◌-◌, List, [], ◌∷◌, ◌++◌, length, sym, ap, ◌∙◌, append_assoc, arith}
+use Rattle.std.proofs.lemmas.List.{append-nil}
+use Rattle.std.proofs.lemmas.Result.{err_from_is_err_and}
+use Rattle.tree_text.specs.Pieces.{value_of, raw, more_value}
+use Rattle.tree_text.specs.Members.{read_spelled_piece, value_with}
+use Rattle.tree_text.specs.Reading.{read_whole_reference, read_plain, reference_follows, read_spelling}
+use Rattle.tree_text.proofs.Loops.{start, both_ok, first_stops, goes_on, ends, is_done, is_stopped}
+use Rattle.tree_text.proofs.bodies.spelled.Goals as goal
+use Rattle.tree_text.proofs.bodies.spelled.Goals.{else-loop-test, then-loop-test+then-not-reference_follows}
+
+pub loop-init : goal.loop-init
+loop-init c =
+    let first : c.push_raw.new.value ≡ raw c.plain.result.0.now = c.in_ok-push_raw.ensures ∙ ap (λ (z : List ℕ). z ++ raw c.plain.result.0.now) c.no_text-value.ensures in
+    let all : length c.plain.result.1.now - 0 ≡ length c.plain.result.1.now = omega arith in
+    rw (first, all) (start reference_follows read_plain read_whole_reference value_of c.args.text.now c.plain.result.1.now c.plain.result.0.now c.plain.ensures)
+
+pub returns-in_err-c : goal.returns-in_err-c
+returns-in_err-c c =
+    let p = err_from_is_err_and c.from_residual-in_err-c.result c.from_residual-in_err-c.ensures.1 in
+    rw (p.1, p.2) (ends reference_follows read_spelled_piece value_with c.in_err-c.field-0.0 c.loop.value _ c.loop.counter c.loop.rest.now (read_spelling c.args.text.now) c.loop-test.true (sym c.reference_follows.ensures ∙ c.if-not-reference_follows.false)
+    (first_stops read_whole_reference (λ _. read_plain) c.loop.rest.now c.in_err-c.field-0.0 c.in_err-c.ensures) c.loop.invariant)
+
+join : (front : List ℕ) (x : ℕ) (cs : List ℕ) (pieces : List (ℕ × List ℕ)) → front ++ (x ∷ (raw cs ++ more_value pieces)) ≡ (front ++ (x ∷ raw cs)) ++ more_value pieces
+join front x cs pieces = sym (append_assoc front (x ∷ raw cs) (more_value pieces))
+
+pub loop-preserved : goal.loop-preserved
+loop-preserved c =
+    rw c.in_ok-push_piece.ensures (goes_on reference_follows read_spelled_piece value_with c.loop.value (c.loop.value ++ (c.in_ok-c.c ∷ raw c.plain-in-loop.result.0.now)) _ c.loop.counter c.loop.rest.now c.plain-in-loop.result.1.now (c.in_ok-c.c, c.plain-in-loop.result.0.now) (read_spelling c.args.text.now) c.loop-test.true (sym c.reference_follows.ensures ∙ c.if-not-reference_follows.false)
+    (both_ok read_whole_reference (λ _. read_plain) c.loop.rest.now c.in_ok-c.after.now c.plain-in-loop.result.1.now c.in_ok-c.c c.plain-in-loop.result.0.now c.in_ok-c.ensures c.plain-in-loop.ensures)
+    (λ xs. join c.loop.value c.in_ok-c.c c.plain-in-loop.result.0.now xs) c.loop.invariant)
+
+none_more : (front : List ℕ) → front ++ [] ≡ front
+none_more front = append-nil front
+
+pub returns : goal.returns
+returns c = elim c.loop-test.branch [
+  | else-loop-test w ↦ rw (none_more c.loop.value) at (is_done reference_follows read_spelled_piece value_with c.loop.value _ c.loop.counter c.loop.rest.now (read_spelling c.args.text.now) w.loop-test.false c.loop.invariant)
+  | then-loop-test+then-not-reference_follows w ↦ rw (none_more c.loop.value) at (is_stopped reference_follows read_spelled_piece value_with c.loop.value _ c.loop.counter c.loop.rest.now (read_spelling c.args.text.now) (sym w.reference_follows.ensures ∙ w.if-not-reference_follows.true) c.loop.invariant)
+]

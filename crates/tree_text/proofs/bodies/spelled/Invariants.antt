@@ -1,0 +1,9 @@
+use Rattle.std.proofs.Common.{◌≡◌, ◌-◌}
+use Rattle.grammar_rules.specs.Reading.{read_at_most}
+use Rattle.tree_text.specs.Members.{read_spelled_piece, value_with}
+use Rattle.tree_text.specs.Reading.{reference_follows, read_spelling}
+use Rattle.tree_text.proofs.Loops.{finish}
+use Rattle.tree_text.proofs.bodies.spelled.Given as goal
+
+abbrev pub invariant-loop : goal.invariant-loop
+invariant-loop l = read_spelling l.text ≡ finish value_with l.value (read_at_most reference_follows read_spelled_piece (l.end - l.counter) l.rest)
