@@ -1,5 +1,6 @@
 -- A body spells Chars.
-use Rattle.std.proofs.Common.{◌≡◌, ℕ, true, List, [], ◌∷◌, ◌++◌, Result, Ok, Err, inl, inr, sym, ap, subst, ◌∙◌}
+use Rattle.std.proofs.Common.{◌≡◌, ℕ, true, List, [], ◌∷◌, Result, Ok, Err, inl, inr, sym, ap, subst, ◌∙◌}
+use Rattle.std.specs.Prelude.{IfOk, IsTrue}
 use Rattle.std.specs.Str.{chars}
 use Rattle.xml_tree.specs.Characters.{is_char, all_chars}
 use Rattle.grammar_rules.specs.Rules.{AllPass, Each, run, sequence, atomic}
@@ -41,3 +42,8 @@ answer_chars bytes value (inr a) = let e = a.1 in absurd cc
 pub body_chars : (bytes value : List ℕ) → Unless bodies.NoMemory (body_read bytes) (Ok value) → all_chars value ≡ true
 body_chars bytes value (inl e) = answer_chars bytes value (subst (BodyAnswer bytes) (sym e) (body_answer bytes))
 body_chars bytes value (inr e) = absurd cc
+
+-- The same of an answer that may be a fault.
+pub body_good : (bytes : List ℕ) (answer : Result (List ℕ) ValueFault) → Unless bodies.NoMemory (body_read bytes) answer → IfOk answer (λ value. IsTrue (all_chars value))
+body_good bytes (Ok value) h = body_chars bytes value h
+body_good bytes (Err e) h = tt

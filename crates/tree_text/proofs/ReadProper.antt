@@ -1,5 +1,6 @@
 -- What reading answers, in the form in which contracts state it.
 use Rattle.std.proofs.Common.{◌≡◌, ℕ, suc, ◌+◌, ◌≤◌, List, Result, Ok, Err, ◌⊎◌, inl, inr, sym, subst, arith}
+use Rattle.std.specs.Prelude.{IfOk}
 use Rattle.std.specs.Str.{chars}
 use Rattle.grammar_rules.specs.Reading.{Stop}
 use Rattle.grammar_rules.specs.Answers.{Answers}
@@ -41,3 +42,8 @@ answer_proper limit scope bytes tree (inr a) = let e = a.1 in absurd cc
 pub text_proper : (limit : ℕ) (scope : List (List Decl)) (bytes : List ℕ) (tree : Tree) → Unless texts.NoMemory (text_read limit scope bytes) (Ok tree) → ProperIn scope tree × (height tree ≤ limit)
 text_proper limit scope bytes tree (inl e) = answer_proper limit scope bytes tree (subst (TextAnswer limit scope bytes) (sym e) (text_answer limit scope bytes))
 text_proper limit scope bytes tree (inr e) = absurd cc
+
+-- The same of an answer that may be a fault.
+pub text_good : (limit : ℕ) (scope : List (List Decl)) (bytes : List ℕ) (answer : Result Tree TextFault) → Unless texts.NoMemory (text_read limit scope bytes) answer → IfOk answer (λ tree. ProperIn scope tree × (height tree ≤ limit))
+text_good limit scope bytes (Ok tree) h = text_proper limit scope bytes tree h
+text_good limit scope bytes (Err e) h = tt

@@ -1,8 +1,9 @@
 //! Bodies that spell the value of an attribute (application/xcap-att+xml; RFC 4825, section 15.2.2).
-ghost use Rattle.std.specs.Prelude.{◌≡◌, length, option_map, IfOk, Ok};
+ghost use Rattle.std.specs.Prelude.{◌≡◌, ◌⊎◌, length, option_map, IfOk, IsTrue, Err, Ok};
 ghost use Rattle.std.specs.Str.{chars};
 ghost use Rattle.grammar_rules.specs.Reading.{front_of, after_front, read_atomic, read_run, read_whole};
-ghost use Rattle.tree_text.specs.Faults.{Unless, BodyFaultOf, body_read, closing, in_quotes, is_other, spelling_of};
+ghost use Rattle.xml_tree.specs.Characters.{all_chars};
+ghost use Rattle.tree_text.specs.Faults.{Unless, BodyAnswer, BodyFaultOf, body_read, closing, in_quotes, is_other, spelling_of};
 ghost use Rattle.tree_text.specs.Gives.{Gives, GivesAll};
 ghost use Rattle.tree_text.specs.Grammar.{is_quote, is_raw};
 ghost use Rattle.tree_text.specs.Reading.{read_reference, read_spelling, read_plain, read_whole_reference};
@@ -152,6 +153,15 @@ fn fault(bytes: &[u8], stop: Stop<'_>, behind: usize) -> ValueFault
 /// `NotUtf8` where the bytes aren't UTF-8; else `NotValue` at the first `<`, `&` that begins no reference, or character that is no
 /// Char; `NoMemory` for want of memory.
 pub fn read_att_value(alloc: Global, bytes: &[u8]) -> Result<Text, ValueFault>
+    ensures grammar { BodyAnswer bytes.now result ⊎ (result ≡ Err bodies.NoMemory) }
+    ensures chars { IfOk result (λ value. IsTrue (all_chars value)) }
+    ensures computed { Unless bodies.NoMemory (body_read bytes.now) result }
+{
+    read_body(alloc, bytes)
+}
+
+/// The value that the bytes of a body spell.
+fn read_body(alloc: Global, bytes: &[u8]) -> Result<Text, ValueFault>
     ensures { Unless bodies.NoMemory (body_read bytes.now) result }
 {
     let Ok(text) = str::from_utf8(bytes) else {

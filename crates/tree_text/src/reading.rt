@@ -1,8 +1,10 @@
 //! Reading documents, fragments and bodies.
-ghost use Rattle.std.specs.Prelude.{◌≡◌, ◌+◌, ◌≤◌, length, [], IfOk};
+ghost use Rattle.std.specs.Prelude.{◌≡◌, ◌⊎◌, ◌+◌, ◌≤◌, length, [], Err, IfOk};
 ghost use Rattle.std.specs.Str.{chars};
 ghost use Rattle.grammar_rules.specs.Reading.{read_whole};
-ghost use Rattle.tree_text.specs.Faults.{Unless, FaultOf, text_read, body_read};
+ghost use Rattle.xml_tree.specs.Proper.{ProperIn};
+ghost use Rattle.xml_tree.specs.Tree.{height};
+ghost use Rattle.tree_text.specs.Faults.{Unless, FaultOf, TextAnswer, text_read, body_read};
 ghost use Rattle.tree_text.specs.Gives.{Fails, GivesAll};
 ghost use Rattle.tree_text.specs.Reading.{read_text};
 ghost use Rattle.tree_text.specs.declared.fault.TextFault.TheVariants as texts;
@@ -64,12 +66,7 @@ fn fault(bytes: &[u8], stop: Stop<'_>) -> TextFault
 }
 
 /// The tree that bytes spell in a scope.
-fn read(
-    alloc: Global,
-    bytes: &[u8],
-    scope: &Scope<'_>,
-    depth: usize,
-) -> Result<Element, TextFault>
+fn read(alloc: Global, bytes: &[u8], scope: &Scope<'_>, depth: usize) -> Result<Element, TextFault>
     requires { length scope.now + depth ≤ 67 }
     ensures { Unless texts.NoMemory (text_read depth scope.now bytes.now) result }
 {
@@ -90,7 +87,9 @@ fn read(
 pub fn read_document(alloc: Global, bytes: &[u8], depth: usize) -> Result<Element, TextFault>
     requires least { 1 ≤ depth }
     requires most { depth ≤ 67 }
-    ensures { Unless texts.NoMemory (text_read depth [] bytes.now) result }
+    ensures grammar { TextAnswer depth [] bytes.now result ⊎ (result ≡ Err texts.NoMemory) }
+    ensures proper { IfOk result (λ tree. ProperIn [] tree × (height tree ≤ depth)) }
+    ensures computed { Unless texts.NoMemory (text_read depth [] bytes.now) result }
 {
     read(alloc, bytes, &Scope::empty(), depth)
 }
@@ -107,7 +106,9 @@ pub fn read_fragment(
     depth: usize,
 ) -> Result<Element, TextFault>
     requires { length scope.now + depth ≤ 67 }
-    ensures { Unless texts.NoMemory (text_read depth scope.now bytes.now) result }
+    ensures grammar { TextAnswer depth scope.now bytes.now result ⊎ (result ≡ Err texts.NoMemory) }
+    ensures proper { IfOk result (λ tree. ProperIn scope.now tree × (height tree ≤ depth)) }
+    ensures computed { Unless texts.NoMemory (text_read depth scope.now bytes.now) result }
 {
     read(alloc, bytes, scope, depth)
 }
