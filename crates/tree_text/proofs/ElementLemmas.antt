@@ -1,6 +1,6 @@
 -- An element is read: its tag, and what stands behind it.
-use Rattle.std.proofs.Common.{◌≡◌, ℕ, suc, ◌+◌, Bool, List, [], ◌∷◌, ◌++◌, Result, Ok, Err, refl, sym, ap, subst, ◌∙◌, arith}
-use Rattle.grammar_rules.specs.Reading.{Stop, Syntax, Faulty, Reader, ◌>>=◌, read_judged, read_valued}
+use Rattle.std.proofs.Common.{◌≡◌, ℕ, suc, ◌+◌, List, [], ◌∷◌, ◌++◌, Result, Ok, Err, refl, sym, ap, ◌∙◌, arith}
+use Rattle.grammar_rules.specs.Reading.{Stop, Syntax, Faulty, ◌>>=◌, read_judged}
 use Rattle.xml_tree.specs.Tree.{Content, Tree, tree_of}
 use Rattle.xml_tree.specs.declared.names.Name.{Name}
 use Rattle.xml_tree.specs.declared.names.Decl.{Decl}

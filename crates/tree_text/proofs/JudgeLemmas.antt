@@ -1,11 +1,8 @@
 -- The names of a tag, judged from the first to the last.
-use Rattle.std.proofs.Common.{◌≡◌, ℕ, suc, ◌+◌, ◌<◌, Bool, true, false, cond, List, [], ◌∷◌, ◌++◌, length, take, drop, get_or, refl, sym, ap, ◌∙◌, append_assoc, arith, add-one}
+use Rattle.std.proofs.Common.{◌≡◌, Bool, true, false, cond, List, [], ◌∷◌, ◌++◌, refl, ap}
 use Rattle.std.specs.Prelude.{◌&&◌}
-use Rattle.std.proofs.Math.Seq.{drop-cons}
-use Rattle.xml_tree.specs.declared.names.Decl.{Decl}
-use Rattle.xml_tree.specs.declared.names.Attr.{Attr}
 use Rattle.tree_text.specs.declared.said.Said.{Said}
-use Rattle.tree_text.specs.Names.{declares, decl_of, attr_of, widths, first_wrong, wrong_said, or_later, decls_of, attrs_of}
+use Rattle.tree_text.specs.Names.{declares, decl_of, attr_of, decls_of, attrs_of}
 
 pub no_and : (a : Bool) → a && false ≡ false
 no_and true = refl

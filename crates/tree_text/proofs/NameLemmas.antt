@@ -1,8 +1,8 @@
 -- Names as they are written, with a prefix or without.
-use Rattle.std.proofs.Common.{◌≡◌, ℕ, suc, ◌+◌, ◌<◌, Bool, true, false, cond, List, [], ◌∷◌, ◌++◌, length, Result, Ok, Err, refl, sym, ap, ◌∙◌, arith}
+use Rattle.std.proofs.Common.{◌≡◌, ℕ, ◌+◌, ◌<◌, Bool, true, false, cond, List, [], ◌∷◌, ◌++◌, length, Result, Err, refl, ap, ◌∙◌, arith}
 use Rattle.std.specs.Prelude.{nat_eq}
 use Rattle.std.proofs.lemmas.List.{length-append}
-use Rattle.grammar_rules.specs.Reading.{Stop, Syntax, Faulty, Reader, ◌>>=◌, read_word}
+use Rattle.grammar_rules.specs.Reading.{Stop, Syntax, ◌>>=◌, read_word}
 use Rattle.tree_text.specs.declared.kind.Kind.{Kind}
 use Rattle.tree_text.specs.Pieces.{written_by}
 

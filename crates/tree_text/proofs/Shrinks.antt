@@ -1,8 +1,8 @@
 -- What is left behind a reader is no longer than the text.
-use Rattle.std.proofs.Common.{◌≡◌, ℕ, zero, suc, ◌+◌, ◌*◌, ◌≤◌, Bool, true, false, cond, List, [], ◌∷◌, ◌++◌, length, Result, Ok, Err, refl, subst, arith}
-use Rattle.std.specs.Prelude.{nat_eq, nat_le, Option}
+use Rattle.std.proofs.Common.{◌≡◌, ℕ, zero, suc, ◌+◌, ◌*◌, ◌≤◌, Bool, true, false, cond, List, [], ◌∷◌, length, Result, Ok, Err, subst, arith}
+use Rattle.std.specs.Prelude.{nat_eq, nat_le}
 use Rattle.grammar_rules.specs.Digits.{Digits}
-use Rattle.grammar_rules.specs.Reading.{Stop, Syntax, Faulty, Reader, ◌>>=◌, after_front, number_end, read_digits, read_one, read_word, read_run, read_number, read_sequence, read_either, read_at_most, read_many, read_valued, read_empty}
+use Rattle.grammar_rules.specs.Reading.{Stop, Syntax, Reader, ◌>>=◌, after_front, number_end, read_digits, read_one, read_word, read_run, read_number, read_sequence, read_either, read_at_most, read_many, read_valued, read_empty}
 use Rattle.tree_text.specs.declared.kind.Kind.{Kind}
 
 abbrev pub Small : {A : Type 0} → ℕ → Result (A × List ℕ) (Stop Kind) → Type 0

@@ -1,7 +1,7 @@
 -- Attributes and tags: what is left behind them, and how many characters they take.
-use Rattle.std.proofs.Common.{◌≡◌, ℕ, ◌+◌, ◌≤◌, List, [], ◌∷◌, ◌++◌, length, Ok, refl, ap, arith}
+use Rattle.std.proofs.Common.{◌≡◌, ℕ, ◌+◌, ◌≤◌, List, [], ◌∷◌, ◌++◌, length, Ok, arith}
 use Rattle.std.specs.Prelude.{◌==◌}
-use Rattle.grammar_rules.specs.Reading.{head_is, starts, read_empty}
+use Rattle.grammar_rules.specs.Reading.{head_is, starts}
 use Rattle.tree_text.specs.Words.{ampersand, semicolon, hash, small_x, amp, lt, gt, quot, apos}
 use Rattle.grammar_rules.specs.Digits.{decimal, hexadecimal}
 use Rattle.xml_tree.specs.Characters.{is_char, is_space, is_name_start, is_name_char}

@@ -1,5 +1,5 @@
 -- The members of repetitions, as loops read them.
-use Rattle.std.specs.Prelude.{◌≡◌, ℕ, Bool, true, List, [], ◌∷◌, ◌++◌}
+use Rattle.std.specs.Prelude.{◌≡◌, ℕ, Bool, true, List, [], ◌++◌}
 use Rattle.grammar_rules.specs.Reading.{Reader, read_sequence, read_valued}
 use Rattle.xml_tree.specs.Comments.{is_comment}
 use Rattle.xml_tree.specs.Tree.{Content, Tree, tree_of}

@@ -1,6 +1,6 @@
 -- What the pieces of a text say: values, the parts of a tag, and content put together from left to right.
 use Rattle.std.specs.Prelude.{ℕ, Bool, true, false, length, List, [], ◌∷◌, ◌++◌, ◌==◌, if◌then◌else◌, ◌||◌, Option, None, Some}
-use Rattle.xml_tree.specs.Tree.{Content, Tree}
+use Rattle.xml_tree.specs.Tree.{Content}
 use Rattle.xml_tree.specs.Edits.{with_text, with_elem, with_comment}
 use Rattle.xml_tree.specs.declared.names.Name.{Name}
 use Rattle.std.specs.Char.{to_ascii_lowercase}

@@ -3,16 +3,16 @@
 //! XML 1.0 (fifth edition) and Namespaces in XML 1.0, as RFC 4825 exchanges them.
 #![tactic(auto)]
 
-mod fault;
 mod bodies;
 mod declaration;
 mod elements;
+mod fault;
 mod kind;
 mod markup;
-mod pieces;
-mod places;
 mod names;
 mod parts;
+mod pieces;
+mod places;
 mod printing;
 mod reading;
 mod runs;

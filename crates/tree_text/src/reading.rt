@@ -64,12 +64,7 @@ fn fault(bytes: &[u8], stop: Stop<'_>) -> TextFault
 }
 
 /// The tree that bytes spell in a scope.
-fn read(
-    alloc: Global,
-    bytes: &[u8],
-    scope: &Scope<'_>,
-    depth: usize,
-) -> Result<Element, TextFault>
+fn read(alloc: Global, bytes: &[u8], scope: &Scope<'_>, depth: usize) -> Result<Element, TextFault>
     requires { length scope.now + depth ≤ 67 }
     ensures { Unless texts.NoMemory (text_read depth scope.now bytes.now) result }
 {

@@ -34,11 +34,23 @@ pub fn qname(text: &[char]) -> Result<(Written<'_>, &[char]), Stop<'_>>
     let (first, rest) = name(text)?;
     if !colon_follows(rest) {
         let prefix = &first[..0];
-        return Ok((Written { prefix, local: first }, rest));
+        return Ok((
+            Written {
+                prefix,
+                local: first,
+            },
+            rest,
+        ));
     }
     let rest = word(rest, &[':'])?;
     let (local, rest) = name(rest)?;
-    Ok((Written { prefix: first, local }, rest))
+    Ok((
+        Written {
+            prefix: first,
+            local,
+        },
+        rest,
+    ))
 }
 
 /// What follows a name that is written as this one.

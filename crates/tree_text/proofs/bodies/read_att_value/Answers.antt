@@ -1,5 +1,4 @@
-use Rattle.std.proofs.Common.{inl, sym, ap, ◌∙◌}
-use Rattle.tree_text.specs.Faults.{spelling_of, closing, in_quotes}
+use Rattle.std.proofs.Common.{inl, sym, ◌∙◌}
 use Rattle.tree_text.proofs.Told.{body_not_read, body_ok_told, body_fault_told}
 use Rattle.tree_text.proofs.bodies.read_att_value.Goals as goal
 

@@ -1,4 +1,4 @@
-use Rattle.std.proofs.Common.{◌≡◌, sym, ap, ◌∙◌, arith}
+use Rattle.std.proofs.Common.{sym, ◌∙◌, arith}
 use Rattle.grammar_rules.specs.Digits.{is_digit}
 use Rattle.tree_text.proofs.RunLemmas.{some_read, none_read, run_len_le}
 use Rattle.tree_text.proofs.declaration.digits.Goals as goal

@@ -1,7 +1,6 @@
-use Rattle.std.proofs.Common.{◌≡◌, ◌≤◌, ◌-◌, length, take, drop, sym, ◌∙◌, arith}
-use Rattle.std.proofs.lemmas.List.{length-take, length-drop}
+use Rattle.std.proofs.Common.{sym, ◌∙◌}
 use Rattle.tree_text.specs.Grammar.{is_letter, is_encoding_char}
-use Rattle.tree_text.proofs.RunLemmas.{name_read, run_len_le}
+use Rattle.tree_text.proofs.RunLemmas.{name_read}
 use Rattle.tree_text.proofs.declaration.encoding_name.Goals as goal
 
 pub returns-in-len1-up : goal.returns-in-len1-up

@@ -1,4 +1,4 @@
-use Rattle.std.proofs.Common.{◌≡◌, List, [], ◌∷◌, ◌++◌, ap, sym, ◌∙◌}
+use Rattle.std.proofs.Common.{List, [], ◌∷◌, ◌++◌, ap, ◌∙◌}
 use Rattle.xml_tree.specs.declared.names.Attr.{Attr}
 use Rattle.tree_text.specs.Names.{attrs_of}
 use Rattle.tree_text.proofs.JudgeLemmas.{attrs-append}

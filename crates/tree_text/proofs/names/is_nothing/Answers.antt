@@ -1,10 +1,9 @@
 use Rattle.std.proofs.Common.{◌≡◌, [], bytes_eq, refl, ap, ◌∙◌}
 use Rattle.std.specs.Str.{chars}
-
 use Rattle.tree_text.proofs.names.is_nothing.Goals as goal
 
 letters : chars [] ≡ []
-unfolding chars 
+unfolding chars
 letters = refl
 
 pub returns : goal.returns

@@ -1,4 +1,4 @@
-use Rattle.std.proofs.Common.{◌≡◌, sym, ap, ◌∙◌, arith}
+use Rattle.std.proofs.Common.{arith}
 use Rattle.xml_tree.specs.Characters.{is_space}
 use Rattle.tree_text.proofs.RunLemmas.{some_read, run_len_le}
 use Rattle.tree_text.proofs.parts.some_spaces.Goals as goal

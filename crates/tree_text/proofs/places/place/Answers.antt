@@ -1,5 +1,5 @@
-use Rattle.std.proofs.Common.{◌≡◌, ℕ, ◌+◌, ◌-◌, List, [], ◌∷◌, ◌++◌, length, take, sym, ap, ◌∙◌, arith, encode_utf8, encode_utf8_all}
-use Rattle.std.proofs.lemmas.List.{length-append, take_more, take_all, append-nil}
+use Rattle.std.proofs.Common.{◌≡◌, ℕ, ◌+◌, List, [], ◌∷◌, ◌++◌, length, take, sym, ap, ◌∙◌, arith, encode_utf8, encode_utf8_all}
+use Rattle.std.proofs.lemmas.List.{length-append, take_more, append-nil}
 use Rattle.std.proofs.lemmas.Str.{encodes-append}
 use Rattle.tree_text.proofs.places.place.Goals as goal
 

@@ -5,4 +5,3 @@ use Rattle.tree_text.proofs.printing.+print.Given as goal
 
 abbrev pub invariant-push_ending-loop-node : goal.invariant-push_ending-loop-node
 invariant-push_ending-loop-node l = l.out ++ print_content (content_of (drop l.node-index l.nodes)) ≡ l.initial.out ++ print_content (content_of l.nodes)
-

@@ -1,4 +1,4 @@
-use Rattle.std.proofs.Common.{inl, sym, ap, ◌∙◌}
+use Rattle.std.proofs.Common.{inl, sym, ◌∙◌}
 use Rattle.tree_text.proofs.Told.{not_read, ok_told, fault_told}
 use Rattle.tree_text.proofs.reading.read.Goals as goal
 

@@ -1,4 +1,4 @@
-use Rattle.std.proofs.Common.{◌≡◌, sym, ◌∙◌}
+use Rattle.std.proofs.Common.{sym}
 use Rattle.grammar_rules.specs.Reading.{read_up_to}
 use Rattle.xml_tree.specs.Characters.{is_char}
 use Rattle.tree_text.proofs.RunLemmas.{inside_next, inside_found}

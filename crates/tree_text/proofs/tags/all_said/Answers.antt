@@ -1,8 +1,7 @@
-use Rattle.std.proofs.Common.{◌≡◌, ◌+◌, List, [], ◌∷◌, ◌++◌, length, sym, ap, ◌∙◌, append_assoc, arith}
+use Rattle.std.proofs.Common.{◌≡◌, List, [], ◌∷◌, ◌++◌, sym, ◌∙◌, append_assoc, arith}
 use Rattle.std.proofs.lemmas.List.{append-nil}
 use Rattle.std.proofs.lemmas.Result.{err_from_is_err_and}
 use Rattle.tree_text.specs.declared.said.Said.{Said}
-use Rattle.tree_text.specs.Names.{widths}
 use Rattle.tree_text.specs.Reading.{said_follows, read_said, read_all_said}
 use Rattle.tree_text.proofs.Loops.{goes_on, ends, is_done, is_stopped}
 use Rattle.tree_text.proofs.TagLemmas.{widths-append}
