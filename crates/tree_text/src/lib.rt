@@ -19,6 +19,8 @@ mod runs;
 mod said;
 mod stop;
 mod tags;
+#[cfg(test)]
+mod tests;
 mod texts;
 mod values;
 mod written;
