@@ -1,5 +1,5 @@
 //! Texts of XML documents, fragments and attribute bodies, read and printed.
-//! It promises that a text is read exactly as its grammar says, each fault with its place, and that what is printed reads back.
+//! It promises that a text is read exactly as its grammar says, each fault with its place, and that what is printed is the print of the tree.
 //! XML 1.0 (fifth edition) and Namespaces in XML 1.0, as RFC 4825 exchanges them.
 #![tactic(auto)]
 
