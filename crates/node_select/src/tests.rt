@@ -1,9 +1,11 @@
 use crate::{
     Bindings, End, PatchEnd, Selector, SelectorFault, find_attr, longest_match, print_path,
-    read_patch_selector, read_selector,
+    read_patch_selector, read_selector, select,
 };
+use std::alloc::Global;
+use std::process::Abort;
 use std::test::Fail;
-use xml_tree::{Attr, Decl, Element, Name, Path, Scope, Text};
+use xml_tree::{Attr, Decl, Element, Name, Path, Scope, Text, depth};
 
 const LISTS: &str = "urn:ietf:params:xml:ns:resource-lists";
 
@@ -42,28 +44,68 @@ fn list(rt: &HostRuntime, called: &str) -> Result<Element, Fail> {
     Ok(list)
 }
 
-fn read(rt: &HostRuntime, text: &str) -> Result<Selector, SelectorFault> {
-    let bindings = Bindings::none(rt.alloc());
-    read_selector(rt.alloc(), text, &bindings, LISTS)
+fn read(alloc: Global, text: &str) -> Result<Selector, SelectorFault> {
+    let bindings = Bindings::none(alloc);
+    read_selector(alloc, text, &bindings, LISTS)
+}
+
+// How many first steps select an element, and whether all of them do. The trees of these tests are shallow, which `depth` tells.
+fn leads(
+    rt: &impl Abort,
+    alloc: Global,
+    root: &Element,
+    text: &str,
+    steps: usize,
+    finds: bool,
+) -> Result<(), Fail> {
+    let selector = read(alloc, text)?;
+    if depth(root) <= 64 {
+        assert_eq!(rt; longest_match(root, &selector), steps, "{text}");
+        let found = select(root, &selector).is_some();
+        assert!(rt; found == finds, "{text}");
+    }
+    Ok(())
 }
 
 #[test]
-fn counts_how_far_a_selector_leads(rt: HostRuntime) -> Result<(), Fail> {
+fn a_selector_leads_as_far_as_each_step_selects_one(rt: HostRuntime) -> Result<(), Fail> {
     let mut root = root(&rt)?;
     root.push_elem(list(&rt, "friends")?)?;
     root.push_elem(list(&rt, "work")?)?;
-    for (text, steps) in [
-        ("resource-lists/list[@name=\"friends\"]/entry[2]", 3),
-        ("*/list[2][@name='work']/*[@uri=\"sip:&#97;@x\"]", 3),
-        ("resource-lists/list", 1),
-        ("resource-lists/list[1]/entry[0]", 2),
-        ("resource-lists/list[2][@name=\"friends\"]", 1),
-        ("resource-lists[1]", 1),
-        ("list", 0),
-    ] {
-        let selector = read(&rt, text)?;
-        assert_eq!(rt; longest_match(&root, &selector), steps, "{text}");
-    }
+    leads(
+        &rt,
+        rt.alloc(),
+        &root,
+        "resource-lists/list[@name=\"friends\"]/entry[2]",
+        3,
+        true,
+    )?;
+    leads(
+        &rt,
+        rt.alloc(),
+        &root,
+        "*/list[2][@name='work']/*[@uri=\"sip:&#97;@x\"]",
+        3,
+        true,
+    )?;
+    leads(&rt, rt.alloc(), &root, "resource-lists/list", 1, false)?;
+    leads(
+        &rt,
+        rt.alloc(),
+        &root,
+        "resource-lists/list[1]/entry[0]",
+        2,
+        false,
+    )?;
+    leads(
+        &rt,
+        rt.alloc(),
+        &root,
+        "resource-lists/list[2][@name=\"friends\"]",
+        1,
+        false,
+    )?;
+    leads(&rt, rt.alloc(), &root, "list", 0, false)?;
     assert_eq!(rt; print_path(rt.alloc(), &Path::root())?.as_str(), "*");
     Ok(())
 }
@@ -90,7 +132,7 @@ fn reads_ends_and_the_last_binding(rt: HostRuntime) -> Result<(), Fail> {
     assert!(rt;
         matches!(&selector.end, End::Attribute { uri, local } if uri.is("urn:b") && local.is("x"))
     );
-    let selector = read(&rt, "resource-lists/list/namespace::*")?;
+    let selector = read(rt.alloc(), "resource-lists/list/namespace::*")?;
     assert!(rt; matches!(&selector.end, End::Namespaces));
     let patch = read_patch_selector(rt.alloc(), "/*/list/text()[2]", &bindings, LISTS)?;
     assert!(rt; matches!(&patch.end, PatchEnd::Chars(Some(2))));
@@ -98,32 +140,57 @@ fn reads_ends_and_the_last_binding(rt: HostRuntime) -> Result<(), Fail> {
     Ok(())
 }
 
+fn stops(rt: &impl Abort, alloc: Global, text: &str, fault: SelectorFault) -> Result<(), Fail> {
+    assert_eq!(rt; read(alloc, text).err(), Some(fault), "{text}");
+    Ok(())
+}
+
 #[test]
 fn tells_where_a_text_is_no_selector(rt: HostRuntime) -> Result<(), Fail> {
-    for (text, place) in [
-        ("", 0),
-        ("*/namespace\u{fffd}:*", 15),
-        ("resource-l]]>ists", 10),
-        ("namespace::*", 10),
-        ("é:namespace::*", 12),
-        ("resource-lists[0x]", 16),
-        ("a[@xmlns=\"b\"]", 8),
-        ("a/@xmlns", 8),
-        ("a[@b=\"&#1114112;\"]", 14),
-        ("resource-lists/", 15),
-    ] {
-        assert_eq!(rt;
-            read(&rt, text).err(),
-            Some(SelectorFault::BadSelector(place)),
-            "{text}"
-        );
-    }
-    for (text, place) in [("p:list", 0), ("é/list[@xmlns:a='é']/q:b", 9)] {
-        assert_eq!(rt;
-            read(&rt, text).err(),
-            Some(SelectorFault::UnboundPrefix(place)),
-            "{text}"
-        );
-    }
+    stops(&rt, rt.alloc(), "", SelectorFault::BadSelector(0))?;
+    stops(
+        &rt,
+        rt.alloc(),
+        "*/namespace\u{fffd}:*",
+        SelectorFault::BadSelector(15),
+    )?;
+    stops(
+        &rt,
+        rt.alloc(),
+        "resource-l]]>ists",
+        SelectorFault::BadSelector(10),
+    )?;
+    stops(
+        &rt,
+        rt.alloc(),
+        "resource-lists[0x]",
+        SelectorFault::BadSelector(16),
+    )?;
+    stops(
+        &rt,
+        rt.alloc(),
+        "a[@xmlns=\"b\"]",
+        SelectorFault::BadSelector(8),
+    )?;
+    stops(&rt, rt.alloc(), "a/@xmlns", SelectorFault::BadSelector(8))?;
+    stops(
+        &rt,
+        rt.alloc(),
+        "a[@b=\"&#1114112;\"]",
+        SelectorFault::BadSelector(14),
+    )?;
+    stops(
+        &rt,
+        rt.alloc(),
+        "resource-lists/",
+        SelectorFault::BadSelector(15),
+    )?;
+    stops(&rt, rt.alloc(), "p:list", SelectorFault::UnboundPrefix(0))?;
+    stops(
+        &rt,
+        rt.alloc(),
+        "\u{e9}/list[@xmlns:a='\u{e9}']/q:b",
+        SelectorFault::UnboundPrefix(9),
+    )?;
     Ok(())
 }
