@@ -4,4 +4,5 @@ pub mod Connections
 pub mod Echoes
 pub mod Memory
 pub mod Pairs
+pub mod Sockets
 pub mod Streams

@@ -1,7 +1,12 @@
-// Real sockets. These few lines are the trusted edge: no contract says what a socket gives or takes.
-ghost use Rattle.std.specs.Prelude.{◌≡◌, ◌<◌, ◌≤◌, ℕ, [], None, length, IfSome, IfOk, IsTrue};
-ghost use Rattle.xcap_io.specs.Causes.{no_port, no_peer};
-ghost use Rattle.xcap_io.specs.Connections.{OnlyNext};
+// Real sockets. These few lines are the trusted edge: no contract says what a socket of the system's gives or takes. What they
+// do with the sockets that they hold is said.
+ghost use Rattle.std.specs.Prelude.{◌≡◌, ◌<◌, ◌≤◌, ℕ, [], None, length, IfOk, OnOk, OnErr, IsSome, IfSome, IsTrue};
+ghost use Rattle.std.specs.Io.{ReadsAtMost};
+ghost use Rattle.std.specs.Io.KnownBytes.{ReadConsumes, WriteAppends};
+ghost use Rattle.xcap_io.specs.Causes.{Counts, OnlyReads, OnlyWrites, no_port, no_peer};
+ghost use Rattle.xcap_io.specs.Connections.{Listens, OnlyConnects, OnlyNext};
+ghost use Rattle.xcap_io.specs.Sockets.{ReadsStream, WritesStream};
+ghost use Rattle.xcap_io.specs.Streams.{WritesSome};
 
 use crate::line::fault;
 use crate::{Failed, Line, Peer, Port, Sink, Source};
@@ -106,34 +111,50 @@ impl<N: Net + Drop> Line for TcpPeer<N> {
     } };
 }
 
-// One read of the present connection; nothing where there is none, or it failed.
-fn read_some<S: Read>(stream: &mut Option<S>, buf: &mut [u8]) -> Option<usize>
-    ensures { IfSome result (λ n. n ≤ length buf.new) }
+// One read of the present connection. Where there is none, or the read failed, that is counted.
+fn read_from<S: Read>(
+    stream: &mut Option<S>,
+    faults: &mut u64,
+    buf: &mut [u8],
+) -> Result<usize, Failed>
+    ensures bound { ReadsAtMost result buf.new }
+    ensures counts { Counts faults.old faults.new result }
+    ensures later { faults.old ≤ faults.new }
+    ensures from_stream { ReadsStream S.remaining stream.old stream.new result buf.new }
 {
     match stream {
         Some(stream) => match stream.read(buf) {
-            Ok(count) => Some(count),
-            Err(_) => None,
+            Ok(count) => Ok(count),
+            Err(_) => Err(fault(faults)),
         },
-        None => None,
+        None => Err(fault(faults)),
     }
 }
 
-// One write to the present connection; nothing where there is none, or it failed, or it took nothing.
-fn write_some<S: Write>(stream: &mut Option<S>, piece: &[u8]) -> Option<usize>
-    ensures { IfSome result (λ n. (0 < n) × (n ≤ length piece.now)) }
+// One write to the present connection. Where there is none, or the write failed, or it took nothing, that is counted.
+fn write_to<S: Write>(
+    stream: &mut Option<S>,
+    faults: &mut u64,
+    piece: &[u8],
+) -> Result<usize, Failed>
+    ensures bound { WritesSome result piece.now }
+    ensures counts { Counts faults.old faults.new result }
+    ensures later { faults.old ≤ faults.new }
+    ensures to_stream { WritesStream S.contents stream.old stream.new result piece.now }
 {
     match stream {
         Some(stream) => match stream.write(piece) {
-            Ok(count) if count > 0 => Some(count),
-            _ => None,
+            Ok(count) if count > 0 => Ok(count),
+            _ => Err(fault(faults)),
         },
-        None => None,
+        None => Err(fault(faults)),
     }
 }
 
 // The next connection, which this may wait for; nothing where nobody listens, or it failed.
-fn accept_next<L: OpenListener>(listener: &Option<L>) -> Option<L::Stream> {
+fn accept_next<L: OpenListener>(listener: &Option<L>) -> Option<L::Stream>
+    ensures { IfSome result (λ _. IsSome listener.now) }
+{
     match listener {
         Some(listener) => match listener.accept() {
             Ok((stream, _)) => Some(stream),
@@ -149,25 +170,43 @@ fn send_at_once<S: OpenStream>(stream: &S) {
 }
 
 impl<N: Net + Drop> Source for TcpPort<N> {
-    fn read(&mut self, buf: &mut [u8]) -> Result<usize, Failed> {
-        match read_some(&mut self.stream, buf) {
-            Some(count) => Ok(count),
-            None => Err(fault(&mut self.read_faults)),
-        }
+    fn read(&mut self, buf: &mut [u8]) -> Result<usize, Failed>
+        requires { 0 < length buf.old }
+        ensures bound { ReadsAtMost result buf.new }
+        ensures bytes { ReadConsumes (⟦<TcpPort<N> as Line>⟧.state self.old).left
+            (⟦<TcpPort<N> as Line>⟧.state self.new).left result buf.new }
+        ensures only_reads { OnlyReads
+            (⟦<TcpPort<N> as Line>⟧.state self.old) (⟦<TcpPort<N> as Line>⟧.state self.new) result }
+        ensures from_stream { ReadsStream N.Stream.remaining self.old.stream self.new.stream result buf.new }
+        ensures same_listener { self.new.listener ≡ self.old.listener }
+    {
+        read_from(&mut self.stream, &mut self.read_faults, buf)
     }
 }
 
 impl<N: Net + Drop> Sink for TcpPort<N> {
-    fn write(&mut self, piece: &[u8]) -> Result<usize, Failed> {
-        match write_some(&mut self.stream, piece) {
-            Some(count) => Ok(count),
-            None => Err(fault(&mut self.write_faults)),
-        }
+    fn write(&mut self, piece: &[u8]) -> Result<usize, Failed>
+        requires { 0 < length piece.now }
+        ensures bound { WritesSome result piece.now }
+        ensures bytes { WriteAppends (⟦<TcpPort<N> as Line>⟧.state self.old).taken
+            (⟦<TcpPort<N> as Line>⟧.state self.new).taken result piece.now }
+        ensures only_writes { OnlyWrites
+            (⟦<TcpPort<N> as Line>⟧.state self.old) (⟦<TcpPort<N> as Line>⟧.state self.new) result }
+        ensures to_stream { WritesStream N.Stream.contents self.old.stream self.new.stream result piece.now }
+        ensures same_listener { self.new.listener ≡ self.old.listener }
+    {
+        write_to(&mut self.stream, &mut self.write_faults, piece)
     }
 }
 
 impl<N: Net + Drop> Port for TcpPort<N> {
-    fn listen(&mut self, address: &str) -> Result<(), Failed> {
+    fn listen(&mut self, address: &str) -> Result<(), Failed>
+        ensures listens { Listens
+            (⟦<TcpPort<N> as Line>⟧.state self.old) (⟦<TcpPort<N> as Line>⟧.state self.new) result address.now }
+        ensures has_listener { OnOk result (IsSome self.new.listener) }
+        ensures same_listener { OnErr result (self.new.listener ≡ self.old.listener) }
+        ensures same_stream { self.new.stream ≡ self.old.stream }
+    {
         match TcpListener::bind(&self.net, address) {
             Ok(listener) => {
                 self.listener = Some(listener);
@@ -182,6 +221,10 @@ impl<N: Net + Drop> Port for TcpPort<N> {
         ensures only_next { OnlyNext
             (⟦<TcpPort<N> as Line>⟧.state self.old) (⟦<TcpPort<N> as Line>⟧.state self.new) result }
         ensures endless { IfOk result (λ begins. IsTrue begins) }
+        ensures has_listener { OnOk result (IsSome self.old.listener) }
+        ensures same_listener { self.new.listener ≡ self.old.listener }
+        ensures begun { OnOk result (IsSome self.new.stream) }
+        ensures ended { OnErr result (self.new.stream ≡ None) }
     {
         // The peer waits for the end of the present connection, so it is closed first.
         self.stream = None;
@@ -197,25 +240,40 @@ impl<N: Net + Drop> Port for TcpPort<N> {
 }
 
 impl<N: Net + Drop> Source for TcpPeer<N> {
-    fn read(&mut self, buf: &mut [u8]) -> Result<usize, Failed> {
-        match read_some(&mut self.stream, buf) {
-            Some(count) => Ok(count),
-            None => Err(fault(&mut self.read_faults)),
-        }
+    fn read(&mut self, buf: &mut [u8]) -> Result<usize, Failed>
+        requires { 0 < length buf.old }
+        ensures bound { ReadsAtMost result buf.new }
+        ensures bytes { ReadConsumes (⟦<TcpPeer<N> as Line>⟧.state self.old).left
+            (⟦<TcpPeer<N> as Line>⟧.state self.new).left result buf.new }
+        ensures only_reads { OnlyReads
+            (⟦<TcpPeer<N> as Line>⟧.state self.old) (⟦<TcpPeer<N> as Line>⟧.state self.new) result }
+        ensures from_stream { ReadsStream N.Stream.remaining self.old.stream self.new.stream result buf.new }
+    {
+        read_from(&mut self.stream, &mut self.read_faults, buf)
     }
 }
 
 impl<N: Net + Drop> Sink for TcpPeer<N> {
-    fn write(&mut self, piece: &[u8]) -> Result<usize, Failed> {
-        match write_some(&mut self.stream, piece) {
-            Some(count) => Ok(count),
-            None => Err(fault(&mut self.write_faults)),
-        }
+    fn write(&mut self, piece: &[u8]) -> Result<usize, Failed>
+        requires { 0 < length piece.now }
+        ensures bound { WritesSome result piece.now }
+        ensures bytes { WriteAppends (⟦<TcpPeer<N> as Line>⟧.state self.old).taken
+            (⟦<TcpPeer<N> as Line>⟧.state self.new).taken result piece.now }
+        ensures only_writes { OnlyWrites
+            (⟦<TcpPeer<N> as Line>⟧.state self.old) (⟦<TcpPeer<N> as Line>⟧.state self.new) result }
+        ensures to_stream { WritesStream N.Stream.contents self.old.stream self.new.stream result piece.now }
+    {
+        write_to(&mut self.stream, &mut self.write_faults, piece)
     }
 }
 
 impl<N: Net + Drop> Peer for TcpPeer<N> {
-    fn connect(&mut self, address: &str) -> Result<(), Failed> {
+    fn connect(&mut self, address: &str) -> Result<(), Failed>
+        ensures only_connects { OnlyConnects
+            (⟦<TcpPeer<N> as Line>⟧.state self.old) (⟦<TcpPeer<N> as Line>⟧.state self.new) result address.now }
+        ensures begun { OnOk result (IsSome self.new.stream) }
+        ensures ended { OnErr result (self.new.stream ≡ None) }
+    {
         // The present connection is closed first.
         self.stream = None;
         match TcpStream::connect(&self.net, address) {
