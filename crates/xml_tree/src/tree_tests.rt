@@ -1,7 +1,7 @@
 //! Each call that takes memory, once, on a tree that is made here.
 use crate::{
-    Attr, Decl, Element, List, Name, NoMemory, Node, Path, Text, copy_tree, depth, element_at,
-    equal,
+    Attr, Decl, Element, List, Name, NoMemory, Node, Path, Text, copy_nodes, copy_tree, depth,
+    element_at, equal,
 };
 use std::alloc::Global;
 use std::test::Fail;
@@ -16,19 +16,27 @@ fn element(alloc: Global, local: &str) -> Result<Element, NoMemory> {
     Ok(Element::new(alloc, name(alloc, "", local)?))
 }
 
+fn declaration(alloc: Global, prefix: &str, uri: &str) -> Result<Decl, NoMemory> {
+    let prefix = Text::from(alloc, prefix)?;
+    let uri = Text::from(alloc, uri)?;
+    Ok(Decl { prefix, uri })
+}
+
+fn attribute(alloc: Global, local: &str, value: &str) -> Result<Attr, NoMemory> {
+    let name = name(alloc, "", local)?;
+    let value = Text::from(alloc, value)?;
+    Ok(Attr { name, value })
+}
+
+fn is_called(element: &Element, local: &str) -> bool {
+    element.name().local.is(local)
+}
+
 // <a xmlns="urn:x" k="1">x<b/>y</a>
 fn sample(alloc: Global) -> Result<Element, NoMemory> {
     let mut root = element(alloc, "a")?;
-    let decl = Decl {
-        prefix: Text::from(alloc, "")?,
-        uri: Text::from(alloc, "urn:x")?,
-    };
-    root.push_decl(decl)?;
-    let attr = Attr {
-        name: name(alloc, "", "k")?,
-        value: Text::from(alloc, "1")?,
-    };
-    root.push_attr(attr)?;
+    root.push_decl(declaration(alloc, "", "urn:x")?)?;
+    root.push_attr(attribute(alloc, "k", "1")?)?;
     root.push_chars("x")?;
     root.push_elem(element(alloc, "b")?)?;
     root.push_chars("")?;
@@ -116,5 +124,64 @@ fn texts_stand_in_the_order_of_their_characters(rt: HostRuntime) -> Result<(), F
     let mut list = List::empty(rt.alloc());
     list.push(short)?;
     assert_eq!(rt; list.as_slice().len(), 1);
+    Ok(())
+}
+
+#[test]
+fn children_go_in_and_out(rt: HostRuntime) -> Result<(), Fail> {
+    let mut root = sample(rt.alloc())?;
+    let put = root.put_kid(0, element(rt.alloc(), "c")?);
+    assert!(rt; put.is_ok());
+    if root.kid(0).is_none() {
+        return Err(Fail::from("the child that was put"));
+    }
+    let first = root.take_kid(0)?;
+    assert!(rt; is_called(&first, "c"));
+    if root.kid(0).is_none() {
+        return Err(Fail::from("the child that was there"));
+    }
+    let second = root.take_in(&Path::root(), 0)?;
+    assert_eq!(rt; root.nodes().len(), 1, "the texts beside it have met");
+    let old = root.put_over(&Path::root(), second);
+    assert!(rt; is_called(&old, "a") && is_called(&root, "b"));
+    Ok(())
+}
+
+#[test]
+fn copied_nodes_are_put_and_cut_by_number(rt: HostRuntime) -> Result<(), Fail> {
+    let mut root = sample(rt.alloc())?;
+    let copies = copy_nodes(rt.alloc(), root.nodes())?;
+    root.insert_nodes(0, copies)?;
+    assert!(rt; root.nodes().len() == 5);
+    root.cut_nodes(1, 4)?;
+    assert_eq!(rt; root.nodes().len(), 1);
+    let child = element(rt.alloc(), "c")?;
+    root.edit_at(
+        &Path::root(),
+        |here: &mut Element| -> Result<(), NoMemory> { here.push_elem(child) },
+    )?;
+    assert_eq!(rt; root.into_nodes().len(), 2);
+    Ok(())
+}
+
+#[test]
+fn parts_are_copied_and_exchanged(rt: HostRuntime) -> Result<(), Fail> {
+    let decl = declaration(rt.alloc(), "p", "urn:p")?;
+    assert!(rt; decl.copy(rt.alloc())?.same(&decl));
+    let attr = attribute(rt.alloc(), "k", "v")?;
+    assert!(rt; attr.copy(rt.alloc())?.same(&attr));
+    assert!(rt; attr.name.copy(rt.alloc())?.same(&attr.name));
+    let mut root = sample(rt.alloc())?;
+    let decls = root.exchange_decls(Vec::new(rt.alloc()));
+    assert_eq!(rt; decls.len(), 1);
+    let old = root.set_attr(attr.name, attr.value)?;
+    assert!(rt; old.is_some());
+    assert!(rt; root.attrs().len() == 1);
+    let mut value = root.exchange_value(0, Text::from(rt.alloc(), "w")?);
+    value.push_str("-")?;
+    assert_eq!(rt; value.count(), 2);
+    assert!(rt; root.attrs().len() == 1);
+    let taken = root.take_attr(0);
+    assert!(rt; root.drop_attr(&taken.name).is_none());
     Ok(())
 }
