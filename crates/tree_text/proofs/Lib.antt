@@ -20,3 +20,12 @@ pub mod ProperComments
 pub mod ProperTrees
 pub mod ReadProper
 pub mod ProperBodies
+pub mod ReadFronts
+pub mod PrintedValues
+pub mod PrintedNames
+pub mod PrintedTags
+pub mod PrintedContent
+pub mod PrintedElements
+pub mod PrintedScalars
+pub mod PrintedTexts
+pub mod UnboundScopes

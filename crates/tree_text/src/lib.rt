@@ -13,6 +13,7 @@ mod names;
 mod parts;
 mod pieces;
 mod places;
+mod print_laws;
 mod printing;
 mod reading;
 mod runs;
@@ -27,6 +28,9 @@ mod written;
 
 pub use bodies::read_att_value;
 pub use fault::{TextFault, ValueFault};
+pub use print_laws::{
+    prints_are_read_back, prints_spell_what_was_printed, scopes_leave_xmlns_unbound,
+};
 pub use printing::{print_att_value, print_document, print_element};
 pub use reading::{read_document, read_fragment};
 

@@ -1,0 +1,122 @@
+-- Printed elements are read as what was printed.
+use Rattle.std.proofs.Common.{◌≡◌, ℕ, zero, suc, ◌+◌, ◌<◌, ◌≤◌, Bool, true, false, cond, List, [], ◌∷◌, ◌++◌, length, None, refl, sym, ap, subst, ◌∙◌, append_assoc, append-nil, flat_map, length-append, arith}
+use Rattle.grammar_rules.specs.Reading.{Reader}
+use Rattle.xml_tree.specs.Characters.{is_name_start, is_space}
+use Rattle.xml_tree.specs.Edits.{before}
+use Rattle.xml_tree.specs.Print.{opening, ending, closing, is_empty, print, print_attr, print_content, print_decl, print_name, print_text, print_comment}
+use Rattle.xml_tree.specs.Proper.{IsTag, Proper, ProperIn}
+use Rattle.xml_tree.specs.Scopes.{bound, xmlns_prefix}
+use Rattle.xml_tree.specs.Tree.{Content, last, more, note, Tree, tree_of, height, content_height}
+use Rattle.xml_tree.specs.declared.names.Name.{Name}
+use Rattle.xml_tree.specs.declared.names.Decl.{Decl}
+use Rattle.xml_tree.specs.declared.names.Attr.{Attr}
+use Rattle.tree_text.specs.Words.{end_start, greater}
+use Rattle.tree_text.specs.declared.kind.Kind.{Kind}
+use Rattle.tree_text.specs.Names.{decls_of, attrs_of, inside, element_of}
+use Rattle.tree_text.specs.Pieces.{Tag, written, written_by}
+use Rattle.tree_text.specs.Reading.{read_end_tag, read_behind_tag, read_element}
+use Rattle.tree_text.proofs.ReadFronts.{Reads, reads_sequence, reads_valued, reads_before, reads_behind, reads_word, reads_none}
+use Rattle.tree_text.proofs.PrintedNames.{printed_head}
+use Rattle.tree_text.proofs.PrintedTags.{still_unbound, tag_from, tag_mark, tag_read}
+use Rattle.tree_text.proofs.PrintedContent.{IsContent, content_none, content_text, content_note, content_elem, reads_content}
+
+-- ---- end tags
+
+written_is : (p l : List ℕ) → print_name (record { prefix = p; local = l }) ≡ written_by p l
+written_is [] l = refl
+written_is (c ∷ cs) l = refl
+
+end_read : (n : Name) (rest : List ℕ) → Reads (read_end_tag n) (60 ∷ 47 ∷ (written n ++ 62 ∷ rest)) tt rest
+end_read n rest = reads_behind (reads_word end_start (written n ++ 62 ∷ rest)) (reads_behind (reads_word (written n) (62 ∷ rest)) (reads_behind (reads_none is_space (62 ∷ rest) refl) (reads_word greater rest)))
+
+closing_is : (n : Name) (rest : List ℕ) → closing n ++ rest ≡ 60 ∷ 47 ∷ (written n ++ 62 ∷ rest)
+closing_is n rest = ap (λ (z : List ℕ). 60 ∷ 47 ∷ z) (append_assoc (print_name n) (62 ∷ []) rest ∙ ap (λ (z : List ℕ). z ++ 62 ∷ rest) (written_is n.prefix n.local))
+
+-- ---- one element, whose content is read
+
+no_content : (k : Content) → is_empty k ≡ true → k ≡ last []
+no_content (last []) h = refl
+no_content (last (c ∷ cs)) h = absurd cc
+no_content (more t n ds ats k rest) h = absurd cc
+no_content (note t x rest) h = absurd cc
+
+module _ (levels depth : ℕ) (scope : List (List Decl)) (n : Name) (ds : List Decl) (ats : List Attr) (k : Content) (unbound : bound (scope ++ ds ∷ []) xmlns_prefix ≡ None) (tag : IsTag (scope ++ ds ∷ []) n ds ats)
+    (inside_read : (rest : List ℕ) → IsContent (read_element levels (scope ++ ds ∷ []) (depth + 1)) (print_content k ++ 60 ∷ 47 ∷ rest) k (60 ∷ 47 ∷ rest)) where
+  abbrev inner : List Decl → Reader Kind Tree
+  inner decls = read_element levels (scope ++ decls ∷ []) (depth + 1)
+
+  -- what stands behind the tag
+  abbrev behind : Bool → List ℕ → List ℕ
+  behind empty rest = cond empty rest ((print_content k ++ closing n) ++ rest)
+
+  behind_read : (empty : Bool) (rest : List ℕ) → is_empty k ≡ empty → Reads (read_behind_tag (inner ds) n empty) (behind empty rest) k rest
+  behind_read true rest e = subst (λ (z : Content). Reads (read_behind_tag (inner ds) n true) rest z rest) (sym (no_content k e)) (record { read = refl })
+  behind_read false rest e =
+      let end = written n ++ 62 ∷ rest in
+      let text : (print_content k ++ closing n) ++ rest ≡ print_content k ++ 60 ∷ 47 ∷ end = append_assoc (print_content k) (closing n) rest ∙ ap (λ (z : List ℕ). print_content k ++ z) (closing_is n rest) in
+      subst (λ (z : List ℕ). Reads (read_behind_tag (inner ds) n false) z k rest) (sym text)
+      (reads_before (reads_content (inner ds) (print_content k ++ 60 ∷ 47 ∷ end) k (60 ∷ 47 ∷ end) (inside_read end)) (end_read n rest))
+
+  by_empty : (empty : Bool) (rest : List ℕ) → is_empty k ≡ empty → Reads (read_element (suc levels) scope depth) (opening n ds ats ++ (tag_mark empty ++ behind empty rest)) (tree_of n ds ats k) rest
+  by_empty empty rest e =
+      let t = tag_read scope n ds ats empty (behind empty rest) unbound tag in
+      let said = (tag_from n ds ats empty t.size).said in
+      let after = subst (λ (z : List Decl). Reads (read_behind_tag (inner z) n empty) (behind empty rest) k rest) (sym t.decls) (behind_read empty rest e) in
+      let whole = reads_valued element_of (reads_sequence (λ (x : Tag). read_behind_tag (read_element levels (inside scope x) (depth + 1)) x.name x.is_empty) t.read after) in
+      let same : tree_of n (decls_of said) (attrs_of said) k ≡ tree_of n ds ats k = ap (λ (z : List Decl). tree_of n z (attrs_of said) k) t.decls ∙ ap (λ (z : List Attr). tree_of n ds z k) t.attrs in
+      subst (λ (z : Tree). Reads (read_element (suc levels) scope depth) (opening n ds ats ++ (tag_mark empty ++ behind empty rest)) z rest) same whole
+
+  ending_is : (empty : Bool) (rest : List ℕ) → (opening n ds ats ++ ending n empty (print_content k)) ++ rest ≡ opening n ds ats ++ (tag_mark empty ++ behind empty rest)
+  ending_is true rest = append_assoc (opening n ds ats) (47 ∷ 62 ∷ []) rest
+  ending_is false rest = append_assoc (opening n ds ats) (62 ∷ (print_content k ++ closing n)) rest
+
+  pub element_read : (rest : List ℕ) → Reads (read_element (suc levels) scope depth) ((opening n ds ats ++ ending n (is_empty k) (print_content k)) ++ rest) (tree_of n ds ats k) rest
+  element_read rest = subst (λ (z : List ℕ). Reads (read_element (suc levels) scope depth) z (tree_of n ds ats k) rest) (sym (ending_is (is_empty k) rest)) (by_empty (is_empty k) rest refl)
+
+-- where the print of an element begins
+pub element_head : (here : List (List Decl)) (n : Name) (ds : List Decl) (ats : List Attr) (end rest : List ℕ) → IsTag here n ds ats → (d : ℕ) × (y : List ℕ) × ((opening n ds ats ++ end) ++ rest ≡ 60 ∷ d ∷ y) × (is_name_start d ≡ true)
+element_head here n ds ats end rest h =
+    let attrs = flat_map print_decl ds ++ flat_map print_attr ats in
+    let m = printed_head n (attrs ++ (end ++ rest)) (record { prefix = h.named.prefix; local = h.named.local }) in
+    (m.0, m.1, append_assoc (opening n ds ats) end rest ∙ ap (λ (z : List ℕ). 60 ∷ z) (append_assoc (print_name n) attrs (end ++ rest) ∙ m.2), m.3)
+
+-- ---- all content
+
+pub content_read : (k : Content) (scope : List (List Decl)) (levels depth : ℕ) (rest : List ℕ) → bound scope xmlns_prefix ≡ None → Proper scope k → content_height k ≤ levels
+    → IsContent (read_element levels scope depth) (print_content k ++ 60 ∷ 47 ∷ rest) k (60 ∷ 47 ∷ rest)
+content_read (last t) scope levels depth rest u h le =
+    subst (λ (z : List ℕ). IsContent (read_element levels scope depth) (print_text t ++ 60 ∷ 47 ∷ rest) (last z) (60 ∷ 47 ∷ rest)) (append-nil t)
+    (content_text (read_element levels scope depth) t (60 ∷ 47 ∷ rest) (last []) (60 ∷ 47 ∷ rest) h (content_none (read_element levels scope depth) rest))
+content_read (more t n ds ats k others) scope zero depth rest u h le = absurd (omega (arith, le))
+content_read (more t n ds ats k others) scope (suc levels) depth rest u h le =
+    let inner = read_element (suc levels) scope depth in
+    let tail = 60 ∷ 47 ∷ rest in
+    let unbound = still_unbound scope ds u h.1.declarations in
+    let elem = opening n ds ats ++ ending n (is_empty k) (print_content k) in
+    let after = print_content others ++ tail in
+    let read = element_read levels depth scope n ds ats k unbound h.1 (λ r. content_read k (scope ++ ds ∷ []) levels (depth + 1) r unbound h.2 (omega (arith, le))) after in
+    let begins = element_head (scope ++ ds ∷ []) n ds ats (ending n (is_empty k) (print_content k)) after h.1 in
+    let later = content_read others scope (suc levels) depth rest u h.3 (omega (arith, le)) in
+    let shorter : length after < length (elem ++ after) = (let m = ap length begins.2 in let l = length-append elem after in let f = filled n ds ats (ending n (is_empty k) (print_content k)) in omega (arith, l, f)) in
+    let all = content_text inner t (elem ++ after) _ tail h.0 (content_elem inner (elem ++ after) begins.0 begins.1 (tree_of n ds ats k) after others tail begins.2 begins.3 read shorter later) in
+    let whole : print_content (more t n ds ats k others) ++ tail ≡ print_text t ++ (elem ++ after) = append_assoc (print_text t) (elem ++ print_content others) tail ∙ ap (λ (z : List ℕ). print_text t ++ z) (append_assoc elem (print_content others) tail) in
+    let joined : before t (more [] n ds ats k others) ≡ more t n ds ats k others = ap (λ (z : List ℕ). more z n ds ats k others) (append-nil t) in
+    subst (λ (z : List ℕ). IsContent inner z (more t n ds ats k others) tail) (sym whole) (subst (λ (z : Content). IsContent inner (print_text t ++ (elem ++ after)) z tail) joined all)
+  where
+    filled : (n : Name) (ds : List Decl) (ats : List Attr) (rest : List ℕ) → 0 < length (opening n ds ats ++ rest)
+    filled n ds ats rest = omega arith
+content_read (note t x others) scope levels depth rest u h le =
+    let inner = read_element levels scope depth in
+    let tail = 60 ∷ 47 ∷ rest in
+    let after = print_content others ++ tail in
+    let all = content_text inner t (print_comment x ++ after) (note [] x others) tail h.0 (content_note inner x after others tail h.1 (content_read others scope levels depth rest u h.2 le)) in
+    let whole : print_content (note t x others) ++ tail ≡ print_text t ++ (print_comment x ++ after) = append_assoc (print_text t) (print_comment x ++ print_content others) tail ∙ ap (λ (z : List ℕ). print_text t ++ z) (append_assoc (print_comment x) (print_content others) tail) in
+    let joined : before t (note [] x others) ≡ note t x others = ap (λ (z : List ℕ). note z x others) (append-nil t) in
+    subst (λ (z : List ℕ). IsContent inner z (note t x others) tail) (sym whole) (subst (λ (z : Content). IsContent inner (print_text t ++ (print_comment x ++ after)) z tail) joined all)
+
+-- a proper element within the levels, whatever follows it
+pub print_read : (e : Tree) (scope : List (List Decl)) (levels depth : ℕ) (rest : List ℕ) → bound scope xmlns_prefix ≡ None → ProperIn scope e → height e ≤ levels → Reads (read_element levels scope depth) (print e ++ rest) e rest
+print_read e scope zero depth rest u h le = absurd (omega (arith, le))
+print_read e scope (suc levels) depth rest u h le =
+    let unbound = still_unbound scope e.decls u h.0.declarations in
+    element_read levels depth scope e.name e.decls e.attrs e.content unbound h.0 (λ r. content_read e.content (scope ++ e.decls ∷ []) levels (depth + 1) r unbound h.1 (omega (arith, le))) rest

@@ -1,0 +1,9 @@
+use Rattle.tree_text.proofs.PrintedTexts.{document_is_read, element_is_read, body_is_read}
+use Rattle.tree_text.proofs.print_laws.prints_are_read_back.Goals as goal
+
+pub returns : goal.returns
+returns c = record {
+  document = λ depth scope root unbound proper fits. (document_is_read depth scope root unbound proper fits).read;
+  element = λ depth scope root unbound proper fits. (element_is_read depth scope root unbound proper fits).read;
+  value = body_is_read;
+}

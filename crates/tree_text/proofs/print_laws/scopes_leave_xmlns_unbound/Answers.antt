@@ -1,0 +1,5 @@
+use Rattle.tree_text.proofs.UnboundScopes.{never_bound}
+use Rattle.tree_text.proofs.print_laws.scopes_leave_xmlns_unbound.Goals as goal
+
+pub returns : goal.returns
+returns c = never_bound
