@@ -1,0 +1,12 @@
+pub mod Along
+pub mod Bytes
+pub mod ExactParts
+pub mod StepFronts
+pub mod ExactSelectors
+pub mod ExactSteps
+pub mod Positions
+pub mod Printed
+pub mod Reaching
+pub mod Resolving
+pub mod Walked
+pub mod Widths

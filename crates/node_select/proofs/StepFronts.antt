@@ -1,0 +1,67 @@
+-- Each front of a beginning of a step is a beginning of it too.
+use Rattle.std.proofs.Common.{ℕ, List, inl, refl}
+use Rattle.std.specs.Prelude.{None, Some}
+use Rattle.xml_tree.specs.Characters.{is_char}
+use Rattle.grammar_rules.specs.Digits.{decimal, hexadecimal}
+use Rattle.grammar_rules.proofs.Laws.{Lawful, lawful_valued, lawful_sequence, lawful_optional, lawful_behind, lawful_word, lawful_name_of, lawful_either, lawful_number, lawful_between, lawful_run, lawful_some_of, lawful_sized}
+use Rattle.grammar_rules.proofs.Beginnings.{Fronted, fronted_word, fronted_run, fronted_number, fronted_sequence, fronted_either, fronted_valued, fronted_sized, fronted_only, fronted_optional, fronted_before, fronted_behind, fronted_name_of, fronted_some_of, fronted_quoted, fronted_between}
+use Rattle.tree_text.specs.Words.{colon, ampersand, semicolon, hash, small_x, amp, lt, gt, quot, apos}
+use Rattle.tree_text.specs.Grammar.{qname, reference, last_char, stands_for, numbered, entity}
+use Rattle.tree_text.specs.Pieces.{qname_of}
+use Rattle.node_select.specs.Grammar.{star, open_bracket, close_bracket, at_sign, equals_sign, names_attribute, plain_value, raw_step_of, node_name, position, attribute, value, test, step}
+use Rattle.node_select.specs.Raw.{position_of}
+use Rattle.node_select.proofs.ExactParts.{lawful_reference, lawful_value, lawful_position, lawful_attribute, lawful_node_name}
+
+fronted_qname : Fronted qname
+fronted_qname = fronted_valued qname_of (fronted_sequence lawful_name_of fronted_name_of (λ _. fronted_optional (fronted_behind (lawful_word colon) (fronted_word colon) fronted_name_of)))
+
+lawful_numbered : Lawful numbered
+lawful_numbered = lawful_behind (lawful_word hash) (lawful_either (lawful_behind (lawful_word small_x) (lawful_number hexadecimal last_char is_char)) (lawful_number decimal last_char is_char))
+
+fronted_numbered : Fronted numbered
+fronted_numbered = fronted_behind (lawful_word hash) (fronted_word hash) (fronted_either (fronted_behind (lawful_word small_x) (fronted_word small_x) (fronted_number hexadecimal last_char is_char)) (fronted_number decimal last_char is_char))
+
+lawful_stands : (c : ℕ) (w : List ℕ) → Lawful (stands_for c w)
+lawful_stands c w = lawful_valued (λ _. c) (lawful_word w)
+
+fronted_stands : (c : ℕ) (w : List ℕ) → Fronted (stands_for c w)
+fronted_stands c w = fronted_valued (λ _. c) (fronted_word w)
+
+lawful_entity : Lawful entity
+lawful_entity = lawful_either (lawful_stands 60 lt) (lawful_either (lawful_stands 62 gt) (lawful_either (lawful_stands 34 quot) (lawful_either (lawful_stands 39 apos) (lawful_stands 38 amp))))
+
+fronted_entity : Fronted entity
+fronted_entity = fronted_either (fronted_stands 60 lt) (fronted_either (fronted_stands 62 gt) (fronted_either (fronted_stands 34 quot) (fronted_either (fronted_stands 39 apos) (fronted_stands 38 amp))))
+
+fronted_reference : Fronted reference
+fronted_reference = fronted_behind (lawful_word ampersand) (fronted_word ampersand) (fronted_before (lawful_either lawful_numbered lawful_entity) (fronted_either fronted_numbered fronted_entity) (fronted_word semicolon))
+
+fronted_value : Fronted value
+fronted_value =
+    fronted_quoted (λ q. lawful_valued plain_value (lawful_between lawful_run lawful_reference (inl (ampersand, refl))))
+    (λ q. fronted_valued plain_value (fronted_between lawful_run fronted_run lawful_reference fronted_reference))
+
+fronted_position : Fronted position
+fronted_position = fronted_behind (lawful_word open_bracket) (fronted_word open_bracket) (fronted_before (lawful_valued position_of lawful_some_of) (fronted_valued position_of fronted_some_of) (fronted_word close_bracket))
+
+fronted_attribute : Fronted attribute
+fronted_attribute = fronted_behind (lawful_word at_sign) (fronted_word at_sign) (fronted_only names_attribute fronted_qname)
+
+fronted_test : Fronted test
+fronted_test =
+    fronted_behind (lawful_word open_bracket) (fronted_word open_bracket)
+    (fronted_before (lawful_sequence lawful_attribute (λ _. lawful_behind (lawful_word equals_sign) lawful_value))
+    (fronted_sequence lawful_attribute fronted_attribute (λ _. fronted_behind (lawful_word equals_sign) (fronted_word equals_sign) fronted_value))
+    (fronted_word close_bracket))
+
+fronted_node_name : Fronted node_name
+fronted_node_name = fronted_either (fronted_valued (λ _. None) (fronted_word star)) (fronted_valued Some fronted_qname)
+
+-- the step
+pub fronted_step : Fronted step
+fronted_step =
+    fronted_valued raw_step_of
+    (fronted_sized
+    (fronted_sequence (lawful_sized (lawful_sequence lawful_node_name (λ _. lawful_optional lawful_position)))
+    (fronted_sized (fronted_sequence lawful_node_name fronted_node_name (λ _. fronted_optional fronted_position)))
+    (λ _. fronted_optional fronted_test)))

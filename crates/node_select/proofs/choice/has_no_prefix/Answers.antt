@@ -1,0 +1,6 @@
+use Rattle.std.proofs.Common.{◌∙◌, ap, bytes_eq}
+use Rattle.std.proofs.lemmas.Str.{chars-nil}
+use Rattle.node_select.proofs.choice.has_no_prefix.Goals as goal
+
+pub returns : goal.returns
+returns c = c.is.ensures ∙ ap (bytes_eq c.args.name.now.prefix) chars-nil

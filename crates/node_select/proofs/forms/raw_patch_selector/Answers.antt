@@ -1,0 +1,10 @@
+use Rattle.std.proofs.Common.{sym, ◌∙◌}
+use Rattle.node_select.specs.Reading.{read_patch_selector}
+use Rattle.node_select.specs.Views.{patch_selector_in}
+use Rattle.node_select.proofs.Widths.{patch_selector_room, whole_read}
+use Rattle.node_select.proofs.forms.raw_patch_selector.Goals as goal
+
+pub returns-clause-room : goal.returns-clause-room
+returns-clause-room c =
+    let raw = patch_selector_in c.in_ok-selector.selector in
+    patch_selector_room c.args.text.now raw c.requires (whole_read read_patch_selector c.args.text.now raw c.in_ok-selector.rest.now (c.in_ok-selector.ensures {u = tt}) (sym c.is_empty.ensures ∙ c.if-not-is_empty.false))

@@ -1,0 +1,9 @@
+use Rattle.std.proofs.Common.{sym, ◌∙◌, ap, subst}
+use Rattle.node_select.specs.Selection.{IsLongestMatch, longest_in}
+use Rattle.node_select.proofs.Reaching.{longest_is}
+use Rattle.node_select.proofs.selecting.longest_match.Goals as goal
+
+pub returns-clause-longest : goal.returns-clause-longest
+returns-clause-longest c =
+    let root = c.args.root.now in let steps = c.args.selector.now.steps in
+    subst (λ k. IsLongestMatch steps root k) (sym (c.matched_steps.ensures ∙ ap (λ ss. longest_in ss root) c.as_slice.ensures)) (longest_is steps root)

@@ -1,0 +1,9 @@
+use Rattle.std.proofs.Common.{◌≡◌, ◌↔◌, List, ℕ, Option, Some, sym, ◌∙◌, ap, subst}
+use Rattle.node_select.specs.Selection.{SelectsPath, selected_in}
+use Rattle.node_select.proofs.Reaching.{path_is}
+use Rattle.node_select.proofs.selecting.select.Goals as goal
+
+pub returns-clause-selected : goal.returns-clause-selected
+returns-clause-selected c =
+    let root = c.args.root.now in let steps = c.args.selector.now.steps in
+    subst (λ (o : Option (List ℕ)). (p : List ℕ) → (o ≡ Some p) ↔ SelectsPath steps root p) (sym (c.select_steps.ensures ∙ ap (λ ss. selected_in ss root) c.as_slice.ensures)) (path_is steps root)

@@ -1,0 +1,10 @@
+use Rattle.std.proofs.Common.{◌≡◌, ◌-◌}
+use Rattle.grammar_rules.specs.Reading.{read_at_most}
+use Rattle.tree_text.specs.Reading.{reference_follows}
+use Rattle.tree_text.proofs.Loops.{finish}
+use Rattle.node_select.specs.Members.{read_piece, value_with}
+use Rattle.node_select.specs.Reading.{read_inside_quotes}
+use Rattle.node_select.proofs.steps.inside_quotes.Given as goal
+
+abbrev pub invariant-loop : goal.invariant-loop
+invariant-loop l = read_inside_quotes l.quote l.text ≡ finish value_with l.value (read_at_most reference_follows (read_piece l.quote) (l.end - l.counter) l.rest)

@@ -1,0 +1,10 @@
+use Rattle.std.proofs.Common.{◌≡◌, ◌-◌, map}
+use Rattle.grammar_rules.specs.Reading.{read_at_most}
+use Rattle.tree_text.proofs.Loops.{finish}
+use Rattle.node_select.specs.Members.{steps_with}
+use Rattle.node_select.specs.Reading.{read_steps, read_next_step}
+use Rattle.node_select.specs.Views.{follows_in, step_in}
+use Rattle.node_select.proofs.steps.steps.Given as goal
+
+abbrev pub invariant-loop : goal.invariant-loop
+invariant-loop l = read_steps (follows_in l.form) l.text ≡ finish steps_with (map step_in l.steps.items) (read_at_most (follows_in l.form) read_next_step (l.end - l.counter) l.rest)

@@ -1,0 +1,11 @@
+pub mod Faults
+pub mod Grammar
+pub mod LastStep
+pub mod Meaning
+pub mod Members
+pub mod Names
+pub mod Raw
+pub mod Reading
+pub mod Selection
+pub mod Stops
+pub mod Views

@@ -1,0 +1,73 @@
+//! Bindings of prefixes, as the query of an address or the scope of a patch operation gives them.
+ghost use Rattle.std.specs.Prelude.{◌≡◌, ◌++◌, ◌∷◌, [], OnOk, OnErr, chars, option_map};
+ghost use Rattle.std.specs.Option.{option_copied};
+ghost use Rattle.node_select.specs.Names.{prefix_uri};
+ghost use Rattle.std.specs.Str.{bytes_eq};
+ghost use Rattle.xml_tree.specs.Scopes.{xmlns_prefix};
+
+use std::alloc::{AllocError, Global};
+use std::marker::Model;
+use xml_tree::{Decl, Scope, Text};
+
+/// Prefixes with their URIs, as declarations: the last one of a prefix counts, and an empty URI binds nothing. `xml` is always bound to
+/// its own namespace, and `xmlns` never.
+#[derive(Drop)]
+pub struct Bindings {
+    alloc: Global,
+    decls: Vec<Decl>,
+}
+
+impl Model for Bindings {
+    ghost use Rattle.std.specs.Prelude.{List};
+    ghost use Rattle.xml_tree.specs.declared.names.Decl.{Decl};
+    ghost use Rattle.xml_tree.specs.Tree.{decls_code};
+
+    ghost Value = { List Decl };
+
+    ghost coded = { decls_code };
+
+    ghost view = { λ b. b.decls.items };
+}
+
+impl Bindings {
+    /// No bindings. Takes no memory; those that are added take it from `alloc`.
+    pub fn none(alloc: Global) -> Bindings
+        ensures { result ≡ [] }
+    {
+        Bindings {
+            alloc,
+            decls: Vec::new(alloc),
+        }
+    }
+
+    /// Binds a prefix, behind the bindings that are there.
+    ///
+    /// # Errors
+    /// `NoMemory` for want of memory; the bindings are then as before.
+    pub fn bind(&mut self, prefix: &str, uri: &str) -> Result<(), AllocError>
+        ensures ok { OnOk result (self.new ≡ self.old ++ record { prefix = chars prefix.now; uri = chars uri.now } ∷ []) }
+        ensures err { OnErr result (self.new ≡ self.old) }
+    {
+        let prefix = Text::from(self.alloc, prefix)?;
+        let uri = Text::from(self.alloc, uri)?;
+        self.decls.push(Decl { prefix, uri })?;
+        Ok(())
+    }
+
+    /// The URI that a prefix is bound to. Takes no memory.
+    pub fn resolve(&self, prefix: &str) -> Option<&str>
+        ensures { option_map (λ uri. chars uri.now) result ≡ prefix_uri self.now (chars prefix.now) }
+    {
+        if is_xmlns(prefix) {
+            return None;
+        }
+        Scope::empty().with(&self.decls).resolve(prefix)
+    }
+}
+
+// Whether a prefix is `xmlns`, which is never bound.
+fn is_xmlns(prefix: &str) -> bool
+    ensures { result ≡ bytes_eq (chars prefix.now) xmlns_prefix }
+{
+    prefix == "xmlns"
+}

@@ -1,0 +1,138 @@
+//! The form of selectors, read from left to right.
+ghost use Rattle.std.specs.Prelude.{◌≡◌, ◌+◌, ◌<◌, ◌^◌, length, map, IfOk, Ok};
+ghost use Rattle.grammar_rules.specs.Reading.{read_behind, read_optional, read_valued, read_whole, read_word};
+ghost use Rattle.tree_text.specs.Gives.{Gives};
+ghost use Rattle.node_select.specs.Raw.{HasRoom};
+ghost use Rattle.node_select.specs.Grammar.{end_or_element, patch_end_or_element, slash, slash_width};
+ghost use Rattle.node_select.specs.Reading.{read_end, read_patch_end, read_patch_selector, read_position, read_selector, slash_follows, test_follows};
+ghost use Rattle.node_select.specs.Views.{end_in, patch_end_in, patch_selector_in, selector_in, step_in};
+
+use crate::raw::{Form, RawEnd, RawPatchEnd, RawPatchSelector, RawSelector};
+use crate::steps::{attribute, position, slash_follows, steps, test_follows};
+use std::alloc::Global;
+use tree_text::{Stop, word};
+
+// An attribute or all namespaces, and what follows them.
+fn end(text: &[char]) -> Result<(RawEnd<'_>, &[char]), Stop<'_>>
+    ensures { Gives (λ x. (end_in x.0, x.1.now)) result (read_end text.now) }
+{
+    match text {
+        ['@', ..] => {
+            let (name, rest) = attribute(text)?;
+            Ok((RawEnd::Attribute(name), rest))
+        }
+        _ => {
+            let rest = word(
+                text,
+                &['n', 'a', 'm', 'e', 's', 'p', 'a', 'c', 'e', ':', ':', '*'],
+            )?;
+            Ok((RawEnd::Namespaces, rest))
+        }
+    }
+}
+
+// A slash and an end, if a slash follows, and what follows them.
+fn optional_end(text: &[char]) -> Result<(RawEnd<'_>, &[char]), Stop<'_>>
+    ensures { Gives (λ x. (end_in x.0, x.1.now)) result (read_valued end_or_element (read_optional slash_follows (read_behind (read_word slash) read_end)) text.now) }
+{
+    if !slash_follows(text) {
+        return Ok((RawEnd::Element, text));
+    }
+    let rest = word(text, &['/'])?;
+    end(rest)
+}
+
+// A selector, and what follows it.
+fn selector(alloc: Global, text: &[char]) -> Result<(RawSelector<'_>, &[char]), Stop<'_>>
+    ensures { Gives (λ x. (selector_in x.0, x.1.now)) result (read_selector text.now) }
+{
+    let (steps, rest) = steps(alloc, text, Form::Node)?;
+    let (end, rest) = optional_end(rest)?;
+    Ok((RawSelector { steps, end }, rest))
+}
+
+/// A whole selector.
+pub fn raw_selector(alloc: Global, text: &[char]) -> Result<RawSelector<'_>, Stop<'_>>
+    requires { length text.now < 2 ^ 62 }
+    ensures read { Gives selector_in result (read_whole read_selector text.now) }
+    ensures room { IfOk result (λ raw. HasRoom 0 (map step_in raw.steps.items)) }
+{
+    let (selector, rest) = selector(alloc, text)?;
+    if !rest.is_empty() {
+        return Err(Stop::Syntax(rest));
+    }
+    Ok(selector)
+}
+
+// The position of a text, if a bracket follows, and what follows it.
+fn text_position(text: &[char]) -> Result<(Option<u64>, &[char]), Stop<'_>>
+    ensures { Gives (λ x. (x.0, x.1.now)) result (read_optional test_follows read_position text.now) }
+{
+    if !test_follows(text) {
+        return Ok((None, text));
+    }
+    let (position, rest) = position(text)?;
+    Ok((Some(position), rest))
+}
+
+// An attribute or a text, and what follows them.
+fn patch_end(text: &[char]) -> Result<(RawPatchEnd<'_>, &[char]), Stop<'_>>
+    ensures { Gives (λ x. (patch_end_in x.0, x.1.now)) result (read_patch_end text.now) }
+{
+    match text {
+        ['@', ..] => {
+            let (name, rest) = attribute(text)?;
+            Ok((RawPatchEnd::Attribute(name), rest))
+        }
+        _ => {
+            let rest = word(text, &['t', 'e', 'x', 't', '(', ')'])?;
+            let (position, rest) = text_position(rest)?;
+            Ok((RawPatchEnd::Chars(position), rest))
+        }
+    }
+}
+
+// A slash and an end, if a slash follows, and what follows them.
+fn optional_patch_end(text: &[char]) -> Result<(RawPatchEnd<'_>, &[char]), Stop<'_>>
+    ensures { Gives (λ x. (patch_end_in x.0, x.1.now)) result (read_valued patch_end_or_element (read_optional slash_follows (read_behind (read_word slash) read_patch_end)) text.now) }
+{
+    if !slash_follows(text) {
+        return Ok((RawPatchEnd::Element, text));
+    }
+    let rest = word(text, &['/'])?;
+    patch_end(rest)
+}
+
+// How many characters a slash in front has, and what follows it.
+fn optional_slash(text: &[char]) -> Result<(usize, &[char]), Stop<'_>>
+    ensures { Gives (λ x. (x.0, x.1.now)) result (read_valued slash_width (read_optional slash_follows (read_word slash)) text.now) }
+{
+    if !slash_follows(text) {
+        return Ok((0, text));
+    }
+    let rest = word(text, &['/'])?;
+    Ok((1, rest))
+}
+
+// A selector of a patch, and what follows it.
+fn patch_selector(alloc: Global, text: &[char]) -> Result<(RawPatchSelector<'_>, &[char]), Stop<'_>>
+    ensures { Gives (λ x. (patch_selector_in x.0, x.1.now)) result (read_patch_selector text.now) }
+{
+    let (slash, rest) = optional_slash(text)?;
+    let (steps, rest) = steps(alloc, rest, Form::Patch)?;
+    let (end, rest) = optional_patch_end(rest)?;
+    Ok((RawPatchSelector { slash, steps, end }, rest))
+}
+
+/// A whole selector of a patch.
+pub fn raw_patch_selector(alloc: Global, text: &[char]) -> Result<RawPatchSelector<'_>, Stop<'_>>
+    requires { length text.now < 2 ^ 62 }
+    ensures read { Gives patch_selector_in result (read_whole read_patch_selector text.now) }
+    ensures room { IfOk result (λ raw. HasRoom raw.slash (map step_in raw.steps.items)) }
+{
+    let (selector, rest) = patch_selector(alloc, text)?;
+    if !rest.is_empty() {
+        return Err(Stop::Syntax(rest));
+    }
+    Ok(selector)
+}

@@ -1,0 +1,26 @@
+//! Node selectors: their text, what they select in a tree, and the positional selector of a place.
+//! Promises upward that reading answers exactly the selectors and where a text is none, and that `select` is the relation of selection.
+//! The standard is RFC 4825, section 6.3; the selectors of patches are those of RFC 5261, section 4.1, as far as they are taken.
+#![tactic(auto)]
+
+mod bindings;
+mod choice;
+mod fault;
+mod forms;
+mod laws;
+mod meaning;
+mod raw;
+mod reading;
+mod selecting;
+mod selector;
+mod steps;
+#[cfg(test)]
+mod tests;
+
+pub use bindings::Bindings;
+pub use choice::find_attr;
+pub use fault::SelectorFault;
+pub use laws::paths;
+pub use reading::{read_patch_selector, read_selector};
+pub use selecting::{longest_match, print_path, select, select_steps};
+pub use selector::{AttrTest, End, NameTest, PatchEnd, PatchSelector, Selector, Step};

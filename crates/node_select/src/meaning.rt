@@ -1,0 +1,223 @@
+//! What the names of a selector mean, by the bindings of their prefixes.
+ghost use Rattle.std.specs.Prelude.{◌≡◌, ◌+◌, ◌<◌, ◌^◌, ◌++◌, IfOk, chars, length, map, Option, option_map};
+ghost use Rattle.tree_text.specs.Views.{name_in};
+ghost use Rattle.node_select.specs.declared.meaning.Unresolved.TheVariants as troubles;
+ghost use Rattle.node_select.specs.Meaning.{Means};
+ghost use Rattle.node_select.specs.Names.{prefix_uri};
+ghost use Rattle.node_select.specs.Raw.{HasRoom, attr_test, attr_uri, end_of, name_test, name_uri, patch_end_of, step_of, steps_of, unbound_at, unbound_end, unbound_from, unbound_in, unbound_name, unbound_patch_end, unbound_test, no_end, widths};
+ghost use Rattle.node_select.specs.Views.{end_in, patch_end_in, step_in, test_in};
+
+use crate::bindings::Bindings;
+use crate::choice::no_uri;
+use crate::raw::{RawEnd, RawPatchEnd, RawStep, RawTest};
+use crate::selector::{AttrTest, End, NameTest, PatchEnd, Step};
+use std::alloc::{AllocError, AllocFailed, Global};
+use tree_text::{Written, text_of};
+use xml_tree::{List, Text};
+
+/// Why names can't be resolved.
+#[derive(Debug, Drop)]
+pub enum Unresolved {
+    /// So many characters stand before the first name whose prefix isn't bound.
+    Prefix(usize),
+    /// Want of memory.
+    Memory,
+}
+
+impl From<AllocError> for Unresolved {
+    ghost from_gives = { λ _ e. e ≡ troubles.Memory };
+
+    fn from(_error: AllocError) -> Self {
+        Unresolved::Memory
+    }
+}
+
+impl<T: Drop> From<AllocFailed<T>> for Unresolved {
+    ghost from_gives = { λ _ e. e ≡ troubles.Memory };
+
+    fn from(_error: AllocFailed<T>) -> Self {
+        Unresolved::Memory
+    }
+}
+
+// The URI of a prefix, if it is bound.
+fn uri_of(alloc: Global, bindings: &Bindings, prefix: &[char]) -> Result<Option<Text>, AllocError>
+    ensures { IfOk result (λ uri. uri ≡ prefix_uri bindings.now prefix.now) }
+{
+    let prefix = text_of(alloc, prefix)?;
+    match bindings.resolve(prefix.as_str()) {
+        None => Ok(None),
+        Some(uri) => {
+            let uri = Text::from(alloc, uri)?;
+            Ok(Some(uri))
+        }
+    }
+}
+
+// The URI of a name that stands there; a name without prefix has `none`.
+fn name_uri(
+    alloc: Global,
+    bindings: &Bindings,
+    none: &str,
+    name: &Written<'_>,
+    at: usize,
+) -> Result<Text, Unresolved>
+    ensures { Means (unbound_at bindings.now at (name_in name.now)) (name_uri bindings.now (chars none.now) (name_in name.now)) result }
+{
+    if name.prefix.is_empty() {
+        let uri = Text::from(alloc, none)?;
+        return Ok(uri);
+    }
+    match uri_of(alloc, bindings, name.prefix)? {
+        None => Err(Unresolved::Prefix(at)),
+        Some(uri) => Ok(uri),
+    }
+}
+
+// The URI of an attribute's name that stands there.
+fn attr_uri(
+    alloc: Global,
+    bindings: &Bindings,
+    name: &Written<'_>,
+    at: usize,
+) -> Result<Text, Unresolved>
+    ensures { Means (unbound_at bindings.now at (name_in name.now)) (attr_uri bindings.now (name_in name.now)) result }
+{
+    name_uri(alloc, bindings, no_uri(), name, at)
+}
+
+// The name test of a step that stands there.
+fn name_test(
+    alloc: Global,
+    bindings: &Bindings,
+    default: &str,
+    name: &Option<Written<'_>>,
+    at: usize,
+) -> Result<NameTest, Unresolved>
+    ensures { Means (unbound_name bindings.now at (option_map name_in name.now)) (name_test bindings.now (chars default.now) (option_map name_in name.now)) result }
+{
+    match name {
+        None => Ok(NameTest::Any),
+        Some(name) => {
+            let uri = name_uri(alloc, bindings, default, name, at)?;
+            let local = text_of(alloc, name.local)?;
+            Ok(NameTest::Named { uri, local })
+        }
+    }
+}
+
+// The attribute test of a step, where the name of the attribute stands there.
+fn attr_test(
+    alloc: Global,
+    bindings: &Bindings,
+    test: &RawTest<'_>,
+    at: usize,
+) -> Result<AttrTest, Unresolved>
+    ensures { Means (unbound_at bindings.now at (test_in test.now).0) (attr_test bindings.now (test_in test.now)) result }
+{
+    let uri = attr_uri(alloc, bindings, &test.name, at)?;
+    let local = text_of(alloc, test.name.local)?;
+    let value = test.value.copy(alloc)?;
+    Ok(AttrTest { uri, local, value })
+}
+
+// The attribute test of a step, if it has one.
+fn optional_test(
+    alloc: Global,
+    bindings: &Bindings,
+    test: &Option<RawTest<'_>>,
+    at: usize,
+) -> Result<Option<AttrTest>, Unresolved>
+    ensures { Means (unbound_test bindings.now at (option_map test_in test.now)) (option_map (attr_test bindings.now) (option_map test_in test.now)) result }
+{
+    match test {
+        None => Ok(None),
+        Some(test) => {
+            let test = attr_test(alloc, bindings, test, at)?;
+            Ok(Some(test))
+        }
+    }
+}
+
+// A step that stands there.
+fn step(
+    alloc: Global,
+    bindings: &Bindings,
+    default: &str,
+    step: &RawStep<'_>,
+    at: usize,
+) -> Result<Step, Unresolved>
+    requires { at + step.now.front + 2 < 2 ^ 64 }
+    ensures { Means (unbound_in bindings.now at (step_in step.now)) (step_of bindings.now (chars default.now) (step_in step.now)) result }
+{
+    let name = name_test(alloc, bindings, default, &step.name, at)?;
+    let test = optional_test(alloc, bindings, &step.test, at + step.front + 2)?;
+    Ok(Step {
+        name,
+        position: step.position,
+        test,
+    })
+}
+
+/// Steps, of which the first stands there, and where what follows them and a slash stands.
+pub fn steps(
+    alloc: Global,
+    bindings: &Bindings,
+    default: &str,
+    steps: &[RawStep<'_>],
+    at: usize,
+) -> Result<(List<Step>, usize), Unresolved>
+    requires { HasRoom at (map step_in steps.now) }
+    ensures { Means (unbound_from bindings.now at (map step_in steps.now) no_end) (steps_of bindings.now (chars default.now) (map step_in steps.now), at + widths (map step_in steps.now)) result }
+{
+    let mut made = List::empty(alloc);
+    let mut here = at;
+    for raw in steps {
+        let step = step(alloc, bindings, default, raw, here)?;
+        made.push(step)?;
+        here += raw.size + 1;
+    }
+    Ok((made, here))
+}
+
+/// An end that stands there: its name stands behind the `@`.
+pub fn end(
+    alloc: Global,
+    bindings: &Bindings,
+    end: &RawEnd<'_>,
+    at: usize,
+) -> Result<End, Unresolved>
+    requires { at + 1 < 2 ^ 64 }
+    ensures { Means (unbound_end bindings.now (end_in end.now) at) (end_of bindings.now (end_in end.now)) result }
+{
+    match end {
+        RawEnd::Element => Ok(End::Element),
+        RawEnd::Attribute(name) => {
+            let uri = attr_uri(alloc, bindings, name, at + 1)?;
+            let local = text_of(alloc, name.local)?;
+            Ok(End::Attribute { uri, local })
+        }
+        RawEnd::Namespaces => Ok(End::Namespaces),
+    }
+}
+
+/// The same of a patch.
+pub fn patch_end(
+    alloc: Global,
+    bindings: &Bindings,
+    end: &RawPatchEnd<'_>,
+    at: usize,
+) -> Result<PatchEnd, Unresolved>
+    requires { at + 1 < 2 ^ 64 }
+    ensures { Means (unbound_patch_end bindings.now (patch_end_in end.now) at) (patch_end_of bindings.now (patch_end_in end.now)) result }
+{
+    match end {
+        RawPatchEnd::Element => Ok(PatchEnd::Element),
+        RawPatchEnd::Attribute(name) => {
+            let uri = attr_uri(alloc, bindings, name, at + 1)?;
+            let local = text_of(alloc, name.local)?;
+            Ok(PatchEnd::Attribute { uri, local })
+        }
+        RawPatchEnd::Chars(position) => Ok(PatchEnd::Chars(*position)),
+    }
+}

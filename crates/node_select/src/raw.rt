@@ -1,0 +1,62 @@
+//! Selectors as they stand in a text: names with their prefixes, and the widths that tell where each name stands.
+use tree_text::Written;
+use xml_tree::Text;
+
+/// Which of the two grammars is read.
+#[derive(Clone, Copy, Debug)]
+pub enum Form {
+    Node,
+    Patch,
+}
+
+/// The test of a step.
+#[derive(Debug, Drop)]
+pub struct RawTest<'a> {
+    pub name: Written<'a>,
+    pub value: Text,
+}
+
+/// A step.
+#[derive(Debug, Drop)]
+pub struct RawStep<'a> {
+    /// None for `*`.
+    pub name: Option<Written<'a>>,
+    pub position: Option<u64>,
+    /// How many characters the name and the position have.
+    pub front: usize,
+    pub test: Option<RawTest<'a>>,
+    /// How many characters the step has.
+    pub size: usize,
+}
+
+/// What a selector ends in.
+#[derive(Clone, Copy, Debug)]
+pub enum RawEnd<'a> {
+    Element,
+    Attribute(Written<'a>),
+    Namespaces,
+}
+
+/// What a selector of a patch ends in.
+#[derive(Clone, Copy, Debug)]
+pub enum RawPatchEnd<'a> {
+    Element,
+    Attribute(Written<'a>),
+    Chars(Option<u64>),
+}
+
+/// A selector as it stands in a text.
+#[derive(Debug, Drop)]
+pub struct RawSelector<'a> {
+    pub steps: Vec<RawStep<'a>>,
+    pub end: RawEnd<'a>,
+}
+
+/// A selector of a patch as it stands in a text.
+#[derive(Debug, Drop)]
+pub struct RawPatchSelector<'a> {
+    /// How many characters a slash in front has.
+    pub slash: usize,
+    pub steps: Vec<RawStep<'a>>,
+    pub end: RawPatchEnd<'a>,
+}

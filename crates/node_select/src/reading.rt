@@ -1,0 +1,179 @@
+//! Reading selectors.
+ghost use Rattle.std.specs.Prelude.{◌≡◌, ◌⊎◌, ◌+◌, ◌-◌, ◌≤◌, ◌<◌, ◌^◌, length, drop, map, IfOk, Err, chars, encode_utf8_all};
+ghost use Rattle.node_select.specs.Faults.{Answered, GrammarAnswers, IsPatchSelectorAnswer, IsSelectorAnswer, byte_of, meant, patch_selector_read, selector_read, stop_place};
+ghost use Rattle.node_select.specs.Raw.{HasRoom, first_unbound, first_unbound_in_patch, patch_selector_of, selector_of};
+ghost use Rattle.node_select.specs.Views.{patch_selector_in, selector_in, step_in};
+ghost use Rattle.node_select.specs.Meaning.{Means};
+ghost use Rattle.node_select.specs.Stops.{Tells, TellsUnresolved};
+
+use crate::bindings::Bindings;
+use crate::fault::SelectorFault;
+use crate::forms::{raw_patch_selector, raw_selector};
+use crate::meaning::{Unresolved, end, patch_end, steps};
+use crate::raw::{RawPatchSelector, RawSelector};
+use crate::selector::{PatchSelector, Selector};
+use std::alloc::{AllocError, Global};
+use tree_text::Stop;
+
+// The characters of a text.
+fn decoded(alloc: Global, text: &str) -> Result<Vec<char>, AllocError>
+    ensures { IfOk result (λ all. all.items ≡ chars text.now) }
+{
+    text.chars().collect(alloc)
+}
+
+// How many bytes characters take.
+#[tactic(auto, using(crate::proofs::Bytes::bytes_more))]
+fn byte_len(text: &[char]) -> usize
+    requires { length (encode_utf8_all text.now) < 2 ^ 64 }
+    ensures { result ≡ length (encode_utf8_all text.now) }
+{
+    let mut len = 0;
+    for &c in text {
+        len += c.len_utf8();
+    }
+    len
+}
+
+// The byte behind so many characters of a text.
+fn byte_of(text: &str, all: &[char], n: usize) -> usize
+    requires { all.now ≡ chars text.now }
+    ensures { result ≡ byte_of text.now n }
+{
+    let n = n.min(all.len());
+    text.len() - byte_len(&all[n..])
+}
+
+// Why a text hasn't the form of a selector.
+fn stopped(text: &str, all: &[char], stop: &Stop<'_>) -> SelectorFault
+    requires { all.now ≡ chars text.now }
+    ensures { Tells text.now stop.now result }
+{
+    match stop {
+        Stop::Syntax(rest) => SelectorFault::BadSelector(byte_of(
+            text,
+            all,
+            all.len().saturating_sub(rest.len()),
+        )),
+        Stop::Faulty(_, rest) => SelectorFault::BadSelector(byte_of(
+            text,
+            all,
+            all.len().saturating_sub(rest.len()),
+        )),
+        Stop::Memory => SelectorFault::NoMemory,
+    }
+}
+
+// Why the names of a selector can't be resolved.
+fn unresolved(text: &str, all: &[char], why: &Unresolved) -> SelectorFault
+    requires { all.now ≡ chars text.now }
+    ensures { TellsUnresolved text.now why.now result }
+{
+    match why {
+        Unresolved::Prefix(n) => SelectorFault::UnboundPrefix(byte_of(text, all, *n)),
+        Unresolved::Memory => SelectorFault::NoMemory,
+    }
+}
+
+// The selector that a raw one means.
+fn resolved(
+    alloc: Global,
+    raw: &RawSelector<'_>,
+    bindings: &Bindings,
+    default_uri: &str,
+) -> Result<Selector, Unresolved>
+    requires { HasRoom 0 (map step_in raw.now.steps.items) }
+    ensures { Means (first_unbound bindings.now (selector_in raw.now)) (selector_of bindings.now (chars default_uri.now) (selector_in raw.now)) result }
+{
+    let (steps, at) = steps(alloc, bindings, default_uri, &raw.steps, 0)?;
+    let end = end(alloc, bindings, &raw.end, at)?;
+    Ok(Selector { steps, end })
+}
+
+// The selector of a patch that a raw one means.
+fn patch_resolved(
+    alloc: Global,
+    raw: &RawPatchSelector<'_>,
+    bindings: &Bindings,
+    default_uri: &str,
+) -> Result<PatchSelector, Unresolved>
+    requires { HasRoom raw.now.slash (map step_in raw.now.steps.items) }
+    ensures { Means (first_unbound_in_patch bindings.now (patch_selector_in raw.now)) (patch_selector_of bindings.now (chars default_uri.now) (patch_selector_in raw.now)) result }
+{
+    let (steps, at) = steps(alloc, bindings, default_uri, &raw.steps, raw.slash)?;
+    let end = patch_end(alloc, bindings, &raw.end, at)?;
+    Ok(PatchSelector { steps, end })
+}
+
+// The selector that a text spells.
+fn selector_of_text(
+    alloc: Global,
+    text: &str,
+    bindings: &Bindings,
+    default_uri: &str,
+) -> Result<Selector, SelectorFault>
+    ensures { Answered (selector_read bindings.now (chars default_uri.now) text.now) result }
+{
+    let all = decoded(alloc, text)?;
+    match raw_selector(alloc, &all) {
+        Err(stop) => Err(stopped(text, &all, &stop)),
+        Ok(raw) => match resolved(alloc, &raw, bindings, default_uri) {
+            Err(why) => Err(unresolved(text, &all, &why)),
+            Ok(selector) => Ok(selector),
+        },
+    }
+}
+
+// The selector of a patch that a text spells.
+fn patch_selector_of_text(
+    alloc: Global,
+    text: &str,
+    bindings: &Bindings,
+    default_uri: &str,
+) -> Result<PatchSelector, SelectorFault>
+    ensures { Answered (patch_selector_read bindings.now (chars default_uri.now) text.now) result }
+{
+    let all = decoded(alloc, text)?;
+    match raw_patch_selector(alloc, &all) {
+        Err(stop) => Err(stopped(text, &all, &stop)),
+        Ok(raw) => match patch_resolved(alloc, &raw, bindings, default_uri) {
+            Err(why) => Err(unresolved(text, &all, &why)),
+            Ok(selector) => Ok(selector),
+        },
+    }
+}
+
+/// The selector that a text spells (RFC 4825, section 6.3). An element's name without prefix is in the namespace `default_uri`, an attribute's
+/// is in none.
+///
+/// # Errors
+/// `BadSelector` exactly where the text is no selector, `UnboundPrefix` exactly where it is one and has an unbound prefix, `NoMemory` for
+/// want of memory.
+pub fn read_selector(
+    alloc: Global,
+    text: &str,
+    bindings: &Bindings,
+    default_uri: &str,
+) -> Result<Selector, SelectorFault>
+    ensures grammar { GrammarAnswers (IsSelectorAnswer bindings.now (chars default_uri.now) text.now) result }
+    ensures computed { Answered (selector_read bindings.now (chars default_uri.now) text.now) result }
+{
+    selector_of_text(alloc, text, bindings, default_uri)
+}
+
+/// The selector of a patch operation that a text spells (RFC 5261, section 4.1): an optional `/`, steps, and optionally an attribute or a text.
+/// Names are resolved as in `read_selector`.
+///
+/// # Errors
+/// As for `read_selector`.
+pub fn read_patch_selector(
+    alloc: Global,
+    text: &str,
+    bindings: &Bindings,
+    default_uri: &str,
+) -> Result<PatchSelector, SelectorFault>
+    ensures grammar { GrammarAnswers (IsPatchSelectorAnswer bindings.now (chars default_uri.now) text.now) result }
+    ensures computed { Answered (patch_selector_read bindings.now (chars default_uri.now) text.now) result }
+{
+    patch_selector_of_text(alloc, text, bindings, default_uri)
+}

@@ -1,0 +1,164 @@
+//! What a selector says (RFC 4825, section 6.3). Names are resolved: a name that has no namespace has the empty URI.
+ghost use Rattle.std.specs.Prelude.{◌≡◌, IfOk};
+
+use std::alloc::{AllocError, Global};
+use xml_tree::{List, Text};
+
+/// What a step asks of an element's name.
+#[derive(Debug, Drop)]
+pub enum NameTest {
+    /// `*`: nothing.
+    Any,
+    /// This namespace and this local name.
+    Named { uri: Text, local: Text },
+}
+
+/// An attribute that a step asks for, with its value.
+#[derive(Debug, Drop)]
+pub struct AttrTest {
+    pub uri: Text,
+    pub local: Text,
+    pub value: Text,
+}
+
+/// A step: from an element to one of its element children.
+#[derive(Debug, Drop)]
+pub struct Step {
+    pub name: NameTest,
+    /// Counted from 1 among the children of that name. No child has the position 0.
+    pub position: Option<u64>,
+    pub test: Option<AttrTest>,
+}
+
+/// What a selector selects of the element that its steps lead to.
+#[derive(Debug, Drop)]
+pub enum End {
+    Element,
+    Attribute { uri: Text, local: Text },
+    Namespaces,
+}
+
+/// A selector of a node of a document.
+#[derive(Debug, Drop)]
+pub struct Selector {
+    pub steps: List<Step>,
+    pub end: End,
+}
+
+/// What a patch operation's selector selects of the element that its steps lead to.
+#[derive(Debug, Drop)]
+pub enum PatchEnd {
+    Element,
+    Attribute { uri: Text, local: Text },
+    /// A text of the element: the only one, or that of this position, counted from 1.
+    Chars(Option<u64>),
+}
+
+/// A selector of a patch operation.
+#[derive(Debug, Drop)]
+pub struct PatchSelector {
+    pub steps: List<Step>,
+    pub end: PatchEnd,
+}
+
+impl NameTest {
+    /// An equal test.
+    ///
+    /// # Errors
+    /// `NoMemory` for want of memory, as at each `copy` below.
+    pub fn copy(&self, alloc: Global) -> Result<NameTest, AllocError>
+        ensures { IfOk result (λ made. made ≡ self.now) }
+    {
+        match self {
+            NameTest::Any => Ok(NameTest::Any),
+            NameTest::Named { uri, local } => {
+                let uri = uri.copy(alloc)?;
+                let local = local.copy(alloc)?;
+                Ok(NameTest::Named { uri, local })
+            }
+        }
+    }
+}
+
+impl AttrTest {
+    /// An equal test.
+    pub fn copy(&self, alloc: Global) -> Result<AttrTest, AllocError>
+        ensures { IfOk result (λ made. made ≡ self.now) }
+    {
+        let uri = self.uri.copy(alloc)?;
+        let local = self.local.copy(alloc)?;
+        let value = self.value.copy(alloc)?;
+        Ok(AttrTest { uri, local, value })
+    }
+}
+
+impl Step {
+    /// An equal step.
+    pub fn copy(&self, alloc: Global) -> Result<Step, AllocError>
+        ensures { IfOk result (λ made. made ≡ self.now) }
+    {
+        let name = self.name.copy(alloc)?;
+        let test = copy_test(&self.test, alloc)?;
+        Ok(Step {
+            name,
+            position: self.position,
+            test,
+        })
+    }
+}
+
+// An equal test, if there is one.
+fn copy_test(test: &Option<AttrTest>, alloc: Global) -> Result<Option<AttrTest>, AllocError>
+    ensures { IfOk result (λ made. made ≡ test.now) }
+{
+    match test {
+        None => Ok(None),
+        Some(test) => {
+            let made = test.copy(alloc)?;
+            Ok(Some(made))
+        }
+    }
+}
+
+impl End {
+    /// An equal end.
+    pub fn copy(&self, alloc: Global) -> Result<End, AllocError>
+        ensures { IfOk result (λ made. made ≡ self.now) }
+    {
+        match self {
+            End::Element => Ok(End::Element),
+            End::Attribute { uri, local } => {
+                let uri = uri.copy(alloc)?;
+                let local = local.copy(alloc)?;
+                Ok(End::Attribute { uri, local })
+            }
+            End::Namespaces => Ok(End::Namespaces),
+        }
+    }
+}
+
+impl Selector {
+    /// An equal selector.
+    pub fn copy(&self, alloc: Global) -> Result<Selector, AllocError>
+        ensures { IfOk result (λ made. made ≡ self.now) }
+    {
+        let steps = copy_steps(self.steps.as_slice(), alloc)?;
+        let end = self.end.copy(alloc)?;
+        Ok(Selector {
+            steps: List::from(steps),
+            end,
+        })
+    }
+}
+
+// Equal steps.
+fn copy_steps(steps: &[Step], alloc: Global) -> Result<Vec<Step>, AllocError>
+    ensures { IfOk result (λ made. made.items ≡ steps.now) }
+{
+    let mut made = Vec::new(alloc);
+    for step in steps {
+        let step = step.copy(alloc)?;
+        made.push(step)?;
+    }
+    Ok(made)
+}

@@ -1,0 +1,336 @@
+//! Steps of selectors, read from left to right.
+ghost use Rattle.std.specs.Prelude.{◌≡◌, ◌+◌, ◌-◌, ◌≤◌, ◌<◌, ◌^◌, ◌++◌, ◌∷◌, length, map, Some, option_map, OnOk, Ok};
+ghost use Rattle.grammar_rules.specs.Digits.{decimal, is_digit};
+ghost use Rattle.std.specs.Str.{bytes_eq};
+ghost use Rattle.grammar_rules.specs.Reading.{starts, read_some_of, read_valued, read_optional, read_sequence, read_sized, read_behind, read_word};
+ghost use Rattle.tree_text.specs.Gives.{Gives};
+ghost use Rattle.tree_text.specs.Runs.{run_len};
+ghost use Rattle.tree_text.specs.Views.{name_in};
+ghost use Rattle.node_select.specs.Raw.{position_of};
+ghost use Rattle.node_select.specs.Grammar.{names_attribute};
+ghost use Rattle.node_select.specs.Reading.{position_follows, read_attribute, read_inside_quotes, read_next_step, read_node_name, read_position, read_step, read_steps, read_test, read_value, slash_follows, test_follows};
+ghost use Rattle.node_select.specs.Views.{follows_in, step_in, test_in};
+
+use crate::raw::{Form, RawStep, RawTest};
+use std::alloc::{AllocError, Global};
+use tree_text::{
+    Stop, Written, no_text, qname, quote, raw_run, reference, reference_follows, word,
+};
+use xml_tree::Text;
+
+/// The greatest position; a greater one is read as 0.
+const GREATEST_POSITION: u64 = 4_294_967_295;
+
+// A name, or none for `*`, and what follows it.
+fn node_name(text: &[char]) -> Result<(Option<Written<'_>>, &[char]), Stop<'_>>
+    ensures { Gives (λ x. (option_map name_in x.0, x.1.now)) result (read_node_name text.now) }
+{
+    match text {
+        ['*', ..] => {
+            let rest = word(text, &['*'])?;
+            Ok((None, rest))
+        }
+        _ => {
+            let (name, rest) = qname(text)?;
+            Ok((Some(name), rest))
+        }
+    }
+}
+
+// Whether it is a digit.
+fn is_digit(c: char) -> bool
+    ensures { result ≡ is_digit c }
+{
+    matches!(c, '0'..='9')
+}
+
+// How many digits stand in front.
+#[tactic(auto, using(tree_text::proofs::RunLemmas::run_more, tree_text::proofs::RunLemmas::run_done))]
+fn digits_len(text: &[char]) -> usize
+    ensures { result ≡ run_len is_digit text.now }
+{
+    let mut len = 0;
+    for &c in text {
+        if !is_digit(c) {
+            return len;
+        }
+        len += 1;
+    }
+    len
+}
+
+// One or more digits, and what follows them.
+fn digits(text: &[char]) -> Result<(&[char], &[char]), Stop<'_>>
+    ensures { Gives (λ x. (x.0.now, x.1.now)) result (read_some_of is_digit text.now) }
+{
+    let len = digits_len(text);
+    if len == 0 {
+        return Err(Stop::Syntax(text));
+    }
+    Ok(text.split_at(len))
+}
+
+// What a digit is worth.
+fn digit_value(c: char) -> u64
+    ensures value { result ≡ decimal.value c }
+    ensures small { result < 2 ^ 21 }
+{
+    (c as u64).saturating_sub(48)
+}
+
+// The position that digits say.
+fn position_value(digits: &[char]) -> u64
+    ensures { result ≡ position_of digits.now }
+{
+    let mut value = 0;
+    for &c in digits {
+        value = value * 10 + digit_value(c);
+        if value > GREATEST_POSITION {
+            return 0;
+        }
+    }
+    value
+}
+
+/// A position in brackets, and what follows it.
+pub fn position(text: &[char]) -> Result<(u64, &[char]), Stop<'_>>
+    ensures { Gives (λ x. (x.0, x.1.now)) result (read_position text.now) }
+{
+    let rest = word(text, &['['])?;
+    let (digits, rest) = digits(rest)?;
+    let rest = word(rest, &[']'])?;
+    Ok((position_value(digits), rest))
+}
+
+// Whether a position follows.
+fn position_follows(text: &[char]) -> bool
+    ensures { result ≡ position_follows text.now }
+{
+    match text {
+        ['[', '@', ..] => false,
+        ['[', ..] => true,
+        _ => false,
+    }
+}
+
+// A position, if one follows, and what follows it.
+fn optional_position(text: &[char]) -> Result<(Option<u64>, &[char]), Stop<'_>>
+    ensures { Gives (λ x. (x.0, x.1.now)) result (read_optional position_follows read_position text.now) }
+{
+    if !position_follows(text) {
+        return Ok((None, text));
+    }
+    let (position, rest) = position(text)?;
+    Ok((Some(position), rest))
+}
+
+// Whether it is a name that an attribute may have, and no declaration.
+fn names_attribute(name: &Written<'_>) -> bool
+    ensures { result ≡ names_attribute (name_in name.now) }
+{
+    !(same_chars(name.prefix, &[]) && same_chars(name.local, &['x', 'm', 'l', 'n', 's']))
+}
+
+// Whether two texts have the same characters.
+fn same_chars(a: &[char], b: &[char]) -> bool
+    ensures { result ≡ bytes_eq a.now b.now }
+{
+    a == b
+}
+
+/// `@` and the name of an attribute, and what follows them.
+pub fn attribute(text: &[char]) -> Result<(Written<'_>, &[char]), Stop<'_>>
+    ensures { Gives (λ x. (name_in x.0, x.1.now)) result (read_attribute text.now) }
+{
+    let rest = word(text, &['@'])?;
+    let (name, rest) = qname(rest)?;
+    if !names_attribute(&name) {
+        return Err(Stop::Syntax(rest));
+    }
+    Ok((name, rest))
+}
+
+// Adds characters as they stand.
+fn push_all(value: &mut Text, chars: &[char]) -> Result<(), AllocError>
+    ensures { OnOk result (value.new ≡ value.old ++ chars.now) }
+{
+    for &c in chars {
+        value.push(c)?;
+    }
+    Ok(())
+}
+
+// Adds a character from a reference, and the raw characters behind it.
+fn push_piece(value: &mut Text, c: char, run: &[char]) -> Result<(), AllocError>
+    ensures { OnOk result (value.new ≡ value.old ++ (c ∷ run.now)) }
+{
+    value.push(c)?;
+    push_all(value, run)
+}
+
+// A value up to its quote, and what follows it.
+fn inside_quotes(alloc: Global, text: &[char], quote: char) -> Result<(Text, &[char]), Stop<'_>>
+    ensures { Gives (λ x. (x.0, x.1.now)) result (read_inside_quotes quote text.now) }
+{
+    let mut value = no_text(alloc);
+    let (first, start) = raw_run(text, quote);
+    push_all(&mut value, first)?;
+    let mut rest = start;
+    for _ in 0..start.len() {
+        if !reference_follows(rest) {
+            break;
+        }
+        let (c, after) = reference(rest)?;
+        let (more, after) = raw_run(after, quote);
+        push_piece(&mut value, c, more)?;
+        rest = after;
+    }
+    Ok((value, rest))
+}
+
+// A value in quotes, and what follows it.
+fn value(alloc: Global, text: &[char]) -> Result<(Text, &[char]), Stop<'_>>
+    ensures { Gives (λ x. (x.0, x.1.now)) result (read_value text.now) }
+{
+    let (quote, rest) = quote(text)?;
+    let (value, rest) = inside_quotes(alloc, rest, quote)?;
+    let rest = word(rest, &[quote])?;
+    Ok((value, rest))
+}
+
+// A test in brackets, and what follows it.
+fn test(alloc: Global, text: &[char]) -> Result<(RawTest<'_>, &[char]), Stop<'_>>
+    ensures { Gives (λ x. (test_in x.0, x.1.now)) result (read_test text.now) }
+{
+    let rest = word(text, &['['])?;
+    let (name, rest) = attribute(rest)?;
+    let rest = word(rest, &['='])?;
+    let (value, rest) = value(alloc, rest)?;
+    let rest = word(rest, &[']'])?;
+    Ok((RawTest { name, value }, rest))
+}
+
+/// Whether a bracket follows.
+pub fn test_follows(text: &[char]) -> bool
+    ensures { result ≡ test_follows text.now }
+{
+    matches!(text, ['[', ..])
+}
+
+// A test, if one follows, and what follows it.
+fn optional_test(alloc: Global, text: &[char]) -> Result<(Option<RawTest<'_>>, &[char]), Stop<'_>>
+    ensures { Gives (λ x. (option_map test_in x.0, x.1.now)) result (read_optional test_follows read_test text.now) }
+{
+    if !test_follows(text) {
+        return Ok((None, text));
+    }
+    let (test, rest) = test(alloc, text)?;
+    Ok((Some(test), rest))
+}
+
+// The name and the position of a step, and what follows them.
+fn front(text: &[char]) -> Result<(Option<Written<'_>>, Option<u64>, &[char]), Stop<'_>>
+    ensures { Gives (λ x. ((option_map name_in x.0, x.1), x.2.now)) result (read_sequence read_node_name (λ _. read_optional position_follows read_position) text.now) }
+{
+    let (name, rest) = node_name(text)?;
+    let (position, rest) = optional_position(rest)?;
+    Ok((name, position, rest))
+}
+
+// A step, and what follows it.
+fn step(alloc: Global, text: &[char]) -> Result<(RawStep<'_>, &[char]), Stop<'_>>
+    ensures { Gives (λ x. (step_in x.0, x.1.now)) result (read_step text.now) }
+{
+    let (name, position, behind) = front(text)?;
+    let (test, rest) = optional_test(alloc, behind)?;
+    let step = RawStep {
+        name,
+        position,
+        front: text.len().saturating_sub(behind.len()),
+        test,
+        size: text.len().saturating_sub(rest.len()),
+    };
+    Ok((step, rest))
+}
+
+// A step behind a slash, and what follows it.
+fn next_step(alloc: Global, text: &[char]) -> Result<(RawStep<'_>, &[char]), Stop<'_>>
+    ensures { Gives (λ x. (step_in x.0, x.1.now)) result (read_next_step text.now) }
+{
+    let rest = word(text, &['/'])?;
+    step(alloc, rest)
+}
+
+// Whether another step follows.
+fn step_follows(text: &[char], form: Form) -> bool
+    ensures { result ≡ follows_in form text.now }
+{
+    match form {
+        Form::Node => node_step_follows(text),
+        Form::Patch => patch_step_follows(text),
+    }
+}
+
+// Whether a text begins with a word.
+fn begins_with(text: &[char], word: &[char]) -> bool
+    ensures { result ≡ starts word.now text.now }
+{
+    let mut rest = text;
+    for &expected in word {
+        match rest {
+            [found, after @ ..] if *found == expected => rest = after,
+            _ => return false,
+        }
+    }
+    true
+}
+
+/// Whether a slash follows.
+pub fn slash_follows(text: &[char]) -> bool
+    ensures { result ≡ slash_follows text.now }
+{
+    matches!(text, ['/', ..])
+}
+
+// Whether a slash and another step follow, and no end of a selector.
+fn node_step_follows(text: &[char]) -> bool
+    ensures { result ≡ follows_in Form.Node text.now }
+{
+    slash_follows(text)
+        && !(begins_with(text, &['/', '@'])
+            || begins_with(
+                text,
+                &['/', 'n', 'a', 'm', 'e', 's', 'p', 'a', 'c', 'e', ':', ':'],
+            ))
+}
+
+// Whether a slash and another step follow, and no end of a patch's selector.
+fn patch_step_follows(text: &[char]) -> bool
+    ensures { result ≡ follows_in Form.Patch text.now }
+{
+    slash_follows(text)
+        && !(begins_with(text, &['/', '@']) || begins_with(text, &['/', 't', 'e', 'x', 't', '(']))
+}
+
+/// Steps, and what follows them.
+pub fn steps(
+    alloc: Global,
+    text: &[char],
+    form: Form,
+) -> Result<(Vec<RawStep<'_>>, &[char]), Stop<'_>>
+    ensures { Gives (λ x. (map step_in x.0.items, x.1.now)) result (read_steps (follows_in form) text.now) }
+{
+    let mut steps = Vec::new(alloc);
+    let (first, start) = step(alloc, text)?;
+    steps.push(first)?;
+    let mut rest = start;
+    for _ in 0..start.len() {
+        if !step_follows(rest, form) {
+            break;
+        }
+        let (step, after) = next_step(alloc, rest)?;
+        steps.push(step)?;
+        rest = after;
+    }
+    Ok((steps, rest))
+}
