@@ -1,0 +1,187 @@
+-- Every id in a target can be named by an address.
+use Rattle.std.proofs.Common.{◌≡◌, ◌≢◌, ℕ, Bool, true, false, List, [], ◌∷◌, Option, None, Some, ap, IfSome, option_map, Result, Ok, Err, IfOk, refl, sym, ◌∙◌, true≢false, subst, ◌⊎◌, ⊎_elim, if◌then◌else◌}
+use Rattle.std.proofs.lemmas.Bool.{or_parts}
+use Rattle.std.specs.Cmp.Lexicographic.{bytes_decides}
+use Rattle.std.specs.List.{list_any}
+use Rattle.std.specs.Str.{bytes_eq}
+use Rattle.xml_tree.specs.declared.names.Decl.{Decl}
+use Rattle.xcap_uri.specs.declared.doc_id.Auid.{Auid}
+use Rattle.xcap_uri.specs.declared.doc_id.Auid.TheVariants.{RlsServices}
+use Rattle.xcap_uri.specs.declared.doc_id.Home.{Home}
+use Rattle.xcap_uri.specs.declared.doc_id.Home.TheVariants.{Global, User}
+use Rattle.xcap_uri.specs.declared.doc_id.DocId.{DocId}
+use Rattle.xcap_uri.specs.declared.fault.UriFault.{UriFault}
+use Rattle.xcap_uri.specs.declared.fault.UriFault.TheVariants.{BadShape, NoMemory}
+use Rattle.xcap_uri.specs.declared.shape.Shape.{Shape}
+use Rattle.xcap_uri.specs.declared.shape.Shape.TheVariants.{Whole, Part, Below, Changes, PartChanges, FlatList}
+use Rattle.xcap_uri.specs.declared.target.Mode.{Mode}
+use Rattle.xcap_uri.specs.declared.target.Target.{Target}
+use Rattle.xcap_uri.specs.Cuts.{joined, before, behind, pieces}
+use Rattle.xcap_uri.specs.Escapes.{text_read, optional_text_read}
+use Rattle.xcap_uri.specs.Gives.{◌>>=◌}
+use Rattle.xcap_uri.specs.Ids.{IsNameable, IsReadable, IsReadableHome}
+use Rattle.xcap_uri.specs.Queries.{optional_bindings_read}
+use Rattle.xcap_uri.specs.Roots.{slash}
+use Rattle.xcap_uri.specs.Shapes
+use Rattle.xcap_uri.specs.Targets.{segments_read, path_read, target_of, part_read, about_element, rest_read, raw_text, question, IsReadableTarget}
+use Rattle.xcap_uri.specs.Words.{separator, users, global, feed, flat}
+
+-- a step after another, and a choice
+bind_ok : {A B : Type 0} (r : Result A UriFault) (f : A → Result B UriFault) (P : A → Type 0) (Q : B → Type 0) → IfOk r P → ((x : A) → P x → IfOk (f x) Q) → IfOk (r >>= f) Q
+bind_ok (Ok x) f P Q p g = g x p
+bind_ok (Err e) f P Q p g = tt
+
+if_ok : {A : Type 0} (b : Bool) (x y : Result A UriFault) (P : A → Type 0) → IfOk x P → IfOk y P → IfOk (if b then x else y) P
+if_ok true x y P p q = p
+if_ok false x y P p q = q
+
+always : {A : Type 0} (r : Result A UriFault) → IfOk r (λ _. Unit {0})
+always (Ok x) = tt
+always (Err e) = tt
+
+-- ---- segments
+
+AreFree : List (List ℕ) → Type 0
+AreFree [] = Unit {0}
+AreFree (t ∷ ts) = (t ≢ separator) × AreFree ts
+
+differ : (text : List ℕ) → bytes_eq text separator ≡ false → text ≢ separator
+differ text e same = true≢false (sym ((bytes_decides text separator).1 same) ∙ e)
+
+abbrev Segments : Type 0
+Segments = Result (List (List ℕ) × Option (List ℕ)) UriFault
+
+separate : (text : List ℕ) (ss : List (List ℕ)) (b : Bool) → bytes_eq text separator ≡ b → IfOk (segments_read ss) (λ x. AreFree x.0) → let read : Segments = if b then Ok ([], Some (joined slash ss)) else (segments_read ss >>= λ x. Ok (text ∷ x.0, x.1)) in IfOk read (λ x. AreFree x.0)
+unfolding AreFree
+separate text ss true e h = tt
+separate text ss false e h = bind_ok (segments_read ss) (λ x. Ok (text ∷ x.0, x.1)) (λ x. AreFree x.0) (λ x. AreFree x.0) h (λ x free. (differ text e, free))
+
+free : (ss : List (List ℕ)) → IfOk (segments_read ss) (λ x. AreFree x.0)
+unfolding AreFree
+free [] = tt
+free (s ∷ ss) = bind_ok (text_read s) _ (λ _. Unit {0}) (λ x. AreFree x.0) (always (text_read s)) (λ text _. separate text ss (bytes_eq text separator) refl (free ss))
+
+AreNameable : List (List ℕ) → Type 0
+AreNameable [] = Unit {0}
+AreNameable (t ∷ ts) = IsNameable t × AreNameable ts
+
+filled : (t : List ℕ) → Shapes.is_empty t ≡ false → t ≢ []
+filled [] e = absurd (true≢false e)
+filled (c ∷ cs) e = λ same. true≢false (sym (ap Shapes.is_empty same) ∙ e)
+
+nameable : (ts : List (List ℕ)) → AreFree ts → list_any Shapes.is_empty ts ≡ false → AreNameable ts
+unfolding AreFree AreNameable
+nameable [] free e = tt
+nameable (t ∷ ts) free e = let both = or_parts (Shapes.is_empty t) (list_any Shapes.is_empty ts) e in ((filled t both.0, free.0), nameable ts free.1 both.1)
+
+-- ---- shapes
+
+ReadableShape : Shape → Type 0
+ReadableShape (Whole doc) = IsReadable doc
+ReadableShape (Part doc text) = IsReadable doc
+ReadableShape (Below auid home) = IsReadableHome home
+ReadableShape (Changes mode tag doc) = IsReadable doc
+ReadableShape (PartChanges tag doc text) = IsReadable doc
+ReadableShape (FlatList doc service) = IsReadable doc
+
+document_ok : (doc : DocId) (selector : Option (List ℕ)) → IsReadable doc → IfOk (Shapes.document doc selector) ReadableShape
+unfolding ReadableShape
+document_ok doc None good = good
+document_ok doc (Some []) good = tt
+document_ok doc (Some (c ∷ cs)) good = good
+
+home_ok : (auid : Auid) (home : Home) (ts : List (List ℕ)) (selector : Option (List ℕ)) → IsReadableHome home → AreNameable ts → IfOk (Shapes.in_home auid home ts selector) ReadableShape
+unfolding AreNameable ReadableShape
+home_ok auid home [] selector good names = tt
+home_ok auid home (name ∷ []) selector good names = document_ok (Shapes.doc_of auid home name) selector (good, names.0)
+home_ok auid home (name ∷ next ∷ more) selector good names = good
+
+user_ok : (auid : Auid) (ts : List (List ℕ)) (selector : Option (List ℕ)) → AreNameable ts → IfOk (Shapes.of_user auid ts selector) ReadableShape
+unfolding AreNameable
+user_ok auid [] selector names = tt
+user_ok auid (xui ∷ rest) selector names = home_ok auid (User xui) rest selector names.0 names.1
+
+usage_ok : (auid : Auid) (ts : List (List ℕ)) (selector : Option (List ℕ)) → AreNameable ts → IfOk (Shapes.in_usage auid ts selector) ReadableShape
+unfolding AreNameable
+usage_ok auid [] selector names = tt
+usage_ok auid (tree ∷ rest) selector names =
+    if_ok (bytes_eq tree global) (Shapes.in_home auid Global rest selector) (if bytes_eq tree users then Shapes.of_user auid rest selector else Err BadShape) ReadableShape (home_ok auid Global rest selector (tt {0}) names.1)
+    (if_ok (bytes_eq tree users) (Shapes.of_user auid rest selector) (Err BadShape) ReadableShape (user_ok auid rest selector names.1) (tt {0}))
+
+mapped_ok : (auid : Option Auid) (f : Auid → DocId) → ((a : Auid) → IsReadable (f a)) → IfSome (option_map f auid) IsReadable
+mapped_ok None f good = tt
+mapped_ok (Some a) f good = good a
+
+chosen_ok : (b : Bool) (x : Option DocId) → IfSome x IsReadable → IfSome (if b then x else None) IsReadable
+chosen_ok true x good = good
+chosen_ok false x good = tt
+
+part_ok : (tag : ℕ) (doc : DocId) (selector : Option (List ℕ)) → IsReadable doc → IfOk (Shapes.part_changes tag doc selector) ReadableShape
+unfolding ReadableShape
+part_ok tag doc None good = tt
+part_ok tag doc (Some []) good = tt
+part_ok tag doc (Some (c ∷ cs)) good = good
+
+changes_ok : (mode : Option Mode) (tag : ℕ) (doc : DocId) (selector : Option (List ℕ)) → IsReadable doc → IfOk (Shapes.changes mode tag doc selector) ReadableShape
+unfolding ReadableShape
+changes_ok None tag doc selector good = tt
+changes_ok (Some mode) tag doc None good = good
+changes_ok (Some mode) tag doc (Some text) good = tt
+
+either_ok : (mode : List ℕ) (tag : Option ℕ) (doc : Option DocId) (selector : Option (List ℕ)) → IfSome doc IsReadable → IfOk (Shapes.changes_or_part mode tag doc selector) ReadableShape
+either_ok mode None doc selector good = tt
+either_ok mode (Some tag) None selector good = tt
+either_ok mode (Some tag) (Some doc) selector good = if_ok _ _ _ ReadableShape (part_ok tag doc selector good) (changes_ok (Shapes.mode_of mode) tag doc selector good)
+
+feed_ok : (ts : List (List ℕ)) (selector : Option (List ℕ)) → AreNameable ts → IfOk (Shapes.feed_shape ts selector) ReadableShape
+unfolding AreNameable
+feed_ok (mode ∷ tag ∷ auid ∷ tree ∷ xui ∷ name ∷ []) selector names =
+    either_ok mode (Shapes.tag_of tag) (Shapes.stored_doc auid tree xui name) selector
+    (chosen_ok (bytes_eq tree users) _ (mapped_ok (Shapes.stored_auid_of auid) (λ a. Shapes.doc_of a (User xui) name) (λ a. (names.1.1.1.1.0, names.1.1.1.1.1.0))))
+feed_ok _ selector names = tt
+
+flat_ok : (ts : List (List ℕ)) (selector : Option (List ℕ)) → AreNameable ts → IfOk (Shapes.flat_shape ts selector) ReadableShape
+unfolding AreNameable ReadableShape
+flat_ok (xui ∷ name ∷ service ∷ []) None names = (names.0, names.1.0)
+flat_ok _ selector names = tt
+
+known_ok : (auid : Option Auid) (ts : List (List ℕ)) (selector : Option (List ℕ)) → AreNameable ts → IfOk (Shapes.of_usage auid ts selector) ReadableShape
+known_ok None ts selector names = tt
+known_ok (Some auid) ts selector names = usage_ok auid ts selector names
+
+named_ok : (ts : List (List ℕ)) (selector : Option (List ℕ)) → AreNameable ts → IfOk (Shapes.named ts selector) ReadableShape
+unfolding AreNameable
+named_ok [] selector names = tt
+named_ok (first ∷ rest) selector names =
+    let others = if bytes_eq first flat then Shapes.flat_shape rest selector else Shapes.of_usage (Shapes.auid_of first) rest selector in
+    if_ok (bytes_eq first feed) (Shapes.feed_shape rest selector) others ReadableShape (feed_ok rest selector names.1)
+    (if_ok (bytes_eq first flat) (Shapes.flat_shape rest selector) (Shapes.of_usage (Shapes.auid_of first) rest selector) ReadableShape (flat_ok rest selector names.1) (known_ok (Shapes.auid_of first) rest selector names.1))
+
+unless_empty : (ts : List (List ℕ)) (selector : Option (List ℕ)) (b : Bool) → list_any Shapes.is_empty ts ≡ b → AreFree ts → IfOk (if b then Err BadShape else Shapes.named ts selector) ReadableShape
+unless_empty ts selector true e free = tt
+unless_empty ts selector false e free = named_ok ts selector (nameable ts free e)
+
+-- ---- targets
+
+target_ok : (shape : Shape) (bindings : List Decl) (raw : List ℕ) → ReadableShape shape → IfOk (target_of shape bindings raw) IsReadableTarget
+unfolding ReadableShape
+target_ok (Whole doc) bindings raw good = good
+target_ok (Part doc text) bindings raw good = bind_ok (part_read bindings doc.auid text) _ (λ _. Unit {0}) IsReadableTarget (always _) (λ selector _. good)
+target_ok (Below auid home) bindings raw good = good
+target_ok (Changes mode tag doc) bindings raw good = good
+target_ok (PartChanges tag doc text) bindings raw good = bind_ok (part_read bindings doc.auid text >>= about_element) _ (λ _. Unit {0}) IsReadableTarget (always _) (λ selector _. good)
+target_ok (FlatList doc service) bindings raw good = good
+
+-- what stands under the root
+pub rest_ok : (rest : List ℕ) → IfOk (rest_read rest) IsReadableTarget
+rest_ok rest =
+    bind_ok (path_read (before question rest)) _ (λ x. AreFree x.0) IsReadableTarget (free (pieces slash (before question rest))) (λ path names.
+    bind_ok (optional_text_read path.1) _ (λ _. Unit {0}) IsReadableTarget (always _) (λ selector _.
+    bind_ok (optional_text_read (behind question rest)) _ (λ _. Unit {0}) IsReadableTarget (always _) (λ query _.
+    bind_ok (Shapes.shape_of path.0 selector) _ ReadableShape IsReadableTarget (unless_empty path.0 selector (list_any Shapes.is_empty path.0) refl names) (λ shape good.
+    bind_ok (optional_bindings_read query) _ (λ _. Unit {0}) IsReadableTarget (always _) (λ bindings _.
+    target_ok shape bindings (raw_text path.1 (behind question rest)) good)))))
+
+-- what the code answers
+pub answer_nameable : (stated r : Result Target UriFault) → IfOk stated IsReadableTarget → (r ≡ stated) ⊎ (r ≡ Err NoMemory) → IfOk r IsReadableTarget
+answer_nameable stated r good which = ⊎_elim (λ e. subst (λ x. IfOk x IsReadableTarget) (sym e) good) (λ e. subst (λ x. IfOk x IsReadableTarget) (sym e) tt) which

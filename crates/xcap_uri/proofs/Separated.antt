@@ -1,0 +1,95 @@
+-- Segments read one after the other.
+use Rattle.std.proofs.Common.{◌≡◌, ℕ, Bool, true, false, ◌==◌, List, [], ◌∷◌, ◌++◌, Option, None, Some, unwrap_or, Result, Ok, Err, refl, ap, ◌∙◌, sym, append_assoc, ◌⊎◌, inl, inr}
+use Rattle.std.proofs.lemmas.Bool.{eqb-true}
+use Rattle.std.proofs.lemmas.List.{append-nil}
+use Rattle.std.specs.Str.{bytes_eq}
+use Rattle.xcap_uri.specs.Cuts.{before, behind, pieces, joined, with_first}
+use Rattle.xcap_uri.specs.Escapes.{text_read}
+use Rattle.xcap_uri.specs.Gives.{◌>>=◌}
+use Rattle.xcap_uri.specs.Roots.{slash}
+use Rattle.xcap_uri.specs.Targets.{path_read, segments_read}
+use Rattle.xcap_uri.specs.Words.{separator}
+use Rattle.xcap_uri.specs.declared.fault.UriFault.{UriFault}
+use Rattle.xcap_uri.specs.declared.fault.UriFault.TheVariants.{NoMemory}
+use Rattle.xcap_uri.proofs.Pieces.{pieces_cut, pieces_behind}
+
+abbrev pub Segments : Type 0
+Segments = Result (List (List ℕ) × Option (List ℕ)) UriFault
+
+-- segments in front of those that are read: none at first
+abbrev pub with_segments : List (List ℕ) → Segments → Segments
+with_segments front read = read >>= λ x. Ok (front ++ x.0, x.1)
+
+pub none_yet : (read : Segments) → read ≡ with_segments [] read
+none_yet (Ok x) = refl
+none_yet (Err e) = refl
+
+-- a character in front of pieces, and a stop
+joined_first : (stop b : ℕ) (ps : List (List ℕ)) → joined stop (with_first b ps) ≡ b ∷ joined stop ps
+joined_first stop b [] = refl
+joined_first stop b (p ∷ []) = refl
+joined_first stop b (p ∷ q ∷ ps) = refl
+
+joined_after : (stop : ℕ) (ps : List (List ℕ)) (p : List ℕ) (qs : List (List ℕ)) → ps ≡ p ∷ qs → joined stop ([] ∷ ps) ≡ stop ∷ joined stop ps
+joined_after stop ps p qs e = rw e refl
+
+-- pieces, joined again
+one_more : (stop b : ℕ) (bs : List ℕ) (t : Bool) → b == stop ≡ t → joined stop (pieces stop bs) ≡ bs → joined stop (pieces stop (b ∷ bs)) ≡ b ∷ bs
+one_more stop b bs true h e =
+    let same = eqb-true b stop h in
+    rw h (joined_after stop (pieces stop bs) _ _ (pieces_cut stop bs) ∙ ap (λ (l : List ℕ). stop ∷ l) e ∙ ap (λ x. x ∷ bs) (sym same))
+one_more stop b bs false h e = rw h (joined_first stop b (pieces stop bs) ∙ ap (λ (l : List ℕ). b ∷ l) e)
+
+pub joined_pieces : (stop : ℕ) (text : List ℕ) → joined stop (pieces stop text) ≡ text
+joined_pieces stop [] = refl
+joined_pieces stop (b ∷ bs) = one_more stop b bs (b == stop) refl (joined_pieces stop bs)
+
+joined_behind : (stop : ℕ) (rest : Option (List ℕ)) → joined stop (pieces_behind stop rest) ≡ unwrap_or rest []
+joined_behind stop None = refl
+joined_behind stop (Some rest) = joined_pieces stop rest
+
+-- one segment, and the others
+cut : (rest : List ℕ) → path_read rest ≡ segments_read (before slash rest ∷ pieces_behind slash (behind slash rest))
+cut rest = ap segments_read (pieces_cut slash rest)
+
+module _ (total : Segments) (front : List (List ℕ)) (rest : List ℕ) (so_far : total ≡ with_segments front (path_read rest)) where
+  pub segment_fails : (e : UriFault) → text_read (before slash rest) ≡ Err e → total ≡ Err e
+  segment_fails e h = so_far ∙ rw (cut rest, h) refl
+
+  pub separated : (text : List ℕ) → text_read (before slash rest) ≡ Ok text → bytes_eq text separator ≡ true → total ≡ Ok (front, Some (unwrap_or (behind slash rest) []))
+  separated text h same =
+      let empty : List (List ℕ) = [] in
+      so_far ∙ rw (cut rest, h, same) (ap (λ (l : List ℕ). let z : List (List ℕ) × Option (List ℕ) = (front ++ empty, Some l) in let r : Segments = Ok z in r) (joined_behind slash (behind slash rest)) ∙ ap (λ (l : List (List ℕ)). let z : List (List ℕ) × Option (List ℕ) = (l, Some (unwrap_or (behind slash rest) [])) in let r : Segments = Ok z in r) (append-nil front))
+
+  pub last_segment : (text : List ℕ) → text_read (before slash rest) ≡ Ok text → bytes_eq text separator ≡ false → behind slash rest ≡ None → total ≡ Ok (front ++ text ∷ [], None)
+  last_segment text h other none = so_far ∙ rw (cut rest, h, other, none) refl
+
+  pub next_segment : (text tail : List ℕ) → text_read (before slash rest) ≡ Ok text → bytes_eq text separator ≡ false → behind slash rest ≡ Some tail → total ≡ with_segments (front ++ text ∷ []) (path_read tail)
+  next_segment text tail h other some = so_far ∙ rw (cut rest, h, other, some) (longer text (path_read tail))
+    where
+      longer : (text : List ℕ) (out : Segments) → with_segments front (out >>= λ x. Ok (text ∷ x.0, x.1)) ≡ with_segments (front ++ text ∷ []) out
+      longer text (Ok x) = ap (λ (l : List (List ℕ)). let z : List (List ℕ) × Option (List ℕ) = (l, x.1) in let r : Segments = Ok z in r) (sym (append_assoc front (text ∷ []) x.0))
+      longer text (Err e) = refl
+
+-- what the code has read of a segment
+read_ok : (text raw : List ℕ) → (Ok text ≡ text_read raw) ⊎ (Ok text ≡ Err NoMemory) → text_read raw ≡ Ok text
+read_ok text raw (inl h) = sym h
+read_ok text raw (inr h) = absurd cc
+
+module _ (total : Segments) (front : List (List ℕ)) (rest raw : List ℕ) (cut_at : raw ≡ before slash rest) (so_far : total ≡ with_segments front (path_read rest)) where
+  pub fails : (e : UriFault) → (Err e ≡ text_read raw) ⊎ (let want : Result (List ℕ) UriFault = Err NoMemory in Err e ≡ want) → (total ≡ Err e) ⊎ (e ≡ NoMemory)
+  fails e (inl h) = inl (segment_fails total front rest so_far e (ap text_read (sym cut_at) ∙ sym h))
+  fails e (inr h) = inr cc
+
+  module _ (text : List ℕ) (read : (Ok text ≡ text_read raw) ⊎ (Ok text ≡ Err NoMemory)) where
+    is_read : text_read (before slash rest) ≡ Ok text
+    is_read = ap text_read (sym cut_at) ∙ read_ok text raw read
+
+    pub at_separator : (back : List ℕ) → bytes_eq text separator ≡ true → back ≡ unwrap_or (behind slash rest) [] → total ≡ Ok (front, Some back)
+    at_separator back same e = separated total front rest so_far text is_read same ∙ ap (λ (l : List ℕ). let z : List (List ℕ) × Option (List ℕ) = (front, Some l) in let r : Segments = Ok z in r) (sym e)
+
+    pub at_last : bytes_eq text separator ≡ false → behind slash rest ≡ None → total ≡ Ok (front ++ text ∷ [], None)
+    at_last other none = last_segment total front rest so_far text is_read other none
+
+    pub at_next : (tail : List ℕ) → bytes_eq text separator ≡ false → behind slash rest ≡ Some tail → total ≡ with_segments (front ++ text ∷ []) (path_read tail)
+    at_next tail other some = next_segment total front rest so_far text tail is_read other some

@@ -1,0 +1,7 @@
+use Rattle.std.proofs.Common.{◌≡◌, ◌-◌}
+use Rattle.xcap_uri.specs.Queries.{bindings_read, items_read}
+use Rattle.xcap_uri.specs.UriSteps.{with_items}
+use Rattle.xcap_uri.proofs.query.read_items.Given as goal
+
+abbrev pub invariant-items : goal.invariant-items
+invariant-items l = bindings_read l.text ≡ with_items l.bindings (items_read (l.end - l.counter) l.rest)

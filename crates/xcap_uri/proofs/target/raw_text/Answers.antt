@@ -1,0 +1,12 @@
+use Rattle.std.proofs.Common.{◌≡◌, List, ℕ, ◌++◌, option_map, string_bytes, ap, ◌∙◌}
+use Rattle.std.specs.Str.{chars}
+use Rattle.xcap_uri.specs.Escapes.{escaped, is_visible}
+use Rattle.xcap_uri.specs.Targets.{with_query}
+use Rattle.xcap_uri.proofs.Printed.{visible_letters}
+use Rattle.xcap_uri.proofs.target.raw_text.Goals as goal
+
+pub returns-in_ok-push_raw-in-Some : goal.returns-in_ok-push_raw-in-Some
+returns-in_ok-push_raw-in-Some c =
+    let octets = with_query c.in-Some.selector.now (option_map (λ x. x.now) c.args.query) in
+    let bytes = c.in_ok-push_raw-in-Some.ensures ∙ ap (λ (l : List ℕ). l ++ escaped is_visible octets) c.new-line.ensures.bytes in
+    rw c.in-Some.is (c.own.ensures ∙ ap chars bytes ∙ visible_letters octets)

@@ -1,0 +1,19 @@
+-- What a call answers that may want memory: what is stated, or want of memory.
+use Rattle.std.specs.Prelude.{◌≡◌, ◌⊎◌, Result, Ok, Err}
+use Rattle.xcap_uri.specs.declared.fault.UriFault.{UriFault}
+use Rattle.xcap_uri.specs.declared.fault.UriFault.TheVariants.{NoMemory}
+
+-- the stated answer, or this one, which stands for want of memory
+abbrev pub Answers : {T E : Type 0} → E → Result T E → Result T E → Type 0
+Answers memory stated r = (r ≡ stated) ⊎ (r ≡ Err memory)
+
+-- the stated answer, seen so, or want of memory
+abbrev pub Gives : {X Y : Type 0} → (X → Y) → Result X UriFault → Result Y UriFault → Type 0
+Gives view (Ok x) stated = stated ≡ Ok (view x)
+Gives view (Err fault) stated = (stated ≡ Err fault) ⊎ (fault ≡ NoMemory)
+
+-- the next step, unless one before it is refused: the first fault is answered
+infixl 10 ◌>>=◌
+abbrev pub ◌>>=◌ : {A B : Type 0} → Result A UriFault → (A → Result B UriFault) → Result B UriFault
+(Ok x) >>= f = f x
+(Err e) >>= f = Err e

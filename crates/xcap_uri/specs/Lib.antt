@@ -1,0 +1,12 @@
+pub mod Cuts
+pub mod Escapes
+pub mod Gives
+pub mod Ids
+pub mod Queries
+pub mod Roots
+pub mod Same
+pub mod Shapes
+pub mod Spelled
+pub mod Targets
+pub mod UriSteps
+pub mod Words

@@ -1,0 +1,147 @@
+-- What the segments of an address name. The document selectors are those of RFC 4825, section 6.2; what stands under `~feed` and `~flat` is
+-- this server's own. The segments are those before the separator, decoded; the selector is the text behind it, where there is a separator.
+use Rattle.std.specs.Prelude.{ℕ, ◌+◌, ◌-◌, ◌*◌, Bool, true, false, ◌&&◌, nat_le, ◌==◌, List, [], ◌∷◌, encode_utf8_all, length, Option, None, Some, option_map, Result, Ok, Err, if◌then◌else◌}
+use Rattle.std.specs.List.{list_any, list_all}
+use Rattle.std.specs.Str.{bytes_eq}
+use Rattle.grammar_rules.specs.Digits.{decimal, is_digit}
+use Rattle.grammar_rules.specs.Rules.{number_from}
+use Rattle.xcap_uri.specs.Words.{resource_lists, rls_services, xcap_caps, global, users, feed, flat, element, no_patching, xcap_patching, aggregate}
+use Rattle.xcap_uri.specs.declared.doc_id.Auid.{Auid}
+use Rattle.xcap_uri.specs.declared.doc_id.Auid.TheVariants.{ResourceLists, RlsServices, XcapCaps}
+use Rattle.xcap_uri.specs.declared.doc_id.Home.{Home}
+use Rattle.xcap_uri.specs.declared.doc_id.Home.TheVariants.{Global, User}
+use Rattle.xcap_uri.specs.declared.doc_id.DocId.{DocId}
+use Rattle.xcap_uri.specs.declared.fault.UriFault.{UriFault}
+use Rattle.xcap_uri.specs.declared.fault.UriFault.TheVariants.{BadShape, UnknownAuid}
+use Rattle.xcap_uri.specs.declared.target.Mode.{Mode}
+use Rattle.xcap_uri.specs.declared.target.Mode.TheVariants.{NoPatching, XcapPatching, Aggregate}
+use Rattle.xcap_uri.specs.declared.shape.Shape.{Shape}
+use Rattle.xcap_uri.specs.declared.shape.Shape.TheVariants.{Whole, Part, Below, Changes, PartChanges, FlatList}
+
+-- ---- the words
+
+-- the usage of this name
+abbrev pub auid_of : List ℕ → Option Auid
+auid_of name =
+    if bytes_eq name resource_lists then Some ResourceLists
+    else if bytes_eq name rls_services then Some RlsServices
+    else if bytes_eq name xcap_caps then Some XcapCaps
+    else None
+
+-- the usage of this name, where its documents are stored
+abbrev pub stored_auid_of : List ℕ → Option Auid
+stored_auid_of name =
+    if bytes_eq name resource_lists then Some ResourceLists
+    else if bytes_eq name rls_services then Some RlsServices
+    else None
+
+-- the mode of this name
+abbrev pub mode_of : List ℕ → Option Mode
+mode_of name =
+    if bytes_eq name no_patching then Some NoPatching
+    else if bytes_eq name xcap_patching then Some XcapPatching
+    else if bytes_eq name aggregate then Some Aggregate
+    else None
+
+-- the first octet is a digit other than 0
+abbrev pub begins_with_digit : List ℕ → Bool
+begins_with_digit [] = false
+begins_with_digit (c ∷ cs) = is_digit c && nat_le 49 c
+
+-- a numeral from 1 to the greatest 64-bit number, without leading zero
+abbrev pub is_tag : List ℕ → Bool
+is_tag octets = begins_with_digit octets && (list_all is_digit octets && nat_le (number_from decimal 0 octets) 18446744073709551615)
+
+-- the same worked out digit by digit, behind digits that are worth n
+abbrev pub tag_value : ℕ → List ℕ → Option ℕ
+tag_value n [] = Some n
+tag_value n (c ∷ cs) = if is_digit c && nat_le (n * 10 + (c - 48)) 18446744073709551615 then tag_value (n * 10 + (c - 48)) cs else None
+
+-- the number of a tag
+abbrev pub tag_of : List ℕ → Option ℕ
+tag_of text = if is_tag (encode_utf8_all text) then Some (number_from decimal 0 (encode_utf8_all text)) else None
+
+-- ---- documents
+
+abbrev pub doc_of : Auid → Home → List ℕ → DocId
+doc_of auid home name = record { auid = auid; home = home; name = name }
+
+-- a document, or with a selector a part of it; an empty selector is none
+abbrev pub document : DocId → Option (List ℕ) → Result Shape UriFault
+document doc None = Ok (Whole doc)
+document doc (Some []) = Err BadShape
+document doc (Some (c ∷ cs)) = Ok (Part doc (c ∷ cs))
+
+-- in a home: a name, or more, which lies below a document; then the selector isn't looked at
+abbrev pub in_home : Auid → Home → List (List ℕ) → Option (List ℕ) → Result Shape UriFault
+in_home auid home [] selector = Err BadShape
+in_home auid home (name ∷ []) selector = document (doc_of auid home name) selector
+in_home auid home (name ∷ next ∷ more) selector = Ok (Below auid home)
+
+-- behind `users`: a user
+abbrev pub of_user : Auid → List (List ℕ) → Option (List ℕ) → Result Shape UriFault
+of_user auid [] selector = Err BadShape
+of_user auid (xui ∷ rest) selector = in_home auid (User xui) rest selector
+
+-- behind a usage: `global` or `users`
+abbrev pub in_usage : Auid → List (List ℕ) → Option (List ℕ) → Result Shape UriFault
+in_usage auid [] selector = Err BadShape
+in_usage auid (tree ∷ rest) selector =
+    if bytes_eq tree global then in_home auid Global rest selector
+    else if bytes_eq tree users then of_user auid rest selector
+    else Err BadShape
+
+-- ---- notices and flat lists
+
+-- the document of a stored usage and a user
+abbrev pub stored_doc : List ℕ → List ℕ → List ℕ → List ℕ → Option DocId
+stored_doc auid tree xui name = if bytes_eq tree users then option_map (λ a. doc_of a (User xui) name) (stored_auid_of auid) else None
+
+-- the notice about an element has a selector, which isn't empty
+abbrev pub part_changes : ℕ → DocId → Option (List ℕ) → Result Shape UriFault
+part_changes tag doc None = Err BadShape
+part_changes tag doc (Some []) = Err BadShape
+part_changes tag doc (Some (c ∷ cs)) = Ok (PartChanges tag doc (c ∷ cs))
+
+-- the notice about a document has a mode, and no selector
+abbrev pub changes : Option Mode → ℕ → DocId → Option (List ℕ) → Result Shape UriFault
+changes None tag doc selector = Err BadShape
+changes (Some mode) tag doc None = Ok (Changes mode tag doc)
+changes (Some mode) tag doc (Some text) = Err BadShape
+
+abbrev pub changes_or_part : List ℕ → Option ℕ → Option DocId → Option (List ℕ) → Result Shape UriFault
+changes_or_part mode None doc selector = Err BadShape
+changes_or_part mode (Some tag) None selector = Err BadShape
+changes_or_part mode (Some tag) (Some doc) selector =
+    if bytes_eq mode element then part_changes tag doc selector else changes (mode_of mode) tag doc selector
+
+-- behind `~feed`: a mode or `element`, a tag, a stored usage, `users`, a user and a name
+abbrev pub feed_shape : List (List ℕ) → Option (List ℕ) → Result Shape UriFault
+feed_shape (mode ∷ tag ∷ auid ∷ tree ∷ xui ∷ name ∷ []) selector = changes_or_part mode (tag_of tag) (stored_doc auid tree xui name) selector
+feed_shape _ selector = Err BadShape
+
+-- behind `~flat`: a user, a name and the address of a service, without separator
+abbrev pub flat_shape : List (List ℕ) → Option (List ℕ) → Result Shape UriFault
+flat_shape (xui ∷ name ∷ service ∷ []) None = Ok (FlatList (doc_of RlsServices (User xui) name) service)
+flat_shape _ selector = Err BadShape
+
+-- ---- all shapes
+
+abbrev pub of_usage : Option Auid → List (List ℕ) → Option (List ℕ) → Result Shape UriFault
+of_usage None rest selector = Err UnknownAuid
+of_usage (Some auid) rest selector = in_usage auid rest selector
+
+abbrev pub named : List (List ℕ) → Option (List ℕ) → Result Shape UriFault
+named [] selector = Err UnknownAuid
+named (first ∷ rest) selector =
+    if bytes_eq first feed then feed_shape rest selector
+    else if bytes_eq first flat then flat_shape rest selector
+    else of_usage (auid_of first) rest selector
+
+abbrev pub is_empty : List ℕ → Bool
+is_empty [] = true
+is_empty (c ∷ cs) = false
+
+-- what the segments name, none of which is empty
+abbrev pub shape_of : List (List ℕ) → Option (List ℕ) → Result Shape UriFault
+shape_of segments selector = if list_any is_empty segments then Err BadShape else named segments selector

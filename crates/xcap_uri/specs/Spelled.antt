@@ -1,0 +1,18 @@
+-- Texts that octets spell in UTF-8, as every text of the program is.
+use Rattle.std.specs.Prelude.{◌≡◌, ℕ, ◌<◌, List, All, encode_utf8_all}
+use Rattle.std.specs.Str.{IsUtf8, chars}
+use Rattle.xcap_uri.specs.declared.doc_id.Home.{Home}
+use Rattle.xcap_uri.specs.declared.doc_id.Home.TheVariants.{Global, User}
+
+-- a number that an octet can be
+abbrev pub IsOctet : ℕ → Type 0
+IsOctet b = b < 256
+
+pub record IsSpelled (text : List ℕ) : Type 0 where
+  pub utf8 : IsUtf8 (encode_utf8_all text)
+  pub octets : All IsOctet (encode_utf8_all text)
+  pub letters : chars (encode_utf8_all text) ≡ text
+
+abbrev pub IsSpelledHome : Home → Type 0
+IsSpelledHome Global = Unit {0}
+IsSpelledHome (User xui) = IsSpelled xui

@@ -1,0 +1,45 @@
+-- The words of addresses, as characters. RFC 4825, sections 6.1 and 6.2; RFC 4826, sections 3.4 and 4.4.
+use Rattle.std.specs.Prelude.{ℕ, List, codes}
+use Rattle.std.specs.Str.{chars}
+
+-- the names of the three usages
+abbrev pub resource_lists : List ℕ
+resource_lists = chars (codes "resource-lists")
+
+abbrev pub rls_services : List ℕ
+rls_services = chars (codes "rls-services")
+
+abbrev pub xcap_caps : List ℕ
+xcap_caps = chars (codes "xcap-caps")
+
+-- the two trees of documents of a usage
+abbrev pub global : List ℕ
+global = chars (codes "global")
+
+abbrev pub users : List ℕ
+users = chars (codes "users")
+
+-- the segment behind which the node selector stands
+abbrev pub separator : List ℕ
+separator = chars (codes "~~")
+
+-- the first segments of the addresses of notices and of flat lists
+abbrev pub feed : List ℕ
+feed = chars (codes "~feed")
+
+abbrev pub flat : List ℕ
+flat = chars (codes "~flat")
+
+-- what stands for a mode in the address of a notice about an element
+abbrev pub element : List ℕ
+element = chars (codes "element")
+
+-- the three modes, as RFC 5875 names them in section 4.3
+abbrev pub no_patching : List ℕ
+no_patching = chars (codes "no-patching")
+
+abbrev pub xcap_patching : List ℕ
+xcap_patching = chars (codes "xcap-patching")
+
+abbrev pub aggregate : List ℕ
+aggregate = chars (codes "aggregate")

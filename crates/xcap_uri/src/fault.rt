@@ -1,0 +1,93 @@
+//! Why a text is no root, and why a target is refused.
+ghost use Rattle.std.specs.Prelude.{◌≡◌};
+ghost use Rattle.xcap_uri.specs.declared.fault.UriFault.TheVariants as faults;
+ghost use Rattle.xcap_uri.specs.declared.fault.RootFault.TheVariants as roots;
+ghost use Rattle.xcap_uri.specs.Targets.{fault_of};
+
+use node_select::SelectorFault;
+use std::alloc::{AllocError, AllocFailed};
+use thiserror::Error;
+
+/// Why a text is no root.
+#[derive(Clone, Copy, Debug, Drop, PartialEq, Eq, Error)]
+pub enum RootFault {
+    /// The text isn't the URI of a root.
+    #[error("not a root")]
+    NotRoot,
+    /// Want of memory.
+    #[error("out of memory")]
+    NoMemory,
+}
+
+/// Why a target is refused. Of several faults the first one in this order is told: `OutsideRoot`, `BadEscape`, then `BadShape` or
+/// `UnknownAuid`, then `BadQuery`, then `BadSelector` or `UnboundPrefix`.
+#[derive(Clone, Copy, Debug, Drop, PartialEq, Eq, Error)]
+pub enum UriFault {
+    /// It doesn't stand under the root.
+    #[error("outside the root")]
+    OutsideRoot,
+    /// Its first segment is no usage.
+    #[error("unknown application usage")]
+    UnknownAuid,
+    /// Its segments name nothing.
+    #[error("no address of a document")]
+    BadShape,
+    /// A `%` without two hexadecimal digits, or octets that aren't UTF-8.
+    #[error("bad escape")]
+    BadEscape,
+    /// The query isn't a row of bindings.
+    #[error("bad query")]
+    BadQuery,
+    /// A prefix in the selector is bound nowhere.
+    #[error("unbound prefix")]
+    UnboundPrefix,
+    /// The text behind the separator is no selector.
+    #[error("bad selector")]
+    BadSelector,
+    /// Want of memory.
+    #[error("out of memory")]
+    NoMemory,
+}
+
+impl From<AllocError> for RootFault {
+    ghost from_gives = { λ _ e. e ≡ roots.NoMemory };
+
+    fn from(_error: AllocError) -> Self {
+        RootFault::NoMemory
+    }
+}
+
+impl<T: Drop> From<AllocFailed<T>> for RootFault {
+    ghost from_gives = { λ _ e. e ≡ roots.NoMemory };
+
+    fn from(_error: AllocFailed<T>) -> Self {
+        RootFault::NoMemory
+    }
+}
+
+impl From<AllocError> for UriFault {
+    ghost from_gives = { λ _ e. e ≡ faults.NoMemory };
+
+    fn from(_error: AllocError) -> Self {
+        UriFault::NoMemory
+    }
+}
+
+impl<T: Drop> From<AllocFailed<T>> for UriFault {
+    ghost from_gives = { λ _ e. e ≡ faults.NoMemory };
+
+    fn from(_error: AllocFailed<T>) -> Self {
+        UriFault::NoMemory
+    }
+}
+
+/// What a fault of the selector says of the target.
+pub fn selector_fault(fault: &SelectorFault) -> UriFault
+    ensures { result ≡ fault_of fault.now }
+{
+    match fault {
+        SelectorFault::BadSelector(_) => UriFault::BadSelector,
+        SelectorFault::UnboundPrefix(_) => UriFault::UnboundPrefix,
+        SelectorFault::NoMemory => UriFault::NoMemory,
+    }
+}

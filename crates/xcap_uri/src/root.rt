@@ -1,0 +1,221 @@
+//! Roots (RFC 4825, section 6.1): the URI under which all addresses of a server stand.
+ghost use Rattle.std.specs.Prelude.{◌≡◌, true, IfOk, chars, unwrap_or, length, option_map, []};
+ghost use Rattle.grammar_rules.specs.Reading.{after_front};
+ghost use Rattle.std.specs.List.{list_all};
+ghost use Rattle.std.specs.Option.{option_or};
+ghost use Rattle.xcap_uri.specs.Cuts.{is_other, pieces};
+ghost use Rattle.xcap_uri.specs.Gives.{Answers};
+ghost use Rattle.xcap_uri.specs.Roots.{are_authority_and_segments, authority_of, behind_scheme, is_authority_char, is_root, is_segment_char, is_some_of, path_of, root_read, slash};
+
+use crate::cutting::{after, cut, cut_before};
+use crate::fault::RootFault;
+use std::alloc::{AllocError, Global};
+use std::marker::Model;
+use tree_text::no_text;
+use xml_tree::Text;
+
+/// How many octets a root has at most.
+const GREATEST_LENGTH: usize = 256;
+
+/// A root. Contracts see its text, whose characters are ASCII.
+#[derive(Debug, Drop)]
+pub struct Root {
+    text: Text,
+    authority: Text,
+    path: Text,
+}
+
+impl Model for Root {
+    ghost use Rattle.std.specs.Prelude.{◌≡◌, ℕ, List, true};
+    ghost use Rattle.xcap_uri.specs.Roots.{authority_of, is_root, path_of};
+
+    ghost Value = { List ℕ };
+
+    ghost view = { λ r. r.text };
+
+    ghost invariant = { λ r. (is_root r.text ≡ true) × (r.authority ≡ authority_of r.text) × (r.path ≡ path_of r.text) };
+}
+
+impl Root {
+    /// The text of the root. Takes no memory.
+    pub fn text(&self) -> &str
+        ensures text { chars result.now ≡ self.now }
+        ensures root { is_root self.now ≡ true }
+    {
+        self.text.as_str()
+    }
+
+    /// Its authority. Takes no memory.
+    pub fn authority(&self) -> &str
+        ensures { chars result.now ≡ authority_of self.now }
+    {
+        self.authority.as_str()
+    }
+
+    /// Its path: empty, or segments with a slash in front of each. Takes no memory.
+    pub fn path(&self) -> &str
+        ensures path { chars result.now ≡ path_of self.now }
+        ensures root { is_root self.now ≡ true }
+    {
+        self.path.as_str()
+    }
+
+    /// An equal root.
+    ///
+    /// # Errors
+    /// `NoMemory` for want of memory.
+    pub fn copy(&self, alloc: Global) -> Result<Root, AllocError>
+        ensures { IfOk result (λ made. made ≡ self.now) }
+    {
+        let text = self.text.copy(alloc)?;
+        let authority = self.authority.copy(alloc)?;
+        let path = self.path.copy(alloc)?;
+        Ok(Root {
+            text,
+            authority,
+            path,
+        })
+    }
+}
+
+// Whether a character can stand in an authority.
+fn is_authority_char(b: u8) -> bool
+    ensures { result ≡ is_authority_char b }
+{
+    b.is_ascii_alphanumeric() || matches!(b, b'.' | b'-' | b':' | b'[' | b']')
+}
+
+// Whether a character can stand in a segment of a root's path.
+fn is_segment_char(b: u8) -> bool
+    ensures { result ≡ is_segment_char b }
+{
+    b.is_ascii_alphanumeric() || matches!(b, b'-' | b'.' | b'_' | b'~')
+}
+
+// Whether each can stand in an authority.
+fn are_authority_chars(piece: &[u8]) -> bool
+    ensures { result ≡ list_all is_authority_char piece.now }
+{
+    piece.iter().all(|b| is_authority_char(*b))
+}
+
+// Whether each can stand in a segment.
+fn are_segment_chars(piece: &[u8]) -> bool
+    ensures { result ≡ list_all is_segment_char piece.now }
+{
+    piece.iter().all(|b| is_segment_char(*b))
+}
+
+// Whether it is an authority.
+#[tactic(auto, using(crate::proofs::Pieces::some_of))]
+fn is_authority(piece: &[u8]) -> bool
+    ensures { result ≡ is_some_of is_authority_char piece.now }
+{
+    match piece {
+        [] => false,
+        [_, ..] => are_authority_chars(piece),
+    }
+}
+
+// Whether it is a segment of a root's path.
+#[tactic(auto, using(crate::proofs::Pieces::some_of))]
+fn is_segment(piece: &[u8]) -> bool
+    ensures { result ≡ is_some_of is_segment_char piece.now }
+{
+    match piece {
+        [] => false,
+        [_, ..] => are_segment_chars(piece),
+    }
+}
+
+// Whether segments stand between the slashes.
+#[tactic(auto, using(crate::proofs::Pieces::pieces_cut))]
+fn are_segments(text: &[u8]) -> bool
+    ensures { result ≡ list_all (is_some_of is_segment_char) (pieces slash text.now) }
+{
+    let mut rest = text;
+    'segments: loop {
+        let (segment, behind) = cut(rest, b'/');
+        if !is_segment(segment) {
+            return false;
+        }
+        match behind {
+            None => return true,
+            Some(tail) => rest = tail,
+        }
+    }
+}
+
+// What follows the scheme.
+fn behind_scheme(text: &[u8]) -> Option<&[u8]>
+    ensures { option_map (λ x. x.now) result ≡ behind_scheme text.now }
+{
+    match after(text, b"http://") {
+        Some(rest) => Some(rest),
+        None => after(text, b"https://"),
+    }
+}
+
+// Whether an authority stands in front, and segments behind it.
+#[tactic(auto, using(crate::proofs::Pieces::pieces_cut))]
+fn are_authority_and_segments(rest: &[u8]) -> bool
+    ensures { result ≡ are_authority_and_segments (pieces slash rest.now) }
+{
+    let (authority, behind) = cut(rest, b'/');
+    if !is_authority(authority) {
+        return false;
+    }
+    match behind {
+        None => true,
+        Some(segments) => are_segments(segments),
+    }
+}
+
+// A text with a character for each octet.
+fn letters(alloc: Global, octets: &[u8]) -> Result<Text, AllocError>
+    ensures { IfOk result (λ text. text ≡ octets.now) }
+{
+    let mut text = no_text(alloc);
+    for &b in octets {
+        text.push(b as char)?;
+    }
+    Ok(text)
+}
+
+// The root of a text that is one, with what follows its scheme.
+fn make_root(alloc: Global, text: &[u8], rest: &[u8]) -> Result<Root, AllocError>
+    requires root { is_root text.now ≡ true }
+    requires rest { unwrap_or (behind_scheme text.now) [] ≡ rest.now }
+    ensures { IfOk result (λ made. made ≡ text.now) }
+{
+    let (authority, path) = cut_before(rest, b'/');
+    let text = letters(alloc, text)?;
+    let authority = letters(alloc, authority)?;
+    let path = letters(alloc, path)?;
+    Ok(Root {
+        text,
+        authority,
+        path,
+    })
+}
+
+/// The root that a text is.
+///
+/// # Errors
+/// `NotRoot` exactly where the text isn't a root, `NoMemory` for want of memory.
+pub fn read_root(alloc: Global, text: &str) -> Result<Root, RootFault>
+    ensures { Answers RootFault.NoMemory (root_read text.now) result }
+{
+    let text = text.as_bytes();
+    let Some(rest) = behind_scheme(text) else {
+        return Err(RootFault::NotRoot);
+    };
+    if text.len() > GREATEST_LENGTH {
+        return Err(RootFault::NotRoot);
+    }
+    if !are_authority_and_segments(rest) {
+        return Err(RootFault::NotRoot);
+    }
+    let root = make_root(alloc, text, rest)?;
+    Ok(root)
+}

@@ -1,0 +1,52 @@
+//! The segments of a path (RFC 3986, section 3.3), decoded, up to the separator (RFC 4825, section 6).
+ghost use Rattle.std.specs.Prelude.{◌≡◌, ◌++◌, ◌∷◌, [], OnOk, option_map, unwrap_or};
+ghost use Rattle.std.specs.Str.{bytes_eq};
+ghost use Rattle.xcap_uri.specs.Gives.{Gives};
+ghost use Rattle.xcap_uri.specs.Targets.{path_read};
+ghost use Rattle.xcap_uri.specs.Words.{separator};
+
+use crate::cutting::cut;
+use crate::escapes::read_part;
+use crate::fault::UriFault;
+use std::alloc::Global;
+use xml_tree::Text;
+
+// Whether it is the segment behind which a selector stands.
+fn is_separator(segment: &Text) -> bool
+    ensures { result ≡ bytes_eq segment.now separator }
+{
+    segment.is("~~")
+}
+
+// What stands behind a segment, nothing where the path ends.
+fn or_nothing(behind: Option<&[u8]>) -> &[u8]
+    ensures { result.now ≡ unwrap_or (option_map (λ x. x.now) behind.entry) [] }
+{
+    match behind {
+        None => &[],
+        Some(tail) => tail,
+    }
+}
+
+/// The segments before the separator, decoded, and where it is there, what stands behind it and its slash.
+///
+/// # Errors
+/// `BadEscape` exactly where a segment up to the separator stands for no text, `NoMemory` for want of memory.
+pub fn read_path(alloc: Global, path: &[u8]) -> Result<(Vec<Text>, Option<&[u8]>), UriFault>
+    ensures { Gives (λ x. (x.0.items, option_map (λ y. y.now) x.1)) result (path_read path.now) }
+{
+    let mut segments = Vec::new(alloc);
+    let mut rest = path;
+    'segments: loop {
+        let (raw, behind) = cut(rest, b'/');
+        let segment = read_part(alloc, raw)?;
+        if is_separator(&segment) {
+            return Ok((segments, Some(or_nothing(behind))));
+        }
+        segments.push(segment)?;
+        match behind {
+            None => return Ok((segments, None)),
+            Some(tail) => rest = tail,
+        }
+    }
+}

@@ -1,0 +1,359 @@
+//! What the segments of an address name: a document or a part of one (RFC 4825, section 6.2), or under `~feed` and `~flat`, which are this
+//! server's own, what changed and the flat list of a service.
+ghost use Rattle.std.specs.Prelude.{◌≡◌, IfOk};
+ghost use Rattle.std.specs.List.{list_any};
+ghost use Rattle.xcap_uri.specs.Gives.{Answers};
+ghost use Rattle.xcap_uri.specs.Shapes.{auid_of, begins_with_digit, changes, changes_or_part, document, doc_of, feed_shape, flat_shape, in_home, in_usage, is_empty, mode_of, named, of_usage, of_user, part_changes, shape_of, stored_auid_of, stored_doc, tag_of, tag_value};
+
+use crate::doc_id::{Auid, DocId, Home};
+use crate::fault::UriFault;
+use crate::target::Mode;
+use std::alloc::{AllocError, Global};
+use xml_tree::Text;
+
+/// What the segments of an address name, with the text of the selector, which isn't read yet.
+#[derive(Debug, Drop)]
+pub enum Shape {
+    /// A document.
+    Whole(DocId),
+    /// A part of a document.
+    Part(DocId, Text),
+    /// What would lie below a document.
+    Below(Auid, Home),
+    /// The changes of a document since a tag.
+    Changes(Mode, u64, DocId),
+    /// Whether a part of a document may have changed since a tag.
+    PartChanges(u64, DocId, Text),
+    /// The flat list of a service.
+    FlatList(DocId, Text),
+}
+
+// The usage of this name.
+fn auid_of(name: &Text) -> Option<Auid>
+    ensures { result ≡ auid_of name.now }
+{
+    if name.is("resource-lists") {
+        return Some(Auid::ResourceLists);
+    }
+    if name.is("rls-services") {
+        return Some(Auid::RlsServices);
+    }
+    if name.is("xcap-caps") {
+        return Some(Auid::XcapCaps);
+    }
+    None
+}
+
+// The usage of this name, where its documents are stored.
+fn stored_auid_of(name: &Text) -> Option<Auid>
+    ensures { result ≡ stored_auid_of name.now }
+{
+    if name.is("resource-lists") {
+        return Some(Auid::ResourceLists);
+    }
+    if name.is("rls-services") {
+        return Some(Auid::RlsServices);
+    }
+    None
+}
+
+// The mode of this name.
+fn mode_of(name: &Text) -> Option<Mode>
+    ensures { result ≡ mode_of name.now }
+{
+    if name.is("no-patching") {
+        return Some(Mode::NoPatching);
+    }
+    if name.is("xcap-patching") {
+        return Some(Mode::XcapPatching);
+    }
+    if name.is("aggregate") {
+        return Some(Mode::Aggregate);
+    }
+    None
+}
+
+// Whether the first octet is a digit other than 0.
+fn begins_with_digit(octets: &[u8]) -> bool
+    ensures { result ≡ begins_with_digit octets.now }
+{
+    matches!(octets, [b'1'..=b'9', ..])
+}
+
+// The number that digits are worth, if it has at most 64 bits.
+fn numeral(octets: &[u8]) -> Option<u64>
+    ensures { result ≡ tag_value 0 octets.now }
+{
+    let mut value: u64 = 0;
+    for &b in octets {
+        if !matches!(b, b'0'..=b'9') {
+            return None;
+        }
+        let digit = (b - b'0') as u64;
+        value = value.checked_mul(10)?.checked_add(digit)?;
+    }
+    Some(value)
+}
+
+// The number of a tag.
+fn tag_of(text: &Text) -> Option<u64>
+    ensures { result ≡ tag_of text.now }
+{
+    let octets = text.as_str().as_bytes();
+    if !begins_with_digit(octets) {
+        return None;
+    }
+    numeral(octets)
+}
+
+// A document, or with a selector a part of it.
+fn document(doc: DocId, selector: Option<Text>) -> Result<Shape, UriFault>
+    ensures { result ≡ document doc selector }
+{
+    match selector {
+        None => Ok(Shape::Whole(doc)),
+        Some(text) => {
+            if text.is_empty() {
+                return Err(UriFault::BadShape);
+            }
+            Ok(Shape::Part(doc, text))
+        }
+    }
+}
+
+// What is named in a home.
+fn in_home(
+    alloc: Global,
+    auid: Auid,
+    home: Home,
+    rest: &[Text],
+    selector: Option<Text>,
+) -> Result<Shape, UriFault>
+    ensures { Answers UriFault.NoMemory (in_home auid home rest.now selector) result }
+{
+    match rest {
+        [] => Err(UriFault::BadShape),
+        [name] => {
+            let name = name.copy(alloc)?;
+            document(DocId { auid, home, name }, selector)
+        }
+        _ => Ok(Shape::Below(auid, home)),
+    }
+}
+
+// What is named behind `users`.
+fn of_user(
+    alloc: Global,
+    auid: Auid,
+    rest: &[Text],
+    selector: Option<Text>,
+) -> Result<Shape, UriFault>
+    ensures { Answers UriFault.NoMemory (of_user auid rest.now selector) result }
+{
+    match rest {
+        [] => Err(UriFault::BadShape),
+        [xui, rest @ ..] => {
+            let xui = xui.copy(alloc)?;
+            in_home(alloc, auid, Home::User(xui), rest, selector)
+        }
+    }
+}
+
+// What is named behind a usage.
+fn in_usage(
+    alloc: Global,
+    auid: Auid,
+    rest: &[Text],
+    selector: Option<Text>,
+) -> Result<Shape, UriFault>
+    ensures { Answers UriFault.NoMemory (in_usage auid rest.now selector) result }
+{
+    match rest {
+        [] => Err(UriFault::BadShape),
+        [tree, rest @ ..] => {
+            if tree.is("global") {
+                return in_home(alloc, auid, Home::Global, rest, selector);
+            }
+            if tree.is("users") {
+                return of_user(alloc, auid, rest, selector);
+            }
+            Err(UriFault::BadShape)
+        }
+    }
+}
+
+// The document of a user in a stored usage.
+fn stored_doc(
+    alloc: Global,
+    auid: &Text,
+    tree: &Text,
+    xui: &Text,
+    name: &Text,
+) -> Result<Option<DocId>, AllocError>
+    ensures { IfOk result (λ doc. doc ≡ stored_doc auid.now tree.now xui.now name.now) }
+{
+    if !tree.is("users") {
+        return Ok(None);
+    }
+    match stored_auid_of(auid) {
+        None => Ok(None),
+        Some(auid) => {
+            let xui = xui.copy(alloc)?;
+            let name = name.copy(alloc)?;
+            let home = Home::User(xui);
+            Ok(Some(DocId { auid, home, name }))
+        }
+    }
+}
+
+// The changes of a part, which has a selector.
+fn part_changes(tag: u64, doc: DocId, selector: Option<Text>) -> Result<Shape, UriFault>
+    ensures { result ≡ part_changes tag doc selector }
+{
+    match selector {
+        None => Err(UriFault::BadShape),
+        Some(text) => {
+            if text.is_empty() {
+                return Err(UriFault::BadShape);
+            }
+            Ok(Shape::PartChanges(tag, doc, text))
+        }
+    }
+}
+
+// The changes of a document, which have a mode and no selector.
+fn changes(
+    mode: Option<Mode>,
+    tag: u64,
+    doc: DocId,
+    selector: Option<Text>,
+) -> Result<Shape, UriFault>
+    ensures { result ≡ changes mode tag doc selector }
+{
+    match (mode, selector) {
+        (Some(mode), None) => Ok(Shape::Changes(mode, tag, doc)),
+        _ => Err(UriFault::BadShape),
+    }
+}
+
+// Either of them.
+fn changes_or_part(
+    mode: &Text,
+    tag: Option<u64>,
+    doc: Option<DocId>,
+    selector: Option<Text>,
+) -> Result<Shape, UriFault>
+    ensures { result ≡ changes_or_part mode.now tag doc selector }
+{
+    let Some(tag) = tag else {
+        return Err(UriFault::BadShape);
+    };
+    let Some(doc) = doc else {
+        return Err(UriFault::BadShape);
+    };
+    if mode.is("element") {
+        return part_changes(tag, doc, selector);
+    }
+    changes(mode_of(mode), tag, doc, selector)
+}
+
+// What is named behind `~feed`.
+fn feed_shape(alloc: Global, rest: &[Text], selector: Option<Text>) -> Result<Shape, UriFault>
+    ensures { Answers UriFault.NoMemory (feed_shape rest.now selector) result }
+{
+    match rest {
+        [mode, tag, auid, tree, xui, name] => {
+            let doc = stored_doc(alloc, auid, tree, xui, name)?;
+            changes_or_part(mode, tag_of(tag), doc, selector)
+        }
+        _ => Err(UriFault::BadShape),
+    }
+}
+
+// The flat list of a service of this document.
+fn flat_list(alloc: Global, xui: &Text, name: &Text, service: &Text) -> Result<Shape, AllocError>
+    ensures { IfOk result (λ shape. shape ≡ Shape.FlatList (doc_of Auid.RlsServices (Home.User xui.now) name.now) service.now) }
+{
+    let xui = xui.copy(alloc)?;
+    let name = name.copy(alloc)?;
+    let service = service.copy(alloc)?;
+    let doc = DocId {
+        auid: Auid::RlsServices,
+        home: Home::User(xui),
+        name,
+    };
+    Ok(Shape::FlatList(doc, service))
+}
+
+// What is named behind `~flat`.
+fn flat_shape(alloc: Global, rest: &[Text], selector: Option<Text>) -> Result<Shape, UriFault>
+    ensures { Answers UriFault.NoMemory (flat_shape rest.now selector) result }
+{
+    match (rest, selector) {
+        ([xui, name, service], None) => {
+            let shape = flat_list(alloc, xui, name, service)?;
+            Ok(shape)
+        }
+        _ => Err(UriFault::BadShape),
+    }
+}
+
+// What is named behind a usage, if it is one.
+fn of_usage(
+    alloc: Global,
+    auid: Option<Auid>,
+    rest: &[Text],
+    selector: Option<Text>,
+) -> Result<Shape, UriFault>
+    ensures { Answers UriFault.NoMemory (of_usage auid rest.now selector) result }
+{
+    match auid {
+        None => Err(UriFault::UnknownAuid),
+        Some(auid) => in_usage(alloc, auid, rest, selector),
+    }
+}
+
+// What segments name that aren't empty.
+fn named(alloc: Global, segments: &[Text], selector: Option<Text>) -> Result<Shape, UriFault>
+    ensures { Answers UriFault.NoMemory (named segments.now selector) result }
+{
+    match segments {
+        [] => Err(UriFault::UnknownAuid),
+        [first, rest @ ..] => {
+            if first.is("~feed") {
+                return feed_shape(alloc, rest, selector);
+            }
+            if first.is("~flat") {
+                return flat_shape(alloc, rest, selector);
+            }
+            of_usage(alloc, auid_of(first), rest, selector)
+        }
+    }
+}
+
+// Whether a segment is empty.
+fn is_empty(segment: &Text) -> bool
+    ensures { result ≡ is_empty segment.now }
+{
+    segment.is_empty()
+}
+
+// Whether one of them is empty.
+fn has_empty(segments: &[Text]) -> bool
+    ensures { result ≡ list_any is_empty segments.now }
+{
+    segments.iter().any(|segment| is_empty(segment))
+}
+
+/// What the segments of an address name, decoded, with the text of the selector behind them.
+///
+/// # Errors
+/// `BadShape` or `UnknownAuid`, the first that applies; `NoMemory` for want of memory.
+pub fn shape_of(alloc: Global, segments: &[Text], selector: Option<Text>) -> Result<Shape, UriFault>
+    ensures { Answers UriFault.NoMemory (shape_of segments.now selector) result }
+{
+    if has_empty(segments) {
+        return Err(UriFault::BadShape);
+    }
+    named(alloc, segments, selector)
+}

@@ -1,0 +1,212 @@
+//! Targets of requests (RFC 4825, section 6): what the address in a request means under the root.
+ghost use Rattle.std.specs.Prelude.{◌≡◌, ◌++◌, None, Err, chars, option_map, IfOk, OnOk, string_bytes};
+ghost use Rattle.xcap_uri.specs.Escapes.{escaped, is_visible};
+ghost use Rattle.xcap_uri.specs.Roots.{path_of};
+ghost use Rattle.xcap_uri.specs.Gives.{Answers};
+ghost use Rattle.xcap_uri.specs.Targets.{IsReadableTarget, about_element, namespace_of, part_read, raw_text, rest_read, target_of, target_read, under, under_root, with_query};
+
+use crate::cutting::{after, cut};
+use crate::doc_id::{Auid, DocId, Home};
+use crate::escapes::{push_visible, read_optional_part};
+use crate::fault::{UriFault, selector_fault};
+use crate::query::read_query;
+use crate::root::Root;
+use crate::segments::read_path;
+use crate::shape::{Shape, shape_of};
+use node_select::{Bindings, End, Selector, read_selector};
+use std::alloc::{AllocError, Global};
+use tree_text::no_text;
+use xml_tree::Text;
+
+/// How the changes of a document are told (RFC 5875, section 4.3).
+#[derive(Clone, Copy, Debug, PartialEq, Eq)]
+pub enum Mode {
+    NoPatching,
+    XcapPatching,
+    Aggregate,
+}
+
+/// What a target means.
+#[derive(Debug, Drop)]
+pub enum Target {
+    /// A document.
+    Document(DocId),
+    /// A node of a document.
+    Node(DocId, Selector),
+    /// Something below a document, where nothing can be.
+    Deep(Auid, Home),
+    /// The changes of a document since a tag.
+    Feed {
+        mode: Mode,
+        tag: u64,
+        doc: DocId,
+    },
+    /// Whether an element may have changed since a tag. `raw` is what stands behind the separator and its slash, query included, with each
+    /// octet escaped that isn't a visible one of ASCII.
+    ElementFeed {
+        tag: u64,
+        doc: DocId,
+        selector: Selector,
+        raw: Text,
+    },
+    /// The addresses behind a service of a document.
+    Flat {
+        doc: DocId,
+        service: Text,
+    },
+}
+
+// What follows a front and a slash, where the target begins with them.
+fn under<'a>(target: &'a [u8], front: &[u8]) -> Option<&'a [u8]>
+    ensures { option_map (λ x. x.now) result ≡ under front.now target.now }
+{
+    let rest = after(target, front)?;
+    after(rest, b"/")
+}
+
+// The octets of the root's text, and of its path.
+fn text_octets(root: &Root) -> &[u8]
+    ensures { result.now ≡ root.now }
+{
+    root.text().as_bytes()
+}
+
+fn path_octets(root: &Root) -> &[u8]
+    ensures { result.now ≡ path_of root.now }
+{
+    root.path().as_bytes()
+}
+
+// What follows the root, or its path, and a slash.
+fn under_root<'a>(root: &Root, target: &'a [u8]) -> Option<&'a [u8]>
+    ensures { option_map (λ x. x.now) result ≡ under_root root.now target.now }
+{
+    match under(target, text_octets(root)) {
+        Some(rest) => Some(rest),
+        None => under(target, path_octets(root)),
+    }
+}
+
+// The namespace that the unprefixed element names of a selector have.
+fn namespace_of(auid: Auid) -> &'static str
+    ensures { chars result.now ≡ namespace_of auid }
+{
+    match auid {
+        Auid::ResourceLists => "urn:ietf:params:xml:ns:resource-lists",
+        Auid::RlsServices => "urn:ietf:params:xml:ns:rls-services",
+        Auid::XcapCaps => "urn:ietf:params:xml:ns:xcap-caps",
+    }
+}
+
+// The selector of a part of a document.
+fn part(alloc: Global, bindings: &Bindings, auid: Auid, text: &Text) -> Result<Selector, UriFault>
+    ensures { Answers UriFault.NoMemory (part_read bindings.now auid text.now) result }
+{
+    match read_selector(alloc, text.as_str(), bindings, namespace_of(auid)) {
+        Ok(selector) => Ok(selector),
+        Err(fault) => Err(selector_fault(&fault)),
+    }
+}
+
+// The selector, if it ends in an element.
+fn about_element(selector: Selector) -> Result<Selector, UriFault>
+    ensures { result ≡ about_element selector }
+{
+    match &selector.end {
+        End::Element => Ok(selector),
+        _ => Err(UriFault::BadSelector),
+    }
+}
+
+// Adds the selector behind the separator, and the query.
+fn push_raw(line: &mut String, selector: &[u8], query: Option<&[u8]>) -> Result<(), AllocError>
+    ensures { OnOk result (string_bytes line.new ≡ string_bytes line.old ++ escaped is_visible (with_query selector.now (option_map (λ x. x.now) query.entry))) }
+{
+    push_visible(line, selector)?;
+    match query {
+        None => Ok(()),
+        Some(query) => {
+            push_visible(line, b"?")?;
+            push_visible(line, query)
+        }
+    }
+}
+
+// What stands behind the separator and its slash, escaped.
+fn raw_text(
+    alloc: Global,
+    selector: Option<&[u8]>,
+    query: Option<&[u8]>,
+) -> Result<Text, AllocError>
+    ensures { IfOk result (λ text. text ≡ raw_text (option_map (λ x. x.now) selector.entry) (option_map (λ x. x.now) query.entry)) }
+{
+    match selector {
+        None => Ok(no_text(alloc)),
+        Some(selector) => {
+            let mut line = String::new(alloc);
+            push_raw(&mut line, selector, query)?;
+            Ok(Text::own(line))
+        }
+    }
+}
+
+// The target of a shape, with the bindings of the query.
+fn target_of(
+    alloc: Global,
+    shape: Shape,
+    bindings: &Bindings,
+    raw: Text,
+) -> Result<Target, UriFault>
+    ensures { Answers UriFault.NoMemory (target_of shape bindings.now raw) result }
+{
+    match shape {
+        Shape::Whole(doc) => Ok(Target::Document(doc)),
+        Shape::Part(doc, text) => {
+            let selector = part(alloc, bindings, doc.auid, &text)?;
+            Ok(Target::Node(doc, selector))
+        }
+        Shape::Below(auid, home) => Ok(Target::Deep(auid, home)),
+        Shape::Changes(mode, tag, doc) => Ok(Target::Feed { mode, tag, doc }),
+        Shape::PartChanges(tag, doc, text) => {
+            let selector = part(alloc, bindings, doc.auid, &text)?;
+            let selector = about_element(selector)?;
+            Ok(Target::ElementFeed {
+                tag,
+                doc,
+                selector,
+                raw,
+            })
+        }
+        Shape::FlatList(doc, service) => Ok(Target::Flat { doc, service }),
+    }
+}
+
+// What stands under the root.
+fn read_rest(alloc: Global, rest: &[u8]) -> Result<Target, UriFault>
+    ensures { Answers UriFault.NoMemory (rest_read rest.now) result }
+{
+    let (path, raw_query) = cut(rest, b'?');
+    let (segments, raw_selector) = read_path(alloc, path)?;
+    let selector = read_optional_part(alloc, raw_selector)?;
+    let query = read_optional_part(alloc, raw_query)?;
+    let shape = shape_of(alloc, &segments, selector)?;
+    let bindings = read_query(alloc, &query)?;
+    let raw = raw_text(alloc, raw_selector, raw_query)?;
+    target_of(alloc, shape, &bindings, raw)
+}
+
+/// What a target means under a root. It begins with the whole root or with its path, and then a slash.
+///
+/// # Errors
+/// The first fault in the order that `UriFault` states, exactly where there is one; `NoMemory` for want of memory, which is never answered
+/// where the target is outside the root.
+pub fn read_target(alloc: Global, root: &Root, target: &[u8]) -> Result<Target, UriFault>
+    ensures answer { Answers UriFault.NoMemory (target_read root.now target.now) result }
+    ensures outside { under_root root.now target.now ≡ None → result ≡ Err UriFault.OutsideRoot }
+    ensures readable { IfOk result IsReadableTarget }
+{
+    match under_root(root, target) {
+        None => Err(UriFault::OutsideRoot),
+        Some(rest) => read_rest(alloc, rest),
+    }
+}
