@@ -4,6 +4,7 @@ pub mod Shrinks
 pub mod NameLemmas
 pub mod TagLemmas
 pub mod JudgeLemmas
+pub mod MeaningLemmas
 pub mod CommentLemmas
 pub mod ElementLemmas
 pub mod Told

@@ -2,6 +2,7 @@ pub mod Faults
 pub mod Gives
 pub mod Grammar
 pub mod Kinds
+pub mod Meanings
 pub mod Members
 pub mod Names
 pub mod Printing

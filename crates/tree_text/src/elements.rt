@@ -38,7 +38,7 @@ fn judged_tag<'a>(
 {
     let (tag, rest) = whole_tag(alloc, text)?;
     let decls = decls_of(alloc, &tag.said)?;
-    if let Some((kind, at)) = first_of_tag(&scope.inside(&decls), &tag) {
+    if let Some((kind, at)) = first_of_tag(alloc, &scope.inside(&decls), &tag)? {
         let place = before(text, rest, tag.size.saturating_sub(at));
         return Err(Stop::Faulty(kind, place));
     }

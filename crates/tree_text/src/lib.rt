@@ -9,6 +9,7 @@ mod elements;
 mod fault;
 mod kind;
 mod markup;
+mod meanings;
 mod names;
 mod parts;
 mod pieces;

@@ -1,13 +1,15 @@
 //! Names in tags: declarations and attributes, and the first of a tag's names that is wrong.
-ghost use Rattle.std.specs.Prelude.{◌≡◌, ◌+◌, ◌<◌, ◌^◌, [], ◌++◌, ◌∷◌, length, map, IfOk, option_map, chars, not, if◌then◌else◌};
+ghost use Rattle.std.specs.Prelude.{◌≡◌, ◌+◌, ◌<◌, ◌^◌, List, [], ◌++◌, ◌∷◌, IfOk, not, if◌then◌else◌};
 ghost use Rattle.std.specs.Str.{bytes_eq};
 ghost use Rattle.xml_tree.specs.Scopes.{xml_prefix, xmlns_prefix, xml_uri, xmlns_uri};
-ghost use Rattle.xml_tree.specs.Expanded.{attr_name, same_uri, same_expanded};
 ghost use Rattle.xml_tree.specs.Proper.{may_stand};
-ghost use Rattle.tree_text.specs.Names.{declares, decl_of, decls_of, attr_of, attrs_of, is_unbound, is_misnamed, says_again, is_repeated, wrong_said, widths, opening, first_wrong, first_of_tag};
+ghost use Rattle.tree_text.specs.Names.{declares, decl_of, decls_of, attr_of, attrs_of, is_unbound, is_misnamed, wrong_said, widths, opening, first_wrong, first_of_tag};
+ghost use Rattle.tree_text.specs.Meanings.{AllMean, Means};
 ghost use Rattle.tree_text.specs.Views.{tag_in};
+ghost use Rattle.tree_text.specs.declared.said.Said.{Said};
 
 use crate::kind::Kind;
+use crate::meanings::{Meaning, is_repeated, meaning_of};
 use crate::said::Said;
 use crate::tags::Tag;
 use crate::texts::no_text;
@@ -59,7 +61,7 @@ pub fn declares(name: &Name) -> bool
 }
 
 /// The prefix that a declaration declares.
-fn declared_prefix(said: &Said) -> &Text
+pub fn declared_prefix(said: &Said) -> &Text
     ensures { result.now ≡ (decl_of said.now).prefix }
 {
     if is_nothing(&said.name.prefix) {
@@ -179,105 +181,59 @@ fn is_misnamed(here: &Scope<'_>, said: &Said) -> bool
     is_unbound(here, &said.name)
 }
 
-/// The namespace of an attribute of this name.
-fn attr_uri<'a>(here: &Scope<'a>, name: &Name) -> Option<&'a str>
-    ensures { option_map (λ uri. chars uri.now) result ≡ (attr_name here.now name.now).uri }
-{
-    if is_nothing(&name.prefix) {
-        return None;
-    }
-    here.resolve(name.prefix.as_str())
-}
-
-fn same_text(a: &str, b: &str) -> bool
-    ensures { result ≡ bytes_eq (chars a.now) (chars b.now) }
-{
-    a == b
-}
-
-/// Whether two namespaces are one.
-fn same_uri(a: Option<&str>, b: Option<&str>) -> bool
-    ensures { result ≡ same_uri (option_map (λ uri. chars uri.now) a.entry) (option_map (λ uri. chars uri.now) b.entry) }
-{
-    match a {
-        Some(a) => match b {
-            Some(b) => same_text(a, b),
-            None => false,
-        },
-        None => b.is_none(),
-    }
-}
-
-/// Whether two attributes have one expanded name.
-#[tactic(auto, using(crate::proofs::JudgeLemmas::no_and))]
-fn same_expanded(here: &Scope<'_>, a: &Name, b: &Name) -> bool
-    ensures { result ≡ same_expanded (attr_name here.now a.now) (attr_name here.now b.now) }
-{
-    if !a.local.is(b.local.as_str()) {
-        return false;
-    }
-    same_uri(attr_uri(here, a), attr_uri(here, b))
-}
-
-/// Whether an earlier one of the tag declares the same prefix or has the same expanded name.
-fn says_again(here: &Scope<'_>, said: &Said, earlier: &Said) -> bool
-    ensures { result ≡ says_again here.now said.now earlier.now }
-{
-    if declares(&said.name) {
-        if !declares(&earlier.name) {
-            return false;
-        }
-        return declared_prefix(earlier).is(declared_prefix(said).as_str());
-    }
-    if declares(&earlier.name) {
-        return false;
-    }
-    same_expanded(here, &earlier.name, &said.name)
-}
-
-/// Whether some earlier one does.
-fn is_repeated(here: &Scope<'_>, earlier: &[Said], said: &Said) -> bool
-    ensures { result ≡ is_repeated here.now earlier.now said.now }
-{
-    earlier.iter().any(|e| says_again(here, said, e))
-}
-
-/// What is wrong with one of a tag, behind these.
-fn wrong_said(here: &Scope<'_>, earlier: &[Said], said: &Said) -> Option<Kind>
-    ensures { result ≡ wrong_said here.now earlier.now said.now }
+/// What is wrong with one of a tag, behind those that say these.
+fn wrong_said(
+    here: &Scope<'_>,
+    earlier: &[Meaning<'_>],
+    said: &Said,
+    meaning: &Meaning<'_>,
+) -> Option<Kind>
+    ensures { (es : List Said) → AllMean here.now es earlier.now → Means here.now said.now meaning.now → result ≡ wrong_said here.now es said.now }
 {
     if is_misnamed(here, said) {
         return Some(Kind::Unbound);
     }
-    if is_repeated(here, earlier, said) {
+    if is_repeated(earlier, meaning) {
         return Some(Kind::Repeated);
     }
     None
 }
 
 /// The first of these that is wrong, and how many characters of the tag stand before its name, of which this many before all.
-pub fn first_wrong(here: &Scope<'_>, all: &[Said], opening: usize) -> Option<(Kind, usize)>
+pub fn first_wrong<'a>(
+    alloc: Global,
+    here: &Scope<'a>,
+    all: &'a [Said],
+    opening: usize,
+) -> Result<Option<(Kind, usize)>, AllocError>
     requires { opening + widths all.now < 2 ^ 64 }
-    ensures { result ≡ first_wrong here.now [] opening all.now }
+    ensures { IfOk result (λ found. found ≡ first_wrong here.now [] opening all.now) }
 {
+    let mut earlier = Vec::new(alloc);
     let mut at = opening;
-    for (i, said) in all.iter().enumerate() {
-        if let Some(kind) = wrong_said(here, &all[..i], said) {
-            return Some((kind, at + said.gap));
+    for said in all {
+        let meaning = meaning_of(here, said);
+        if let Some(kind) = wrong_said(here, &earlier, said, &meaning) {
+            return Ok(Some((kind, at + said.gap)));
         }
         at += said.gap + said.size;
+        earlier.push(meaning)?;
     }
-    None
+    Ok(None)
 }
 
 /// The first wrong name of a tag, in the scope inside it, and how many characters of the tag stand before it.
-pub fn first_of_tag(here: &Scope<'_>, tag: &Tag<'_>) -> Option<(Kind, usize)>
+pub fn first_of_tag<'a>(
+    alloc: Global,
+    here: &Scope<'a>,
+    tag: &'a Tag<'_>,
+) -> Result<Option<(Kind, usize)>, AllocError>
     requires opening { tag.now.opening ≡ opening (tag_in tag.now) }
     requires fits { tag.now.opening + widths tag.now.said.items < 2 ^ 64 }
-    ensures { result ≡ first_of_tag here.now (tag_in tag.now) }
+    ensures { IfOk result (λ found. found ≡ first_of_tag here.now (tag_in tag.now)) }
 {
     if is_unbound(here, &tag.name) {
-        return Some((Kind::Unbound, 1));
+        return Ok(Some((Kind::Unbound, 1)));
     }
-    first_wrong(here, &tag.said, tag.opening)
+    first_wrong(alloc, here, &tag.said, tag.opening)
 }
