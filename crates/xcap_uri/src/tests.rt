@@ -5,7 +5,6 @@ use crate::{
 };
 use node_select::{End, NameTest, Selector, Step};
 use std::alloc::Global;
-use std::collections::HashMap;
 use std::process::Abort;
 use std::test::Fail;
 use xml_tree::Text;
@@ -532,21 +531,22 @@ fn a_printed_id_has_its_parts_escaped(rt: HostRuntime) -> Result<(), Fail> {
     Ok(())
 }
 
+// Two spellings of one document, and another document.
+static SPELLINGS: [&str; 3] = [
+    "/rls-services/users/a/index",
+    "/rls-services/users/%61/inde%78",
+    "/rls-services/global/index",
+];
+
 #[test]
-fn documents_are_keys_of_maps(rt: HostRuntime) -> Result<(), Fail> {
+fn documents_are_the_same_where_their_parts_are(rt: HostRuntime) -> Result<(), Fail> {
     let alloc = rt.alloc();
     let root = root(alloc, "http://a")?;
-    let mut tags: HashMap<DocId, u64> = HashMap::new(alloc);
-    tags.insert(document(alloc, &root, b"/resource-lists/users/a/index")?, 1)?;
-    tags.insert(document(alloc, &root, b"/rls-services/users/a/index")?, 2)?;
-    tags.insert(document(alloc, &root, b"/rls-services/global/index")?, 3)?;
-    tags.insert(
-        document(alloc, &root, b"/rls-services/users/%61/inde%78")?,
-        4,
-    )?;
-    let key = document(alloc, &root, b"/rls-services/users/a/index")?;
-    assert_eq!(rt; tags.get(&key).copied(), Some(4));
-    assert_eq!(rt; tags.len(), 3);
+    let first = document(alloc, &root, SPELLINGS[0].as_bytes())?;
+    let second = document(alloc, &root, SPELLINGS[1].as_bytes())?;
+    let third = document(alloc, &root, SPELLINGS[2].as_bytes())?;
+    assert!(rt; first.same(&second));
+    assert!(rt; !first.same(&third));
     Ok(())
 }
 
