@@ -10,7 +10,7 @@ ghost use Rattle.tree_text.specs.Runs.{without_len};
 ghost use Rattle.tree_text.specs.Words.{section_end};
 
 use crate::stop::Stop;
-use crate::texts::no_text;
+use crate::texts::with_room;
 use crate::values::{is_raw, line_char};
 use std::alloc::{AllocError, Global};
 use xml_tree::{Text, is_char};
@@ -102,7 +102,7 @@ fn push_char(text: &mut Text, c: char, after: &[char]) -> Result<(), AllocError>
 pub fn lines(alloc: Global, run: &[char]) -> Result<Text, AllocError>
     ensures { IfOk result (λ text. text ≡ line_ends run.now) }
 {
-    let mut text = no_text(alloc);
+    let mut text = with_room(alloc, run.len())?;
     let mut rest = run;
     while let [c, after @ ..] = rest {
         push_char(&mut text, *c, after)?;

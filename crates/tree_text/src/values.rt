@@ -11,7 +11,7 @@ ghost use Rattle.tree_text.specs.Reading.{read_stands_for, read_entity, read_num
 
 use crate::parts::word;
 use crate::stop::Stop;
-use crate::texts::no_text;
+use crate::texts::with_room;
 use std::alloc::{AllocError, Global};
 use xml_tree::{Text, is_char};
 
@@ -220,8 +220,8 @@ pub fn push_piece(value: &mut Text, c: char, run: &[char]) -> Result<(), AllocEr
 pub fn value(alloc: Global, text: &[char], quote: char) -> Result<(Text, &[char]), Stop<'_>>
     ensures { Gives (λ x. (x.0, x.1.now)) result (read_value quote text.now) }
 {
-    let mut value = no_text(alloc);
     let (first, start) = raw_run(text, quote);
+    let mut value = with_room(alloc, first.len())?;
     push_raw(&mut value, first)?;
     let mut rest = start;
     for _ in 0..start.len() {

@@ -10,7 +10,7 @@ use Rattle.tree_text.proofs.values.value.Goals.{else-loop-test, then-loop-test+t
 
 pub loop-init : goal.loop-init
 loop-init c =
-    let first : c.push_raw.new.value ≡ raw c.raw_run.result.0.now = c.in_ok-push_raw.ensures ∙ ap (λ (z : List ℕ). z ++ raw c.raw_run.result.0.now) c.no_text-value.ensures in
+    let first : c.push_raw.new.value ≡ raw c.raw_run.result.0.now = c.in_ok-push_raw.ensures ∙ ap (λ (z : List ℕ). z ++ raw c.raw_run.result.0.now) c.in_ok-value.ensures in
     let all : length c.raw_run.result.1.now - 0 ≡ length c.raw_run.result.1.now = omega arith in
     rw (first, all) (start reference_follows (read_raw c.args.quote) read_reference value_of c.args.text.now c.raw_run.result.1.now c.raw_run.result.0.now c.raw_run.ensures)
 
