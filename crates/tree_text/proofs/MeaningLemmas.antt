@@ -1,10 +1,10 @@
 -- What the code keeps of the names of a tag tells whether one of them is said again.
-use Rattle.std.proofs.Common.{◌≡◌, ℕ, ◌+◌, ◌<◌, Bool, true, false, cond, List, [], ◌∷◌, ◌++◌, Option, None, length, get_or, take, drop, refl, sym, ap, ap₂, subst, ◌∙◌, chars, option_map, arith}
-use Rattle.std.specs.Prelude.{◌&&◌, ◌||◌, not}
+use Rattle.std.proofs.Common.{◌≡◌, ℕ, ◌+◌, ◌<◌, Bool, true, false, List, [], ◌∷◌, ◌++◌, Option, None, length, get_or, take, drop, refl, sym, ap, ap₂, subst, ◌∙◌, arith}
+use Rattle.std.specs.Prelude.{◌&&◌, ◌||◌}
 use Rattle.std.specs.List.{list_any}
 use Rattle.std.specs.Str.{bytes_eq}
 use Rattle.std.proofs.lemmas.Grind.{take_at_read}
-use Rattle.xml_tree.specs.Expanded.{attr_name, same_uri, same_expanded}
+use Rattle.xml_tree.specs.Expanded.{attr_name, same_uri}
 use Rattle.xml_tree.specs.declared.names.Decl.{Decl}
 use Rattle.xml_tree.proofs.ScopeLemmas.{drop_item}
 use Rattle.tree_text.specs.declared.kind.Kind.{Kind}
@@ -12,7 +12,7 @@ use Rattle.tree_text.specs.declared.meanings.Meaning.{Meaning}
 use Rattle.tree_text.specs.declared.meanings.Meaning.TheVariants.{Declared, Named}
 use Rattle.tree_text.specs.declared.said.Said.{Said}
 use Rattle.tree_text.specs.Meanings.{Means, AllMean, same_meaning}
-use Rattle.tree_text.specs.Names.{declares, decl_of, says_again, is_repeated, widths, wrong_said, first_wrong, or_later}
+use Rattle.tree_text.specs.Names.{says_again, is_repeated, widths, wrong_said, first_wrong, or_later}
 
 and_swap : (a b : Bool) → a && b ≡ b && a
 and_swap true true = refl
