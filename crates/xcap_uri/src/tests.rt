@@ -499,12 +499,15 @@ fn document(alloc: Global, root: &Root, target: &[u8]) -> Result<DocId, Fail> {
     }
 }
 
-fn bracketed() -> &'static str {
-    "https://[::1]:8080/a/b"
+// The printed id of the document of a target under a root.
+fn printed(alloc: Global, under: &str, target: &[u8]) -> Result<Text, Fail> {
+    let root = root(alloc, under)?;
+    let doc = document(alloc, &root, target)?;
+    Ok(print_doc_id(alloc, &doc)?)
 }
 
 fn odd_letters() -> &'static [u8] {
-    b"/a/b/resource-lists/users/100%25%2f%c3%a9/n%20~+%5b"
+    b"/resource-lists/users/100%25%2f%c3%a9/n%20~+%5b"
 }
 
 fn printed_odd_letters() -> &'static str {
@@ -513,40 +516,52 @@ fn printed_odd_letters() -> &'static str {
 
 #[test]
 fn a_printed_id_has_its_parts_escaped(rt: HostRuntime) -> Result<(), Fail> {
-    let alloc = rt.alloc();
-    let root = root(alloc, bracketed())?.copy(alloc)?;
-    assert_eq!(rt; root.text(), bracketed());
-    assert_eq!(rt; root.authority(), "[::1]:8080");
-    assert_eq!(rt; root.path(), "/a/b");
-    let doc = document(alloc, &root, odd_letters())?;
-    let printed = print_doc_id(alloc, &doc)?;
-    assert_eq!(rt; printed.as_str(), printed_odd_letters());
-    let copy = doc.copy(alloc)?;
-    assert!(rt; copy.same(&doc));
-    let caps = document(alloc, &root, b"/a/b/xcap-caps/global/index")?;
-    assert_eq!(rt;
-        print_doc_id(alloc, &caps)?.as_str(),
-        "xcap-caps/global/index"
-    );
+    let id = printed(rt.alloc(), "http://a", odd_letters())?;
+    assert_eq!(rt; id.as_str(), printed_odd_letters());
     Ok(())
 }
 
-// Two spellings of one document, and another document.
-static SPELLINGS: [&str; 3] = [
-    "/rls-services/users/a/index",
-    "/rls-services/users/%61/inde%78",
-    "/rls-services/global/index",
-];
+fn bracketed() -> &'static str {
+    "https://[::1]:8080/a/b"
+}
+
+// Whether a copy of the root of a text has these parts.
+fn has_parts(alloc: Global, text: &str, authority: &str, path: &str) -> Result<bool, Fail> {
+    let root = root(alloc, text)?.copy(alloc)?;
+    Ok(root.text() == text && root.authority() == authority && root.path() == path)
+}
+
+#[test]
+fn a_root_has_an_authority_and_a_path(rt: HostRuntime) -> Result<(), Fail> {
+    let found = has_parts(rt.alloc(), bracketed(), "[::1]:8080", "/a/b")?;
+    assert!(rt; found);
+    Ok(())
+}
+
+// Whether two targets name one document, the first one copied.
+fn are_same(alloc: Global, first: &[u8], second: &[u8]) -> Result<bool, Fail> {
+    let root = root(alloc, "http://a")?;
+    let first = document(alloc, &root, first)?.copy(alloc)?;
+    let second = document(alloc, &root, second)?;
+    Ok(first.same(&second))
+}
+
+fn index_of_a() -> &'static [u8] {
+    b"/rls-services/users/a/index"
+}
+
+fn escaped_index_of_a() -> &'static [u8] {
+    b"/rls-services/users/%61/inde%78"
+}
+
+fn global_index() -> &'static [u8] {
+    b"/rls-services/global/index"
+}
 
 #[test]
 fn documents_are_the_same_where_their_parts_are(rt: HostRuntime) -> Result<(), Fail> {
-    let alloc = rt.alloc();
-    let root = root(alloc, "http://a")?;
-    let first = document(alloc, &root, SPELLINGS[0].as_bytes())?;
-    let second = document(alloc, &root, SPELLINGS[1].as_bytes())?;
-    let third = document(alloc, &root, SPELLINGS[2].as_bytes())?;
-    assert!(rt; first.same(&second));
-    assert!(rt; !first.same(&third));
+    assert!(rt; are_same(rt.alloc(), index_of_a(), escaped_index_of_a())?);
+    assert!(rt; !are_same(rt.alloc(), index_of_a(), global_index())?);
     Ok(())
 }
 
