@@ -16,7 +16,7 @@ mod tests;
 mod wire;
 
 pub use laws::{bytes_have_one_talk, whole_items_stay};
-pub use replies::write_reply;
+pub use replies::{write_reply, write_reply_through};
 pub use request::{Asked, Field, Request};
 pub use requests::next_request;
 pub use wire::{ReadFault, Wire};

@@ -1,5 +1,5 @@
 // What a connection has read and not used yet.
-ghost use Rattle.std.specs.Prelude.{◌≡◌, ◌<◌, ◌≤◌, ◌↔◌, [], length, drop, take, IfOk, OnErr, IsTrue};
+ghost use Rattle.std.specs.Prelude.{◌≡◌, ◌+◌, ◌-◌, ◌<◌, ◌≤◌, ◌↔◌, [], length, drop, take, slice_range, IfOk, OnErr, IsTrue};
 ghost use Rattle.xcap_io.specs.Causes.{OnlyReads};
 ghost use Rattle.http_wire.specs.Asking.{WireState, fresh_wire};
 ghost use Rattle.http_wire.specs.Inflow.{Gains, GainedOrEnded, HoldsOrEnded};
@@ -22,21 +22,40 @@ pub const MAX_HELD: usize = 278_528;
 #[derive(Clone, Copy, Debug, PartialEq, Eq)]
 pub struct ReadFault;
 
-// The bytes read and not used yet, in a buffer that has room for a head and a body.
+// The bytes read and not used yet. They lie between two places of a buffer that has room for a head and a body.
 #[derive(Drop)]
 pub struct Inflow {
     buffer: Vec<u8>,
-    held: usize,
+    start: usize,
+    end: usize,
 }
 
 impl Model for Inflow {
-    ghost use Rattle.std.specs.Prelude.{◌≡◌, ◌≤◌, ℕ, List, length, take};
+    ghost use Rattle.std.specs.Prelude.{◌≡◌, ◌≤◌, ℕ, List, length, slice_range};
 
     ghost Value = { List ℕ };
 
-    ghost view = { λ i. take i.held i.buffer.items };
+    ghost view = { λ i. slice_range i.buffer.items i.start i.end };
 
-    ghost invariant = { λ i. (i.held ≤ 278_528) × (length i.buffer.items ≡ 278_528) };
+    ghost invariant = { λ i. (i.start ≤ i.end) × (i.end ≤ 278_528) × (length i.buffer.items ≡ 278_528) };
+}
+
+// Moves the bytes between two places to the front where there is no room behind them, and answers where they begin.
+fn make_room(buffer: &mut [u8], start: usize, end: usize) -> usize
+    requires ordered { start ≤ end }
+    requires inside { end ≤ length buffer.old }
+    requires free { end - start < length buffer.old }
+    ensures same { slice_range buffer.new result (result + (end - start)) ≡ slice_range buffer.old start end }
+    ensures room { result + (end - start) < length buffer.old }
+{
+    if start == end {
+        return 0;
+    }
+    if end < buffer.len() {
+        return start;
+    }
+    buffer.copy_within(start..end, 0);
+    0
 }
 
 impl Inflow {
@@ -45,7 +64,8 @@ impl Inflow {
     {
         Ok(Inflow {
             buffer: vec![in alloc; 0; MAX_HELD]?,
-            held: 0,
+            start: 0,
+            end: 0,
         })
     }
 
@@ -53,20 +73,20 @@ impl Inflow {
         ensures value { result.now ≡ self.now }
         ensures limit { length self.now ≤ 278_528 }
     {
-        &self.buffer[..self.held]
+        &self.buffer[self.start..self.end]
     }
 
     pub fn len(&self) -> usize
         ensures count { result ≡ length self.now }
         ensures limit { length self.now ≤ 278_528 }
     {
-        self.held
+        self.end - self.start
     }
 
     pub fn is_empty(&self) -> bool
         ensures { IsTrue result ↔ (self.now ≡ []) }
     {
-        self.held == 0
+        self.start == self.end
     }
 
     // Keeps the first bytes alone.
@@ -74,19 +94,18 @@ impl Inflow {
         requires { count ≤ length self.old }
         ensures { self.new ≡ take count self.old }
     {
-        self.held = count;
+        self.end = self.start + count;
     }
 
-    // Lets the first bytes go.
+    // Lets the first bytes go, and moves none.
     pub fn pass(&mut self, count: usize)
         requires { count ≤ length self.old }
         ensures { self.new ≡ drop count self.old }
     {
-        self.buffer[0..self.held].rotate_left(count);
-        self.held -= count;
+        self.start += count;
     }
 
-    // One read, into the room that is left. False at the end of the source.
+    // One read, into the room behind the bytes. False at the end of the source.
     pub fn fill<S: Source>(&mut self, source: &mut S) -> Result<bool, ReadFault>
         requires { length self.old < 278_528 }
         ensures gains { Gains self.old self.new (S.state source.old).left (S.state source.new).left }
@@ -94,9 +113,12 @@ impl Inflow {
         ensures err { OnErr result (self.new ≡ self.old) }
         ensures only_reads { OnlyReads (S.state source.old) (S.state source.new) result }
     {
-        match source.read(&mut self.buffer[self.held..]) {
+        let held = self.end - self.start;
+        self.start = make_room(&mut self.buffer, self.start, self.end);
+        self.end = self.start + held;
+        match source.read(&mut self.buffer[self.end..]) {
             Ok(count) => {
-                self.held += count;
+                self.end += count;
                 Ok(count > 0)
             }
             Err(Failed) => Err(ReadFault),
