@@ -40,22 +40,15 @@ impl Model for Inflow {
     ghost invariant = { λ i. (i.start ≤ i.end) × (i.end ≤ 278_528) × (length i.buffer.items ≡ 278_528) };
 }
 
-// Moves the bytes between two places to the front where there is no room behind them, and answers where they begin.
-fn make_room(buffer: &mut [u8], start: usize, end: usize) -> usize
+// Moves the bytes between two places to the front.
+fn move_to_front(buffer: &mut [u8], start: usize, end: usize)
     requires ordered { start ≤ end }
     requires inside { end ≤ length buffer.old }
-    requires free { end - start < length buffer.old }
-    ensures same { slice_range buffer.new result (result + (end - start)) ≡ slice_range buffer.old start end }
-    ensures room { result + (end - start) < length buffer.old }
+    ensures { slice_range buffer.new 0 (end - start) ≡ slice_range buffer.old start end }
 {
-    if start == end {
-        return 0;
+    if start > 0 {
+        buffer.copy_within(start..end, 0);
     }
-    if end < buffer.len() {
-        return start;
-    }
-    buffer.copy_within(start..end, 0);
-    0
 }
 
 impl Inflow {
@@ -105,7 +98,8 @@ impl Inflow {
         self.start += count;
     }
 
-    // One read, into the room behind the bytes. False at the end of the source.
+    // One read, into all the room that is left. False at the end of the source. A read comes only where no item lies whole
+    // in the bytes, and the first one for an item moves them: so no byte is moved twice.
     pub fn fill<S: Source>(&mut self, source: &mut S) -> Result<bool, ReadFault>
         requires { length self.old < 278_528 }
         ensures gains { Gains self.old self.new (S.state source.old).left (S.state source.new).left }
@@ -114,8 +108,9 @@ impl Inflow {
         ensures only_reads { OnlyReads (S.state source.old) (S.state source.new) result }
     {
         let held = self.end - self.start;
-        self.start = make_room(&mut self.buffer, self.start, self.end);
-        self.end = self.start + held;
+        move_to_front(&mut self.buffer, self.start, self.end);
+        self.start = 0;
+        self.end = held;
         match source.read(&mut self.buffer[self.end..]) {
             Ok(count) => {
                 self.end += count;
