@@ -110,9 +110,9 @@ write_failures (closed ∷ endings) = write_failures endings
 write_failures (read_failed ∷ endings) = write_failures endings
 write_failures (write_failed ∷ endings) = write_failures endings + 1
 
--- so many failures at most: as many as the count rose by, or any where it stands at its greatest value
+-- so many failures at most: as many as the count rose by, or any where it has reached the greatest value of a count
 abbrev pub IsBounded : ℕ → ℕ → ℕ → Type 0
-IsBounded failures before now = (before + failures ≤ now) ⊎ (now ≡ 2 ^ 64 - 1)
+IsBounded failures before now = (before + failures ≤ now) ⊎ (2 ^ 64 - 1 ≤ now)
 
 -- All connections, where each failure is one of the reads or writes that failed.
 pub record ServesAll {M E : Type 0} (Step : M → Request → List ℕ → M → Option E → Type 0) (fixed : ℕ → List ℕ) (machine : M) (connections written : List (List ℕ)) (next : M) (edits : List E) (reads reads' writes writes' : ℕ) : Type 0 where
