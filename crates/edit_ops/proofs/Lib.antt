@@ -1,0 +1,5 @@
+pub mod MoveLaws
+pub mod NodeLemmas
+pub mod SiteLemmas
+pub mod TagLemmas
+pub mod WayLemmas

@@ -1,0 +1,55 @@
+-- The element that a change is made in, and the way to it.
+use Rattle.std.proofs.Common.{◌≡◌, ℕ, zero, suc, ◌<◌, List, [], ◌∷◌, ◌++◌, length, Option, Some, None, IsSome, IsSomeAnd, refl, sym, ap, ◌∙◌, subst, arith}
+use Rattle.std.specs.List.{slice_get}
+use Rattle.std.specs.Option.{option_and_then}
+use Rattle.xml_tree.specs.Tree.{Content, last, more, note, more_of, Tree, at, kids, kids_of}
+use Rattle.xml_tree.specs.Edits.{change, change_kid, final, front}
+use Rattle.xml_tree.proofs.PathLemmas.{at-snoc, kid_there}
+use Rattle.edit_ops.specs.declared.change.Change.{Change}
+use Rattle.edit_ops.specs.declared.change.Change.TheVariants.{CreateDocument, Insert, Replace, Remove, SetAttr, DropAttr, RemoveDocument}
+use Rattle.edit_ops.specs.Changes.{Fits}
+use Rattle.edit_ops.specs.Rebuilding.{FitsHere, site}
+
+-- ---- what is there
+
+some_there : (o : Option Tree) → IsSome o → IsSomeAnd o (λ _. Unit {0})
+some_there None h = cc
+some_there (Some e) h = tt
+
+some_before : {A : Type 0} (f : Tree → Option A) (o : Option Tree) → IsSome (option_and_then f o) → IsSome o
+some_before f None h = h
+some_before f (Some e) h = refl
+
+there_with : (o : Option Tree) (P Q : Tree → Type 0) → ((e : Tree) → P e → Q e) → IsSomeAnd o P → IsSomeAnd o Q
+there_with None P Q f h = h
+there_with (Some e) P Q f h = f e h
+
+-- a path that isn't empty is the path of the parent and a number
+parent_and_number : (p : List ℕ) → 0 < length p → p ≡ front p ++ final p ∷ []
+parent_and_number [] h = absurd (omega arith)
+parent_and_number (n ∷ []) h = refl
+parent_and_number (n ∷ m ∷ p) h = ap (λ l. n ∷ l) (parent_and_number (m ∷ p) (omega arith))
+
+-- a change that fits a tree fits the element at its site
+pub fits_there : (t : Tree) (change : Change) → Fits t change → IsSomeAnd (at (site change) t) (FitsHere change)
+fits_there t (CreateDocument root) fits = absurd fits
+fits_there t (Insert parent gap element) fits = fits
+fits_there t (Replace p element) fits = some_there (at p t) fits
+fits_there t (Remove p) fits =
+    let below = subst IsSome (ap (λ q. at q t) (parent_and_number p fits.0) ∙ at-snoc (front p) (final p) t) fits.1 in
+    there_with (at (front p) t) (λ e. final p < length (kids_of e)) (FitsHere (Remove p)) (λ e h. (fits.0, h)) (kid_there (at (front p) t) (final p) below)
+fits_there t (SetAttr p name value) fits = some_there (at p t) fits
+fits_there t (DropAttr p name) fits = some_there (at p t) (some_before _ (at p t) fits)
+fits_there t RemoveDocument fits = absurd fits
+
+-- ---- one step of the way
+
+-- the child that f makes of the one that is there
+made_child : (n : ℕ) (f : Tree → Tree) (k : Tree) (c : Content) → slice_get (kids c) n ≡ Some k → change n (λ _. f k) c ≡ change n f c
+made_child n f k (last t) is = refl
+made_child zero f k (more t m ds ats c rest) is = ap (λ x. more_of t (f x) rest) (sym (cc))
+made_child (suc n) f k (more t m ds ats c rest) is = ap (more t m ds ats c) (made_child n f k rest is)
+made_child n f k (note t c rest) is = ap (note t c) (made_child n f k rest is)
+
+pub made_below : (n : ℕ) (f : Tree → Tree) (k w t : Tree) → slice_get (kids_of t) n ≡ Some k → w ≡ f k → change_kid n (λ _. w) t ≡ change_kid n f t
+made_below n f k w t is made = ap (λ x. change_kid n (λ _. x) t) made ∙ ap (λ (x : Content). record t { content = x }) (made_child n f k t.content is)

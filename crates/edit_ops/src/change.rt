@@ -1,0 +1,111 @@
+//! Changes, and the places that an address means for a PUT.
+ghost use Rattle.std.specs.Prelude.{◌≡◌, IfOk};
+
+use std::alloc::{AllocError, Global};
+use xml_tree::{Element, Name, Path, Text, copy_tree};
+
+/// A change of a document.
+#[derive(Debug, Drop)]
+pub enum Change {
+    /// The document is made, with this root.
+    CreateDocument {
+        root: Element,
+    },
+    /// An element is put in a gap of the element at a path: gap 0 stands before all nodes, gap `j` directly behind the `j`-th
+    /// element child.
+    Insert {
+        parent: Path,
+        gap: usize,
+        element: Element,
+    },
+    /// The element at a path is exchanged for another.
+    Replace {
+        at: Path,
+        element: Element,
+    },
+    /// The element at a path is taken out, and texts that meet are joined.
+    Remove {
+        at: Path,
+    },
+    /// The attribute of this prefix and local name is written, behind the others if it is new.
+    SetAttr {
+        at: Path,
+        name: Name,
+        value: Text,
+    },
+    /// The attribute of this prefix and local name is taken out.
+    DropAttr {
+        at: Path,
+        name: Name,
+    },
+    /// The document is removed.
+    RemoveDocument,
+}
+
+/// What the address of a PUT means in a document.
+#[derive(Debug, Drop)]
+pub enum Spot {
+    /// It selects the element at this path.
+    Over(Path),
+    /// Its last step selects nothing, and the others the element at this path.
+    Under(Path),
+    /// It has one step, which selects nothing: the element would stand beside the root.
+    Beside,
+    /// It names an attribute of the element at this path.
+    Value(Path),
+}
+
+impl Change {
+    /// An equal change.
+    ///
+    /// # Errors
+    /// `NoMemory` for want of memory.
+    pub fn copy(&self, alloc: Global) -> Result<Change, AllocError>
+        ensures { IfOk result (λ made. made ≡ self.now) }
+    {
+        let made = match self {
+            Change::CreateDocument { root } => {
+                let root = copy_tree(alloc, root)?;
+                Change::CreateDocument { root }
+            }
+            Change::Insert {
+                parent,
+                gap,
+                element,
+            } => {
+                let element = copy_tree(alloc, element)?;
+                Change::Insert {
+                    parent: parent.copy(),
+                    gap: *gap,
+                    element,
+                }
+            }
+            Change::Replace { at, element } => {
+                let element = copy_tree(alloc, element)?;
+                Change::Replace {
+                    at: at.copy(),
+                    element,
+                }
+            }
+            Change::Remove { at } => Change::Remove { at: at.copy() },
+            Change::SetAttr { at, name, value } => {
+                let name = name.copy(alloc)?;
+                let value = value.copy(alloc)?;
+                Change::SetAttr {
+                    at: at.copy(),
+                    name,
+                    value,
+                }
+            }
+            Change::DropAttr { at, name } => {
+                let name = name.copy(alloc)?;
+                Change::DropAttr {
+                    at: at.copy(),
+                    name,
+                }
+            }
+            Change::RemoveDocument => Change::RemoveDocument,
+        };
+        Ok(made)
+    }
+}

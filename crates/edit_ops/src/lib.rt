@@ -1,0 +1,21 @@
+//! Changes of a document's tree, made in place or as a new tree, and where each element stands after one.
+//! Promises upward that a change makes exactly the edited tree, and that every element beside it is found unchanged where it is said to be.
+//! The standard is RFC 4825, sections 8.2.3 to 8.2.6.
+#![tactic(auto)]
+
+mod apply;
+mod change;
+mod laws;
+mod moves;
+mod rebuilding;
+mod refusal;
+#[cfg(test)]
+mod tests;
+
+pub use apply::apply_change;
+pub use change::{Change, Spot};
+pub use laws::elements_beside_a_change_stay;
+pub use moves::moved;
+pub use rebuilding::rebuilt;
+pub use refusal::EditRefusal;
+pub use std::alloc::AllocError as NoMemory;

@@ -1,0 +1,309 @@
+//! The tree after a change as a new one, built from the nodes up: the plain program of the edited tree.
+ghost use Rattle.std.specs.Prelude.{◌≡◌, ◌<◌, ◌≤◌, ◌++◌, [], ◌∷◌, length, IfOk, IsSomeAnd};
+ghost use Rattle.xml_tree.specs.Tree.{at, kids, kids_of, last, tree_of};
+ghost use Rattle.xml_tree.specs.Attributes.{with_attr, without_attr};
+ghost use Rattle.xml_tree.specs.Edits.{change_at, change_kid, cut_kid, drop_attr, put_kid, write_attr};
+ghost use Rattle.xml_tree.specs.Nodes.{content_of, gap_place, place};
+ghost use Rattle.xml_tree.specs.declared.tree.Node.TheVariants as node;
+ghost use Rattle.edit_ops.specs.Changes.{Fits, edited};
+ghost use Rattle.edit_ops.specs.Rebuilding.{FitsHere, made_here, site};
+
+use crate::change::Change;
+use std::alloc::{AllocError, Global};
+use xml_tree::{Attr, Element, Name, Node, Path, Text, copy_nodes, copy_tree};
+
+// ---- an element, part by part
+
+// An element with the name and declarations of another, and nothing else.
+fn opened(alloc: Global, element: &Element) -> Result<Element, AllocError>
+    ensures { IfOk result (λ made. made ≡ tree_of element.now.name element.now.decls [] (last [])) }
+{
+    let mut made = Element::new(alloc, element.name().copy(alloc)?);
+    for decl in element.decls() {
+        made.push_decl(decl.copy(alloc)?)?;
+    }
+    Ok(made)
+}
+
+// An element with copies of attributes behind its own.
+fn with_attrs(alloc: Global, element: Element, attrs: &[Attr]) -> Result<Element, AllocError>
+    ensures { IfOk result (λ made. made ≡ record element { attrs = element.attrs ++ attrs.now }) }
+{
+    let mut made = element;
+    for attr in attrs {
+        made.push_attr(attr.copy(alloc)?)?;
+    }
+    Ok(made)
+}
+
+// An attribute of copies.
+fn attr_of(alloc: Global, name: &Name, value: &Text) -> Result<Attr, AllocError>
+    ensures { IfOk result (λ made. made ≡ record { name = name.now; value = value.now }) }
+{
+    let name = name.copy(alloc)?;
+    let value = value.copy(alloc)?;
+    Ok(Attr { name, value })
+}
+
+// An element with copies of attributes behind its own, of which the one of this name gets the value, or else a new one does.
+fn with_attrs_written(
+    alloc: Global,
+    element: Element,
+    attrs: &[Attr],
+    name: &Name,
+    value: &Text,
+) -> Result<Element, AllocError>
+    ensures { IfOk result (λ made. made ≡ record element { attrs = element.attrs ++ with_attr name.now value.now attrs.now }) }
+{
+    let mut made = element;
+    for (i, attr) in attrs.iter().enumerate() {
+        if attr.name.same(name) {
+            made.push_attr(attr_of(alloc, &attr.name, value)?)?;
+            return with_attrs(alloc, made, attrs.split_at(i + 1).1);
+        }
+        made.push_attr(attr.copy(alloc)?)?;
+    }
+    made.push_attr(attr_of(alloc, name, value)?)?;
+    Ok(made)
+}
+
+// An element with copies of attributes behind its own, but for the one of this name.
+fn with_other_attrs(
+    alloc: Global,
+    element: Element,
+    attrs: &[Attr],
+    name: &Name,
+) -> Result<Element, AllocError>
+    ensures { IfOk result (λ made. made ≡ record element { attrs = element.attrs ++ without_attr name.now attrs.now }) }
+{
+    let mut made = element;
+    for (i, attr) in attrs.iter().enumerate() {
+        if attr.name.same(name) {
+            return with_attrs(alloc, made, attrs.split_at(i + 1).1);
+        }
+        made.push_attr(attr.copy(alloc)?)?;
+    }
+    Ok(made)
+}
+
+// An element with nodes behind its tag, which had none.
+fn closed(element: Element, nodes: Vec<Node>) -> Result<Element, AllocError>
+    requires { element.content ≡ last [] }
+    ensures { IfOk result (λ made. made ≡ record element { content = content_of nodes.items }) }
+{
+    let mut made = element;
+    made.exchange_nodes(0, 0, nodes)?;
+    Ok(made)
+}
+
+// ---- nodes
+
+// The place of an element child among the nodes, or the number of nodes.
+fn place_of(nodes: &[Node], child: usize) -> usize
+    ensures place { result ≡ place child nodes.now }
+    ensures within { result ≤ length nodes.now }
+{
+    let mut left = child;
+    for (i, node) in nodes.iter().enumerate() {
+        if let Node::Elem(_) = node {
+            if left == 0 {
+                return i;
+            }
+            left -= 1;
+        }
+    }
+    nodes.len()
+}
+
+// The place of a gap among the nodes.
+fn place_of_gap(nodes: &[Node], gap: usize) -> usize
+    ensures { result ≡ gap_place gap nodes.now }
+{
+    if gap == 0 {
+        return 0;
+    }
+    place_of(nodes, gap - 1) + 1
+}
+
+// Copies of nodes, an element, and copies of further nodes.
+fn around(
+    alloc: Global,
+    before: &[Node],
+    element: Element,
+    behind: &[Node],
+) -> Result<Vec<Node>, AllocError>
+    ensures { IfOk result (λ made. made.items ≡ before.now ++ node.Elem element ∷ behind.now) }
+{
+    let mut made = copy_nodes(alloc, before)?;
+    made.push(Node::Elem(element))?;
+    let mut rest = copy_nodes(alloc, behind)?;
+    made.append(&mut rest)?;
+    Ok(made)
+}
+
+// Copies of nodes, and of further nodes.
+fn together(alloc: Global, before: &[Node], behind: &[Node]) -> Result<Vec<Node>, AllocError>
+    ensures { IfOk result (λ made. made.items ≡ before.now ++ behind.now) }
+{
+    let mut made = copy_nodes(alloc, before)?;
+    let mut rest = copy_nodes(alloc, behind)?;
+    made.append(&mut rest)?;
+    Ok(made)
+}
+
+// ---- one element after a change of it
+
+// An element with these nodes in place of its own.
+fn with_nodes(alloc: Global, element: &Element, nodes: Vec<Node>) -> Result<Element, AllocError>
+    ensures { IfOk result (λ made. made ≡ record element.now { content = content_of nodes.items }) }
+{
+    let opened = opened(alloc, element)?;
+    let tag = with_attrs(alloc, opened, element.attrs())?;
+    closed(tag, nodes)
+}
+
+// With an element in a gap.
+#[tactic(auto, using(xml_tree::proofs::Places::places, crate::proofs::NodeLemmas::parts))]
+fn with_element(
+    alloc: Global,
+    element: &Element,
+    gap: usize,
+    put: &Element,
+) -> Result<Element, AllocError>
+    requires { gap ≤ length (kids_of element.now) }
+    ensures { IfOk result (λ made. made ≡ put_kid gap put.now element.now) }
+{
+    let nodes = element.nodes();
+    let (before, behind) = nodes.split_at(place_of_gap(nodes, gap));
+    let put = copy_tree(alloc, put)?;
+    let nodes = around(alloc, before, put, behind)?;
+    with_nodes(alloc, element, nodes)
+}
+
+// With another element in the place of a child.
+#[tactic(auto, using(xml_tree::proofs::Places::places, crate::proofs::NodeLemmas::parts))]
+fn with_child(
+    alloc: Global,
+    element: &Element,
+    child: usize,
+    put: Element,
+) -> Result<Element, AllocError>
+    requires { child < length (kids_of element.now) }
+    ensures { IfOk result (λ made. made ≡ change_kid child (λ _. put) element.now) }
+{
+    let nodes = element.nodes();
+    let at = place_of(nodes, child);
+    let nodes = around(alloc, nodes.split_at(at).0, put, nodes.split_at(at + 1).1)?;
+    with_nodes(alloc, element, nodes)
+}
+
+// Without a child.
+#[tactic(auto, using(xml_tree::proofs::Places::places, crate::proofs::NodeLemmas::parts))]
+fn without_child(alloc: Global, element: &Element, child: usize) -> Result<Element, AllocError>
+    requires { child < length (kids_of element.now) }
+    ensures { IfOk result (λ made. made ≡ cut_kid child element.now) }
+{
+    let nodes = element.nodes();
+    let at = place_of(nodes, child);
+    let nodes = together(alloc, nodes.split_at(at).0, nodes.split_at(at + 1).1)?;
+    with_nodes(alloc, element, nodes)
+}
+
+// With an attribute of this name and value.
+fn with_attr(
+    alloc: Global,
+    element: &Element,
+    name: &Name,
+    value: &Text,
+) -> Result<Element, AllocError>
+    ensures { IfOk result (λ made. made ≡ write_attr name.now value.now element.now) }
+{
+    let opened = opened(alloc, element)?;
+    let tag = with_attrs_written(alloc, opened, element.attrs(), name, value)?;
+    closed(tag, copy_nodes(alloc, element.nodes())?)
+}
+
+// Without the attribute of this name.
+fn without_attr(alloc: Global, element: &Element, name: &Name) -> Result<Element, AllocError>
+    ensures { IfOk result (λ made. made ≡ drop_attr name.now element.now) }
+{
+    let opened = opened(alloc, element)?;
+    let tag = with_other_attrs(alloc, opened, element.attrs(), name)?;
+    closed(tag, copy_nodes(alloc, element.nodes())?)
+}
+
+// ---- the element on the way
+
+// The place of the element that a change is made in.
+#[tactic(auto, using(crate::proofs::WayLemmas::parents))]
+fn site_of(change: &Change) -> Path
+    ensures { result ≡ site change.now }
+{
+    match change {
+        Change::CreateDocument { .. } => Path::root(),
+        Change::Insert { parent, .. } => parent.copy(),
+        Change::Replace { at, .. } => at.copy(),
+        Change::Remove { at } => match at.split_last() {
+            None => Path::root(),
+            Some((parent, _)) => parent,
+        },
+        Change::SetAttr { at, .. } => at.copy(),
+        Change::DropAttr { at, .. } => at.copy(),
+        Change::RemoveDocument => Path::root(),
+    }
+}
+
+// The element that a change is made in, after it.
+#[tactic(auto, using(crate::proofs::WayLemmas::parents))]
+fn rebuilt_here(alloc: Global, element: &Element, change: &Change) -> Result<Element, AllocError>
+    requires { FitsHere change.now element.now }
+    ensures { IfOk result (λ made. made ≡ made_here change.now element.now) }
+{
+    match change {
+        Change::CreateDocument { root: _ } => unreachable!(),
+        Change::Insert {
+            gap,
+            element: put,
+            ..
+        } => with_element(alloc, element, *gap, put),
+        Change::Replace { element: other, .. } => copy_tree(alloc, other),
+        Change::Remove { at } => match at.split_last() {
+            None => unreachable!(),
+            Some((_, child)) => without_child(alloc, element, child),
+        },
+        Change::SetAttr { name, value, .. } => with_attr(alloc, element, name, value),
+        Change::DropAttr { name, .. } => without_attr(alloc, element, name),
+        Change::RemoveDocument => unreachable!(),
+    }
+}
+
+// The element at the start of a way to the element that a change is made in, after it.
+fn rebuilt_below(
+    alloc: Global,
+    element: &Element,
+    way: &[usize],
+    change: &Change,
+) -> Result<Element, AllocError>
+    requires { IsSomeAnd (at way.now element.now) (FitsHere change.now) }
+    ensures { IfOk result (λ made. made ≡ change_at way.now (made_here change.now) element.now) }
+{
+    let [child, way @ ..] = way else {
+        return rebuilt_here(alloc, element, change);
+    };
+    let Some(kid) = element.kid(*child) else {
+        unreachable!()
+    };
+    let made = rebuilt_below(alloc, kid, way, change)?;
+    with_child(alloc, element, *child, made)
+}
+
+/// The tree after a change, as a new one. The change is one of the tree, as `apply_change` asks.
+///
+/// # Errors
+/// `NoMemory` for want of memory.
+pub fn rebuilt(alloc: Global, root: &Element, change: &Change) -> Result<Element, AllocError>
+    requires { Fits root.now change.now }
+    ensures { IfOk result (λ made. made ≡ edited root.now change.now) }
+{
+    rebuilt_below(alloc, root, site_of(change).numbers(), change)
+}
