@@ -1,8 +1,12 @@
 // What no clause says: that the definitions are the requests of HTTP/1.1 as the standard and outside vectors have them.
+ghost use Rattle.std.specs.Prelude.{[], None};
+ghost use Rattle.xcap_io.specs.Causes.{no_port, no_peer};
+
 use super::*;
+use reply_text::{Media, Reply};
 use std::alloc::Global;
 use std::test::Fail;
-use xcap_io::MemLine;
+use xcap_io::{Bytes, Failed, Gatherer, Line, MemLine, Sink};
 
 const GET: &[u8] = b"GET /a HTTP/1.1\r\nHost: h\r\n\r\n";
 
@@ -197,18 +201,59 @@ fn the_thousandth_request_closes(rt: HostRuntime) -> Result<(), Fail> {
     for _ in 0..1_001 {
         bytes.extend_from_slice(GET)?;
     }
-    let mut line = MemLine::new(rt.alloc(), &bytes, 4_096, None, 0)?;
-    let mut wire = Wire::new(rt.alloc())?;
-    for count in 0..1_000 {
-        let Asked::Request(request) = next_request(rt.alloc(), &mut line, &mut wire)? else {
-            return Err("no request")?;
-        };
-        assert_eq!(rt; request.closes, count == 999);
+    for step in [1, 4_096] {
+        let mut line = MemLine::new(rt.alloc(), &bytes, step, None, 0)?;
+        let mut wire = Wire::new(rt.alloc())?;
+        for count in 0..1_000 {
+            let Asked::Request(request) = next_request(rt.alloc(), &mut line, &mut wire)? else {
+                return Err("no request")?;
+            };
+            assert_eq!(rt; request.closes, count == 999);
+        }
+        assert_eq!(rt;
+            named(&next_request(rt.alloc(), &mut line, &mut wire)?),
+            "end"
+        );
     }
-    assert_eq!(rt;
-        named(&next_request(rt.alloc(), &mut line, &mut wire)?),
-        "end"
-    );
+    Ok(())
+}
+
+// How long the body of the request of that number is.
+fn length_of(number: usize) -> usize {
+    number % 700
+}
+
+// So many requests, each with a body of its own length and byte.
+fn many_puts(alloc: Global, count: usize) -> Result<Vec<u8>, Fail> {
+    let mut bytes = Vec::new(alloc);
+    'requests: for number in 0..count {
+        let len = length_of(number);
+        let head = format!(in alloc;
+            "PUT /a HTTP/1.1\r\nHost: h\r\nContent-Length: {len}\r\n\r\n"
+        )?;
+        bytes.extend_from_slice(head.as_bytes())?;
+        'body: for _ in 0..len {
+            bytes.push((number % 251) as u8)?;
+        }
+    }
+    Ok(bytes)
+}
+
+fn is_body_of(number: usize, body: &[u8]) -> bool {
+    body.len() == length_of(number) && body.iter().all(|byte| *byte as usize == number % 251)
+}
+
+#[test]
+fn requests_stay_whole_across_the_end_of_the_buffer(rt: HostRuntime) -> Result<(), Fail> {
+    let bytes = many_puts(rt.alloc(), 900)?;
+    for step in [1, 4_096, 1_000_000] {
+        let mut line = MemLine::new(rt.alloc(), &bytes, step, None, 0)?;
+        let mut wire = Wire::new(rt.alloc())?;
+        for number in 0..900 {
+            let asked = next_request(rt.alloc(), &mut line, &mut wire)?;
+            assert!(rt; is_body_of(number, body_of(&asked)), "{number}");
+        }
+    }
     Ok(())
 }
 
@@ -257,6 +302,72 @@ fn a_failed_read_is_no_answer(rt: HostRuntime) -> Result<(), Fail> {
             named(&next_request(rt.alloc(), &mut line, &mut wire)?),
             "end"
         );
+    }
+    Ok(())
+}
+
+// A sink that takes as many bytes as it is told, in pieces of any size, and counts the writes.
+#[derive(Drop)]
+struct Counter {
+    room: usize,
+    writes: usize,
+    faults: u64,
+}
+
+impl Line for Counter {
+    ghost state = { λ c. record {
+      left = None;
+      taken = None;
+      read_faults = 0;
+      write_faults = c.faults;
+      holds = [];
+      aside = [];
+      port = no_port;
+      peer = no_peer;
+    } };
+}
+
+impl Sink for Counter {
+    fn write(&mut self, piece: &[u8]) -> Result<usize, Failed> {
+        self.writes = self.writes.saturating_add(1);
+        if self.room < piece.len() {
+            self.faults = self.faults.saturating_add(1);
+            return Err(Failed);
+        }
+        self.room -= piece.len();
+        Ok(piece.len())
+    }
+}
+
+// A reply with a body of so many bytes; where these are four digits, its head has 91 bytes.
+fn reply_of(alloc: Global, len: usize) -> Result<Reply, Fail> {
+    let mut body = Vec::new(alloc);
+    body.resize(len, b'x')?;
+    Ok(Reply::with(200, Some(1), Some(Media::Element), Bytes::own(body), false))
+}
+
+// Whether a sink with so much room took the reply, and how often it was written to.
+fn written(reply: &Reply, room: usize) -> (bool, usize) {
+    let mut gatherer = Gatherer::new();
+    let mut sink = Counter {
+        room,
+        writes: 0,
+        faults: 0,
+    };
+    let written = write_reply_through(&mut sink, &mut gatherer, reply);
+    (written.is_ok(), sink.writes)
+}
+
+#[test]
+fn a_reply_of_8192_bytes_is_one_write(rt: HostRuntime) -> Result<(), Fail> {
+    for (len, room, wanted) in [
+        (0, 10_000, (true, 1)),
+        (8_101, 10_000, (true, 1)),
+        (8_102, 10_000, (true, 2)),
+        (8_102, 8_101, (false, 2)),
+    ] {
+        let reply = reply_of(rt.alloc(), len)?;
+        assert_eq!(rt; written(&reply, room), wanted);
     }
     Ok(())
 }
