@@ -1,0 +1,361 @@
+-- What one patch operation makes of a tree, or the first thing that is wrong with it. RFC 5261, sections 4 and 5, as far as it is taken here.
+use Rattle.std.specs.Prelude.{ℕ, zero, suc, ◌+◌, ◌-◌, ◌==◌, Bool, true, false, not, ◌&&◌, ◌||◌, nat_le, codes, encode_utf8_all, List, [], ◌∷◌, ◌++◌, length, Option, None, Some, is_some, option_map, option_and_then, unwrap_or, slice_get, Result, Ok, Err, if◌then◌else◌}
+use Rattle.std.specs.List.{list_all, list_any, find}
+use Rattle.std.specs.Str.{bytes_eq}
+use Rattle.xml_tree.specs.Attributes.{is_named, remove_first, valued}
+use Rattle.xml_tree.specs.Characters.{is_name, is_space}
+use Rattle.xml_tree.specs.Edits.{change_at, final, front, put_over}
+use Rattle.xml_tree.specs.Expanded.{element_name, attr_name, same_expanded}
+use Rattle.xml_tree.specs.Nodes.{exchange_nodes, is_text, nodes_of, place, text_node, text_of}
+use Rattle.xml_tree.specs.Scopes.{bindings_in, bound, scope_around, scope_at, xmlns_prefix}
+use Rattle.xml_tree.specs.Tree.{Content, last, more, note, Tree, at, height, tree_of}
+use Rattle.xml_tree.specs.declared.names.Name.{Name}
+use Rattle.xml_tree.specs.declared.names.Decl.{Decl}
+use Rattle.xml_tree.specs.declared.names.Attr.{Attr}
+use Rattle.xml_tree.specs.declared.tree.Node.{Node}
+use Rattle.node_select.specs.Faults.{patch_selector_read}
+use Rattle.node_select.specs.Names.{prefix_uri}
+use Rattle.node_select.specs.Selection.{is_attr, selected_in}
+use Rattle.node_select.specs.declared.fault.SelectorFault.{SelectorFault}
+use Rattle.node_select.specs.declared.selector.PatchEnd.{PatchEnd}
+use Rattle.node_select.specs.declared.selector.PatchEnd.TheVariants.{Element, Attribute, Chars}
+use Rattle.node_select.specs.declared.selector.PatchSelector.{PatchSelector}
+use Rattle.node_select.specs.Raw.{RawPatchSelector, RawPatchEnd, PatchElement, PatchAttribute, PatchChars}
+use Rattle.node_select.specs.Reading.{read_patch_selector}
+use Rattle.grammar_rules.specs.Reading.{Stop, read_whole}
+use Rattle.tree_text.specs.declared.kind.Kind.{Kind}
+
+-- what is wrong with an operation (RFC 5261, section 5.1)
+pub data Wrong : Type 0 where
+  Directive : Wrong
+  Prefix : Wrong
+  Unlocated : Wrong
+  RootTouched : Wrong
+  WrongNodes : Wrong
+  NoSpace : Wrong
+
+-- an answer once a test has passed, or once something is there
+abbrev pub tested : {A : Type 0} → Bool → Wrong → Result A Wrong → Result A Wrong
+tested true w r = r
+tested false w r = Err w
+
+abbrev pub given : {A B : Type 0} → Option A → Wrong → (A → Result B Wrong) → Result B Wrong
+given None w k = Err w
+given (Some x) w k = k x
+
+-- ---- what an operation says, by its name and its attributes
+
+pub data Word : Type 0 where
+  Add : Word
+  Exchange : Word
+  Cut : Word
+
+abbrev pub word_of : List ℕ → Option Word
+word_of local =
+    if bytes_eq local (codes "add") then Some Add else (if bytes_eq local (codes "replace") then Some Exchange else (if bytes_eq local (codes "remove") then Some Cut else None))
+
+-- the value of the attribute of this local name that has no prefix, and so no namespace
+abbrev pub plain_value : List ℕ → List Attr → Option (List ℕ)
+plain_value local ats = option_map (λ a. a.value) (find (is_named (record { prefix = []; local = local })) ats)
+
+-- `sel`, `pos`, `type` and `ws` alone have no namespace
+abbrev pub is_known : Attr → Bool
+is_known a =
+    not (bytes_eq a.name.prefix [])
+    || (bytes_eq a.name.local (codes "sel") || (bytes_eq a.name.local (codes "pos") || (bytes_eq a.name.local (codes "type") || bytes_eq a.name.local (codes "ws"))))
+
+-- where an `add` puts its content
+pub data Position : Type 0 where
+  Behind : Position
+  Prepend : Position
+  Before : Position
+  After : Position
+
+abbrev pub position_of : List ℕ → Option Position
+position_of text =
+    if bytes_eq text (codes "prepend") then Some Prepend else (if bytes_eq text (codes "before") then Some Before else (if bytes_eq text (codes "after") then Some After else None))
+
+-- a QName, cut at its colon; none where it has none of its parts or a part is no NCName
+abbrev pub with_prefix : List ℕ → List ℕ → Option Name
+with_prefix prefix local = if is_name prefix && is_name local then Some (record { prefix = prefix; local = local }) else None
+
+abbrev pub cut_name : List ℕ → List ℕ → Option Name
+cut_name seen [] = if is_name seen then Some (record { prefix = []; local = seen }) else None
+cut_name seen (c ∷ cs) = if c == 58 then with_prefix seen cs else cut_name (seen ++ c ∷ []) cs
+
+-- `@` and a QName other than `xmlns`
+abbrev pub no_declaration : Name → Option Name
+no_declaration n = if bytes_eq n.prefix [] && bytes_eq n.local xmlns_prefix then None else Some n
+
+abbrev pub type_of : List ℕ → Option Name
+type_of [] = None
+type_of (c ∷ cs) = if c == 64 then option_and_then no_declaration (cut_name [] cs) else None
+
+-- which white space a `remove` takes with it: before the element, and behind it
+abbrev pub space_of : List ℕ → Option (Bool × Bool)
+space_of text =
+    if bytes_eq text (codes "before") then Some (true, false) else (if bytes_eq text (codes "after") then Some (false, true) else (if bytes_eq text (codes "both") then Some (true, true) else None))
+
+-- an operation as it is read: what is to be done
+pub data Task : Type 0 where
+  Put : Position → Task
+  NewAttr : Name → Task
+  Replace : Task
+  Remove : Bool → Bool → Task
+
+-- an `add`, by `pos` and `type`, of which one at most is there
+abbrev pub adding : Option (List ℕ) → Option (List ℕ) → Option Task
+adding None None = Some (Put Behind)
+adding (Some pos) None = option_map Put (position_of pos)
+adding None (Some type) = option_map NewAttr (type_of type)
+adding (Some pos) (Some type) = None
+
+abbrev pub cutting : Option (List ℕ) → Option Task
+cutting None = Some (Remove false false)
+cutting (Some ws) = option_map (λ s. Remove s.0 s.1) (space_of ws)
+
+-- each word takes its own attributes and no others
+abbrev pub task_of : Word → Option (List ℕ) → Option (List ℕ) → Option (List ℕ) → Option Task
+task_of Add pos type ws = if is_some ws then None else adding pos type
+task_of Exchange pos type ws = if is_some pos || (is_some type || is_some ws) then None else Some Replace
+task_of Cut pos type ws = if is_some pos || is_some type then None else cutting ws
+
+-- an `add` selects an element, and so does a `remove` that takes white space; the end of a selector is told by its text, whether its
+-- prefixes are bound or not
+abbrev pub suits : Task → RawPatchEnd → Bool
+suits (Put position) PatchElement = true
+suits (Put position) (PatchAttribute name) = false
+suits (Put position) (PatchChars k) = false
+suits (NewAttr type) PatchElement = true
+suits (NewAttr type) (PatchAttribute name) = false
+suits (NewAttr type) (PatchChars k) = false
+suits Replace end = true
+suits (Remove before after) PatchElement = true
+suits (Remove before after) (PatchAttribute name) = not (before || after)
+suits (Remove before after) (PatchChars k) = not (before || after)
+
+-- ---- what its selector selects
+
+-- the selector, in the scope at the operation; an unprefixed name has the default namespace there
+abbrev pub selector_in : List (List Decl) → List ℕ → Result PatchSelector SelectorFault
+selector_in c sel = patch_selector_read (bindings_in c) (unwrap_or (bound c []) []) (encode_utf8_all sel)
+
+-- what the selector ends in, where it is one
+abbrev pub end_read : Result RawPatchSelector (Stop Kind) → Option RawPatchEnd
+end_read (Ok raw) = Some raw.1.1
+end_read (Err stop) = None
+
+abbrev pub end_of : List ℕ → Option RawPatchEnd
+end_of sel = end_read (read_whole read_patch_selector sel)
+
+-- the selector, where its prefixes are bound
+abbrev pub selector_if_bound : Result PatchSelector SelectorFault → Option PatchSelector
+selector_if_bound (Ok s) = Some s
+selector_if_bound (Err fault) = None
+
+-- the number among the nodes of the k-th text, counted from 1, where i nodes stand before these
+abbrev pub text_number : ℕ → ℕ → List Node → Option ℕ
+text_number i k [] = None
+text_number i k (n ∷ ns) = if is_text n then (if k == 1 then Some i else text_number (suc i) (k - 1) ns) else text_number (suc i) k ns
+
+abbrev pub texts_in : List Node → ℕ
+texts_in [] = 0
+texts_in (n ∷ ns) = if is_text n then suc (texts_in ns) else texts_in ns
+
+-- the text that is meant: that of a position, or the only one
+abbrev pub selected_text : Option ℕ → List Node → Option ℕ
+selected_text (Some k) ns = if k == 0 then None else text_number 0 k ns
+selected_text None ns = if texts_in ns == 1 then text_number 0 1 ns else None
+
+-- what is selected: an element by its path, an attribute of it by a test, or one of its nodes, a text
+pub data Spot : Type 0 where
+  AtElement : List ℕ → Spot
+  AtAttr : List ℕ → (Attr → Bool) → Spot
+  AtText : List ℕ → ℕ → Spot
+
+abbrev pub ended : PatchEnd → List (List Decl) → List ℕ → Tree → Option Spot
+ended Element c p e = Some (AtElement p)
+ended (Attribute uri local) c p e = if list_any (is_attr c uri local) e.attrs then Some (AtAttr p (is_attr c uri local)) else None
+ended (Chars k) c p e = option_map (AtText p) (selected_text k (nodes_of e.content))
+
+abbrev pub located : PatchSelector → Tree → Option Spot
+located s t = option_and_then (λ p. option_and_then (ended s.end (scope_at p t) p) (at p t)) (selected_in s.steps t)
+
+-- ---- its content
+
+-- the texts of a content joined, where no element is among its nodes; comments are passed over
+abbrev pub value_in : Content → Option (List ℕ)
+value_in (last t) = Some t
+value_in (more t n ds ats c rest) = None
+value_in (note t x rest) = option_map (λ v. t ++ v) (value_in rest)
+
+abbrev pub is_blank : List ℕ → Bool
+is_blank t = list_all is_space t
+
+-- the one element of a content that has white space and comments at most beside it
+abbrev pub is_blank_content : Content → Bool
+is_blank_content (last t) = is_blank t
+is_blank_content (more t n ds ats c rest) = false
+is_blank_content (note t x rest) = is_blank t && is_blank_content rest
+
+abbrev pub sole_element : Content → Option Tree
+sole_element (last t) = None
+sole_element (more t n ds ats c rest) = if is_blank t && is_blank_content rest then Some (tree_of n ds ats c) else None
+sole_element (note t x rest) = if is_blank t then sole_element rest else None
+
+-- neither an element nor a text
+abbrev pub is_bare : Content → Bool
+is_bare (last []) = true
+is_bare (last (x ∷ t)) = false
+is_bare (more t n ds ats c rest) = false
+is_bare (note [] x rest) = is_bare rest
+is_bare (note (y ∷ t) x rest) = false
+
+-- ---- what it makes of the tree
+
+abbrev pub nodes_at : List ℕ → Tree → List Node
+nodes_at p t = unwrap_or (option_map (λ e. nodes_of e.content) (at p t)) []
+
+-- the number of the element at a path among the nodes of its parent
+abbrev pub own_place : List ℕ → Tree → ℕ
+own_place p t = place (final p) (nodes_at (front p) t)
+
+-- nodes put before the i-th node of the element at a path, and those from one number to before another taken out
+abbrev pub put_nodes : List ℕ → ℕ → List Node → Tree → Tree
+put_nodes p i ns = change_at p (exchange_nodes i i ns)
+
+abbrev pub cut_nodes : List ℕ → ℕ → ℕ → Tree → Tree
+cut_nodes p i j = change_at p (exchange_nodes i j [])
+
+abbrev pub put_at : Position → List ℕ → List Node → Tree → Tree
+put_at Behind p ns t = put_nodes p (length (nodes_at p t)) ns t
+put_at Prepend p ns t = put_nodes p 0 ns t
+put_at Before p ns t = put_nodes (front p) (own_place p t) ns t
+put_at After p ns t = put_nodes (front p) (suc (own_place p t)) ns t
+
+-- how many nodes white space takes
+abbrev pub one_if : Bool → ℕ
+one_if true = 1
+one_if false = 0
+
+abbrev pub cut_element : Bool → Bool → List ℕ → Tree → Tree
+cut_element before after p t = let i = own_place p t in cut_nodes (front p) (i - one_if before) (suc i + one_if after) t
+
+abbrev pub with_attrs : (List Attr → List Attr) → Tree → Tree
+with_attrs f e = record e { attrs = f e.attrs }
+
+abbrev pub attr_of : Name → List ℕ → Attr
+attr_of name value = record { name = name; value = value }
+
+-- the first attribute that passes gets the value; there is one
+abbrev pub rewritten : (Attr → Bool) → List ℕ → List Attr → List Attr
+rewritten f v [] = []
+rewritten f v (a ∷ ats) = if f a then (valued v a ∷ ats) else (a ∷ rewritten f v ats)
+
+-- the white space that a `remove` takes is there: the node of that number is a text of white space alone
+abbrev pub is_space_at : ℕ → List Node → Bool
+is_space_at i ns = unwrap_or (option_map is_blank (option_and_then text_of (slice_get ns i))) false
+
+abbrev pub space_before : ℕ → List Node → Bool
+space_before zero ns = false
+space_before (suc i) ns = is_space_at i ns
+
+abbrev pub space_fits : Bool → Bool → List ℕ → Tree → Bool
+space_fits before after p t =
+    let ns = nodes_at (front p) t in let i = own_place p t in (not before || space_before i ns) && (not after || is_space_at (suc i) ns)
+
+-- ---- names that mean the same at the operation and at its place
+
+-- each name of a content means the same in both scopes, which grow by the same declarations
+abbrev pub means_alike : List (List Decl) → List (List Decl) → Content → Bool
+means_alike c d (last t) = true
+means_alike c d (more t n ds ats k rest) =
+    same_expanded (element_name (c ++ ds ∷ []) n) (element_name (d ++ ds ∷ []) n)
+    && (list_all (λ a. same_expanded (attr_name (c ++ ds ∷ []) a.name) (attr_name (d ++ ds ∷ []) a.name)) ats
+    && (means_alike (c ++ ds ∷ []) (d ++ ds ∷ []) k && means_alike c d rest))
+means_alike c d (note t x rest) = means_alike c d rest
+
+-- the scope of the place where content goes
+abbrev pub scope_of_put : Position → List ℕ → Tree → List (List Decl)
+scope_of_put Behind p t = scope_at p t
+scope_of_put Prepend p t = scope_at p t
+scope_of_put Before p t = scope_around p t
+scope_of_put After p t = scope_around p t
+
+-- ---- the rest of the tests, in order, and what is made; c is the scope at the operation
+
+abbrev pub within_depth : Tree → Bool
+within_depth t = nat_le (height t) 64
+
+abbrev pub off_root : Position → List ℕ → Bool
+off_root Behind p = true
+off_root Prepend p = true
+off_root Before [] = false
+off_root Before (n ∷ p) = true
+off_root After [] = false
+off_root After (n ∷ p) = true
+
+abbrev pub is_below : List ℕ → Bool
+is_below [] = false
+is_below (n ∷ p) = true
+
+-- the new tree, once it isn't too deep and the names mean the same in the scope d of its place
+abbrev pub made : Tree → Bool → Result Tree Wrong
+made new alike = tested (within_depth new) WrongNodes (tested alike Prefix (Ok new))
+
+abbrev pub put_done : List (List Decl) → Position → List ℕ → Content → Tree → Result Tree Wrong
+put_done c position p content t =
+    tested (off_root position p) RootTouched (tested (is_some (slice_get (nodes_of content) 0)) WrongNodes (
+    made (put_at position p (nodes_of content) t) (means_alike c (scope_of_put position p t) content)))
+
+abbrev pub attr_done : List (List Decl) → Name → List ℕ → Content → Tree → Result Tree Wrong
+attr_done c name p content t =
+    given (value_in content) WrongNodes (λ v.
+    tested (not (list_any (λ a. same_expanded (attr_name (scope_at p t) a.name) (attr_name c name)) (unwrap_or (option_map (λ e. e.attrs) (at p t)) []))) WrongNodes (
+    made (change_at p (with_attrs (λ ats. ats ++ attr_of name v ∷ [])) t) (same_expanded (attr_name c name) (attr_name (scope_at p t) name))))
+
+abbrev pub replace_done : List (List Decl) → Spot → Content → Tree → Result Tree Wrong
+replace_done c (AtElement p) content t = given (sole_element content) WrongNodes (λ e. made (put_over p e t) (means_alike c (scope_around p t) content))
+replace_done c (AtAttr p f) content t = given (value_in content) WrongNodes (λ v. made (change_at p (with_attrs (rewritten f v)) t) true)
+replace_done c (AtText p i) content t = given (value_in content) WrongNodes (λ v. made (change_at p (exchange_nodes i (suc i) (text_node v)) t) true)
+
+abbrev pub remove_done : Bool → Bool → Spot → Content → Tree → Result Tree Wrong
+remove_done before after (AtElement p) content t =
+    tested (is_below p) RootTouched (tested (is_bare content) WrongNodes (tested (space_fits before after p t) NoSpace (made (cut_element before after p t) true)))
+remove_done before after (AtAttr p f) content t = tested (is_bare content) WrongNodes (made (change_at p (with_attrs (remove_first f)) t) true)
+remove_done before after (AtText p i) content t = tested (is_bare content) WrongNodes (made (cut_nodes p i (suc i) t) true)
+
+-- the path of the element that is selected, or that has what is selected
+abbrev pub path_of : Spot → List ℕ
+path_of (AtElement p) = p
+path_of (AtAttr p f) = p
+path_of (AtText p i) = p
+
+abbrev pub done : List (List Decl) → Task → Spot → Content → Tree → Result Tree Wrong
+done c (Put position) spot content t = put_done c position (path_of spot) content t
+done c (NewAttr name) spot content t = attr_done c name (path_of spot) content t
+done c Replace spot content t = replace_done c spot content t
+done c (Remove before after) spot content t = remove_done before after spot content t
+
+-- ---- the whole operation
+
+-- the prefix of a new attribute's name is bound at the operation
+abbrev pub is_bound_type : List (List Decl) → Task → Bool
+is_bound_type c (Put position) = true
+is_bound_type c (NewAttr name) = bytes_eq name.prefix [] || is_some (prefix_uri (bindings_in c) name.prefix)
+is_bound_type c Replace = true
+is_bound_type c (Remove before after) = true
+
+-- an operation that stands in the scope c: what it makes of the tree, or the first thing that is wrong with it
+abbrev pub applied : List (List Decl) → Tree → Tree → Result Tree Wrong
+applied c o t =
+    let here = c ++ o.decls ∷ [] in
+    given (plain_value (codes "sel") o.attrs) Directive (λ sel.
+    tested (list_all is_known o.attrs) Directive (
+    given (option_and_then (λ w. task_of w (plain_value (codes "pos") o.attrs) (plain_value (codes "type") o.attrs) (plain_value (codes "ws") o.attrs)) (word_of o.name.local)) Directive (λ task.
+    given (end_of sel) Directive (λ end.
+    tested (suits task end) Directive (
+    given (selector_if_bound (selector_in here sel)) Prefix (λ s.
+    tested (is_bound_type here task) Prefix (
+    given (located s t) Unlocated (λ spot.
+    done here task spot o.content t))))))))

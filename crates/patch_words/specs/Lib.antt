@@ -1,0 +1,5 @@
+pub mod Applied
+pub mod Notes
+pub mod Notices
+pub mod Operations
+pub mod Replay

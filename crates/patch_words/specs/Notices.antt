@@ -1,0 +1,116 @@
+-- A notice of notes, as a tree. RFC 5874, section 3; RFC 5875, sections 4.3 to 4.5, on what each mode of patching sends.
+use Rattle.std.specs.Prelude.{◌≡◌, ℕ, zero, suc, ◌+◌, ◌<◌, Bool, true, false, ◌||◌, codes, decimal, List, [], ◌∷◌, ◌++◌, map, length, if◌then◌else◌}
+use Rattle.std.specs.List.{list_any}
+use Rattle.std.specs.Str.{bytes_eq}
+use Rattle.xml_tree.specs.Tree.{Content, last, more, note, more_of, Tree, tree_of}
+use Rattle.xml_tree.specs.declared.names.Decl.{Decl}
+use Rattle.xml_tree.specs.declared.names.Attr.{Attr}
+use Rattle.patch_words.specs.Notes.{Note, tag_after}
+use Rattle.patch_words.specs.Operations.{in_diff, operation, plain}
+
+-- the namespace of notices (RFC 5874, section 7.2)
+abbrev pub diff_uri : List ℕ
+diff_uri = codes "urn:ietf:params:xml:ns:xcap-diff"
+
+-- ---- the prefix of that namespace
+
+-- whether some element of a content declares the prefix
+abbrev pub declares : List ℕ → List Decl → Bool
+declares prefix ds = list_any (λ d. bytes_eq d.prefix prefix) ds
+
+abbrev pub is_declared_in : List ℕ → Content → Bool
+is_declared_in prefix (last t) = false
+is_declared_in prefix (more t n ds ats c rest) = declares prefix ds || (is_declared_in prefix c || is_declared_in prefix rest)
+is_declared_in prefix (note t x rest) = is_declared_in prefix rest
+
+-- whether an operation, or an element in it, declares the prefix
+abbrev pub is_taken : List Tree → List ℕ → Bool
+is_taken operations prefix = list_any (λ o. declares prefix o.decls || is_declared_in prefix o.content) operations
+
+-- `d`, `d1`, `d2`, and so on
+abbrev pub candidate : ℕ → List ℕ
+candidate zero = codes "d"
+candidate (suc k) = codes "d" ++ decimal (suc k)
+
+-- k is the number of the first candidate that isn't taken
+pub record IsFirstFree (taken : List ℕ → Bool) (k : ℕ) : Type 0 where
+  pub free : taken (candidate k) ≡ false
+  pub first : (j : ℕ) → j < k → taken (candidate j) ≡ true
+
+-- the same computed, where so many candidates at most are taken
+abbrev pub first_free : (List ℕ → Bool) → ℕ → ℕ → ℕ
+first_free taken zero k = k
+first_free taken (suc turns) k = if taken (candidate k) then first_free taken turns (suc k) else k
+
+-- how many declarations a content and operations have
+abbrev pub declarations_in : Content → ℕ
+declarations_in (last t) = 0
+declarations_in (more t n ds ats c rest) = length ds + declarations_in c + declarations_in rest
+declarations_in (note t x rest) = declarations_in rest
+
+abbrev pub declarations : List Tree → ℕ
+declarations [] = 0
+declarations (o ∷ os) = length o.decls + declarations_in o.content + declarations os
+
+-- the operations of notes with one prefix
+abbrev pub operations : List ℕ → List Note → List Tree
+operations prefix ns = map (operation prefix) ns
+
+-- the prefix of a notice with these notes' operations; what they declare doesn't depend on their own prefix
+abbrev pub prefix_for : List Note → List ℕ
+prefix_for ns = candidate (first_free (is_taken (operations [] ns)) (declarations (operations [] ns)) 0)
+
+-- ---- documents and the whole notice
+
+-- elements one behind the other, without white space
+abbrev pub listed : List Tree → Content
+listed [] = last []
+listed (e ∷ es) = more_of [] e (listed es)
+
+abbrev pub tag_attr : List ℕ → ℕ → Attr
+tag_attr word tag = plain word (decimal tag)
+
+-- what became of one document, by its printed id: from one tag to another by these operations
+abbrev pub document : List ℕ → List ℕ → ℕ → ℕ → List Tree → Tree
+document prefix sel from to os =
+    tree_of (in_diff prefix (codes "document")) []
+    (plain (codes "sel") sel ∷ tag_attr (codes "new-etag") to ∷ tag_attr (codes "previous-etag") from ∷ []) (listed os)
+
+-- that it was removed
+abbrev pub removed_document : List ℕ → List ℕ → ℕ → Tree
+removed_document prefix sel from =
+    tree_of (in_diff prefix (codes "document")) [] (plain (codes "sel") sel ∷ tag_attr (codes "previous-etag") from ∷ []) (last [])
+
+-- the notice: the root's text and a slash, and the documents
+abbrev pub diff : List ℕ → List ℕ → List Tree → Tree
+diff prefix root ds =
+    tree_of (in_diff prefix (codes "xcap-diff")) (record { prefix = prefix; uri = diff_uri } ∷ []) (plain (codes "xcap-root") (root ++ codes "/") ∷ []) (listed ds)
+
+-- ---- the notice of a list of notes from a tag on, in each mode; without notes it has no document
+
+-- `no-patching`: the tags alone
+abbrev pub tags_alone : List ℕ → List ℕ → ℕ → List Note → List Tree
+tags_alone prefix sel from [] = []
+tags_alone prefix sel from (n ∷ ns) = document prefix sel from (tag_after from (n ∷ ns)) [] ∷ []
+
+-- `xcap-patching`: one document for each note, with its own tags
+abbrev pub one_by_one : List ℕ → List ℕ → List Note → List Tree
+one_by_one prefix sel ns = map (λ n. document prefix sel n.previous n.next (operation prefix n ∷ [])) ns
+
+-- `aggregate`: one document with all operations in order
+abbrev pub all_at_once : List ℕ → List ℕ → ℕ → List Note → List Tree
+all_at_once prefix sel from [] = []
+all_at_once prefix sel from (n ∷ ns) = document prefix sel from (tag_after from (n ∷ ns)) (operations prefix (n ∷ ns)) ∷ []
+
+abbrev pub tags_notice : List ℕ → List ℕ → ℕ → List Note → Tree
+tags_notice root sel from ns = diff (prefix_for []) root (tags_alone (prefix_for []) sel from ns)
+
+abbrev pub patching_notice : List ℕ → List ℕ → ℕ → List Note → Tree
+patching_notice root sel from ns = diff (prefix_for ns) root (one_by_one (prefix_for ns) sel ns)
+
+abbrev pub aggregate_notice : List ℕ → List ℕ → ℕ → List Note → Tree
+aggregate_notice root sel from ns = diff (prefix_for ns) root (all_at_once (prefix_for ns) sel from ns)
+
+-- the document is gone
+abbrev pub gone_notice : List ℕ → List ℕ → ℕ → Tree
+gone_notice root sel from = diff (candidate 0) root (removed_document (candidate 0) sel from ∷ [])
