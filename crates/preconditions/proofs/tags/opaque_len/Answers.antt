@@ -1,0 +1,12 @@
+use Rattle.std.proofs.Common.{length, sym, ◌∙◌, arith}
+use Rattle.std.proofs.lemmas.List.Sums.{prefix_len_is}
+use Rattle.preconditions.specs.Tags.{is_tag_byte}
+use Rattle.preconditions.proofs.tags.opaque_len.Goals as goal
+
+pub returns-then-not-is_tag_byte-clause-value : goal.returns-then-not-is_tag_byte-clause-value
+returns-then-not-is_tag_byte-clause-value c =
+    sym (prefix_len_is is_tag_byte c.args.text.now c.loop-len.len 0 (omega arith) c.loop-len.invariant (λ _. sym c.is_tag_byte.ensures ∙ c.if-not-is_tag_byte.true))
+
+pub returns-clause-value : goal.returns-clause-value
+returns-clause-value c =
+    sym (prefix_len_is is_tag_byte c.args.text.now (length c.args.text.now) 0 (omega arith) (λ k h. c.loop-len.invariant k (omega arith)) (λ h. absurd (omega arith)))
