@@ -1,12 +1,27 @@
-//! What a server tells its watchers about each accepted change.
-//! Upward: a watcher keeps a count of its faults; its other members and its calls come with the edits that it is told.
+//! Watchers, which are told of each accepted change: one that keeps every change, one that keeps every document, one that
+//! writes a line.
+//! Upward: each watcher is told each change once and in order, and exactly those that don't keep one leave.
 //! The model is the project's own; no standard defines it.
 #![tactic(auto)]
 
-ghost use Rattle.std.specs.Prelude.{ℕ};
+mod audit;
+mod edit;
+mod fits;
+mod holding;
+mod line;
+mod mirror;
+mod recorder;
+mod tell;
+#[cfg(test)]
+mod tests;
+mod watcher;
+mod watchers;
 
-/// What contracts see of an object that is told of accepted changes. It has no calls yet.
-pub trait Watcher: Drop {
-    /// How often it has failed. It starts at 0 and never falls.
-    ghost faults: { Self → ℕ };
-}
+pub use audit::Audit;
+pub use edit::Edit;
+pub use mirror::Mirror;
+pub use recorder::Recorder;
+pub use std::alloc::AllocError as NoMemory;
+pub use tell::tell_all;
+pub use watcher::{Told, Watcher};
+pub use watchers::Watchers;

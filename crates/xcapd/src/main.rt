@@ -1,12 +1,13 @@
-//! The program `xcapd`: it makes the real streams and sockets, runs the command that its words spell, and ends with the
-//! status of that run. What it promises is what `run` promises; it adds nothing of its own.
+//! The program `xcapd`: it makes the real streams and sockets and an audit of changes on the stream for errors, runs the
+//! command that its words spell, and ends with the status of that run. What it promises is what `run` promises; it adds
+//! nothing of its own.
 //! RFC 4825 is the standard that its commands follow.
 #![tactic(auto)]
 
 use std::process::ExitCode;
 use std::rt::Env;
 use std::{env, io};
-use watch_port::Watcher;
+use watch_port::{Audit, Watcher};
 use xcap_app::run;
 use xcap_io::{StdSink, StdSource, TcpPeer, TcpPort};
 
@@ -35,6 +36,8 @@ fn main(rt: HostRuntime) -> io::Result<ExitCode> {
     let mut output = StdSink::new(rt.stdout());
     let mut errors = StdSink::new(rt.stderr());
     let mut watchers: Vec<Box<dyn Watcher>> = Vec::new(alloc);
+    let audit = Audit::new(alloc, StdSink::new(rt.stderr()));
+    watchers.push(Box::new(alloc, audit)?)?;
     let status = run(
         alloc,
         &words,

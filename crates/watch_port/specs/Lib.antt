@@ -1,0 +1,7 @@
+pub mod Held
+pub mod Telling
+pub mod Answers
+pub mod Mirrors
+pub mod Lines
+pub mod Audits
+pub mod Rounds
