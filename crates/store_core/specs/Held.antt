@@ -1,0 +1,26 @@
+-- What a store holds of a state: of each document the tree and tag that it has now, and the notes that are retained.
+use Rattle.std.specs.Prelude.{◌≡◌, ℕ, List, map}
+use Rattle.xml_tree.specs.Tree.{Tree}
+use Rattle.xcap_uri.specs.declared.doc_id.DocId.{DocId}
+use Rattle.patch_words.specs.Notes.{Note}
+use Rattle.store_core.specs.State.{Document, State, notes, retained}
+
+-- a document as a store holds it
+pub record Held : Type 0 where
+  pub id : DocId
+  pub tag : ℕ
+  pub tree : Tree
+  pub notes : List Note
+
+-- what a store holds: the documents in the order of their creation, and the next number
+pub record Content : Type 0 where
+  pub documents : List Held
+  pub next : ℕ
+
+abbrev pub held_of : Document → Held
+held_of d = record { id = d.id; tag = d.now.tag; tree = d.now.tree; notes = retained (notes d) }
+
+-- the store stands for the state
+pub record Stands (store : Content) (state : State) : Type 0 where
+  pub documents : store.documents ≡ map held_of state.documents
+  pub next : store.next ≡ state.next

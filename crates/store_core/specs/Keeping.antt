@@ -1,0 +1,92 @@
+-- What a machine's state always keeps to, in every version of every document.
+use Rattle.std.specs.Prelude.{◌≡◌, ◌≢◌, ℕ, ◌<◌, ◌≤◌, List, [], ◌∷◌, length, map, sum_by, flat_map, Option, None, Some}
+use Rattle.std.specs.List.{AllByRecursion}
+use Rattle.xml_tree.specs.Tree.{Tree, height}
+use Rattle.xml_tree.specs.Proper.{ProperIn}
+use Rattle.usage_docs.specs.Clashes.{Unique}
+use Rattle.usage_docs.specs.Forms.{Constraints}
+use Rattle.usage_docs.specs.Services.{document_len, service_uris}
+use Rattle.usage_docs.specs.Validity.{Schema}
+use Rattle.usage_docs.specs.declared.rows.Usage.{Usage}
+use Rattle.usage_docs.specs.declared.rows.Usage.TheVariants as usages
+use Rattle.xcap_uri.specs.Ids.{IsReadable}
+use Rattle.xcap_uri.specs.declared.doc_id.Auid.{Auid}
+use Rattle.xcap_uri.specs.declared.doc_id.Auid.TheVariants.{ResourceLists, RlsServices, XcapCaps}
+use Rattle.xcap_uri.specs.declared.doc_id.Home.{Home}
+use Rattle.xcap_uri.specs.declared.doc_id.Home.TheVariants.{Global, User}
+use Rattle.xcap_uri.specs.declared.doc_id.DocId.{DocId}
+use Rattle.edit_ops.specs.Changes.{Fits, edited}
+use Rattle.patch_words.specs.Notes.{Note, note_of}
+use Rattle.store_core.specs.State.{Document, State, Version, versions}
+
+-- ---- names
+
+-- no two items are one
+abbrev pub AreApart : {A : Type 0} → List A → Type 0
+AreApart [] = Unit {0}
+AreApart (x ∷ xs) = AllByRecursion (λ y. x ≢ y) xs × AreApart xs
+
+-- the usage whose documents are stored
+abbrev pub usage_of : Auid → Option Usage
+usage_of ResourceLists = Some usages.ResourceLists
+usage_of RlsServices = Some usages.RlsServices
+usage_of XcapCaps = None
+
+abbrev pub IsUsers : Home → Type 0
+IsUsers Global = ⊥
+IsUsers (User xui) = Unit {0}
+
+-- ---- trees
+
+-- a tree that may be a document of the usage
+pub record IsSound (usage : Usage) (t : Tree) : Type 0 where
+  pub proper : ProperIn [] t
+  pub low : height t ≤ 64
+  pub valid : Schema usage t
+  pub formed : Constraints usage t
+  pub unique : Unique usage t
+  pub short : document_len t ≤ 262144
+
+abbrev pub IsSoundFor : Option Usage → Tree → Type 0
+IsSoundFor None t = ⊥
+IsSoundFor (Some usage) t = IsSound usage t
+
+-- ---- versions, the newest first
+
+-- the first version of a document has no note; each other one is what its note's change, which fits the tree before, makes of that tree,
+-- and its note says so; and its tag is greater
+abbrev pub FollowFrom : Version → List Version → Type 0
+FollowFrom v [] = v.note ≡ None
+FollowFrom v (w ∷ ws) =
+    ((n : Note) × (v.note ≡ Some n) × Fits w.tree n.change × (v.tree ≡ edited w.tree n.change) × (n ≡ note_of w.tag v.tag w.tree n.change)) × (w.tag < v.tag)
+    × FollowFrom w ws
+
+-- ---- documents
+
+pub record IsKept (next : ℕ) (d : Document) : Type 0 where
+  pub readable : IsReadable d.id
+  pub users : IsUsers d.id.home
+  pub sound : AllByRecursion (λ v. IsSoundFor (usage_of d.id.auid) v.tree) (versions d)
+  pub tags : AllByRecursion (λ v. (1 ≤ v.tag) × (v.tag < next)) (versions d)
+  pub follows : FollowFrom d.now d.earlier
+
+-- the service addresses of a document as it is now; the other usage has none
+abbrev pub addresses_in : Auid → Tree → List (List ℕ)
+addresses_in ResourceLists t = []
+addresses_in RlsServices t = service_uris t
+addresses_in XcapCaps t = []
+
+abbrev pub addresses : List Document → List (List ℕ)
+addresses ds = flat_map (λ d. addresses_in d.id.auid d.now.tree) ds
+
+-- ---- the whole state
+
+pub record Kept (state : State) : Type 0 where
+  pub started : 1 ≤ state.next
+  pub documents : AllByRecursion (IsKept state.next) state.documents
+  pub names : AreApart (map (λ d. d.id) state.documents)
+  -- no two versions have one tag, in one document or in two
+  pub tags : AreApart (flat_map (λ d. map (λ v. v.tag) (versions d)) state.documents)
+  pub services : AreApart (addresses state.documents)
+  pub few : length state.documents ≤ 1000
+  pub room : sum_by (λ d. document_len d.now.tree) state.documents ≤ 33554432

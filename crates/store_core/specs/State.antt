@@ -1,0 +1,63 @@
+-- The state of the machine: every document with all its versions. RFC 4825, section 7.11, has each change give a document a new entity tag.
+use Rattle.std.specs.Prelude.{ℕ, Bool, ◌&&◌, nat_le, List, [], ◌∷◌, length, reverse, sum_by, Option, None, Some, if◌then◌else◌}
+use Rattle.std.specs.List.{filter_map}
+use Rattle.xml_tree.specs.Tree.{Tree}
+use Rattle.xcap_uri.specs.declared.doc_id.DocId.{DocId}
+use Rattle.edit_ops.specs.Changes.{edited}
+use Rattle.patch_words.specs.Notes.{Note, note_of}
+use Rattle.patch_words.specs.Operations.{weight}
+
+-- a version: its tag, its tree, and the note of the change that made it from the version before
+pub record Version : Type 0 where
+  pub tag : ℕ
+  pub tree : Tree
+  pub note : Option Note
+
+-- a document: its name, the version that it has now, and those before it, the newest first
+pub record Document : Type 0 where
+  pub id : DocId
+  pub now : Version
+  pub earlier : List Version
+
+-- the documents in the order of their creation, and the number that the next change gets
+pub record State : Type 0 where
+  pub documents : List Document
+  pub next : ℕ
+
+-- the state without documents
+abbrev pub first_state : ℕ → State
+first_state first = record { documents = []; next = first }
+
+-- all versions of a document, the newest first
+abbrev pub versions : Document → List Version
+versions d = d.now ∷ d.earlier
+
+-- its notes, the oldest first
+abbrev pub notes : Document → List Note
+notes d = reverse (filter_map (λ v. v.note) (versions d))
+
+-- ---- what is retained of the notes, for subscribers that hold an older version
+
+-- at most 64 items, which weigh at most 65,536 together
+abbrev pub is_small : {A : Type 0} → (A → ℕ) → List A → Bool
+is_small weight xs = nat_le (length xs) 64 && nat_le (sum_by weight xs) 65536
+
+-- the longest end of the list that is small; its last item is in it whatever that weighs
+abbrev pub small_end : {A : Type 0} → (A → ℕ) → List A → List A
+small_end weight [] = []
+small_end weight (x ∷ []) = x ∷ []
+small_end weight (x ∷ y ∷ xs) = if is_small weight (x ∷ y ∷ xs) then x ∷ y ∷ xs else small_end weight (y ∷ xs)
+
+-- a note weighs as much as its operation's text has bytes
+abbrev pub retained : List Note → List Note
+retained ns = small_end weight ns
+
+-- ---- a change of a document
+
+-- the document after a change of its tree
+abbrev pub renewed : ℕ → Document → Note → Document
+renewed tag d n = record { id = d.id; now = record { tag = tag; tree = edited d.now.tree n.change; note = Some n }; earlier = versions d }
+
+-- a document that was just made
+abbrev pub created : DocId → ℕ → Tree → Document
+created id tag root = record { id = id; now = record { tag = tag; tree = root; note = None }; earlier = [] }
