@@ -1,0 +1,10 @@
+pub mod Accepted
+pub mod Admitted
+pub mod Admits
+pub mod Apart
+pub mod Ends
+pub mod Keeps
+pub mod KeptAfter
+pub mod SameNames
+pub mod Services
+pub mod Standing

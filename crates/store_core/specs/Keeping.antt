@@ -14,7 +14,6 @@ use Rattle.xcap_uri.specs.declared.doc_id.Auid.{Auid}
 use Rattle.xcap_uri.specs.declared.doc_id.Auid.TheVariants.{ResourceLists, RlsServices, XcapCaps}
 use Rattle.xcap_uri.specs.declared.doc_id.Home.{Home}
 use Rattle.xcap_uri.specs.declared.doc_id.Home.TheVariants.{Global, User}
-use Rattle.xcap_uri.specs.declared.doc_id.DocId.{DocId}
 use Rattle.edit_ops.specs.Changes.{Fits, edited}
 use Rattle.patch_words.specs.Notes.{Note, note_of}
 use Rattle.store_core.specs.State.{Document, State, Version, versions}

@@ -4,7 +4,7 @@ use Rattle.std.specs.List.{filter_map}
 use Rattle.xml_tree.specs.Tree.{Tree}
 use Rattle.xcap_uri.specs.declared.doc_id.DocId.{DocId}
 use Rattle.edit_ops.specs.Changes.{edited}
-use Rattle.patch_words.specs.Notes.{Note, note_of}
+use Rattle.patch_words.specs.Notes.{Note}
 use Rattle.patch_words.specs.Operations.{weight}
 
 -- a version: its tag, its tree, and the note of the change that made it from the version before

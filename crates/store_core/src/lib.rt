@@ -1,4 +1,14 @@
-//! The words of the store: the machine's state with every version of every document, what a state keeps to, and what a store holds of it. No code.
-//! Promises upward one meaning of the state that the machine steps through and that the store stands for.
-//! The standards are RFC 4825, section 7.11 (entity tags), and RFC 4826, sections 3.2 and 4.2 (what a document has to meet).
+//! The documents that a server keeps, each with its tag and the notes of its last changes.
+//! Promises upward one meaning of a machine's state, of what a state keeps to, of what a store holds of it, and of what each change makes of both.
+//! The standards are RFC 4825, sections 7 and 8, RFC 4826 and RFC 5874; the limits are the project's own.
 #![tactic(auto)]
+
+mod laws;
+mod refusal;
+
+pub use laws::{
+    changes_that_are_made_keep_store_and_state, changes_that_are_made_suit_the_state,
+    changes_that_suit_the_state_are_made, states_are_kept_after_each_change,
+    stores_stand_after_each_change, the_first_state_is_kept,
+};
+pub use refusal::StoreRefusal;

@@ -1,0 +1,28 @@
+-- After a change that the store makes it stands for the next state, which is kept.
+use Rattle.std.proofs.Common.{◌≡◌, Option, None, Some, Result, Ok, Err, ap, subst}
+use Rattle.xcap_uri.specs.declared.doc_id.DocId.{DocId}
+use Rattle.edit_ops.specs.declared.change.Change.{Change}
+use Rattle.patch_words.specs.Notes.{Note}
+use Rattle.store_core.specs.declared.refusal.StoreRefusal.{StoreRefusal}
+use Rattle.store_core.specs.State.{State}
+use Rattle.store_core.specs.Held.{Content, Stands}
+use Rattle.store_core.specs.Keeping.{Kept}
+use Rattle.store_core.specs.Asking.{Asks}
+use Rattle.store_core.specs.Changing.{act_of, after, against, answered, changing, content_after, document_in, held_name, note_for}
+use Rattle.store_core.proofs.Accepted.{accepted-suits}
+use Rattle.store_core.proofs.KeptAfter.{kept-after}
+use Rattle.store_core.proofs.Standing.{stands-after}
+
+abbrev holding : Content → Result (Note × Content) StoreRefusal → Content
+holding c (Ok x) = x.1
+holding c (Err refusal) = c
+
+told-next : (o : Option StoreRefusal) (note told : Note) (c next : Content) → answered o note c ≡ Ok (told, next) → c ≡ next
+told-next None note told c next h = ap (holding c) h
+told-next (Some refusal) note told c next h = cc
+
+pub keeps : (c : Content) (m : State) (id : DocId) (change : Change) (note : Note) (next : Content) → Stands c m → Kept m → Asks c id change → changing c id change ≡ Ok (note, next) → Stands next (after m id change) × Kept (after m id change)
+keeps c m id change note next s k a h =
+    let found = document_in held_name c.documents id in
+    let e : content_after c id change ≡ next = told-next (against c id change found (act_of change)) (note_for c id change found) note (content_after c id change) next h in
+    (subst (λ (d : Content). Stands d (after m id change)) e (stands-after c m id change s), kept-after m id change k (accepted-suits c m id change (note, next) s k a h))

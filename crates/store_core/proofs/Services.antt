@@ -1,0 +1,137 @@
+-- The service addresses of documents: those of one document are apart, and those of two that the store's test lets pass.
+use Rattle.std.proofs.Common.{◌≡◌, ◌≢◌, ℕ, zero, suc, ◌<◌, ◌+◌, Bool, true, false, cond, ◌||◌, List, [], ◌∷◌, ◌++◌, Option, None, Some, slice_get, option_map, option_and_then, codes, refl, sym, ap, ◌∙◌, arith}
+use Rattle.std.proofs.lemmas.Iterator.Adapters.{position_from-zero}
+use Rattle.std.proofs.lemmas.Option.{same_Some}
+use Rattle.std.specs.List.{AllByRecursion, filter_map, list_any, position, position_from}
+use Rattle.std.specs.Str.{bytes_eq}
+use Rattle.std.proofs.lemmas.Slice.Eq.{bytes_eq-Decides}
+use Rattle.xml_tree.specs.Tree.{Tree, kids_of}
+use Rattle.xml_tree.specs.declared.names.Attr.{Attr}
+use Rattle.usage_docs.specs.Clashes.{Unique, mark, mark_of, inside}
+use Rattle.usage_docs.specs.Keys.{key_of, key_value, value_of}
+use Rattle.usage_docs.specs.Rows.{Scope, child_named, kind_of, own_space, root_kind, space_of}
+use Rattle.usage_docs.specs.Services.{service_uri, service_uris}
+use Rattle.usage_docs.specs.declared.keys.Clash.{Clash}
+use Rattle.usage_docs.specs.declared.rows.Kind.{Kind}
+use Rattle.usage_docs.specs.declared.rows.Kind.TheVariants.{RlsServices, Service}
+use Rattle.usage_docs.specs.declared.rows.Key.TheVariants.{Uri}
+use Rattle.usage_docs.specs.declared.rows.Usage.TheVariants as usages
+use Rattle.xcap_uri.specs.declared.doc_id.Auid.{Auid}
+use Rattle.xcap_uri.specs.declared.doc_id.Auid.TheVariants.{ResourceLists, RlsServices as RlsUsage, XcapCaps}
+use Rattle.store_core.specs.Keeping.{AreApart, addresses_in, usage_of}
+use Rattle.store_core.specs.Asking.{MayBeFor}
+use Rattle.store_core.specs.Changing.{taken}
+use Rattle.store_core.proofs.Apart.{each-append, each-left, each-right, apart-put}
+
+-- ---- lists
+
+module _ {X : Type 0} where
+  pub apart-mix : (xs ys zs : List X) → AreApart (xs ++ zs) → AreApart ys → AllByRecursion (λ y. AllByRecursion (λ o. y ≢ o) (xs ++ zs)) ys → AreApart (xs ++ (ys ++ zs))
+  apart-mix xs [] zs a b h = a
+  apart-mix xs (y ∷ ys) zs a b h =
+      apart-put xs (ys ++ zs) y (apart-mix xs ys zs a b.1 h.1)
+      (each-append (λ o. y ≢ o) xs (ys ++ zs) (each-left (λ o. y ≢ o) xs zs h.0) (each-append (λ o. y ≢ o) ys zs b.0 (each-right (λ o. y ≢ o) xs zs h.0)))
+
+module _ {X : Type 0} (p : X → Bool) where
+  none-step : (n : ℕ) (x : X) (xs : List X) (b : Bool) → p x ≡ b → cond b (Some n) (position_from p (n + 1) xs) ≡ None → (position_from p (n + 1) xs ≡ None → AllByRecursion (λ y. p y ≡ false) xs) → AllByRecursion (λ y. p y ≡ false) (x ∷ xs)
+  none-step n x xs true e h by = cc
+  none-step n x xs false e h by = (e, by h)
+
+  pub none-at : (n : ℕ) (xs : List X) → position_from p n xs ≡ None → AllByRecursion (λ y. p y ≡ false) xs
+  none-at n [] h = tt
+  none-at n (x ∷ xs) h = none-step n x xs (p x) refl h (none-at (n + 1) xs)
+
+  any-step : (x : X) (xs : List X) (b : Bool) → p x ≡ b → (b || list_any p xs) ≡ false → (list_any p xs ≡ false → AllByRecursion (λ y. p y ≡ false) xs) → AllByRecursion (λ y. p y ≡ false) (x ∷ xs)
+  any-step x xs true e h by = cc
+  any-step x xs false e h by = (e, by h)
+
+  pub not-any : (xs : List X) → list_any p xs ≡ false → AllByRecursion (λ y. p y ≡ false) xs
+  not-any [] h = tt
+  not-any (x ∷ xs) h = any-step x xs (p x) refl h (not-any xs)
+
+other-bytes : (o uri : List ℕ) → bytes_eq o uri ≡ false → uri ≢ o
+other-bytes o uri h e = let k : bytes_eq o uri ≡ true = (bytes_eq-Decides o uri).1 (sym e) in cc
+
+others-apart : (uri : List ℕ) (others : List (List ℕ)) → AllByRecursion (λ o. bytes_eq o uri ≡ false) others → AllByRecursion (λ o. uri ≢ o) others
+others-apart uri [] h = tt
+others-apart uri (o ∷ os) h = (other-bytes o uri h.0, others-apart uri os h.1)
+
+own-apart-others : (others own : List (List ℕ)) → AllByRecursion (λ uri. list_any (λ o. bytes_eq o uri) others ≡ false) own → AllByRecursion (λ uri. AllByRecursion (λ o. uri ≢ o) others) own
+own-apart-others others [] h = tt
+own-apart-others others (uri ∷ uris) h = (others-apart uri others (not-any (λ o. bytes_eq o uri) others h.0), own-apart-others others uris h.1)
+
+pub none-mapped : {X Y : Type 0} (f : X → Y) (o : Option X) → option_map f o ≡ None → o ≡ None
+none-mapped f None h = refl
+none-mapped f (Some x) h = cc
+
+-- where the test finds none, no address of the document is one of the others
+pub none-taken : (others own : List (List ℕ)) → taken others own ≡ None → AllByRecursion (λ uri. AllByRecursion (λ o. uri ≢ o) others) own
+none-taken others own h =
+    let clash : ℕ → Clash = λ i. record { path = i ∷ []; key = Uri } in
+    let test : List ℕ → Bool = λ uri. list_any (λ o. bytes_eq o uri) others in
+    own-apart-others others own (none-at test 0 own (sym (position_from-zero test own) ∙ none-mapped clash (position test own) h))
+
+-- ---- the addresses of one document
+
+module _ {X Y : Type 0} (f : X → Option Y) where
+  abbrev At : List X → ℕ → Y → Type 0
+  At xs i u = option_and_then f (slice_get xs i) ≡ Some u
+
+  behind-step : (u : Y) (x : X) (xs : List X) (o : Option Y) → f x ≡ o → ((j : ℕ) → At (x ∷ xs) j u → ⊥) → AllByRecursion (λ y. u ≢ y) (filter_map f xs) → AllByRecursion (λ y. u ≢ y) (filter_map f (x ∷ xs))
+  behind-step u x xs None e h by = rw e by
+  behind-step u x xs (Some v) e h by = rw e ((λ same. h zero (e ∙ ap Some (sym same))), by)
+
+  behind-one : (u : Y) (xs : List X) → ((j : ℕ) → At xs j u → ⊥) → AllByRecursion (λ y. u ≢ y) (filter_map f xs)
+  behind-one u [] h = tt
+  behind-one u (x ∷ xs) h = behind-step u x xs (f x) refl h (behind-one u xs (λ j g. h (suc j) g))
+
+  found-step : (x : X) (xs : List X) (o : Option Y) → f x ≡ o → ((i j : ℕ) (u : Y) → i < j → At (x ∷ xs) i u → At (x ∷ xs) j u → ⊥) → AreApart (filter_map f xs) → AreApart (filter_map f (x ∷ xs))
+  found-step x xs None e h by = rw e by
+  found-step x xs (Some u) e h by = rw e (behind-one u xs (λ j g. h zero (suc j) u (omega arith) e g), by)
+
+  pub found-apart : (xs : List X) → ((i j : ℕ) (u : Y) → i < j → At xs i u → At xs j u → ⊥) → AreApart (filter_map f xs)
+  found-apart [] h = tt
+  found-apart (x ∷ xs) h = found-step x xs (f x) refl h (found-apart xs (λ i j u l a b. h (suc i) (suc j) u (omega (arith, l)) a b))
+
+child-of-root : (b : Bool) → (kind : Kind) → cond b (Some Service) None ≡ Some kind → kind ≡ Service
+child-of-root true kind h = sym (same_Some Service kind h)
+child-of-root false kind h = cc
+
+of-space : (b s : Bool) (kind : Kind) → cond b (cond s (Some Service) None) None ≡ Some kind → kind ≡ Service
+of-space true s kind h = child-of-root s kind h
+of-space false s kind h = cc
+
+kind-of-child : (c : Scope) (e : Tree) (kind : Kind) → kind_of RlsServices (inside c e) e.name ≡ Some kind → kind ≡ Service
+unfolding kind_of child_named
+kind-of-child c e kind h = of-space (bytes_eq (space_of (inside c e) e.name) (own_space RlsServices)) (bytes_eq e.name.local (codes "service")) kind h
+
+key-of-service : (ats : List Attr) → key_value Service ats ≡ value_of Uri ats
+unfolding key_value key_of
+key-of-service ats = refl
+
+marked-step : (o : Option Kind) (ats : List Attr) (u : List ℕ) → ((kind : Kind) → o ≡ Some kind → kind ≡ Service) → option_and_then (λ _. value_of Uri ats) o ≡ Some u → option_and_then (λ kind. option_map (mark kind) (key_value kind ats)) o ≡ Some (mark Service u)
+marked-step None ats u k h = cc
+marked-step (Some kind) ats u k h =
+    ap (λ (x : Kind). option_map (mark x) (key_value x ats)) (k kind refl) ∙ ap (λ (v : Option (List ℕ)). option_map (mark Service) v) (key-of-service ats ∙ h)
+
+service-mark : (c : Scope) (e : Tree) (u : List ℕ) → service_uri c e ≡ Some u → mark_of RlsServices c e ≡ Some (mark Service u)
+unfolding service_uri mark_of
+service-mark c e u h = marked-step (kind_of RlsServices (inside c e) e.name) e.attrs u (kind-of-child c e) h
+
+mark-there : (c : Scope) (o : Option Tree) (u : List ℕ) → option_and_then (service_uri c) o ≡ Some u → option_and_then (mark_of RlsServices c) o ≡ Some (mark Service u)
+mark-there c None u h = cc
+mark-there c (Some e) u h = service-mark c e u h
+
+services-apart : (t : Tree) → Unique usages.RlsServices t → AreApart (service_uris t)
+unfolding root_kind key_of
+services-apart t unique =
+    let c : Scope = t.decls ∷ [] in
+    found-apart (service_uri c) (kids_of t) (λ i j u l a b.
+    unique (j ∷ []) Uri
+    (record { shared = mark Service u; earlier = i; comes_first = l; that = mark-there c (slice_get (kids_of t) i) u a; this = mark-there c (slice_get (kids_of t) j) u b; by_key = refl }))
+
+-- the addresses of a document are apart
+pub own-apart : (auid : Auid) (t : Tree) → MayBeFor (usage_of auid) t → AreApart (addresses_in auid t)
+own-apart ResourceLists t h = tt
+own-apart RlsUsage t h = services-apart t h.unique
+own-apart XcapCaps t h = tt

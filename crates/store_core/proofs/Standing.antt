@@ -1,0 +1,77 @@
+-- What a store holds of a state follows a change of the state.
+use Rattle.std.proofs.Common.{◌≡◌, ℕ, ◌+◌, Bool, true, false, not, cond, List, [], ◌∷◌, ◌++◌, map, filter, refl, sym, ap, ◌∙◌}
+use Rattle.std.proofs.lemmas.List.{map-append, reverse-append}
+use Rattle.std.specs.List.{filter_map}
+use Rattle.xcap_uri.specs.declared.doc_id.DocId.{DocId}
+use Rattle.xcap_uri.specs.Same.{same_id}
+use Rattle.edit_ops.specs.Changes.{edited}
+use Rattle.edit_ops.specs.declared.change.Change.{Change}
+use Rattle.patch_words.specs.Notes.{Note, note_of}
+use Rattle.patch_words.specs.Operations.{weight}
+use Rattle.store_core.specs.State.{Document, State, versions, notes, retained, renewed, created}
+use Rattle.store_core.specs.Held.{Content, Held, Stands, held_of}
+use Rattle.store_core.specs.Changing.{Act, Makes, Edits, Removes, act_of, after, after_act, content_after, content_after_act, held_after}
+use Rattle.store_core.proofs.Ends.{small_end-push}
+
+-- ---- lists of documents
+
+module _ {D H : Type 0} (h : D → H) (p : D → Bool) (q : H → Bool) (same : (d : D) → q (h d) ≡ p d) where
+  map-one : (f : D → D) (g : H → H) → ((d : D) → h (f d) ≡ g (h d)) → (d : D) (b : Bool) → p d ≡ b → h (cond (p d) (f d) d) ≡ cond (q (h d)) (g (h d)) (h d)
+  map-one f g each d true e = rw (same d, e) (each d)
+  map-one f g each d false e = rw (same d, e) refl
+
+  pub map-exchanged : (f : D → D) (g : H → H) → ((d : D) → h (f d) ≡ g (h d)) → (ds : List D) → map h (map (λ d. cond (p d) (f d) d) ds) ≡ map (λ e. cond (q e) (g e) e) (map h ds)
+  map-exchanged f g each [] = refl
+  map-exchanged f g each (d ∷ ds) =
+      ap (λ e. e ∷ map h (map (λ x. cond (p x) (f x) x) ds)) (map-one f g each d (p d) refl)
+      ∙ ap (λ es. cond (q (h d)) (g (h d)) (h d) ∷ es) (map-exchanged f g each ds)
+
+  filter-one : (d : D) (ds : List D) (es : List H) (b : Bool) → p d ≡ b → map h ds ≡ es → map h (cond (p d) (d ∷ ds) ds) ≡ cond (q (h d)) (h d ∷ es) es
+  filter-one d ds es true e by = rw (same d, e) (ap (λ xs. h d ∷ xs) by)
+  filter-one d ds es false e by = rw (same d, e) by
+
+  pub map-filtered : (ds : List D) → map h (filter p ds) ≡ filter q (map h ds)
+  map-filtered [] = refl
+  map-filtered (d ∷ ds) = filter-one d (filter p ds) (filter q (map h ds)) (p d) refl (map-filtered ds)
+
+-- ---- one document
+
+notes-renewed : (number : ℕ) (d : Document) (n : Note) → notes (renewed number d n) ≡ notes d ++ n ∷ []
+notes-renewed number d n = reverse-append (n ∷ []) (filter_map (λ v. v.note) (versions d))
+
+-- what is held of a document after an edit
+held-renewed : (number : ℕ) (change : Change) (d : Document) → held_of (renewed number d (note_of d.now.tag number d.now.tree change)) ≡ held_after number change (held_of d)
+held-renewed number change d =
+    let n = note_of d.now.tag number d.now.tree change in
+    let kept : retained (notes (renewed number d n)) ≡ retained (retained (notes d) ++ n ∷ []) = ap retained (notes-renewed number d n) ∙ sym (small_end-push weight (notes d) n) in
+    ap (λ (ns : List Note). let made : Held = record { id = d.id; tag = number; tree = edited d.now.tree change; notes = ns } in made) kept
+
+-- ---- all documents
+
+stood : (c : Content) (m : State) (id : DocId) (change : Change) (act : Act) → Stands c m → Stands (content_after_act c id change act) (after_act m id change act)
+stood c m id change (Makes root) s =
+    record {
+      documents =
+          ap (λ (n : ℕ). c.documents ++ held_of (created id n root) ∷ []) s.next
+          ∙ ap (λ (hs : List Held). hs ++ held_of (created id m.next root) ∷ []) s.documents
+          ∙ sym (map-append held_of m.documents (created id m.next root ∷ []));
+      next = ap (λ n. n + 1) s.next;
+    }
+stood c m id change Edits s =
+    record {
+      documents =
+          ap (λ (n : ℕ). map (λ (h : Held). cond (same_id id h.id) (held_after n change h) h) c.documents) s.next
+          ∙ ap (λ (hs : List Held). map (λ (h : Held). cond (same_id id h.id) (held_after m.next change h) h) hs) s.documents
+          ∙ sym (map-exchanged held_of (λ (d : Document). same_id id d.id) (λ (h : Held). same_id id h.id) (λ d. refl) (λ (d : Document). renewed m.next d (note_of d.now.tag m.next d.now.tree change)) (held_after m.next change) (held-renewed m.next change) m.documents);
+      next = ap (λ n. n + 1) s.next;
+    }
+stood c m id change Removes s =
+    record {
+      documents =
+          ap (λ (hs : List Held). filter (λ (h : Held). not (same_id id h.id)) hs) s.documents
+          ∙ sym (map-filtered held_of (λ (d : Document). not (same_id id d.id)) (λ (h : Held). not (same_id id h.id)) (λ d. refl) m.documents);
+      next = ap (λ n. n + 1) s.next;
+    }
+
+pub stands-after : (c : Content) (m : State) (id : DocId) (change : Change) → Stands c m → Stands (content_after c id change) (after m id change)
+stands-after c m id change s = stood c m id change (act_of change) s

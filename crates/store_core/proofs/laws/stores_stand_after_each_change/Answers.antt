@@ -1,0 +1,5 @@
+use Rattle.store_core.proofs.Standing.{stands-after}
+use Rattle.store_core.proofs.laws.stores_stand_after_each_change.Goals as goal
+
+pub returns : goal.returns
+returns c = stands-after

@@ -1,0 +1,36 @@
+-- What a caller of the store has to know of the change that it asks for: a document that is made isn't held yet, another change is one of a
+-- document that is held, and what is left may be a document. Lengths, counts and service addresses are for the store to find.
+use Rattle.std.specs.Prelude.{◌≡◌, ◌≤◌, [], Option, None, Some, IsSome, IsSomeAnd}
+use Rattle.xml_tree.specs.Tree.{Tree, height}
+use Rattle.xml_tree.specs.Proper.{ProperIn}
+use Rattle.usage_docs.specs.Clashes.{Unique}
+use Rattle.usage_docs.specs.Forms.{Constraints}
+use Rattle.usage_docs.specs.Validity.{Schema}
+use Rattle.usage_docs.specs.declared.rows.Usage.{Usage}
+use Rattle.xcap_uri.specs.Ids.{IsReadable}
+use Rattle.xcap_uri.specs.declared.doc_id.DocId.{DocId}
+use Rattle.edit_ops.specs.Changes.{Fits, edited}
+use Rattle.edit_ops.specs.declared.change.Change.{Change}
+use Rattle.store_core.specs.Held.{Content}
+use Rattle.store_core.specs.Keeping.{IsUsers, usage_of}
+use Rattle.store_core.specs.Changing.{Act, Makes, Edits, Removes, act_of, document_in, held_name}
+
+-- a tree that may be a document of the usage, if it isn't too long
+pub record MayBe (usage : Usage) (t : Tree) : Type 0 where
+  pub proper : ProperIn [] t
+  pub low : height t ≤ 64
+  pub valid : Schema usage t
+  pub formed : Constraints usage t
+  pub unique : Unique usage t
+
+abbrev pub MayBeFor : Option Usage → Tree → Type 0
+MayBeFor None t = ⊥
+MayBeFor (Some usage) t = MayBe usage t
+
+abbrev pub AsksAct : Content → DocId → Change → Act → Type 0
+AsksAct c id change (Makes root) = (document_in held_name c.documents id ≡ None) × IsReadable id × IsUsers id.home × MayBeFor (usage_of id.auid) root
+AsksAct c id change Edits = IsSomeAnd (document_in held_name c.documents id) (λ h. Fits h.tree change × MayBeFor (usage_of h.id.auid) (edited h.tree change))
+AsksAct c id change Removes = IsSome (document_in held_name c.documents id)
+
+abbrev pub Asks : Content → DocId → Change → Type 0
+Asks c id change = AsksAct c id change (act_of change)

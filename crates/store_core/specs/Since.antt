@@ -1,0 +1,28 @@
+-- What a store tells of a document since a version of it. RFC 5874, section 3: changes between two entity tags.
+use Rattle.std.specs.Prelude.{ℕ, ◌==◌, List, [], ◌∷◌, Option, None, Some, if◌then◌else◌}
+use Rattle.xcap_uri.specs.declared.doc_id.DocId.{DocId}
+use Rattle.patch_words.specs.Notes.{Note}
+use Rattle.store_core.specs.Held.{Content, Held}
+use Rattle.store_core.specs.Changing.{document_in, held_name}
+
+-- the document isn't held; the tag is neither its own nor the one before a note that is kept; or the notes from that tag on
+pub data Story : Type 0 where
+  Gone : Story
+  Unknown : Story
+  Told : List Note → Story
+
+-- the notes from the one on that goes on from this tag
+abbrev pub notes_from : ℕ → List Note → Option (List Note)
+notes_from tag [] = None
+notes_from tag (n ∷ ns) = if n.previous == tag then Some (n ∷ ns) else notes_from tag ns
+
+abbrev pub story_of : Option (List Note) → Story
+story_of None = Unknown
+story_of (Some ns) = Told ns
+
+abbrev pub held_since : ℕ → Option Held → Story
+held_since tag None = Gone
+held_since tag (Some h) = if h.tag == tag then Told [] else story_of (notes_from tag h.notes)
+
+abbrev pub since : Content → DocId → ℕ → Story
+since c id tag = held_since tag (document_in held_name c.documents id)
