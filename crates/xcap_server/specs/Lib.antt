@@ -1,0 +1,5 @@
+pub mod Fixed
+pub mod Endings
+pub mod Turns
+pub mod Connections
+pub mod Ports
