@@ -1,28 +1,31 @@
--- What the code keeps of the names of a tag: the prefix that a declaration declares, the expanded name of an attribute.
-use Rattle.std.specs.Prelude.{◌≡◌, Bool, true, false, ◌&&◌, List, [], ◌∷◌, option_map, chars}
+-- What the code keeps of the names of a tag: the prefix that a declaration declares, the expanded name of an attribute. Namespaces in XML 1.0, section 6.3.
+use Rattle.std.specs.Prelude.{◌≡◌, ℕ, Bool, true, false, ◌&&◌, not, List, Option, option_map, encode_utf8_all}
 use Rattle.std.specs.Str.{bytes_eq}
+use Rattle.std.specs.List.{list_any}
+use Rattle.std.specs.BTreeSet.{BTreeSet, contains}
 use Rattle.xml_tree.specs.Expanded.{attr_name, same_uri}
 use Rattle.xml_tree.specs.declared.names.Decl.{Decl}
+use Rattle.xml_tree.specs.declared.names.Name.{Name}
 use Rattle.tree_text.specs.declared.meanings.Meaning.{Meaning}
 use Rattle.tree_text.specs.declared.meanings.Meaning.TheVariants.{Declared, Named}
 use Rattle.tree_text.specs.declared.said.Said.{Said}
+use Rattle.tree_text.specs.contracts.meanings.MeaningOrd.TheImpl.{cmp-value}
 use Rattle.tree_text.specs.Names.{declares, decl_of}
+
+-- the namespace of an attribute of this name, encoded
+abbrev pub uri_bytes : List (List Decl) → Name → Option (List ℕ)
+uri_bytes here n = option_map encode_utf8_all (attr_name here n).uri
 
 -- this is what one says
 abbrev pub Means : List (List Decl) → Said → Meaning → Type 0
 Means here s (Declared prefix) = (declares s.name ≡ true) × (prefix.now ≡ (decl_of s).prefix)
-Means here s (Named uri local) = (declares s.name ≡ false) × (option_map (λ u. chars u.now) uri ≡ (attr_name here s.name).uri) × (local.now ≡ s.name.local)
+Means here s (Named local uri) = (declares s.name ≡ false) × (local.now ≡ s.name.local) × (option_map (λ u. u.now) uri ≡ uri_bytes here s.name)
 
--- these are what these say, one by one
-abbrev pub AllMean : List (List Decl) → List Said → List Meaning → Type 0
-AllMean here [] [] = Unit {0}
-AllMean here [] (m ∷ ms) = ⊥
-AllMean here (s ∷ ss) [] = ⊥
-AllMean here (s ∷ ss) (m ∷ ms) = Means here s m × AllMean here ss ms
+-- whether one says this
+abbrev pub says : List (List Decl) → Meaning → Said → Bool
+says here (Declared prefix) s = declares s.name && bytes_eq (decl_of s).prefix prefix.now
+says here (Named local uri) s = not (declares s.name) && (same_uri (uri_bytes here s.name) (option_map (λ u. u.now) uri) && bytes_eq s.name.local local.now)
 
--- whether two say the same
-abbrev pub same_meaning : Meaning → Meaning → Bool
-same_meaning (Declared p) (Declared q) = bytes_eq p.now q.now
-same_meaning (Declared p) (Named v m) = false
-same_meaning (Named u l) (Declared q) = false
-same_meaning (Named u l) (Named v m) = bytes_eq l.now m.now && same_uri (option_map (λ x. chars x.now) u) (option_map (λ x. chars x.now) v)
+-- a set holds exactly what these say
+abbrev pub Holds : List (List Decl) → List Said → BTreeSet Meaning → Type 0
+Holds here es seen = (m : Meaning) → contains cmp-value.it seen m ≡ list_any (says here m) es

@@ -1,19 +1,20 @@
 //! Names in tags: declarations and attributes, and the first of a tag's names that is wrong.
-ghost use Rattle.std.specs.Prelude.{◌≡◌, ◌+◌, ◌<◌, ◌^◌, List, [], ◌++◌, ◌∷◌, IfOk, not, if◌then◌else◌};
+ghost use Rattle.std.specs.Prelude.{◌≡◌, ◌+◌, ◌<◌, ◌^◌, List, [], ◌++◌, ◌∷◌, None, IfOk, OnOk, not, if◌then◌else◌};
 ghost use Rattle.std.specs.Str.{bytes_eq};
 ghost use Rattle.xml_tree.specs.Scopes.{xml_prefix, xmlns_prefix, xml_uri, xmlns_uri};
 ghost use Rattle.xml_tree.specs.Proper.{may_stand};
-ghost use Rattle.tree_text.specs.Names.{declares, decl_of, decls_of, attr_of, attrs_of, is_unbound, is_misnamed, wrong_said, widths, opening, first_wrong, first_of_tag};
-ghost use Rattle.tree_text.specs.Meanings.{AllMean, Means};
+ghost use Rattle.tree_text.specs.Names.{declares, decl_of, decls_of, attr_of, attrs_of, is_unbound, is_misnamed, is_repeated, wrong_said, widths, opening, first_wrong, first_of_tag};
+ghost use Rattle.tree_text.specs.Meanings.{Holds};
 ghost use Rattle.tree_text.specs.Views.{tag_in};
 ghost use Rattle.tree_text.specs.declared.said.Said.{Said};
 
 use crate::kind::Kind;
-use crate::meanings::{Meaning, is_repeated, meaning_of};
+use crate::meanings::{Meaning, meaning_of};
 use crate::said::Said;
 use crate::tags::Tag;
 use crate::texts::no_text;
 use std::alloc::{AllocError, Global};
+use std::collections::BTreeSet;
 use xml_tree::{Attr, Decl, Name, Scope, Text};
 
 /// Whether a text is empty.
@@ -181,22 +182,35 @@ fn is_misnamed(here: &Scope<'_>, said: &Said) -> bool
     is_unbound(here, &said.name)
 }
 
-/// What is wrong with one of a tag, behind those that say these.
-fn wrong_said(
-    here: &Scope<'_>,
-    earlier: &[Meaning<'_>],
-    said: &Said,
-    meaning: &Meaning<'_>,
-) -> Option<Kind>
-    ensures { (es : List Said) → AllMean here.now es earlier.now → Means here.now said.now meaning.now → result ≡ wrong_said here.now es said.now }
+/// Whether one of a tag says what none before it says, which is then seen too.
+fn is_first<'a>(
+    here: &Scope<'a>,
+    seen: &mut BTreeSet<Meaning<'a>>,
+    said: &'a Said,
+) -> Result<bool, AllocError>
+    ensures first { (es : List Said) → Holds here.now es seen.old → IfOk result (λ first. first ≡ not (is_repeated here.now es said.now)) }
+    ensures holds { (es : List Said) → Holds here.now es seen.old → OnOk result (Holds here.now (es ++ said.now ∷ []) seen.new) }
+{
+    let first = seen.insert(meaning_of(here, said))?;
+    Ok(first)
+}
+
+/// What is wrong with one of a tag, behind those that say what is seen. Where nothing is, what it says is then seen too.
+fn wrong_said<'a>(
+    here: &Scope<'a>,
+    seen: &mut BTreeSet<Meaning<'a>>,
+    said: &'a Said,
+) -> Result<Option<Kind>, AllocError>
+    ensures wrong { (es : List Said) → Holds here.now es seen.old → IfOk result (λ wrong. wrong ≡ wrong_said here.now es said.now) }
+    ensures holds { (es : List Said) → Holds here.now es seen.old → IfOk result (λ wrong. wrong ≡ None → Holds here.now (es ++ said.now ∷ []) seen.new) }
 {
     if is_misnamed(here, said) {
-        return Some(Kind::Unbound);
+        return Ok(Some(Kind::Unbound));
     }
-    if is_repeated(earlier, meaning) {
-        return Some(Kind::Repeated);
+    if is_first(here, seen, said)? {
+        return Ok(None);
     }
-    None
+    Ok(Some(Kind::Repeated))
 }
 
 /// The first of these that is wrong, and how many characters of the tag stand before its name, of which this many before all.
@@ -209,15 +223,13 @@ pub fn first_wrong<'a>(
     requires { opening + widths all.now < 2 ^ 64 }
     ensures { IfOk result (λ found. found ≡ first_wrong here.now [] opening all.now) }
 {
-    let mut earlier = Vec::new(alloc);
+    let mut seen = BTreeSet::new(alloc);
     let mut at = opening;
     for said in all {
-        let meaning = meaning_of(here, said);
-        if let Some(kind) = wrong_said(here, &earlier, said, &meaning) {
+        if let Some(kind) = wrong_said(here, &mut seen, said)? {
             return Ok(Some((kind, at + said.gap)));
         }
         at += said.gap + said.size;
-        earlier.push(meaning)?;
     }
     Ok(None)
 }

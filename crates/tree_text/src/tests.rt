@@ -84,7 +84,7 @@ fn faulty_insides() -> [(&'static str, TextFault); 10] {
     ]
 }
 
-fn faulty_names() -> [(&'static str, TextFault); 9] {
+fn faulty_names() -> [(&'static str, TextFault); 10] {
     [
         ("<!DOCTYPE a><a/>", TextFault::Doctype(0)),
         ("<p:a/>", TextFault::Namespace(1)),
@@ -95,6 +95,10 @@ fn faulty_names() -> [(&'static str, TextFault); 9] {
         (
             "<a xmlns:p=\"u\" xmlns:q=\"u\" p:b=\"\" q:b=\"\"/>",
             TextFault::RepeatedAttribute(34),
+        ),
+        (
+            "<a b='' c='' d='' e='' f='' g='' h='' i='' j='' k='' l='' m='' n='' f=''/>",
+            TextFault::RepeatedAttribute(68),
         ),
         (
             "<?xml version='1.0' encoding='latin1'?><a/>",
@@ -108,7 +112,7 @@ fn faulty_names() -> [(&'static str, TextFault); 9] {
 }
 
 // Texts, and what is printed of the tree that each spells.
-fn printed_texts() -> [(&'static str, &'static str); 8] {
+fn printed_texts() -> [(&'static str, &'static str); 9] {
     [
         ("<a><b></b> </a >", "<a><b/> </a>"),
         ("<a>x<!--y-->z</a>", "<a>x<!--y-->z</a>"),
@@ -118,6 +122,10 @@ fn printed_texts() -> [(&'static str, &'static str); 8] {
         ("<a>\r\n\r&#13;</a>", "<a>\n\n&#xD;</a>"),
         ("<a b='\tx\r\n&#9;\"'/>", "<a b=\" x &#x9;&quot;\"/>"),
         ("<a b='' xmlns='u'/>", "<a xmlns=\"u\" b=\"\"/>"),
+        (
+            "<a n='' b='' c='' d='' e='' f='' g='' h='' i='' j='' k='' l='' m=''/>",
+            "<a n=\"\" b=\"\" c=\"\" d=\"\" e=\"\" f=\"\" g=\"\" h=\"\" i=\"\" j=\"\" k=\"\" l=\"\" m=\"\"/>",
+        ),
     ]
 }
 
