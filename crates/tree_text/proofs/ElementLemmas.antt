@@ -1,7 +1,9 @@
 -- An element is read: its tag, and what stands behind it.
-use Rattle.std.proofs.Common.{◌≡◌, ℕ, suc, ◌+◌, List, [], ◌∷◌, ◌++◌, Result, Ok, Err, refl, sym, ap, ◌∙◌, arith}
+use Rattle.std.proofs.Common.{◌≡◌, ℕ, suc, ◌+◌, List, [], ◌∷◌, ◌++◌, length, Result, Ok, Err, refl, sym, ap, ◌∙◌, arith}
 use Rattle.grammar_rules.specs.Reading.{Stop, Syntax, Faulty, ◌>>=◌, read_judged}
+use Rattle.xml_tree.specs.Edits.{with_text}
 use Rattle.xml_tree.specs.Tree.{Content, Tree, tree_of}
+use Rattle.xml_tree.proofs.Places.{with_text-nil}
 use Rattle.xml_tree.specs.declared.names.Name.{Name}
 use Rattle.xml_tree.specs.declared.names.Decl.{Decl}
 use Rattle.tree_text.specs.declared.kind.Kind.{Kind}
@@ -12,6 +14,11 @@ use Rattle.tree_text.specs.Members.{bare, read_bare_behind}
 use Rattle.tree_text.specs.Names.{decls_of, attrs_of, tag_fault, element_of}
 use Rattle.tree_text.specs.Pieces.{Tag, line_ends}
 use Rattle.tree_text.specs.Reading.{read_raw_run, read_chars, read_tag, read_behind_tag, read_element}
+
+-- a run of nothing adds nothing
+pub no_run : (run : List ℕ) (c : Content) → length run ≡ 0 → with_text (line_ends run) c ≡ c
+no_run [] c h = with_text-nil c
+no_run (x ∷ run) c h = absurd (omega (arith, h))
 
 -- other values of what is read
 pub chars_ok : (text rest cs : List ℕ) → read_raw_run text ≡ Ok (cs, rest) → read_chars text ≡ Ok (line_ends cs, rest)

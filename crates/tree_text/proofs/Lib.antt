@@ -5,6 +5,7 @@ pub mod NameLemmas
 pub mod TagLemmas
 pub mod JudgeLemmas
 pub mod MeaningLemmas
+pub mod BareScopes
 pub mod CommentLemmas
 pub mod ElementLemmas
 pub mod Told

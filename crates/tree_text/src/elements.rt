@@ -1,10 +1,10 @@
 //! Elements: their tags, their content, and the elements in it, no deeper than a limit.
-ghost use Rattle.std.specs.Prelude.{◌≡◌, ◌+◌, ◌-◌, ◌≤◌, ◌<◌, ◌++◌, true, [], ◌∷◌, length, drop, IfOk, OnOk, Ok, Err, IsTrue};
+ghost use Rattle.std.specs.Prelude.{◌≡◌, ◌+◌, ◌-◌, ◌≤◌, ◌<◌, ◌^◌, ◌++◌, true, [], ◌∷◌, length, drop, IfOk, OnOk, Ok, Err, IsTrue};
 ghost use Rattle.grammar_rules.specs.Reading.{starts, read_judged, read_run};
 ghost use Rattle.xml_tree.specs.Edits.{with_text};
 ghost use Rattle.tree_text.specs.Gives.{Gives, Fails};
 ghost use Rattle.tree_text.specs.Members.{MayStand, read_bare, read_bare_behind};
-ghost use Rattle.tree_text.specs.Names.{decls_of, attrs_of, tag_fault};
+ghost use Rattle.tree_text.specs.Names.{decls_of, attrs_of, first_of_tag, opening, tag_fault, widths};
 ghost use Rattle.tree_text.specs.Pieces.{line_ends, with_markup};
 ghost use Rattle.tree_text.specs.Reading.{markup_follows, read_tag, read_markup, read_element};
 ghost use Rattle.tree_text.specs.Views.{name_in, tag_in};
@@ -25,6 +25,25 @@ use crate::written::{Written, end_tag};
 use std::alloc::{AllocError, Global};
 use xml_tree::{Decl, Element, Name, Scope};
 
+/// The first wrong name of a tag with these declarations, in the scope round it, and how many characters of the tag stand before it.
+fn first_fault(
+    alloc: Global,
+    scope: &Scope<'_>,
+    decls: &[Decl],
+    tag: &Tag<'_>,
+) -> Result<Option<(Kind, usize)>, AllocError>
+    requires lists { length scope.now < 67 }
+    requires opening { tag.now.opening ≡ opening (tag_in tag.now) }
+    requires fits { tag.now.opening + widths tag.now.said.items < 2 ^ 64 }
+    ensures { IfOk result (λ found. found ≡ first_of_tag (scope.now ++ decls.now ∷ []) (tag_in tag.now)) }
+{
+    // Most tags declare nothing, and a scope is dear to make.
+    if decls.is_empty() {
+        return first_of_tag(alloc, scope, tag);
+    }
+    first_of_tag(alloc, &scope.inside(decls), tag)
+}
+
 /// A tag whose names are right in the scope round it, its declarations, and what follows it.
 fn judged_tag<'a>(
     alloc: Global,
@@ -38,7 +57,7 @@ fn judged_tag<'a>(
 {
     let (tag, rest) = whole_tag(alloc, text)?;
     let decls = decls_of(alloc, &tag.said)?;
-    if let Some((kind, at)) = first_of_tag(alloc, &scope.inside(&decls), &tag)? {
+    if let Some((kind, at)) = first_fault(alloc, scope, &decls, &tag)? {
         let place = before(text, rest, tag.size.saturating_sub(at));
         return Err(Stop::Faulty(kind, place));
     }
@@ -54,9 +73,13 @@ fn push_char(alloc: Global, element: &mut Element, c: char) -> Result<(), AllocE
 }
 
 /// Adds a run of raw characters to content, as they are read.
+#[tactic(auto, using(crate::proofs::ElementLemmas::no_run))]
 fn push_run(alloc: Global, element: &mut Element, run: &[char]) -> Result<(), AllocError>
     ensures { OnOk result (element.new ≡ record element.old { content = with_text (line_ends run.now) element.old.content }) }
 {
+    if run.is_empty() {
+        return Ok(());
+    }
     let text = lines(alloc, run)?;
     element.push_chars(text.as_str())
 }
