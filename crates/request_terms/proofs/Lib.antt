@@ -1,0 +1,3 @@
+pub mod Onlys
+pub mod ReadConditions
+pub mod WordCase

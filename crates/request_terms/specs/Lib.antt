@@ -1,0 +1,4 @@
+pub mod Methods
+pub mod Rights
+pub mod Conditions
+pub mod MediaTypes

@@ -1,0 +1,30 @@
+-- What a request asks to be done. RFC 9110, section 9.3; RFC 4825, section 8.
+use Rattle.std.specs.Prelude.{ℕ, Bool, true, false, List, codes, if◌then◌else◌}
+use Rattle.std.specs.Str.{bytes_eq, chars}
+use Rattle.request_terms.specs.declared.method.Method.{Method}
+use Rattle.request_terms.specs.declared.method.Method.TheVariants.{Get, Head, Put, Delete, Other}
+
+-- methods are told apart with regard to case
+unfoldable pub method_of : List ℕ → Method
+method_of name =
+    if bytes_eq name (chars (codes "GET")) then Get
+    else (if bytes_eq name (chars (codes "HEAD")) then Head
+    else (if bytes_eq name (chars (codes "PUT")) then Put
+    else (if bytes_eq name (chars (codes "DELETE")) then Delete
+    else Other)))
+
+-- it reads, and changes nothing
+abbrev pub is_reading : Method → Bool
+is_reading Get = true
+is_reading Head = true
+is_reading Put = false
+is_reading Delete = false
+is_reading Other = false
+
+-- it is one of the four
+abbrev pub is_known : Method → Bool
+is_known Get = true
+is_known Head = true
+is_known Put = true
+is_known Delete = true
+is_known Other = false

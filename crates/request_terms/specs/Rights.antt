@@ -1,0 +1,39 @@
+-- Who may do what. RFC 4825, section 8 leaves it to the server; this one takes the user's name from the field X-XCAP-User, which a
+-- front proxy asserts: a user has the home of that name, everyone reads what is global, and nobody writes there or in xcap-caps.
+use Rattle.std.specs.Prelude.{ℕ, Bool, true, false, not, ◌&&◌, List, [], ◌∷◌, map, codes, encode_utf8_all}
+use Rattle.std.specs.Str.{bytes_eq}
+use Rattle.xcap_uri.specs.declared.doc_id.Auid.{Auid}
+use Rattle.xcap_uri.specs.declared.doc_id.Auid.TheVariants.{ResourceLists, RlsServices, XcapCaps}
+use Rattle.xcap_uri.specs.declared.doc_id.Home.{Home}
+use Rattle.xcap_uri.specs.declared.doc_id.Home.TheVariants.{Global, User}
+use Rattle.http_wire.specs.Fields.{values_of}
+use Rattle.http_wire.specs.declared.request.Field.{Field}
+
+-- the fields of a request, each as its name and its value
+abbrev pub pairs : List Field → List (List ℕ × List ℕ)
+pairs fields = map (λ f. (f.name, f.value)) fields
+
+-- the values of the fields of this name, in order
+abbrev pub fields_named : List ℕ → List Field → List (List ℕ)
+fields_named name fields = values_of name (pairs fields)
+
+-- there is exactly one value, and it is this
+abbrev pub is_only : List ℕ → List (List ℕ) → Bool
+is_only wanted [] = false
+is_only wanted (v ∷ []) = bytes_eq v wanted
+is_only wanted (v ∷ w ∷ vs) = false
+
+-- the request comes from this user
+unfoldable pub is_user : List ℕ → List Field → Bool
+is_user xui fields = is_only (encode_utf8_all xui) (fields_named (codes "x-xcap-user") fields)
+
+-- nobody writes the capabilities
+abbrev pub is_fixed_usage : Auid → Bool
+is_fixed_usage ResourceLists = false
+is_fixed_usage RlsServices = false
+is_fixed_usage XcapCaps = true
+
+-- a request that writes, or only reads, is allowed in this home
+abbrev pub is_allowed : Bool → Auid → Home → List Field → Bool
+is_allowed writes auid Global fields = not writes
+is_allowed writes auid (User xui) fields = not (writes && is_fixed_usage auid) && is_user xui fields

@@ -1,0 +1,103 @@
+//! The media type of a request's body (RFC 9110, sections 8.3 and 8.4).
+ghost use Rattle.std.specs.Prelude.{◌≡◌, ◌==◌, codes, reverse};
+ghost use Rattle.std.specs.List.{before_first, position};
+ghost use Rattle.httparse.specs.Grammar.{skip_ows, trim_ows};
+ghost use Rattle.reply_text.specs.Heads.{media_type};
+ghost use Rattle.request_terms.specs.MediaTypes.{essence, is_type, has_type};
+ghost use Rattle.request_terms.specs.Rights.{fields_named};
+
+use crate::named::{all_named_are, is_same_word, only_named};
+use http_wire::{Field, Request};
+use httparse::is_space_or_tab;
+use reply_text::Media;
+
+/// Whether the body of a request is of this type as it was sent: there is exactly one `Content-Type`, which is this one, whatever
+/// its parameters, and every `Content-Encoding` is `identity`. Takes no memory.
+#[tactic(auto, unfolding(crate::specs::MediaTypes::has_type))]
+pub fn has_type(request: &Request, media: Media) -> bool
+    ensures { result ≡ has_type media request.now.fields }
+{
+    let fields = request.fields.as_slice();
+    if !all_named_are(fields, b"content-encoding", b"identity") {
+        return false;
+    }
+    is_of_type(fields, media_type(media).as_bytes())
+}
+
+#[tactic(auto, using(crate::proofs::Onlys::type_one, crate::proofs::Onlys::type_other))]
+fn is_of_type(fields: &[Field], wanted: &[u8]) -> bool
+    ensures { result ≡ is_type wanted.now (fields_named (codes "content-type") fields.now) }
+{
+    match only_named(fields, b"content-type") {
+        Some(value) => is_same_word(essence(value), wanted),
+        None => false,
+    }
+}
+
+#[tactic(auto, using(crate::proofs::Onlys::essence_is))]
+fn essence(value: &[u8]) -> &[u8]
+    ensures { result.now ≡ essence value.now }
+{
+    trim(before_semicolon(value))
+}
+
+fn semicolon(value: &[u8]) -> Option<usize>
+    ensures { result ≡ position (λ b. b == 59) value.now }
+{
+    value.iter().position(|b| *b == b';')
+}
+
+#[tactic(auto, using(crate::proofs::Onlys::before_some, crate::proofs::Onlys::before_none))]
+fn before_semicolon(value: &[u8]) -> &[u8]
+    ensures { result.now ≡ before_first (λ b. b == 59) value.now }
+{
+    match semicolon(value) {
+        Some(len) => &value[..len],
+        None => value,
+    }
+}
+
+#[tactic(auto, unfolding(httparse::specs::Grammar::trim_ows))]
+fn trim(bytes: &[u8]) -> &[u8]
+    ensures { result.now ≡ trim_ows bytes.now }
+{
+    trim_end(trim_start(bytes))
+}
+
+fn trim_start(mut bytes: &[u8]) -> &[u8]
+    ensures { result.now ≡ skip_ows bytes.now }
+{
+    'blanks: while let [first, rest @ ..] = bytes
+        && is_space_or_tab(*first)
+    {
+        bytes = rest;
+    }
+    bytes
+}
+
+fn trim_end(mut bytes: &[u8]) -> &[u8]
+    ensures { result.now ≡ reverse (skip_ows (reverse bytes.now)) }
+{
+    'blanks: while let [rest @ .., last] = bytes
+        && is_space_or_tab(*last)
+    {
+        bytes = rest;
+    }
+    bytes
+}
+
+#[tactic(auto, unfolding(reply_text::specs::Heads::media_type))]
+fn media_type(media: Media) -> &'static str
+    ensures { result.now ≡ media_type media }
+{
+    match media {
+        Media::ResourceLists => "application/resource-lists+xml",
+        Media::RlsServices => "application/rls-services+xml",
+        Media::XcapCaps => "application/xcap-caps+xml",
+        Media::Element => "application/xcap-el+xml",
+        Media::Attribute => "application/xcap-att+xml",
+        Media::Namespaces => "application/xcap-ns+xml",
+        Media::Error => "application/xcap-error+xml",
+        Media::Diff => "application/xcap-diff+xml",
+    }
+}

@@ -1,0 +1,82 @@
+// The fields of a head that have one name, whatever the case of its letters (RFC 9110, section 5.1).
+ghost use Rattle.std.specs.Prelude.{◌≡◌, ◌≢◌, ◌<◌, ◌∷◌, [], length, IsTrue, IfOk, MatchOption};
+ghost use Rattle.std.specs.List.{list_all};
+ghost use Rattle.std.specs.Char.{is_ascii};
+ghost use Rattle.http_wire.specs.Fields.{same_word};
+ghost use Rattle.request_terms.specs.Rights.{fields_named};
+
+use crate::NoMemory;
+use http_wire::Field;
+use std::alloc::Global;
+use xcap_io::Bytes;
+use xml_tree::{List, Text};
+
+fn is_word(text: &Text, word: &[u8]) -> bool
+    requires { IsTrue (list_all is_ascii word.now) }
+    ensures { result ≡ same_word text.now word.now }
+{
+    text.as_str().as_bytes().eq_ignore_ascii_case(word)
+}
+
+// The value of the first field of that name, and the fields behind it.
+fn first_named<'a>(mut fields: &'a [Field], name: &[u8]) -> Option<(&'a Bytes, &'a [Field])>
+    requires { IsTrue (list_all is_ascii name.now) }
+    ensures value { MatchOption result (fields_named name.now fields.now ≡ [])
+        (λ found. fields_named name.now fields.now ≡ found.0.now ∷ fields_named name.now found.1.now) }
+    ensures shorter { MatchOption result (Unit {0}) (λ found. length found.1.now < length fields.now) }
+{
+    'fields: while let [field, rest @ ..] = fields {
+        if is_word(&field.name, name) {
+            return Some((&field.value, rest));
+        }
+        fields = rest;
+    }
+    None
+}
+
+// The value of the one field of that name; none where there isn't exactly one.
+pub fn only_named<'a>(fields: &'a [Field], name: &[u8]) -> Option<&'a [u8]>
+    requires { IsTrue (list_all is_ascii name.now) }
+    ensures { MatchOption result (length (fields_named name.now fields.now) ≢ 1) (λ value. fields_named name.now fields.now ≡ value.now ∷ []) }
+{
+    let (value, rest) = first_named(fields, name)?;
+    match first_named(rest, name) {
+        Some(_) => None,
+        None => Some(value.as_slice()),
+    }
+}
+
+// Whether each value of the fields of that name is this word, whatever the case of its letters.
+pub fn all_named_are(mut fields: &[Field], name: &[u8], word: &[u8]) -> bool
+    requires { IsTrue (list_all is_ascii name.now) }
+    ensures { result ≡ list_all (λ v. same_word v word.now) (fields_named name.now fields.now) }
+{
+    'fields: while let Some((value, rest)) = first_named(fields, name) {
+        if !is_same_word(value.as_slice(), word) {
+            return false;
+        }
+        fields = rest;
+    }
+    true
+}
+
+// Whether two words are equal, whatever the case of their letters.
+pub fn is_same_word(a: &[u8], b: &[u8]) -> bool
+    ensures { result ≡ same_word a.now b.now }
+{
+    a.eq_ignore_ascii_case(b)
+}
+
+// Copies of the values of the fields of that name, in order.
+pub fn copy_named(alloc: Global, mut fields: &[Field], name: &[u8]) -> Result<List<Bytes>, NoMemory>
+    requires { IsTrue (list_all is_ascii name.now) }
+    ensures { IfOk result (λ values. values ≡ fields_named name.now fields.now) }
+{
+    let mut values = List::empty(alloc);
+    'fields: while let Some((value, rest)) = first_named(fields, name) {
+        let value = value.copy(alloc)?;
+        values.push(value)?;
+        fields = rest;
+    }
+    Ok(values)
+}
