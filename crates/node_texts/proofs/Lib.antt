@@ -1,0 +1,6 @@
+mod Attributes
+mod FoundNodes
+mod Fronts
+mod HomeIds
+mod Lasts
+mod Letters

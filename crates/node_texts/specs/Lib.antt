@@ -1,0 +1,3 @@
+pub mod Ancestors
+pub mod Nodes
+pub mod Places

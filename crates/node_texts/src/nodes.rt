@@ -1,0 +1,171 @@
+//! What a selector finds in a document, as it is sent (RFC 4825, sections 7.4, 7.7 and 7.10).
+ghost use Rattle.std.specs.Prelude.{◌≡◌, ◌≤◌, ◌<◌, [], ◌++◌, Some, IfOk, OnOk, is_some, length, chars, option_map};
+ghost use Rattle.std.specs.List.{find};
+ghost use Rattle.std.specs.Option.{option_copied};
+ghost use Rattle.xml_tree.specs.Print.{print};
+ghost use Rattle.xml_tree.specs.Scopes.{bindings_in};
+ghost use Rattle.xml_tree.specs.Tree.{height, last, tree_of};
+ghost use Rattle.node_select.specs.Selection.{is_attr};
+ghost use Rattle.node_texts.specs.Nodes.{attribute_text, encoded, found_text, node_media, node_text, text_at};
+
+use node_select::{End, Selector, find_attr, select};
+use reply_text::Media;
+use std::alloc::Global;
+use tree_text::{print_att_value, print_element};
+use xcap_io::Bytes;
+use xml_tree::{Attr, Decl, Element, Name, NoMemory, Path, Scope, Text, element_at};
+
+// ---- one node
+
+// The attribute of an element that has this name, in the scope at the element.
+fn attribute<'a>(
+    element: &'a Element,
+    scope: &Scope<'_>,
+    uri: &Text,
+    local: &Text,
+) -> Option<&'a Attr>
+    ensures { option_copied result ≡ find (is_attr scope.now uri.now local.now) element.now.attrs }
+{
+    let place = find_attr(element, scope, uri.as_str(), local.as_str())?;
+    element.attrs().get(place)
+}
+
+// The value of an attribute, if there is one, as the body of a reply.
+fn attribute_text(alloc: Global, attr: Option<&Attr>) -> Result<Option<Bytes>, NoMemory>
+    ensures { IfOk result (λ text. text ≡ encoded (attribute_text (option_copied attr.entry))) }
+{
+    match attr {
+        None => Ok(None),
+        Some(attr) => {
+            let text = print_att_value(alloc, attr.value.as_str())?;
+            Ok(Some(text))
+        }
+    }
+}
+
+// An element without content, with these declarations.
+fn declaring_element(alloc: Global, name: &Name, decls: Vec<Decl>) -> Result<Element, NoMemory>
+    ensures { IfOk result (λ made. made ≡ tree_of name.now decls.items [] (last [])) }
+{
+    let mut element = Element::new(alloc, name.copy(alloc)?);
+    for decl in decls {
+        element.push_decl(decl)?;
+    }
+    Ok(element)
+}
+
+// All bindings in scope at an element, as the declarations of an empty element with its name.
+fn bindings_text(alloc: Global, element: &Element, scope: &Scope<'_>) -> Result<Bytes, NoMemory>
+    ensures { IfOk result (λ text. Some text ≡ encoded (Some (print (tree_of element.now.name (bindings_in scope.now) [] (last []))))) }
+{
+    let decls = scope.bindings(alloc)?;
+    let declaring = declaring_element(alloc, element.name(), decls)?;
+    print_element(alloc, &declaring)
+}
+
+// What an end finds of an element in its scope.
+fn node_text(
+    alloc: Global,
+    element: &Element,
+    scope: &Scope<'_>,
+    end: &End,
+) -> Result<Option<Bytes>, NoMemory>
+    ensures { IfOk result (λ text. text ≡ encoded (node_text end.now scope.now element.now)) }
+{
+    match end {
+        End::Element => {
+            let text = print_element(alloc, element)?;
+            Ok(Some(text))
+        }
+        End::Attribute { uri, local } => {
+            attribute_text(alloc, attribute(element, scope, uri, local))
+        }
+        End::Namespaces => {
+            let text = bindings_text(alloc, element, scope)?;
+            Ok(Some(text))
+        }
+    }
+}
+
+// Whether an end finds something of an element in its scope.
+fn has_node(element: &Element, scope: &Scope<'_>, end: &End) -> bool
+    ensures { result ≡ is_some (node_text end.now scope.now element.now) }
+{
+    match end {
+        End::Element => true,
+        End::Attribute { uri, local } => attribute(element, scope, uri, local).is_some(),
+        End::Namespaces => true,
+    }
+}
+
+// ---- at a path
+
+// What an end finds of the element at a path.
+fn text_at(alloc: Global, root: &Element, path: &Path, end: &End) -> Result<Option<Bytes>, NoMemory>
+    ensures { IfOk result (λ text. text ≡ encoded (text_at end.now path.now root.now)) }
+{
+    let Some(element) = element_at(root, path) else {
+        return Ok(None);
+    };
+    let Some(scope) = Scope::at(root, path) else {
+        return Ok(None);
+    };
+    node_text(alloc, element, &scope, end)
+}
+
+// Whether an end finds something there.
+fn has_node_at(root: &Element, path: &Path, end: &End) -> bool
+    ensures { result ≡ is_some (text_at end.now path.now root.now) }
+{
+    let Some(element) = element_at(root, path) else {
+        return false;
+    };
+    match Scope::at(root, path) {
+        None => false,
+        Some(scope) => has_node(element, &scope, end),
+    }
+}
+
+// ---- in a document
+
+/// What a selector finds in a document, as it is sent: an element as it stands; an attribute's value, escaped; or for `namespace::*` an
+/// empty element with the selected element's name that declares all bindings in scope, the default first, then the prefixes by code point.
+/// None exactly where nothing is found. Only what is found is printed, and not the document around it.
+///
+/// # Errors
+/// `NoMemory` for want of memory.
+pub fn found_text(
+    alloc: Global,
+    root: &Element,
+    selector: &Selector,
+) -> Result<Option<Bytes>, NoMemory>
+    requires { height root.now ≤ 64 }
+    ensures { IfOk result (λ text. text ≡ encoded (found_text root.now selector.now)) }
+{
+    let Some(path) = select(root, selector) else {
+        return Ok(None);
+    };
+    text_at(alloc, root, &path, &selector.end)
+}
+
+/// Whether a selector finds something in a document. Takes no memory.
+pub fn is_found(root: &Element, selector: &Selector) -> bool
+    requires { height root.now ≤ 64 }
+    ensures { result ≡ is_some (found_text root.now selector.now) }
+{
+    let Some(path) = select(root, selector) else {
+        return false;
+    };
+    has_node_at(root, &path, &selector.end)
+}
+
+/// The media type of what a selector with this end finds (RFC 4825, section 15.2). Takes no memory.
+pub fn node_media(end: &End) -> Media
+    ensures { result ≡ node_media end.now }
+{
+    match end {
+        End::Element => Media::Element,
+        End::Attribute { .. } => Media::Attribute,
+        End::Namespaces => Media::Namespaces,
+    }
+}
