@@ -1,5 +1,5 @@
 -- All steps but the last, as the front of a list.
-use Rattle.std.proofs.Common.{◌≡◌, ℕ, ◌-◌, List, [], ◌∷◌, length, take, refl, ap, ◌∙◌, arith}
+use Rattle.std.proofs.Common.{◌≡◌, ◌-◌, List, [], ◌∷◌, length, take, refl, ap, ◌∙◌, arith}
 use Rattle.node_select.specs.declared.selector.Step.{Step}
 use Rattle.node_texts.specs.Places.{but_last}
 

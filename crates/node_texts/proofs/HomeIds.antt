@@ -1,7 +1,7 @@
 -- The printed id of a document without a name is that of its home and a slash.
 use Rattle.std.proofs.Common.{◌≡◌, ℕ, List, [], ◌∷◌, ◌++◌, codes, refl, sym, ap, ◌∙◌, append_assoc, append-nil}
 use Rattle.xcap_uri.specs.Escapes.{part_text}
-use Rattle.xcap_uri.specs.Ids.{auid_text, home_text, id_text}
+use Rattle.xcap_uri.specs.Ids.{auid_text, id_text}
 use Rattle.xcap_uri.specs.declared.doc_id.Auid.{Auid}
 use Rattle.xcap_uri.specs.declared.doc_id.Home.{Home}
 use Rattle.xcap_uri.specs.declared.doc_id.Home.TheVariants.{Global, User}

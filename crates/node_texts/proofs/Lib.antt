@@ -4,3 +4,4 @@ mod Fronts
 mod HomeIds
 mod Lasts
 mod Letters
+mod Parents

@@ -1,4 +1,4 @@
--- Whether a node that is put has a place. RFC 4825, section 8.2.2: its parent has to be there.
+-- Whether a node that is put has a place. RFC 4825, section 8.2.1: its parent has to be there.
 use Rattle.std.specs.Prelude.{Bool, true, false, ◌||◌, List, [], ◌∷◌, is_some}
 use Rattle.xml_tree.specs.Tree.{Tree}
 use Rattle.node_select.specs.Selection.{selected_in}

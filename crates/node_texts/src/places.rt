@@ -1,4 +1,4 @@
-//! Whether a node that is put has a place (RFC 4825, section 8.2.2).
+//! Whether a node that is put has a place (RFC 4825, section 8.2.1).
 ghost use Rattle.std.specs.Prelude.{◌≡◌, ◌≤◌};
 ghost use Rattle.xml_tree.specs.Tree.{height};
 ghost use Rattle.node_texts.specs.Places.{attribute_has_place, but_last, element_has_place, has_place};
