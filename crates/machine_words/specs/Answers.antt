@@ -1,0 +1,47 @@
+-- What a request is answered: a reply, and the change of a document that is made, if one is.
+use Rattle.std.specs.Prelude.{ℕ, Bool, List, [], length, Option, None, Some}
+use Rattle.xcap_uri.specs.declared.doc_id.DocId.{DocId}
+use Rattle.patch_words.specs.Notes.{Note}
+use Rattle.reply_text.specs.Heads.{Sent, sent, parts}
+use Rattle.reply_text.specs.Conflicts.{conflict_bytes}
+use Rattle.reply_text.specs.declared.media_types.Media.{Media}
+use Rattle.reply_text.specs.declared.media_types.Media.TheVariants as media
+use Rattle.reply_text.specs.declared.conflicts.ErrorBody.{ErrorBody}
+
+-- a change that is made: the document's name, and the note of the change
+abbrev pub Made : Type 0
+Made = DocId × Note
+
+pub record Answer : Type 0 where
+  pub reply : Sent
+  pub made : Option Made
+
+-- nothing is changed
+abbrev pub unchanged : Sent → Answer
+unchanged reply = record { reply = reply; made = None }
+
+-- ---- replies
+
+-- a status without tag and body
+abbrev pub plain : ℕ → Bool → Sent
+plain status closes = sent (parts status None None None 0 closes) []
+
+-- the method isn't one of those that the resource takes
+abbrev pub not_allowed : Bool → Bool → Sent
+not_allowed read_only closes = sent (parts 405 None (Some read_only) None 0 closes) []
+
+-- a conflict, with its document (RFC 4825, section 11)
+abbrev pub conflict : ErrorBody → Bool → Sent
+conflict body closes = sent (parts 409 None None (Some media.Error) (length (conflict_bytes body)) closes) (conflict_bytes body)
+
+-- a tag alone
+abbrev pub tagged : ℕ → ℕ → Bool → Sent
+tagged status tag closes = sent (parts status (Some tag) None None 0 closes) []
+
+-- a text of this media type
+abbrev pub found : ℕ → Media → List ℕ → Bool → Sent
+found tag m body closes = sent (parts 200 (Some tag) None (Some m) (length body) closes) body
+
+-- the same without its body, for HEAD (RFC 9110, section 9.3.2)
+abbrev pub head_only : Sent → Sent
+head_only r = record r { body = [] }

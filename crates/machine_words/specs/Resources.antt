@@ -1,0 +1,55 @@
+-- What an address leads to. RFC 4825, section 6: a document. Those under `global` are computed (RFC 4825, section 12, and RFC 4826,
+-- section 4.4.7).
+use Rattle.std.specs.Prelude.{ℕ, ◌-◌, Bool, true, false, Option, None, Some, nat_lt, if◌then◌else◌}
+use Rattle.std.specs.Str.{bytes_eq}
+use Rattle.xml_tree.specs.Tree.{Tree}
+use Rattle.usage_docs.specs.Services.{index_of_documents, document_len, index_limit}
+use Rattle.usage_docs.specs.Capabilities.{capabilities}
+use Rattle.xcap_uri.specs.declared.doc_id.Auid.{Auid}
+use Rattle.xcap_uri.specs.declared.doc_id.Auid.TheVariants.{ResourceLists, RlsServices, XcapCaps}
+use Rattle.xcap_uri.specs.declared.doc_id.Home.{Home}
+use Rattle.xcap_uri.specs.declared.doc_id.Home.TheVariants.{Global, User}
+use Rattle.xcap_uri.specs.declared.doc_id.DocId.{DocId}
+use Rattle.reply_text.specs.declared.media_types.Media.{Media}
+use Rattle.reply_text.specs.declared.media_types.Media.TheVariants as media
+use Rattle.store_core.specs.Changing.{document_in, held_name}
+use Rattle.store_core.specs.Held.{Content, Held}
+use Rattle.store_core.specs.Indexes.{index, index_trees}
+
+-- the document of this name, if it is held
+abbrev pub document_of : Content → DocId → Option Held
+document_of c id = document_in held_name c.documents id
+
+-- nothing; a computed document that would be longer than the limit; or a document with its tag
+pub data Resource : Type 0 where
+  absent : Resource
+  beyond_limit : Resource
+  there : Tree → ℕ → Resource
+
+abbrev pub if_held : Option Held → Resource
+if_held None = absent
+if_held (Some h) = there h.tree h.tag
+
+abbrev pub if_within_limit : Tree → ℕ → Resource
+if_within_limit t tag = if nat_lt index_limit (document_len t) then beyond_limit else there t tag
+
+-- under `global` there are the index of services, whose tag is the last number given, and the capabilities with the tag 0
+abbrev pub global_resource : Content → Auid → Bool → Resource
+global_resource c ResourceLists is_index = absent
+global_resource c RlsServices false = absent
+global_resource c RlsServices true = if_within_limit (index_of_documents (index_trees c)) (c.next - 1)
+global_resource c XcapCaps false = absent
+global_resource c XcapCaps true = there capabilities 0
+
+abbrev pub resource_in : Content → DocId → Home → Resource
+resource_in c id Global = global_resource c id.auid (bytes_eq id.name index)
+resource_in c id (User xui) = if_held (document_of c id)
+
+abbrev pub resource : Content → DocId → Resource
+resource c id = resource_in c id id.home
+
+-- the media type of a usage's documents
+abbrev pub document_media : Auid → Media
+document_media ResourceLists = media.ResourceLists
+document_media RlsServices = media.RlsServices
+document_media XcapCaps = media.XcapCaps
