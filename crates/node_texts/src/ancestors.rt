@@ -37,9 +37,10 @@ pub fn home_uri(alloc: Global, root: &Root, auid: Auid, home: &Home) -> Result<T
     ensures { IfOk result (λ uri. uri ≡ home_uri root.now auid home.now) }
 {
     // The id of a document without a name is that of its home and a slash.
+    let home = home.copy(alloc)?;
     let unnamed = DocId {
         auid,
-        home: home.copy(alloc)?,
+        home,
         name: no_text(alloc),
     };
     let id = print_doc_id(alloc, &unnamed)?;
