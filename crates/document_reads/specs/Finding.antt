@@ -1,0 +1,28 @@
+-- What the code finds at an address. RFC 4825, section 6; RFC 4826, section 4.4.7.
+use Rattle.std.specs.Prelude.{◌<◌, ◌≤◌}
+use Rattle.xml_tree.specs.Tree.{Tree, height}
+use Rattle.usage_docs.specs.Services.{document_len, index_limit}
+use Rattle.usage_docs.specs.declared.listing.IndexFault.{IndexFault}
+use Rattle.usage_docs.specs.declared.listing.IndexFault.TheVariants.{TooLarge, NoMemory}
+use Rattle.machine_words.specs.Resources.{Resource, absent, beyond_limit, there}
+use Rattle.document_reads.specs.declared.finding.Found.{Found}
+use Rattle.document_reads.specs.declared.finding.Found.TheVariants.{Absent, BeyondLimit, Held, Computed}
+
+-- the resource that it stands for
+abbrev pub resource_of : Found → Resource
+resource_of Absent = absent
+resource_of BeyondLimit = beyond_limit
+resource_of (Held root tag) = there root.now tag
+resource_of (Computed root tag) = there root tag
+
+-- a tree that is found is low enough for selectors
+abbrev pub IsLow : Found → Type 0
+IsLow Absent = Unit {0}
+IsLow BeyondLimit = Unit {0}
+IsLow (Held root tag) = height root.now ≤ 64
+IsLow (Computed root tag) = height root ≤ 64
+
+-- an index that can't be made because of its length is beyond the limit
+abbrev pub IsBeyond : Tree → IndexFault → Type 0
+IsBeyond t (TooLarge len) = index_limit < document_len t
+IsBeyond t NoMemory = Unit {0}

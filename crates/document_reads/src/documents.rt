@@ -1,0 +1,70 @@
+//! GET and HEAD of documents (RFC 4825, sections 7.1 and 8.1).
+ghost use Rattle.std.specs.Prelude.{◌≡◌, Some, IfOk, encode_utf8_all};
+ghost use Rattle.tree_text.specs.Printing.{document_print};
+ghost use Rattle.machine_words.specs.Reading.{if_found, reads_document};
+ghost use Rattle.machine_words.specs.Resources.{document_media};
+
+use crate::NoMemory;
+use crate::finding::{Found, resource};
+use crate::replies::{in_place, with_text};
+use http_wire::Request;
+use reply_text::{Media, Reply};
+use request_terms::Method;
+use std::alloc::Global;
+use store_core::Store;
+use tree_text::print_document;
+use xcap_uri::{Auid, DocId};
+use xml_tree::Element;
+
+// The media type of a usage's documents.
+fn document_media(auid: Auid) -> Media
+    ensures { result ≡ document_media auid }
+{
+    match auid {
+        Auid::ResourceLists => Media::ResourceLists,
+        Auid::RlsServices => Media::RlsServices,
+        Auid::XcapCaps => Media::XcapCaps,
+    }
+}
+
+// The reply with a document, which is printed only where the conditions let it be sent.
+#[tactic(auto, using(crate::proofs::Outcomes::sent_unless))]
+fn document_reply(
+    alloc: Global,
+    root: &Element,
+    tag: u64,
+    media: Media,
+    method: Method,
+    request: &Request,
+) -> Result<Reply, NoMemory>
+    ensures { IfOk result (λ r. r ≡ if_found (Some (encode_utf8_all (document_print root.now))) tag media method request.now) }
+{
+    if let Some(reply) = in_place(alloc, tag, request)? {
+        return Ok(reply);
+    }
+    let text = print_document(alloc, root)?;
+    Ok(with_text(tag, media, text, method, request.closes))
+}
+
+/// The reply to a GET or HEAD of a document: its print with its tag, 404 where there is none, 507 for an index of services beyond its
+/// limit, and 304, 400 or 412 where the conditions call for it. HEAD gets the head of GET's reply.
+///
+/// # Errors
+/// `NoMemory` for want of memory.
+pub fn get_document(
+    alloc: Global,
+    store: &Store,
+    doc: &DocId,
+    method: Method,
+    request: &Request,
+) -> Result<Reply, NoMemory>
+    ensures { IfOk result (λ r. r ≡ reads_document store.now.content doc.now method request.now) }
+{
+    let media = document_media(doc.auid);
+    match resource(alloc, store, doc)? {
+        Found::Absent => Ok(Reply::fixed(404, request.closes)),
+        Found::BeyondLimit => Ok(Reply::fixed(507, request.closes)),
+        Found::Held(root, tag) => document_reply(alloc, root, tag, media, method, request),
+        Found::Computed(root, tag) => document_reply(alloc, &root, tag, media, method, request),
+    }
+}

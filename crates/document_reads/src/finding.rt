@@ -1,0 +1,100 @@
+//! What an address leads to (RFC 4825, section 6; RFC 4826, section 4.4.7).
+ghost use Rattle.std.specs.Prelude.{◌≡◌, ◌-◌, true, IfOk};
+ghost use Rattle.std.specs.Str.{bytes_eq};
+ghost use Rattle.usage_docs.specs.Services.{index_of_documents};
+ghost use Rattle.usage_docs.specs.Capabilities.{capabilities};
+ghost use Rattle.store_core.specs.Indexes.{index, index_trees};
+ghost use Rattle.machine_words.specs.Resources.{document_of, global_resource, if_held, if_within_limit, resource, there};
+ghost use Rattle.document_reads.specs.Finding.{IsLow, resource_of};
+
+use crate::NoMemory;
+use crate::listing::index_of_services;
+use std::alloc::{AllocError, Global};
+use store_core::Store;
+use usage_docs::{IndexFault, caps};
+use xcap_uri::{Auid, DocId, Home};
+use xml_tree::Element;
+
+/// What an address leads to.
+#[derive(Drop)]
+pub enum Found<'a> {
+    /// Nothing.
+    Absent,
+    /// A computed document that would be longer than its limit.
+    BeyondLimit,
+    /// A document that is held, with its tag.
+    Held(&'a Element, u64),
+    /// A computed document, with its tag.
+    Computed(Element, u64),
+}
+
+// A document that is held, or nothing.
+fn held<'a>(store: &'a Store, doc: &DocId) -> Found<'a>
+    ensures resource { resource_of result ≡ if_held (document_of store.now.content doc.now) }
+    ensures low { IsLow result }
+{
+    match store.get(doc) {
+        None => Found::Absent,
+        Some((root, tag)) => Found::Held(root, tag),
+    }
+}
+
+// The index, unless it is beyond its limit. Its tag is the last number given.
+fn index_found<'a>(alloc: Global, store: &'a Store) -> Result<Found<'a>, NoMemory>
+    ensures resource { IfOk result (λ f. resource_of f
+        ≡ if_within_limit (index_of_documents (index_trees store.now.content)) (store.now.content.next - 1)) }
+    ensures low { IfOk result (λ f. IsLow f) }
+{
+    match index_of_services(alloc, store) {
+        Ok(root) => Ok(Found::Computed(root, store.last_number())),
+        Err(IndexFault::TooLarge(_)) => Ok(Found::BeyondLimit),
+        Err(IndexFault::NoMemory) => Err(AllocError),
+    }
+}
+
+// The capabilities, which never change.
+fn caps_found<'a>(alloc: Global) -> Result<Found<'a>, NoMemory>
+    ensures resource { IfOk result (λ f. resource_of f ≡ there capabilities 0) }
+    ensures low { IfOk result (λ f. IsLow f) }
+{
+    let root = caps(alloc)?;
+    Ok(Found::Computed(root, 0))
+}
+
+// The computed document of a usage whose name is `index`.
+fn computed<'a>(alloc: Global, store: &'a Store, auid: Auid) -> Result<Found<'a>, NoMemory>
+    ensures resource { IfOk result (λ f. resource_of f ≡ global_resource store.now.content auid true) }
+    ensures low { IfOk result (λ f. IsLow f) }
+{
+    match auid {
+        Auid::ResourceLists => Ok(Found::Absent),
+        Auid::RlsServices => index_found(alloc, store),
+        Auid::XcapCaps => caps_found(alloc),
+    }
+}
+
+// A document under `global`.
+#[tactic(auto, unfolding(store_core::specs::Indexes::index))]
+fn global<'a>(alloc: Global, store: &'a Store, doc: &DocId) -> Result<Found<'a>, NoMemory>
+    ensures resource { IfOk result (λ f. resource_of f ≡ global_resource store.now.content doc.now.auid (bytes_eq doc.now.name index)) }
+    ensures low { IfOk result (λ f. IsLow f) }
+{
+    if !doc.name.is("index") {
+        return Ok(Found::Absent);
+    }
+    computed(alloc, store, doc.auid)
+}
+
+/// What the name of a document leads to. A document that is held is lent and one under `global` is made; each is at most 64 high.
+///
+/// # Errors
+/// `NoMemory` for want of memory.
+pub fn resource<'a>(alloc: Global, store: &'a Store, doc: &DocId) -> Result<Found<'a>, NoMemory>
+    ensures resource { IfOk result (λ f. resource_of f ≡ resource store.now.content doc.now) }
+    ensures low { IfOk result (λ f. IsLow f) }
+{
+    match &doc.home {
+        Home::Global => global(alloc, store, doc),
+        Home::User(_) => Ok(held(store, doc)),
+    }
+}

@@ -1,0 +1,31 @@
+//! The index of all services (RFC 4826, section 4.4.7).
+ghost use Rattle.std.specs.Prelude.{◌≡◌, ◌≤◌, IfErr, IfOk};
+ghost use Rattle.xml_tree.specs.Tree.{height};
+ghost use Rattle.usage_docs.specs.Services.{document_len, index_limit, index_of_documents};
+ghost use Rattle.store_core.specs.Indexes.{index_trees};
+ghost use Rattle.document_reads.specs.Finding.{IsBeyond};
+
+use std::alloc::Global;
+use store_core::Store;
+use usage_docs::{IndexFault, IndexMaker};
+use xml_tree::Element;
+
+/// The index of the services of all users' documents that are held.
+///
+/// # Errors
+/// `TooLarge` exactly where it would be beyond its limit, else `NoMemory`.
+pub fn index_of_services(alloc: Global, store: &Store) -> Result<Element, IndexFault>
+    ensures index { IfOk result (λ root. root ≡ index_of_documents (index_trees store.now.content)) }
+    ensures fits { IfOk result (λ root. document_len root ≤ index_limit) }
+    ensures low { IfOk result (λ root. height root ≤ 64) }
+    ensures beyond { IfErr result (λ fault. IsBeyond (index_of_documents (index_trees store.now.content)) fault) }
+{
+    let mut maker = IndexMaker::new(alloc)?;
+    'documents: for k in 0..store.count() {
+        let Some(root) = store.user_indexes(k) else {
+            break;
+        };
+        maker.add(root)?;
+    }
+    Ok(maker.finish())
+}

@@ -1,0 +1,64 @@
+//! GET and HEAD of nodes of documents (RFC 4825, sections 7.4, 7.7, 7.10 and 8.1).
+ghost use Rattle.std.specs.Prelude.{◌≡◌, ◌≤◌, IfOk};
+ghost use Rattle.xml_tree.specs.Tree.{height};
+ghost use Rattle.node_texts.specs.Nodes.{encoded, found_text, node_media};
+ghost use Rattle.machine_words.specs.Reading.{if_found, reads_node};
+
+use crate::NoMemory;
+use crate::finding::{Found, resource};
+use crate::replies::{in_place, with_text};
+use http_wire::Request;
+use node_select::Selector;
+use node_texts::{found_text, node_media};
+use reply_text::Reply;
+use request_terms::Method;
+use std::alloc::Global;
+use store_core::Store;
+use xcap_uri::DocId;
+use xml_tree::Element;
+
+// The reply with a node of a document, which is looked for before the conditions. Its tag is the document's.
+#[tactic(auto, using(crate::proofs::Outcomes::sent_unless))]
+fn node_reply(
+    alloc: Global,
+    root: &Element,
+    tag: u64,
+    selector: &Selector,
+    method: Method,
+    request: &Request,
+) -> Result<Reply, NoMemory>
+    requires { height root.now ≤ 64 }
+    ensures { IfOk result (λ r. r ≡ if_found (encoded (found_text root.now selector.now)) tag (node_media selector.now.end) method request.now) }
+{
+    let Some(text) = found_text(alloc, root, selector)? else {
+        return Ok(Reply::fixed(404, request.closes));
+    };
+    if let Some(reply) = in_place(alloc, tag, request)? {
+        return Ok(reply);
+    }
+    let media = node_media(&selector.end);
+    Ok(with_text(tag, media, text, method, request.closes))
+}
+
+/// The reply to a GET or HEAD of a node of a document: what the selector finds as it is sent, with the document's tag; 404 where there is
+/// no document or nothing is found; else as for documents. Nodes of computed documents are read like those of others.
+///
+/// # Errors
+/// `NoMemory` for want of memory.
+pub fn get_node(
+    alloc: Global,
+    store: &Store,
+    doc: &DocId,
+    selector: &Selector,
+    method: Method,
+    request: &Request,
+) -> Result<Reply, NoMemory>
+    ensures { IfOk result (λ r. r ≡ reads_node store.now.content doc.now selector.now method request.now) }
+{
+    match resource(alloc, store, doc)? {
+        Found::Absent => Ok(Reply::fixed(404, request.closes)),
+        Found::BeyondLimit => Ok(Reply::fixed(507, request.closes)),
+        Found::Held(root, tag) => node_reply(alloc, root, tag, selector, method, request),
+        Found::Computed(root, tag) => node_reply(alloc, &root, tag, selector, method, request),
+    }
+}
