@@ -1,4 +1,7 @@
 //! What selectors find and how it is sent, places of nodes that are put, and the addresses of homes and closest ancestors.
+ghost use Rattle.std.specs.Prelude.{◌≤◌, IfOk};
+ghost use Rattle.xml_tree.specs.Tree.{height};
+
 use crate::{ancestor_uri, found_text, has_place, home_uri, is_found};
 use node_select::{Bindings, Selector, read_selector};
 use std::alloc::Global;
@@ -7,10 +10,22 @@ use tree_text::read_document;
 use xcap_uri::{Auid, DocId, Home, Root, read_root};
 use xml_tree::{Element, Text};
 
-fn document(alloc: Global) -> Result<Element, Fail> {
-    let text =
-        "<l:lists xmlns:l=\"urn:l\" xmlns=\"urn:d\"><l:list name=\"a&amp;'b\" xmlns:b=\"urn:b\" xmlns:a=\"urn:a\"><l:entry/><l:list/></l:list></l:lists>";
-    match read_document(alloc, text.as_bytes(), 64) {
+fn list_text() -> &'static str {
+    "<l:lists xmlns:l=\"urn:l\" xmlns=\"urn:d\"><l:list name=\"a&amp;'b\" xmlns:b=\"urn:b\" xmlns:a=\"urn:a\"><l:entry/><l:list/></l:list></l:lists>"
+}
+
+fn list_uri() -> &'static str {
+    "urn:l"
+}
+
+fn root_uri() -> &'static str {
+    "http://xcap.example.com/xcap"
+}
+
+fn document(alloc: Global) -> Result<Element, Fail>
+    ensures { IfOk result (λ tree. height tree ≤ 64) }
+{
+    match read_document(alloc, list_text().as_bytes(), 64) {
         Ok(tree) => Ok(tree),
         Err(_) => Err("no document")?,
     }
@@ -18,14 +33,14 @@ fn document(alloc: Global) -> Result<Element, Fail> {
 
 fn selector(alloc: Global, text: &str) -> Result<Selector, Fail> {
     let bindings = Bindings::none(alloc);
-    match read_selector(alloc, text, &bindings, "urn:l") {
+    match read_selector(alloc, text, &bindings, list_uri()) {
         Ok(selector) => Ok(selector),
         Err(_) => Err("no selector")?,
     }
 }
 
 fn root(alloc: Global) -> Result<Root, Fail> {
-    match read_root(alloc, "http://xcap.example.com/xcap") {
+    match read_root(alloc, root_uri()) {
         Ok(root) => Ok(root),
         Err(_) => Err("no root")?,
     }
