@@ -1,0 +1,35 @@
+//! Replies to changes that the store refuses (RFC 4825, section 11; RFC 4918, section 11.5).
+ghost use Rattle.std.specs.Prelude.{◌≡◌, ◌≢◌, IfOk};
+ghost use Rattle.store_core.specs.declared.refusal.StoreRefusal.TheVariants as refusals;
+ghost use Rattle.machine_words.specs.Answers.{conflict, unchanged};
+ghost use Rattle.machine_words.specs.Writing.{clash_field, refused};
+ghost use Rattle.reply_text.specs.declared.conflicts.ErrorBody.TheVariants as conflicts;
+
+use crate::NoMemory;
+use crate::conflicts::{conflict, uniqueness};
+use reply_text::Reply;
+use std::alloc::Global;
+use store_core::StoreRefusal;
+use usage_docs::Clash;
+
+// The reply to a service address that another document has.
+fn taken(alloc: Global, clash: Clash, closes: bool) -> Result<Reply, NoMemory>
+    ensures { IfOk result (λ reply. reply ≡ conflict (conflicts.Unique (clash_field clash)) closes) }
+{
+    let body = uniqueness(alloc, &clash)?;
+    conflict(alloc, &body, closes)
+}
+
+/// The reply to a change that the store refuses: a conflict, or a limit leaves no room.
+pub(crate) fn refused(alloc: Global, refusal: StoreRefusal, closes: bool) -> Result<Reply, NoMemory>
+    ensures { IfOk result (λ reply. (unchanged reply ≡ refused refusal closes) × (refusal ≢ refusals.NoMemory)) }
+{
+    match refusal {
+        StoreRefusal::ServiceTaken(clash) => taken(alloc, clash, closes),
+        StoreRefusal::TooLarge(_) => Ok(Reply::fixed(507, closes)),
+        StoreRefusal::TooMany => Ok(Reply::fixed(507, closes)),
+        StoreRefusal::StoreFull(_) => Ok(Reply::fixed(507, closes)),
+        StoreRefusal::NoNumber => Ok(Reply::fixed(507, closes)),
+        StoreRefusal::NoMemory => Err(NoMemory),
+    }
+}
