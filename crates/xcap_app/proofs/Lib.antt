@@ -1,1 +1,4 @@
-pub mod Told
+pub mod Counts
+pub mod Ends
+pub mod Filling
+pub mod Pairs

@@ -1,7 +1,15 @@
 -- How a run of the program can end. The statuses and texts are the project's own.
-use Rattle.std.specs.Prelude.{ℕ, List, codes}
+use Rattle.std.specs.Prelude.{ℕ, List, [], ◌∷◌, ◌++◌, codes, decimal, encode_utf8_all, string_bytes}
+use Rattle.node_select.specs.Selection.{path_text}
+use Rattle.usage_docs.specs.declared.keys.Clash.{Clash}
+use Rattle.usage_docs.specs.declared.rows.Key.{Key}
+use Rattle.usage_docs.specs.declared.rows.Key.TheVariants.{Name, Uri, Ref, Anchor}
 use Rattle.xcap_app.specs.declared.exit.Exit.{Exit}
-use Rattle.xcap_app.specs.declared.exit.Exit.TheVariants.{Usage}
+use Rattle.xcap_app.specs.declared.exit.Exit.TheVariants.{Done, Usage, InputFailed, OutputFailed, NetworkFailed, Refused, OutOfMemory}
+use Rattle.xcap_app.specs.declared.exit.Words.{Words}
+use Rattle.xcap_app.specs.declared.exit.Words.TheVariants.{Fixed, Made}
+use Rattle.xcap_app.specs.declared.refusal.Refusal.{Refusal}
+use Rattle.xcap_app.specs.declared.refusal.Refusal.TheVariants.{TooLarge, NotUtf8, NotWellFormed, Schema, Constraint, Unique}
 
 -- the commands, on one line
 unfoldable pub usage_line : List ℕ
@@ -9,8 +17,55 @@ usage_line = codes "usage: xcapd replay ROOT | serve ADDR ROOT COUNT | keep ADDR
 
 -- the status that the program ends with
 abbrev pub status_of : Exit → ℕ
+status_of Done = 0
 status_of Usage = 2
+status_of InputFailed = 3
+status_of OutputFailed = 4
+status_of NetworkFailed = 5
+status_of (Refused refusal) = 6
+status_of OutOfMemory = 7
 
--- the words on the stream for errors
+-- the name of the key
+unfoldable pub key_word : Key → List ℕ
+key_word Name = codes "name"
+key_word Uri = codes "uri"
+key_word Ref = codes "ref"
+key_word Anchor = codes "anchor"
+
+-- of an element that repeats a sibling's key: its place as a positional selector, and the key
+abbrev pub clash_words : Clash → List ℕ
+clash_words clash = codes "uniqueness-failure " ++ (encode_utf8_all (path_text clash.path) ++ (codes "/@" ++ (key_word clash.key ++ 10 ∷ [])))
+
+-- why the input is no valid document, on one line
+abbrev pub refusal_words : Refusal → List ℕ
+refusal_words TooLarge = codes "too-large\n"
+refusal_words NotUtf8 = codes "not-utf-8\n"
+refusal_words (NotWellFormed place) = codes "not-well-formed " ++ (decimal place ++ 10 ∷ [])
+refusal_words Schema = codes "schema-validation-error\n"
+refusal_words Constraint = codes "constraint-failure\n"
+refusal_words (Unique clash) = clash_words clash
+
+-- the words on the stream for errors, on one line; none where all went well
 abbrev pub words_of : Exit → List ℕ
+words_of Done = []
 words_of Usage = usage_line
+words_of InputFailed = codes "input failed\n"
+words_of OutputFailed = codes "output failed\n"
+words_of NetworkFailed = codes "network failed\n"
+words_of (Refused refusal) = refusal_words refusal
+words_of OutOfMemory = codes "out of memory\n"
+
+-- the input was refused
+abbrev pub IsRefused : Exit → Type 0
+IsRefused Done = ⊥
+IsRefused Usage = ⊥
+IsRefused InputFailed = ⊥
+IsRefused OutputFailed = ⊥
+IsRefused NetworkFailed = ⊥
+IsRefused (Refused refusal) = Unit {0}
+IsRefused OutOfMemory = ⊥
+
+-- the bytes of words
+abbrev pub said : Words → List ℕ
+said (Fixed words) = words.now
+said (Made words) = string_bytes words

@@ -1,3 +1,9 @@
+pub mod Checks
+pub mod Commands
 pub mod Exits
+pub mod Frames
+pub mod Replays
 pub mod Runs
+pub mod Serves
 pub mod Telling
+pub mod Verdicts

@@ -1,16 +1,34 @@
--- What a run of the program did, by how it ended. This is the project's own.
-use Rattle.std.specs.Prelude.{◌≡◌}
+-- What a run of the program did, by the command that its words spell and by how it ended. This is the project's own.
+use Rattle.std.specs.Prelude.{◌≡◌, List, encode_utf8_all, Option, None, Some}
+use Rattle.watch_port.specs.declared.edit.Edit.{Edit}
 use Rattle.xcap_io.specs.Causes.{LineState}
+use Rattle.xcap_app.specs.Checks.{Checks}
+use Rattle.xcap_app.specs.Replays.{Replays}
+use Rattle.xcap_app.specs.Serves.{Serves}
+use Rattle.xcap_app.specs.declared.command.Command.{Command}
+use Rattle.xcap_app.specs.declared.command.Command.TheVariants.{Replay, Serve, Check}
 use Rattle.xcap_app.specs.declared.exit.Exit.{Exit}
-use Rattle.xcap_app.specs.declared.exit.Exit.TheVariants.{Usage}
+use Rattle.xcap_app.specs.declared.exit.Exit.TheVariants.{Done, Usage, InputFailed, OutputFailed, NetworkFailed, Refused, OutOfMemory}
 
--- Port, peer, input and output are as before.
-pub record NothingDone (port port' peer peer' input input' output output' : LineState) : Type 0 where
-  pub same_port : port' ≡ port
-  pub same_peer : peer' ≡ peer
-  pub same_input : input' ≡ input
-  pub same_output : output' ≡ output
+-- how a run ends whose words spell no command; want of memory may come before that is known
+abbrev pub EndsUnspelled : Exit → Type 0
+EndsUnspelled Done = ⊥
+EndsUnspelled Usage = Unit {0}
+EndsUnspelled InputFailed = ⊥
+EndsUnspelled OutputFailed = ⊥
+EndsUnspelled NetworkFailed = ⊥
+EndsUnspelled (Refused refusal) = ⊥
+EndsUnspelled OutOfMemory = Unit {0}
 
--- what was done: where the words spell no command, nothing
-abbrev pub Runs : Exit → LineState → LineState → LineState → LineState → LineState → LineState → LineState → LineState → Type 0
-Runs Usage port port' peer peer' input input' output output' = NothingDone port port' peer peer' input input' output output'
+-- W is the type of the watchers, and `Keeps` says what they are after such changes.
+module _ {W : Type 0} (Keeps : List Edit → W → W → Type 0) where
+  -- what was done, and that all else is as before
+  abbrev pub Runs : Option Command → Exit → LineState → LineState → LineState → LineState → LineState → LineState → W → W → Type 0
+  Runs None exit port port' input input' output output' watchers watchers' =
+      EndsUnspelled exit × (port' ≡ port) × (input' ≡ input) × (output' ≡ output) × (watchers' ≡ watchers)
+  Runs (Some (Replay root)) exit port port' input input' output output' watchers watchers' =
+      Replays Keeps root exit input input' output output' watchers watchers' × (port' ≡ port)
+  Runs (Some (Serve address root count)) exit port port' input input' output output' watchers watchers' =
+      Serves Keeps (encode_utf8_all address) root count exit port port' output output' watchers watchers' × (input' ≡ input)
+  Runs (Some (Check usage)) exit port port' input input' output output' watchers watchers' =
+      Checks usage exit input input' output output' × (port' ≡ port) × (watchers' ≡ watchers)

@@ -1,18 +1,38 @@
--- What is told on the stream for errors. This is the project's own.
+-- What is written on the output, and told on the stream for errors. This is the project's own.
 use Rattle.std.specs.Prelude.{◌≡◌, ℕ, List, ◌⊎◌}
 use Rattle.std.specs.Io.KnownBytes.{Appends}
 use Rattle.xcap_io.specs.Causes.{LineState, Rose, Writes}
 use Rattle.xcap_io.specs.Streams.{AppendsProperPrefix}
+use Rattle.xcap_app.specs.Exits.{IsRefused}
+use Rattle.xcap_app.specs.declared.exit.Exit.{Exit}
+use Rattle.xcap_app.specs.declared.exit.Exit.TheVariants.{Done, Usage, InputFailed, OutputFailed, NetworkFailed, Refused, OutOfMemory}
 
--- the stream took all the words, without a fault
-abbrev pub TellsAll : List ℕ → LineState → LineState → Type 0
-TellsAll words old new = Appends old.taken new.taken words × (new.write_faults ≡ old.write_faults)
-
--- the stream failed, and took a proper prefix of the words
-abbrev pub TellsSome : List ℕ → LineState → LineState → Type 0
-TellsSome words old new = AppendsProperPrefix old.taken new.taken words × Rose old.write_faults new.write_faults
-
--- The words were written, or some of them where the stream failed, and nothing else changed.
-pub record Tells (words : List ℕ) (old new : LineState) : Type 0 where
-  pub said : TellsAll words old new ⊎ TellsSome words old new
+-- The line took all these bytes, without a fault, and nothing else changed.
+pub record TakesAll (bytes : List ℕ) (old new : LineState) : Type 0 where
+  pub taken : Appends old.taken new.taken bytes
+  pub counts : new.write_faults ≡ old.write_faults
   pub writes : Writes old new
+
+-- The line failed, and its count of failed writes rose; it took a proper prefix of these bytes, and nothing else changed.
+pub record TakesSome (bytes : List ℕ) (old new : LineState) : Type 0 where
+  pub taken : AppendsProperPrefix old.taken new.taken bytes
+  pub counts : Rose old.write_faults new.write_faults
+  pub writes : Writes old new
+
+-- the words were written, or some of them where the stream failed
+abbrev pub Tells : List ℕ → LineState → LineState → Type 0
+Tells words old new = TakesAll words old new ⊎ TakesSome words old new
+
+-- how a command ends that has written its output: with 0 where the output took it all, and where it failed with that
+abbrev pub Prints : List ℕ → Exit → LineState → LineState → Type 0
+Prints bytes Done old new = TakesAll bytes old new
+Prints bytes Usage old new = ⊥
+Prints bytes InputFailed old new = ⊥
+Prints bytes OutputFailed old new = TakesSome bytes old new
+Prints bytes NetworkFailed old new = ⊥
+Prints bytes (Refused refusal) old new = ⊥
+Prints bytes OutOfMemory old new = ⊥
+
+-- how a run ends is told as it is, or where the words of a refusal found no memory, as that
+abbrev pub IsTold : Exit → Exit → Type 0
+IsTold exit told = (told ≡ exit) ⊎ (IsRefused exit × (told ≡ OutOfMemory))

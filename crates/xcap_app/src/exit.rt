@@ -1,32 +1,83 @@
 // How a run ends: its status, and the words that it tells on the stream for errors.
-ghost use Rattle.std.specs.Prelude.{◌≡◌};
-ghost use Rattle.xcap_app.specs.Exits.{status_of, words_of};
+ghost use Rattle.std.specs.Prelude.{◌≡◌, IfOk, OnErr};
+ghost use Rattle.xcap_app.specs.Exits.{IsRefused, said, status_of, words_of};
+
+use crate::refusal::Refusal;
+use std::alloc::{AllocError, Global};
 
 /// How a run of the program ends.
-#[derive(Clone, Copy, Debug, PartialEq, Eq)]
+#[derive(Debug, Drop)]
 pub enum Exit {
+    /// The command ended.
+    Done,
     /// The words spell no command.
     Usage,
+    /// A read of the input failed.
+    InputFailed,
+    /// A write to the output failed.
+    OutputFailed,
+    /// The port didn't listen, or the next connection didn't begin.
+    NetworkFailed,
+    /// The input of `check` is no valid document.
+    Refused(Refusal),
+    /// Memory was wanted before the first request, or by `check`.
+    OutOfMemory,
 }
+
+/// What is told for errors.
+#[derive(Drop)]
+pub(crate) enum Words {
+    Fixed(&'static [u8]),
+    Made(String),
+}
+
+impl Words {
+    pub(crate) fn as_slice(&self) -> &[u8]
+        ensures { result.now ≡ said self.now }
+    {
+        match self {
+            Words::Fixed(words) => words,
+            Words::Made(words) => words.as_bytes(),
+        }
+    }
+}
+
+const USAGE: &[u8] =
+    b"usage: xcapd replay ROOT | serve ADDR ROOT COUNT | keep ADDR ROOT COUNT | check AUID | sample N | fetch USER ROOT PATH | put USER ROOT PATH TYPE | delete USER ROOT PATH | follow USER ROOT DOCUMENT ROUNDS\n";
 
 impl Exit {
     /// The status that the program ends with.
-    pub fn status(self) -> u8
-        ensures { result ≡ status_of self }
+    pub fn status(&self) -> u8
+        ensures { result ≡ status_of self.now }
     {
         match self {
+            Exit::Done => 0,
             Exit::Usage => 2,
+            Exit::InputFailed => 3,
+            Exit::OutputFailed => 4,
+            Exit::NetworkFailed => 5,
+            Exit::Refused(_) => 6,
+            Exit::OutOfMemory => 7,
         }
     }
 
     /// What is told on the stream for errors.
+    ///
+    /// # Errors
+    /// `NoMemory` for want of memory, which only the words of a refusal take.
     #[tactic(auto, unfolding(crate::specs::Exits::usage_line))]
-    pub fn words(self) -> &'static [u8]
-        ensures { result.now ≡ words_of self }
+    pub(crate) fn words(&self, alloc: Global) -> Result<Words, AllocError>
+        ensures words { IfOk result (λ words. said words ≡ words_of self.now) }
+        ensures refused { OnErr result (IsRefused self.now) }
     {
         match self {
-            Exit::Usage =>
-                b"usage: xcapd replay ROOT | serve ADDR ROOT COUNT | keep ADDR ROOT COUNT | check AUID | sample N | fetch USER ROOT PATH | put USER ROOT PATH TYPE | delete USER ROOT PATH | follow USER ROOT DOCUMENT ROUNDS\n",
+            Exit::Done => Ok(Words::Fixed(b"")),
+            Exit::Usage => Ok(Words::Fixed(USAGE)),
+            Exit::InputFailed => Ok(Words::Fixed(b"input failed\n")),
+            Exit::OutputFailed => Ok(Words::Fixed(b"output failed\n")),
+            Exit::NetworkFailed => Ok(Words::Fixed(b"network failed\n")),
+            Exit::Refused(refusal) => Ok(Words::Made(refusal.words(alloc)?)),
+            Exit::OutOfMemory => Ok(Words::Fixed(b"out of memory\n")),
         }
     }
 }

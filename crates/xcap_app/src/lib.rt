@@ -3,11 +3,20 @@
 //! The commands are the project's own; they follow RFC 4825.
 #![tactic(auto)]
 
+mod check;
+mod command;
 mod exit;
+mod judging;
+mod refusal;
+mod replay;
+mod serve;
 mod telling;
 #[cfg(test)]
 mod tests;
 mod top;
+mod words;
 
+pub use command::Command;
 pub use exit::Exit;
+pub use refusal::Refusal;
 pub use top::run;

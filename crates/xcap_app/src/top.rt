@@ -1,27 +1,77 @@
 // The top call.
-ghost use Rattle.std.specs.Prelude.{◌≡◌, ◌≤◌, vec_len};
+ghost use Rattle.std.specs.Prelude.{◌≡◌, None, Some, map, string_bytes};
+ghost use Rattle.xcap_app.specs.Commands.{command_of};
 ghost use Rattle.xcap_app.specs.Exits.{status_of, words_of};
 ghost use Rattle.xcap_app.specs.Runs.{Runs};
 ghost use Rattle.xcap_app.specs.Telling.{Tells};
 ghost use Rattle.xcap_app.specs.declared.exit.Exit.{Exit};
 
-use crate::Exit;
-use crate::telling::tell;
+use crate::check::check;
+use crate::command::Command;
+use crate::exit::Exit;
+use crate::replay::replay;
+use crate::serve::serve;
+use crate::telling::tell_exit;
+use crate::words::command_of;
 use std::alloc::Global;
-use watch_port::Watcher;
-use xcap_io::{Peer, Port, Sink, Source};
+use watch_port::Watchers;
+use xcap_io::{Line, Peer, Port, Sink, Source};
 
-// What the words spell. No command is known yet.
-fn exit_of(words: &[String]) -> Exit
-    ensures { result ≡ Exit.Usage }
+// Runs a command.
+fn execute<P: Port, I: Source, O: Sink, W: Watchers>(
+    alloc: Global,
+    command: &Command,
+    port: &mut P,
+    input: &mut I,
+    output: &mut O,
+    watchers: &mut W,
+) -> Exit
+    ensures { Runs W.keeps (Some command.now) result (P.state port.old) (P.state port.new)
+        (I.state input.old) (I.state input.new) (O.state output.old) (O.state output.new) watchers.old watchers.new }
 {
-    Exit::Usage
+    match command {
+        Command::Replay { root } => replay(alloc, root, input, output, watchers),
+        Command::Serve {
+            address,
+            root,
+            count,
+        } => serve(
+            alloc,
+            address.as_str(),
+            root,
+            *count,
+            port,
+            output,
+            watchers,
+        ),
+        Command::Check { usage } => check(alloc, *usage, input, output),
+    }
 }
 
-/// Runs the command that the words spell, without the program's name, and answers the status to end with.
-/// There are at most 16 watchers. Words that spell no command are answered 2 and the usage line on `errors`;
-/// then nothing is read, nothing else is written, no connection begins and no watcher is told.
-pub fn run<P: Port, C: Peer, I: Source, O: Sink, E: Sink>(
+// Runs the command that the words spell, if they spell one.
+fn execute_words<P: Port, I: Source, O: Sink, W: Watchers>(
+    alloc: Global,
+    words: &[String],
+    port: &mut P,
+    input: &mut I,
+    output: &mut O,
+    watchers: &mut W,
+) -> Exit
+    ensures { Runs W.keeps (command_of (map string_bytes words.now)) result (P.state port.old) (P.state port.new)
+        (I.state input.old) (I.state input.new) (O.state output.old) (O.state output.new) watchers.old watchers.new }
+{
+    match command_of(alloc, words) {
+        Ok(Some(command)) => execute(alloc, &command, port, input, output, watchers),
+        Ok(None) => Exit::Usage,
+        Err(_) => Exit::OutOfMemory,
+    }
+}
+
+/// Runs the command that the words spell, which are those of the command line without the program's name, and answers the
+/// status to end with. What each command did, by the way it ended, is said by `Runs`; each status has its words on `errors`,
+/// and where `errors` fails, nothing else changes. Words that spell no command are answered 2 and the usage line, and then
+/// nothing else is read, written, begun or told. No command that is built asks the peer.
+pub fn run<P: Port, C: Peer, I: Source, O: Sink, E: Sink, W: Watchers>(
     alloc: Global,
     words: &[String],
     port: &mut P,
@@ -29,16 +79,14 @@ pub fn run<P: Port, C: Peer, I: Source, O: Sink, E: Sink>(
     input: &mut I,
     output: &mut O,
     errors: &mut E,
-    watchers: &mut Vec<Box<dyn Watcher>>,
+    watchers: &mut W,
 ) -> u8
-    requires { vec_len watchers.old ≤ 16 }
     ensures ends { (exit : Exit) × (result ≡ status_of exit)
-        × Runs exit (P.state port.old) (P.state port.new) (C.state peer.old) (C.state peer.new)
-        (I.state input.old) (I.state input.new) (O.state output.old) (O.state output.new)
+        × Runs W.keeps (command_of (map string_bytes words.now)) exit (P.state port.old) (P.state port.new)
+        (I.state input.old) (I.state input.new) (O.state output.old) (O.state output.new) watchers.old watchers.new
         × Tells (words_of exit) (E.state errors.old) (E.state errors.new) }
-    ensures watchers { watchers.new ≡ watchers.old }
+    ensures peer { peer.new ≡ peer.old }
 {
-    let exit = exit_of(words);
-    tell(errors, exit.words());
-    exit.status()
+    let exit = execute_words(alloc, words, port, input, output, watchers);
+    tell_exit(alloc, errors, exit).status()
 }

@@ -1,0 +1,34 @@
+-- What a command leaves of its input and its output. This is the project's own.
+use Rattle.std.specs.Prelude.{◌≡◌, []}
+use Rattle.xcap_io.specs.Causes.{LineState, no_peer, no_port}
+
+-- Of the input nothing changed but the bytes that it has left and its count of failed reads.
+pub record JustRead (old new : LineState) : Type 0 where
+  pub same_taken : new.taken ≡ old.taken
+  pub same_write_faults : new.write_faults ≡ old.write_faults
+  pub same_holds : new.holds ≡ old.holds
+  pub same_aside : new.aside ≡ old.aside
+  pub same_port : new.port ≡ old.port
+  pub same_peer : new.peer ≡ old.peer
+
+-- Of the output nothing changed but the bytes that it has taken and its count of failed writes.
+pub record JustWritten (old new : LineState) : Type 0 where
+  pub same_left : new.left ≡ old.left
+  pub same_read_faults : new.read_faults ≡ old.read_faults
+  pub same_holds : new.holds ≡ old.holds
+  pub same_aside : new.aside ≡ old.aside
+  pub same_port : new.port ≡ old.port
+  pub same_peer : new.peer ≡ old.peer
+
+-- an input and an output as one line: it gives what the one gives, and takes what the other takes
+abbrev pub joined : LineState → LineState → LineState
+joined input output = record {
+  left = input.left;
+  taken = output.taken;
+  read_faults = input.read_faults;
+  write_faults = output.write_faults;
+  holds = [];
+  aside = [];
+  port = no_port;
+  peer = no_peer;
+}

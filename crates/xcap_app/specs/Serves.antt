@@ -1,0 +1,56 @@
+-- What `serve` does, by how it ends. The machine is that of RFC 4825; the command is the project's own.
+use Rattle.std.specs.Prelude.{◌≡◌, ℕ, ◌⊎◌, List, [], ◌∷◌, ◌++◌, codes, decimal}
+use Rattle.store_core.specs.Keeping.{Kept}
+use Rattle.store_core.specs.State.{State, first_state}
+use Rattle.machine_words.specs.Machine.{Step}
+use Rattle.watch_port.specs.declared.edit.Edit.{Edit}
+use Rattle.xcap_io.specs.Causes.{LineState, Rose}
+use Rattle.xcap_io.specs.Connections.{listening_at, with_port_faults}
+use Rattle.xcap_server.specs.Ports.{ServesPort}
+use Rattle.xcap_server.specs.declared.port.Served.{Served}
+use Rattle.xcap_server.specs.declared.port.Stop.{Stop}
+use Rattle.xcap_server.specs.declared.port.Stop.TheVariants.{Count, NoMore, PortFailed}
+use Rattle.xcap_app.specs.Telling.{TakesAll, TakesSome}
+use Rattle.xcap_app.specs.declared.exit.Exit.{Exit}
+use Rattle.xcap_app.specs.declared.exit.Exit.TheVariants.{Done, Usage, InputFailed, OutputFailed, NetworkFailed, Refused, OutOfMemory}
+
+-- the line about so many connections
+abbrev pub served_line : ℕ → List ℕ
+served_line connections = codes "served " ++ (decimal connections ++ 10 ∷ [])
+
+-- no further connection was wanted, or none was to come
+abbrev pub IsComplete : Stop → Type 0
+IsComplete Count = Unit {0}
+IsComplete NoMore = Unit {0}
+IsComplete PortFailed = ⊥
+
+-- the port doesn't listen: its count of faults rose, and nothing else changed
+abbrev pub CannotListen : LineState → LineState → Type 0
+CannotListen port port' = (port' ≡ with_port_faults port port'.port.faults) × Rose port.port.faults port'.port.faults
+
+-- W is the type of the watchers, and `Keeps` says what they are after such changes.
+module _ {W : Type 0} (Keeps : List Edit → W → W → Type 0) where
+  -- The port listens at the address, and the connections that came were served, so many at most, by the machine of this root
+  -- from the state without documents whose next number is 1 on; the watchers were told the changes.
+  pub record ServesAddress (address root : List ℕ) (count : ℕ) (served : Served) (port port' : LineState) (watchers watchers' : W) : Type 0 where
+    pub state : State
+    pub kept : Kept state
+    pub serves : ServesPort (Step root) Keeps count served (first_state 1) state (listening_at port address) port' watchers watchers'
+
+  -- All connections were served, and their number was written, or some of that where the output failed; or the port doesn't
+  -- listen or failed to begin a connection, and nothing was written; or memory was wanted, and nothing was done.
+  abbrev pub Serves : List ℕ → List ℕ → ℕ → Exit → LineState → LineState → LineState → LineState → W → W → Type 0
+  Serves address root count Done port port' output output' watchers watchers' =
+      (served : Served) × ServesAddress address root count served port port' watchers watchers' × IsComplete served.stop
+      × TakesAll (served_line served.connections) output output'
+  Serves address root count Usage port port' output output' watchers watchers' = ⊥
+  Serves address root count InputFailed port port' output output' watchers watchers' = ⊥
+  Serves address root count OutputFailed port port' output output' watchers watchers' =
+      (served : Served) × ServesAddress address root count served port port' watchers watchers' × IsComplete served.stop
+      × TakesSome (served_line served.connections) output output'
+  Serves address root count NetworkFailed port port' output output' watchers watchers' =
+      ((CannotListen port port' × (watchers' ≡ watchers))
+      ⊎ ((served : Served) × ServesAddress address root count served port port' watchers watchers' × (served.stop ≡ PortFailed)))
+      × (output' ≡ output)
+  Serves address root count (Refused refusal) port port' output output' watchers watchers' = ⊥
+  Serves address root count OutOfMemory port port' output output' watchers watchers' = (port' ≡ port) × (output' ≡ output) × (watchers' ≡ watchers)

@@ -1,0 +1,56 @@
+// Whether a text is a document of a usage, and why it isn't.
+ghost use Rattle.std.specs.Prelude.{◌≡◌, ◌≤◌, ◌⊎◌};
+ghost use Rattle.xml_tree.specs.Tree.{height};
+ghost use Rattle.xcap_app.specs.Verdicts.{FaultVerdict, TextVerdict, TreeVerdict};
+
+use crate::exit::Exit;
+use crate::refusal::Refusal;
+use std::alloc::Global;
+use tree_text::{TextFault, read_document};
+use usage_docs::{Usage, constraints, first_clash, schema};
+use xml_tree::Element;
+
+// How deep a document may be.
+const LEVELS: usize = 64;
+
+// The same of a tree that a text spells.
+fn judge_tree(usage: Usage, root: &Element) -> Exit
+    requires { height root.now ≤ 64 }
+    ensures { TreeVerdict usage root.now result }
+{
+    if !schema(usage, root) {
+        return Exit::Refused(Refusal::Schema);
+    }
+    if !constraints(usage, root) {
+        return Exit::Refused(Refusal::Constraint);
+    }
+    match first_clash(usage, root) {
+        Some(clash) => Exit::Refused(Refusal::Unique(clash)),
+        None => Exit::Done,
+    }
+}
+
+// How the command ends where a text spells no tree.
+fn judge_fault(fault: TextFault) -> Exit
+    ensures { FaultVerdict fault result }
+{
+    match fault {
+        TextFault::NotUtf8 => Exit::Refused(Refusal::NotUtf8),
+        TextFault::NotWellFormed(place)
+        | TextFault::Namespace(place)
+        | TextFault::RepeatedAttribute(place)
+        | TextFault::TooDeep(place)
+        | TextFault::Doctype(place) => Exit::Refused(Refusal::NotWellFormed(place)),
+        TextFault::NoMemory => Exit::OutOfMemory,
+    }
+}
+
+/// `Done` where the text is a document of the usage, and else why it isn't, or that memory was wanted.
+pub(crate) fn judge(alloc: Global, usage: Usage, text: &[u8]) -> Exit
+    ensures { TextVerdict usage text.now result ⊎ (result ≡ Exit.OutOfMemory) }
+{
+    match read_document(alloc, text, LEVELS) {
+        Ok(root) => judge_tree(usage, &root),
+        Err(fault) => judge_fault(fault),
+    }
+}

@@ -1,0 +1,61 @@
+// The command `replay`: the input as one connection, whose replies go to the output.
+ghost use Rattle.std.specs.Prelude.{◌≡◌};
+ghost use Rattle.store_core.specs.Held.{Stands};
+ghost use Rattle.store_core.specs.Keeping.{Kept};
+ghost use Rattle.store_core.specs.State.{State};
+ghost use Rattle.xcap_app.specs.Replays.{Replays, ServesInput, exit_of};
+
+use crate::exit::Exit;
+use std::alloc::Global;
+use watch_port::Watchers;
+use xcap_io::{Failed, Line, Pair, Port, Sink, Source};
+use xcap_server::{Ended, Server, serve_connection};
+use xcap_uri::Root;
+
+// How the command ends with its connection.
+fn exit_of(ended: Ended) -> Exit
+    ensures { result ≡ exit_of ended }
+{
+    match ended {
+        Ended::Closed => Exit::Done,
+        Ended::ReadFailed => Exit::InputFailed,
+        Ended::WriteFailed => Exit::OutputFailed,
+    }
+}
+
+// Serves the one connection of the input and the output.
+fn serve_pair<I: Source, O: Sink, W: Watchers>(
+    server: &mut Server,
+    input: &mut I,
+    output: &mut O,
+    watchers: &mut W,
+) -> Ended
+    ensures { (m : State) → Kept m → Stands server.old.content m → ServesInput W.keeps server.old.root m result
+        (I.state input.old) (I.state input.new) (O.state output.old) (O.state output.new) watchers.old watchers.new }
+{
+    let mut pair = Pair::new(input, output);
+    match pair.next() {
+        Ok(true) => serve_connection(server, &mut pair, watchers),
+        Ok(false) => Ended::Closed,
+        // A pair never fails to begin its connection.
+        Err(Failed) => unreachable!(),
+    }
+}
+
+/// Serves the input as one connection, whose replies go to the output, by a new server of this root. It ends with the
+/// connection, or for want of memory before anything was read.
+pub(crate) fn replay<I: Source, O: Sink, W: Watchers>(
+    alloc: Global,
+    root: &Root,
+    input: &mut I,
+    output: &mut O,
+    watchers: &mut W,
+) -> Exit
+    ensures { Replays W.keeps root.now result
+        (I.state input.old) (I.state input.new) (O.state output.old) (O.state output.new) watchers.old watchers.new }
+{
+    let Ok(mut server) = Server::new(alloc, root, 1) else {
+        return Exit::OutOfMemory;
+    };
+    exit_of(serve_pair(&mut server, input, output, watchers))
+}

@@ -1,0 +1,65 @@
+// The command `serve`: the connections that come at an address.
+ghost use Rattle.std.specs.Prelude.{◌≡◌};
+ghost use Rattle.xcap_io.specs.Causes.{OnlyWrites};
+ghost use Rattle.xcap_io.specs.Streams.{WritesAll};
+ghost use Rattle.xcap_app.specs.Serves.{Serves, served_line};
+ghost use Rattle.xcap_app.specs.Telling.{Prints};
+
+use crate::exit::Exit;
+use itoa::Buffer;
+use std::alloc::Global;
+use watch_port::Watchers;
+use xcap_io::{Failed, Gatherer, Line, Port, Sink, flush, put};
+use xcap_server::{Server, Stop, serve_port};
+use xcap_uri::Root;
+
+// Writes how many connections were served.
+fn write_served<O: Sink>(output: &mut O, connections: u64) -> Result<(), Failed>
+    ensures bytes { WritesAll (O.state output.old).taken (O.state output.new).taken result (served_line connections) }
+    ensures only_writes { OnlyWrites (O.state output.old) (O.state output.new) result }
+{
+    let mut digits = Buffer::new();
+    let mut gatherer = Gatherer::new();
+    put(output, &mut gatherer, b"served ")?;
+    put(output, &mut gatherer, digits.format(connections).as_bytes())?;
+    put(output, &mut gatherer, b"\n")?;
+    flush(output, &mut gatherer)
+}
+
+// How the command ends that has served so many connections. It takes no memory.
+fn print_served<O: Sink>(output: &mut O, connections: u64) -> Exit
+    ensures { Prints (served_line connections) result (O.state output.old) (O.state output.new) }
+{
+    match write_served(output, connections) {
+        Ok(()) => Exit::Done,
+        Err(Failed) => Exit::OutputFailed,
+    }
+}
+
+/// Listens at the address and serves the connections that come, so many at most, by a new server of this root. It ends
+/// with the number of connections on the output, where as many as wanted were served or none was to come; where the
+/// network failed; or for want of memory before it listens.
+pub(crate) fn serve<P: Port, O: Sink, W: Watchers>(
+    alloc: Global,
+    address: &str,
+    root: &Root,
+    count: u64,
+    port: &mut P,
+    output: &mut O,
+    watchers: &mut W,
+) -> Exit
+    ensures { Serves W.keeps address.now root.now count result
+        (P.state port.old) (P.state port.new) (O.state output.old) (O.state output.new) watchers.old watchers.new }
+{
+    let Ok(mut server) = Server::new(alloc, root, 1) else {
+        return Exit::OutOfMemory;
+    };
+    if let Err(Failed) = port.listen(address) {
+        return Exit::NetworkFailed;
+    }
+    let served = serve_port(&mut server, port, count, watchers);
+    match served.stop {
+        Stop::PortFailed => Exit::NetworkFailed,
+        Stop::Count | Stop::NoMore => print_served(output, served.connections),
+    }
+}

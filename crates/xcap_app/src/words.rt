@@ -1,0 +1,169 @@
+// The words of the command line.
+ghost use Rattle.std.specs.Prelude.{◌≡◌, IfOk, map, string_bytes};
+ghost use Rattle.xcap_app.specs.Commands.{begins_with_digit, check_of, command_of, count_of, number_of, of_four, of_two, replay_of, root_of, serve_of, usage_of};
+
+use crate::command::Command;
+use std::alloc::{AllocError, Global};
+use usage_docs::Usage;
+use xcap_uri::{Root, RootFault, read_root};
+use xml_tree::Text;
+
+// The greatest COUNT.
+const GREATEST_COUNT: u64 = 1_000_000;
+
+// Whether the first octet is a digit other than 0.
+fn begins_with_digit(octets: &[u8]) -> bool
+    ensures { result ≡ begins_with_digit octets.now }
+{
+    matches!(octets, [b'1'..=b'9', ..])
+}
+
+// The number that digits are worth, if it is no greater than the greatest COUNT.
+fn number_of(octets: &[u8]) -> Option<u64>
+    ensures { result ≡ number_of 0 octets.now }
+{
+    let mut number = 0;
+    for &b in octets {
+        if !matches!(b, b'0'..=b'9') {
+            return None;
+        }
+        number = number * 10 + (b - b'0') as u64;
+        if number > GREATEST_COUNT {
+            return None;
+        }
+    }
+    Some(number)
+}
+
+// The COUNT that a word is.
+#[tactic(auto, unfolding(crate::specs::Commands::count_of))]
+fn count_of(word: &str) -> Option<u64>
+    ensures { result ≡ count_of word.now }
+{
+    let octets = word.as_bytes();
+    if !begins_with_digit(octets) {
+        return None;
+    }
+    number_of(octets)
+}
+
+// The usage that a word names.
+#[tactic(auto, unfolding(crate::specs::Commands::lists_word, crate::specs::Commands::services_word))]
+fn usage_of(word: &str) -> Option<Usage>
+    ensures { result ≡ usage_of word.now }
+{
+    if word == "resource-lists" {
+        return Some(Usage::ResourceLists);
+    }
+    if word == "rls-services" {
+        return Some(Usage::RlsServices);
+    }
+    None
+}
+
+// The root that a word is.
+#[tactic(auto, unfolding(crate::specs::Commands::root_of))]
+fn root_of(alloc: Global, word: &str) -> Result<Option<Root>, AllocError>
+    ensures { IfOk result (λ root. root ≡ root_of word.now) }
+{
+    match read_root(alloc, word) {
+        Ok(root) => Ok(Some(root)),
+        Err(RootFault::NotRoot) => Ok(None),
+        Err(RootFault::NoMemory) => Err(AllocError),
+    }
+}
+
+// What `replay` and a word spell.
+fn replay_of(alloc: Global, root: &str) -> Result<Option<Command>, AllocError>
+    ensures { IfOk result (λ command. command ≡ replay_of root.now) }
+{
+    match root_of(alloc, root)? {
+        Some(root) => Ok(Some(Command::Replay { root })),
+        None => Ok(None),
+    }
+}
+
+// What `check` and a word spell.
+fn check_of(word: &str) -> Option<Command>
+    ensures { result ≡ check_of word.now }
+{
+    let usage = usage_of(word)?;
+    Some(Command::Check { usage })
+}
+
+// What `serve` and three words spell, of which the first isn't empty.
+fn serve_of(
+    alloc: Global,
+    address: &str,
+    root: &str,
+    count: &str,
+) -> Result<Option<Command>, AllocError>
+    ensures { IfOk result (λ command. command ≡ serve_of address.now root.now count.now) }
+{
+    if address.is_empty() {
+        return Ok(None);
+    }
+    let Some(count) = count_of(count) else {
+        return Ok(None);
+    };
+    let Some(root) = root_of(alloc, root)? else {
+        return Ok(None);
+    };
+    let address = Text::from(alloc, address)?;
+    Ok(Some(Command::Serve {
+        address,
+        root,
+        count,
+    }))
+}
+
+// What two words spell.
+#[tactic(auto, unfolding(crate::specs::Commands::of_two, crate::specs::Commands::replay_word, crate::specs::Commands::check_word))]
+fn of_two(alloc: Global, name: &str, word: &str) -> Result<Option<Command>, AllocError>
+    ensures { IfOk result (λ command. command ≡ of_two name.now word.now) }
+{
+    if name == "replay" {
+        return replay_of(alloc, word);
+    }
+    if name == "check" {
+        return Ok(check_of(word));
+    }
+    Ok(None)
+}
+
+// What four words spell.
+#[tactic(auto, unfolding(crate::specs::Commands::of_four, crate::specs::Commands::serve_word))]
+fn of_four(
+    alloc: Global,
+    name: &str,
+    address: &str,
+    root: &str,
+    count: &str,
+) -> Result<Option<Command>, AllocError>
+    ensures { IfOk result (λ command. command ≡ of_four name.now address.now root.now count.now) }
+{
+    if name == "serve" {
+        return serve_of(alloc, address, root, count);
+    }
+    Ok(None)
+}
+
+/// The command that words spell, if they spell one.
+///
+/// # Errors
+/// `NoMemory` for want of memory.
+pub(crate) fn command_of(alloc: Global, words: &[String]) -> Result<Option<Command>, AllocError>
+    ensures { IfOk result (λ command. command ≡ command_of (map string_bytes words.now)) }
+{
+    match words {
+        [name, word] => of_two(alloc, name.as_str(), word.as_str()),
+        [name, address, root, count] => of_four(
+            alloc,
+            name.as_str(),
+            address.as_str(),
+            root.as_str(),
+            count.as_str(),
+        ),
+        _ => Ok(None),
+    }
+}
