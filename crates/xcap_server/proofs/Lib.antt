@@ -3,3 +3,6 @@ pub mod Faults
 pub mod Turning
 pub mod Ports
 pub mod Simulations
+pub mod Replies
+pub mod Dispatch
+pub mod Standing

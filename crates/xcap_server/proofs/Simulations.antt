@@ -1,9 +1,17 @@
 -- A machine that stands for another: where each step of the one is a step of the other on states that belong together, so
 -- is what either does on connections.
 use Rattle.std.proofs.Common.{◌≡◌, ℕ, ◌+◌, ◌⊎◌, inl, inr, List, [], ◌∷◌, ◌++◌, length, Option, refl, sym, subst, ⊎_elim}
+use Rattle.xcap_io.specs.Causes.{LineState}
+use Rattle.watch_port.specs.declared.edit.Edit.{Edit}
 use Rattle.http_wire.specs.declared.request.Request.{Request}
 use Rattle.http_wire.specs.Items.{Item, asks, bad, too_long, coded}
 use Rattle.http_wire.specs.Serving.{Answers, Closes, no_more, last_item, no_memory, Ending, closed, read_failed, write_failed, EndsBy, GoesOn, Run, Serves, ServesBytes, ServesEach, ServesAll, counted}
+use Rattle.xcap_server.specs.declared.connection.Ended.{Ended}
+use Rattle.xcap_server.specs.declared.port.Served.{Served}
+use Rattle.xcap_server.specs.Connections.{ServesLine}
+use Rattle.xcap_server.specs.Endings.{ending_of}
+use Rattle.xcap_server.specs.Fixed.{fixed}
+use Rattle.xcap_server.specs.Ports.{ServesPort}
 
 module _ {S M E : Type 0} (Steps : S → Request → List ℕ → S → Option E → Type 0) (Step : M → Request → List ℕ → M → Option E → Type 0) (fixed : ℕ → List ℕ) (Stands : S → M → Type 0)
     (step : (s s' : S) (m : M) (request : Request) (reply : List ℕ) (edit : Option E) → Stands s m → Steps s request reply s' edit → (m' : M) × Stands s' m' × Step m request reply m' edit) where
@@ -75,3 +83,53 @@ module _ {S M E : Type 0} (Steps : S → Request → List ℕ → S → Option E
   serves_all s s' m connections written edits reads reads' writes writes' stands v =
       let e = serves_each connections s s' m v.endings written edits stands v.each in
       (e.0, e.1, record { endings = v.endings; each = e.2; read_bound = v.read_bound; write_bound = v.write_bound })
+
+module _ {S M W : Type 0} (Steps : S → Request → List ℕ → S → Option Edit → Type 0) (Step : M → Request → List ℕ → M → Option Edit → Type 0) (Stands : S → M → Type 0)
+    (step : (s s' : S) (m : M) (request : Request) (reply : List ℕ) (edit : Option Edit) → Stands s m → Steps s request reply s' edit → (m' : M) × Stands s' m' × Step m request reply m' edit)
+    (Keeps : List Edit → W → W → Type 0) where
+  -- a connection
+  pub line_by : (ended : Ended) (s s' : S) (m : M) (old new : LineState) (watchers watchers' : W) → Stands s m → ServesLine Steps Keeps ended s s' old new watchers watchers'
+      → (m' : M) × Stands s' m' × ServesLine Step Keeps ended m m' old new watchers watchers'
+  line_by ended s s' m old new watchers watchers' stands v =
+      let o = serves Steps Step fixed Stands step (ending_of ended) s s' m v.bytes v.given v.written v.edits stands v.serves in (
+        o.0,
+        o.1,
+        record {
+          bytes = v.bytes;
+          given = v.given;
+          written = v.written;
+          edits = v.edits;
+          all_left = v.all_left;
+          consumed = v.consumed;
+          appended = v.appended;
+          serves = o.2;
+          kept = v.kept;
+          faults = v.faults;
+          exchanges = v.exchanges;
+        },
+      )
+
+  -- the connections of a port
+  pub port_by : (most : ℕ) (served : Served) (s s' : S) (m : M) (old new : LineState) (watchers watchers' : W) → Stands s m → ServesPort Steps Keeps most served s s' old new watchers watchers'
+      → (m' : M) × Stands s' m' × ServesPort Step Keeps most served m m' old new watchers watchers'
+  port_by most served s s' m old new watchers watchers' stands v =
+      let e = serves_each Steps Step fixed Stands step v.connections s s' m v.serves.endings v.written v.edits stands v.serves.each in (
+        e.0,
+        e.1,
+        record {
+          connections = v.connections;
+          written = v.written;
+          edits = v.edits;
+          count = v.count;
+          came = v.came;
+          sends = v.sends;
+          serves = record { endings = v.serves.endings; each = e.2; read_bound = v.serves.read_bound; write_bound = v.serves.write_bound };
+          last = v.last;
+          stop = v.stop;
+          kept = v.kept;
+          same_listening = v.same_listening;
+          same_holds = v.same_holds;
+          same_aside = v.same_aside;
+          same_peer = v.same_peer;
+        },
+      )

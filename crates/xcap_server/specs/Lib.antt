@@ -3,3 +3,4 @@ pub mod Endings
 pub mod Turns
 pub mod Connections
 pub mod Ports
+pub mod Servers

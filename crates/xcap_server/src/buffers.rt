@@ -8,7 +8,7 @@ use xcap_io::Gatherer;
 /// The buffers of all connections, which are served one after the other: the bytes read and not used yet, and those of a
 /// reply on their way.
 #[derive(Drop)]
-pub struct Buffers {
+pub(crate) struct Buffers {
     pub(crate) alloc: Global,
     pub(crate) wire: Wire,
     pub(crate) gatherer: Gatherer,
@@ -20,7 +20,7 @@ impl Buffers {
     ///
     /// # Errors
     /// `NoMemory` for want of memory.
-    pub fn new(alloc: Global) -> Result<Buffers, AllocError> {
+    pub(crate) fn new(alloc: Global) -> Result<Buffers, AllocError> {
         Ok(Buffers {
             alloc,
             wire: Wire::new(alloc)?,

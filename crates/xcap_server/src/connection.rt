@@ -1,6 +1,7 @@
 //! One connection, served to its end.
 ghost use Rattle.std.specs.Prelude.{◌≡◌, ◌≢◌, false, None, IsTrue, MatchOption};
 ghost use Rattle.reply_text.specs.Statuses.{is_status};
+ghost use Rattle.http_wire.specs.Asking.{fresh_wire};
 ghost use Rattle.http_wire.specs.Serving.{told};
 ghost use Rattle.xcap_server.specs.Connections.{ServesLine};
 ghost use Rattle.xcap_server.specs.Endings.{Exchanges, FaultsSoFar};
@@ -9,7 +10,7 @@ ghost use Rattle.xcap_server.specs.Turns.{AnswersAsked, GivesOn, Turn};
 
 use crate::buffers::Buffers;
 use crate::machine::{Answered, Machine};
-use http_wire::{Asked, ReadFault, Request, next_request, write_reply};
+use http_wire::{Asked, ReadFault, Request, next_request, write_reply_through};
 use reply_text::Reply;
 use std::alloc::AllocError;
 use watch_port::{Edit, Watchers};
@@ -97,7 +98,7 @@ fn serve_next<M: Machine, L: Source + Sink, W: Watchers>(
         return Some(Ended::Closed);
     };
     tell_of(watchers, &answered.edit);
-    match write_reply(line, &answered.reply) {
+    match write_reply_through(line, &mut buffers.gatherer, &answered.reply) {
         Ok(()) => {}
         Err(Failed) => return Some(Ended::WriteFailed),
     }
@@ -107,11 +108,29 @@ fn serve_next<M: Machine, L: Source + Sink, W: Watchers>(
     None
 }
 
-/// Serves a connection: each request is read, answered by the machine, told to the watchers where it made a change, and
-/// replied to, in this order, until a reply closes the connection, its bytes end, or a read or a write fails. What is no
-/// request gets its fixed reply, and for want of memory a request gets the fixed 503; both close. After a read that failed
-/// there is no further reply. Takes no memory before the first request.
-pub fn serve_connection<M: Machine, L: Source + Sink, W: Watchers>(
+// The turns of a connection that begins, until one ends it.
+fn serve_turns<M: Machine, L: Source + Sink, W: Watchers>(
+    machine: &mut M,
+    buffers: &mut Buffers,
+    line: &mut L,
+    watchers: &mut W,
+) -> Ended
+    requires { buffers.old.wire ≡ fresh_wire }
+    ensures { ServesLine M.steps W.keeps result
+        machine.old machine.new (L.state line.old) (L.state line.new) watchers.old watchers.new }
+{
+    'turns: loop {
+        if let Some(ended) = serve_next(machine, buffers, line, watchers) {
+            return ended;
+        }
+    }
+}
+
+// Serves a connection: each request is read, answered by the machine, told to the watchers where it made a change, and
+// replied to, in this order, until a reply closes the connection, its bytes end, or a read or a write fails. What is no
+// request gets its fixed reply, and for want of memory a request gets the fixed 503; both close. After a read that failed
+// there is no further reply. Takes no memory before the first request.
+pub(crate) fn serve_line<M: Machine, L: Source + Sink, W: Watchers>(
     machine: &mut M,
     buffers: &mut Buffers,
     line: &mut L,
@@ -121,9 +140,5 @@ pub fn serve_connection<M: Machine, L: Source + Sink, W: Watchers>(
         machine.old machine.new (L.state line.old) (L.state line.new) watchers.old watchers.new }
 {
     buffers.wire.reset();
-    'turns: loop {
-        if let Some(ended) = serve_next(machine, buffers, line, watchers) {
-            return ended;
-        }
-    }
+    serve_turns(machine, buffers, line, watchers)
 }

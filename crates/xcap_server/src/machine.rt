@@ -17,7 +17,7 @@ pub struct Answered {
 }
 
 /// An object that answers requests, one after the other.
-pub trait Machine {
+pub(crate) trait Machine {
     /// Its state, a request, the bytes of a reply, the state after it, and the change that is told.
     ghost steps: { Self → TheRequest → List ℕ → Self → Option TheEdit → Type 0 };
 

@@ -2,7 +2,7 @@
 ghost use Rattle.xcap_server.specs.Ports.{ServesPort};
 
 use crate::buffers::Buffers;
-use crate::connection::{Ended, serve_connection};
+use crate::connection::{Ended, serve_line};
 use crate::machine::Machine;
 use watch_port::Watchers;
 use xcap_io::{Failed, Line, Port};
@@ -28,8 +28,8 @@ pub struct Served {
     pub stop: Stop,
 }
 
-/// Serves the next connections of a port, so many at most, as `serve_connection` does, one after the other.
-pub fn serve_port<M: Machine, P: Port, W: Watchers>(
+// Serves the next connections of a port, so many at most, one after the other.
+pub(crate) fn serve_lines<M: Machine, P: Port, W: Watchers>(
     machine: &mut M,
     buffers: &mut Buffers,
     port: &mut P,
@@ -59,7 +59,7 @@ pub fn serve_port<M: Machine, P: Port, W: Watchers>(
                 stop: Stop::NoMore,
             };
         }
-        last = serve_connection(machine, buffers, port, watchers);
+        last = serve_line(machine, buffers, port, watchers);
         connections += 1;
     }
     Served {

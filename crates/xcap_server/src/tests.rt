@@ -1,5 +1,9 @@
 // What no clause says: that a machine is asked where memory is there, and rows of bytes with what is written for them.
 use super::*;
+use crate::buffers::Buffers;
+use crate::connection::serve_line;
+use crate::machine::Machine;
+use crate::port::serve_lines;
 use http_wire::Request;
 use patch_record::EditNote;
 use reply_text::Reply;
@@ -7,7 +11,7 @@ use std::alloc::{AllocError, Global};
 use std::test::Fail;
 use watch_port::{Edit, Mirror, Watcher};
 use xcap_io::{MemLine, MemPort};
-use xcap_uri::{Auid, DocId, Home};
+use xcap_uri::{Auid, DocId, Home, read_root};
 use xml_tree::{Element, List, Name, Text};
 
 // Holds nothing: a PUT makes a document of which nothing is kept but the count, and every other request finds none.
@@ -82,7 +86,7 @@ fn served(
     let mut line = MemLine::new(alloc, bytes, step.max(1), read_fails_at, room)?;
     let mut buffers = Buffers::new(alloc)?;
     let mut watchers: Vec<Box<dyn Watcher>> = Vec::new(alloc);
-    let ended = serve_connection(
+    let ended = serve_line(
         &mut fresh_machine(alloc),
         &mut buffers,
         &mut line,
@@ -108,7 +112,7 @@ const UNAVAILABLE: &[u8] =
     b"HTTP/1.1 503 Service Unavailable\r\nContent-Length: 0\r\nConnection: close\r\n\r\n";
 
 // Bytes, and the fixed reply to them.
-static ROWS: [(&[u8], &[u8]); 8] = [
+static ROWS: [(&[u8], &[u8]); 10] = [
     (
         b"PUT /a HTTP/1.1\r\nHost: h\r\nTransfer-Encoding: gzip\r\n\r\n",
         NOT_IMPLEMENTED,
@@ -130,6 +134,11 @@ static ROWS: [(&[u8], &[u8]); 8] = [
         TOO_LONG,
     ),
     (b"GET /a HTTP/1.1\r\n\r\n", BAD),
+    (b"GET /a HTTP/1.1\r\nHost: h\r\nHost: h\r\n\r\n", BAD),
+    (
+        b"PUT /a HTTP/1.1\r\nHost: h\r\nContent-Length: +5\r\n\r\nabcde",
+        BAD,
+    ),
     (
         b"PUT /a HTTP/1.1\r\nHost: h\r\nContent-Length: 4\r\n\r\nabc",
         BAD,
@@ -211,22 +220,53 @@ fn talk(alloc: Global) -> Result<(Vec<u8>, Vec<u8>), Fail> {
 }
 
 #[test]
-fn replies_go_as_far_as_reads_and_writes(rt: HostRuntime) -> Result<(), Fail> {
-    let alloc = rt.alloc();
-    let (bytes, all) = talk(alloc)?;
-    let (ended, sent) = served(alloc, &bytes, 1, None, 1_000)?;
-    assert!(rt; ended == Ended::Closed);
-    assert!(rt; sent == all);
-    for place in 0..all.len() {
-        let (ended, sent) = served(alloc, &bytes, 1, None, place)?;
-        assert!(rt; ended == Ended::WriteFailed);
-        assert!(rt; sent.as_slice() == &all[..place]);
+fn bytes_behind_a_closing_reply_get_none(rt: HostRuntime) -> Result<(), Fail> {
+    let (bytes, all) = talk(rt.alloc())?;
+    for step in [1, 1_000] {
+        let (ended, sent) = served(rt.alloc(), &bytes, step, None, 1_000)?;
+        assert!(rt; ended == Ended::Closed);
+        assert!(rt; sent == all);
     }
-    for place in 0..bytes.len() - bytes.len().min(3) {
-        let (ended, sent) = served(alloc, &bytes, 1, Some(place), 1_000)?;
-        let replies = place / get().len().max(1);
-        assert!(rt; ended == Ended::ReadFailed);
-        assert_eq!(rt; sent.len(), replies.min(2) * NOT_FOUND.len());
+    Ok(())
+}
+
+fn front(bytes: &[u8], len: usize) -> &[u8] {
+    &bytes[..len.min(bytes.len())]
+}
+
+#[test]
+fn a_failed_write_leaves_a_proper_prefix(rt: HostRuntime) -> Result<(), Fail> {
+    let (bytes, all) = talk(rt.alloc())?;
+    for place in [0, 1, 44, 45, 46, 60, 90, 91, 153] {
+        let (ended, sent) = served(rt.alloc(), &bytes, 1, None, place)?;
+        assert!(rt; ended == Ended::WriteFailed);
+        assert_eq!(rt; sent.as_slice(), front(&all, place));
+    }
+    Ok(())
+}
+
+// Places of a failed read, and how many requests lie whole before each.
+static READ_FAULTS: [(usize, usize); 9] = [
+    (0, 0),
+    (1, 0),
+    (27, 0),
+    (28, 1),
+    (29, 1),
+    (55, 1),
+    (56, 2),
+    (57, 2),
+    (102, 2),
+];
+
+#[test]
+fn a_failed_read_gives_no_further_reply(rt: HostRuntime) -> Result<(), Fail> {
+    let (bytes, all) = talk(rt.alloc())?;
+    for (place, replies) in &READ_FAULTS {
+        for step in [1, 1_000] {
+            let (ended, sent) = served(rt.alloc(), &bytes, step, Some(*place), 1_000)?;
+            assert!(rt; ended == Ended::ReadFailed);
+            assert_eq!(rt; sent.as_slice(), front(&all, *replies * 45));
+        }
     }
     Ok(())
 }
@@ -240,7 +280,7 @@ fn port_served(alloc: Global, next_fails_at: Option<usize>, count: u64) -> Resul
     let mut port = MemPort::new(lines, false, next_fails_at);
     let mut buffers = Buffers::new(alloc)?;
     let mut watchers: Vec<Box<dyn Watcher>> = Vec::new(alloc);
-    Ok(serve_port(
+    Ok(serve_lines(
         &mut fresh_machine(alloc),
         &mut buffers,
         &mut port,
@@ -267,37 +307,142 @@ fn a_port_is_served_until_it_fails_or_ends(rt: HostRuntime) -> Result<(), Fail> 
     Ok(())
 }
 
+const PUTS: &[u8] =
+    b"PUT /a HTTP/1.1\r\nHost: h\r\n\r\nPUT /a HTTP/1.1\r\nHost: h\r\n\r\nPUT /a HTTP/1.1\r\nHost: h\r\n\r\n";
+
+// The first 60 bytes of the replies to them.
+const CUT_REPLIES: &[u8] = b"HTTP/1.1 201 Created\r\nContent-Length: 0\r\n\r\nHTTP/1.1 201 Crea";
+
+fn sent_on(alloc: Global, port: &MemPort, number: usize) -> Result<Vec<u8>, Fail> {
+    match port.line(number) {
+        Some(line) => Ok(line.sent().to_vec(alloc)?),
+        None => Err("no line")?,
+    }
+}
+
+// Two connections, the first of three PUTs with room for 60 bytes, the second of a GET: how the second ended, and what was
+// sent on each.
+fn cut_served(alloc: Global, step: usize) -> Result<(Ended, Vec<u8>, Vec<u8>), Fail> {
+    let mut lines = Vec::new(alloc);
+    lines.push(MemLine::new(alloc, PUTS, step.max(1), None, 60)?)?;
+    lines.push(MemLine::new(alloc, get(), step.max(1), None, 1_000)?)?;
+    let mut port = MemPort::new(lines, false, None);
+    let mut buffers = Buffers::new(alloc)?;
+    let mut watchers: Vec<Box<dyn Watcher>> = Vec::new(alloc);
+    let mut machine = fresh_machine(alloc);
+    let served = serve_lines(&mut machine, &mut buffers, &mut port, 3, &mut watchers);
+    let first = sent_on(alloc, &port, 0)?;
+    Ok((served.last, first, sent_on(alloc, &port, 1)?))
+}
+
 #[test]
-fn want_of_memory_is_answered(rt: HostRuntime) -> Result<(), Fail> {
-    let alloc = rt.alloc();
+fn behind_a_failed_write_the_next_connection_is_served(rt: HostRuntime) -> Result<(), Fail> {
+    for step in [1, 1_000] {
+        let (last, first, second) = cut_served(rt.alloc(), step)?;
+        assert!(rt; last == Ended::Closed);
+        assert_eq!(rt; first.as_slice(), CUT_REPLIES);
+        assert_eq!(rt; second.as_slice(), NOT_FOUND);
+    }
+    Ok(())
+}
+
+// What is written where the machine has no memory.
+fn served_without_memory(alloc: Global) -> Result<Vec<u8>, Fail> {
     let mut machine = fresh_machine(alloc);
     machine.has_memory = false;
     let mut line = MemLine::new(alloc, &talk(alloc)?.0, 1, None, 1_000)?;
     let mut buffers = Buffers::new(alloc)?;
     let mut watchers: Vec<Box<dyn Watcher>> = Vec::new(alloc);
-    let ended = serve_connection(&mut machine, &mut buffers, &mut line, &mut watchers);
-    assert!(rt; ended == Ended::Closed);
-    assert_eq!(rt; line.sent(), UNAVAILABLE);
+    serve_line(&mut machine, &mut buffers, &mut line, &mut watchers);
+    Ok(line.sent().to_vec(alloc)?)
+}
+
+#[test]
+fn want_of_memory_is_answered(rt: HostRuntime) -> Result<(), Fail> {
+    assert_eq!(rt; served_without_memory(rt.alloc())?.as_slice(), UNAVAILABLE);
     Ok(())
+}
+
+// Whether a connection with a PUT was closed, on which so many bytes can be written, and the number of the change that a
+// watcher was told.
+fn told_of_a_change(alloc: Global, room: usize) -> Result<(bool, Option<u64>), Fail> {
+    let bytes = b"PUT /a HTTP/1.1\r\nHost: h\r\n\r\n";
+    let mut machine = fresh_machine(alloc);
+    let mut line = MemLine::new(alloc, bytes.as_slice(), 1, None, room)?;
+    let mut buffers = Buffers::new(alloc)?;
+    let mut watchers: Vec<Box<dyn Watcher>> = Vec::new(alloc);
+    watchers.push(Box::new(alloc, Mirror::new(alloc))?)?;
+    let ended = serve_line(&mut machine, &mut buffers, &mut line, &mut watchers);
+    let doc = made(alloc, 1)?.doc;
+    let told = watchers
+        .iter()
+        .filter_map(|watcher| watcher.kept(&doc))
+        .map(|held| held.1)
+        .next();
+    Ok((ended == Ended::Closed, told))
 }
 
 #[test]
 fn changes_are_told_even_where_the_reply_is_lost(rt: HostRuntime) -> Result<(), Fail> {
-    let alloc = rt.alloc();
-    let bytes = b"PUT /a HTTP/1.1\r\nHost: h\r\n\r\n";
-    for room in [0, 1_000] {
-        let mut machine = fresh_machine(alloc);
-        let mut line = MemLine::new(alloc, bytes.as_slice(), 1, None, room)?;
-        let mut buffers = Buffers::new(alloc)?;
-        let mut watchers: Vec<Box<dyn Watcher>> = Vec::new(alloc);
-        watchers.push(Box::new(alloc, Mirror::new(alloc))?)?;
-        let ended = serve_connection(&mut machine, &mut buffers, &mut line, &mut watchers);
-        assert!(rt; (ended == Ended::Closed) == (room > 0));
-        assert_eq!(rt; machine.puts, 1);
-        for watcher in &watchers {
-            let held = watcher.kept(&made(alloc, 1)?.doc).map(|held| held.1);
-            assert_eq!(rt; held, Some(1));
-        }
+    for (room, closed) in [(0, false), (1_000, true)] {
+        assert_eq!(rt; told_of_a_change(rt.alloc(), room)?, (closed, Some(1)));
+    }
+    Ok(())
+}
+
+const FORBIDDEN: &[u8] = b"HTTP/1.1 403 Forbidden\r\nContent-Length: 0\r\n\r\n";
+
+// Requests that lead to no document, and the replies.
+static NO_DOCUMENTS: [(&[u8], &[u8]); 9] = [
+    (b"GET /other HTTP/1.1\r\nHost: h\r\n\r\n", NOT_FOUND),
+    (
+        b"GET /xcap/other/users/a/index HTTP/1.1\r\nHost: h\r\n\r\n",
+        NOT_FOUND,
+    ),
+    (
+        b"GET /xcap/resource-lists/users/%zz/index HTTP/1.1\r\nHost: h\r\n\r\n",
+        b"HTTP/1.1 400 Bad Request\r\nContent-Length: 0\r\n\r\n",
+    ),
+    (
+        b"POST /xcap/resource-lists/users/a/index HTTP/1.1\r\nHost: h\r\nX-XCAP-User: a\r\n\r\n",
+        b"HTTP/1.1 405 Method Not Allowed\r\nAllow: GET, HEAD, PUT, DELETE\r\nContent-Length: 0\r\n\r\n",
+    ),
+    (
+        b"PUT /xcap/resource-lists/users/a/index/~~/resource-lists/namespace::* HTTP/1.1\r\nHost: h\r\nX-XCAP-User: a\r\n\r\n",
+        b"HTTP/1.1 405 Method Not Allowed\r\nAllow: GET, HEAD\r\nContent-Length: 0\r\n\r\n",
+    ),
+    (
+        b"GET /xcap/resource-lists/users/a/index HTTP/1.1\r\nHost: h\r\n\r\n",
+        FORBIDDEN,
+    ),
+    (
+        b"GET /xcap/resource-lists/users/a/index HTTP/1.1\r\nHost: h\r\nX-XCAP-User: b\r\n\r\n",
+        FORBIDDEN,
+    ),
+    (
+        b"PUT /xcap/rls-services/global/index HTTP/1.1\r\nHost: h\r\nX-XCAP-User: a\r\n\r\n",
+        FORBIDDEN,
+    ),
+    (
+        b"GET /xcap/~feed/aggregate/1/resource-lists/users/a/index HTTP/1.1\r\nHost: h\r\n\r\n",
+        b"HTTP/1.1 501 Not Implemented\r\nContent-Length: 0\r\n\r\n",
+    ),
+];
+
+// What a server without documents writes on a connection with these bytes.
+fn server_sends(alloc: Global, bytes: &[u8]) -> Result<Vec<u8>, Fail> {
+    let root = read_root(alloc, "http://xcap.example.com/xcap")?;
+    let mut server = Server::new(alloc, &root, 1)?;
+    let mut line = MemLine::new(alloc, bytes, 1_000, None, 1_000)?;
+    let mut watchers: Vec<Box<dyn Watcher>> = Vec::new(alloc);
+    serve_connection(&mut server, &mut line, &mut watchers);
+    Ok(line.sent().to_vec(alloc)?)
+}
+
+#[test]
+fn requests_that_lead_to_no_document_are_answered_in_order(rt: HostRuntime) -> Result<(), Fail> {
+    for row in &NO_DOCUMENTS {
+        assert_eq!(rt; server_sends(rt.alloc(), row.0)?.as_slice(), row.1);
     }
     Ok(())
 }

@@ -1,6 +1,6 @@
 use Rattle.std.proofs.Common.{◌≤◌, ◌-◌}
 use Rattle.xcap_server.proofs.Ports.{PortSoFar}
-use Rattle.xcap_server.proofs.port.serve_port.Given as goal
+use Rattle.xcap_server.proofs.port.serve_lines.Given as goal
 
 abbrev pub invariant-connections : goal.invariant-connections
 invariant-connections g l = record {

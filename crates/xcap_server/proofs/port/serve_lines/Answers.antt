@@ -1,6 +1,6 @@
 use Rattle.std.proofs.Common.{◌≡◌, ℕ, arith, refl, sym, subst}
 use Rattle.xcap_server.proofs.Ports.{all_served, has_begun, has_ended, next_failed, no_connection, none_to_come, one_connection}
-use Rattle.xcap_server.proofs.port.serve_port.Goals as goal
+use Rattle.xcap_server.proofs.port.serve_lines.Goals as goal
 
 pub connections-init : goal.connections-init
 connections-init g c = record { so_far = no_connection _ _ _ _ _ (g.met.W.Watchers.none _); within = omega arith }
@@ -9,7 +9,7 @@ pub connections-preserved : goal.connections-preserved
 connections-preserved g c =
     let i = c.connections.invariant in
     record {
-      so_far = one_connection _ _ g.met.W.Watchers.more _ _ _ _ _ _ _ _ _ _ _ _ _ i.so_far (has_begun ℕ (g.P.Line.state c.connections.port) (g.P.Line.state c.next.new.self) c.in-Ok.begun c.in-Ok.ensures.only_next c.if-not-begun.false) c.serve_connection-last.ensures;
+      so_far = one_connection _ _ g.met.W.Watchers.more _ _ _ _ _ _ _ _ _ _ _ _ _ i.so_far (has_begun ℕ (g.P.Line.state c.connections.port) (g.P.Line.state c.next.new.self) c.in-Ok.begun c.in-Ok.ensures.only_next c.if-not-begun.false) c.serve_line-last.ensures;
       within = omega (arith, c.connections-test.true);
     }
 

@@ -1,13 +1,13 @@
 use Rattle.std.proofs.Common.{◌≡◌, ap, subst, arith}
 use Rattle.http_wire.specs.Asking.{WireState, fresh_wire}
 use Rattle.xcap_server.proofs.Turning.{another, at_end, at_first}
-use Rattle.xcap_server.proofs.connection.serve_connection.Goals as goal
+use Rattle.xcap_server.proofs.connection.serve_turns.Goals as goal
 
 pub turns-init : goal.turns-init
 turns-init g c = record {
-  so_far = at_first _ _ _ _ _ _ c.reset.ensures (g.met.W.Watchers.none _);
-  open_still = ap (λ (w : WireState). w.spent) c.reset.ensures;
-  below = let e = ap (λ (w : WireState). w.requests) c.reset.ensures in omega (arith, e);
+  so_far = at_first _ _ _ _ _ _ c.requires (g.met.W.Watchers.none _);
+  open_still = ap (λ (w : WireState). w.spent) c.requires;
+  below = let e = ap (λ (w : WireState). w.requests) c.requires in omega (arith, e);
 }
 
 pub turns-preserved : goal.turns-preserved

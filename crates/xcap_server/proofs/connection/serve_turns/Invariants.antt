@@ -1,6 +1,6 @@
 use Rattle.std.proofs.Common.{◌≡◌, ◌<◌, ◌-◌, ℕ, false}
 use Rattle.xcap_server.proofs.Turning.{SoFar}
-use Rattle.xcap_server.proofs.connection.serve_connection.Given as goal
+use Rattle.xcap_server.proofs.connection.serve_turns.Given as goal
 
 abbrev pub invariant-turns : goal.invariant-turns
 invariant-turns g l = record {

@@ -1,0 +1,130 @@
+//! The server: the documents under a root, which connections read and change.
+ghost use Rattle.std.specs.Prelude.{◌≡◌, ◌≤◌, [], None, IsOk, IfOk, OnErr};
+ghost use Rattle.reply_text.specs.Heads.{bytes_of};
+ghost use Rattle.xcap_uri.specs.Targets.{under_root};
+ghost use Rattle.store_core.specs.State.{State};
+ghost use Rattle.store_core.specs.Held.{Stands};
+ghost use Rattle.store_core.specs.Keeping.{Kept};
+ghost use Rattle.machine_words.specs.Machine.{Step};
+ghost use Rattle.xcap_server.specs.Connections.{ServesLine};
+ghost use Rattle.xcap_server.specs.Ports.{ServesPort};
+
+use crate::buffers::Buffers;
+use crate::connection::{Ended, serve_line};
+use crate::machine::Answered;
+use crate::port::{Served, serve_lines};
+use crate::service::Service;
+use http_wire::Request;
+use std::alloc::{AllocError, Global};
+use std::marker::Model;
+use store_core::Store;
+use watch_port::Watchers;
+use xcap_io::{Port, Sink, Source};
+use xcap_uri::Root;
+
+/// A server of documents under a root, with the buffers of its connections, which it serves one after the other. Contracts
+/// see the root, and what is held of the documents.
+#[derive(Drop)]
+pub struct Server {
+    service: Service,
+    buffers: Buffers,
+}
+
+impl Model for Server {
+    ghost use Rattle.xcap_server.specs.Servers.{ServerState};
+    ghost use Rattle.std.specs.Coded.{codes};
+    ghost use Rattle.xml_tree.specs.Tree.{tree_code};
+    ghost use Rattle.xcap_uri.specs.contracts.doc_id.DocId as d;
+    ghost use Rattle.edit_ops.specs.contracts.change.Change as c;
+
+    ghost Value = { ServerState };
+
+    ghost coded = { Prim.hlevel (codes, tree_code, d.the_row.coded, c.the_row.coded) };
+
+    ghost view = { λ s. s.service };
+}
+
+impl Server {
+    /// A server without documents under this root, whose first change gets the number `first`. It takes the memory of all
+    /// its connections, but for that of their requests, replies and documents, which is taken from `alloc` later.
+    ///
+    /// # Errors
+    /// `NoMemory` for want of memory.
+    pub fn new(alloc: Global, root: &Root, first: u64) -> Result<Server, AllocError>
+        requires { 1 ≤ first }
+        ensures root { IfOk result (λ server. server.root ≡ root.now) }
+        ensures content { IfOk result (λ server. server.content ≡ record { documents = []; next = first }) }
+    {
+        let service = Service::new(alloc, root, first)?;
+        let buffers = Buffers::new(alloc)?;
+        Ok(Server { service, buffers })
+    }
+
+    /// The root. Takes no memory.
+    pub fn root(&self) -> &Root
+        ensures { result.now ≡ self.now.root }
+    {
+        self.service.root()
+    }
+
+    /// The documents. Takes no memory.
+    pub fn store(&self) -> &Store
+        ensures { result.now.content ≡ self.now.content }
+    {
+        self.service.store()
+    }
+}
+
+/// Answers a request (RFC 4825, section 8). A request whose target lies outside the root takes no memory.
+///
+/// # Errors
+/// `NoMemory` for want of memory; the server is then as before.
+pub fn answer(server: &mut Server, request: &Request) -> Result<Answered, AllocError>
+    ensures step { IfOk result (λ answered. (m : State) → Kept m → Stands server.old.content m
+        → (next : State) × Step server.old.root m request.now (bytes_of answered.reply) next answered.edit
+        × Stands server.new.content next × Kept next) }
+    ensures closes { IfOk result (λ answered. answered.reply.closes ≡ request.now.closes) }
+    ensures outside { under_root server.old.root request.now.target ≡ None → IsOk result }
+    ensures root { server.new.root ≡ server.old.root }
+    ensures err { OnErr result (server.new.content ≡ server.old.content) }
+{
+    server.service.respond(request)
+}
+
+/// Serves a connection: each request is read, answered, told to the watchers where it made a change, and replied to, in this
+/// order, until a reply closes the connection, its bytes end, or a read or a write fails. What is no request gets its fixed
+/// reply, and for want of memory a request gets the fixed 503; both close. After a read that failed there is no further
+/// reply. Takes no memory before the first request.
+pub fn serve_connection<L: Source + Sink, W: Watchers>(
+    server: &mut Server,
+    line: &mut L,
+    watchers: &mut W,
+) -> Ended
+    ensures serves { (m : State) → Kept m → Stands server.old.content m
+        → (next : State) × Kept next × Stands server.new.content next
+        × ServesLine (Step server.old.root) W.keeps result m next (L.state line.old) (L.state line.new) watchers.old watchers.new }
+    ensures root { server.new.root ≡ server.old.root }
+{
+    serve_line(&mut server.service, &mut server.buffers, line, watchers)
+}
+
+/// Serves the next connections of a port, so many at most, as `serve_connection` does, one after the other.
+pub fn serve_port<P: Port, W: Watchers>(
+    server: &mut Server,
+    port: &mut P,
+    count: u64,
+    watchers: &mut W,
+) -> Served
+    ensures serves { (m : State) → Kept m → Stands server.old.content m
+        → (next : State) × Kept next × Stands server.new.content next
+        × ServesPort (Step server.old.root) W.keeps count result m next (P.state port.old) (P.state port.new) watchers.old watchers.new }
+    ensures root { server.new.root ≡ server.old.root }
+{
+    serve_lines(
+        &mut server.service,
+        &mut server.buffers,
+        port,
+        count,
+        watchers,
+    )
+}
