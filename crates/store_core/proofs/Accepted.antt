@@ -45,13 +45,13 @@ not-more a b h = grind (arith, nat_tests)
 fewer : (n : ℕ) → (true && nat_le 1000 n) ≡ false → n + 1 ≤ 1000
 fewer n h = grind (arith, nat_tests)
 
-record Passes (c : Content) (id : DocId) (is_new : Bool) (t : Tree) : Type 0 where
-  services : AllByRecursion (λ uri. AllByRecursion (λ o. uri ≢ o) (other_addresses c id)) (addresses_in id.auid t)
-  short : document_len t ≤ 262144
-  few : (is_new && nat_le 1000 (length c.documents)) ≡ false
-  room : other_lengths c id + document_len t ≤ 33554432
+pub record Passes (c : Content) (id : DocId) (is_new : Bool) (t : Tree) : Type 0 where
+  pub services : AllByRecursion (λ uri. AllByRecursion (λ o. uri ≢ o) (other_addresses c id)) (addresses_in id.auid t)
+  pub short : document_len t ≤ 262144
+  pub few : (is_new && nat_le 1000 (length c.documents)) ≡ false
+  pub room : other_lengths c id + document_len t ≤ 33554432
 
-passes : (c : Content) (id : DocId) (is_new : Bool) (t : Tree) → against_tree c id is_new t ≡ None → Passes c id is_new t
+pub passes : (c : Content) (id : DocId) (is_new : Bool) (t : Tree) → against_tree c id is_new t ≡ None → Passes c id is_new t
 passes c id is_new t h =
     let told : Clash → StoreRefusal = λ clash. ServiceTaken clash in
     let first : Option StoreRefusal = option_map told (taken (other_addresses c id) (addresses_in id.auid t)) in
@@ -99,7 +99,7 @@ module _ {X : Type 0} (f : X → ℕ) where
   pub sum-put : (xs : List X) (x : X) (ys : List X) → sum_by f (xs ++ x ∷ ys) ≡ sum_by f (xs ++ ys) + f x
   sum-put xs x ys = omega (arith, sum_by-append f xs (x ∷ ys), sum_by-append f xs ys, sum-first x ys)
 
-sum-mapped : {X Y : Type 0} (f : Y → ℕ) (h : X → Y) (xs : List X) → sum_by f (map h xs) ≡ sum_by (λ x. f (h x)) xs
+pub sum-mapped : {X Y : Type 0} (f : Y → ℕ) (h : X → Y) (xs : List X) → sum_by f (map h xs) ≡ sum_by (λ x. f (h x)) xs
 sum-mapped f h [] = refl
 sum-mapped f h (x ∷ xs) = omega (arith, sum-first f (h x) (map h xs), sum-first (λ e. f (h e)) x xs, sum-mapped f h xs)
 

@@ -13,7 +13,7 @@ use Rattle.store_core.specs.Changing.{only_if, or_else, taken}
 use Rattle.store_core.proofs.Apart.{each-append, each-right, apart-behind, apart-cut}
 
 module _ {X : Type 0} where
-  apart-before : (xs ys : List X) (n : X) → AreApart (xs ++ n ∷ ys) → AllByRecursion (λ y. n ≢ y) xs
+  pub apart-before : (xs ys : List X) (n : X) → AreApart (xs ++ n ∷ ys) → AllByRecursion (λ y. n ≢ y) xs
   apart-before [] ys n a = tt
   apart-before (x ∷ xs) ys n a = ((λ e. (each-right (λ y. x ≢ y) xs (n ∷ ys) a.0).0 (sym e)), apart-before xs ys n a.1)
 
@@ -31,7 +31,7 @@ unlike : (o uri : List ℕ) (b : Bool) → bytes_eq o uri ≡ b → uri ≢ o �
 unlike o uri true e ne = absurd (ne (sym ((bytes_eq-Decides o uri).0 e)))
 unlike o uri false e ne = refl
 
-unlike-all : (uri : List ℕ) (others : List (List ℕ)) → AllByRecursion (λ o. uri ≢ o) others → list_any (λ o. bytes_eq o uri) others ≡ false
+pub unlike-all : (uri : List ℕ) (others : List (List ℕ)) → AllByRecursion (λ o. uri ≢ o) others → list_any (λ o. bytes_eq o uri) others ≡ false
 unlike-all uri [] h = refl
 unlike-all uri (o ∷ os) h = ap (λ b. b || list_any (λ x. bytes_eq x uri) os) (unlike o uri (bytes_eq o uri) refl h.0) ∙ unlike-all uri os h.1
 

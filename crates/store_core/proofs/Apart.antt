@@ -74,7 +74,7 @@ module _ {D : Type 0} (p : D → Bool) where
   split (x ∷ xs) d h = split-step x xs d (p x) refl h (split xs d)
 
   -- none passes, so none is exchanged and none is left out
-  none-exchanged : (f : D → D) (ds : List D) → AllByRecursion (λ e. p e ≡ false) ds → map (λ d. cond (p d) (f d) d) ds ≡ ds
+  pub none-exchanged : (f : D → D) (ds : List D) → AllByRecursion (λ e. p e ≡ false) ds → map (λ d. cond (p d) (f d) d) ds ≡ ds
   none-exchanged f [] h = refl
   none-exchanged f (d ∷ ds) h = rw h.0 (ap (λ es. d ∷ es) (none-exchanged f ds h.1))
 

@@ -1,7 +1,11 @@
 pub mod Asking
 pub mod Changing
 pub mod Held
+pub mod Indexes
 pub mod Keeping
+pub mod Listed
+pub mod Preparing
 pub mod Since
 pub mod State
+pub mod Storing
 pub mod Suiting

@@ -3,12 +3,23 @@
 //! The standards are RFC 4825, sections 7 and 8, RFC 4826 and RFC 5874; the limits are the project's own.
 #![tactic(auto)]
 
+mod committing;
+mod entry;
+mod indexes;
 mod laws;
+mod prepared;
+mod preparing;
 mod refusal;
+mod registry;
+mod step;
+mod store;
 
 pub use laws::{
     changes_that_are_made_keep_store_and_state, changes_that_are_made_suit_the_state,
     changes_that_suit_the_state_are_made, states_are_kept_after_each_change,
     stores_stand_after_each_change, the_first_state_is_kept,
 };
+pub use prepared::Prepared;
 pub use refusal::StoreRefusal;
+pub use std::alloc::AllocError as NoMemory;
+pub use store::Store;

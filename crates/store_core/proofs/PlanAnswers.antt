@@ -1,0 +1,220 @@
+-- What planning a change answers, from the reasons against it and its parts.
+use Rattle.std.proofs.Common.{◌≡◌, ℕ, ◌+◌, ◌≤◌, Bool, true, false, not, List, [], ◌∷◌, length, filter, find, sum_by, ◌⊎◌, inl, inr, Option, None, Some, IsSome, IsSomeAnd, option_map, Result, Ok, Err, refl, sym, ap, subst, ◌∙◌, arith}
+use Rattle.std.proofs.lemmas.Option.{same_Some}
+use Rattle.std.specs.List.{AllByRecursion}
+use Rattle.std.specs.Result.{IsErrAnd}
+use Rattle.xml_tree.specs.Tree.{Tree}
+use Rattle.usage_docs.specs.Services.{document_len}
+use Rattle.xcap_uri.specs.Same.{same_id}
+use Rattle.xcap_uri.specs.declared.doc_id.DocId.{DocId}
+use Rattle.edit_ops.specs.Changes.{Fits, edited}
+use Rattle.edit_ops.specs.declared.change.Change.{Change}
+use Rattle.edit_ops.specs.declared.change.Change.TheVariants.{CreateDocument, Insert, Replace, Remove, SetAttr, DropAttr, RemoveDocument}
+use Rattle.patch_words.specs.Notes.{Note, note_of}
+use Rattle.patch_record.specs.Recorded.{note_in}
+use Rattle.patch_record.specs.declared.edit_note.EditNote.{EditNote}
+use Rattle.store_core.specs.declared.refusal.StoreRefusal.{StoreRefusal}
+use Rattle.store_core.specs.declared.refusal.StoreRefusal.TheVariants.{NoMemory}
+use Rattle.store_core.specs.declared.step.Step.TheVariants.{Make, Renew, End}
+use Rattle.store_core.specs.Held.{Content, Held}
+use Rattle.store_core.specs.Keeping.{addresses_in, usage_of}
+use Rattle.store_core.specs.Asking.{Asks, AsksAct, MayBeFor}
+use Rattle.store_core.specs.Changing.{Act, Makes, Edits, Removes, act_of, against, against_number, against_tree, answered, changing, content_after, document_in, held_name, note_for, or_else, other_lengths, without_document}
+use Rattle.store_core.specs.Storing.{Stored, entry_of}
+use Rattle.store_core.specs.Preparing.{IsPlanned, IsReady, Plans, Readied, total_of}
+use Rattle.store_core.proofs.Accepted.{passes, unfound}
+use Rattle.store_core.proofs.Apart.{none-filtered}
+use Rattle.store_core.proofs.Planning.{refused-first, refused-last, not-refused-at-all}
+
+-- ---- any change
+
+pub plans-wanting : (c : Content) (doc : DocId) (change : Change) (r : Result Readied StoreRefusal) → IsErrAnd r (λ e. e ≡ NoMemory) → Plans c doc change r
+unfolding Plans
+plans-wanting c doc change (Err e) h = inr h
+plans-wanting c doc change (Ok p) h = absurd h
+
+pub plans-refused : (c : Content) (doc : DocId) (change : Change) (e : StoreRefusal) → changing c doc change ≡ Err e → Plans c doc change (Err e)
+unfolding Plans
+plans-refused c doc change e h = inl h
+
+pub plans-made : (c : Content) (doc : DocId) (change : Change) (p : Readied) → p.doc ≡ doc → p.note.change ≡ change → IsPlanned c p → Plans c doc change (Ok p)
+unfolding Plans
+plans-made c doc change p d e h = (d, e, h)
+
+pub plan-of : (c : Content) (doc : DocId) (change : Change) (p : Readied) → Plans c doc change (Ok p) → (p.doc ≡ doc) × (p.note.change ≡ change) × IsPlanned c p
+unfolding Plans
+plan-of c doc change p h = h
+
+pub reason-of : (c : Content) (doc : DocId) (change : Change) (e : StoreRefusal) → Plans c doc change (Err e) → (changing c doc change ≡ Err e) ⊎ (e ≡ NoMemory)
+unfolding Plans
+reason-of c doc change e h = h
+
+-- the document that a reading found
+pub held-of : (o : Option Held) (t : Tree) (tag : ℕ) → (let x : Tree × ℕ = (t, tag) in Some x) ≡ option_map {U = Tree × ℕ} (λ (h : Held). (h.tree, h.tag)) o → (h : Held) × (o ≡ Some h) × (h.tree ≡ t) × (h.tag ≡ tag)
+held-of None t tag e = cc
+held-of (Some h) t tag e =
+    let a : Tree × ℕ = (t, tag) in
+    let b : Tree × ℕ = (h.tree, h.tag) in
+    let same : a ≡ b = same_Some a b e in
+    (h, refl, sym (ap (λ (x : Tree × ℕ). x.0) same), sym (ap (λ (x : Tree × ℕ). x.1) same))
+
+pub nothing-read : (o : Option Held) → None ≡ option_map {U = Tree × ℕ} (λ (h : Held). (h.tree, h.tag)) o → IsSome o → ⊥
+nothing-read None e h = cc
+nothing-read (Some x) e h = cc
+
+pub some-held : (o : Option Held) (h : Held) → o ≡ Some h → IsSome o
+some-held o h e = rw e refl
+
+-- ---- a document that is made
+
+pub creation-refused : (c : Content) (doc : DocId) (root : Tree) (e : StoreRefusal) → against_tree c doc true root ≡ Some e → Plans c doc (CreateDocument root) (Err e)
+creation-refused c doc root e h =
+    let change = CreateDocument root in
+    plans-refused c doc change e (refused-first (against_tree c doc true root) (against_number c) e (note_for c doc change (document_in held_name c.documents doc)) (content_after c doc change) h)
+
+pub creation-unnumbered : (c : Content) (doc : DocId) (root : Tree) (e : StoreRefusal) → against_tree c doc true root ≡ None → against_number c ≡ Some e → Plans c doc (CreateDocument root) (Err e)
+creation-unnumbered c doc root e h g =
+    let change = CreateDocument root in
+    plans-refused c doc change e (refused-last (against_tree c doc true root) (against_number c) e (note_for c doc change (document_in held_name c.documents doc)) (content_after c doc change) h g)
+
+other-lengths-new : (c : Content) (doc : DocId) → document_in held_name c.documents doc ≡ None → other_lengths c doc ≡ total_of c
+other-lengths-new c doc missing =
+    let q : Held → Bool = λ h. same_id doc h.id in
+    ap (λ (hs : List Held). sum_by (λ (h : Held). document_len h.tree) hs) (none-filtered q c.documents (unfound q c.documents missing))
+
+pub creation-room : (c : Content) (doc : DocId) (root : Tree) → document_in held_name c.documents doc ≡ None → against_tree c doc true root ≡ None → (total_of c + document_len root ≤ 33554432) × (document_len root ≤ 262144)
+creation-room c doc root missing h =
+    let p = passes c doc true root h in
+    (omega (arith, p.room, other-lengths-new c doc missing), p.short)
+
+pub creation-planned : (c : Content) (doc : DocId) (root : Tree) (number total : ℕ) (enters : List (List ℕ)) → Asks c doc (CreateDocument root) → against_tree c doc true root ≡ None → against_number c ≡ None → number ≡ c.next
+    → enters ≡ addresses_in doc.auid root → total ≡ total_of c + document_len root
+    → Plans c doc (CreateDocument root) (Ok (record { doc = doc; note = record { previous = 0; next = number; bindings = []; change = CreateDocument root; fresh = false }; step = Make (entry_of number root); leaves = []; enters = enters; total = total }))
+creation-planned c doc root number total enters asks tree free numbered uris sum =
+    let change = CreateDocument root in
+    let found = document_in held_name c.documents doc in
+    let note : ℕ → Note = λ n. record { previous = 0; next = n; bindings = []; change = change; fresh = false } in
+    let p : Readied = record { doc = doc; note = note number; step = Make (entry_of number root); leaves = []; enters = enters; total = total } in
+    let noted : note_for c doc change found ≡ note number = ap (λ (o : Option Held). note_for c doc change o) asks.0 ∙ ap note (sym numbered) in
+    plans-made c doc change p refl refl (record {
+      asks = asks;
+      made =
+          not-refused-at-all (against_tree c doc true root) (against_number c) (note_for c doc change found) (content_after c doc change) tree free
+          ∙ ap (λ (n : Note). let x : Note × Content = (n, content_after c doc change) in let r : Result (Note × Content) StoreRefusal = Ok x in r) noted;
+      number = numbered;
+      step = (asks.0, refl, ap (λ (n : ℕ). entry_of n root) numbered, refl, uris, sum);
+    })
+
+-- ---- a document that is edited
+
+edit-changing : (c : Content) (doc : DocId) (change : Change) (h : Held) → act_of change ≡ Edits → document_in held_name c.documents doc ≡ Some h
+    → changing c doc change ≡ answered (or_else (against_tree c doc false (edited h.tree change)) (against_number c)) (note_of h.tag c.next h.tree change) (content_after c doc change)
+edit-changing c doc change h edits found =
+    ap (λ (o : Option Held). answered (against c doc change o (act_of change)) (note_for c doc change o) (content_after c doc change)) found
+    ∙ ap (λ (act : Act). answered (against c doc change (Some h) act) (note_of h.tag c.next h.tree change) (content_after c doc change)) edits
+
+pub edit-refused : (c : Content) (doc : DocId) (change : Change) (h : Held) (t : Tree) (e : StoreRefusal) → act_of change ≡ Edits → document_in held_name c.documents doc ≡ Some h → t ≡ edited h.tree change
+    → against_tree c doc false t ≡ Some e → Plans c doc change (Err e)
+edit-refused c doc change h t e edits found tree g =
+    let note = note_of h.tag c.next h.tree change in
+    plans-refused c doc change e
+    (edit-changing c doc change h edits found
+    ∙ refused-first (against_tree c doc false (edited h.tree change)) (against_number c) e note (content_after c doc change) (ap (λ (x : Tree). against_tree c doc false x) (sym tree) ∙ g))
+
+pub edit-unnumbered : (c : Content) (doc : DocId) (change : Change) (h : Held) (t : Tree) (e : StoreRefusal) → act_of change ≡ Edits → document_in held_name c.documents doc ≡ Some h → t ≡ edited h.tree change
+    → against_tree c doc false t ≡ None → against_number c ≡ Some e → Plans c doc change (Err e)
+edit-unnumbered c doc change h t e edits found tree g n =
+    let note = note_of h.tag c.next h.tree change in
+    plans-refused c doc change e
+    (edit-changing c doc change h edits found
+    ∙ refused-last (against_tree c doc false (edited h.tree change)) (against_number c) e note (content_after c doc change) (ap (λ (x : Tree). against_tree c doc false x) (sym tree) ∙ g) n)
+
+pub edit-room : (c : Content) (doc : DocId) (t : Tree) → against_tree c doc false t ≡ None → (other_lengths c doc + document_len t ≤ 33554432) × (document_len t ≤ 262144)
+edit-room c doc t h = let p = passes c doc false t h in (p.room, p.short)
+
+pub edit-planned : (c : Content) (doc : DocId) (change : Change) (h : Held) (t : Tree) (note : EditNote) (number total : ℕ) (leaves enters : List (List ℕ)) → Asks c doc change → act_of change ≡ Edits
+    → document_in held_name c.documents doc ≡ Some h → t ≡ edited h.tree change → against_tree c doc false t ≡ None → against_number c ≡ None → number ≡ c.next → note_in note ≡ note_of h.tag number h.tree change
+    → leaves ≡ addresses_in doc.auid h.tree → enters ≡ addresses_in doc.auid t → total + document_len h.tree ≡ total_of c + document_len t
+    → Plans c doc change (Ok (record { doc = doc; note = note_in note; step = Renew t note; leaves = leaves; enters = enters; total = total }))
+edit-planned c doc change h t note number total leaves enters asks edits found tree free free_number numbered noted left entered sum =
+    let p : Readied = record { doc = doc; note = note_in note; step = Renew t note; leaves = leaves; enters = enters; total = total } in
+    let full : note_in note ≡ note_of h.tag c.next h.tree change = noted ∙ ap (λ (n : ℕ). note_of h.tag n h.tree change) numbered in
+    let same : (note_in note).change ≡ change = ap (λ (n : Note). n.change) full in
+    let made : changing c doc change ≡ Ok (note_in note, content_after c doc change) =
+    edit-changing c doc change h edits found
+    ∙ not-refused-at-all (against_tree c doc false (edited h.tree change)) (against_number c) (note_of h.tag c.next h.tree change) (content_after c doc change) (ap (λ (x : Tree). against_tree c doc false x) (sym tree) ∙ free) free_number
+    ∙ ap (λ (n : Note). let x : Note × Content = (n, content_after c doc change) in let r : Result (Note × Content) StoreRefusal = Ok x in r) (sym full) in
+    plans-made c doc change p refl same (record {
+      asks = subst (λ (x : Change). Asks c doc x) (sym same) asks;
+      made = subst (λ (x : Change). changing c doc x ≡ Ok (note_in note, content_after c doc x)) (sym same) made;
+      number = ap (λ (n : Note). n.next) full;
+      step =
+          (h, found, ap act_of same ∙ edits, tree ∙ ap (λ (x : Change). edited h.tree x) (sym same), refl, full ∙ ap (λ (x : Change). note_of h.tag c.next h.tree x) (sym same), left, entered, sum);
+    })
+
+-- a change that neither makes nor removes a document edits one
+pub edits-one : (change : Change) → ((root : Tree) → change ≡ CreateDocument root → ⊥) → (change ≡ RemoveDocument → ⊥) → act_of change ≡ Edits
+edits-one (CreateDocument root) a b = absurd (a root refl)
+edits-one (Insert parent gap element) a b = refl
+edits-one (Replace p element) a b = refl
+edits-one (Remove p) a b = refl
+edits-one (SetAttr p name value) a b = refl
+edits-one (DropAttr p name) a b = refl
+edits-one RemoveDocument a b = absurd (b refl)
+
+-- what is asked of an edit of the document that is held
+pub asked : (c : Content) (doc : DocId) (change : Change) (h : Held) → act_of change ≡ Edits → document_in held_name c.documents doc ≡ Some h → Asks c doc change → Fits h.tree change × MayBeFor (usage_of h.id.auid) (edited h.tree change)
+asked c doc change h edits found asks =
+    let here : AsksAct c doc change Edits = subst (λ (act : Act). AsksAct c doc change act) edits asks in
+    subst (λ (o : Option Held). IsSomeAnd o (λ x. Fits x.tree change × MayBeFor (usage_of x.id.auid) (edited x.tree change))) found here
+
+pub asks-held : (c : Content) (doc : DocId) (change : Change) → act_of change ≡ Edits → Asks c doc change → IsSome (document_in held_name c.documents doc)
+asks-held c doc change edits asks =
+    let here : AsksAct c doc change Edits = subst (λ (act : Act). AsksAct c doc change act) edits asks in
+    some-where (document_in held_name c.documents doc) here
+  where
+    some-where : (o : Option Held) → IsSomeAnd o (λ x. Fits x.tree change × MayBeFor (usage_of x.id.auid) (edited x.tree change)) → IsSome o
+    some-where None a = absurd a
+    some-where (Some x) a = refl
+
+-- ---- a document that is taken away
+
+pub removal-unnumbered : (c : Content) (doc : DocId) (e : StoreRefusal) → against_number c ≡ Some e → Plans c doc RemoveDocument (Err e)
+removal-unnumbered c doc e h =
+    let note = note_for c doc RemoveDocument (document_in held_name c.documents doc) in
+    plans-refused c doc RemoveDocument e (ap (λ (o : Option StoreRefusal). answered o note (content_after c doc RemoveDocument)) h)
+
+pub removal-planned : (c : Content) (doc : DocId) (h : Held) (tag number total : ℕ) (leaves : List (List ℕ)) → Asks c doc RemoveDocument → document_in held_name c.documents doc ≡ Some h → against_number c ≡ None → number ≡ c.next
+    → h.tag ≡ tag → leaves ≡ addresses_in doc.auid h.tree → total + document_len h.tree ≡ total_of c
+    → Plans c doc RemoveDocument (Ok (record { doc = doc; note = record { previous = tag; next = number; bindings = []; change = RemoveDocument; fresh = false }; step = End; leaves = leaves; enters = []; total = total }))
+removal-planned c doc h tag number total leaves asks found free numbered tagged left sum =
+    let found_at = document_in held_name c.documents doc in
+    let note : ℕ → ℕ → Note = λ t n. record { previous = t; next = n; bindings = []; change = RemoveDocument; fresh = false } in
+    let p : Readied = record { doc = doc; note = note tag number; step = End; leaves = leaves; enters = []; total = total } in
+    let noted : note_for c doc RemoveDocument found_at ≡ note tag number =
+    ap (λ (o : Option Held). note_for c doc RemoveDocument o) found ∙ ap (λ (t : ℕ). note t c.next) tagged ∙ ap (note tag) (sym numbered) in
+    plans-made c doc RemoveDocument p refl refl (record {
+      asks = asks;
+      made =
+          ap (λ (o : Option StoreRefusal). answered o (note_for c doc RemoveDocument found_at) (content_after c doc RemoveDocument)) free
+          ∙ ap (λ (n : Note). let x : Note × Content = (n, content_after c doc RemoveDocument) in let r : Result (Note × Content) StoreRefusal = Ok x in r) noted;
+      number = numbered;
+      step = (h, found, refl, left, refl, sum);
+    })
+
+-- ---- a change that was planned, once there is room for it
+
+pub prepared-ok : (c : Content) (doc : DocId) (change : Change) (p : Readied) → Plans c doc change (Ok p)
+    → (p.doc ≡ doc) × (changing c doc change ≡ Ok (p.note, content_after c doc change)) × (p.note.change ≡ change)
+prepared-ok c doc change p h =
+    let r = plan-of c doc change p h in
+    let made : changing c p.doc change ≡ Ok (p.note, content_after c p.doc change) = subst (λ (x : Change). changing c p.doc x ≡ Ok (p.note, content_after c p.doc x)) r.1 r.2.made in
+    (r.0, subst (λ (d : DocId). changing c d change ≡ Ok (p.note, content_after c d change)) r.0 made, r.1)
+
+pub prepared-ready : (s t : Stored) (doc : DocId) (change : Change) (p : Readied) (n : ℕ) → Plans s.content doc change (Ok p) → t.content ≡ s.content → 1 ≤ t.room.documents → n ≤ t.room.services → n ≡ length p.enters → IsReady t p
+prepared-ready s t doc change p n h same document services count =
+    record {
+      planned = subst (λ (c : Content). IsPlanned c p) (sym same) (plan-of s.content doc change p h).2;
+      document = document;
+      services = omega (arith, services, count);
+    }

@@ -1,0 +1,358 @@
+-- What a store keeps of its documents and addresses after each step of a change.
+use Rattle.std.proofs.Common.{◌≡◌, ◌≢◌, ℕ, ◌+◌, ◌<◌, ◌≤◌, Bool, true, false, not, cond, List, [], ◌∷◌, ◌++◌, length, map, filter, find, sum_by, Option, None, Some, IsSome, option_map, Ok, refl, sym, ap, subst, ◌∙◌, arith}
+use Rattle.std.proofs.lemmas.List.{append-nil, map-append}
+use Rattle.std.proofs.lemmas.List.Sums.{sum_by-append}
+use Rattle.std.proofs.lemmas.Option.{same_Some}
+use Rattle.std.specs.List.{AllByRecursion, flat_map}
+use Rattle.std.specs.Map.{lookup}
+use Rattle.xml_tree.specs.Tree.{Tree, height}
+use Rattle.usage_docs.specs.Services.{document_len}
+use Rattle.xcap_uri.specs.Same.{same_id}
+use Rattle.xcap_uri.specs.declared.doc_id.DocId.{DocId}
+use Rattle.edit_ops.specs.Changes.{edited}
+use Rattle.edit_ops.specs.declared.change.Change.{Change}
+use Rattle.patch_words.specs.Notes.{Note, note_of}
+use Rattle.patch_record.specs.Recorded.{note_in}
+use Rattle.patch_record.specs.declared.edit_note.EditNote.{EditNote}
+use Rattle.store_core.specs.declared.entry.Entry.{Entry}
+use Rattle.store_core.specs.declared.step.Step.{Step}
+use Rattle.store_core.specs.declared.step.Step.TheVariants.{Make, Renew, End}
+use Rattle.store_core.specs.State.{State, first_state, retained}
+use Rattle.store_core.specs.Held.{Content, Held, Stands}
+use Rattle.store_core.specs.Keeping.{AreApart, Kept}
+use Rattle.store_core.specs.Changing.{Act, Makes, Edits, Removes, after, act_of, content_after, content_after_act, document_in, held_after, held_name, with_document, without_document}
+use Rattle.store_core.specs.Storing.{IsRenewed, IsStoring, Room, Stored, content_in, entry_of, exchanged, held_in, holder, is_among, len_in, name_in, number_in, registered, uris_in}
+use Rattle.store_core.specs.Preparing.{IsPlanned, IsStepOf, Readied, Steppable, Stepped, total_of}
+use Rattle.store_core.proofs.Accepted.{find-map, sum-first, sum-mapped, sum-put}
+use Rattle.store_core.proofs.Apart.{apart-cut, apart-put, each-append, each-cut, each-left, each-right, each-weaker, one-exchanged, one-filtered}
+use Rattle.store_core.proofs.Keeps.{keeps}
+use Rattle.store_core.proofs.KeptAfter.{kept-first}
+use Rattle.store_core.proofs.Standing.{map-filtered}
+use Rattle.store_core.proofs.Entries.{Around, Known, around, each-mapped, known, none-found}
+use Rattle.store_core.proofs.Holders.{held-apart, held-less}
+
+abbrev Row : Type 0
+Row = DocId × Entry
+
+abbrev content : List Held → ℕ → Content
+content hs n = record { documents = hs; next = n }
+
+-- ---- the document that a step is one of
+
+find-first : {D : Type 0} (q : D → Bool) (xs ys : List D) (x : D) → AllByRecursion (λ e. q e ≡ false) xs → q x ≡ true → find q (xs ++ x ∷ ys) ≡ Some x
+find-first q [] ys x a h = ap (λ b. cond b (Some x) (find q ys)) h
+find-first q (y ∷ xs) ys x a h = ap (λ b. cond b (Some y) (find q (xs ++ x ∷ ys))) a.0 ∙ find-first q xs ys x a.1 h
+
+pub held-found : (es : List Row) (doc : DocId) (v : Entry) → Around es doc v → document_in held_name (map held_in es) doc ≡ Some (held_in (doc, v))
+held-found es doc v r =
+    let q : Row → Bool = λ e. same_id doc e.0 in
+    find-map held_in (λ (h : Held). same_id doc h.id) es
+    ∙ ap (λ (rows : List Row). option_map held_in (find q rows)) r.parts
+    ∙ ap (λ (o : Option Row). option_map held_in o) (find-first q r.before r.behind (doc, v) r.none-before r.passes)
+
+pub one-held : (es : List Row) (doc : DocId) (v : Entry) (h : Held) → Around es doc v → document_in held_name (map held_in es) doc ≡ Some h → h ≡ held_in (doc, v)
+one-held es doc v h r e = same_Some h (held_in (doc, v)) (sym e ∙ held-found es doc v r)
+
+-- ---- what holds of each store
+
+pub known-of : (es : List Row) (rs : List (List ℕ × ℕ)) (last total : ℕ) → IsStoring es rs last total → Known es
+known-of es rs last total s = known es last s.kept.0 s.kept.1 s.kept.2
+
+pub around-of : (es : List Row) (rs : List (List ℕ × ℕ)) (last total : ℕ) (doc : DocId) (v : Entry) → IsStoring es rs last total → lookup (same_id doc) es ≡ Some v → Around es doc v
+around-of es rs last total doc v s h = around es doc v (known-of es rs last total s).names h
+
+pub total-is : (es : List Row) (last : ℕ) → total_of (content_in es last) ≡ sum_by len_in es
+total-is es last = sum-mapped (λ (h : Held). document_len h.tree) held_in es
+
+-- the state behind a change that is made
+kept-next : (es rows : List Row) (last : ℕ) (p : Readied) → ((m : State) × Stands (content_in es last) m × Kept m) → IsPlanned (content_in es last) p
+    → content_in rows p.note.next ≡ content_after (content_in es last) p.doc p.note.change → (m : State) × Stands (content_in rows p.note.next) m × Kept m
+kept-next es rows last p kept planned same =
+    let c = content_in es last in
+    let next = keeps c kept.0 p.doc p.note.change p.note (content_after c p.doc p.note.change) kept.1 kept.2 planned.asks planned.made in
+    let m = after kept.0 p.doc p.note.change in
+    (m, subst (λ (d : Content). Stands d m) (sym same) next.0, next.1)
+
+later : (last next : ℕ) (es : List Row) → next ≡ last + 1 → AllByRecursion (λ e. number_in e ≤ last) es → AllByRecursion (λ e. number_in e ≤ next) es
+later last next es e a = each-weaker (λ (r : Row). number_in r ≤ last) (λ (r : Row). number_in r ≤ next) (λ r h. omega (arith, h, e)) es a
+
+numbers-below : (last n : ℕ) (es : List Row) → n ≡ last + 1 → AllByRecursion (λ e. number_in e ≤ last) es → AllByRecursion (λ t. n ≢ t) (map number_in es)
+numbers-below last n [] e a = tt
+numbers-below last n (r ∷ es) e a = ((λ (same : n ≡ number_in r). omega (arith, same, e, a.0)), numbers-below last n es e a.1)
+
+abbrev HasRing : Row → Type 0
+HasRing e = e.1.notes.capacity ≡ 64
+
+-- ---- a document that is made
+
+made-content : (es : List Row) (last : ℕ) (p : Readied) (entry : Entry) → p.note.next ≡ last + 1 → IsStepOf (content_in es last) p (Make entry)
+    → content_in (es ++ (p.doc, entry) ∷ []) p.note.next ≡ content_after (content_in es last) p.doc p.note.change
+made-content es last p entry number step =
+    let c = content_in es last in
+    let root = entry.tree in
+    let new : Held = record { id = p.doc; tag = c.next; tree = root; notes = [] } in
+    let held : held_in (p.doc, entry) ≡ new = ap (λ (x : Entry). held_in (p.doc, x)) step.2 in
+    ap (λ (n : ℕ). content (map held_in (es ++ (p.doc, entry) ∷ [])) (n + 1)) number
+    ∙ ap (λ (hs : List Held). content hs (c.next + 1)) (map-append held_in es ((p.doc, entry) ∷ []))
+    ∙ ap (λ (h : Held). content (map held_in es ++ h ∷ []) (c.next + 1)) held
+    ∙ sym (ap (λ (change : Change). content_after c p.doc change) step.1)
+
+made-stored : (es : List Row) (rs : List (List ℕ × ℕ)) (last total : ℕ) (p : Readied) (entry : Entry) (rows : List (List ℕ × ℕ))
+    → IsStoring es rs last total → IsPlanned (content_in es last) p → IsStepOf (content_in es last) p (Make entry)
+    → ((uri : List ℕ) → registered rows uri ≡ exchanged p.leaves p.enters entry.created (registered rs uri) uri)
+    → IsStoring (es ++ (p.doc, entry) ∷ []) rows p.note.next p.total
+made-stored es rs last total p entry rows s planned step reg =
+    let c = content_in es last in
+    let row : Row = (p.doc, entry) in
+    let kept = kept-next es (es ++ row ∷ []) last p s.kept planned (made-content es last p entry planned.number step) in
+    let apart = (known (es ++ row ∷ []) p.note.next kept.0 kept.1 kept.2).services in
+    let created : entry.created ≡ c.next = ap (λ (x : Entry). x.created) step.2 in
+    let n : number_in row ≡ last + 1 = created in
+    record {
+      kept = kept;
+      addresses = λ uri.
+          reg uri
+          ∙ ap (λ (us : List (List ℕ)). exchanged us p.enters entry.created (registered rs uri) uri) step.3
+          ∙ ap (λ (us : List (List ℕ)). exchanged [] us entry.created (registered rs uri) uri) step.4
+          ∙ ap (λ (o : Option ℕ). exchanged [] (uris_in row) entry.created o uri) (s.addresses uri ∙ ap (λ (ds : List Row). holder ds uri) (sym (append-nil es)))
+          ∙ held-apart uris_in number_in es [] row uri apart;
+      numbers =
+          subst (λ (ns : List ℕ). AreApart ns) (sym (map-append number_in es (row ∷ [])))
+          (apart-put (map number_in es) [] (number_in row) (subst (λ (ns : List ℕ). AreApart ns) (sym (append-nil (map number_in es))) s.numbers)
+          (subst (λ (ns : List ℕ). AllByRecursion (λ t. number_in row ≢ t) ns) (sym (append-nil (map number_in es))) (numbers-below last (number_in row) es n s.given)));
+      given = each-append (λ (r : Row). number_in r ≤ p.note.next) es (row ∷ []) (later last p.note.next es planned.number s.given) (omega (arith, n, planned.number), tt);
+      sum = omega (arith, step.5, total-is es last, sum_by-append len_in es (row ∷ []), sum-first len_in row []);
+      rings = each-append HasRing es (row ∷ []) s.rings (ap (λ (x : Entry). x.notes.capacity) step.2, tt);
+    }
+
+-- ---- a document that is edited
+
+renewed-rows : (es : List Row) (doc : DocId) (v w : Entry) (r : Around es doc v) → map (λ e. cond (same_id doc e.0) (e.0, w) e) es ≡ r.before ++ (doc, w) ∷ r.behind
+renewed-rows es doc v w r =
+    let f : Row → Row = λ e. (e.0, w) in
+    let q : Row → Bool = λ e. same_id doc e.0 in
+    ap (λ (rows : List Row). map (λ (e : Row). cond (q e) (f e) e) rows) r.parts ∙ one-exchanged q f r.before r.behind (doc, v) r.none-before r.passes r.none-behind
+
+renewed-held : (doc : DocId) (v w : Entry) (number : ℕ) (t : Tree) (kept : EditNote) (change : Change) → IsRenewed v number t kept w → t ≡ edited v.tree change → note_in kept ≡ note_of v.tag number v.tree change
+    → held_in (doc, w) ≡ held_after number change (held_in (doc, v))
+renewed-held doc v w number t kept change new tree note =
+    let held : ℕ → Tree → List Note → Held = λ n x ns. record { id = doc; tag = n; tree = x; notes = ns } in
+    ap (λ (n : ℕ). held n w.tree (map note_in w.notes.items)) new.tag
+    ∙ ap (λ (x : Tree). held number x (map note_in w.notes.items)) (new.tree ∙ tree)
+    ∙ ap (λ (ns : List Note). held number (edited v.tree change) ns) (new.notes ∙ ap (λ (n : Note). retained (map note_in v.notes.items ++ n ∷ [])) note)
+
+renewed-content : (es : List Row) (last : ℕ) (p : Readied) (v w : Entry) (t : Tree) (kept : EditNote) (h : Held) (r : Around es p.doc v)
+    → p.note.next ≡ last + 1 → act_of p.note.change ≡ Edits → h ≡ held_in (p.doc, v) → t ≡ edited h.tree p.note.change → note_in kept ≡ note_of h.tag (last + 1) h.tree p.note.change → IsRenewed v p.note.next t kept w
+    → content_in (r.before ++ (p.doc, w) ∷ r.behind) p.note.next ≡ content_after (content_in es last) p.doc p.note.change
+renewed-content es last p v w t kept h r number edits same tree note new =
+    let c = content_in es last in
+    let change = p.note.change in
+    let g : Held → Held = held_after c.next change in
+    let q : Held → Bool = λ x. same_id p.doc x.id in
+    let before = map held_in r.before in
+    let behind = map held_in r.behind in
+    let of_doc : Row → DocId = λ e. e.0 in
+    let nones : (rows : List Row) → AllByRecursion (λ e. same_id p.doc e.0 ≡ false) rows → AllByRecursion (λ x. q x ≡ false) (map held_in rows) = λ rows a. each-mapped (λ (x : Held). q x ≡ false) held_in rows a in
+    let renewed : IsRenewed v c.next t kept w = subst (λ (n : ℕ). IsRenewed v n t kept w) number new in
+    let held : held_in (p.doc, w) ≡ g (held_in (p.doc, v)) =
+    renewed-held p.doc v w c.next t kept change renewed (tree ∙ ap (λ (x : Held). edited x.tree change) same) (note ∙ ap (λ (x : Held). note_of x.tag (last + 1) x.tree change) same) in
+    let all : with_document held_name g c.documents p.doc ≡ before ++ g (held_in (p.doc, v)) ∷ behind =
+    ap (λ (hs : List Held). map (λ (x : Held). cond (q x) (g x) x) hs) (ap (map held_in) r.parts ∙ map-append held_in r.before ((p.doc, v) ∷ r.behind))
+    ∙ one-exchanged q g before behind (held_in (p.doc, v)) (nones r.before r.none-before) r.passes (nones r.behind r.none-behind) in
+    ap (λ (n : ℕ). content (map held_in (r.before ++ (p.doc, w) ∷ r.behind)) (n + 1)) number
+    ∙ ap (λ (hs : List Held). content hs (c.next + 1)) (map-append held_in r.before ((p.doc, w) ∷ r.behind) ∙ ap (λ (x : Held). before ++ x ∷ behind) held ∙ sym all)
+    ∙ sym (ap (λ (act : Act). content_after_act c p.doc change act) edits)
+
+renewed-stored : (es : List Row) (rs : List (List ℕ × ℕ)) (last total : ℕ) (p : Readied) (t : Tree) (kept : EditNote) (v w : Entry) (rows : List (List ℕ × ℕ))
+    → IsStoring es rs last total → IsPlanned (content_in es last) p → IsStepOf (content_in es last) p (Renew t kept) → lookup (same_id p.doc) es ≡ Some v → IsRenewed v p.note.next t kept w
+    → ((uri : List ℕ) → registered rows uri ≡ exchanged p.leaves p.enters w.created (registered rs uri) uri)
+    → (content_in (map (λ e. cond (same_id p.doc e.0) (e.0, w) e) es) p.note.next ≡ content_after (content_in es last) p.doc p.note.change)
+    × IsStoring (map (λ e. cond (same_id p.doc e.0) (e.0, w) e) es) rows p.note.next p.total
+renewed-stored es rs last total p t kept v w rows s planned step found new reg =
+    let c = content_in es last in
+    let r = around-of es rs last total p.doc v s found in
+    let old : Row = (p.doc, v) in
+    let row : Row = (p.doc, w) in
+    let h = step.0 in
+    let same : h ≡ held_in old = one-held es p.doc v h r step.1 in
+    let tree : h.tree ≡ v.tree = ap (λ (x : Held). x.tree) same in
+    let all = renewed-rows es p.doc v w r in
+    let stands = renewed-content es last p v w t kept h r planned.number step.2 same step.3 (step.4 ∙ step.5) new in
+    let next = kept-next es (r.before ++ row ∷ r.behind) last p s.kept planned stands in
+    let apart = (known (r.before ++ row ∷ r.behind) p.note.next next.0 next.1 next.2).services in
+    let before-apart : AreApart (flat_map uris_in (r.before ++ old ∷ r.behind)) = subst (λ (ds : List Row). AreApart (flat_map uris_in ds)) r.parts (known-of es rs last total s).services in
+    let given = subst (λ (ds : List Row). AllByRecursion (λ e. number_in e ≤ p.note.next) ds) r.parts (later last p.note.next es planned.number s.given) in
+    let given-behind = each-right (λ (e : Row). number_in e ≤ p.note.next) r.before (old ∷ r.behind) given in
+    let rings = subst (λ (ds : List Row). AllByRecursion HasRing ds) r.parts s.rings in
+    let enters : p.enters ≡ uris_in row = step.7 ∙ ap (λ (x : Tree). uris_in (p.doc, record w { tree = x })) (sym new.tree) in
+    let leaves : p.leaves ≡ uris_in old = step.6 ∙ ap (λ (x : Tree). uris_in (p.doc, record v { tree = x })) tree in
+    let stored : IsStoring (r.before ++ row ∷ r.behind) rows p.note.next p.total = record {
+      kept = next;
+      addresses = λ uri.
+          reg uri
+          ∙ ap (λ (us : List (List ℕ)). exchanged us p.enters w.created (registered rs uri) uri) leaves
+          ∙ ap (λ (us : List (List ℕ)). exchanged (uris_in old) us w.created (registered rs uri) uri) enters
+          ∙ ap (λ (o : Option ℕ). cond (is_among (uris_in row) uri) (Some w.created) (cond (is_among (uris_in old) uri) None o)) (s.addresses uri ∙ ap (λ (ds : List Row). holder ds uri) r.parts)
+          ∙ ap (λ (o : Option ℕ). cond (is_among (uris_in row) uri) (Some w.created) o) (held-less uris_in number_in r.before r.behind old uri before-apart)
+          ∙ held-apart uris_in number_in r.before r.behind row uri apart;
+      numbers =
+          subst (λ (ns : List ℕ). AreApart ns)
+          (ap (map number_in) r.parts ∙ map-append number_in r.before (old ∷ r.behind) ∙ ap (λ (n : ℕ). map number_in r.before ++ n ∷ map number_in r.behind) (sym new.created) ∙ sym (map-append number_in r.before (row ∷ r.behind)))
+          s.numbers;
+      given = each-append (λ (e : Row). number_in e ≤ p.note.next) r.before (row ∷ r.behind) (each-left (λ (e : Row). number_in e ≤ p.note.next) r.before (old ∷ r.behind) given) (omega (arith, new.created, given-behind.0), given-behind.1);
+      sum =
+          omega (arith, step.8, total-is es last, ap (sum_by len_in) r.parts, sum-put len_in r.before old r.behind, sum-put len_in r.before row r.behind, ap document_len tree, ap document_len new.tree);
+      rings = each-append HasRing r.before (row ∷ r.behind) (each-left HasRing r.before (old ∷ r.behind) rings) (new.capacity, (each-right HasRing r.before (old ∷ r.behind) rings).1);
+    } in (
+      ap (λ (ds : List Row). content_in ds p.note.next) all ∙ stands,
+      subst (λ (ds : List Row). IsStoring ds rows p.note.next p.total) (sym all) stored,
+    )
+
+-- ---- a document that is taken away
+
+ended-content : (es : List Row) (last : ℕ) (p : Readied) → p.note.next ≡ last + 1 → IsStepOf (content_in es last) p End
+    → content_in (filter (λ e. not (same_id p.doc e.0)) es) p.note.next ≡ content_after (content_in es last) p.doc p.note.change
+ended-content es last p number step =
+    let c = content_in es last in
+    let others = filter (λ (e : Row). not (same_id p.doc e.0)) es in
+    ap (λ (n : ℕ). content (map held_in others) (n + 1)) number
+    ∙ ap (λ (hs : List Held). content hs (c.next + 1)) (map-filtered held_in (λ (e : Row). not (same_id p.doc e.0)) (λ (h : Held). not (same_id p.doc h.id)) (λ e. refl) es)
+    ∙ sym (ap (λ (change : Change). content_after c p.doc change) step.2)
+
+ended-stored : (es : List Row) (rs : List (List ℕ × ℕ)) (last total : ℕ) (p : Readied) (v : Entry) (created : ℕ) (rows : List (List ℕ × ℕ))
+    → IsStoring es rs last total → IsPlanned (content_in es last) p → IsStepOf (content_in es last) p End → lookup (same_id p.doc) es ≡ Some v
+    → ((uri : List ℕ) → registered rows uri ≡ exchanged p.leaves p.enters created (registered rs uri) uri)
+    → IsStoring (filter (λ e. not (same_id p.doc e.0)) es) rows p.note.next p.total
+ended-stored es rs last total p v created rows s planned step found reg =
+    let r = around-of es rs last total p.doc v s found in
+    let old : Row = (p.doc, v) in
+    let h = step.0 in
+    let same : h ≡ held_in old = one-held es p.doc v h r step.1 in
+    let tree : h.tree ≡ v.tree = ap (λ (x : Held). x.tree) same in
+    let all : filter (λ (e : Row). not (same_id p.doc e.0)) es ≡ r.before ++ r.behind =
+    ap (λ (ds : List Row). filter (λ (e : Row). not (same_id p.doc e.0)) ds) r.parts ∙ one-filtered (λ (e : Row). same_id p.doc e.0) r.before r.behind old r.none-before r.passes r.none-behind in
+    let next = kept-next es (filter (λ (e : Row). not (same_id p.doc e.0)) es) last p s.kept planned (ended-content es last p planned.number step) in
+    let before-apart : AreApart (flat_map uris_in (r.before ++ old ∷ r.behind)) = subst (λ (ds : List Row). AreApart (flat_map uris_in ds)) r.parts (known-of es rs last total s).services in
+    let leaves : p.leaves ≡ uris_in old = step.3 ∙ ap (λ (x : Tree). uris_in (p.doc, record v { tree = x })) tree in
+    let numbers : AreApart (map number_in r.before ++ (number_in old ∷ [] ++ map number_in r.behind)) =
+    subst (λ (ns : List ℕ). AreApart ns) (ap (map number_in) r.parts ∙ map-append number_in r.before (old ∷ r.behind)) s.numbers in
+    let given = subst (λ (ds : List Row). AllByRecursion (λ e. number_in e ≤ p.note.next) ds) r.parts (later last p.note.next es planned.number s.given) in
+    let rings = subst (λ (ds : List Row). AllByRecursion HasRing ds) r.parts s.rings in
+    subst (λ (ds : List Row). IsStoring ds rows p.note.next p.total) (sym all) (record {
+      kept = subst (λ (ds : List Row). (m : State) × Stands (content_in ds p.note.next) m × Kept m) all next;
+      addresses = λ uri.
+          reg uri
+          ∙ ap (λ (us : List (List ℕ)). exchanged us p.enters created (registered rs uri) uri) leaves
+          ∙ ap (λ (us : List (List ℕ)). exchanged (uris_in old) us created (registered rs uri) uri) step.4
+          ∙ ap (λ (o : Option ℕ). cond (is_among (uris_in old) uri) None o) (s.addresses uri ∙ ap (λ (ds : List Row). holder ds uri) r.parts)
+          ∙ held-less uris_in number_in r.before r.behind old uri before-apart;
+      numbers = subst (λ (ns : List ℕ). AreApart ns) (sym (map-append number_in r.before r.behind)) (apart-cut (map number_in r.before) (number_in old ∷ []) (map number_in r.behind) numbers);
+      given = each-cut (λ (e : Row). number_in e ≤ p.note.next) r.before (old ∷ []) r.behind given;
+      sum = omega (arith, step.5, total-is es last, ap (sum_by len_in) r.parts, sum-put len_in r.before old r.behind, ap document_len tree);
+      rings = each-cut HasRing r.before (old ∷ []) r.behind rings;
+    })
+
+-- ---- any step
+
+none-held : (rows : List Row) (id : DocId) → AllByRecursion (λ e. same_id id e.0 ≡ false) rows → document_in held_name (map held_in rows) id ≡ None
+none-held [] id a = refl
+none-held (r ∷ rows) id a = ap (λ b. cond b (Some (held_in r)) (document_in held_name (map held_in rows) id)) a.0 ∙ none-held rows id a.1
+
+pub missing-held : (es : List Row) (doc : DocId) → lookup (same_id doc) es ≡ None → document_in held_name (map held_in es) doc ≡ None
+missing-held es doc e = none-held es doc (none-found (same_id doc) es e)
+
+found-entry : (es : List Row) (doc : DocId) (h : Held) (o : Option Entry) → lookup (same_id doc) es ≡ o → document_in held_name (map held_in es) doc ≡ Some h → (v : Entry) × (lookup (same_id doc) es ≡ Some v)
+found-entry es doc h (Some v) e there = (v, e)
+found-entry es doc h None e there = let missing = missing-held es doc e in cc
+
+nothing-there : (o : Option Held) → o ≡ None → IsSome o → ⊥
+nothing-there None e h = cc
+nothing-there (Some h) e g = cc
+
+-- a document that is held has an entry
+pub no-entry : (es : List Row) (last : ℕ) (room : Room) (s : Stored) (doc : DocId) → (let x : Stored = record { content = content_in es last; room = room } in x) ≡ s → None ≡ lookup (same_id doc) es → IsSome (document_in held_name s.content.documents doc) → ⊥
+no-entry es last room s doc seen none h =
+    nothing-there (document_in held_name (map held_in es) doc) (missing-held es doc (sym none)) (subst (λ (x : Stored). IsSome (document_in held_name x.content.documents doc)) (sym seen) h)
+
+pub stored : (es : List Row) (rs : List (List ℕ × ℕ)) (last total : ℕ) (p : Readied) (step : Step) (created : ℕ) (next : List Row) (rows : List (List ℕ × ℕ))
+    → IsStoring es rs last total → IsPlanned (content_in es last) p → IsStepOf (content_in es last) p step → Stepped es p.doc p.note.next step created next
+    → ((uri : List ℕ) → registered rows uri ≡ exchanged p.leaves p.enters created (registered rs uri) uri)
+    → (content_in next p.note.next ≡ content_after (content_in es last) p.doc p.note.change) × IsStoring next rows p.note.next p.total
+stored es rs last total p (Make entry) created next rows s planned step stepped reg =
+    let row : Row = (p.doc, entry) in
+    let registered-as = λ (uri : List ℕ). reg uri ∙ ap (λ (n : ℕ). exchanged p.leaves p.enters n (registered rs uri) uri) stepped.1 in (
+      ap (λ (ds : List Row). content_in ds p.note.next) stepped.0 ∙ made-content es last p entry planned.number step,
+      subst (λ (ds : List Row). IsStoring ds rows p.note.next p.total) (sym stepped.0) (made-stored es rs last total p entry rows s planned step registered-as),
+    )
+stored es rs last total p (Renew t kept) created next rows s planned step stepped reg =
+    let v = stepped.0 in
+    let w = stepped.1 in
+    let registered-as = λ (uri : List ℕ). reg uri ∙ ap (λ (n : ℕ). exchanged p.leaves p.enters n (registered rs uri) uri) stepped.5 in
+    let made = renewed-stored es rs last total p t kept v w rows s planned step stepped.2 stepped.3 registered-as in (
+      ap (λ (ds : List Row). content_in ds p.note.next) stepped.4 ∙ made.0,
+      subst (λ (ds : List Row). IsStoring ds rows p.note.next p.total) (sym stepped.4) made.1,
+    )
+stored es rs last total p End created next rows s planned step stepped reg =
+    let found = found-entry es p.doc step.0 (lookup (same_id p.doc) es) refl step.1 in (
+      ap (λ (ds : List Row). content_in ds p.note.next) stepped ∙ ended-content es last p planned.number step,
+      subst (λ (ds : List Row). IsStoring ds rows p.note.next p.total) (sym stepped) (ended-stored es rs last total p found.0 created rows s planned step found.1 reg),
+    )
+
+-- ---- a store before any change, and one whose room alone changed
+
+pub first-storing : (es : List Row) (rs : List (List ℕ × ℕ)) (first last : ℕ) → es ≡ [] → rs ≡ [] → 1 ≤ first → last + 1 ≡ first → IsStoring es rs last 0
+first-storing es rs first last none empty h e =
+    subst (λ (ds : List Row). IsStoring ds rs last 0) (sym none)
+    (subst (λ (us : List (List ℕ × ℕ)). IsStoring [] us last 0) (sym empty)
+    (record {
+      kept = (first_state first, record { documents = refl; next = e }, kept-first first h);
+      addresses = λ uri. refl;
+      numbers = tt;
+      given = tt;
+      sum = refl;
+      rings = tt;
+    }))
+
+pub same-storing : (es ds : List Row) (rs us : List (List ℕ × ℕ)) (last total : ℕ) → ds ≡ es → us ≡ rs → IsStoring es rs last total → IsStoring ds us last total
+same-storing es ds rs us last total e g s =
+    subst (λ (x : List Row). IsStoring x us last total) (sym e) (subst (λ (x : List (List ℕ × ℕ)). IsStoring es x last total) (sym g) s)
+
+-- ---- what a look-up finds
+
+pub low-entry : (es : List Row) (rs : List (List ℕ × ℕ)) (last total : ℕ) (doc : DocId) (v : Entry) → IsStoring es rs last total → lookup (same_id doc) es ≡ Some v → height v.tree ≤ 64
+low-entry es rs last total doc v s found =
+    let r = around-of es rs last total doc v s found in
+    let P : Row → Type 0 = λ e. height e.1.tree ≤ 64 in
+    (each-right P r.before ((doc, v) ∷ r.behind) (subst (λ (ds : List Row). AllByRecursion P ds) r.parts (known-of es rs last total s).low)).0
+
+pub short-entry : (es : List Row) (rs : List (List ℕ × ℕ)) (last total : ℕ) (doc : DocId) (v : Entry) → IsStoring es rs last total → lookup (same_id doc) es ≡ Some v → document_len v.tree ≤ 262144
+short-entry es rs last total doc v s found =
+    let r = around-of es rs last total doc v s found in
+    let P : Row → Type 0 = λ e. document_len e.1.tree ≤ 262144 in
+    (each-right P r.before ((doc, v) ∷ r.behind) (subst (λ (ds : List Row). AllByRecursion P ds) r.parts (known-of es rs last total s).short)).0
+
+pub ring-of : (es : List Row) (rs : List (List ℕ × ℕ)) (last total : ℕ) (doc : DocId) (v : Entry) → IsStoring es rs last total → lookup (same_id doc) es ≡ Some v → v.notes.capacity ≡ 64
+ring-of es rs last total doc v s found =
+    let r = around-of es rs last total doc v s found in
+    (each-right HasRing r.before ((doc, v) ∷ r.behind) (subst (λ (ds : List Row). AllByRecursion HasRing ds) r.parts s.rings)).0
+
+-- ---- what a step wants
+
+not-there : (es : List Row) (rs : List (List ℕ × ℕ)) (last total : ℕ) (doc : DocId) (o : Option Entry) → IsStoring es rs last total → lookup (same_id doc) es ≡ o → document_in held_name (map held_in es) doc ≡ None → lookup (same_id doc) es ≡ None
+not-there es rs last total doc None s e missing = e
+not-there es rs last total doc (Some v) s e missing =
+    let there : document_in held_name (map held_in es) doc ≡ Some (held_in (doc, v)) = held-found es doc v (around-of es rs last total doc v s e) in
+    cc
+
+pub steppable : (es : List Row) (rs : List (List ℕ × ℕ)) (last total : ℕ) (p : Readied) (step : Step) → IsStoring es rs last total → IsStepOf (content_in es last) p step → Steppable es p.doc step
+steppable es rs last total p (Make entry) s step = not-there es rs last total p.doc (lookup (same_id p.doc) es) s refl step.0
+steppable es rs last total p (Renew t kept) s step =
+    let found = found-entry es p.doc step.0 (lookup (same_id p.doc) es) refl step.1 in
+    (found.0, found.1, ring-of es rs last total p.doc found.0 s found.1)
+steppable es rs last total p End s step = tt
+
+pub absent-entry : (es : List Row) (rs : List (List ℕ × ℕ)) (last total : ℕ) (doc : DocId) → IsStoring es rs last total → document_in held_name (map held_in es) doc ≡ None → lookup (same_id doc) es ≡ None
+absent-entry es rs last total doc s missing = not-there es rs last total doc (lookup (same_id doc) es) s refl missing
+
+pub present-entry : (es : List Row) (doc : DocId) (h : Held) → document_in held_name (map held_in es) doc ≡ Some h → (v : Entry) × (lookup (same_id doc) es ≡ Some v)
+present-entry es doc h there = found-entry es doc h (lookup (same_id doc) es) refl there

@@ -1,0 +1,6 @@
+use Rattle.std.proofs.Common.{◌∙◌}
+use Rattle.store_core.proofs.Keyed.{taken-out}
+use Rattle.store_core.proofs.step.end.Goals as goal
+
+pub returns : goal.returns
+returns c = c.shift_remove.ensures.entries ∙ taken-out c.args.doc.now c.args.documents.now.entries c.len-count.ensures.unique

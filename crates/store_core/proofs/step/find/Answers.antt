@@ -1,0 +1,6 @@
+use Rattle.std.proofs.Common.{◌∙◌}
+use Rattle.store_core.proofs.Keyed.{looked-up}
+use Rattle.store_core.proofs.step.find.Goals as goal
+
+pub returns : goal.returns
+returns c = c.get.ensures.value ∙ looked-up c.args.doc.now c.args.documents.now.entries

@@ -1,0 +1,36 @@
+use Rattle.std.proofs.Common.{◌≡◌, ℕ, Option, None, Some, sym, ap, ◌∙◌, rules}
+use Rattle.std.specs.Map.{lookup}
+use Rattle.std.specs.Option.{option_map}
+use Rattle.xml_tree.specs.Tree.{Tree}
+use Rattle.xcap_uri.specs.Same.{same_id}
+use Rattle.store_core.specs.declared.entry.Entry.{Entry}
+use Rattle.store_core.specs.Changing.{document_in, held_name}
+use Rattle.store_core.specs.Held.{Held}
+use Rattle.store_core.specs.Storing.{Stored}
+use Rattle.store_core.proofs.Entries.{tree-and-tag}
+use Rattle.store_core.proofs.Stored.{low-entry}
+use Rattle.store_core.proofs.store.Store.get.Goals as goal
+
+pub returns-in_err-entry-clause-held : goal.returns-in_err-entry-clause-held
+returns-in_err-entry-clause-held c =
+    let es = c.self.inside.documents.entries in
+    let doc = c.args.doc.now in
+    let none : None ≡ lookup (same_id doc) es = rw c.in_err-entry.was at c.find.ensures in
+    let same = ap (λ (s : Stored). option_map {U = Tree × ℕ} (λ (h : Held). (h.tree, h.tag)) (document_in held_name s.content.documents doc)) c.self.view_is in
+    let told : c.from_residual.result ≡ None = search rules in
+    rw told (ap (λ (o : Option Entry). option_map {U = Tree × ℕ} (λ (v : Entry). (v.tree, v.tag)) o) none ∙ sym (tree-and-tag es doc) ∙ same)
+
+pub returns-clause-held : goal.returns-clause-held
+returns-clause-held c =
+    let es = c.self.inside.documents.entries in
+    let doc = c.args.doc.now in
+    let there : Some c.in_ok-entry.entry.now ≡ lookup (same_id doc) es = rw c.in_ok-entry.was at c.find.ensures in
+    let same = ap (λ (s : Stored). option_map {U = Tree × ℕ} (λ (h : Held). (h.tree, h.tag)) (document_in held_name s.content.documents doc)) c.self.view_is in
+    ap (λ (o : Option Entry). option_map {U = Tree × ℕ} (λ (v : Entry). (v.tree, v.tag)) o) there ∙ sym (tree-and-tag es doc) ∙ same
+
+pub returns-clause-low : goal.returns-clause-low
+returns-clause-low c =
+    let es = c.self.inside.documents.entries in
+    let doc = c.args.doc.now in
+    let there : Some c.in_ok-entry.entry.now ≡ lookup (same_id doc) es = rw c.in_ok-entry.was at c.find.ensures in
+    low-entry es c.self.inside.services.entries c.self.inside.last c.self.inside.total doc c.in_ok-entry.entry.now c.self.invariant (sym there)

@@ -1,0 +1,33 @@
+use Rattle.std.proofs.Common.{arith}
+use Rattle.indexmap.specs.IndexMap.{spare}
+use Rattle.store_core.specs.Storing.{Room}
+use Rattle.store_core.proofs.Planning.{no-longer, others-are, total-small, whole-is}
+use Rattle.store_core.proofs.Stored.{no-entry}
+use Rattle.store_core.proofs.store.Store.total_without.Goals as goal
+
+pub unreachable-requires : goal.unreachable-requires
+unreachable-requires c =
+    let s = c.self.inside in
+    let room : Room = record { documents = spare s.documents; services = spare s.services } in
+    no-entry s.documents.entries s.last room c.args.self.now c.args.doc.now c.self.view_is (rw c.in_default.is at c.find.ensures) c.requires
+
+pub overflow_sub-result : goal.overflow_sub-result
+overflow_sub-result c =
+    let s = c.self.inside in
+    let room : Room = record { documents = spare s.documents; services = spare s.services } in
+    no-longer s.documents.entries s.services.entries s.last s.total room c.args.self.now c.args.doc.now c.self.view_is c.self.invariant c.in-Some.entry.now c.in-Some.ensures c.document_len.result c.document_len.ensures
+
+pub returns-clause-others : goal.returns-clause-others
+returns-clause-others c =
+    let s = c.self.inside in
+    let room : Room = record { documents = spare s.documents; services = spare s.services } in
+    others-are s.documents.entries s.services.entries s.last s.total room c.args.self.now c.args.doc.now c.self.view_is c.self.invariant c.in-Some.entry.now c.in-Some.ensures c.document_len.result c.document_len.ensures
+
+pub returns-clause-small : goal.returns-clause-small
+returns-clause-small c = let s = c.self.inside in omega (arith, total-small s.documents.entries s.services.entries s.last s.total c.self.invariant)
+
+pub returns-clause-whole : goal.returns-clause-whole
+returns-clause-whole c =
+    let s = c.self.inside in
+    let room : Room = record { documents = spare s.documents; services = spare s.services } in
+    whole-is s.documents.entries s.services.entries s.last s.total room c.args.self.now c.args.doc.now c.self.view_is c.self.invariant c.in-Some.entry.now c.in-Some.ensures c.document_len.result c.document_len.ensures

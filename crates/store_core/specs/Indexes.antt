@@ -1,0 +1,47 @@
+-- The documents that the index of all services lists. RFC 4826, section 4.4.7: those that users keep under the name `index`.
+use Rattle.std.specs.Prelude.{ℕ, Bool, true, false, List, [], ◌∷◌, map, count_by, codes, Option, None, Some}
+use Rattle.std.specs.List.{filter_map}
+use Rattle.std.specs.Cmp.Lexicographic.{slice_cmp}
+use Rattle.std.specs.Ordering.{is_lt, match_ordering, nat_cmp}
+use Rattle.std.specs.Str.{bytes_eq, chars}
+use Rattle.xml_tree.specs.Tree.{Tree}
+use Rattle.xcap_uri.specs.declared.doc_id.Auid.{Auid}
+use Rattle.xcap_uri.specs.declared.doc_id.Auid.TheVariants.{ResourceLists, RlsServices, XcapCaps}
+use Rattle.xcap_uri.specs.declared.doc_id.Home.{Home}
+use Rattle.xcap_uri.specs.declared.doc_id.Home.TheVariants.{Global, User}
+use Rattle.store_core.specs.Held.{Content, Held}
+
+-- the name that each document of services has which the index lists
+unfoldable pub index : List ℕ
+index = chars (codes "index")
+
+-- a user's name and the tree of the document of services that the index lists
+abbrev pub indexed_in : Home → Tree → Option (List ℕ × Tree)
+indexed_in Global t = None
+indexed_in (User xui) t = Some (xui, t)
+
+abbrev pub indexed_by : Auid → Bool → Home → Tree → Option (List ℕ × Tree)
+indexed_by ResourceLists is_index home t = None
+indexed_by RlsServices false home t = None
+indexed_by RlsServices true home t = indexed_in home t
+indexed_by XcapCaps is_index home t = None
+
+abbrev pub indexed : Held → Option (List ℕ × Tree)
+indexed h = indexed_by h.id.auid (bytes_eq h.id.name index) h.id.home h.tree
+
+-- one more in a list in the order of the users' names, by code points
+abbrev pub placed : List ℕ × Tree → List (List ℕ × Tree) → List (List ℕ × Tree)
+placed d [] = d ∷ []
+placed d (e ∷ es) = match_ordering (slice_cmp nat_cmp d.0 e.0) (d ∷ e ∷ es) (d ∷ e ∷ es) (e ∷ placed d es)
+
+abbrev pub in_order : List (List ℕ × Tree) → List (List ℕ × Tree)
+in_order [] = []
+in_order (d ∷ ds) = placed d (in_order ds)
+
+-- the trees that the index lists, by the users' names
+abbrev pub index_trees : Content → List Tree
+index_trees c = map (λ d. d.1) (in_order (filter_map indexed c.documents))
+
+-- how many of these stand before a user's name
+abbrev pub rank : List (List ℕ × Tree) → List ℕ → ℕ
+rank es xui = count_by (λ e. is_lt (slice_cmp nat_cmp e.0 xui)) es

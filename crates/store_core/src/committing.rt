@@ -1,0 +1,51 @@
+//! Changes that have all their memory are made.
+ghost use Rattle.std.specs.Prelude.{◌≡◌, Err, IfErr, IfOk, Ok};
+ghost use Rattle.patch_record.specs.Recorded.{note_in};
+ghost use Rattle.store_core.specs.declared.refusal.StoreRefusal.TheVariants as refusals;
+ghost use Rattle.store_core.specs.Asking.{Asks};
+ghost use Rattle.store_core.specs.Changing.{changing, content_after};
+ghost use Rattle.store_core.specs.Preparing.{IsReady, Steps};
+
+use crate::prepared::Prepared;
+use crate::refusal::StoreRefusal;
+use crate::registry::{enter, leave};
+use crate::store::Store;
+use edit_ops::Change;
+use patch_record::EditNote;
+use xcap_uri::DocId;
+
+impl Store {
+    /// Makes a change that has all its memory, and answers its note. Nothing may have changed since `prepare`. Takes no memory.
+    pub fn commit(&mut self, prepared: Prepared) -> EditNote
+        requires { IsReady self.old prepared }
+        ensures content { self.new.content ≡ content_after self.old.content prepared.doc prepared.note.change }
+        ensures note { note_in result ≡ prepared.note }
+    {
+        let Prepared {
+            doc,
+            note,
+            step,
+            leaves,
+            enters,
+            total,
+        } = prepared;
+        leave(&mut self.services, leaves.as_slice());
+        let created = step.take(&mut self.documents, doc, note.next);
+        enter(&mut self.services, enters.into_vec(), created);
+        self.last = note.next;
+        self.total = total;
+        note
+    }
+
+    /// Makes a change of a document, under the next number, and answers its note. The conditions are those of `prepare`.
+    ///
+    /// # Errors
+    /// The first reason against the change, in the order of `StoreRefusal`, or `NoMemory`; the store then holds what it held.
+    pub fn change(&mut self, doc: &DocId, change: Change) -> Result<EditNote, StoreRefusal>
+        requires { Asks self.old.content doc.now change }
+        ensures { Steps refusals.NoMemory (changing self.old.content doc.now change) note_in result self.old.content self.new.content }
+    {
+        let prepared = self.prepare(doc, change)?;
+        Ok(self.commit(prepared))
+    }
+}

@@ -1,0 +1,105 @@
+//! One document as the store keeps it, with the notes that are retained of its changes (RFC 5874, section 3).
+ghost use Rattle.std.specs.Prelude.{◌≡◌, ◌<◌, ◌++◌, ◌∷◌, [], true, false, length, map, min, nat_le, sum_by, IfOk};
+ghost use Rattle.patch_words.specs.Operations.{weight};
+ghost use Rattle.patch_record.specs.Recorded.{note_in};
+ghost use Rattle.store_core.specs.State.{is_small, retained};
+ghost use Rattle.store_core.specs.Storing.{IsRenewed, entry_of};
+
+use circular_buffer::HeapCircularBuffer;
+use patch_record::{EditNote, weight};
+use std::alloc::{AllocError, Global};
+use xml_tree::Element;
+
+// How many notes are retained at most, and how much they weigh together at most.
+const MOST_NOTES: usize = 64;
+
+const MOST_WEIGHT: usize = 65_536;
+
+pub(crate) type NoteRing = HeapCircularBuffer<EditNote>;
+
+/// A document: the number that its creation took, its tag and its tree, and the notes that are retained.
+#[derive(Drop)]
+pub struct Entry {
+    pub(crate) created: u64,
+    pub(crate) tag: u64,
+    pub(crate) tree: Element,
+    pub(crate) notes: NoteRing,
+}
+
+impl Entry {
+    /// A document that is made with this number, with the memory for its notes.
+    pub(crate) fn new(alloc: Global, number: u64, tree: Element) -> Result<Entry, AllocError>
+        ensures { IfOk result (λ made. made ≡ entry_of number tree) }
+    {
+        let notes = HeapCircularBuffer::with_capacity(alloc, MOST_NOTES)?;
+        Ok(Entry {
+            created: number,
+            tag: number,
+            tree,
+            notes,
+        })
+    }
+}
+
+/// Gives a document the tree that an edit left, with its number as the tag, and keeps the edit's note.
+pub(crate) fn renew(entry: &mut Entry, number: u64, tree: Element, note: EditNote)
+    requires { entry.old.notes.capacity ≡ 64 }
+    ensures { IsRenewed entry.old number tree note entry.new }
+{
+    keep(&mut entry.notes, note);
+    entry.tag = number;
+    entry.tree = tree;
+}
+
+// How much notes weigh together; the greatest number where it is more.
+fn weight_of(notes: &[EditNote]) -> usize
+    ensures { result ≡ min (sum_by weight (map note_in notes.now)) usize.MAX }
+{
+    let mut total = 0usize;
+    for note in notes {
+        total = total.saturating_add(weight(note));
+    }
+    total
+}
+
+// Whether all notes of a ring weigh little enough to be retained.
+fn is_light(notes: &NoteRing) -> bool
+    ensures { result ≡ nat_le (sum_by weight (map note_in notes.now.items)) 65536 }
+{
+    let (older, newer) = notes.as_slices();
+    weight_of(older).saturating_add(weight_of(newer)) <= MOST_WEIGHT
+}
+
+// Whether the oldest note of a ring has to go.
+fn is_heavy(notes: &NoteRing) -> bool
+    requires { notes.now.capacity ≡ 64 }
+    ensures heavy { result ≡ true → (1 < length notes.now.items) × (is_small weight (map note_in notes.now.items) ≡ false) }
+    ensures light { result ≡ false → retained (map note_in notes.now.items) ≡ map note_in notes.now.items }
+{
+    if notes.len() <= 1 {
+        return false;
+    }
+    !is_light(notes)
+}
+
+// Gives up the oldest notes, until those that are left may be retained.
+fn trim(notes: &mut NoteRing)
+    requires { notes.old.capacity ≡ 64 }
+    ensures capacity { notes.new.capacity ≡ 64 }
+    ensures kept { map note_in notes.new.items ≡ retained (map note_in notes.old.items) }
+{
+    'oldest: while is_heavy(notes) {
+        notes.pop_front();
+    }
+}
+
+// Keeps a note, and gives up the oldest ones that are not retained behind it.
+fn keep(notes: &mut NoteRing, note: EditNote)
+    requires { notes.old.capacity ≡ 64 }
+    ensures capacity { notes.new.capacity ≡ 64 }
+    ensures kept { map note_in notes.new.items ≡ retained (map note_in notes.old.items ++ note_in note ∷ []) }
+{
+    let _count = notes.len();
+    notes.push_back(note);
+    trim(notes);
+}

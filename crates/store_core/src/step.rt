@@ -1,0 +1,97 @@
+//! What a change does to the entries of the documents.
+ghost use Rattle.std.specs.Prelude.{◌≡◌, ◌<◌, ◌++◌, ◌∷◌, [], ℕ, map, filter, not, None, Some, if◌then◌else◌};
+ghost use Rattle.std.specs.Map.{lookup};
+ghost use Rattle.std.specs.Option.{option_copied};
+ghost use Rattle.indexmap.specs.IndexMap.{spare};
+ghost use Rattle.xcap_uri.specs.Same.{same_id};
+ghost use Rattle.store_core.specs.declared.entry.Entry.{Entry as Held};
+ghost use Rattle.store_core.specs.Storing.{IsRenewed};
+
+use crate::entry::{Entry, renew};
+use indexmap::IndexMap;
+use patch_record::EditNote;
+use xcap_uri::DocId;
+use xml_tree::Element;
+
+pub(crate) type Documents = IndexMap<DocId, Entry>;
+
+/// What is done to the entry of a document, with all its memory.
+#[derive(Drop)]
+pub enum Step {
+    /// It is made.
+    Make(Entry),
+    /// It gets this tree, and this note is kept.
+    Renew(Element, EditNote),
+    /// It is taken out.
+    End,
+}
+
+/// The entry of a document.
+pub(crate) fn find<'a>(documents: &'a Documents, doc: &DocId) -> Option<&'a Entry>
+    ensures { option_copied result ≡ lookup (same_id doc.now) documents.now.entries }
+{
+    documents.get(doc)
+}
+
+// Puts a document that isn't there behind the others.
+fn make(documents: &mut Documents, doc: DocId, entry: Entry)
+    requires absent { lookup (same_id doc) documents.old.entries ≡ None }
+    requires room { 0 < spare documents.old }
+    ensures { documents.new.entries ≡ documents.old.entries ++ (doc, entry) ∷ [] }
+{
+    documents.insert(doc, entry).unwrap();
+}
+
+// Gives a document that is there the tree of an edit and keeps its note, and answers the number of the document's creation.
+fn exchange(
+    documents: &mut Documents,
+    doc: &DocId,
+    number: u64,
+    tree: Element,
+    note: EditNote,
+) -> u64
+    requires { (v : Held) × (lookup (same_id doc.now) documents.old.entries ≡ Some v) × (v.notes.capacity ≡ 64) }
+    ensures { (v : Held) × (w : Held) × (lookup (same_id doc.now) documents.old.entries ≡ Some v) × IsRenewed v number tree note w
+        × (documents.new.entries ≡ map (λ e. if same_id doc.now e.0 then (e.0, w) else e) documents.old.entries) × (result ≡ w.created) }
+{
+    match documents.get_mut(doc) {
+        Some(entry) => {
+            renew(entry, number, tree, note);
+            entry.created
+        }
+        None => unreachable!(),
+    }
+}
+
+// Takes a document out, and keeps the order of the others.
+fn end(documents: &mut Documents, doc: &DocId)
+    ensures { documents.new.entries ≡ filter (λ e. not (same_id doc.now e.0)) documents.old.entries }
+{
+    let _count = documents.len();
+    documents.shift_remove(doc);
+}
+
+impl Step {
+    ghost use Rattle.store_core.specs.declared.step.Step.TheVariants as steps;
+    ghost use Rattle.store_core.specs.Preparing.{Steppable, Stepped};
+
+    /// Does it under a number, and answers the number of the document's creation.
+    pub(crate) fn take(self, documents: &mut Documents, doc: DocId, number: u64) -> u64
+        requires fits { Steppable documents.old.entries doc self }
+        requires room { 0 < spare documents.old }
+        ensures { Stepped documents.old.entries doc number self result documents.new.entries }
+    {
+        match self {
+            Step::Make(entry) => {
+                let created = entry.created;
+                make(documents, doc, entry);
+                created
+            }
+            Step::Renew(tree, note) => exchange(documents, &doc, number, tree, note),
+            Step::End => {
+                end(documents, &doc);
+                number
+            }
+        }
+    }
+}

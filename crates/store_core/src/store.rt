@@ -1,0 +1,112 @@
+//! The store of all documents.
+ghost use Rattle.std.specs.Prelude.{◌≡◌, ℕ, ◌+◌, ◌≤◌, [], length, sum_by, IfOk, IfSome, OnOk};
+ghost use Rattle.std.specs.Option.{option_map};
+ghost use Rattle.xml_tree.specs.Tree.{Tree, height};
+ghost use Rattle.usage_docs.specs.Services.{document_len};
+ghost use Rattle.store_core.specs.State.{State};
+ghost use Rattle.store_core.specs.Held.{Stands};
+ghost use Rattle.store_core.specs.Keeping.{Kept};
+ghost use Rattle.store_core.specs.Changing.{document_in, held_name};
+
+use crate::NoMemory;
+use crate::registry::Registry;
+use crate::step::{Documents, find};
+use indexmap::IndexMap;
+use std::alloc::{AllocError, Global};
+use std::marker::Model;
+use xcap_uri::DocId;
+use xml_tree::Element;
+
+/// All documents in order of their creation, each with its tag and the notes that are retained. Contracts see them and the next
+/// number; and whatever a store holds always stands for a state that is kept.
+#[derive(Drop)]
+pub struct Store {
+    pub(crate) alloc: Global,
+    pub(crate) documents: Documents,
+    pub(crate) services: Registry,
+    pub(crate) last: u64,
+    pub(crate) total: u64,
+}
+
+impl Model for Store {
+    ghost use Rattle.std.specs.Prelude.{◌+◌};
+    ghost use Rattle.indexmap.specs.IndexMap.{spare};
+    ghost use Rattle.store_core.specs.Storing.{IsStoring, Stored, content_in};
+    ghost use Rattle.std.specs.Coded.{codes};
+    ghost use Rattle.xml_tree.specs.Tree.{tree_code};
+    ghost use Rattle.xcap_uri.specs.contracts.doc_id.DocId as d;
+    ghost use Rattle.edit_ops.specs.contracts.change.Change as c;
+
+    ghost Value = { Stored };
+
+    ghost coded = { Prim.hlevel (codes, tree_code, d.the_row.coded, c.the_row.coded) };
+
+    ghost view = { λ s. record { content = content_in s.documents.entries s.last; room = record { documents = spare s.documents; services = spare s.services } } };
+
+    ghost invariant = { λ s. IsStoring s.documents.entries s.services.entries s.last s.total };
+}
+
+impl Store {
+    /// A store without documents, whose first change gets the number `first`. Takes no memory.
+    ///
+    /// # Errors
+    /// `NoMemory` for want of memory.
+    pub fn new(alloc: Global, first: u64) -> Result<Store, NoMemory>
+        requires { 1 ≤ first }
+        ensures { IfOk result (λ s. s.content ≡ record { documents = []; next = first }) }
+    {
+        Ok(Store {
+            alloc,
+            documents: IndexMap::new(alloc),
+            services: IndexMap::new(alloc),
+            last: first - 1,
+            total: 0,
+        })
+    }
+
+    /// The tree and the tag of a document: None exactly where it isn't held. Takes no memory.
+    pub fn get(&self, doc: &DocId) -> Option<(&Element, u64)>
+        ensures held { option_map (λ x. (x.0.now, x.1)) result ≡ option_map {U = Tree × ℕ} (λ h. (h.tree, h.tag)) (document_in held_name self.now.content.documents doc.now) }
+        ensures low { IfSome result (λ x. height x.0.now ≤ 64) }
+    {
+        let entry = find(&self.documents, doc)?;
+        Some((&entry.tree, entry.tag))
+    }
+
+    /// The number that was given last. Takes no memory.
+    pub fn last_number(&self) -> u64
+        ensures { result + 1 ≡ self.now.content.next }
+    {
+        self.last
+    }
+
+    /// How many documents are held. Takes no memory.
+    pub fn count(&self) -> usize
+        ensures { result ≡ length self.now.content.documents }
+    {
+        self.documents.len()
+    }
+
+    /// How many bytes all documents have, printed. Takes no memory.
+    pub fn total(&self) -> u64
+        ensures { result ≡ sum_by (λ h. document_len h.tree) self.now.content.documents }
+    {
+        self.total
+    }
+
+    /// A law: what a store holds stands for a state that is kept.
+    pub fn stands(&self)
+        ensures { (m : State) × Stands self.now.content m × Kept m }
+    {
+        let _last = self.last;
+    }
+
+    /// Makes room for a document more, and for so many service addresses.
+    pub(crate) fn reserve(&mut self, addresses: usize) -> Result<(), AllocError>
+        ensures same { self.new.content ≡ self.old.content }
+        ensures room { OnOk result ((1 ≤ self.new.room.documents) × (addresses ≤ self.new.room.services)) }
+    {
+        self.documents.reserve(1)?;
+        self.services.reserve(addresses)
+    }
+}
