@@ -2,3 +2,4 @@ pub mod Counts
 pub mod Ends
 pub mod Filling
 pub mod Pairs
+pub mod Serving

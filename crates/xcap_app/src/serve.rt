@@ -1,5 +1,5 @@
 // The command `serve`: the connections that come at an address.
-ghost use Rattle.std.specs.Prelude.{◌≡◌};
+ghost use Rattle.std.specs.Prelude.{◌≡◌, []};
 ghost use Rattle.xcap_io.specs.Causes.{OnlyWrites};
 ghost use Rattle.xcap_io.specs.Streams.{WritesAll};
 ghost use Rattle.xcap_app.specs.Serves.{Serves, served_line};
@@ -36,6 +36,29 @@ fn print_served<O: Sink>(output: &mut O, connections: u64) -> Exit
     }
 }
 
+// Listens at the address and serves the connections that come, so many at most, by this server, which is new.
+fn serve_at<P: Port, O: Sink, W: Watchers>(
+    server: &mut Server,
+    address: &str,
+    count: u64,
+    port: &mut P,
+    output: &mut O,
+    watchers: &mut W,
+) -> Exit
+    requires { server.old.content ≡ record { documents = []; next = 1 } }
+    ensures { Serves W.keeps address.now server.old.root count result
+        (P.state port.old) (P.state port.new) (O.state output.old) (O.state output.new) watchers.old watchers.new }
+{
+    if let Err(Failed) = port.listen(address) {
+        return Exit::NetworkFailed;
+    }
+    let served = serve_port(server, port, count, watchers);
+    match served.stop {
+        Stop::PortFailed => Exit::NetworkFailed,
+        Stop::Count | Stop::NoMore => print_served(output, served.connections),
+    }
+}
+
 /// Listens at the address and serves the connections that come, so many at most, by a new server of this root. It ends
 /// with the number of connections on the output, where as many as wanted were served or none was to come; where the
 /// network failed; or for want of memory before it listens.
@@ -54,12 +77,5 @@ pub(crate) fn serve<P: Port, O: Sink, W: Watchers>(
     let Ok(mut server) = Server::new(alloc, root, 1) else {
         return Exit::OutOfMemory;
     };
-    if let Err(Failed) = port.listen(address) {
-        return Exit::NetworkFailed;
-    }
-    let served = serve_port(&mut server, port, count, watchers);
-    match served.stop {
-        Stop::PortFailed => Exit::NetworkFailed,
-        Stop::Count | Stop::NoMore => print_served(output, served.connections),
-    }
+    serve_at(&mut server, address, count, port, output, watchers)
 }

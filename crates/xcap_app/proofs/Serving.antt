@@ -1,0 +1,46 @@
+-- How `serve` ends, by what the port and the output did.
+use Rattle.std.proofs.Common.{◌≡◌, ℕ, List, [], inr, refl, sym, subst, arith}
+use Rattle.store_core.specs.Held.{Content, Stands}
+use Rattle.store_core.specs.Keeping.{Kept}
+use Rattle.store_core.specs.State.{State, first_state}
+use Rattle.store_core.proofs.KeptAfter.{kept-first}
+use Rattle.machine_words.specs.Machine.{Step}
+use Rattle.watch_port.specs.declared.edit.Edit.{Edit}
+use Rattle.xcap_io.specs.Causes.{LineState}
+use Rattle.xcap_io.specs.Connections.{listening_at}
+use Rattle.xcap_server.specs.Ports.{ServesPort}
+use Rattle.xcap_server.specs.declared.port.Served.{Served}
+use Rattle.xcap_server.specs.declared.port.Stop.TheVariants.{PortFailed}
+use Rattle.xcap_app.specs.Serves.{IsComplete, Serves, ServesAddress, served_line}
+use Rattle.xcap_app.specs.Telling.{Prints}
+use Rattle.xcap_app.specs.declared.exit.Exit.{Exit}
+use Rattle.xcap_app.specs.declared.exit.Exit.TheVariants.{Done, Usage, InputFailed, OutputFailed, NetworkFailed, Refused, OutOfMemory}
+
+-- what a new server holds stands for the state without documents
+begun : (c : Content) → c ≡ record { documents = []; next = 1 } → Stands c (first_state 1)
+begun c e = subst (λ d. Stands d (first_state 1)) (sym e) (record { documents = refl; next = refl })
+
+module _ {W : Type 0} (Keeps : List Edit → W → W → Type 0) where
+  -- what a server that is new did on a port that listens
+  pub served_address : (address root : List ℕ) (count : ℕ) (served : Served) (old content : Content) (port listening port' : LineState) (watchers watchers' : W) → old ≡ record { documents = []; next = 1 } → listening ≡ listening_at port address
+      → ((m : State) → Kept m → Stands old m → (next : State) × Kept next × Stands content next × ServesPort (Step root) Keeps count served m next listening port' watchers watchers')
+      → ServesAddress Keeps address root count served port port' watchers watchers'
+  served_address address root count served old content port listening port' watchers watchers' new listens serves =
+      let s = serves (first_state 1) (kept-first 1 (omega arith)) (begun old new) in
+      record { state = s.0; kept = s.1; serves = subst (λ (l : LineState). ServesPort (Step root) Keeps count served (first_state 1) s.0 l port' watchers watchers') listens s.3 }
+
+  -- and where their number was printed
+  pub ended_so : (address root : List ℕ) (count : ℕ) (served : Served) (exit : Exit) (port port' output output' : LineState) (watchers watchers' : W) → ServesAddress Keeps address root count served port port' watchers watchers' → IsComplete served.stop
+      → Prints (served_line served.connections) exit output output' → Serves Keeps address root count exit port port' output output' watchers watchers'
+  ended_so address root count served Done port port' output output' watchers watchers' s stop prints = (served, s, stop, prints)
+  ended_so address root count served Usage port port' output output' watchers watchers' s stop prints = prints
+  ended_so address root count served InputFailed port port' output output' watchers watchers' s stop prints = prints
+  ended_so address root count served OutputFailed port port' output output' watchers watchers' s stop prints = (served, s, stop, prints)
+  ended_so address root count served NetworkFailed port port' output output' watchers watchers' s stop prints = absurd prints
+  ended_so address root count served (Refused refusal) port port' output output' watchers watchers' s stop prints = prints
+  ended_so address root count served OutOfMemory port port' output output' watchers watchers' s stop prints = absurd prints
+
+  -- and where the port failed to begin a connection
+  pub failed_so : (address root : List ℕ) (count : ℕ) (served : Served) (port port' output : LineState) (watchers watchers' : W) → ServesAddress Keeps address root count served port port' watchers watchers' → served.stop ≡ PortFailed
+      → Serves Keeps address root count NetworkFailed port port' output output watchers watchers'
+  failed_so address root count served port port' output watchers watchers' s stop = (inr (served, s, stop), refl)
