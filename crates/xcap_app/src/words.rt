@@ -91,7 +91,7 @@ fn check_of(word: &str) -> Option<Command>
     Some(Command::Check { usage })
 }
 
-// What `serve` and three words spell, of which the first isn't empty.
+// What `serve` and three words spell. The first may be any but an empty one.
 fn serve_of(
     alloc: Global,
     address: &str,
