@@ -116,17 +116,17 @@ home_of (Flat id service) = id.home
 abbrev pub ByUser : List ℕ → Content → Target → Method → Request → Answer → Type 0
 ByUser root c target method request a =
     MatchBool (is_allowed (not (is_reading method)) (auid_of target) (home_of target) request.fields)
-        (ByMethod root c target method request a)
-        (a ≡ unchanged (plain 403 request.closes))
+    (ByMethod root c target method request a)
+    (a ≡ unchanged (plain 403 request.closes))
 
 -- the methods that the target takes, in two steps: what is read only, and then those that the server knows
 abbrev pub ByTarget : List ℕ → Content → Target → Method → Request → Answer → Type 0
 ByTarget root c target method request a =
     MatchBool (is_read_only target && not (is_reading method))
-        (a ≡ unchanged (not_allowed true request.closes))
-        (MatchBool (is_known method)
-            (MatchBool (is_built target) (ByUser root c target method request a) (a ≡ unchanged (plain 501 request.closes)))
-            (a ≡ unchanged (not_allowed false request.closes)))
+    (a ≡ unchanged (not_allowed true request.closes))
+    (MatchBool (is_known method)
+    (MatchBool (is_built target) (ByUser root c target method request a) (a ≡ unchanged (plain 501 request.closes)))
+    (a ≡ unchanged (not_allowed false request.closes)))
 
 abbrev pub IsAnswered : List ℕ → Content → Result Target UriFault → Request → Answer → Type 0
 IsAnswered root c (Err fault) request a = a ≡ unchanged (plain (fault_status fault) request.closes)

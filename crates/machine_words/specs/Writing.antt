@@ -131,13 +131,13 @@ abbrev pub PutsBody : Content → DocId → Option Usage → Request → Answer 
 PutsBody c id None request a = a ≡ unchanged (plain 403 request.closes)
 PutsBody c id (Some usage) request a =
     MatchBool (has_type (document_media id.auid) request.fields)
-        (PutsText c id usage (text_read 64 [] request.body) request.closes a)
-        (a ≡ unchanged (plain 415 request.closes))
+    (PutsText c id usage (text_read 64 [] request.body) request.closes a)
+    (a ≡ unchanged (plain 415 request.closes))
 
 abbrev pub PutsDocument : Content → DocId → Request → Answer → Type 0
 PutsDocument c id request a =
     If (outcome_of request.fields (tag_of (document_of c id)) (is_some (document_of c id)) false) request a
-        (PutsBody c id (usage_of id.auid) request a)
+    (PutsBody c id (usage_of id.auid) request a)
 
 -- a node of a document that is held, or not
 abbrev pub PutsNodeOf : List ℕ → DocId → Selector → Option Held → Request → Answer → Type 0
@@ -145,9 +145,9 @@ PutsNodeOf root id selector None request a =
     a ≡ unchanged (conflict (conflicts.NoParent (home_uri root id.auid id.home)) request.closes)
 PutsNodeOf root id selector (Some h) request a =
     MatchBool (has_place selector h.tree)
-        (If (outcome_of request.fields (Some h.tag) (is_some (found_text h.tree selector)) false) request a
-            (a ≡ unchanged (plain 501 request.closes)))
-        (a ≡ unchanged (conflict (conflicts.NoParent (ancestor_uri root id h.tree selector.steps)) request.closes))
+    (If (outcome_of request.fields (Some h.tag) (is_some (found_text h.tree selector)) false) request a
+    (a ≡ unchanged (plain 501 request.closes)))
+    (a ≡ unchanged (conflict (conflicts.NoParent (ancestor_uri root id h.tree selector.steps)) request.closes))
 
 abbrev pub PutsNode : List ℕ → Content → DocId → Selector → Request → Answer → Type 0
 PutsNode root c id selector request a = PutsNodeOf root id selector (document_of c id) request a
@@ -170,8 +170,8 @@ abbrev pub DeletesNodeOf : Selector → Option Held → Request → Answer → T
 DeletesNodeOf selector None request a = a ≡ unchanged (plain 404 request.closes)
 DeletesNodeOf selector (Some h) request a =
     MatchBool (is_some (found_text h.tree selector))
-        (If (outcome_of request.fields (Some h.tag) true false) request a (a ≡ unchanged (plain 501 request.closes)))
-        (a ≡ unchanged (plain 404 request.closes))
+    (If (outcome_of request.fields (Some h.tag) true false) request a (a ≡ unchanged (plain 501 request.closes)))
+    (a ≡ unchanged (plain 404 request.closes))
 
 abbrev pub DeletesNode : Content → DocId → Selector → Request → Answer → Type 0
 DeletesNode c id selector request a = DeletesNodeOf selector (document_of c id) request a
