@@ -1,4 +1,4 @@
--- How `serve` ends, by what the port and the output did.
+-- How `serve` and `replay` end, by what the port, the input and the output did.
 use Rattle.std.proofs.Common.{◌≡◌, ℕ, List, [], inr, refl, sym, subst, arith}
 use Rattle.store_core.specs.Held.{Content, Stands}
 use Rattle.store_core.specs.Keeping.{Kept}
@@ -9,8 +9,11 @@ use Rattle.watch_port.specs.declared.edit.Edit.{Edit}
 use Rattle.xcap_io.specs.Causes.{LineState}
 use Rattle.xcap_io.specs.Connections.{listening_at}
 use Rattle.xcap_server.specs.Ports.{ServesPort}
+use Rattle.xcap_server.specs.declared.connection.Ended.{Ended}
+use Rattle.xcap_server.specs.declared.connection.Ended.TheVariants.{Closed, ReadFailed, WriteFailed}
 use Rattle.xcap_server.specs.declared.port.Served.{Served}
 use Rattle.xcap_server.specs.declared.port.Stop.TheVariants.{PortFailed}
+use Rattle.xcap_app.specs.Replays.{Replays, ServesInput, exit_of}
 use Rattle.xcap_app.specs.Serves.{IsComplete, Serves, ServesAddress, served_line}
 use Rattle.xcap_app.specs.Telling.{Prints}
 use Rattle.xcap_app.specs.declared.exit.Exit.{Exit}
@@ -44,3 +47,18 @@ module _ {W : Type 0} (Keeps : List Edit → W → W → Type 0) where
   pub failed_so : (address root : List ℕ) (count : ℕ) (served : Served) (port port' output : LineState) (watchers watchers' : W) → ServesAddress Keeps address root count served port port' watchers watchers' → served.stop ≡ PortFailed
       → Serves Keeps address root count NetworkFailed port port' output output watchers watchers'
   failed_so address root count served port port' output watchers watchers' s stop = (inr (served, s, stop), refl)
+
+  -- an input that was served from the first state on
+  by_ending : (root : List ℕ) (ended : Ended) (input input' output output' : LineState) (watchers watchers' : W) → ServesInput Keeps root (first_state 1) ended input input' output output' watchers watchers'
+      → Replays Keeps root (exit_of ended) input input' output output' watchers watchers'
+  by_ending root Closed input input' output output' watchers watchers' s = s
+  by_ending root ReadFailed input input' output output' watchers watchers' s = s
+  by_ending root WriteFailed input input' output output' watchers watchers' s = s
+
+  -- what a server that is new did with an input
+  pub replayed : (root : List ℕ) (ended : Ended) (exit : Exit) (old : Content) (input input' output output' : LineState) (watchers watchers' : W) → old ≡ record { documents = []; next = 1 }
+      → ((m : State) → Kept m → Stands old m → ServesInput Keeps root m ended input input' output output' watchers watchers') → exit ≡ exit_of ended
+      → Replays Keeps root exit input input' output output' watchers watchers'
+  replayed root ended exit old input input' output output' watchers watchers' new serves ends =
+      subst (λ (x : Exit). Replays Keeps root x input input' output output' watchers watchers') (sym ends)
+      (by_ending root ended input input' output output' watchers watchers' (serves (first_state 1) (kept-first 1 (omega arith)) (begun old new)))

@@ -1,5 +1,5 @@
 // The command `replay`: the input as one connection, whose replies go to the output.
-ghost use Rattle.std.specs.Prelude.{◌≡◌};
+ghost use Rattle.std.specs.Prelude.{◌≡◌, []};
 ghost use Rattle.store_core.specs.Held.{Stands};
 ghost use Rattle.store_core.specs.Keeping.{Kept};
 ghost use Rattle.store_core.specs.State.{State};
@@ -42,6 +42,20 @@ fn serve_pair<I: Source, O: Sink, W: Watchers>(
     }
 }
 
+// Serves the input as one connection, by this server, which is new.
+fn replay_by<I: Source, O: Sink, W: Watchers>(
+    server: &mut Server,
+    input: &mut I,
+    output: &mut O,
+    watchers: &mut W,
+) -> Exit
+    requires { server.old.content ≡ record { documents = []; next = 1 } }
+    ensures { Replays W.keeps server.old.root result
+        (I.state input.old) (I.state input.new) (O.state output.old) (O.state output.new) watchers.old watchers.new }
+{
+    exit_of(serve_pair(server, input, output, watchers))
+}
+
 /// Serves the input as one connection, whose replies go to the output, by a new server of this root. It ends with the
 /// connection, or for want of memory before anything was read.
 pub(crate) fn replay<I: Source, O: Sink, W: Watchers>(
@@ -57,5 +71,5 @@ pub(crate) fn replay<I: Source, O: Sink, W: Watchers>(
     let Ok(mut server) = Server::new(alloc, root, 1) else {
         return Exit::OutOfMemory;
     };
-    exit_of(serve_pair(&mut server, input, output, watchers))
+    replay_by(&mut server, input, output, watchers)
 }
