@@ -292,7 +292,7 @@ static FAILINGS: [Failing; 7] = [
     ("check resource-lists", Some(0), 100, false, None, 3),
     (
         "replay http://xcap.example.com/xcap",
-        Some(5),
+        Some(0),
         100,
         false,
         None,
