@@ -16,7 +16,7 @@ fn verdict(alloc: Global, usage: Usage, text: &str) -> Result<String, Fail> {
     if !constraints(usage, &root) {
         return Ok(String::from_str(alloc, "reference")?);
     }
-    match first_clash(usage, &root) {
+    match first_clash(alloc, usage, &root)? {
         None => Ok(String::from_str(alloc, "valid")?),
         Some(clash) => place(alloc, clash.path.numbers(), clash.key.word()),
     }

@@ -21,10 +21,7 @@ pub fn index_of_services(alloc: Global, store: &Store) -> Result<Element, IndexF
     ensures beyond { IfErr result (λ fault. IsBeyond (index_of_documents (index_trees store.now.content)) fault) }
 {
     let mut maker = IndexMaker::new(alloc)?;
-    'documents: for k in 0..store.count() {
-        let Some(root) = store.user_indexes(k) else {
-            break;
-        };
+    for root in store.user_indexes(alloc)? {
         maker.add(root)?;
     }
     Ok(maker.finish())

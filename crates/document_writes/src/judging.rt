@@ -26,7 +26,7 @@ pub(crate) fn judge(
     if !constraints(usage, root) {
         return Ok(Some(ErrorBody::Constraint));
     }
-    match first_clash(usage, root) {
+    match first_clash(alloc, usage, root)? {
         None => Ok(None),
         Some(clash) => {
             let fault = uniqueness(alloc, &clash)?;

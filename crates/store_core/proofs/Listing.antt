@@ -1,26 +1,27 @@
--- The documents that the index of all services lists, as a store keeps them: each of another user, so that each is found at its rank.
-use Rattle.std.proofs.Common.{◌≡◌, ◌≢◌, ℕ, zero, suc, Bool, true, false, cond, List, [], ◌∷◌, map, find, nat_eq, Option, None, Some, option_map, slice_get, refl, sym, ap, subst, ◌∙◌}
+-- The documents that the index of all services lists, as a store keeps them: each of another user, and each with at most 64 levels.
+use Rattle.std.proofs.Common.{◌≡◌, ◌≢◌, ℕ, ◌≤◌, Bool, true, false, Ordering, Less, Equal, Greater, Bor, List, [], ◌∷◌, map, Option, None, Some, refl, sym, ap, subst, ◌∙◌}
+use Rattle.std.proofs.lemmas.List.Elements.{All-from_recursion}
 use Rattle.std.proofs.lemmas.Option.{same_Some}
 use Rattle.std.proofs.lemmas.Slice.Eq.{bytes_eq-Decides}
-use Rattle.std.specs.Cmp.Lexicographic.{slice_cmp, texts_ties}
-use Rattle.std.specs.List.{AllByRecursion, cons_option, filter_map}
-use Rattle.std.specs.Ordering.{is_eq, nat_cmp}
-use Rattle.std.specs.declared.cmp.Ordering.TheVariants.{Equal}
+use Rattle.std.specs.BTreeMap.{insert_entry}
+use Rattle.std.specs.Cmp.Lexicographic.{slice_cmp}
+use Rattle.std.specs.List.{All, AllByRecursion, cons_option}
+use Rattle.std.specs.Map.{values_of}
+use Rattle.std.specs.Ordering.{match_ordering, nat_cmp}
 use Rattle.std.specs.Str.{bytes_eq}
-use Rattle.xml_tree.specs.Tree.{Tree}
+use Rattle.xml_tree.specs.Tree.{Tree, height}
 use Rattle.xcap_uri.specs.declared.doc_id.Auid.{Auid}
 use Rattle.xcap_uri.specs.declared.doc_id.Auid.TheVariants.{ResourceLists, RlsServices, XcapCaps}
 use Rattle.xcap_uri.specs.declared.doc_id.Home.{Home}
 use Rattle.xcap_uri.specs.declared.doc_id.Home.TheVariants.{Global, User}
 use Rattle.xcap_uri.specs.declared.doc_id.DocId.{DocId}
 use Rattle.store_core.specs.declared.entry.Entry.{Entry}
-use Rattle.store_core.specs.Indexes.{in_order, index, index_trees, indexed, indexed_by, rank}
+use Rattle.store_core.specs.Indexes.{in_order, index, index_trees, indexed, indexed_by}
 use Rattle.store_core.specs.Keeping.{AreApart}
-use Rattle.store_core.specs.Listed.{listed, tree_at}
+use Rattle.store_core.specs.Listed.{entered, listed, pairs_in}
 use Rattle.store_core.specs.Storing.{IsStoring, Room, Stored, content_in, held_in, name_in}
-use Rattle.store_core.proofs.Ranks.{NamesApart, at-its-rank, none-at-rank}
+use Rattle.store_core.proofs.InOrder.{NamesApart, Other, each-in-order, entered-in-order, equal-texts}
 use Rattle.store_core.proofs.Stored.{known-of}
-use borrow.Author.Tests.{eqb-true, eqb-false}
 
 abbrev Row : Type 0
 Row = DocId × Entry
@@ -29,9 +30,6 @@ abbrev Pair : Type 0
 Pair = List ℕ × Tree
 
 -- ---- users' names are apart
-
-equal-texts : (a b : List ℕ) → slice_cmp nat_cmp a b ≡ Equal → a ≡ b
-equal-texts a b h = (bytes_eq-Decides a b).0 (texts_ties a b ∙ ap is_eq h)
 
 abbrev of-user : List ℕ → DocId
 of-user xui = record { auid = RlsServices; home = User xui; name = index }
@@ -51,9 +49,6 @@ listed-id XcapCaps home name t x b e h = cc
 row-id : (e : Row) (x : Pair) → indexed (held_in e) ≡ Some x → e.0 ≡ of-user x.0
 row-id e x h = listed-id e.0.auid e.0.home e.0.name e.1.tree x (bytes_eq e.0.name index) refl h
 
-abbrev Other : Pair → Pair → Type 0
-Other x y = slice_cmp nat_cmp x.0 y.0 ≢ Equal
-
 others-step : (id : DocId) (x : Pair) (e : Row) (ys : List Pair) (o : Option Pair) → id ≡ of-user x.0 → id ≢ e.0 → indexed (held_in e) ≡ o → AllByRecursion (Other x) ys → AllByRecursion (Other x) (cons_option o ys)
 others-step id x e ys None same apart h by = by
 others-step id x e ys (Some y) same apart h by = (λ (equal : slice_cmp nat_cmp x.0 y.0 ≡ Equal). apart (same ∙ ap (λ (xui : List ℕ). of-user xui) (equal-texts x.0 y.0 equal) ∙ sym (row-id e y h)), by)
@@ -70,82 +65,80 @@ users-apart : (es : List Row) → AreApart (map name_in es) → NamesApart (list
 users-apart [] a = tt
 users-apart (e ∷ es) a = apart-step e es (indexed (held_in e)) refl a.0 (users-apart es a.1)
 
--- ---- the first at a rank is the one at that place
+-- ---- their trees have at most 64 levels
 
-got-mapped : {X Y : Type 0} (f : X → Y) (xs : List X) (k : ℕ) → slice_get (map f xs) k ≡ option_map f (slice_get xs k)
-got-mapped f [] k = refl
-got-mapped f (x ∷ xs) zero = refl
-got-mapped f (x ∷ xs) (suc k) = got-mapped f xs k
+abbrev IsLow : Pair → Type 0
+IsLow x = height x.1 ≤ 64
 
-module _ (all : List Pair) (k : ℕ) where
-  abbrev At : Pair → Type 0
-  At x = slice_get (in_order all) (rank all x.0) ≡ Some x
+abbrev IsLowRow : Row → Type 0
+IsLowRow e = height e.1.tree ≤ 64
 
-  abbrev has : Pair → Bool
-  has x = nat_eq (rank all x.0) k
+listed-tree : (auid : Auid) (home : Home) (b : Bool) (t : Tree) (x : Pair) → indexed_by auid b home t ≡ Some x → t ≡ x.1
+listed-tree ResourceLists home b t x h = cc
+listed-tree RlsServices home false t x h = cc
+listed-tree RlsServices Global true t x h = cc
+listed-tree RlsServices (User xui) true t x h = ap (λ (p : Pair). p.1) (same_Some {A = Pair} (xui, t) x h)
+listed-tree XcapCaps home b t x h = cc
 
-  found-step : (e x : Pair) (es : List Pair) (b : Bool) → has e ≡ b → At e → cond b (Some e) (find has es) ≡ Some x → (find has es ≡ Some x → slice_get (in_order all) k ≡ Some x) → slice_get (in_order all) k ≡ Some x
-  found-step e x es true t at h by = ap (λ (n : ℕ). slice_get (in_order all) n) (sym (eqb-true (rank all e.0) k t)) ∙ at ∙ h
-  found-step e x es false t at h by = by h
+low-step : (e : Row) (ds : List Pair) (o : Option Pair) → indexed (held_in e) ≡ o → IsLowRow e → AllByRecursion IsLow ds → AllByRecursion IsLow (cons_option o ds)
+low-step e ds None h low by = by
+low-step e ds (Some x) h low by = (subst (λ (t : Tree). height t ≤ 64) (listed-tree e.0.auid e.0.home (bytes_eq e.0.name index) e.1.tree x h) low, by)
 
-  found : (es : List Pair) (x : Pair) → AllByRecursion At es → find has es ≡ Some x → slice_get (in_order all) k ≡ Some x
-  found [] x a h = cc
-  found (e ∷ es) x a h = found-step e x es (has e) refl a.0 h (found es x a.1)
+low-listed : (es : List Row) → AllByRecursion IsLowRow es → AllByRecursion IsLow (listed es)
+low-listed [] a = tt
+low-listed (e ∷ es) a = low-step e (listed es) (indexed (held_in e)) refl a.0 (low-listed es a.1)
 
-  unfound-step : (e : Pair) (es : List Pair) (b : Bool) → has e ≡ b → cond b (Some e) (find has es) ≡ None → (find has es ≡ None → AllByRecursion (λ x. rank all x.0 ≢ k) es) → AllByRecursion (λ x. rank all x.0 ≢ k) (e ∷ es)
-  unfound-step e es true t h by = cc
-  unfound-step e es false t h by = (eqb-false (rank all e.0) k t, by h)
+-- what is lent shows these trees, so it is as low
+first-same : (t u : Tree) (ts us : List Tree) → t ∷ ts ≡ u ∷ us → (t ≡ u) × (ts ≡ us)
+first-same t u ts us h = (cc, cc)
 
-  unfound : (es : List Pair) → find has es ≡ None → AllByRecursion (λ x. rank all x.0 ≢ k) es
-  unfound [] h = tt
-  unfound (e ∷ es) h = unfound-step e es (has e) refl h (unfound es)
+low-shown : (xs : List (Bor Tree)) (ds : List Pair) → map (λ (x : Bor Tree). x.now) xs ≡ map (λ (d : Pair). d.1) ds → AllByRecursion IsLow ds → AllByRecursion (λ (x : Bor Tree). height x.now ≤ 64) xs
+low-shown [] ds h a = tt
+low-shown (x ∷ xs) [] h a = cc
+low-shown (x ∷ xs) (d ∷ ds) h a =
+    let same = first-same x.now d.1 (map (λ (y : Bor Tree). y.now) xs) (map (λ (y : Pair). y.1) ds) h in
+    (subst (λ (t : Tree). height t ≤ 64) (sym same.0) a.0, low-shown xs ds same.1 a.1)
 
-  placed-at : (o : Option Pair) → NamesApart all → find has all ≡ o → slice_get (in_order all) k ≡ o
-  placed-at None a h = none-at-rank all k a (unfound all h)
-  placed-at (Some x) a h = found all x (at-its-rank all a) h
+-- ---- a map by users
 
-  first-at-place : NamesApart all → tree_at all k all ≡ slice_get (map (λ d. d.1) (in_order all)) k
-  first-at-place a = ap (λ (o : Option Pair). option_map (λ d. d.1) o) (sym (placed-at (find has all) a refl)) ∙ sym (got-mapped (λ (d : Pair). d.1) (in_order all) k)
+-- the order of its keys
+abbrev pub by_name : Bor (List ℕ) → Bor (List ℕ) → Ordering
+by_name x y = slice_cmp nat_cmp x.now y.now
 
-  -- ---- one entry and those behind it
+module _ (k : Bor (List ℕ)) (v : Bor Tree) where
+  pub pairs-insert : (es : List (Bor (List ℕ) × Bor Tree)) → pairs_in (insert_entry by_name es k v) ≡ insert_entry (slice_cmp nat_cmp) (pairs_in es) k.now v.now
+  pairs-insert [] = refl
+  pairs-insert (e ∷ es) = step (by_name k e.0) (pairs-insert es)
+    where
+      step : (o : Ordering) → pairs_in (insert_entry by_name es k v) ≡ insert_entry (slice_cmp nat_cmp) (pairs_in es) k.now v.now
+          → pairs_in (match_ordering o ((k, v) ∷ e ∷ es) ((e.0, v) ∷ es) (e ∷ insert_entry by_name es k v))
+          ≡ match_ordering o ((k.now, v.now) ∷ (e.0.now, e.1.now) ∷ pairs_in es) ((e.0.now, v.now) ∷ pairs_in es) ((e.0.now, e.1.now) ∷ insert_entry (slice_cmp nat_cmp) (pairs_in es) k.now v.now)
+      step Less rest = refl
+      step Equal rest = refl
+      step Greater rest = ap (λ (ds : List Pair). (e.0.now, e.1.now) ∷ ds) rest
 
-  chosen-test : (x : Pair) (xs : List Pair) (t : Tree) (b : Bool) → option_map {U = Tree} (λ (d : Pair). d.1) (cond b (Some x) None) ≡ Some t → option_map {U = Tree} (λ (d : Pair). d.1) (cond b (Some x) (find has xs)) ≡ Some t
-  chosen-test x xs t true h = h
-  chosen-test x xs t false h = cc
-
-  chosen-step : (o : Option Pair) (xs : List Pair) (t : Tree) → tree_at all k (cons_option o []) ≡ Some t → tree_at all k (cons_option o xs) ≡ Some t
-  chosen-step None xs t h = cc
-  chosen-step (Some x) xs t h = chosen-test x xs t (has x) h
-
-  pub chosen : (e : Row) (es : List Row) (t : Tree) → tree_at all k (listed (e ∷ [])) ≡ Some t → tree_at all k (listed (e ∷ es)) ≡ Some t
-  chosen e es t h = chosen-step (indexed (held_in e)) (listed es) t h
-
-  passed-test : (x : Pair) (xs : List Pair) (b : Bool) → option_map {U = Tree} (λ (d : Pair). d.1) (cond b (Some x) None) ≡ None → option_map {U = Tree} (λ (d : Pair). d.1) (cond b (Some x) (find has xs)) ≡ tree_at all k xs
-  passed-test x xs true h = cc
-  passed-test x xs false h = refl
-
-  passed-step : (o : Option Pair) (xs : List Pair) → tree_at all k (cons_option o []) ≡ None → tree_at all k (cons_option o xs) ≡ tree_at all k xs
-  passed-step None xs h = refl
-  passed-step (Some x) xs h = passed-test x xs (has x) h
-
-  pub passed : (e : Row) (es : List Row) → tree_at all k (listed (e ∷ [])) ≡ None → tree_at all k (listed (e ∷ es)) ≡ tree_at all k (listed es)
-  passed e es h = passed-step (indexed (held_in e)) (listed es) h
+pub trees-in-pairs : (es : List (Bor (List ℕ) × Bor Tree)) → map (λ (t : Bor Tree). t.now) (values_of es) ≡ map (λ (d : Pair). d.1) (pairs_in es)
+trees-in-pairs [] = refl
+trees-in-pairs (e ∷ es) = ap (λ (ts : List Tree). e.1.now ∷ ts) (trees-in-pairs es)
 
 -- ---- in a store
 
-pub at-place : (es : List Row) (rs : List (List ℕ × ℕ)) (last total k : ℕ) → IsStoring es rs last total → tree_at (listed es) k (listed es) ≡ slice_get (map (λ d. d.1) (in_order (listed es))) k
-at-place es rs last total k s = first-at-place (listed es) k (users-apart es (known-of es rs last total s).names)
+module _ (es : List Row) (rs : List (List ℕ × ℕ)) (last total : ℕ) (storing : IsStoring es rs last total) where
+  -- what such a map holds of a store's documents is in order
+  pub listed-in-order : entered [] (listed es) ≡ in_order (listed es)
+  listed-in-order = entered-in-order (listed es) (users-apart es (known-of es rs last total storing).names)
 
-module _ (es : List Row) (last : ℕ) (room : Room) (s : Stored) (seen : (let x : Stored = record { content = content_in es last; room = room } in x) ≡ s) where
-  pub all-listed : listed es ≡ filter_map indexed s.content.documents
-  all-listed = ap (λ (x : Stored). filter_map indexed x.content.documents) seen
+  pub low-in-order : AllByRecursion IsLow (in_order (listed es))
+  low-in-order = each-in-order IsLow (listed es) (low-listed es (known-of es rs last total storing).low)
 
-  -- what is found among the entries that are left is the answer
-  pub answered : (rs : List (List ℕ × ℕ)) (total k : ℕ) → IsStoring es rs last total → (left : List Row) (o : Option Tree)
-      → tree_at (filter_map indexed s.content.documents) k (listed left) ≡ tree_at (filter_map indexed s.content.documents) k (filter_map indexed s.content.documents) → tree_at (listed es) k (listed left) ≡ o
-      → o ≡ slice_get (index_trees s.content) k
-  answered rs total k storing left o =
-      let P : Stored → Type 0 = λ x.
-      tree_at (filter_map indexed x.content.documents) k (listed left) ≡ tree_at (filter_map indexed x.content.documents) k (filter_map indexed x.content.documents) → tree_at (listed es) k (listed left) ≡ o
-      → o ≡ slice_get (index_trees x.content) k in
-      subst P seen (λ first found. sym found ∙ first ∙ at-place es rs last total k storing)
+  module _ (made : List (Bor (List ℕ) × Bor Tree)) (all : pairs_in made ≡ entered [] (listed es)) (trees : List (Bor Tree)) (shown : trees ≡ values_of made) where
+    trees-in-order : map (λ (t : Bor Tree). t.now) trees ≡ map (λ (d : Pair). d.1) (in_order (listed es))
+    trees-in-order =
+        ap (map (λ (t : Bor Tree). t.now)) shown ∙ trees-in-pairs made ∙ ap (map (λ (d : Pair). d.1)) (all ∙ listed-in-order)
+
+    -- so they are those that the index lists
+    pub trees-listed : (room : Room) (s : Stored) → (let x : Stored = record { content = content_in es last; room = room } in x) ≡ s → map (λ (t : Bor Tree). t.now) trees ≡ index_trees s.content
+    trees-listed room s seen = trees-in-order ∙ ap (λ (x : Stored). index_trees x.content) seen
+
+    pub trees-low : All (λ (t : Bor Tree). height t.now ≤ 64) trees
+    trees-low = All-from_recursion (λ (t : Bor Tree). height t.now ≤ 64) trees (low-shown trees (in_order (listed es)) trees-in-order low-in-order)

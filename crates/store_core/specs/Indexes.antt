@@ -1,8 +1,8 @@
 -- The documents that the index of all services lists. RFC 4826, section 4.4.7: those that users keep under the name `index`.
-use Rattle.std.specs.Prelude.{ℕ, Bool, true, false, List, [], ◌∷◌, map, count_by, codes, Option, None, Some}
+use Rattle.std.specs.Prelude.{ℕ, Bool, true, false, List, [], ◌∷◌, map, codes, Option, None, Some}
 use Rattle.std.specs.List.{filter_map}
 use Rattle.std.specs.Cmp.Lexicographic.{slice_cmp}
-use Rattle.std.specs.Ordering.{is_lt, match_ordering, nat_cmp}
+use Rattle.std.specs.Ordering.{match_ordering, nat_cmp}
 use Rattle.std.specs.Str.{bytes_eq, chars}
 use Rattle.xml_tree.specs.Tree.{Tree}
 use Rattle.xcap_uri.specs.declared.doc_id.Auid.{Auid}
@@ -41,7 +41,3 @@ in_order (d ∷ ds) = placed d (in_order ds)
 -- the trees that the index lists, by the users' names
 abbrev pub index_trees : Content → List Tree
 index_trees c = map (λ d. d.1) (in_order (filter_map indexed c.documents))
-
--- how many of these stand before a user's name
-abbrev pub rank : List (List ℕ × Tree) → List ℕ → ℕ
-rank es xui = count_by (λ e. is_lt (slice_cmp nat_cmp e.0 xui)) es

@@ -1,17 +1,26 @@
--- The entries of the documents that the index of all services lists. RFC 4826, section 4.4.7.
-use Rattle.std.specs.Prelude.{ℕ, List, map, find, nat_eq, Option}
+-- The documents that the index of all services lists, on their way from a store's entries into a map by the users' names.
+-- RFC 4826, section 4.4.7.
+use Rattle.std.specs.Prelude.{ℕ, List, [], ◌∷◌, map}
+use Rattle.std.specs.BTreeMap.{insert_entry}
+use Rattle.std.specs.Borrow.{Bor}
+use Rattle.std.specs.Cmp.Lexicographic.{slice_cmp}
 use Rattle.std.specs.List.{filter_map}
-use Rattle.std.specs.Option.{option_map}
+use Rattle.std.specs.Ordering.{nat_cmp}
 use Rattle.xml_tree.specs.Tree.{Tree}
 use Rattle.xcap_uri.specs.declared.doc_id.DocId.{DocId}
 use Rattle.store_core.specs.declared.entry.Entry.{Entry}
-use Rattle.store_core.specs.Indexes.{indexed, rank}
+use Rattle.store_core.specs.Indexes.{indexed}
 use Rattle.store_core.specs.Storing.{held_in}
 
 -- the users' names and the trees of those that the index lists
 abbrev pub listed : List (DocId × Entry) → List (List ℕ × Tree)
 listed es = filter_map indexed (map held_in es)
 
--- the tree of the first of these before whose user's name k of all stand
-abbrev pub tree_at : List (List ℕ × Tree) → ℕ → List (List ℕ × Tree) → Option Tree
-tree_at all k es = option_map (λ d. d.1) (find (λ d. nat_eq (rank all d.0) k) es)
+-- those that a map lends
+abbrev pub pairs_in : List (Bor (List ℕ) × Bor Tree) → List (List ℕ × Tree)
+pairs_in es = map (λ e. (e.0.now, e.1.now)) es
+
+-- what a map by names holds after these entered it one after another: the last of each name
+abbrev pub entered : List (List ℕ × Tree) → List (List ℕ × Tree) → List (List ℕ × Tree)
+entered made [] = made
+entered made (d ∷ ds) = entered (insert_entry (slice_cmp nat_cmp) made d.0 d.1) ds

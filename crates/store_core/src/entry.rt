@@ -82,6 +82,9 @@ fn is_heavy(notes: &NoteRing) -> bool
     !is_light(notes)
 }
 
+// Gives up a note, if one is there.
+fn give_up(_note: Option<EditNote>) {}
+
 // Gives up the oldest notes, until those that are left may be retained.
 fn trim(notes: &mut NoteRing)
     requires { notes.old.capacity ≡ 64 }
@@ -89,7 +92,7 @@ fn trim(notes: &mut NoteRing)
     ensures kept { map note_in notes.new.items ≡ retained (map note_in notes.old.items) }
 {
     'oldest: while is_heavy(notes) {
-        notes.pop_front();
+        give_up(notes.pop_front());
     }
 }
 
@@ -100,6 +103,6 @@ fn keep(notes: &mut NoteRing, note: EditNote)
     ensures kept { map note_in notes.new.items ≡ retained (map note_in notes.old.items ++ note_in note ∷ []) }
 {
     let _count = notes.len();
-    notes.push_back(note);
+    give_up(notes.push_back(note));
     trim(notes);
 }

@@ -1,14 +1,15 @@
 //! The documents of services that the index of all services lists (RFC 4826, section 4.4.7).
-ghost use Rattle.std.specs.Prelude.{◌≡◌, ◌∷◌, [], ◌≤◌, None, Some, IfSome, slice_get, if◌then◌else◌};
+ghost use Rattle.std.specs.Prelude.{◌≡◌, ◌≤◌, [], map, All, IfOk, None, if◌then◌else◌};
 ghost use Rattle.std.specs.Str.{bytes_eq};
 ghost use Rattle.std.specs.Option.{option_map};
 ghost use Rattle.xml_tree.specs.Tree.{Tree, height};
-ghost use Rattle.store_core.specs.declared.entry.Entry.{Entry as Row};
-ghost use Rattle.store_core.specs.Indexes.{index, index_trees, indexed_by, indexed_in, rank};
-ghost use Rattle.store_core.specs.Listed.{listed, tree_at};
+ghost use Rattle.store_core.specs.Indexes.{index, index_trees, indexed_by, indexed_in};
+ghost use Rattle.store_core.specs.Listed.{entered, listed, pairs_in};
 
-use crate::Store;
 use crate::step::Documents;
+use crate::{NoMemory, Store};
+use std::alloc::{AllocError, Global};
+use std::collections::BTreeMap;
 use xcap_uri::{Auid, DocId, Home};
 use xml_tree::{Element, Text};
 
@@ -44,53 +45,33 @@ fn listed_user(doc: &DocId) -> Option<&Text>
     }
 }
 
-// Whether the index lists a document, and does so before those of a user.
-fn stands_before(doc: &DocId, user: &Text) -> bool
-    ensures { (e : Row) → rank (listed ((doc.now, e) ∷ [])) user.now ≡ (if result then 1 else 0) }
+// The trees of the documents that the index lists, by their users' names.
+fn trees_by_user<'a>(
+    alloc: Global,
+    documents: &'a Documents,
+) -> Result<BTreeMap<&'a Text, &'a Element>, AllocError>
+    ensures { IfOk result (λ made. pairs_in made.entries ≡ entered [] (listed documents.now.entries)) }
 {
-    match listed_user(doc) {
-        None => false,
-        Some(other) => other < user,
-    }
-}
-
-// How many documents the index lists before those of a user.
-fn rank_of(documents: &Documents, user: &Text) -> usize
-    ensures { result ≡ rank (listed documents.now.entries) user.now }
-{
-    let mut count = 0;
-    let mut left = documents.iter();
-    'each: while let Some((doc, _)) = left.next() {
-        if stands_before(doc, user) {
-            count += 1;
+    let mut made = BTreeMap::new(alloc);
+    for (doc, entry) in documents.iter() {
+        if let Some(user) = listed_user(doc) {
+            made.insert(user, &entry.tree)?;
         }
     }
-    count
-}
-
-// Whether the index lists a document, and lists `k` others before it.
-fn has_rank(documents: &Documents, doc: &DocId, k: usize) -> bool
-    ensures { (e : Row) → tree_at (listed documents.now.entries) k (listed ((doc.now, e) ∷ [])) ≡ (if result then Some e.tree else None) }
-{
-    match listed_user(doc) {
-        None => false,
-        Some(user) => rank_of(documents, user) == k,
-    }
+    Ok(made)
 }
 
 impl Store {
-    /// The tree of the k-th document of services that users keep under the name `index`, counted from 0 by their names' code points
-    /// (RFC 4826, section 4.4.7): None exactly where there are no more. Takes no memory.
-    pub fn user_indexes(&self, k: usize) -> Option<&Element>
-        ensures tree { option_map (λ e. e.now) result ≡ slice_get (index_trees self.now.content) k }
-        ensures low { IfSome result (λ e. height e.now ≤ 64) }
+    /// The trees of the documents of services that users keep under the name `index`, in the order of the users' names by code
+    /// point (RFC 4826, section 4.4.7).
+    ///
+    /// # Errors
+    /// `NoMemory` for want of memory.
+    pub fn user_indexes(&self, alloc: Global) -> Result<Vec<&Element>, NoMemory>
+        ensures trees { IfOk result (λ made. map (λ e. e.now) made.items ≡ index_trees self.now.content) }
+        ensures low { IfOk result (λ made. All (λ e. height e.now ≤ 64) made.items) }
     {
-        let mut left = self.documents.iter();
-        'each: while let Some((doc, entry)) = left.next() {
-            if has_rank(&self.documents, doc, k) {
-                return Some(&entry.tree);
-            }
-        }
-        None
+        let trees = trees_by_user(alloc, &self.documents)?;
+        trees.into_values().collect(alloc)
     }
 }

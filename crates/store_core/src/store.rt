@@ -50,7 +50,7 @@ impl Store {
     /// A store without documents, whose first change gets the number `first`. Takes no memory.
     ///
     /// # Errors
-    /// `NoMemory` for want of memory.
+    /// None: it always answers a store.
     pub fn new(alloc: Global, first: u64) -> Result<Store, NoMemory>
         requires { 1 ≤ first }
         ensures { IfOk result (λ s. s.content ≡ record { documents = []; next = first }) }

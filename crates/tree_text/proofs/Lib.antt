@@ -5,10 +5,10 @@ pub mod NameLemmas
 pub mod TagLemmas
 pub mod JudgeLemmas
 pub mod MeaningLemmas
-pub mod BareScopes
 pub mod CommentLemmas
 pub mod ElementLemmas
 pub mod Told
+pub mod PlainRuns
 pub mod PrintLemmas
 pub mod JudgeTags
 pub mod ReadParts
@@ -16,6 +16,7 @@ pub mod ReadTexts
 pub mod ReadElements
 pub mod ReadDocuments
 pub mod ReadBodies
+pub mod RawLetters
 pub mod ReadAnswers
 pub mod ProperTags
 pub mod ProperComments
@@ -31,3 +32,4 @@ pub mod PrintedElements
 pub mod PrintedScalars
 pub mod PrintedTexts
 pub mod UnboundScopes
+pub mod AroundLemmas

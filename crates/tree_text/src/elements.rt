@@ -9,9 +9,10 @@ ghost use Rattle.tree_text.specs.Pieces.{line_ends, with_markup};
 ghost use Rattle.tree_text.specs.Reading.{markup_follows, read_tag, read_markup, read_element};
 ghost use Rattle.tree_text.specs.Views.{name_in, tag_in};
 
+use crate::around::Around;
 use crate::kind::Kind;
 use crate::markup::Markup;
-use crate::names::{attrs_of, decls_of, first_of_tag};
+use crate::names::{declares, decls_of, first_of_tag};
 use crate::parts::starts_with_name;
 use crate::pieces::{comment, instruction, section};
 use crate::places::before;
@@ -23,32 +24,13 @@ use crate::texts::text_of;
 use crate::values::reference;
 use crate::written::{Written, end_tag};
 use std::alloc::{AllocError, Global};
-use xml_tree::{Decl, Element, Name, Scope};
-
-/// The first wrong name of a tag with these declarations, in the scope round it, and how many characters of the tag stand before it.
-fn first_fault(
-    alloc: Global,
-    scope: &Scope<'_>,
-    decls: &[Decl],
-    tag: &Tag<'_>,
-) -> Result<Option<(Kind, usize)>, AllocError>
-    requires lists { length scope.now < 67 }
-    requires opening { tag.now.opening ≡ opening (tag_in tag.now) }
-    requires fits { tag.now.opening + widths tag.now.said.items < 2 ^ 64 }
-    ensures { IfOk result (λ found. found ≡ first_of_tag (scope.now ++ decls.now ∷ []) (tag_in tag.now)) }
-{
-    // Most tags declare nothing, and a scope is dear to make.
-    if decls.is_empty() {
-        return first_of_tag(alloc, scope, tag);
-    }
-    first_of_tag(alloc, &scope.inside(decls), tag)
-}
+use xml_tree::{Attr, Decl, Element, Name};
 
 /// A tag whose names are right in the scope round it, its declarations, and what follows it.
 fn judged_tag<'a>(
     alloc: Global,
     text: &'a [char],
-    scope: &Scope<'_>,
+    scope: &Around<'_>,
 ) -> Result<(Tag<'a>, Vec<Decl>, &'a [char]), Stop<'a>>
     requires { length scope.now < 67 }
     ensures read { Gives (λ x. (tag_in x.0, x.2.now)) result (read_judged (tag_fault scope.now) read_tag text.now) }
@@ -57,7 +39,7 @@ fn judged_tag<'a>(
 {
     let (tag, rest) = whole_tag(alloc, text)?;
     let decls = decls_of(alloc, &tag.said)?;
-    if let Some((kind, at)) = first_fault(alloc, scope, &decls, &tag)? {
+    if let Some((kind, at)) = first_of_tag(alloc, &scope.inside(&decls), &tag)? {
         let place = before(text, rest, tag.size.saturating_sub(at));
         return Err(Stop::Faulty(kind, place));
     }
@@ -68,8 +50,7 @@ fn judged_tag<'a>(
 fn push_char(alloc: Global, element: &mut Element, c: char) -> Result<(), AllocError>
     ensures { OnOk result (element.new ≡ record element.old { content = with_text (c ∷ []) element.old.content }) }
 {
-    let text = text_of(alloc, &[c])?;
-    element.push_chars(text.as_str())
+    element.push_text(text_of(alloc, &[c])?)
 }
 
 /// Adds a run of raw characters to content, as they are read.
@@ -80,8 +61,7 @@ fn push_run(alloc: Global, element: &mut Element, run: &[char]) -> Result<(), Al
     if run.is_empty() {
         return Ok(());
     }
-    let text = lines(alloc, run)?;
-    element.push_chars(text.as_str())
+    element.push_text(lines(alloc, run)?)
 }
 
 /// Adds markup to content.
@@ -91,7 +71,7 @@ fn push_markup(alloc: Global, element: &mut Element, markup: Markup) -> Result<(
 {
     match markup {
         Markup::Reference(c) => push_char(alloc, element, c),
-        Markup::Section(text) => element.push_chars(text.as_str()),
+        Markup::Section(text) => element.push_text(text),
         Markup::Comment(text) => element.push_comment(text),
         Markup::Instruction => Ok(()),
         Markup::Inner(inner) => element.push_elem(inner),
@@ -122,28 +102,43 @@ fn push_decls(element: &mut Element, decls: Vec<Decl>) -> Result<(), AllocError>
     Ok(())
 }
 
-/// Adds attributes to an element.
-fn push_attrs(element: &mut Element, attrs: Vec<xml_tree::Attr>) -> Result<(), AllocError>
-    ensures { OnOk result (element.new ≡ record element.old { attrs = element.old.attrs ++ attrs.items }) }
+/// Adds one of a tag to an element, unless it is a declaration.
+fn push_said(element: &mut Element, said: Said) -> Result<(), AllocError>
+    ensures { OnOk result (element.new ≡ record element.old { attrs = element.old.attrs ++ attrs_of (said ∷ []) }) }
 {
-    for attr in attrs {
-        element.push_attr(attr)?;
+    if declares(&said.name) {
+        return Ok(());
+    }
+    let Said {
+        name,
+        value,
+        gap: _,
+        size: _,
+    } = said;
+    element.push_attr(Attr { name, value })
+}
+
+/// Adds the attributes of a tag to an element.
+fn push_attrs(element: &mut Element, said: Vec<Said>) -> Result<(), AllocError>
+    ensures { OnOk result (element.new ≡ record element.old { attrs = element.old.attrs ++ attrs_of said.items }) }
+{
+    for one in said {
+        push_said(element, one)?;
     }
     Ok(())
 }
 
-/// An element with the declarations and attributes of its tag.
-fn dressed(
-    alloc: Global,
-    bare: Element,
-    decls: Vec<Decl>,
-    said: Vec<Said>,
-) -> Result<Element, AllocError>
+/// An element with the declarations and attributes of its tag, which are moved into it.
+fn dressed(bare: Element, decls: Vec<Decl>, said: Vec<Said>) -> Result<Element, AllocError>
     ensures { IfOk result (λ element. element ≡ record bare { decls = bare.decls ++ decls.items; attrs = bare.attrs ++ attrs_of said.items }) }
 {
     let mut element = bare;
-    push_decls(&mut element, decls)?;
-    push_attrs(&mut element, attrs_of(alloc, said)?)?;
+    if !decls.is_empty() {
+        push_decls(&mut element, decls)?;
+    }
+    if !said.is_empty() {
+        push_attrs(&mut element, said)?;
+    }
     Ok(element)
 }
 
@@ -178,7 +173,7 @@ fn no_level(text: &[char], depth: usize) -> Stop<'_>
 fn markup<'a>(
     alloc: Global,
     text: &'a [char],
-    scope: &Scope<'_>,
+    scope: &Around<'_>,
     depth: usize,
     levels: usize,
 ) -> Result<(Markup, &'a [char]), Stop<'a>>
@@ -212,7 +207,7 @@ fn markup<'a>(
 fn content<'a>(
     alloc: Global,
     text: &'a [char],
-    scope: &Scope<'_>,
+    scope: &Around<'_>,
     depth: usize,
     levels: usize,
     name: Name,
@@ -242,7 +237,7 @@ fn content<'a>(
 fn behind_tag<'a>(
     alloc: Global,
     text: &'a [char],
-    scope: &Scope<'_>,
+    scope: &Around<'_>,
     depth: usize,
     levels: usize,
     written: &Written<'_>,
@@ -267,7 +262,7 @@ fn behind_tag<'a>(
 pub fn element<'a>(
     alloc: Global,
     text: &'a [char],
-    scope: &Scope<'_>,
+    scope: &Around<'_>,
     depth: usize,
     levels: usize,
 ) -> Result<(Element, &'a [char]), Stop<'a>>
@@ -297,5 +292,5 @@ pub fn element<'a>(
         name,
         is_empty,
     )?;
-    Ok((dressed(alloc, bare, decls, said)?, rest))
+    Ok((dressed(bare, decls, said)?, rest))
 }

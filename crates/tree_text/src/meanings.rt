@@ -3,9 +3,10 @@ ghost use Rattle.std.specs.Prelude.{◌≡◌, option_map, chars, encode_utf8_al
 ghost use Rattle.xml_tree.specs.Expanded.{attr_name};
 ghost use Rattle.tree_text.specs.Meanings.{Means, uri_bytes};
 
+use crate::around::Around;
 use crate::names::{declared_prefix, declares, is_nothing};
 use crate::said::Said;
-use xml_tree::{Name, Scope, Text};
+use xml_tree::{Name, Text};
 
 /// What a name in a tag says. Local names are compared before namespaces, which many of them share.
 #[derive(Debug, Drop, PartialEq, Eq, PartialOrd, Ord)]
@@ -24,20 +25,20 @@ fn as_text(text: &str) -> &str
 }
 
 /// The namespace of an attribute of this name.
-fn attr_uri<'a>(here: &Scope<'a>, name: &Name) -> Option<&'a str>
+fn attr_uri<'a>(here: &Around<'a>, name: &Name) -> Option<&'a str>
     ensures { option_map (λ uri. uri.now) result ≡ uri_bytes here.now name.now }
 {
     if is_nothing(&name.prefix) {
         return None;
     }
-    match here.resolve(name.prefix.as_str()) {
+    match here.resolve(&name.prefix) {
         Some(uri) => Some(as_text(uri)),
         None => None,
     }
 }
 
 /// What one says, in the scope inside its tag.
-pub fn meaning_of<'a>(here: &Scope<'a>, said: &'a Said) -> Meaning<'a>
+pub fn meaning_of<'a>(here: &Around<'a>, said: &'a Said) -> Meaning<'a>
     ensures { Means here.now said.now result }
 {
     if declares(&said.name) {

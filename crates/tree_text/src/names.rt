@@ -3,11 +3,12 @@ ghost use Rattle.std.specs.Prelude.{◌≡◌, ◌+◌, ◌<◌, ◌^◌, List, 
 ghost use Rattle.std.specs.Str.{bytes_eq};
 ghost use Rattle.xml_tree.specs.Scopes.{xml_prefix, xmlns_prefix, xml_uri, xmlns_uri};
 ghost use Rattle.xml_tree.specs.Proper.{may_stand};
-ghost use Rattle.tree_text.specs.Names.{declares, decl_of, decls_of, attr_of, attrs_of, is_unbound, is_misnamed, is_repeated, wrong_said, widths, opening, first_wrong, first_of_tag};
+ghost use Rattle.tree_text.specs.Names.{declares, decl_of, decls_of, is_unbound, is_misnamed, is_repeated, wrong_said, widths, opening, first_wrong, first_of_tag};
 ghost use Rattle.tree_text.specs.Meanings.{Holds};
 ghost use Rattle.tree_text.specs.Views.{tag_in};
 ghost use Rattle.tree_text.specs.declared.said.Said.{Said};
 
+use crate::around::Around;
 use crate::kind::Kind;
 use crate::meanings::{Meaning, meaning_of};
 use crate::said::Said;
@@ -15,7 +16,7 @@ use crate::tags::Tag;
 use crate::texts::no_text;
 use std::alloc::{AllocError, Global};
 use std::collections::BTreeSet;
-use xml_tree::{Attr, Decl, Name, Scope, Text};
+use xml_tree::{Decl, Name, Text};
 
 /// Whether a text is empty.
 pub fn is_nothing(text: &Text) -> bool
@@ -24,7 +25,8 @@ pub fn is_nothing(text: &Text) -> bool
     text.is("")
 }
 
-fn is_xml(text: &Text) -> bool
+/// Whether a text is `xml`.
+pub fn is_xml(text: &Text) -> bool
     ensures { result ≡ bytes_eq text.now xml_prefix }
 {
     text.is("xml")
@@ -104,34 +106,6 @@ pub fn decls_of(alloc: Global, all: &[Said]) -> Result<Vec<Decl>, AllocError>
     Ok(decls)
 }
 
-/// Adds an attribute, unless it is a declaration.
-fn push_attr(attrs: &mut Vec<Attr>, said: Said) -> Result<(), AllocError>
-    ensures { IfOk result (λ _. attrs.new.items ≡ attrs.old.items ++ attrs_of (said ∷ [])) }
-{
-    if declares(&said.name) {
-        return Ok(());
-    }
-    let Said {
-        name,
-        value,
-        gap: _,
-        size: _,
-    } = said;
-    attrs.push(Attr { name, value })?;
-    Ok(())
-}
-
-/// The attributes among these, in order.
-pub fn attrs_of(alloc: Global, all: Vec<Said>) -> Result<Vec<Attr>, AllocError>
-    ensures { IfOk result (λ attrs. attrs.items ≡ attrs_of all.items) }
-{
-    let mut attrs = Vec::new(alloc);
-    for said in all {
-        push_attr(&mut attrs, said)?;
-    }
-    Ok(attrs)
-}
-
 /// Whether `xml` is bound to its own namespace, and nothing else to that.
 fn fits_xml(prefix: &Text, uri: &Text) -> bool
     ensures { result ≡ (if bytes_eq prefix.now xml_prefix then bytes_eq uri.now xml_uri else not (bytes_eq uri.now xml_uri)) }
@@ -160,20 +134,20 @@ fn may_stand(prefix: &Text, uri: &Text) -> bool
 }
 
 /// Whether a name has a prefix that isn't bound.
-pub fn is_unbound(here: &Scope<'_>, name: &Name) -> bool
+pub fn is_unbound(here: &Around<'_>, name: &Name) -> bool
     ensures { result ≡ is_unbound here.now name.now }
 {
     if is_nothing(&name.prefix) {
         return false;
     }
-    match here.resolve(name.prefix.as_str()) {
+    match here.resolve(&name.prefix) {
         Some(_) => false,
         None => true,
     }
 }
 
 /// Whether a declaration may not stand, or an attribute has an unbound prefix.
-fn is_misnamed(here: &Scope<'_>, said: &Said) -> bool
+fn is_misnamed(here: &Around<'_>, said: &Said) -> bool
     ensures { result ≡ is_misnamed here.now said.now }
 {
     if declares(&said.name) {
@@ -184,7 +158,7 @@ fn is_misnamed(here: &Scope<'_>, said: &Said) -> bool
 
 /// Whether one of a tag says what none before it says, which is then seen too.
 fn is_first<'a>(
-    here: &Scope<'a>,
+    here: &Around<'a>,
     seen: &mut BTreeSet<Meaning<'a>>,
     said: &'a Said,
 ) -> Result<bool, AllocError>
@@ -197,7 +171,7 @@ fn is_first<'a>(
 
 /// What is wrong with one of a tag, behind those that say what is seen. Where nothing is, what it says is then seen too.
 fn wrong_said<'a>(
-    here: &Scope<'a>,
+    here: &Around<'a>,
     seen: &mut BTreeSet<Meaning<'a>>,
     said: &'a Said,
 ) -> Result<Option<Kind>, AllocError>
@@ -213,10 +187,22 @@ fn wrong_said<'a>(
     Ok(Some(Kind::Repeated))
 }
 
-/// The first of these that is wrong, and how many characters of the tag stand before its name, of which this many before all.
-pub fn first_wrong<'a>(
+/// What is wrong with the only one of a tag, which nothing stands before, and how many characters of the tag stand before its name,
+/// of which this many before its white space.
+fn only_wrong(here: &Around<'_>, only: &Said, opening: usize) -> Option<(Kind, usize)>
+    requires { opening + widths (only.now ∷ []) < 2 ^ 64 }
+    ensures { result ≡ first_wrong here.now [] opening (only.now ∷ []) }
+{
+    if is_misnamed(here, only) {
+        return Some((Kind::Unbound, opening + only.gap));
+    }
+    None
+}
+
+/// The first of these that is wrong, as `first_wrong` finds it.
+fn first_of_several<'a>(
     alloc: Global,
-    here: &Scope<'a>,
+    here: &Around<'a>,
     all: &'a [Said],
     opening: usize,
 ) -> Result<Option<(Kind, usize)>, AllocError>
@@ -234,10 +220,27 @@ pub fn first_wrong<'a>(
     Ok(None)
 }
 
+/// The first of these that is wrong, and how many characters of the tag stand before its name, of which this many before all.
+pub fn first_wrong<'a>(
+    alloc: Global,
+    here: &Around<'a>,
+    all: &'a [Said],
+    opening: usize,
+) -> Result<Option<(Kind, usize)>, AllocError>
+    requires { opening + widths all.now < 2 ^ 64 }
+    ensures { IfOk result (λ found. found ≡ first_wrong here.now [] opening all.now) }
+{
+    match all {
+        [] => Ok(None),
+        [only] => Ok(only_wrong(here, only, opening)),
+        _ => first_of_several(alloc, here, all, opening),
+    }
+}
+
 /// The first wrong name of a tag, in the scope inside it, and how many characters of the tag stand before it.
 pub fn first_of_tag<'a>(
     alloc: Global,
-    here: &Scope<'a>,
+    here: &Around<'a>,
     tag: &'a Tag<'_>,
 ) -> Result<Option<(Kind, usize)>, AllocError>
     requires opening { tag.now.opening ≡ opening (tag_in tag.now) }

@@ -10,6 +10,7 @@ ghost use Rattle.tree_text.specs.Reading.{read_text};
 ghost use Rattle.tree_text.specs.declared.fault.TextFault.TheVariants as texts;
 ghost use Rattle.tree_text.specs.declared.fault.ValueFault.TheVariants as bodies;
 
+use crate::around::Around;
 use crate::declaration::{declaration_if, mark_if};
 use crate::elements::element;
 use crate::fault::TextFault;
@@ -33,7 +34,7 @@ fn root<'a>(
     let rest = mark_if(text);
     let rest = declaration_if(rest)?;
     let rest = prolog(rest)?;
-    let (root, rest) = element(alloc, rest, scope, 1, depth)?;
+    let (root, rest) = element(alloc, rest, &Around::given(scope), 1, depth)?;
     let rest = epilog(rest)?;
     if !rest.is_empty() {
         return Err(Stop::Syntax(rest));
@@ -41,10 +42,20 @@ fn root<'a>(
     Ok(root)
 }
 
+/// The characters that ASCII bytes are.
+fn widened(alloc: Global, bytes: &[u8]) -> Result<Vec<char>, AllocError>
+    ensures { IfOk result (λ all. all.items ≡ bytes.now) }
+{
+    bytes.iter().map(|&byte| byte as char).collect(alloc)
+}
+
 /// The characters of a text.
 pub fn decoded(alloc: Global, text: &str) -> Result<Vec<char>, AllocError>
     ensures { IfOk result (λ all. all.items ≡ chars text.now) }
 {
+    if text.is_ascii() {
+        return widened(alloc, text.as_bytes());
+    }
     text.chars().collect(alloc)
 }
 

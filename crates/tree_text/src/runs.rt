@@ -6,11 +6,12 @@ ghost use Rattle.tree_text.specs.Gives.{Gives};
 ghost use Rattle.tree_text.specs.Grammar.{is_raw};
 ghost use Rattle.tree_text.specs.Pieces.{line_char, with_char, line_ends, same_letters};
 ghost use Rattle.tree_text.specs.Reading.{read_raw_run};
-ghost use Rattle.tree_text.specs.Runs.{without_len};
+ghost use Rattle.std.specs.List.{list_all};
+ghost use Rattle.tree_text.specs.Runs.{is_no_return, without_len};
 ghost use Rattle.tree_text.specs.Words.{section_end};
 
 use crate::stop::Stop;
-use crate::texts::with_room;
+use crate::texts::text_of;
 use crate::values::{is_raw, line_char};
 use std::alloc::{AllocError, Global};
 use xml_tree::{Text, is_char};
@@ -44,6 +45,13 @@ pub fn same_letters(text: &[char], word: &[char]) -> bool
     matches!(rest, [])
 }
 
+/// Whether the end of a CDATA section stands in front.
+fn ends_section(text: &[char]) -> bool
+    ensures { result ≡ starts section_end text.now }
+{
+    matches!(text, [']', ']', '>', ..])
+}
+
 /// How many raw characters of content stand in front of a `>` that would end `]]>`, or of what isn't raw.
 fn raw_len(text: &[char]) -> usize
     ensures { result ≡ without_len is_raw section_end text.now }
@@ -51,7 +59,7 @@ fn raw_len(text: &[char]) -> usize
     let mut len = 0;
     let mut rest = text;
     while let [c, after @ ..] = rest {
-        if starts(rest, &[']', ']', '>']) {
+        if ends_section(rest) {
             return len + 2;
         }
         if !is_raw(*c) {
@@ -98,11 +106,28 @@ fn push_char(text: &mut Text, c: char, after: &[char]) -> Result<(), AllocError>
     }
 }
 
+/// Whether a run has no CR, so that it is read as it stands.
+fn has_no_return(run: &[char]) -> bool
+    ensures { result ≡ list_all is_no_return run.now }
+{
+    run.iter().all(|&c| c != '\r')
+}
+
 /// The text that a run is read as: its line ends are LF.
 pub fn lines(alloc: Global, run: &[char]) -> Result<Text, AllocError>
     ensures { IfOk result (λ text. text ≡ line_ends run.now) }
 {
-    let mut text = with_room(alloc, run.len())?;
+    if has_no_return(run) {
+        return text_of(alloc, run);
+    }
+    mended(alloc, run)
+}
+
+/// The same, character by character.
+fn mended(alloc: Global, run: &[char]) -> Result<Text, AllocError>
+    ensures { IfOk result (λ text. text ≡ line_ends run.now) }
+{
+    let mut text = Text::with_capacity(alloc, run.len())?;
     let mut rest = run;
     while let [c, after @ ..] = rest {
         push_char(&mut text, *c, after)?;

@@ -1,9 +1,10 @@
 //! References, and values between quotes.
 ghost use Rattle.std.specs.Prelude.{◌≡◌, ◌+◌, ◌≤◌, ◌<◌, ◌++◌, true, false, [], ◌∷◌, length, map, MatchOption, OnOk, Ok, option_map};
 ghost use Rattle.grammar_rules.specs.Reading.{read_one, read_number};
-ghost use Rattle.xml_tree.specs.Characters.{is_char};
+ghost use Rattle.xml_tree.specs.Characters.{is_char, within};
 ghost use Rattle.tree_text.specs.Gives.{Gives};
-ghost use Rattle.tree_text.specs.Runs.{run_len};
+ghost use Rattle.std.specs.List.{list_all};
+ghost use Rattle.tree_text.specs.Runs.{is_smooth, run_len};
 ghost use Rattle.tree_text.specs.Pieces.{line_char, with_char, blank, raw, line_ends};
 ghost use Rattle.tree_text.specs.Views.{digits_of};
 ghost use Rattle.tree_text.specs.Grammar.{last_char, is_quote, is_raw, is_raw_in};
@@ -11,7 +12,7 @@ ghost use Rattle.tree_text.specs.Reading.{read_stands_for, read_entity, read_num
 
 use crate::parts::word;
 use crate::stop::Stop;
-use crate::texts::with_room;
+use crate::texts::push_all;
 use std::alloc::{AllocError, Global};
 use xml_tree::{Text, is_char};
 
@@ -126,10 +127,21 @@ pub fn quote(text: &[char]) -> Result<(char, &[char]), Stop<'_>>
     }
 }
 
+/// Whether a character stands behind all ASCII punctuation that has a meaning, and before the surrogates.
+fn is_letter(c: char) -> bool
+    ensures { result ≡ within 63 55295 c }
+{
+    matches!(c, '?'..='\u{D7FF}')
+}
+
 /// Whether a character stands raw in content.
 pub fn is_raw(c: char) -> bool
     ensures { result ≡ is_raw c }
 {
+    // Most characters are letters.
+    if is_letter(c) {
+        return true;
+    }
     is_char(c) && c != '<' && c != '&'
 }
 
@@ -189,8 +201,30 @@ fn push_raw_char(value: &mut Text, c: char, after: &[char]) -> Result<(), AllocE
     }
 }
 
+/// Whether no raw character of a value is a tab or a line end, so that all are read as they stand.
+fn is_all_smooth(run: &[char]) -> bool
+    ensures { result ≡ list_all is_smooth run.now }
+{
+    for &c in run {
+        if c < ' ' {
+            return false;
+        }
+    }
+    true
+}
+
 /// Adds raw characters of a value, as they are read.
 pub fn push_raw(value: &mut Text, run: &[char]) -> Result<(), AllocError>
+    ensures { OnOk result (value.new ≡ value.old ++ raw run.now) }
+{
+    if is_all_smooth(run) {
+        return push_all(value, run);
+    }
+    push_blanks(value, run)
+}
+
+/// The same, character by character.
+fn push_blanks(value: &mut Text, run: &[char]) -> Result<(), AllocError>
     ensures { OnOk result (value.new ≡ value.old ++ raw run.now) }
 {
     let mut rest = run;
@@ -221,7 +255,7 @@ pub fn value(alloc: Global, text: &[char], quote: char) -> Result<(Text, &[char]
     ensures { Gives (λ x. (x.0, x.1.now)) result (read_value quote text.now) }
 {
     let (first, start) = raw_run(text, quote);
-    let mut value = with_room(alloc, first.len())?;
+    let mut value = Text::with_capacity(alloc, first.len())?;
     push_raw(&mut value, first)?;
     let mut rest = start;
     for _ in 0..start.len() {

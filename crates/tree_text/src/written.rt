@@ -8,9 +8,9 @@ ghost use Rattle.tree_text.specs.Views.{name_in};
 
 use crate::parts::{name, spaces, word};
 use crate::stop::Stop;
-use crate::texts::text_of;
+use crate::texts::{no_text, text_of};
 use std::alloc::{AllocError, Global};
-use xml_tree::Name;
+use xml_tree::{Name, Text};
 
 /// A name in a text: its prefix, empty where it has none, and its local part.
 #[derive(Clone, Copy, Debug)]
@@ -76,11 +76,21 @@ pub fn end_tag<'a>(text: &'a [char], name: &Written<'_>) -> Result<&'a [char], S
     word(rest, &['>'])
 }
 
+/// A prefix that owns its characters. Most names have none.
+fn prefix_of(alloc: Global, name: &Written<'_>) -> Result<Text, AllocError>
+    ensures { IfOk result (λ prefix. prefix ≡ name.now.prefix.now) }
+{
+    match name.prefix {
+        [] => Ok(no_text(alloc)),
+        prefix => text_of(alloc, prefix),
+    }
+}
+
 /// A name that owns its parts.
 pub fn owned(alloc: Global, name: &Written<'_>) -> Result<Name, AllocError>
     ensures { IfOk result (λ owned. owned ≡ name_in name.now) }
 {
-    let prefix = text_of(alloc, name.prefix)?;
+    let prefix = prefix_of(alloc, name)?;
     let local = text_of(alloc, name.local)?;
     Ok(Name { prefix, local })
 }

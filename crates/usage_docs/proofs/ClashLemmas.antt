@@ -1,5 +1,6 @@
 -- Clashes at a place, and those found so far.
-use Rattle.std.proofs.Common.{◌≡◌, ◌↔◌, ◌<◌, ℕ, zero, suc, Bool, List, [], ◌∷◌, ◌++◌, length, take, get_or, IsTrue, Option, None, Some, slice_get, option_map, option_and_then, refl, ap, sym, ◌∙◌, subst, inl, inr, arith, append_assoc, append-nil}
+use Rattle.std.proofs.Common.{◌≡◌, ◌<◌, ◌⊎◌, ℕ, zero, suc, List, [], ◌∷◌, ◌++◌, length, take, get_or, Option, None, Some, slice_get, option_map, option_and_then, refl, ap, sym, ◌∙◌, subst, inl, inr, arith, append_assoc, append-nil}
+use Rattle.std.specs.List.{cons_option}
 use Rattle.std.proofs.lemmas.Option.{same_Some}
 use Rattle.std.proofs.lemmas.Bool.{cases_lt}
 use Rattle.xml_tree.specs.Tree.{Content, last, more, note, Tree, kids, kids_of}
@@ -14,10 +15,7 @@ use Rattle.usage_docs.specs.declared.keys.Clash.{Clash}
 use Rattle.usage_docs.specs.Rows.{Scope, kind_of}
 use Rattle.usage_docs.specs.Keys.{key_of, value_of, key_value}
 use Rattle.usage_docs.specs.Clashes.{inside, Mark, mark, mark_of, mark_at, RepeatsAt, NoLater}
-use Rattle.usage_docs.specs.Siblings.{node_kids, HasMark, RepeatsHere, IsFirst, RepeatedKey}
-
-pub some_same : (kv : Option (List ℕ)) (a b : List ℕ) (r : Bool) → Some a ≡ kv → (IsTrue r ↔ (a ≡ b)) → IsTrue r ↔ (kv ≡ Some b)
-some_same kv a b r e f = (λ h. sym e ∙ ap Some (f.0 h), λ k. f.1 (same_Some _ _ (e ∙ k)))
+use Rattle.usage_docs.specs.Siblings.{node_kids, marks_of, IsAmong, RepeatsHere, IsFirst, RepeatedKey}
 
 -- ---- marks
 
@@ -51,7 +49,7 @@ mark_parts : (row : Kind) (c : Scope) (e : Tree) (m : Mark) → mark_of row c e 
 unfolding mark_of
 mark_parts row c e m h = marked (kind_of row (inside c e) e.name) e.attrs m h
 
-value_in : (kind : Kind) (key : Key) (ats : List Attr) → key_of kind ≡ Some key → key_value kind ats ≡ value_of key ats
+pub value_in : (kind : Kind) (key : Key) (ats : List Attr) → key_of kind ≡ Some key → key_value kind ats ≡ value_of key ats
 unfolding key_value
 value_in kind key ats k = rw k
 
@@ -83,15 +81,6 @@ kid_at (Elem e ∷ ns) (suc place) node kid lt is elem = kid_at ns place node ki
 kid_at (Chars t ∷ ns) (suc place) node kid lt is elem = kid_at ns place node kid (omega arith) is elem
 kid_at (Comment x ∷ ns) (suc place) node kid lt is elem = kid_at ns place node kid (omega arith) is elem
 
-pub kid_early : (ns : List Node) (place j : ℕ) → j < length (node_kids (take place ns)) → slice_get (node_kids ns) j ≡ slice_get (node_kids (take place ns)) j
-kid_early [] zero j lt = absurd (omega arith)
-kid_early [] (suc place) j lt = absurd (omega arith)
-kid_early (n ∷ ns) zero j lt = absurd (omega arith)
-kid_early (Elem e ∷ ns) (suc place) zero lt = refl
-kid_early (Elem e ∷ ns) (suc place) (suc j) lt = kid_early ns place j (omega arith)
-kid_early (Chars t ∷ ns) (suc place) j lt = kid_early ns place j lt
-kid_early (Comment x ∷ ns) (suc place) j lt = kid_early ns place j lt
-
 -- one node more
 pub one_more : Node → ℕ → ℕ
 one_more (Elem e) k = suc k
@@ -120,19 +109,35 @@ count_other ns place (Elem e) lt is other = absurd (other e refl)
 count_other ns place (Chars t) lt is other = count_next ns place (Chars t) lt is
 count_other ns place (Comment x) lt is other = count_next ns place (Comment x) lt is
 
-has_mark_to : (row : Kind) (c : Scope) (m : Mark) (ns : List Node) → HasMark row c m ns → (j : ℕ) × (mark_at row c (node_kids ns) j ≡ Some m)
-has_mark_to row c m [] h = absurd h
-has_mark_to row c m (Elem e ∷ ns) (inl h) = (0, h)
-has_mark_to row c m (Elem e ∷ ns) (inr h) = let r = has_mark_to row c m ns h in (suc r.0, r.1)
-has_mark_to row c m (Chars t ∷ ns) h = has_mark_to row c m ns h
-has_mark_to row c m (Comment x ∷ ns) h = has_mark_to row c m ns h
+-- one of some marks, behind that which the first sibling may have
+among_cons : (o : Option Mark) (ms : List Mark) (m : Mark) → IsAmong (cons_option o ms) m → (o ≡ Some m) ⊎ IsAmong ms m
+among_cons None ms m h = inr h
+among_cons (Some n) ms m (inl h) = inl (ap Some h)
+among_cons (Some n) ms m (inr h) = inr h
 
-has_mark_from : (row : Kind) (c : Scope) (m : Mark) (ns : List Node) (j : ℕ) → mark_at row c (node_kids ns) j ≡ Some m → HasMark row c m ns
-has_mark_from row c m [] j h = cc
-has_mark_from row c m (Elem e ∷ ns) zero h = inl h
-has_mark_from row c m (Elem e ∷ ns) (suc j) h = inr (has_mark_from row c m ns j h)
-has_mark_from row c m (Chars t ∷ ns) j h = has_mark_from row c m ns j h
-has_mark_from row c m (Comment x ∷ ns) j h = has_mark_from row c m ns j h
+among_first : (o : Option Mark) (ms : List Mark) (m : Mark) → o ≡ Some m → IsAmong (cons_option o ms) m
+among_first None ms m h = cc
+among_first (Some n) ms m h = inl (same_Some n m h)
+
+among_rest : (o : Option Mark) (ms : List Mark) (m : Mark) → IsAmong ms m → IsAmong (cons_option o ms) m
+among_rest None ms m h = h
+among_rest (Some n) ms m h = inr h
+
+among_to : (row : Kind) (c : Scope) (m : Mark) (xs : List Tree) (i : ℕ) → IsAmong (marks_of row c (take i xs)) m → (j : ℕ) × ((j < i) × (mark_at row c xs j ≡ Some m))
+among_to row c m [] zero h = absurd h
+among_to row c m [] (suc i) h = absurd h
+among_to row c m (x ∷ xs) zero h = absurd h
+among_to row c m (x ∷ xs) (suc i) h =
+    elim (among_cons (mark_of row c x) (marks_of row c (take i xs)) m h) [
+      | inl e ↦ (0, (omega arith, e))
+      | inr r ↦ (let s = among_to row c m xs i r in (suc s.0, (let lt = s.1.0 in omega arith, s.1.1)))
+    ]
+
+among_from : (row : Kind) (c : Scope) (m : Mark) (xs : List Tree) (i j : ℕ) → j < i → mark_at row c xs j ≡ Some m → IsAmong (marks_of row c (take i xs)) m
+among_from row c m xs zero j lt h = absurd (omega arith)
+among_from row c m [] (suc i) j lt h = cc
+among_from row c m (x ∷ xs) (suc i) zero lt h = among_first (mark_of row c x) (marks_of row c (take i xs)) m h
+among_from row c m (x ∷ xs) (suc i) (suc j) lt h = among_rest (mark_of row c x) (marks_of row c (take i xs)) m (among_from row c m xs i j (omega arith) h)
 
 mark_within : (row : Kind) (c : Scope) (m : Mark) (ks : List Tree) (j : ℕ) → mark_at row c ks j ≡ Some m → j < length ks
 mark_within row c m [] j h = cc
@@ -143,63 +148,54 @@ mark_within row c m (k ∷ ks) (suc j) h = let lt = mark_within row c m ks j h i
 pub there_is : (xs : List Tree) (ns : List Node) (place i : ℕ) (node : Node) (kid : Tree) → xs ≡ node_kids ns → i ≡ length (node_kids (take place ns)) → place < length ns → node ≡ get_or ns place node → node ≡ Elem kid → slice_get xs i ≡ Some kid
 there_is xs ns place i node kid kids count lt is elem = ap (λ ks. slice_get ks i) kids ∙ ap (slice_get (node_kids ns)) count ∙ kid_at ns place node kid lt is elem
 
-pub early_are : (xs : List Tree) (ns : List Node) (place : ℕ) → xs ≡ node_kids ns → (j : ℕ) → j < length (node_kids (take place ns)) → slice_get xs j ≡ slice_get (node_kids (take place ns)) j
-early_are xs ns place kids j lt = ap (λ ks. slice_get ks j) kids ∙ kid_early ns place j lt
-
 -- ---- the first clash at an element
 
-pub key_found : (row : Kind) (c : Scope) (earlier : List Node) (kind : Kind) (ats : List Attr) (key : Key) (value : List ℕ) → key_of kind ≡ Some key → value_of key ats ≡ Some value → HasMark row c (mark kind value) earlier → RepeatedKey row c earlier kind ats (Some key)
-key_found row c earlier kind ats key value k v h = λ other. (
-  λ e. let same = same_Some key other e in (value, (k ∙ e, subst (λ x. value_of x ats ≡ Some value) same v, h)),
-  λ r. sym k ∙ r.1.0,
-)
-
-module _ (row : Kind) (c : Scope) (earlier : List Node) (e : Tree) where
+module _ (row : Kind) (c : Scope) (ms : List Mark) (e : Tree) where
   -- an element without a kind
-  none_of_kind : kind_of row (inside c e) e.name ≡ None → (p : List ℕ) (key : Key) → RepeatsHere row c earlier e p key → ⊥
+  none_of_kind : kind_of row (inside c e) e.name ≡ None → (p : List ℕ) (key : Key) → RepeatsHere row c ms e p key → ⊥
   none_of_kind none [] key h = let m = mark_parts row c e h.0 h.1.0 in let k = m.by_kind in cc
   none_of_kind none (n ∷ p) key h = let k = h.1.0 in cc
 
-  pub at_none : (here : List ℕ) → kind_of row (inside c e) e.name ≡ None → IsFirst (RepeatsHere row c earlier e) here None
+  pub at_none : (here : List ℕ) → kind_of row (inside c e) e.name ≡ None → IsFirst (RepeatsHere row c ms e) here None
   at_none here none = none_of_kind none
 
   module _ (kind : Kind) (of_kind : kind_of row (inside c e) e.name ≡ Some kind) where
     -- it repeats a key itself
-    here_from : (key : Key) → RepeatedKey row c earlier kind e.attrs (Some key) → RepeatsHere row c earlier e [] key
+    here_from : (key : Key) → RepeatedKey ms kind e.attrs (Some key) → RepeatsHere row c ms e [] key
     here_from key h = let r = (h key).0 refl in (mark kind r.0, (mark_in row c e kind key r.0 of_kind r.1.0 r.1.1, r.1.2, r.1.0))
 
-    here_to : (o : Option Key) (key : Key) → RepeatedKey row c earlier kind e.attrs o → RepeatsHere row c earlier e [] key → o ≡ Some key
+    here_to : (o : Option Key) (key : Key) → RepeatedKey ms kind e.attrs o → RepeatsHere row c ms e [] key → o ≡ Some key
     here_to o key h r =
         let parts = mark_parts row c e r.0 r.1.0 in
         let same : kind ≡ r.0.kind = same_Some _ _ (sym of_kind ∙ parts.by_kind) in
         let k : key_of kind ≡ Some key = subst (λ x. key_of x ≡ Some key) (sym same) r.1.2 in
         let v : key_value kind e.attrs ≡ Some r.0.value = subst (λ x. key_value x e.attrs ≡ Some r.0.value) (sym same) parts.by_value in
-        let m : HasMark row c (mark kind r.0.value) earlier = subst (λ x. HasMark row c (mark x r.0.value) earlier) (sym same) r.1.1 in
+        let m : IsAmong ms (mark kind r.0.value) = subst (λ x. IsAmong ms (mark x r.0.value)) (sym same) r.1.1 in
         (h key).1 (r.0.value, (k, sym (value_in kind key e.attrs k) ∙ v, m))
 
-    pub at_here : (here : List ℕ) (clash : Clash) → clash.path ≡ here → RepeatedKey row c earlier kind e.attrs (Some clash.key) → IsFirst (RepeatsHere row c earlier e) here (Some clash)
+    pub at_here : (here : List ℕ) (clash : Clash) → clash.path ≡ here → RepeatedKey ms kind e.attrs (Some clash.key) → IsFirst (RepeatsHere row c ms e) here (Some clash)
     at_here here clash is h = ([], (is ∙ sym (append-nil here), here_from clash.key h, λ q key r. tt))
 
-    below_to : (n : ℕ) (p : List ℕ) (key : Key) → RepeatsHere row c earlier e (n ∷ p) key → RepeatsAt kind (inside c e) (kids_of e) (n ∷ p) key
+    below_to : (n : ℕ) (p : List ℕ) (key : Key) → RepeatsHere row c ms e (n ∷ p) key → RepeatsAt kind (inside c e) (kids_of e) (n ∷ p) key
     below_to n p key r = subst (λ x. RepeatsAt x (inside c e) (kids_of e) (n ∷ p) key) (same_Some _ _ (sym r.1.0 ∙ of_kind)) r.1.1
 
-    not_here : RepeatedKey row c earlier kind e.attrs None → (key : Key) → RepeatsHere row c earlier e [] key → ⊥
+    not_here : RepeatedKey ms kind e.attrs None → (key : Key) → RepeatsHere row c ms e [] key → ⊥
     not_here h key r = let k = here_to None key h r in cc
 
     -- it doesn't, and so the first is that below it
-    later : (p : List ℕ) → RepeatedKey row c earlier kind e.attrs None → ((q : List ℕ) (key : Key) → RepeatsAt kind (inside c e) (kids_of e) q key → NoLater p q) → (q : List ℕ) (key : Key) → RepeatsHere row c earlier e q key → NoLater p q
+    later : (p : List ℕ) → RepeatedKey ms kind e.attrs None → ((q : List ℕ) (key : Key) → RepeatsAt kind (inside c e) (kids_of e) q key → NoLater p q) → (q : List ℕ) (key : Key) → RepeatsHere row c ms e q key → NoLater p q
     later p h first [] key r = absurd (not_here h key r)
     later p h first (m ∷ q) key r = first (m ∷ q) key (below_to m q key r)
 
-    nothing : RepeatedKey row c earlier kind e.attrs None → ((q : List ℕ) (key : Key) → RepeatsAt kind (inside c e) (kids_of e) q key → ⊥) → (q : List ℕ) (key : Key) → RepeatsHere row c earlier e q key → ⊥
+    nothing : RepeatedKey ms kind e.attrs None → ((q : List ℕ) (key : Key) → RepeatsAt kind (inside c e) (kids_of e) q key → ⊥) → (q : List ℕ) (key : Key) → RepeatsHere row c ms e q key → ⊥
     nothing h none [] key r = not_here h key r
     nothing h none (m ∷ q) key r = none (m ∷ q) key (below_to m q key r)
 
-    below_from : (p : List ℕ) (key : Key) → RepeatsAt kind (inside c e) (kids_of e) p key → RepeatsHere row c earlier e p key
+    below_from : (p : List ℕ) (key : Key) → RepeatsAt kind (inside c e) (kids_of e) p key → RepeatsHere row c ms e p key
     below_from [] key r = absurd r
     below_from (n ∷ p) key r = (kind, (of_kind, r))
 
-    pub at_below : (here : List ℕ) (r : Option Clash) → RepeatedKey row c earlier kind e.attrs None → IsFirst (RepeatsAt kind (inside c e) (kids_of e)) here r → IsFirst (RepeatsHere row c earlier e) here r
+    pub at_below : (here : List ℕ) (r : Option Clash) → RepeatedKey ms kind e.attrs None → IsFirst (RepeatsAt kind (inside c e) (kids_of e)) here r → IsFirst (RepeatsHere row c ms e) here r
     at_below here None h f = nothing h f
     at_below here (Some clash) h f = (f.0, (f.1.0, below_from f.0 clash.key f.1.1, later f.0 h f.1.2))
 
@@ -208,24 +204,26 @@ module _ (row : Kind) (c : Scope) (earlier : List Node) (e : Tree) where
 abbrev pub NoneBefore : Kind → Scope → List Tree → ℕ → Type 0
 NoneBefore row c xs i = (n : ℕ) (p : List ℕ) (key : Key) → n < i → RepeatsAt row c xs (n ∷ p) key → ⊥
 
--- the i-th child is this one, behind these nodes
-module _ (row : Kind) (c : Scope) (xs : List Tree) (early : List Node) (kid : Tree) (i : ℕ) (there : slice_get xs i ≡ Some kid) (count : i ≡ length (node_kids early)) (before_it : (j : ℕ) → j < length (node_kids early) → slice_get xs j ≡ slice_get (node_kids early) j) where
-  here_to_kid : (p : List ℕ) (key : Key) → RepeatsAt row c xs (i ∷ p) key → RepeatsHere row c early kid p key
+-- the i-th child is this one
+module _ (row : Kind) (c : Scope) (xs : List Tree) (kid : Tree) (i : ℕ) (there : slice_get xs i ≡ Some kid) where
+  -- the marks of those before it
+  abbrev earlier : List Mark
+  earlier = marks_of row c (take i xs)
+
+  here_to_kid : (p : List ℕ) (key : Key) → RepeatsAt row c xs (i ∷ p) key → RepeatsHere row c earlier kid p key
   here_to_kid [] key r =
-      let at : slice_get xs r.earlier ≡ slice_get (node_kids early) r.earlier = before_it r.earlier (subst (λ n. r.earlier < n) count r.comes_first) in
-      (r.shared, (sym (ap (option_and_then (mark_of row c)) there) ∙ r.this, has_mark_from row c r.shared early r.earlier (sym (ap (option_and_then (mark_of row c)) at) ∙ r.that), r.by_key))
+      (r.shared, (sym (ap (option_and_then (mark_of row c)) there) ∙ r.this, among_from row c r.shared xs i r.earlier r.comes_first r.that, r.by_key))
   here_to_kid (n ∷ p) key r =
       let same = same_Some _ _ (sym r.1.1.0 ∙ there) in
       (r.1.0, (subst (λ x. kind_of row (inside c x) x.name ≡ Some r.1.0) same r.1.1.1, subst (λ x. RepeatsAt r.1.0 (inside c x) (kids_of x) (n ∷ p) key) same r.1.1.2))
 
-  kid_to_here : (p : List ℕ) (key : Key) → RepeatsHere row c early kid p key → RepeatsAt row c xs (i ∷ p) key
+  kid_to_here : (p : List ℕ) (key : Key) → RepeatsHere row c earlier kid p key → RepeatsAt row c xs (i ∷ p) key
   kid_to_here [] key r =
-      let m = has_mark_to row c r.0 early r.1.1 in
-      let lt = mark_within row c r.0 (node_kids early) m.0 m.1 in
-      record { shared = r.0; earlier = m.0; comes_first = subst (λ n. m.0 < n) (sym count) lt; that = ap (option_and_then (mark_of row c)) (before_it m.0 lt) ∙ m.1; this = ap (option_and_then (mark_of row c)) there ∙ r.1.0; by_key = r.1.2 }
+      let m = among_to row c r.0 xs i r.1.1 in
+      record { shared = r.0; earlier = m.0; comes_first = m.1.0; that = m.1.1; this = ap (option_and_then (mark_of row c)) there ∙ r.1.0; by_key = r.1.2 }
   kid_to_here (n ∷ p) key r = (kid, (r.0, (there, r.1.0, r.1.1)))
 
-  no_later : (p : List ℕ) → NoneBefore row c xs i → ((q : List ℕ) (key : Key) → RepeatsHere row c early kid q key → NoLater p q) → (q : List ℕ) (key : Key) → RepeatsAt row c xs q key → NoLater (i ∷ p) q
+  no_later : (p : List ℕ) → NoneBefore row c xs i → ((q : List ℕ) (key : Key) → RepeatsHere row c earlier kid q key → NoLater p q) → (q : List ℕ) (key : Key) → RepeatsAt row c xs q key → NoLater (i ∷ p) q
   no_later p none first [] key r = r
   no_later p none first (n ∷ q) key r =
       elim (cases_lt n i) [
@@ -236,10 +234,10 @@ module _ (row : Kind) (c : Scope) (xs : List Tree) (early : List Node) (kid : Tr
         ]
       ]
 
-  pub found : (path here : List ℕ) (clash : Clash) → here ≡ path ++ i ∷ [] → NoneBefore row c xs i → IsFirst (RepeatsHere row c early kid) here (Some clash) → IsFirst (RepeatsAt row c xs) path (Some clash)
+  pub found : (path here : List ℕ) (clash : Clash) → here ≡ path ++ i ∷ [] → NoneBefore row c xs i → IsFirst (RepeatsHere row c earlier kid) here (Some clash) → IsFirst (RepeatsAt row c xs) path (Some clash)
   found path here clash is none f = (i ∷ f.0, (f.1.0 ∙ ap (λ x. x ++ f.0) is ∙ append_assoc path (i ∷ []) f.0, kid_to_here f.0 clash.key f.1.1, no_later f.0 none f.1.2))
 
-  pub passed : NoneBefore row c xs i → ((p : List ℕ) (key : Key) → RepeatsHere row c early kid p key → ⊥) → (next : ℕ) → next ≡ suc i → NoneBefore row c xs next
+  pub passed : NoneBefore row c xs i → ((p : List ℕ) (key : Key) → RepeatsHere row c earlier kid p key → ⊥) → (next : ℕ) → next ≡ suc i → NoneBefore row c xs next
   passed none not_it next is n p key lt r =
       elim (cases_lt n i) [
         | inl less ↦ none n p key less r

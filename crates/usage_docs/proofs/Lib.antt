@@ -3,6 +3,7 @@ pub mod CapabilitiesText
 pub mod ClashLemmas
 pub mod GapLemmas
 pub mod ListingLemmas
+pub mod MarkLemmas
 pub mod NodesFormed
 pub mod NodesValid
 pub mod Segments

@@ -5,7 +5,7 @@ ghost use Rattle.usage_docs.specs.Words.{is_ascii};
 ghost use Rattle.usage_docs.specs.Keys.{word, key_of, is_optional, is_key, value_of, key_value, is_other_space, attr_passes, has_needed, attrs_pass, space_of_attr, is_own_word};
 
 use crate::rows::{Key, Kind, is_word, lists_space, services_space};
-use xml_tree::{Attr, Scope};
+use xml_tree::{Attr, Scope, Text};
 
 impl Key {
     /// The local name of the attribute. Takes no memory.
@@ -53,17 +53,27 @@ fn is_key(key: Key, attr: &Attr) -> bool
     is_word(attr.name.prefix.as_str(), "") && is_word(attr.name.local.as_str(), key.word())
 }
 
-/// The value of a key, where it is written. Takes no memory.
+// The text of a key, where it is written.
 #[tactic(auto, unfolding(crate::specs::Keys::value_of))]
-pub fn value_of<'a>(key: Key, attrs: &'a [Attr]) -> Option<&'a str>
-    ensures { option_map (λ value. chars value.now) result ≡ value_of key attrs.now }
+pub(crate) fn text_of<'a>(key: Key, attrs: &'a [Attr]) -> Option<&'a Text>
+    ensures { option_map (λ text. text.now) result ≡ value_of key attrs.now }
 {
     for attr in attrs {
         if is_key(key, attr) {
-            return Some(attr.value.as_str());
+            return Some(&attr.value);
         }
     }
     None
+}
+
+/// The value of a key, where it is written. Takes no memory.
+pub fn value_of<'a>(key: Key, attrs: &'a [Attr]) -> Option<&'a str>
+    ensures { option_map (λ value. chars value.now) result ≡ value_of key attrs.now }
+{
+    match text_of(key, attrs) {
+        Some(text) => Some(text.as_str()),
+        None => None,
+    }
 }
 
 /// The value of the key that elements of this kind have, where it is written. Takes no memory.

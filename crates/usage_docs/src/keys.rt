@@ -1,14 +1,14 @@
 //! Keys that repeat those of siblings (RFC 4826, sections 3.2 and 4.2).
-ghost use Rattle.std.specs.Prelude.{◌≡◌, ◌≤◌, ◌+◌, ◌∷◌, [], ◌++◌, ◌↔◌, length, chars, IsTrue, Some, All};
+ghost use Rattle.std.specs.Prelude.{◌≡◌, ◌≤◌, ◌+◌, ◌∷◌, List, [], ◌++◌, ◌↔◌, length, chars, IsTrue, None, IfOk, OnOk, not};
 ghost use Rattle.xml_tree.specs.Tree.{height, content_height, kids_of};
-ghost use Rattle.usage_docs.specs.Keys.{key_value};
-ghost use Rattle.xml_tree.specs.Nodes.{node_height};
-ghost use Rattle.usage_docs.specs.Clashes.{mark, mark_of, RepeatsAt, IsFirstClash};
-ghost use Rattle.usage_docs.specs.Siblings.{HasMark, RepeatedKey, RepeatsHere, IsFirst};
+ghost use Rattle.usage_docs.specs.Clashes.{Mark, mark, RepeatsAt, IsFirstClash};
+ghost use Rattle.usage_docs.specs.Siblings.{IsAmong, Holds, marks_of, own_marks, RepeatedKey, RepeatsHere, IsFirst};
 
-use crate::attributes::{key_of, key_value, value_of};
+use crate::attributes::{key_of, text_of};
 use crate::rows::{Key, Kind, Usage, kind_of, root_kind};
-use xml_tree::{Attr, Element, Node, Path, Scope};
+use std::alloc::Global;
+use std::collections::BTreeSet;
+use xml_tree::{Attr, Element, NoMemory, Node, Path, Scope, Text};
 
 /// An element whose key equals that of an earlier sibling of its kind.
 #[derive(Debug, Drop)]
@@ -19,131 +19,109 @@ pub struct Clash {
     pub key: Key,
 }
 
-// Whether an element has this kind, and this value of the kind's key.
-#[tactic(auto, unfolding(crate::specs::Clashes::mark_of))]
-fn has_mark<'a>(row: Kind, scope: &Scope<'a>, other: &'a Element, kind: Kind, value: &str) -> bool
-    requires { length scope.now + height other.now ≤ 67 }
-    ensures { IsTrue result ↔ (mark_of row scope.now other.now ≡ Some (mark kind (chars value.now))) }
-{
-    if !has_value(kind, other.attrs(), value) {
-        return false;
-    }
-    let inside = scope.with(other.decls());
-    kind_of(row, &inside, other.name()) == Some(kind)
-}
-
-// Whether the key that elements of this kind have is there with this value.
-fn has_value(kind: Kind, attrs: &[Attr], value: &str) -> bool
-    ensures { IsTrue result ↔ (key_value kind attrs.now ≡ Some (chars value.now)) }
-{
-    match key_value(kind, attrs) {
-        Some(found) => is_same(found, value),
-        None => false,
-    }
-}
-
-// Whether two texts are the same.
-fn is_same(a: &str, b: &str) -> bool
-    ensures { IsTrue result ↔ (chars a.now ≡ chars b.now) }
-{
-    a == b
-}
-
-// Whether one of these nodes is an element of this kind with this value of its key.
-fn is_repeated<'a>(
-    row: Kind,
-    scope: &Scope<'a>,
-    earlier: &'a [Node],
+// What has to be distinct among siblings: a kind, and the value of its key.
+#[derive(Drop, PartialEq, Eq, PartialOrd, Ord)]
+struct Keyed<'a> {
     kind: Kind,
-    value: &str,
-) -> bool
-    requires { All (λ node. length scope.now + node_height node ≤ 67) earlier.now }
-    ensures { IsTrue result ↔ HasMark row scope.now (mark kind (chars value.now)) earlier.now }
-{
-    for node in earlier {
-        if let Node::Elem(other) = node {
-            if has_mark(row, scope, other, kind, value) {
-                return true;
-            }
-        }
-    }
-    false
+    value: &'a Text,
 }
 
-// The key of an element of some kind, if it repeats that of an earlier sibling.
+// Whether no sibling seen so far has this kind and this value of its key. Afterwards one has.
+fn is_first<'a>(
+    seen: &mut BTreeSet<Keyed<'a>>,
+    kind: Kind,
+    value: &'a Text,
+) -> Result<bool, NoMemory>
+    ensures first { (ms : List Mark) → Holds ms seen.old → IfOk result (λ first. IsTrue (not first) ↔ IsAmong ms (mark kind value.now)) }
+    ensures holds { (ms : List Mark) → Holds ms seen.old → OnOk result (Holds (ms ++ mark kind value.now ∷ []) seen.new) }
+{
+    let first = seen.insert(Keyed { kind, value })?;
+    Ok(first)
+}
+
+// The key of an element of some kind, if a sibling seen so far has it too. If none has, it is then seen.
 fn repeated_key<'a>(
-    row: Kind,
-    scope: &Scope<'a>,
-    earlier: &'a [Node],
+    seen: &mut BTreeSet<Keyed<'a>>,
     kind: Kind,
-    attrs: &[Attr],
-) -> Option<Key>
-    requires { All (λ node. length scope.now + node_height node ≤ 67) earlier.now }
-    ensures { RepeatedKey row scope.now earlier.now kind attrs.now result }
+    attrs: &'a [Attr],
+) -> Result<Option<Key>, NoMemory>
+    ensures repeats { (ms : List Mark) → Holds ms seen.old → IfOk result (λ found. RepeatedKey ms kind attrs.now found) }
+    ensures holds { (ms : List Mark) → Holds ms seen.old → IfOk result (λ found. found ≡ None → Holds (ms ++ own_marks kind attrs.now) seen.new) }
 {
-    let key = key_of(kind)?;
-    let value = value_of(key, attrs)?;
-    if is_repeated(row, scope, earlier, kind, value) {
-        Some(key)
-    } else {
-        None
+    let Some(key) = key_of(kind) else {
+        return Ok(None);
+    };
+    let Some(value) = text_of(key, attrs) else {
+        return Ok(None);
+    };
+    if is_first(seen, kind, value)? {
+        return Ok(None);
     }
+    Ok(Some(key))
 }
 
-// The first clash at an element behind its earlier siblings, or below it.
+// The first clash at an element behind the siblings seen so far, or below it. Where there is none, it is then seen too.
 #[cycle(clashes)]
 fn clash_at<'a>(
+    alloc: Global,
     row: Kind,
     scope: &Scope<'a>,
-    earlier: &'a [Node],
+    seen: &mut BTreeSet<Keyed<'a>>,
     kid: &'a Element,
     here: Path,
-) -> Option<Clash>
+) -> Result<Option<Clash>, NoMemory>
     requires lists { length scope.now + height kid.now ≤ 67 }
     requires numbers { length here + content_height kid.now.content ≤ 64 }
-    requires siblings { All (λ node. length scope.now + node_height node ≤ 67) earlier.now }
-    ensures { IsFirst (RepeatsHere row scope.now earlier.now kid.now) here result }
+    ensures first { (ms : List Mark) → Holds ms seen.old → IfOk result (λ found. IsFirst (RepeatsHere row scope.now ms kid.now) here found) }
+    ensures holds { (ms : List Mark) → Holds ms seen.old → IfOk result (λ found. found ≡ None → Holds (ms ++ marks_of row scope.now (kid.now ∷ [])) seen.new) }
 {
     let inside = scope.with(kid.decls());
-    let kind = kind_of(row, &inside, kid.name())?;
-    if let Some(key) = repeated_key(row, scope, earlier, kind, kid.attrs()) {
-        return Some(Clash { path: here, key });
+    let Some(kind) = kind_of(row, &inside, kid.name()) else {
+        return Ok(None);
+    };
+    if let Some(key) = repeated_key(seen, kind, kid.attrs())? {
+        return Ok(Some(Clash { path: here, key }));
     }
-    clash_inside(kind, &inside, kid, &here)
+    clash_inside(alloc, kind, &inside, kid, &here)
 }
 
 // The first clash below an element of this row, in the scope inside it.
 #[cycle(clashes)]
 fn clash_inside<'a>(
+    alloc: Global,
     row: Kind,
     scope: &Scope<'a>,
     element: &'a Element,
     path: &Path,
-) -> Option<Clash>
+) -> Result<Option<Clash>, NoMemory>
     requires lists { length scope.now + content_height element.now.content ≤ 67 }
     requires numbers { length path.now + content_height element.now.content ≤ 64 }
-    ensures { IsFirst (RepeatsAt row scope.now (kids_of element.now)) path.now result }
+    ensures { IfOk result (λ found. IsFirst (RepeatsAt row scope.now (kids_of element.now)) path.now found) }
 {
     let nodes = element.nodes();
+    let mut seen = BTreeSet::new(alloc);
     let mut child = 0;
-    for (place, node) in nodes.iter().enumerate() {
+    for node in nodes {
         if let Node::Elem(kid) = node {
             let here = path.child(child).unwrap();
-            if let Some(clash) = clash_at(row, scope, &nodes[..place], kid, here) {
-                return Some(clash);
+            if let Some(clash) = clash_at(alloc, row, scope, &mut seen, kid, here)? {
+                return Ok(Some(clash));
             }
             child += 1;
         }
     }
-    None
+    Ok(None)
 }
 
 /// The first element in document order whose key equals the key of an earlier sibling of its kind: None exactly where keys
-/// are distinct. Takes no memory.
-pub fn first_clash(usage: Usage, root: &Element) -> Option<Clash>
+/// are distinct.
+///
+/// # Errors
+/// `NoMemory` for want of memory.
+pub fn first_clash(alloc: Global, usage: Usage, root: &Element) -> Result<Option<Clash>, NoMemory>
     requires { height root.now ≤ 64 }
-    ensures { IsFirstClash usage root.now result }
+    ensures { IfOk result (λ found. IsFirstClash usage root.now found) }
 {
     let scope = Scope::empty().with(root.decls());
-    clash_inside(root_kind(usage), &scope, root, &Path::root())
+    clash_inside(alloc, root_kind(usage), &scope, root, &Path::root())
 }

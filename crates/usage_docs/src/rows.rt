@@ -17,7 +17,7 @@ pub enum Usage {
 }
 
 /// A kind of element: a row of the table.
-#[derive(Debug, Clone, Copy, PartialEq, Eq)]
+#[derive(Debug, Clone, Copy, PartialEq, Eq, PartialOrd, Ord)]
 pub enum Kind {
     /// The root of a resource-lists document.
     ResourceLists,

@@ -51,7 +51,7 @@ fn a_service_twice_is_a_clash_at_the_later_one(rt: HostRuntime) -> Result<(), Fa
     assert!(rt; schema(Usage::RlsServices, &root));
     assert!(rt; !schema(Usage::ResourceLists, &root));
     assert!(rt; !constraints(Usage::RlsServices, &root));
-    let clash = first_clash(Usage::RlsServices, &root).ok_or("no clash")?;
+    let clash = first_clash(alloc, Usage::RlsServices, &root)?.ok_or("no clash")?;
     assert_eq!(rt; clash.path.numbers(), [2].as_slice());
     assert_eq!(rt; clash.key.word(), "uri");
     let mut count = 0usize;
@@ -60,6 +60,21 @@ fn a_service_twice_is_a_clash_at_the_later_one(rt: HostRuntime) -> Result<(), Fa
         count = count.saturating_add(1);
     }
     assert_eq!(rt; count, 3);
+    Ok(())
+}
+
+#[test]
+fn a_service_like_the_one_before_it_is_a_clash(rt: HostRuntime) -> Result<(), Fail> {
+    let alloc = rt.alloc();
+    let mut root = document(alloc)?;
+    root.push_elem(service(alloc, "sip:a@x", "http://x")?)?;
+    root.push_elem(service(alloc, "sip:b@x", "http://x")?)?;
+    assert!(rt; depth(&root) <= 64);
+    assert!(rt; first_clash(alloc, Usage::RlsServices, &root)?.is_none());
+    root.push_elem(service(alloc, "sip:b@x", "http://x")?)?;
+    assert!(rt; depth(&root) <= 64);
+    let clash = first_clash(alloc, Usage::RlsServices, &root)?.ok_or("no clash")?;
+    assert_eq!(rt; clash.path.numbers(), [2].as_slice());
     Ok(())
 }
 

@@ -1,6 +1,7 @@
 -- How a command ends, by what it did.
-use Rattle.std.proofs.Common.{◌≡◌, ℕ, ◌≤◌, List, [], Option, None, Some, Result, Ok, Err, length, ◌⊎◌, inl, inr, refl, sym, subst, arith, ⊎_elim}
+use Rattle.std.proofs.Common.{◌≡◌, ℕ, ◌≤◌, List, [], Option, None, Some, Result, Ok, Err, length, IfOk, ◌⊎◌, inl, inr, refl, sym, subst, arith, ⊎_elim}
 use Rattle.std.proofs.KnownBytes.{Consumes-nil}
+use Rattle.std.specs.Result.{result_unwrap_or}
 use Rattle.tree_text.specs.Faults.{TextAnswer}
 use Rattle.tree_text.specs.declared.fault.TextFault.{TextFault}
 use Rattle.tree_text.specs.declared.fault.TextFault.TheVariants as faults
@@ -24,12 +25,18 @@ use Rattle.xcap_app.specs.declared.refusal.Refusal.TheVariants.{TooLarge, NotUtf
 -- ---- texts
 
 -- the verdict on what a text is read as is that on the text
-pub text_judged : (usage : TheUsage) (text : List ℕ) (answer : Result Tree TextFault) (exit : Exit) → TextAnswer 64 [] text answer ⊎ (answer ≡ Err faults.NoMemory)
+text_judged : (usage : TheUsage) (text : List ℕ) (answer : Result Tree TextFault) (exit : Exit) → TextAnswer 64 [] text answer ⊎ (answer ≡ Err faults.NoMemory)
     → AnswerVerdict usage answer exit → TextVerdict usage text exit ⊎ (exit ≡ OutOfMemory)
 text_judged usage text answer exit read verdict = ⊎_elim
     (λ r. inl (record { answer = answer; by_grammar = r; verdict = verdict }))
     (λ (none : answer ≡ Err faults.NoMemory). inr (let v : AnswerVerdict usage (Err faults.NoMemory) exit = subst (λ a. AnswerVerdict usage a exit) none verdict in v))
     read
+
+-- and of a tree that it spells, unless memory is wanted for that
+pub tree_judged : {E : Type 0} → (usage : TheUsage) (text : List ℕ) (t : Tree) (r : Result Exit E) (exit : Exit) → TextAnswer 64 [] text (Ok t) ⊎ (Ok t ≡ Err faults.NoMemory)
+    → IfOk r (λ e. TreeVerdict usage t e) → exit ≡ result_unwrap_or r OutOfMemory → TextVerdict usage text exit ⊎ (exit ≡ OutOfMemory)
+tree_judged usage text t (Ok e) exit read verdict is = text_judged usage text (Ok t) exit read (subst (TreeVerdict usage t) (sym is) verdict)
+tree_judged usage text t (Err e) exit read verdict is = inr is
 
 -- how a command may end whose text was judged
 abbrev IsVerdict : Exit → Type 0

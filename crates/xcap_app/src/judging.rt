@@ -1,11 +1,11 @@
 // Whether a text is a document of a usage, and why it isn't.
-ghost use Rattle.std.specs.Prelude.{◌≡◌, ◌≤◌, ◌⊎◌};
+ghost use Rattle.std.specs.Prelude.{◌≡◌, ◌≤◌, ◌⊎◌, IfOk};
 ghost use Rattle.xml_tree.specs.Tree.{height};
 ghost use Rattle.xcap_app.specs.Verdicts.{FaultVerdict, TextVerdict, TreeVerdict};
 
 use crate::exit::Exit;
 use crate::refusal::Refusal;
-use std::alloc::Global;
+use std::alloc::{AllocError, Global};
 use tree_text::{TextFault, read_document};
 use usage_docs::{Usage, constraints, first_clash, schema};
 use xml_tree::Element;
@@ -14,19 +14,19 @@ use xml_tree::Element;
 const LEVELS: usize = 64;
 
 // The same of a tree that a text spells.
-fn judge_tree(usage: Usage, root: &Element) -> Exit
+fn judge_tree(alloc: Global, usage: Usage, root: &Element) -> Result<Exit, AllocError>
     requires { height root.now ≤ 64 }
-    ensures { TreeVerdict usage root.now result }
+    ensures { IfOk result (λ exit. TreeVerdict usage root.now exit) }
 {
     if !schema(usage, root) {
-        return Exit::Refused(Refusal::Schema);
+        return Ok(Exit::Refused(Refusal::Schema));
     }
     if !constraints(usage, root) {
-        return Exit::Refused(Refusal::Constraint);
+        return Ok(Exit::Refused(Refusal::Constraint));
     }
-    match first_clash(usage, root) {
-        Some(clash) => Exit::Refused(Refusal::Unique(clash)),
-        None => Exit::Done,
+    match first_clash(alloc, usage, root)? {
+        Some(clash) => Ok(Exit::Refused(Refusal::Unique(clash))),
+        None => Ok(Exit::Done),
     }
 }
 
@@ -50,7 +50,7 @@ pub(crate) fn judge(alloc: Global, usage: Usage, text: &[u8]) -> Exit
     ensures { TextVerdict usage text.now result ⊎ (result ≡ Exit.OutOfMemory) }
 {
     match read_document(alloc, text, LEVELS) {
-        Ok(root) => judge_tree(usage, &root),
+        Ok(root) => judge_tree(alloc, usage, &root).unwrap_or(Exit::OutOfMemory),
         Err(fault) => judge_fault(fault),
     }
 }

@@ -147,6 +147,19 @@ module _ (root : List ℕ) (c : Content) (request : Request) where
       subst (λ (r : Result Target UriFault). IsAnswered root c r request a) (sym (stated (Ok target) (target_read root request.target) answers (memory (Ok target) refl)))
       (subst (λ (m : Method). ByTarget root c target m request a) is so)
 
+  -- what was read is answered
+  pub target_answered : {E : Type 0} (target : Target) (method : Method) (next : Content) (r : Result Answered E) → Answers NoMemory (target_read root request.target) (Ok target) → method ≡ method_of request.method
+      → IfOk r (λ a. Does (ByTarget root c target method request) c a.reply a.edit next) → IfOk r (λ a. Does (IsAnswer root c request) c a.reply a.edit next)
+  target_answered target method next (Ok a) answers is h = record {
+    answer = h.answer;
+    is_answer = read_target target method h.answer answers is h.is_answer;
+    replied = h.replied;
+    told = h.told;
+    sound = h.sound;
+    goes_on = h.goes_on;
+  }
+  target_answered target method next (Err e) answers is h = tt
+
   read_fault : (fault : UriFault) → Answers NoMemory (target_read root request.target) (Err fault) → fault ≢ NoMemory → IsAnswer root c request (unchanged (plain (fault_status fault) request.closes))
   read_fault fault answers memory =
       let other : (r : Result Target UriFault) → r ≡ Err fault → r ≡ Err NoMemory → ⊥ = λ r. λ yes. λ no. memory (let same : fault ≡ NoMemory = cc in same) in

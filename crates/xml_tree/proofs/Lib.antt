@@ -17,3 +17,4 @@ pub mod Removals
 pub mod RunLemmas
 pub mod ScopeLemmas
 pub mod ScopesAlike
+pub mod TextGrows

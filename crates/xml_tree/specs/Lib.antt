@@ -12,4 +12,5 @@ pub mod Nodes
 pub mod Print
 pub mod Proper
 pub mod Scopes
+pub mod Spelled
 pub mod Tree

@@ -19,6 +19,7 @@ mod runs;
 mod scope;
 mod scope_laws;
 mod text;
+mod text_bytes;
 mod tree;
 #[cfg(test)]
 mod tree_tests;

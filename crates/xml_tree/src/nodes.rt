@@ -1,5 +1,6 @@
 //! Work on the nodes of an element.
-ghost use Rattle.std.specs.Prelude.{◌≡◌, ◌<◌, ◌≤◌, ◌+◌, length, Some, IsSome, OnOk, OnErr, IfOk, IfErr, slice_get, chars};
+ghost use Rattle.std.specs.Prelude.{◌≡◌, ◌<◌, ◌≤◌, ◌+◌, ◌-◌, length, Some, IsSome, OnOk, OnErr, IfOk, IfErr, slice_get, slice_set, remove, chars};
+ghost use Rattle.xml_tree.specs.declared.tree.Node.TheVariants.{Chars};
 ghost use Rattle.std.specs.Borrow.{sem};
 ghost use Rattle.std.specs.Option.{option_copied};
 ghost use Rattle.xml_tree.specs.Tree.{kids};
@@ -10,6 +11,7 @@ ghost use Rattle.xml_tree.specs.Lending.{LendsKid};
 use crate::text::Text;
 use crate::tree::{Element, Node};
 use std::alloc::{AllocError, AllocFailed, Global};
+use std::mem;
 
 // The place of an element child among the nodes, or the number of nodes.
 pub(crate) fn place_of(nodes: &[Node], child: usize) -> usize
@@ -95,6 +97,7 @@ pub(crate) fn ends_in_text(nodes: &[Node]) -> bool
 pub(crate) fn push_own_text(nodes: &mut Vec<Node>, text: Text) -> Result<(), AllocError>
     ensures normal { AreNormal nodes.old.items → AreNormal nodes.new.items }
     ensures ok { OnOk result (content_of nodes.new.items ≡ with_text text (content_of nodes.old.items)) }
+    ensures err { OnErr result (content_of nodes.new.items ≡ content_of nodes.old.items) }
 {
     if text.is_empty() {
         return Ok(());
@@ -185,6 +188,15 @@ fn joined_beside(alloc: Global, nodes: &[Node], place: usize) -> Result<Option<T
     Ok(Some(text))
 }
 
+// Exchanges a node and the one before it for a text.
+fn replace_two(nodes: &mut Vec<Node>, place: usize, text: Text)
+    requires between { (0 < place) × (place < length nodes.old.items) }
+    ensures { nodes.new.items ≡ slice_set (remove nodes.old.items place) (place - 1) (Chars text) }
+{
+    let _behind = nodes.remove(place);
+    let _before = mem::replace(&mut nodes[place - 1], Node::Chars(text));
+}
+
 // Takes a node out. The texts beside it are exchanged for one, where one is given.
 fn remove_joined(nodes: &mut Vec<Node>, place: usize, joined: Option<Text>) -> Node
     requires there { place < length nodes.old.items }
@@ -193,9 +205,9 @@ fn remove_joined(nodes: &mut Vec<Node>, place: usize, joined: Option<Text>) -> N
     ensures rest { nodes.new.items ≡ removed_joined place joined nodes.old.items }
 {
     let taken = nodes.remove(place);
-    if let Some(text) = joined {
-        let _behind = nodes.remove(place);
-        nodes[place - 1] = Node::Chars(text);
+    match joined {
+        Some(text) => replace_two(nodes, place, text),
+        None => {}
     }
     taken
 }

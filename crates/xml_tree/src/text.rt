@@ -2,23 +2,27 @@
 ghost use Rattle.std.specs.Prelude.{◌≡◌, ◌++◌, ◌∷◌, [], ◌↔◌, length, IsTrue, IfOk, OnOk, OnErr, chars, encode_utf8_all, string_bytes};
 ghost use Rattle.std.specs.Str.{bytes_eq};
 
+use crate::text_bytes::TextBytes;
 use std::alloc::{AllocError, Global};
 use std::cmp::Ordering;
 use std::hash::{Hash, Hasher};
 use std::marker::Model;
 
-/// A text that owns its memory. Contracts see the list of its characters, as code points.
+/// A text that owns its memory; one of a few bytes takes none. Contracts see the list of its characters, as code points.
 #[derive(Debug, Drop)]
 pub struct Text {
-    string: String,
+    bytes: TextBytes,
 }
 
 impl Model for Text {
-    ghost use Rattle.std.specs.Prelude.{ℕ, List, chars, string_bytes};
+    ghost use Rattle.std.specs.Prelude.{ℕ, List, chars, IsUtf8};
+    ghost use Rattle.xml_tree.specs.Spelled.{bytes_of};
 
     ghost Value = { List ℕ };
 
-    ghost view = { λ t. chars (string_bytes t.string) };
+    ghost view = { λ t. chars (bytes_of t.bytes) };
+
+    ghost invariant = { λ t. ∥ IsUtf8 (bytes_of t.bytes) ∥₁ };
 }
 
 impl Text {
@@ -29,15 +33,28 @@ impl Text {
     pub fn from(alloc: Global, text: &str) -> Result<Text, AllocError>
         ensures { IfOk result (λ made. made ≡ chars text.now) }
     {
-        let string = String::from_str(alloc, text)?;
-        Ok(Text { string })
+        let bytes = TextBytes::from(alloc, text)?;
+        Ok(Text { bytes })
     }
 
     /// The text that a string holds, which is not copied. Takes no memory.
     pub fn own(string: String) -> Text
         ensures { result ≡ chars (string_bytes string) }
     {
-        Text { string }
+        Text {
+            bytes: TextBytes::Long(string),
+        }
+    }
+
+    /// The text without characters, with room for so many bytes.
+    ///
+    /// # Errors
+    /// `NoMemory` for want of memory.
+    pub fn with_capacity(alloc: Global, bytes: usize) -> Result<Text, AllocError>
+        ensures { IfOk result (λ made. made ≡ []) }
+    {
+        let bytes = TextBytes::with_capacity(alloc, bytes)?;
+        Ok(Text { bytes })
     }
 
     /// The text, lent. Takes no memory.
@@ -45,7 +62,7 @@ impl Text {
         ensures letters { chars result.now ≡ self.now }
         ensures bytes { result.now ≡ encode_utf8_all self.now }
     {
-        self.string.as_str()
+        self.bytes.as_str()
     }
 
     /// An equal text.
@@ -66,8 +83,7 @@ impl Text {
         ensures ok { OnOk result (self.new ≡ self.old ++ chars text.now) }
         ensures err { OnErr result (self.new ≡ self.old) }
     {
-        self.string.push_str(text)?;
-        Ok(())
+        self.bytes.push_str(text)
     }
 
     /// Adds a character at the end.
@@ -78,8 +94,7 @@ impl Text {
         ensures ok { OnOk result (self.new ≡ self.old ++ c ∷ []) }
         ensures err { OnErr result (self.new ≡ self.old) }
     {
-        self.string.push(c)?;
-        Ok(())
+        self.bytes.push(c)
     }
 
     /// Whether two texts have the same characters. Takes no memory.

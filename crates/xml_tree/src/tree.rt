@@ -4,7 +4,7 @@ ghost use Rattle.std.specs.Option.{option_copied};
 ghost use Rattle.xml_tree.specs.Tree.{height};
 
 use crate::names::{Attr, Decl, Name};
-use crate::nodes::{kid_in, kid_of, push_comment_node, push_elem_node, push_text};
+use crate::nodes::{kid_in, kid_of, push_comment_node, push_elem_node, push_own_text, push_text};
 use crate::path::Path;
 use crate::text::Text;
 use std::alloc::{AllocError, Global};
@@ -115,6 +115,17 @@ impl Element {
         ensures err { OnErr result (self.new ≡ self.old) }
     {
         push_text(&mut self.nodes, text)
+    }
+
+    /// Adds a text behind all nodes, as `push_chars` does, and copies it only where it joins another.
+    ///
+    /// # Errors
+    /// `NoMemory` for want of memory.
+    pub fn push_text(&mut self, text: Text) -> Result<(), AllocError>
+        ensures ok { OnOk result (self.new ≡ record self.old { content = with_text text self.old.content }) }
+        ensures err { OnErr result (self.new ≡ self.old) }
+    {
+        push_own_text(&mut self.nodes, text)
     }
 
     /// Adds a comment behind all nodes. Its text has Chars other than CR alone, no `--`, and no `-` at its end.

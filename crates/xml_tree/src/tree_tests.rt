@@ -65,6 +65,15 @@ fn a_comment_is_added(rt: HostRuntime) -> Result<(), Fail> {
 }
 
 #[test]
+fn a_text_of_its_own_joins_the_one_before(rt: HostRuntime) -> Result<(), Fail> {
+    let mut root = element(rt.alloc(), "a")?;
+    root.push_text(Text::from(rt.alloc(), "x")?)?;
+    root.push_text(Text::from(rt.alloc(), "y")?)?;
+    assert_eq!(rt; root.nodes().len(), 1);
+    Ok(())
+}
+
+#[test]
 fn texts_meet_where_an_element_goes(rt: HostRuntime) -> Result<(), Fail> {
     let mut root = sample(rt.alloc())?;
     let first = Path::root().child(0).ok_or("too long")?;

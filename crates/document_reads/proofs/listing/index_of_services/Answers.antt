@@ -1,30 +1,27 @@
-use Rattle.std.proofs.Common.{List, sym, subst, ◌∙◌, arith}
+use Rattle.std.proofs.Common.{Bor, List, sym, subst}
 use Rattle.std.proofs.lemmas.Result.{err_from_is_err_and}
 use Rattle.xml_tree.specs.Tree.{Tree}
 use Rattle.store_core.specs.Indexes.{index_trees}
-use Rattle.document_reads.proofs.Gathering.{Gathered, gathered_none, gathered_more, gathered_all, gathered_count, beyond}
-use Rattle.document_reads.proofs.listing.index_of_services.Goals.{else-documents-test, then-documents-test+in_default}
+use Rattle.document_reads.proofs.Gathering.{Gathered, beyond, gathered_more, gathered_none, shown}
 use Rattle.document_reads.proofs.listing.index_of_services.Goals as goal
 
-pub documents-init : goal.documents-init
-documents-init c =
+pub loop-root-init : goal.loop-root-init
+loop-root-init c =
     let trees = index_trees c.args.store.now.content in
-    subst (λ (ss : List Tree). Gathered trees 0 ss) (sym c.in_ok-maker.ensures) (gathered_none trees)
+    let left = c.into_iter-root-iterator.result.rest.items in
+    subst (λ (ss : List Tree). Gathered trees (shown left) ss) (sym c.in_ok-maker.ensures)
+    (gathered_none trees c.in_ok-root-items.root-items.items left c.into_iter-root-iterator.ensures.into_iter_gives.0 c.in_ok-root-items.ensures.trees c.in_ok-root-items.ensures.low)
+
+pub loop-root-preserved : goal.loop-root-preserved
+loop-root-preserved c =
+    let trees = index_trees c.args.store.now.content in
+    let before = subst (λ (rs : List (Bor Tree)). Gathered trees (shown rs) c.loop-root.maker) c.in-Some.ensures.steps.0 c.loop-root.invariant in
+    gathered_more trees (shown c.next.new.self.rest.items) c.loop-root.maker c.in-Some.root.now c.add.new.self before c.in_ok-add.ensures.ok c.in_ok-add.ensures.fits
 
 pub returns-in_err-add-clause-beyond : goal.returns-in_err-add-clause-beyond
 returns-in_err-add-clause-beyond c =
+    let trees = index_trees c.args.store.now.content in
+    let before = subst (λ (rs : List (Bor Tree)). Gathered trees (shown rs) c.loop-root.maker) c.in-Some.ensures.steps.0 c.loop-root.invariant in
     let p = err_from_is_err_and c.from_residual-in_err-add.result c.from_residual-in_err-add.ensures.1 in
     rw (p.1, p.2)
-    (beyond (index_trees c.args.store.now.content) c.documents.k c.documents.maker c.in-Some.root.now c.in_err-add.field-0.0 c.documents.invariant (sym c.in-Some.ensures.tree) c.in_err-add.ensures.refused)
-
-pub documents-preserved : goal.documents-preserved
-documents-preserved c =
-    gathered_more (index_trees c.args.store.now.content) c.documents.k c.documents.maker c.in-Some.root.now c.add.new.self c.documents.invariant (sym c.in-Some.ensures.tree) c.in-Some.ensures.low c.in_ok-add.ensures.ok c.in_ok-add.ensures.fits
-
-pub returns-clause-index : goal.returns-clause-index
-returns-clause-index c =
-    let content = c.args.store.now.content in
-    c.finish.ensures.index ∙ elim c.documents-test.branch [
-      | else-documents-test w ↦ gathered_count content c.documents.k c.documents.maker c.documents.invariant (omega arith)
-      | then-documents-test+in_default w ↦ gathered_all (index_trees content) c.documents.k c.documents.maker c.documents.invariant (sym w.in_default.ensures.tree)
-    ]
+    (beyond trees (shown c.next.new.self.rest.items) c.loop-root.maker c.in-Some.root.now c.in_err-add.field-0.0 before c.in_err-add.ensures.refused)

@@ -1,13 +1,16 @@
-use Rattle.std.proofs.Common.{◌≡◌, ◌++◌, ◌∷◌, [], ◌&&◌, true, string_bytes, chars, append-nil, sym, ap, ◌∙◌}
-use Rattle.std.proofs.Math.Utf8.{scalar}
-use Rattle.std.proofs.lemmas.Str.{chars-append, chars-encodes, IsUtf8-string_bytes}
+use Rattle.std.proofs.Common.{encode_utf8, subst, OnOk, chars, ◌≡◌, ◌++◌}
+use Rattle.std.proofs.lemmas.Str.{IsUtf8-had}
+use Rattle.xml_tree.specs.Spelled.{bytes_of}
+use Rattle.xml_tree.proofs.TextGrows.{kept, said, one, one_utf8}
 use Rattle.xml_tree.proofs.text.Text.push.Goals as goal
+
+pub invariant_of-self : goal.invariant_of-self
+invariant_of-self c =
+    let p = c.push in
+    ∣ kept (bytes_of c.self.inside.bytes) (encode_utf8 c.args.c) (bytes_of p.new.self) (IsUtf8-had _ c.self.invariant) p.result (one_utf8 c.args.c c.ranges.c.0) p.ensures.ok p.ensures.err ∣₁
 
 pub returns-clause-ok : goal.returns-clause-ok
 returns-clause-ok c =
-    let old = c.self.inside.string in
-    let letter = c.args.c in
-    let valid : scalar letter ≡ true = c.ranges.c.0 in
-    let one = chars-encodes (letter ∷ []) (ap (λ t. t && true) valid) in
-    ap chars c.in_ok-push.ensures.bytes ∙ chars-append (string_bytes old) _ (IsUtf8-string_bytes old) ∙ ap (λ x. chars (string_bytes old) ++ x) (ap chars (sym (append-nil _)) ∙ one)
-    ∙ ap (λ x. x ++ letter ∷ []) c.self.view_is
+    let p = c.push in
+    let ok = said (bytes_of c.self.inside.bytes) (encode_utf8 c.args.c) (bytes_of p.new.self) (IsUtf8-had _ c.self.invariant) p.result c.args.self.now c.self.view_is p.ensures.ok in
+    subst (λ cs. OnOk p.result (chars (bytes_of p.new.self) ≡ c.args.self.now ++ cs)) (one c.args.c c.ranges.c.0) ok

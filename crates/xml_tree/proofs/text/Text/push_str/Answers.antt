@@ -1,8 +1,14 @@
-use Rattle.std.proofs.Common.{◌++◌, string_bytes, chars, ap, ◌∙◌}
-use Rattle.std.proofs.lemmas.Str.{chars-append, IsUtf8-string_bytes}
+use Rattle.std.proofs.lemmas.Str.{IsUtf8-had}
+use Rattle.xml_tree.specs.Spelled.{bytes_of}
+use Rattle.xml_tree.proofs.TextGrows.{kept, said}
 use Rattle.xml_tree.proofs.text.Text.push_str.Goals as goal
+
+pub invariant_of-self : goal.invariant_of-self
+invariant_of-self c =
+    let p = c.push_str in
+    ∣ kept (bytes_of c.self.inside.bytes) c.args.text.now (bytes_of p.new.self) (IsUtf8-had _ c.self.invariant) p.result c.utf8.text p.ensures.ok p.ensures.err ∣₁
 
 pub returns-clause-ok : goal.returns-clause-ok
 returns-clause-ok c =
-    let old = c.self.inside.string in
-    ap chars c.in_ok-push_str.ensures.bytes ∙ chars-append (string_bytes old) c.args.text.now (IsUtf8-string_bytes old) ∙ ap (λ x. x ++ chars c.args.text.now) c.self.view_is
+    let p = c.push_str in
+    said (bytes_of c.self.inside.bytes) c.args.text.now (bytes_of p.new.self) (IsUtf8-had _ c.self.invariant) p.result c.args.self.now c.self.view_is p.ensures.ok

@@ -1,0 +1,56 @@
+-- A tree that may be a document of services is asked for as a document that is new, or in place of the one that is held.
+use Rattle.std.proofs.Common.{◌≡◌, Bool, true, false, cond, List, [], ◌∷◌, find, is_some, Option, None, Some, IsSomeAnd, option_map, refl, sym, ap, subst, ◌∙◌}
+use Rattle.usage_docs.specs.declared.rows.Usage.TheVariants as usages
+use Rattle.xcap_uri.specs.Ids.{IsReadable}
+use Rattle.xcap_uri.specs.Same.{same_id}
+use Rattle.xcap_uri.specs.declared.doc_id.Auid.{Auid}
+use Rattle.xcap_uri.specs.declared.doc_id.Auid.TheVariants.{RlsServices}
+use Rattle.xcap_uri.specs.declared.doc_id.DocId.{DocId}
+use Rattle.edit_ops.specs.Changes.{Fits, edited}
+use Rattle.edit_ops.specs.declared.change.Change.{Change}
+use Rattle.edit_ops.specs.declared.change.Change.TheVariants.{CreateDocument, Replace}
+use Rattle.xml_tree.specs.Tree.{Tree}
+use Rattle.store_core.specs.Asking.{Asks, MayBe, MayBeFor}
+use Rattle.store_core.specs.Changing.{document_in, held_name}
+use Rattle.store_core.specs.Held.{Content, Held}
+use Rattle.store_core.specs.Keeping.{IsUsers, usage_of}
+use Rattle.store_core.proofs.SameNames.{same-exact}
+
+-- ---- what is found has the name that was looked for
+
+found-step : (id : DocId) (d h : Held) (ds : List Held) (b : Bool) → same_id id d.id ≡ b → cond b (Some d) (find (λ e. same_id id e.id) ds) ≡ Some h
+    → (find (λ e. same_id id e.id) ds ≡ Some h → same_id id h.id ≡ true) → same_id id h.id ≡ true
+found-step id d h ds true is found below = let same : d ≡ h = cc in sym (ap (λ (e : Held). same_id id e.id) same) ∙ is
+found-step id d h ds false is found below = below found
+
+found-same : (id : DocId) (h : Held) (ds : List Held) → find (λ e. same_id id e.id) ds ≡ Some h → same_id id h.id ≡ true
+found-same id h [] found = cc
+found-same id h (d ∷ ds) found = found-step id d h ds (same_id id d.id) refl found (found-same id h ds)
+
+-- ---- what a look-up tells
+
+pub told-there : {A B C : Type 0} (f : A → C) (g : B → C) (o : Option A) (held : Option B) → option_map f o ≡ option_map g held → is_some o ≡ is_some held
+told-there f g None None e = refl
+told-there f g None (Some h) e = cc
+told-there f g (Some x) None e = cc
+told-there f g (Some x) (Some h) e = refl
+
+-- ---- the change
+
+module _ (c : Content) (id : DocId) (t : Tree) (readable : IsReadable id) (users : IsUsers id.home) (may : MayBeFor (usage_of id.auid) t) where
+  asks-by : (b : Bool) (held : Option Held) → document_in held_name c.documents id ≡ held → b ≡ is_some held → Asks c id (cond b (Replace [] t) (CreateDocument t))
+  asks-by false None is e = (is, readable, users, may)
+  asks-by true None is e = cc
+  asks-by false (Some h) is e = cc
+  asks-by true (Some h) is e =
+      let P : Held → Type 0 = λ x. Fits x.tree (Replace [] t) × MayBeFor (usage_of x.id.auid) (edited x.tree (Replace [] t)) in
+      let here : P h = (refl, subst (λ (d : DocId). MayBeFor (usage_of d.auid) t) (same-exact id h.id (found-same id h c.documents is)) may) in
+      subst (λ (o : Option Held). IsSomeAnd o P) (sym is) here
+
+may-for : (auid : Auid) (t : Tree) → auid ≡ RlsServices → MayBe usages.RlsServices t → MayBeFor (usage_of auid) t
+may-for auid t is may = subst (λ (a : Auid). MayBeFor (usage_of a) t) (sym is) may
+
+pub asks-put : (c : Content) (id : DocId) (t : Tree) → IsReadable id → IsUsers id.home → id.auid ≡ RlsServices → MayBe usages.RlsServices t → (b : Bool) → b ≡ is_some (document_in held_name c.documents id)
+    → (change : Change) → change ≡ cond b (Replace [] t) (CreateDocument t) → Asks c id change
+asks-put c id t readable users is may b known change of =
+    subst (λ (x : Change). Asks c id x) (sym of) (asks-by c id t readable users (may-for id.auid t is may) b (document_in held_name c.documents id) refl known)

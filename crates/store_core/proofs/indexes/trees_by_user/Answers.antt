@@ -1,0 +1,20 @@
+use Rattle.std.proofs.Common.{List, ℕ, sym, ap, ◌∙◌}
+use Rattle.std.specs.List.{cons_option}
+use Rattle.xml_tree.specs.Tree.{Tree}
+use Rattle.store_core.specs.Listed.{entered, listed, pairs_in}
+use Rattle.store_core.proofs.Listing.{pairs-insert}
+use Rattle.store_core.proofs.indexes.trees_by_user.Goals as goal
+
+pub loop-doc-preserved-in_ok-insert : goal.loop-doc-preserved-in_ok-insert
+loop-doc-preserved-in_ok-insert c =
+    let es = c.loop-doc.made.entries in
+    let rest = c.next.new.self in
+    record {
+      can = tt;
+      finite = tt;
+      so_far = ap (λ xs. entered (pairs_in xs) (listed rest)) (c.in_ok-insert.ensures {u = tt}).entries
+          ∙ ap (λ (ds : List (List ℕ × Tree)). entered ds (listed rest)) (pairs-insert _ _ es)
+          ∙ ap (λ o. entered (pairs_in es) (cons_option o (listed rest))) (c.in-Some-listed_user.ensures c.in-Some.entry.now.tree)
+          ∙ ap (λ xs. entered (pairs_in es) (listed xs)) (sym c.in-Some.ensures.steps)
+          ∙ c.loop-doc.invariant.so_far;
+    }

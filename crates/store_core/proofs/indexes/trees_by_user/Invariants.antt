@@ -1,0 +1,11 @@
+use Rattle.std.proofs.Common.{◌≡◌, []}
+use Rattle.store_core.specs.Listed.{entered, listed, pairs_in}
+use Rattle.store_core.proofs.indexes.trees_by_user.Given as goal
+
+abbrev pub invariant-loop-doc : goal.invariant-loop-doc
+invariant-loop-doc l =
+    record {
+      can : (goal.iterator-loop-doc).can_next l.doc-iterator;
+      finite : (goal.iterator-loop-doc).is_finite l.doc-iterator;
+      so_far : entered (pairs_in l.made.entries) (listed l.doc-iterator) ≡ entered [] (listed l.documents.entries);
+    }

@@ -1,0 +1,90 @@
+//! The bytes of a text: a few stand in place, more have memory of their own.
+ghost use Rattle.std.specs.Prelude.{◌≡◌, ◌++◌, encode_utf8, string_bytes, [], IfOk, OnOk, OnErr};
+ghost use Rattle.xml_tree.specs.Spelled.{bytes_of};
+
+use arrayvec::ArrayString;
+use std::alloc::{AllocError, Global};
+
+// How many bytes stand in place at most: most names, values and white space of a contact list.
+const IN_PLACE: usize = 24;
+
+/// The bytes of a text, which spell characters.
+#[derive(Debug, Drop)]
+pub(crate) enum TextBytes {
+    Short(Global, ArrayString<24>),
+    Long(String),
+}
+
+impl TextBytes {
+    /// No bytes, with room for so many.
+    pub(crate) fn with_capacity(alloc: Global, bytes: usize) -> Result<TextBytes, AllocError>
+        ensures { IfOk result (λ made. bytes_of made ≡ []) }
+    {
+        if bytes <= IN_PLACE {
+            return Ok(TextBytes::Short(alloc, ArrayString::new()));
+        }
+        Ok(TextBytes::Long(String::with_capacity(alloc, bytes)?))
+    }
+
+    /// A copy of a text's bytes.
+    pub(crate) fn from(alloc: Global, text: &str) -> Result<TextBytes, AllocError>
+        ensures { IfOk result (λ made. bytes_of made ≡ text.now) }
+    {
+        match ArrayString::from(text) {
+            Ok(short) => Ok(TextBytes::Short(alloc, short)),
+            Err(_) => Ok(TextBytes::Long(String::from_str(alloc, text)?)),
+        }
+    }
+
+    /// The text, lent.
+    pub(crate) fn as_str(&self) -> &str
+        ensures { result.now ≡ bytes_of self.now }
+    {
+        match self {
+            TextBytes::Short(_, short) => short.as_str(),
+            TextBytes::Long(string) => string.as_str(),
+        }
+    }
+
+    /// Adds a text's bytes at the end.
+    pub(crate) fn push_str(&mut self, text: &str) -> Result<(), AllocError>
+        ensures ok { OnOk result (bytes_of self.new ≡ bytes_of self.old ++ text.now) }
+        ensures err { OnErr result (bytes_of self.new ≡ bytes_of self.old) }
+    {
+        match self {
+            TextBytes::Long(string) => string.push_str(text),
+            TextBytes::Short(alloc, short) => {
+                if short.try_push_str(text).is_ok() {
+                    return Ok(());
+                }
+                let long = joined(*alloc, short.as_str(), text)?;
+                *self = TextBytes::Long(long);
+                Ok(())
+            }
+        }
+    }
+
+    /// Adds a character's bytes at the end.
+    pub(crate) fn push(&mut self, c: char) -> Result<(), AllocError>
+        ensures ok { OnOk result (bytes_of self.new ≡ bytes_of self.old ++ encode_utf8 c) }
+        ensures err { OnErr result (bytes_of self.new ≡ bytes_of self.old) }
+    {
+        match self {
+            TextBytes::Long(string) => string.push(c),
+            TextBytes::Short(_, _) => {
+                let mut bytes = [0; 4];
+                self.push_str(c.encode_utf8(&mut bytes))
+            }
+        }
+    }
+}
+
+// Two texts, one behind the other.
+fn joined(alloc: Global, front: &str, back: &str) -> Result<String, AllocError>
+    ensures { IfOk result (λ string. string_bytes string ≡ front.now ++ back.now) }
+{
+    let mut string = String::with_capacity(alloc, front.len().saturating_add(back.len()))?;
+    string.push_str(front)?;
+    string.push_str(back)?;
+    Ok(string)
+}
