@@ -10,10 +10,10 @@ fn verdict(alloc: Global, usage: Usage, text: &str) -> Result<String, Fail> {
     let Ok(root) = read_document(alloc, text.as_bytes(), 64) else {
         return Ok(String::from_str(alloc, "unread")?);
     };
-    if !schema(usage, &root) {
+    if !schema(alloc, usage, &root)? {
         return Ok(String::from_str(alloc, "invalid")?);
     }
-    if !constraints(usage, &root) {
+    if !constraints(alloc, usage, &root)? {
         return Ok(String::from_str(alloc, "reference")?);
     }
     match first_clash(alloc, usage, &root)? {

@@ -20,10 +20,10 @@ pub(crate) fn judge(
     requires { height root.now ≤ 64 }
     ensures { IfOk result (λ fault. IsJudged usage root.now fault) }
 {
-    if !schema(usage, root) {
+    if !schema(alloc, usage, root)? {
         return Ok(Some(ErrorBody::Schema));
     }
-    if !constraints(usage, root) {
+    if !constraints(alloc, usage, root)? {
         return Ok(Some(ErrorBody::Constraint));
     }
     match first_clash(alloc, usage, root)? {

@@ -1,15 +1,13 @@
 -- What a reading of the bytes behind a head says of them.
-use Rattle.std.proofs.Common.{◌≡◌, ℕ, ◌+◌, ◌<◌, ◌≤◌, ◌⊎◌, inl, inr, Bool, true, false, List, [], ◌∷◌, ◌++◌, length, refl, sym, ap, subst, ◌∙◌, arith, append_assoc}
+use Rattle.std.proofs.Common.{◌≡◌, ℕ, ◌+◌, ◌<◌, ◌≤◌, ◌⊎◌, inl, inr, true, false, List, [], ◌++◌, length, refl, sym, ap, subst, ◌∙◌, arith, append_assoc}
 use Rattle.std.proofs.lemmas.Bool.{cases_lt}
-use Rattle.std.proofs.lemmas.List.{append-nil}
 use Rattle.httparse.specs.Ascii.{crlf_bytes}
-use Rattle.httparse.specs.Grammar.{chunk_size}
 use Rattle.http_wire.specs.declared.chunks.Stage.{Stage}
 use Rattle.http_wire.specs.declared.chunks.Stage.TheVariants.{Size, Blank, Extension, SizeEnd, Data, DataEnd, Trailers, Trailer, TrailerEnd, LastEnd, Done, Bad, TooLong}
-use Rattle.http_wire.specs.Chunked.{print_line, print_chunks, print_trailers, ChunkedBody, print_body, IsBody, joined, ReadsBody, HasNoBody, MayBecomeBody, PassesLimit}
+use Rattle.http_wire.specs.Chunked.{print_line, print_chunks, print_trailers, ChunkedBody, print_body, joined, ReadsBody, MayBecomeBody, PassesLimit}
 use Rattle.http_wire.specs.Decoding.{Decoding, decoding, start, is_settled, ReadsOn, Fits}
 use Rattle.http_wire.specs.Inflow.{HasBody, HasNoBodyYet}
-use Rattle.http_wire.proofs.Steps.{IsInLimits, reads_in_limits}
+use Rattle.http_wire.proofs.Steps.{reads_in_limits}
 use Rattle.http_wire.proofs.BodyForms.{Stands}
 use Rattle.http_wire.proofs.BodyReached.{start_in_limits, reached, may_become}
 use Rattle.http_wire.proofs.BodyRuns.{reads_body, reads_to_limit, settles_once, not_settled_before}

@@ -1,6 +1,6 @@
 -- What bytes that were read stand for, at each place where the reading of a chunked body may stand.
-use Rattle.std.proofs.Common.{◌≡◌, ℕ, ◌+◌, ◌-◌, ◌*◌, ◌<◌, ◌≤◌, min, Bool, true, false, not, ◌==◌, List, [], ◌∷◌, ◌++◌, length, IsTrue, Option, None, Some, flat_map, refl, sym, ap, subst, ◌∙◌, arith, length-append, append_assoc}
-use Rattle.std.proofs.lemmas.Bool.{and_from, and_parts, eqb-true, eqb-false, not-true}
+use Rattle.std.proofs.Common.{◌≡◌, ℕ, ◌+◌, ◌-◌, ◌*◌, ◌<◌, ◌≤◌, min, Bool, true, List, [], ◌∷◌, ◌++◌, length, IsTrue, Option, None, Some, refl, sym, ap, subst, ◌∙◌, arith, length-append, append_assoc}
+use Rattle.std.proofs.lemmas.Bool.{and_from, and_parts}
 use Rattle.std.proofs.lemmas.List.{append-nil}
 use Rattle.std.proofs.lemmas.List.Concat.{flat_map-append}
 use Rattle.std.specs.Bool.{⊤}
@@ -11,9 +11,7 @@ use Rattle.httparse.specs.Ascii.{line_feed, carriage_return, semicolon, crlf_byt
 use Rattle.httparse.specs.Grammar.{ChunkLine, print_extension, chunk_size, is_ows, is_value_byte}
 use Rattle.http_wire.specs.declared.chunks.Stage.{Stage}
 use Rattle.http_wire.specs.declared.chunks.Stage.TheVariants.{Size, Blank, Extension, SizeEnd, Data, DataEnd, Trailers, Trailer, TrailerEnd, LastEnd, Done, Bad, TooLong}
-use Rattle.http_wire.specs.Chunked.{line_text, print_line, extension_text, IsLine, Chunk, print_chunk, IsChunk, print_chunks, is_trailer_byte, IsTrailer, print_trailer, print_trailers, ChunkedBody, print_body, IsBody, joined, ReadsBody, PassesLimit}
-use Rattle.http_wire.specs.Decoding.{Decoding, decoding, start, is_settled, is_data, after_digits, in_digits, in_extension, after_line, in_trailers, if_feed, next_stage, next_decoding, ReadsOn, Fits}
-use Rattle.http_wire.proofs.Steps.{by_after_digits, by_in_digits, by_in_extension, by_after_line, by_in_trailers, by_if_feed, by_data, IsInLimits, next_in_limits}
+use Rattle.http_wire.specs.Chunked.{line_text, print_line, extension_text, IsLine, Chunk, print_chunk, IsChunk, print_chunks, IsTrailer, print_trailer, print_trailers, ChunkedBody, print_body, IsBody, joined, PassesLimit}
 
 -- the bytes are whole chunks, which give the body, and then the tail
 pub record Behind (body raw tail : List ℕ) : Type 0 where

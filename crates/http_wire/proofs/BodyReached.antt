@@ -1,17 +1,17 @@
 -- Each place where the reading of a chunked body stands was reached by such bytes, and from each some bytes end the body.
-use Rattle.std.proofs.Common.{◌≡◌, ◌≢◌, ℕ, ◌+◌, ◌-◌, ◌<◌, ◌≤◌, Bool, true, false, not, ◌==◌, List, [], ◌∷◌, ◌++◌, length, replicate, if◌then◌else◌, IsTrue, Option, None, Some, refl, sym, ap, subst, ◌∙◌, arith, length-append, append_assoc, inl, inr}
+use Rattle.std.proofs.Common.{◌≡◌, ◌≢◌, ℕ, ◌+◌, ◌-◌, ◌≤◌, Bool, true, false, not, ◌==◌, List, [], ◌∷◌, ◌++◌, length, replicate, if◌then◌else◌, IsTrue, Option, None, Some, refl, sym, ap, subst, ◌∙◌, arith, length-append, append_assoc, inl, inr}
 use Rattle.std.proofs.lemmas.Bool.{and_from, eqb-true, eqb-false, cases_eq}
 use Rattle.std.proofs.lemmas.List.{append-nil, length-replicate, nil_from_length}
 use Rattle.std.proofs.lemmas.List.Concat.{flat_map-append}
 use Rattle.std.specs.List.{list_all, AllByRecursion}
-use Rattle.httparse.specs.Ascii.{line_feed, carriage_return, semicolon, crlf_bytes}
-use Rattle.httparse.specs.Grammar.{ChunkLine, chunk_size, is_ows}
+use Rattle.httparse.specs.Ascii.{line_feed, carriage_return, crlf_bytes}
+use Rattle.httparse.specs.Grammar.{ChunkLine, chunk_size}
 use Rattle.http_wire.specs.declared.chunks.Stage.{Stage}
 use Rattle.http_wire.specs.declared.chunks.Stage.TheVariants.{Size, Blank, Extension, SizeEnd, Data, DataEnd, Trailers, Trailer, TrailerEnd, LastEnd, Done, Bad, TooLong}
-use Rattle.http_wire.specs.Chunked.{line_text, print_line, IsLine, Chunk, print_chunk, IsChunk, print_chunks, is_trailer_byte, IsTrailer, print_trailer, print_trailers, ChunkedBody, print_body, IsBody, joined, ReadsBody, MayBecomeBody}
-use Rattle.http_wire.specs.Decoding.{Decoding, decoding, start, is_settled, is_data, after_digits, next_stage, next_decoding, ReadsOn, Fits}
+use Rattle.http_wire.specs.Chunked.{line_text, print_line, IsLine, Chunk, print_chunk, IsChunk, print_chunks, is_trailer_byte, IsTrailer, print_trailer, print_trailers, ChunkedBody, print_body, IsBody, MayBecomeBody}
+use Rattle.http_wire.specs.Decoding.{Decoding, start, is_settled, is_data, after_digits, next_stage, next_decoding, ReadsOn, Fits}
 use Rattle.http_wire.proofs.Steps.{by_after_digits, by_in_digits, by_in_extension, by_after_line, by_in_trailers, by_if_feed, by_data, IsInLimits, next_in_limits}
-use Rattle.http_wire.proofs.BodyForms.{Behind, InDigits, InLine, InData, AtDataEnd, InTrailers, IsWhole, Stands, more_digits, digits_line, more_blanks, more_extension, mark, line_end, to_trailers, to_data, to_limit, more_data, to_data_end, to_next_chunk, trailers_more, print_trailers-push, trailer_done, to_last_end, list_all-push, all-push}
+use Rattle.http_wire.proofs.BodyForms.{InDigits, InLine, InData, AtDataEnd, InTrailers, IsWhole, Stands, more_digits, digits_line, more_blanks, more_extension, mark, line_end, to_trailers, to_data, to_limit, more_data, to_data_end, to_next_chunk, trailers_more, print_trailers-push, trailer_done, to_last_end, list_all-push, all-push}
 
 -- the body behind one more byte
 abbrev body_next : Stage → List ℕ → ℕ → List ℕ

@@ -1,16 +1,16 @@
 -- Bytes that are a chunked body are read to its end, and those that pass the limit are read up to there.
-use Rattle.std.proofs.Common.{◌≡◌, ◌≢◌, ℕ, ◌+◌, ◌-◌, ◌*◌, ◌<◌, ◌≤◌, ◌⊎◌, inl, inr, min, Bool, true, false, not, ◌==◌, ◌||◌, nat_lt, nat_le, List, [], ◌∷◌, ◌++◌, length, if◌then◌else◌, Option, None, Some, flat_map, refl, sym, ap, subst, ◌∙◌, arith, length-append, append_assoc, zero-add}
-use Rattle.std.proofs.lemmas.Bool.{and_parts, or_cases, or_parts, not-true, eqb-true, eq-eqb, ne_eqb, lt-ltb, lt-leb, le-leb, cases_Bool, cases_lt, cases_eq, both_ways}
+use Rattle.std.proofs.Common.{◌≡◌, ◌≢◌, ℕ, ◌+◌, ◌-◌, ◌*◌, ◌<◌, ◌≤◌, inl, inr, min, Bool, true, false, ◌==◌, ◌||◌, nat_lt, nat_le, List, [], ◌∷◌, ◌++◌, length, if◌then◌else◌, Option, None, Some, refl, sym, ap, subst, ◌∙◌, arith, length-append, append_assoc, zero-add}
+use Rattle.std.proofs.lemmas.Bool.{and_parts, or_cases, or_parts, not-true, eqb-true, ne_eqb, lt-ltb, lt-leb, le-leb, cases_lt, both_ways}
 use Rattle.std.proofs.lemmas.List.{append-nil}
 use Rattle.std.specs.List.{list_all, AllByRecursion}
 use Rattle.std.specs.Char.{digit_value, is_digit}
-use Rattle.std.specs.Str.Parse.{digits_value, digits_value_after}
+use Rattle.std.specs.Str.Parse.{digits_value_after}
 use Rattle.httparse.specs.Ascii.{line_feed, carriage_return, semicolon, crlf_bytes}
 use Rattle.httparse.specs.Grammar.{ChunkLine, print_extension, chunk_size, is_ows, is_value_byte}
 use Rattle.http_wire.specs.declared.chunks.Stage.{Stage}
-use Rattle.http_wire.specs.declared.chunks.Stage.TheVariants.{Size, Blank, Extension, SizeEnd, Data, DataEnd, Trailers, Trailer, TrailerEnd, LastEnd, Done, Bad, TooLong}
-use Rattle.http_wire.specs.Chunked.{line_text, print_line, extension_text, IsLine, Chunk, print_chunk, IsChunk, print_chunks, is_trailer_byte, IsTrailer, print_trailer, print_trailers, ChunkedBody, print_body, IsBody, joined, ReadsBody, PassesLimit}
-use Rattle.http_wire.specs.Decoding.{Decoding, decoding, start, is_settled, is_data, after_digits, in_digits, in_extension, after_line, in_trailers, if_feed, next_stage, next_decoding, ReadsOn}
+use Rattle.http_wire.specs.declared.chunks.Stage.TheVariants.{Size, Blank, Extension, SizeEnd, Data, Trailers, Trailer, TrailerEnd, LastEnd, Done, Bad, TooLong}
+use Rattle.http_wire.specs.Chunked.{line_text, print_line, extension_text, IsLine, Chunk, print_chunk, IsChunk, print_chunks, is_trailer_byte, IsTrailer, print_trailer, print_trailers, ChunkedBody, print_body, IsBody, joined}
+use Rattle.http_wire.specs.Decoding.{Decoding, decoding, start, is_settled, is_data, after_digits, after_line, in_trailers, next_stage, next_decoding, ReadsOn}
 use Rattle.http_wire.proofs.Steps.{same_decoding, reads_on, reads_data}
 
 -- one byte, from a place that is not settled

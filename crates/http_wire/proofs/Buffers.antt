@@ -1,5 +1,5 @@
 -- Bytes that lie between two places of a buffer of fixed size.
-use Rattle.std.proofs.Common.{◌≡◌, ℕ, ◌+◌, ◌-◌, ◌<◌, ◌≤◌, nat_lt, Bool, true, false, List, [], ◌++◌, length, take, drop, slice_range, Option, refl, ap, sym, ◌∙◌, arith, length-append, length-drop}
+use Rattle.std.proofs.Common.{◌≡◌, ℕ, ◌+◌, ◌-◌, ◌≤◌, nat_lt, Bool, true, false, List, [], ◌++◌, length, take, drop, slice_range, Option, refl, ap, sym, ◌∙◌, arith, length-append, length-drop}
 use Rattle.std.proofs.lemmas.Bool.{ltb-true, ltb-false}
 use Rattle.std.proofs.lemmas.List.{append-nil, nil_from_length, length-take-le, take-append-le, drop-append-le, drop-take, drop-drop}
 use Rattle.std.proofs.Math.Seq.{take-append-add}

@@ -1,11 +1,10 @@
 -- How the answers of a wire, one after the other, serve a connection.
-use Rattle.std.proofs.Common.{◌≡◌, ℕ, ◌+◌, ◌⊎◌, inl, inr, Bool, true, false, List, [], ◌∷◌, ◌++◌, length, Option, None, Some, Result, Ok, Err, MatchResult, refl, sym, ap, subst, ◌∙◌, arith, append_assoc}
+use Rattle.std.proofs.Common.{◌≡◌, ℕ, ◌+◌, inl, inr, false, List, [], ◌∷◌, ◌++◌, length, Option, Some, Ok, refl, sym, ap, subst, ◌∙◌, arith, append_assoc}
 use Rattle.std.proofs.lemmas.List.{append-nil}
-use Rattle.std.specs.Io.KnownBytes.{Consumes, IsAtEnd}
 use Rattle.http_wire.specs.declared.request.Request.{Request}
 use Rattle.http_wire.specs.declared.request.Asked.{Asked}
 use Rattle.http_wire.specs.declared.request.Asked.TheVariants.{Request as Requested, Bad, TooLong, Coded, End, NoMemory}
-use Rattle.http_wire.specs.Items.{Item, asks, bad, too_long, coded, AsksFor, FirstItem, IsUnfinished}
+use Rattle.http_wire.specs.Items.{Item, bad, too_long, coded, AsksFor, FirstItem}
 use Rattle.http_wire.specs.Asking.{IsNext, IsAsked, Asks}
 use Rattle.http_wire.specs.Serving.{Run, told}
 use Rattle.http_wire.proofs.WholeItems.{asks-append}

@@ -1,14 +1,11 @@
 -- Bytes behind a head, decoded as they come.
-use Rattle.std.proofs.Common.{◌≡◌, ℕ, ◌+◌, ◌-◌, ◌<◌, ◌≤◌, Bool, true, false, List, [], ◌∷◌, ◌++◌, length, take, drop, zero, suc, Option, Result, Ok, Err, refl, sym, ap, subst, ◌∙◌, arith, length-append, length-drop, append_assoc, take-append-drop}
-use Rattle.std.proofs.lemmas.Bool.{both_ways}
-use Rattle.std.proofs.lemmas.List.{append-nil, length-take-le, take_at, take-append-le, drop_at, drop_all, drop-drop, nil_from_length}
+use Rattle.std.proofs.Common.{◌≡◌, ℕ, ◌+◌, ◌-◌, ◌<◌, ◌≤◌, false, List, [], ◌++◌, length, take, drop, zero, suc, Option, Ok, Err, refl, sym, ap, subst, ◌∙◌, arith, length-append, length-drop, append_assoc, take-append-drop}
+use Rattle.std.proofs.lemmas.List.{append-nil, length-take-le, take_at, drop_at, drop_all, drop-drop, nil_from_length}
 use Rattle.std.proofs.KnownBytes.{Consumes-nil, Consumes-trans}
 use Rattle.std.specs.Io.KnownBytes.{Consumes, IsAtEnd}
-use Rattle.http_wire.specs.declared.chunks.Stage.{Stage}
 use Rattle.http_wire.specs.declared.chunks.Stage.TheVariants.{Done, Bad as BadStage, TooLong as LongStage}
-use Rattle.http_wire.specs.declared.decoding.Decoded.{Decoded}
 use Rattle.http_wire.specs.declared.decoding.Decoded.TheVariants.{Whole, TooLong, Bad, Cut}
-use Rattle.http_wire.specs.Decoding.{Decoding, start, is_settled, ReadsOn, bytes_left}
+use Rattle.http_wire.specs.Decoding.{Decoding, start, is_settled, ReadsOn}
 use Rattle.http_wire.specs.Chunked.{PassesLimit, MayBecomeBody}
 use Rattle.http_wire.specs.Inflow.{Gains, HasBody, HasNoBodyYet, Decodes, DecodesSoFar}
 use Rattle.http_wire.proofs.Steps.{IsInLimits, reads_on, reads_in_limits, fewer_after, left_of}

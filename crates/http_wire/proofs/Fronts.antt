@@ -1,13 +1,13 @@
 -- What the parser's answers on the first bytes say of all bytes, and of those that follow.
-use Rattle.std.proofs.Common.{◌≡◌, ◌≢◌, ℕ, ◌+◌, ◌-◌, ◌<◌, ◌≤◌, min, ◌⊎◌, inl, inr, Bool, true, false, ◌||◌, ◌==◌, List, [], ◌∷◌, ◌++◌, length, take, drop, map, ap, sym, subst, ◌∙◌, refl, arith, length-append, length-drop, length-take, take-append-drop, append_assoc}
+use Rattle.std.proofs.Common.{◌≡◌, ◌≢◌, ℕ, ◌+◌, ◌-◌, ◌<◌, ◌≤◌, min, inl, inr, Bool, true, false, ◌||◌, ◌==◌, List, [], ◌∷◌, ◌++◌, length, take, drop, map, ap, sym, subst, ◌∙◌, refl, arith, length-append, length-drop, length-take, take-append-drop, append_assoc}
 use Rattle.std.proofs.lemmas.List.{length-take-le, take-append-le, take_at, append-nil, drop-append-le, drop_all, length-map}
 use Rattle.std.proofs.lemmas.List.Elements.{recursion_from_All}
 use Rattle.std.proofs.lemmas.Bool.{or_parts, cases_lt, true≢false}
 use Rattle.std.specs.List.{AllByRecursion, list_any, flat_map}
 use Rattle.std.proofs.Math.Seq.{take-append-add}
 use Rattle.httparse.specs.Ascii.{line_feed, space}
-use Rattle.httparse.specs.Grammar.{RequestHead, LineEnd, crlf, lf, print_end, print_blank, print_version, Field, print_field, print_section, ReadsRequest, HasNoRequest, print_request}
-use Rattle.httparse.specs.Spans.{RequestOverflows, IsWithin, IsHeaderWithin, IsRequestWithin, IsSectionWithin, IsRequestAt, IsRequestOf, span_bytes, header_bytes, name_and_value}
+use Rattle.httparse.specs.Grammar.{RequestHead, LineEnd, crlf, lf, print_end, print_blank, print_version, print_field, ReadsRequest, HasNoRequest, print_request}
+use Rattle.httparse.specs.Spans.{RequestOverflows, IsWithin, IsHeaderWithin, IsRequestWithin, IsRequestOf, span_bytes, header_bytes, name_and_value}
 use Rattle.httparse.specs.declared.spans.Span.{Span}
 use Rattle.httparse.specs.declared.spans.HeaderSpan.{HeaderSpan}
 use Rattle.httparse.specs.declared.spans.RequestSpans.{RequestSpans}

@@ -1,10 +1,9 @@
 -- Items, by what was found at the front of the bytes given.
-use Rattle.std.proofs.Common.{◌≡◌, ℕ, ◌+◌, ◌-◌, ◌<◌, ◌≤◌, ◌⊎◌, inl, inr, Bool, ◌==◌, ◌||◌, List, [], ◌∷◌, ◌++◌, length, take, drop, map, slice_range, Option, None, Some, Result, Ok, Err, MatchResult, refl, sym, ap, subst, ◌∙◌, arith, length-append, length-drop, append_assoc, take-append-drop}
-use Rattle.std.proofs.lemmas.List.{append-nil, drop-drop, drop-append-le, length-take-le, take_at, drop_all}
-use Rattle.std.proofs.lemmas.List.Elements.{recursion_from_All}
+use Rattle.std.proofs.Common.{◌≡◌, ℕ, ◌+◌, ◌-◌, ◌<◌, ◌≤◌, ◌⊎◌, inl, inr, Bool, ◌==◌, ◌||◌, List, [], ◌++◌, length, take, drop, map, slice_range, Option, Result, Ok, Err, MatchResult, refl, sym, ap, subst, ◌∙◌, arith, length-append, length-drop, append_assoc, take-append-drop}
+use Rattle.std.proofs.lemmas.List.{append-nil, drop-drop, length-take-le}
 use Rattle.std.proofs.KnownBytes.{Consumes-nil, Consumes-trans}
 use Rattle.std.specs.Io.KnownBytes.{Consumes, IsAtEnd}
-use Rattle.httparse.specs.Grammar.{RequestHead, ReadsRequest, print_request}
+use Rattle.httparse.specs.Grammar.{RequestHead}
 use Rattle.httparse.specs.Spans.{header_bytes, span_bytes, name_and_value}
 use Rattle.httparse.specs.declared.spans.HeaderSpan.{HeaderSpan}
 use Rattle.httparse.specs.declared.spans.RequestSpans.{RequestSpans}
@@ -14,15 +13,15 @@ use Rattle.http_wire.specs.declared.decoding.Decoded.TheVariants.{Whole, TooLong
 use Rattle.http_wire.specs.declared.request.Field.{Field}
 use Rattle.http_wire.specs.declared.request.Request.{Request}
 use Rattle.http_wire.specs.declared.request.Asked.{Asked}
-use Rattle.http_wire.specs.declared.request.Asked.TheVariants.{Request as Requested, Bad, TooLong, Coded, End, NoMemory}
+use Rattle.http_wire.specs.declared.request.Asked.TheVariants.{Request as Requested, Bad, TooLong, NoMemory}
 use Rattle.http_wire.specs.Fields.{asks_to_close}
 use Rattle.http_wire.specs.Framing.{framing}
-use Rattle.http_wire.specs.Heads.{BeginsWithHead, HasNoHead, NeverHasHead}
-use Rattle.http_wire.specs.Chunked.{print_line, print_chunks, joined, HasNoBody, MayBecomeBody, PassesLimit}
-use Rattle.http_wire.specs.Items.{Item, asks, bad, too_long, coded, field_of, ends_after, request_of, Opens, Follows, IsFramed, AsksFor, IsBad, bad_fields, body_cut, no_head, no_body, IsTooLong, long_body, long_chunks, FirstItem, IsUnfinished, lacks_head, lacks_body, lacks_chunks}
+use Rattle.http_wire.specs.Heads.{HasNoHead, NeverHasHead}
+use Rattle.http_wire.specs.Chunked.{print_line, print_chunks, HasNoBody, MayBecomeBody, PassesLimit}
+use Rattle.http_wire.specs.Items.{bad, too_long, coded, field_of, request_of, Opens, Follows, IsFramed, AsksFor, IsBad, bad_fields, body_cut, no_head, no_body, IsTooLong, long_body, long_chunks, IsUnfinished, lacks_body, lacks_chunks}
 use Rattle.http_wire.specs.Asking.{IsNext, IsAsked, Asks}
 use Rattle.http_wire.specs.Inflow.{Gains, IsHeadAt, IsOpenAt, HasBody, HasNoBodyYet, Decodes}
-use Rattle.http_wire.proofs.Fronts.{begins-append, head_at-append, head_at_front}
+use Rattle.http_wire.proofs.Fronts.{begins-append, head_at-append}
 
 -- Reads, one after the other.
 

@@ -1,6 +1,6 @@
 -- A connection's bytes have one first item, and one talk.
 use Rattle.std.proofs.Common.{◌≡◌, ℕ, ◌+◌, ◌<◌, ◌≤◌, ◌⊎◌, inl, inr, Bool, true, false, List, [], ◌∷◌, ◌++◌, length, take, map, refl, sym, ap, subst, ◌∙◌, arith, length-append}
-use Rattle.std.specs.Bool.{MatchBool, ⊤}
+use Rattle.std.specs.Bool.{MatchBool}
 use Rattle.std.proofs.lemmas.Bool.{MatchBool-at_true, MatchBool-at_false}
 use Rattle.std.proofs.lemmas.List.{take_at, append_cancel_left}
 use Rattle.httparse.specs.Ascii.{line_feed}
@@ -11,15 +11,15 @@ use Rattle.http_wire.specs.declared.framing.Framing.{Framing}
 use Rattle.http_wire.specs.declared.framing.Framing.TheVariants.{Bad as BadFields, Coded as OtherCoding, TooLong as LongBody, Length, Chunked}
 use Rattle.http_wire.specs.declared.request.Request.{Request}
 use Rattle.http_wire.specs.Framing.{framing}
-use Rattle.http_wire.specs.Heads.{BeginsWithHead, HasNoHead}
-use Rattle.http_wire.specs.Chunked.{ChunkedBody, print_body, ReadsBody, HasNoBody, MayBecomeBody, PassesLimit, joined}
+use Rattle.http_wire.specs.Heads.{HasNoHead}
+use Rattle.http_wire.specs.Chunked.{ChunkedBody, print_body, ReadsBody, HasNoBody, PassesLimit, joined}
 use Rattle.http_wire.specs.Decoding.{Decoding, decoding, start}
 use Rattle.http_wire.specs.declared.chunks.Stage.TheVariants.{Done, TooLong}
-use Rattle.http_wire.specs.Items.{Item, asks, bad, too_long, coded, request_of, Opens, Follows, IsFramed, AsksFor, AsksWithLength, AsksInChunks, IsBad, no_head, bad_fields, body_cut, no_body, IsTooLong, long_body, long_chunks, FirstItem, SameRest, ends_connection, Talk, LiesWhole, IsUnfinished, lacks_head, lacks_body, lacks_chunks}
+use Rattle.http_wire.specs.Items.{Item, asks, bad, too_long, coded, request_of, Opens, Follows, IsFramed, AsksFor, IsBad, no_head, bad_fields, body_cut, no_body, IsTooLong, long_body, long_chunks, FirstItem, SameRest, ends_connection, Talk}
 use Rattle.http_wire.specs.Inflow.{HasNoBodyYet}
 use Rattle.http_wire.proofs.Fronts.{head_feeds}
 use Rattle.http_wire.proofs.BodyRuns.{settles_once, reads_body}
-use Rattle.http_wire.proofs.BodyFacts.{Settles, short_settles, limit_settles}
+use Rattle.http_wire.proofs.BodyFacts.{short_settles, limit_settles}
 
 -- a head takes a byte at least
 some_bytes : (bytes : List ℕ) (h : RequestHead) (f : Framing) (r : List ℕ) → Opens bytes h f r → 0 < length bytes

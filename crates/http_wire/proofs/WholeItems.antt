@@ -1,17 +1,17 @@
 -- Items that lie whole in the first bytes stand there however these go on, and none lies in bytes that are unfinished.
-use Rattle.std.proofs.Common.{◌≡◌, ℕ, ◌+◌, ◌-◌, ◌<◌, ◌≤◌, ◌⊎◌, inl, inr, List, [], ◌∷◌, ◌++◌, length, take, refl, sym, ap, subst, ◌∙◌, arith, append_assoc, length-append}
+use Rattle.std.proofs.Common.{◌≡◌, ℕ, ◌+◌, ◌-◌, ◌<◌, inl, inr, List, [], ◌++◌, length, take, sym, ap, subst, ◌∙◌, arith, append_assoc, length-append}
 use Rattle.std.proofs.lemmas.Bool.{cases_lt}
 use Rattle.httparse.specs.Grammar.{RequestHead}
 use Rattle.http_wire.specs.declared.framing.Framing.{Framing}
 use Rattle.http_wire.specs.declared.framing.Framing.TheVariants.{Bad as BadFields, Coded as OtherCoding, TooLong as LongBody, Length, Chunked}
 use Rattle.http_wire.specs.declared.request.Request.{Request}
-use Rattle.http_wire.specs.Chunked.{print_line, print_chunks, print_body, ReadsBody, HasNoBody, MayBecomeBody, PassesLimit, joined}
-use Rattle.http_wire.specs.Items.{Item, asks, bad, too_long, coded, Opens, Follows, IsFramed, AsksFor, IsBad, bad_fields, no_body, IsTooLong, long_body, long_chunks, FirstItem, LiesWhole, IsUnfinished, lacks_head, lacks_body, lacks_chunks}
+use Rattle.http_wire.specs.Chunked.{print_line, print_chunks, print_body, ReadsBody, HasNoBody, MayBecomeBody, PassesLimit}
+use Rattle.http_wire.specs.Items.{Item, asks, bad, too_long, coded, Opens, Follows, IsFramed, AsksFor, bad_fields, no_body, long_body, long_chunks, FirstItem, LiesWhole, IsUnfinished, lacks_head, lacks_body, lacks_chunks}
 use Rattle.http_wire.specs.Inflow.{HasNoBodyYet}
 use Rattle.http_wire.proofs.Fronts.{lies_in_front}
 use Rattle.http_wire.proofs.BodyReached.{becomes_body, becomes_line}
 use Rattle.http_wire.proofs.ItemLemmas.{opens-append, passes-append}
-use Rattle.http_wire.proofs.OneTalk.{same_head, short_or_long, length_of}
+use Rattle.http_wire.proofs.OneTalk.{same_head, length_of}
 
 framed-append : (what : Framing) (bytes more : List ℕ) → IsFramed what bytes → IsFramed what (bytes ++ more)
 framed-append what bytes more f = (f.0, f.1 ++ more, opens-append bytes more f.0 what f.1 f.2)

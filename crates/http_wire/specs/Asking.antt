@@ -4,7 +4,7 @@ use Rattle.std.specs.Io.KnownBytes.{Consumes, IsAtEnd}
 use Rattle.http_wire.specs.declared.request.Request.{Request}
 use Rattle.http_wire.specs.declared.request.Asked.{Asked}
 use Rattle.http_wire.specs.declared.request.Asked.TheVariants.{Request as Requested, Bad, TooLong, Coded, End, NoMemory}
-use Rattle.http_wire.specs.Items.{Item, asks, bad, too_long, coded, AsksFor, FirstItem, IsUnfinished}
+use Rattle.http_wire.specs.Items.{Item, bad, too_long, coded, AsksFor, FirstItem, IsUnfinished}
 
 -- A connection's wire at one moment: the bytes that were given and not used yet, how many requests were asked for since
 -- it was made or reset, and whether it gives no more.

@@ -1,6 +1,6 @@
 -- How a chunked body is read one byte after another: where the reading stands, and what the next byte makes of that.
 -- `Chunked` says what a chunked body is; that both agree is proved.
-use Rattle.std.specs.Prelude.{◌≡◌, ℕ, ◌+◌, ◌-◌, ◌*◌, ◌≤◌, min, Bool, true, false, not, ◌&&◌, ◌||◌, ◌==◌, nat_lt, nat_le, if◌then◌else◌, List, [], ◌∷◌, ◌++◌, length, ⊤}
+use Rattle.std.specs.Prelude.{◌≡◌, ℕ, ◌+◌, ◌-◌, ◌*◌, ◌≤◌, min, Bool, true, false, not, ◌==◌, nat_lt, nat_le, if◌then◌else◌, List, [], ◌∷◌, ◌++◌, length}
 use Rattle.std.specs.Char.{digit_value}
 use Rattle.httparse.specs.Ascii.{line_feed, carriage_return, semicolon}
 use Rattle.httparse.specs.Grammar.{is_ows, is_value_byte}

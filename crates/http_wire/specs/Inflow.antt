@@ -2,7 +2,7 @@
 use Rattle.std.specs.Prelude.{◌≡◌, ℕ, ◌+◌, ◌<◌, ◌≤◌, ◌⊎◌, List, map, [], ◌∷◌, ◌++◌, length, drop, take, Option, None, Some, Bool, true, false, Result, Ok, Err}
 use Rattle.std.specs.Io.KnownBytes.{Consumes, IsAtEnd}
 use Rattle.httparse.specs.Grammar.{RequestHead}
-use Rattle.httparse.specs.Spans.{IsRequestAt, IsRequestWithin, name_and_value, span_bytes, header_bytes}
+use Rattle.httparse.specs.Spans.{IsRequestAt, IsRequestWithin, name_and_value}
 use Rattle.httparse.specs.declared.spans.HeaderSpan.{HeaderSpan}
 use Rattle.httparse.specs.declared.spans.RequestSpans.{RequestSpans}
 use Rattle.http_wire.specs.declared.heads.Front.{Front}

@@ -1,7 +1,7 @@
 -- Connections served by a machine. The machine is any: its states are M, what it tells of a change is E, and its step
 -- says which bytes answer a request, in which state it goes on, and what it tells. `fixed` gives the bytes of the reply
 -- without body that has a status and ends the connection.
-use Rattle.std.specs.Prelude.{◌≡◌, ℕ, ◌+◌, ◌<◌, ◌≤◌, ◌⊎◌, ◌^◌, ◌-◌, Bool, true, false, List, [], ◌∷◌, ◌++◌, length, take, Option, None, Some}
+use Rattle.std.specs.Prelude.{◌≡◌, ℕ, ◌+◌, ◌<◌, ◌≤◌, ◌⊎◌, ◌^◌, ◌-◌, true, false, List, [], ◌∷◌, ◌++◌, length, take, Option, None, Some}
 use Rattle.http_wire.specs.declared.request.Request.{Request}
 use Rattle.http_wire.specs.Items.{Item, asks, bad, too_long, coded, FirstItem, AsksFor, ends_connection, IsUnfinished}
 

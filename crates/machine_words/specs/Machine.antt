@@ -1,6 +1,5 @@
 -- The machine: its state is that of all documents with all their versions, and its step answers one request.
 use Rattle.std.specs.Prelude.{◌≡◌, ℕ, List, map, Option, None, Some, option_map, Ok}
-use Rattle.xcap_uri.specs.declared.doc_id.DocId.{DocId}
 use Rattle.patch_record.specs.Recorded.{note_in}
 use Rattle.watch_port.specs.declared.edit.Edit.{Edit}
 use Rattle.reply_text.specs.Heads.{Sent, bytes_of}

@@ -1,9 +1,8 @@
 -- The scope around an element, and attributes that aren't there.
-use Rattle.std.proofs.Common.{◌≡◌, ℕ, Bool, true, false, cond, not, ◌||◌, List, [], ◌∷◌, ◌++◌, Option, Some, None, IsSome, IsSomeAnd, is_none, refl, sym, ap, ◌∙◌, subst}
-use Rattle.std.specs.List.{find, list_any, slice_get}
+use Rattle.std.proofs.Common.{◌≡◌, ℕ, Bool, true, false, cond, not, ◌||◌, List, [], ◌∷◌, ◌++◌, Option, Some, None, IsSome, is_none, refl, ap, subst}
+use Rattle.std.specs.List.{find, list_any}
 use Rattle.std.specs.Option.{option_and_then}
-use Rattle.xml_tree.specs.Tree.{Tree, at, kids_of}
-use Rattle.xml_tree.specs.Edits.{front}
+use Rattle.xml_tree.specs.Tree.{Tree, at}
 use Rattle.xml_tree.specs.Scopes.{scope_around, scope_at}
 use Rattle.xml_tree.proofs.PathLemmas.{at-snoc, front-snoc}
 

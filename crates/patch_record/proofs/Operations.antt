@@ -1,5 +1,5 @@
 -- The length of each operation's text, from the lengths of its parts.
-use Rattle.std.proofs.Common.{◌≡◌, ℕ, zero, suc, ◌+◌, ◌-◌, Bool, true, false, codes, List, [], ◌∷◌, ◌++◌, flat_map, refl, sym, ap, ◌∙◌, append-nil, min, arith}
+use Rattle.std.proofs.Common.{◌≡◌, ℕ, zero, suc, ◌+◌, ◌-◌, Bool, true, false, codes, List, [], ◌∷◌, ◌++◌, flat_map, refl, ap, ◌∙◌, append-nil, min, arith}
 use lib.Utf8.{encode}
 use Rattle.xml_tree.specs.Tree.{last, Tree}
 use Rattle.xml_tree.specs.declared.names.Name.{Name}
@@ -12,7 +12,7 @@ use Rattle.node_select.specs.Selection.{path_text, steps_text}
 use Rattle.edit_ops.specs.declared.change.Change.TheVariants.{Insert, Replace, Remove, SetAttr, DropAttr}
 use Rattle.patch_words.specs.Operations.{alone, attr_name_text, attr_path_text, gap_attrs, in_diff, operation_of, plain, pos_attr, sel_attr, told, type_attr}
 use Rattle.patch_record.specs.Lengths.{bare_len, filled_len, valued_len, written_len}
-use Rattle.patch_record.proofs.Values.{written-append, written-next, written-path, written-quoted, written-steps}
+use Rattle.patch_record.proofs.Values.{written-append, written-path, written-quoted, written-steps}
 
 -- ---- attributes
 

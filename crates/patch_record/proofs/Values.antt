@@ -1,5 +1,5 @@
 -- The length of a value as it is written, part by part.
-use Rattle.std.proofs.Common.{◌≡◌, ◌≢◌, if◌then◌else◌, ℕ, zero, suc, ◌+◌, ◌*◌, ◌/◌, ◌%◌, ◌^◌, ◌<◌, ◌≤◌, Bool, true, false, codes, List, [], ◌∷◌, ◌++◌, length, flat_map, encode_utf8_all, bytes_eq, refl, sym, ap, ◌∙◌, append_assoc, append-nil, add-one, drop, drop-cons, get_or, arith}
+use Rattle.std.proofs.Common.{◌≡◌, ◌≢◌, if◌then◌else◌, ℕ, zero, suc, ◌+◌, ◌*◌, ◌/◌, ◌%◌, ◌^◌, ◌<◌, ◌≤◌, Bool, true, false, codes, List, [], ◌∷◌, ◌++◌, length, flat_map, encode_utf8_all, bytes_eq, refl, sym, ap, ◌∙◌, add-one, drop, drop-cons, get_or, arith}
 use lib.Utf8.{encode}
 use Rattle.std.proofs.lemmas.Bool.Decides.{nat_tests}
 use Rattle.std.proofs.lemmas.Fmt.{decimal_step_wide, decimal_digit}

@@ -1,6 +1,5 @@
 -- What a store keeps after a change that was ready for it.
 use Rattle.std.proofs.Common.{◌≡◌, ℕ, List, Option, None, Some, cond, sym, ap, subst, ◌∙◌}
-use Rattle.store_core.specs.declared.step.Step.{Step}
 use Rattle.xcap_uri.specs.declared.doc_id.DocId.{DocId}
 use Rattle.store_core.specs.declared.entry.Entry.{Entry}
 use Rattle.store_core.specs.Changing.{content_after}

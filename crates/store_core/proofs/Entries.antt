@@ -1,5 +1,5 @@
 -- The entries of a store's documents, as what the store holds: the entry of a name among the others, and what a kept state says of all.
-use Rattle.std.proofs.Common.{◌≡◌, ◌≢◌, ℕ, ◌+◌, ◌<◌, ◌≤◌, Bool, true, false, not, cond, List, [], ◌∷◌, ◌++◌, length, map, filter, find, sum_by, Option, None, Some, option_map, refl, sym, ap, subst, ◌∙◌, arith}
+use Rattle.std.proofs.Common.{◌≡◌, ◌≢◌, ℕ, ◌+◌, ◌≤◌, Bool, true, false, cond, List, [], ◌∷◌, ◌++◌, length, map, find, sum_by, Option, None, Some, option_map, refl, sym, ap, subst, ◌∙◌, arith}
 use Rattle.std.proofs.lemmas.List.{length-map, map-append}
 use Rattle.std.proofs.lemmas.List.Folds.{flat_map-map}
 use Rattle.std.specs.List.{AllByRecursion, flat_map}
@@ -11,11 +11,11 @@ use Rattle.xcap_uri.specs.Same.{same_id}
 use Rattle.xcap_uri.specs.declared.doc_id.DocId.{DocId}
 use Rattle.store_core.specs.declared.entry.Entry.{Entry}
 use Rattle.store_core.specs.State.{Document, State}
-use Rattle.store_core.specs.Held.{Content, Held, Stands, held_of}
+use Rattle.store_core.specs.Held.{Held, Stands, held_of}
 use Rattle.store_core.specs.Keeping.{AreApart, IsKept, IsSoundFor, Kept, addresses, addresses_in, usage_of}
 use Rattle.store_core.specs.Changing.{document_in, held_name}
 use Rattle.store_core.specs.Storing.{content_in, held_in, len_in, name_in, uris_in}
-use Rattle.store_core.proofs.Accepted.{find-map, sum-mapped}
+use Rattle.store_core.proofs.Accepted.{sum-mapped}
 use Rattle.store_core.proofs.Apart.{apart-behind, each-weaker}
 use Rattle.store_core.proofs.SameNames.{other-name, same-exact}
 

@@ -1,7 +1,6 @@
 -- What planning a change answers, from the reasons against it and its parts.
-use Rattle.std.proofs.Common.{◌≡◌, ℕ, ◌+◌, ◌≤◌, Bool, true, false, not, List, [], ◌∷◌, length, filter, find, sum_by, ◌⊎◌, inl, inr, Option, None, Some, IsSome, IsSomeAnd, option_map, Result, Ok, Err, refl, sym, ap, subst, ◌∙◌, arith}
+use Rattle.std.proofs.Common.{◌≡◌, ℕ, ◌+◌, ◌≤◌, Bool, true, false, List, [], length, sum_by, ◌⊎◌, inl, inr, Option, None, Some, IsSome, IsSomeAnd, option_map, Result, Ok, Err, refl, sym, ap, subst, ◌∙◌, arith}
 use Rattle.std.proofs.lemmas.Option.{same_Some}
-use Rattle.std.specs.List.{AllByRecursion}
 use Rattle.std.specs.Result.{IsErrAnd}
 use Rattle.xml_tree.specs.Tree.{Tree}
 use Rattle.usage_docs.specs.Services.{document_len}
@@ -19,7 +18,7 @@ use Rattle.store_core.specs.declared.step.Step.TheVariants.{Make, Renew, End}
 use Rattle.store_core.specs.Held.{Content, Held}
 use Rattle.store_core.specs.Keeping.{addresses_in, usage_of}
 use Rattle.store_core.specs.Asking.{Asks, AsksAct, MayBeFor}
-use Rattle.store_core.specs.Changing.{Act, Makes, Edits, Removes, act_of, against, against_number, against_tree, answered, changing, content_after, document_in, held_name, note_for, or_else, other_lengths, without_document}
+use Rattle.store_core.specs.Changing.{Act, Edits, act_of, against, against_number, against_tree, answered, changing, content_after, document_in, held_name, note_for, or_else, other_lengths}
 use Rattle.store_core.specs.Storing.{Stored, entry_of}
 use Rattle.store_core.specs.Preparing.{IsPlanned, IsReady, Plans, Readied, total_of}
 use Rattle.store_core.proofs.Accepted.{passes, unfound}

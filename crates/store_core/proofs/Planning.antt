@@ -1,18 +1,16 @@
 -- The reasons against a change, as they are found by the registry and the total, are those of the definitions.
-use Rattle.std.proofs.Common.{◌≡◌, ◌≢◌, ℕ, ◌+◌, ◌-◌, ◌<◌, ◌≤◌, nat_lt, nat_le, min, Bool, true, false, not, ◌&&◌, cond, List, [], ◌∷◌, ◌++◌, length, map, filter, sum_by, Option, None, Some, IsSomeAnd, option_map, Result, Ok, Err, refl, sym, ap, subst, ◌∙◌, arith}
+use Rattle.std.proofs.Common.{◌≡◌, ◌≢◌, ℕ, ◌+◌, ◌-◌, ◌≤◌, nat_lt, nat_le, min, Bool, true, false, not, ◌&&◌, List, [], ◌∷◌, ◌++◌, length, map, filter, sum_by, Option, None, Some, IsSomeAnd, option_map, Ok, Err, refl, sym, ap, subst, ◌∙◌, arith}
 use Rattle.std.proofs.lemmas.Bool.Decides.{nat_tests}
 use Rattle.std.proofs.lemmas.List.{length-map, map-append}
 use Rattle.std.proofs.lemmas.List.Folds.{flat_map-map}
-use Rattle.std.specs.List.{AllByRecursion, flat_map, list_any, position}
+use Rattle.std.specs.List.{AllByRecursion, flat_map, position}
 use Rattle.std.specs.Map.{lookup}
-use Rattle.std.specs.Str.{bytes_eq}
 use Rattle.xml_tree.specs.Tree.{Tree}
 use Rattle.usage_docs.specs.Services.{document_len}
 use Rattle.usage_docs.specs.declared.keys.Clash.{Clash}
 use Rattle.usage_docs.specs.declared.rows.Key.TheVariants.{Uri}
 use Rattle.xcap_uri.specs.Same.{same_id}
 use Rattle.xcap_uri.specs.declared.doc_id.DocId.{DocId}
-use Rattle.edit_ops.specs.declared.change.Change.{Change}
 use Rattle.patch_words.specs.Notes.{Note}
 use Rattle.store_core.specs.declared.entry.Entry.{Entry}
 use Rattle.store_core.specs.declared.refusal.StoreRefusal.{StoreRefusal}
@@ -23,10 +21,10 @@ use Rattle.store_core.specs.Changing.{against_tree, answered, document_in, held_
 use Rattle.store_core.specs.Storing.{IsStoring, Room, Stored, content_in, held_in, holder, is_among, is_others, len_in, number_in, registered, uris_in}
 use Rattle.store_core.specs.Preparing.{refused_for, total_of}
 use Rattle.store_core.proofs.Accepted.{sum-mapped, sum-put}
-use Rattle.store_core.proofs.Apart.{each-append, each-left, each-right, each-weaker, apart-behind, none-filtered, one-filtered}
+use Rattle.store_core.proofs.Apart.{each-append, each-weaker, apart-behind, none-filtered, one-filtered}
 use Rattle.store_core.proofs.Admitted.{apart-before}
 use Rattle.store_core.proofs.Standing.{map-filtered}
-use Rattle.store_core.proofs.Entries.{Around, Known, each-unmapped, none-found}
+use Rattle.store_core.proofs.Entries.{Around, each-unmapped, none-found}
 use Rattle.store_core.proofs.Holders.{is-other, others-hold, others-hold-beside}
 use Rattle.store_core.proofs.Stored.{absent-entry, around-of, held-found, known-of, short-entry, total-is}
 

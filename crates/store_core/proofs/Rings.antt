@@ -1,9 +1,7 @@
 -- What is retained of notes, as a ring gives up its oldest ones.
-use Rattle.std.proofs.Common.{◌≡◌, ℕ, zero, suc, ◌+◌, ◌-◌, ◌<◌, ◌≤◌, ◌&&◌, ◌⊎◌, nat_le, not, Bool, true, false, cond, List, [], ◌∷◌, ◌++◌, length, drop, get_or, map, sum_by, refl, sym, ap, subst, ◌∙◌, ⊎_elim, arith, length-append, drop-cons, add-one}
+use Rattle.std.proofs.Common.{◌≡◌, ℕ, suc, ◌+◌, ◌-◌, ◌<◌, ◌≤◌, ◌&&◌, ◌⊎◌, nat_le, not, Bool, true, false, cond, List, [], ◌∷◌, ◌++◌, length, drop, get_or, map, sum_by, refl, sym, ap, ◌∙◌, ⊎_elim, arith, length-append, drop-cons, add-one}
 use Rattle.std.proofs.lemmas.Bool.Decides.{nat_tests}
-use Rattle.std.proofs.lemmas.Grind.{common_steps}
 use Rattle.std.proofs.lemmas.List.{length-map, map-append}
-use Rattle.std.proofs.lemmas.List.Sums.{sum_by-append}
 use Rattle.circular_buffer.specs.Buffer.{keep_last}
 use Rattle.store_core.specs.State.{is_small, small_end}
 use Rattle.store_core.proofs.Accepted.{sum-first}

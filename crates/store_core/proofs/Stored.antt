@@ -1,5 +1,5 @@
 -- What a store keeps of its documents and addresses after each step of a change.
-use Rattle.std.proofs.Common.{◌≡◌, ◌≢◌, ℕ, ◌+◌, ◌<◌, ◌≤◌, Bool, true, false, not, cond, List, [], ◌∷◌, ◌++◌, length, map, filter, find, sum_by, Option, None, Some, IsSome, option_map, Ok, refl, sym, ap, subst, ◌∙◌, arith}
+use Rattle.std.proofs.Common.{◌≡◌, ◌≢◌, ℕ, ◌+◌, ◌≤◌, Bool, true, false, not, cond, List, [], ◌∷◌, ◌++◌, map, filter, find, sum_by, Option, None, Some, IsSome, option_map, refl, sym, ap, subst, ◌∙◌, arith}
 use Rattle.std.proofs.lemmas.List.{append-nil, map-append}
 use Rattle.std.proofs.lemmas.List.Sums.{sum_by-append}
 use Rattle.std.proofs.lemmas.Option.{same_Some}
@@ -20,8 +20,8 @@ use Rattle.store_core.specs.declared.step.Step.TheVariants.{Make, Renew, End}
 use Rattle.store_core.specs.State.{State, first_state, retained}
 use Rattle.store_core.specs.Held.{Content, Held, Stands}
 use Rattle.store_core.specs.Keeping.{AreApart, Kept}
-use Rattle.store_core.specs.Changing.{Act, Makes, Edits, Removes, after, act_of, content_after, content_after_act, document_in, held_after, held_name, with_document, without_document}
-use Rattle.store_core.specs.Storing.{IsRenewed, IsStoring, Room, Stored, content_in, entry_of, exchanged, held_in, holder, is_among, len_in, name_in, number_in, registered, uris_in}
+use Rattle.store_core.specs.Changing.{Act, Edits, after, act_of, content_after, content_after_act, document_in, held_after, held_name, with_document}
+use Rattle.store_core.specs.Storing.{IsRenewed, IsStoring, Room, Stored, content_in, exchanged, held_in, holder, is_among, len_in, number_in, registered, uris_in}
 use Rattle.store_core.specs.Preparing.{IsPlanned, IsStepOf, Readied, Steppable, Stepped, total_of}
 use Rattle.store_core.proofs.Accepted.{find-map, sum-first, sum-mapped, sum-put}
 use Rattle.store_core.proofs.Apart.{apart-cut, apart-put, each-append, each-cut, each-left, each-right, each-weaker, one-exchanged, one-filtered}

@@ -21,7 +21,7 @@ use Rattle.store_core.specs.declared.refusal.StoreRefusal.TheVariants.{ServiceTa
 use Rattle.store_core.specs.Held.{Content, Held}
 use Rattle.store_core.specs.Keeping.{addresses_in}
 use Rattle.store_core.specs.Asking.{Asks}
-use Rattle.store_core.specs.Changing.{Act, Edits, act_of, changing, content_after, document_in, held_name, only_if, or_else}
+use Rattle.store_core.specs.Changing.{Edits, act_of, changing, content_after, document_in, held_name, only_if, or_else}
 use Rattle.store_core.specs.Storing.{IsRenewed, Stored, entry_of}
 
 -- ---- why a tree is refused, by what was found of it

@@ -1,13 +1,12 @@
 -- What a store keeps in memory, and what that stands for: the documents in order of creation, and which document holds each service
 -- address. RFC 4826, section 4.4.5 (service addresses are unique over all documents).
-use Rattle.std.specs.Prelude.{◌≡◌, ◌≢◌, ℕ, ◌+◌, ◌<◌, ◌≤◌, ◌==◌, Bool, true, false, not, List, [], ◌∷◌, ◌++◌, length, map, filter, sum_by, Option, None, Some, if◌then◌else◌}
+use Rattle.std.specs.Prelude.{◌≡◌, ℕ, ◌+◌, ◌≤◌, ◌==◌, Bool, true, false, not, List, [], ◌∷◌, ◌++◌, map, sum_by, Option, None, Some, if◌then◌else◌}
 use Rattle.std.specs.List.{AllByRecursion, list_any}
 use Rattle.std.specs.Map.{lookup}
 use Rattle.std.specs.Str.{bytes_eq}
 use Rattle.circular_buffer.specs.Buffer.{buffer}
 use Rattle.xml_tree.specs.Tree.{Tree}
 use Rattle.usage_docs.specs.Services.{document_len}
-use Rattle.xcap_uri.specs.Same.{same_id}
 use Rattle.xcap_uri.specs.declared.doc_id.DocId.{DocId}
 use Rattle.patch_record.specs.Recorded.{note_in}
 use Rattle.patch_record.specs.declared.edit_note.EditNote.{EditNote}

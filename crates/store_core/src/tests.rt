@@ -52,7 +52,10 @@ fn is_sound(alloc: Global, root: &Element) -> Result<bool, NoMemory>
     requires { height root.now ≤ 64 }
     ensures { IfOk result (λ sound. IsTrue sound → Schema usages.RlsServices root.now × Constraints usages.RlsServices root.now × Unique usages.RlsServices root.now) }
 {
-    if !schema(Usage::RlsServices, root) || !constraints(Usage::RlsServices, root) {
+    if !schema(alloc, Usage::RlsServices, root)? {
+        return Ok(false);
+    }
+    if !constraints(alloc, Usage::RlsServices, root)? {
         return Ok(false);
     }
     match first_clash(alloc, Usage::RlsServices, root)? {
@@ -147,8 +150,9 @@ fn changed(alloc: Global, uris: &[&str]) -> Result<Store, Fail> {
     Ok(store)
 }
 
-fn first_service(root: &Element) -> &str {
-    services(root).next().unwrap_or("")
+fn first_service(alloc: Global, root: &Element) -> Result<&str, NoMemory> {
+    let mut left = services(alloc, root)?;
+    Ok(left.next().unwrap_or(""))
 }
 
 // The service address and the tag of Joe's document.
@@ -156,7 +160,10 @@ fn shown(alloc: Global, store: &Store) -> Result<String, Fail> {
     let doc = index_of(alloc, JOE)?;
     let text = match store.get(&doc) {
         None => format!(in alloc; "nothing")?,
-        Some((root, tag)) => format!(in alloc; "{} {tag}", first_service(root))?,
+        Some((root, tag)) => {
+            let uri = first_service(alloc, root)?;
+            format!(in alloc; "{uri} {tag}")?
+        }
     };
     Ok(text)
 }
@@ -201,7 +208,7 @@ fn listed(alloc: Global) -> Result<String, Fail> {
     let _refusal = put_service(alloc, &mut store, "sip:ann@x", "sip:m@x")?;
     let mut text = String::new(alloc);
     for root in store.user_indexes(alloc)? {
-        text.push_str(first_service(root))?;
+        text.push_str(first_service(alloc, root)?)?;
         text.push_str(" ")?;
     }
     Ok(text)

@@ -1,5 +1,5 @@
 -- An element is where it was after it was changed.
-use Rattle.std.proofs.Common.{◌≡◌, ℕ, Bool, true, false, List, Option, Some, None, Result, Ok, Err, is_some, refl, ap, ◌∙◌}
+use Rattle.std.proofs.Common.{◌≡◌, ℕ, true, List, Option, Some, None, Result, Ok, Err, is_some, refl, ap, ◌∙◌}
 use Rattle.std.specs.Result.{OnOk, OnErr}
 use Rattle.xml_tree.specs.Tree.{Tree, at}
 use Rattle.xml_tree.specs.Edits.{change_at}

@@ -1,56 +1,70 @@
 -- An element is read: its tag, and what stands behind it.
-use Rattle.std.proofs.Common.{◌≡◌, ℕ, suc, ◌+◌, List, [], ◌∷◌, ◌++◌, length, Result, Ok, Err, refl, sym, ap, ◌∙◌, arith}
-use Rattle.grammar_rules.specs.Reading.{Stop, Syntax, Faulty, ◌>>=◌, read_judged}
+use Rattle.std.proofs.Common.{◌≡◌, ℕ, suc, ◌+◌, List, [], ◌∷◌, ◌++◌, length, Result, Ok, Err, refl, sym, subst, ap, ◌∙◌, arith}
+use Rattle.grammar_rules.specs.Reading.{Reader, Stop, Syntax, Faulty, ◌>>=◌, judgement, read_judged, read_at_most, read_many, read_valued}
 use Rattle.xml_tree.specs.Edits.{with_text}
-use Rattle.xml_tree.specs.Tree.{Content, Tree, tree_of}
-use Rattle.xml_tree.proofs.Places.{with_text-nil}
+use Rattle.xml_tree.specs.Tree.{Content, last, Tree, tree_of}
 use Rattle.xml_tree.specs.declared.names.Name.{Name}
 use Rattle.xml_tree.specs.declared.names.Decl.{Decl}
 use Rattle.tree_text.specs.declared.kind.Kind.{Kind}
 use Rattle.tree_text.specs.declared.stop.Stop.{Stop as CodeStop}
 use Rattle.tree_text.specs.declared.stop.Stop.TheVariants as stops
 use Rattle.tree_text.specs.Gives.{Fails}
-use Rattle.tree_text.specs.Members.{bare, read_bare_behind}
-use Rattle.tree_text.specs.Names.{decls_of, attrs_of, tag_fault, element_of}
-use Rattle.tree_text.specs.Pieces.{Tag, line_ends}
-use Rattle.tree_text.specs.Reading.{read_raw_run, read_chars, read_tag, read_behind_tag, read_element}
-
--- a run of nothing adds nothing
-pub no_run : (run : List ℕ) (c : Content) → length run ≡ 0 → with_text (line_ends run) c ≡ c
-no_run [] c h = with_text-nil c
-no_run (x ∷ run) c h = absurd (omega (arith, h))
-
--- other values of what is read
-pub chars_ok : (text rest cs : List ℕ) → read_raw_run text ≡ Ok (cs, rest) → read_chars text ≡ Ok (line_ends cs, rest)
-chars_ok text rest cs h = ap (λ (r : Result (List ℕ × List ℕ) (Stop Kind)). r >>= λ x. let z : List ℕ × List ℕ = (line_ends x.0, x.1) in Ok z) h
-
-abbrev bare_read : Name → Result (Content × List ℕ) (Stop Kind) → Result (Tree × List ℕ) (Stop Kind)
-bare_read n out = out >>= λ x. Ok (bare n x.0, x.1)
+use Rattle.tree_text.specs.Members.{filled, tree_with, with_chars, with_one, read_chars_onto, read_member, read_child, read_filled, read_filled_behind}
+use Rattle.tree_text.specs.Names.{decls_of, attrs_of, counted_back, first_of_tag, tag_fault, element_of}
+use Rattle.tree_text.specs.Pieces.{Markup, Inner, Tag, with_pieces}
+use Rattle.tree_text.specs.Reading.{markup_follows, read_chars, read_markup, read_tag, read_behind_tag, read_element}
+use Rattle.tree_text.proofs.Loops.{finish, start, valued_ok, valued_err, valued_stops}
 
 abbrev dressed_read : Tag → Result (Content × List ℕ) (Stop Kind) → Result (Tree × List ℕ) (Stop Kind)
 dressed_read t out = out >>= λ y. Ok (element_of (t, y.0), y.1)
 
-pub record IsBare (n : Name) (out : Result (Content × List ℕ) (Stop Kind)) (e : Tree) (rest : List ℕ) : Type 0 where
-  pub read : out ≡ Ok (e.content, rest)
-  pub is_bare : e ≡ bare n e.content
+-- an element without declarations and attributes, of this name
+abbrev bare : Name → Content → Tree
+bare n content = tree_of n [] [] content
 
-bare_by : (n : Name) (x : Content × List ℕ) (e : Tree) (rest : List ℕ) → (let p : Tree × List ℕ = (bare n x.0, x.1) in p ≡ (e, rest)) → IsBare n (Ok x) e rest
-bare_by n x e rest same =
-    let tree : bare n x.0 ≡ e = ap (λ (z : Tree × List ℕ). z.0) same in
-    let left : x.1 ≡ rest = ap (λ (z : Tree × List ℕ). z.1) same in
-    let content : x.0 ≡ e.content = ap (λ (z : Tree). z.content) tree in
-    record {
-      read = ap (λ (z : Content). let w : Content × List ℕ = (z, x.1) in Ok w) content ∙ ap (λ (z : List ℕ). let w : Content × List ℕ = (e.content, z) in Ok w) left;
-      is_bare = sym tree ∙ ap (bare n) content;
-    }
+-- # Content of an element that has none
 
-bare_of : (n : Name) (out : Result (Content × List ℕ) (Stop Kind)) (e : Tree) (rest : List ℕ) → bare_read n out ≡ Ok (e, rest) → IsBare n out e rest
-bare_of n (Ok x) e rest h = bare_by n x e rest cc
-bare_of n (Err s) e rest h = absurd cc
+module _ (inner : Reader Kind Tree) (e : Tree) (empty : e.content ≡ last []) where
+  pieces_onto : (cs : List ℕ) (out : Result (List (Markup × List ℕ) × List ℕ) (Stop Kind)) → (finish (λ a xs. with_pieces (last a) xs) cs out >>= λ x. let z : Tree × List ℕ = (filled e x.0, x.1) in Ok z) ≡ finish tree_with (record e { content = with_text cs e.content }) out
+  pieces_onto cs (Ok y) = ap (λ (z : Content). let w : Tree × List ℕ = (filled e (with_pieces (with_text cs z) y.0), y.1) in Ok w) (sym empty)
+  pieces_onto cs (Err s) = refl
 
-bare_err : (n : Name) (out : Result (Content × List ℕ) (Stop Kind)) (s : Stop Kind) → bare_read n out ≡ Err s → out ≡ Err s
-bare_err n (Ok x) s h = absurd cc
-bare_err n (Err e) s h = cc
+  -- behind the first characters, with as many pieces at most as there are characters
+  pub begins : (text left : List ℕ) (made : Tree) (most : ℕ) → most ≡ length left → read_chars_onto e text ≡ Ok (made, left) → read_filled e inner text ≡ finish tree_with made (read_at_most markup_follows (read_member inner) most left)
+  begins text left made most all h =
+      let v = valued_ok (with_chars e) (read_chars text) made left h in
+      ap (λ (r : Result (Content × List ℕ) (Stop Kind)). r >>= λ x. let z : Tree × List ℕ = (filled e x.0, x.1) in Ok z) (start markup_follows read_chars (read_markup inner) (λ x. with_pieces (last x.0) x.1) text left v.value v.read)
+      ∙ pieces_onto v.value (read_many markup_follows (read_member inner) left)
+      ∙ ap (λ (n : ℕ). finish tree_with (with_chars e v.value) (read_at_most markup_follows (read_member inner) n left)) (sym all)
+      ∙ ap (λ (z : Tree). finish tree_with z (read_at_most markup_follows (read_member inner) most left)) v.made
+
+-- one piece more of it
+pub piece_more : (e made : Tree) (m : Markup) (run : List ℕ) (xs : List (Markup × List ℕ)) → with_one e m ≡ made → tree_with e ((m, run) ∷ xs) ≡ tree_with (record made { content = with_text run made.content }) xs
+piece_more e made m run xs h = ap (λ (z : Tree). record z { content = with_pieces (with_text run z.content) xs }) h
+
+-- # Children
+
+pub child_ok : (tree : Tree) (inner : Reader Kind Tree) (text rest : List ℕ) (e : Tree) → inner text ≡ Ok (e, rest) → read_child tree inner text ≡ Ok (with_one tree (Inner e), rest)
+child_ok tree inner text rest e h = ap (λ (r : Result (Tree × List ℕ) (Stop Kind)). (r >>= λ x. let z : Markup × List ℕ = (Inner x.0, x.1) in Ok z) >>= λ x. let z : Tree × List ℕ = (with_one tree x.0, x.1) in Ok z) h
+
+pub child_stops : (tree : Tree) (inner : Reader Kind Tree) (text : List ℕ) (s : CodeStop) → Fails s (inner text) → Fails s (read_child tree inner text)
+child_stops tree inner text s h = valued_stops (with_one tree) (read_valued Inner inner) text s (valued_stops Inner inner text s h)
+
+-- # Elements
+
+-- the names of a tag are judged in the scope inside it
+module _ (scope here : List (List Decl)) (decls : List Decl) (text left : List ℕ) (t : Tag)
+    (read : read_tag text ≡ Ok (t, left)) (declared : decls ≡ decls_of t.said) (inner : here ≡ scope ++ decls ∷ []) where
+  abbrev judged : List (List Decl) → Result (Tag × List ℕ) (Stop Kind)
+  judged z = judgement text (t, left) (counted_back t.size (first_of_tag z t))
+
+  pub judged_is : read_judged (tag_fault scope) read_tag text ≡ judged here
+  judged_is =
+      let scopes : scope ++ decls_of t.said ∷ [] ≡ here = ap (λ (z : List Decl). scope ++ z ∷ []) (sym declared) ∙ sym inner in
+      ap (λ (r : Result (Tag × List ℕ) (Stop Kind)). r >>= λ x. judgement text x (tag_fault scope x.0)) read ∙ ap judged scopes
+
+  pub misjudged : (s : CodeStop) → Fails s (judged here) → Fails s (read_judged (tag_fault scope) read_tag text)
+  misjudged s h = subst (Fails s) (sym judged_is) h
 
 module _ (levels i depth : ℕ) (scope here : List (List Decl)) (decls : List Decl) (text left : List ℕ) (t : Tag) (level : levels ≡ i + 1)
     (tagged : read_judged (tag_fault scope) read_tag text ≡ Ok (t, left)) (declared : decls ≡ decls_of t.said) (inner : here ≡ scope ++ decls ∷ []) where
@@ -68,18 +82,19 @@ module _ (levels i depth : ℕ) (scope here : List (List Decl)) (decls : List De
       by_out (Ok y) = refl
       by_out (Err e) = refl
 
-  dressed_is : (e : Tree) → e ≡ bare t.name e.content → element_of (t, e.content) ≡ record e { decls = e.decls ++ decls; attrs = e.attrs ++ attrs_of t.said }
-  dressed_is e h =
-      let alike : record e { decls = e.decls ++ decls; attrs = e.attrs ++ attrs_of t.said } ≡ tree_of t.name decls (attrs_of t.said) e.content = ap (λ (z : Tree). record z { decls = z.decls ++ decls; attrs = z.attrs ++ attrs_of t.said }) h in
-      sym (alike ∙ ap (λ (z : List Decl). tree_of t.name z (attrs_of t.said) e.content) declared)
+  dressed_is : (k : Content) (e : Tree) → bare t.name k ≡ e → element_of (t, k) ≡ record e { decls = e.decls ++ decls; attrs = e.attrs ++ attrs_of t.said }
+  dressed_is k e h = ap (λ (z : List Decl). tree_of t.name z (attrs_of t.said) k) (sym declared) ∙ ap (λ (z : Tree). record z { decls = z.decls ++ decls; attrs = z.attrs ++ attrs_of t.said }) h
 
-  pub element_ok : (e : Tree) (rest : List ℕ) → read_bare_behind (read_element i here (depth + 1)) t.name t.is_empty left ≡ Ok (e, rest) → read_element levels scope depth text ≡ Ok (record e { decls = e.decls ++ decls; attrs = e.attrs ++ attrs_of t.said }, rest)
-  element_ok e rest h = let b = bare_of t.name behind e rest h in step (Ok (e.content, rest)) b.read ∙ ap (λ (z : Tree). let w : Tree × List ℕ = (z, rest) in Ok w) (dressed_is e b.is_bare)
+  pub element_ok : (e0 e : Tree) (rest : List ℕ) → e0 ≡ bare t.name (last []) → read_filled_behind e0 (read_element i here (depth + 1)) t.name t.is_empty left ≡ Ok (e, rest) → read_element levels scope depth text ≡ Ok (record e { decls = e.decls ++ decls; attrs = e.attrs ++ attrs_of t.said }, rest)
+  element_ok e0 e rest first h =
+      let v = valued_ok (filled e0) behind e rest h in
+      let is_bare : bare t.name v.value ≡ e = ap (λ (z : Tree). filled z v.value) (sym first) ∙ v.made in
+      step (Ok (v.value, rest)) v.read ∙ ap (λ (z : Tree). let w : Tree × List ℕ = (z, rest) in Ok w) (dressed_is v.value e is_bare)
 
-  pub element_err : (s : CodeStop) → Fails s (read_bare_behind (read_element i here (depth + 1)) t.name t.is_empty left) → Fails s (read_element levels scope depth text)
-  element_err stops.Memory h = tt
-  element_err (stops.Syntax rest) h = step (Err (Syntax rest.now)) (bare_err t.name behind (Syntax rest.now) h)
-  element_err (stops.Faulty kind rest) h = step (Err (Faulty kind rest.now)) (bare_err t.name behind (Faulty kind rest.now) h)
+  pub element_err : (e0 : Tree) (s : CodeStop) → Fails s (read_filled_behind e0 (read_element i here (depth + 1)) t.name t.is_empty left) → Fails s (read_element levels scope depth text)
+  element_err e0 stops.Memory h = tt
+  element_err e0 (stops.Syntax rest) h = step (Err (Syntax rest.now)) (valued_err (filled e0) behind (Syntax rest.now) h)
+  element_err e0 (stops.Faulty kind rest) h = step (Err (Faulty kind rest.now)) (valued_err (filled e0) behind (Faulty kind rest.now) h)
 
 tag_by : (levels i depth : ℕ) (scope : List (List Decl)) (text : List ℕ) (s : Stop Kind) → levels ≡ i + 1 → read_judged (tag_fault scope) read_tag text ≡ Err s → read_element levels scope depth text ≡ Err s
 tag_by levels i depth scope text s level h = let up : levels ≡ suc i = omega arith in rw up (rw h refl)
@@ -88,3 +103,18 @@ pub tag_err : (levels i depth : ℕ) (scope : List (List Decl)) (text : List ℕ
 tag_err levels i depth scope text stops.Memory level h = tt
 tag_err levels i depth scope text (stops.Syntax rest) level h = tag_by levels i depth scope text (Syntax rest.now) level h
 tag_err levels i depth scope text (stops.Faulty kind rest) level h = tag_by levels i depth scope text (Faulty kind rest.now) level h
+
+untagged_by : (levels i depth : ℕ) (scope : List (List Decl)) (text : List ℕ) (s : Stop Kind) → levels ≡ i + 1 → read_tag text ≡ Err s → read_element levels scope depth text ≡ Err s
+untagged_by levels i depth scope text s level h = tag_by levels i depth scope text s level (ap (λ (r : Result (Tag × List ℕ) (Stop Kind)). r >>= λ x. judgement text x (tag_fault scope x.0)) h)
+
+pub untagged : (levels i depth : ℕ) (scope : List (List Decl)) (text : List ℕ) (s : CodeStop) → levels ≡ i + 1 → Fails s (read_tag text) → Fails s (read_element levels scope depth text)
+untagged levels i depth scope text stops.Memory level h = tt
+untagged levels i depth scope text (stops.Syntax rest) level h = untagged_by levels i depth scope text (Syntax rest.now) level h
+untagged levels i depth scope text (stops.Faulty kind rest) level h = untagged_by levels i depth scope text (Faulty kind rest.now) level h
+
+-- where a level is left
+pub level_ok : (levels i depth : ℕ) (scope : List (List Decl)) (text rest : List ℕ) (e : Tree) → levels ≡ i + 1 → read_element (i + 1) scope depth text ≡ Ok (e, rest) → read_element levels scope depth text ≡ Ok (e, rest)
+level_ok levels i depth scope text rest e level h = ap (λ (n : ℕ). read_element n scope depth text) level ∙ h
+
+pub level_stops : (levels i depth : ℕ) (scope : List (List Decl)) (text : List ℕ) (s : CodeStop) → levels ≡ i + 1 → Fails s (read_element (i + 1) scope depth text) → Fails s (read_element levels scope depth text)
+level_stops levels i depth scope text s level h = rw level h

@@ -8,7 +8,9 @@ pub mod MeaningLemmas
 pub mod CommentLemmas
 pub mod ElementLemmas
 pub mod Told
+pub mod RawLetters
 pub mod PlainRuns
+pub mod PlainFronts
 pub mod PrintLemmas
 pub mod JudgeTags
 pub mod ReadParts
@@ -16,7 +18,6 @@ pub mod ReadTexts
 pub mod ReadElements
 pub mod ReadDocuments
 pub mod ReadBodies
-pub mod RawLetters
 pub mod ReadAnswers
 pub mod ProperTags
 pub mod ProperComments
@@ -32,4 +33,3 @@ pub mod PrintedElements
 pub mod PrintedScalars
 pub mod PrintedTexts
 pub mod UnboundScopes
-pub mod AroundLemmas

@@ -76,3 +76,34 @@ first_stops p q text (stops.Faulty kind left) h = first_fails p q text (Faulty k
 -- what is read and dropped
 pub dropped_ok : {A : Type 0} (p : Reader Kind A) (text rest : List ℕ) (a : A) → p text ≡ Ok (a, rest) → read_dropped p text ≡ Ok (tt, rest)
 dropped_ok {A} p text rest a h = ap (λ (r : Result (A × List ℕ) (Stop Kind)). r >>= λ x. let z : Unit {0} × List ℕ = (tt, x.1) in Ok z) h
+
+-- other values of what is read
+pub record IsValued {A B : Type 0} (f : A → B) (out : Result (A × List ℕ) (Stop Kind)) (b : B) (rest : List ℕ) : Type 0 where
+  pub value : A
+  pub read : out ≡ Ok (value, rest)
+  pub made : f value ≡ b
+
+valued_by : {A B : Type 0} (f : A → B) (x : A × List ℕ) (b : B) (rest : List ℕ) → (let p : B × List ℕ = (f x.0, x.1) in p ≡ (b, rest)) → IsValued f (Ok x) b rest
+valued_by {A} {B} f x b rest same = record {
+  value = x.0;
+  read = ap (λ (z : List ℕ). let w : A × List ℕ = (x.0, z) in Ok w) (ap (λ (z : B × List ℕ). z.1) same);
+  made = ap (λ (z : B × List ℕ). z.0) same;
+}
+
+pub valued_ok : {A B : Type 0} (f : A → B) (out : Result (A × List ℕ) (Stop Kind)) (b : B) (rest : List ℕ) → (out >>= λ x. let z : B × List ℕ = (f x.0, x.1) in Ok z) ≡ Ok (b, rest) → IsValued f out b rest
+valued_ok f (Ok x) b rest h = valued_by f x b rest cc
+valued_ok f (Err e) b rest h = absurd cc
+
+pub valued_err : {A B : Type 0} (f : A → B) (out : Result (A × List ℕ) (Stop Kind)) (s : Stop Kind) → (out >>= λ x. let z : B × List ℕ = (f x.0, x.1) in Ok z) ≡ Err s → out ≡ Err s
+valued_err f (Ok x) s h = absurd cc
+valued_err f (Err e) s h = cc
+
+pub valued_stops : {A B : Type 0} (f : A → B) (p : Reader Kind A) (text : List ℕ) (e : CodeStop) → Fails e (p text) → Fails e (read_valued f p text)
+valued_stops {A} {B} f p text stops.Memory h = tt
+valued_stops {A} {B} f p text (stops.Syntax left) h = ap (λ (r : Result (A × List ℕ) (Stop Kind)). r >>= λ x. let z : B × List ℕ = (f x.0, x.1) in Ok z) h
+valued_stops {A} {B} f p text (stops.Faulty kind left) h = ap (λ (r : Result (A × List ℕ) (Stop Kind)). r >>= λ x. let z : B × List ℕ = (f x.0, x.1) in Ok z) h
+
+pub valued_fails : {A B : Type 0} (f : A → B) (p : Reader Kind A) (text : List ℕ) (e : CodeStop) → Fails e (read_valued f p text) → Fails e (p text)
+valued_fails f p text stops.Memory h = tt
+valued_fails f p text (stops.Syntax left) h = valued_err f (p text) (Syntax left.now) h
+valued_fails f p text (stops.Faulty kind left) h = valued_err f (p text) (Faulty kind left.now) h

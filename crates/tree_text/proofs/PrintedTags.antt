@@ -19,7 +19,7 @@ use Rattle.grammar_rules.specs.Reading.{Reader, read_judged}
 use Rattle.tree_text.specs.Words.{less}
 use Rattle.tree_text.specs.declared.kind.Kind.{Kind}
 use Rattle.tree_text.specs.declared.said.Said.{Said}
-use Rattle.tree_text.specs.Names.{declares, decl_of, decls_of, attrs_of, inside, is_unbound, is_misnamed, says_again, is_repeated, wrong_said, first_wrong, first_of_tag, counted_back, tag_fault}
+use Rattle.tree_text.specs.Names.{declares, decl_of, decls_of, attrs_of, is_unbound, is_misnamed, says_again, is_repeated, wrong_said, first_wrong, first_of_tag, counted_back, tag_fault}
 use Rattle.tree_text.specs.Names as names
 use Rattle.tree_text.specs.Pieces.{Tag, tag_of}
 use Rattle.tree_text.specs.Reading.{read_spaces, read_said, said_follows, read_tag_end, read_tag}

@@ -17,9 +17,7 @@ use Rattle.grammar_rules.proofs.Laws.{Lawful}
 use Rattle.tree_text.specs.Words.{byte_order_mark}
 use Rattle.tree_text.specs.declared.kind.Kind.{Kind}
 use Rattle.tree_text.specs.declared.kind.Kind.TheVariants.{Depth}
-use Rattle.tree_text.specs.declared.markup.Markup.{Markup}
-use Rattle.tree_text.specs.declared.markup.Markup.TheVariants.{Reference, Section, Comment, Instruction, Inner}
-use Rattle.tree_text.specs.Pieces.{with_markup, with_pieces}
+use Rattle.tree_text.specs.Pieces.{Markup, Reference, Section, Comment, Instruction, Inner, with_markup, with_pieces}
 use Rattle.tree_text.specs.Kinds.{is_fault, faults}
 use Rattle.tree_text.specs.Names.{IsWrong, inside}
 use Rattle.tree_text.specs.Grammar.{is_raw, chars, section, markup, content, tag, end_tag, behind_tag, element, dropped, IsForeign, xml_declaration, prolog, epilog, document}

@@ -1,24 +1,53 @@
--- Letters stand raw in text.
-use Rattle.std.proofs.Common.{◌≡◌, ℕ, ◌<◌, ◌≤◌, Bool, true, false, ◌&&◌, refl, sym, ◌∙◌, arith}
-use Rattle.std.specs.Prelude.{nat_eq, nat_le}
-use Rattle.std.proofs.lemmas.Bool.{eqb-true, leb-true, le-leb}
-use Rattle.xml_tree.specs.Characters.{within}
+-- Frequent characters stand raw in text.
+use Rattle.std.proofs.Common.{◌≡◌, ℕ, ◌≤◌, ◌≢◌, Bool, true, false, ◌||◌, refl, sym, ap, ◌∙◌, arith}
+use Rattle.std.specs.Prelude.{nat_eq, nat_le, not}
+use Rattle.std.proofs.lemmas.Bool.{and_parts, eqb-true, leb-true, le-leb, ne_eqb, or_left, true≢false}
+use Rattle.xml_tree.specs.Characters.{within, is_name_start, is_joining, is_name_char}
 use Rattle.tree_text.specs.Grammar.{is_raw}
+use Rattle.tree_text.specs.Runs.{is_frequent, is_usual}
 
-differs : (c d : ℕ) → d < c → (b : Bool) → nat_eq c d ≡ b → b ≡ false
-differs c d h true e = let k = eqb-true c d e in absurd (omega (arith, h, k))
-differs c d h false e = refl
-
-raw_between : (c : ℕ) → 63 ≤ c → c ≤ 55295 → is_raw c ≡ true
-raw_between c low high =
-    rw (differs c 9 (omega (arith, low)) (nat_eq c 9) refl, differs c 10 (omega (arith, low)) (nat_eq c 10) refl, differs c 13 (omega (arith, low)) (nat_eq c 13) refl)
+raw_between : (c : ℕ) → c ≢ 60 → 39 ≤ c → c ≤ 55295 → is_raw c ≡ true
+raw_between c other low high =
+    rw (ne_eqb c 9 (λ e. omega (arith, e, low)), ne_eqb c 10 (λ e. omega (arith, e, low)), ne_eqb c 13 (λ e. omega (arith, e, low)))
     (rw (le-leb 32 c (omega (arith, low)), le-leb c 55295 high)
-    (rw (differs c 60 (omega (arith, low)) (nat_eq c 60) refl, differs c 38 (omega (arith, low)) (nat_eq c 38) refl) refl))
+    (rw (ne_eqb c 60 other, ne_eqb c 38 (λ e. omega (arith, e, low))) refl))
 
-by_tests : (c : ℕ) (a b : Bool) → nat_le 63 c ≡ a → nat_le c 55295 ≡ b → (a && b) ≡ true → is_raw c ≡ true
-by_tests c true true e f h = raw_between c (leb-true 63 c e) (leb-true c 55295 f)
-by_tests c true false e f h = absurd cc
-by_tests c false b e f h = absurd cc
+pub bounds : (low high c : ℕ) → within low high c ≡ true → (low ≤ c) × (c ≤ high)
+bounds low high c h = let b = and_parts (nat_le low c) (nat_le c high) h in (leb-true low c b.0, leb-true c high b.1)
 
-pub letter_is_raw : (c : ℕ) → within 63 55295 c ≡ true → is_raw c ≡ true
-letter_is_raw c h = by_tests c (nat_le 63 c) (nat_le c 55295) refl refl h
+pub frequent_is_raw : (c : ℕ) → is_frequent c ≡ true → is_raw c ≡ true
+frequent_is_raw c h =
+    let parts = and_parts (not (nat_eq c 60)) (within 39 55295 c) h in
+    let b = bounds 39 55295 c parts.1 in
+    raw_between c (λ e. true≢false (sym parts.0 ∙ ap (λ (z : ℕ). not (nat_eq z 60)) e)) b.0 b.1
+
+-- what stands raw in content wherever it is
+inner_by : (c : ℕ) (a d e : Bool) → within 94 55295 c ≡ a → nat_eq c 32 ≡ d → nat_eq c 10 ≡ e → ((a || d) || e) ≡ true → (is_raw c ≡ true) × (nat_eq 93 c ≡ false)
+inner_by c true d e i j k h =
+    let b = bounds 94 55295 c i in
+    let low : 94 ≤ c = b.0 in
+    (raw_between c (λ o. omega (arith, o, low)) (omega (arith, low)) b.1, ne_eqb 93 c (λ o. omega (arith, o, low)))
+inner_by c false true e i j k h = let z = eqb-true c 32 j in rw z (refl, refl)
+inner_by c false false true i j k h = let z = eqb-true c 10 k in rw z (refl, refl)
+inner_by c false false false i j k h = absurd cc
+
+inner : (c : ℕ) → is_usual c ≡ true → (is_raw c ≡ true) × (nat_eq 93 c ≡ false)
+inner c h = inner_by c (within 94 55295 c) (nat_eq c 32) (nat_eq c 10) refl refl refl h
+
+pub usual_is_raw : (c : ℕ) → is_usual c ≡ true → is_raw c ≡ true
+usual_is_raw c h = (inner c h).0
+
+pub usual_no_bracket : (c : ℕ) → is_usual c ≡ true → nat_eq 93 c ≡ false
+usual_no_bracket c h = (inner c h).1
+
+-- names begin with small letters, which stand in them too
+pub small_begins_name : (c : ℕ) → within 97 122 c ≡ true → is_name_start c ≡ true
+small_begins_name c h = rw h (rw (by (within 65 90 c) (nat_eq c 95)) refl)
+  where
+    by : (a b : Bool) → ((a || b) || true) ≡ true
+    by true b = refl
+    by false true = refl
+    by false false = refl
+
+pub small_in_name : (c : ℕ) → within 97 122 c ≡ true → is_name_char c ≡ true
+small_in_name c h = or_left (is_name_start c) (is_joining c) (small_begins_name c h)

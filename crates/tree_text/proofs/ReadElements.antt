@@ -25,8 +25,7 @@ use Rattle.grammar_rules.proofs.Tests.{failed_covers}
 use Rattle.tree_text.specs.Words.{less, greater, end_start, ampersand, section_end}
 use Rattle.tree_text.specs.declared.kind.Kind.{Kind}
 use Rattle.tree_text.specs.declared.kind.Kind.TheVariants.{Depth}
-use Rattle.tree_text.specs.declared.markup.Markup.TheVariants.{Reference, Section, Comment, Inner}
-use Rattle.tree_text.specs.Pieces.{line_ends, written, with_pieces}
+use Rattle.tree_text.specs.Pieces.{Reference, Section, Comment, Inner, line_ends, written, with_pieces}
 use Rattle.tree_text.specs.Kinds.{is_fault, faults}
 use Rattle.tree_text.specs.Names.{IsWrong, inside, element_of}
 use Rattle.tree_text.specs.Grammar.{is_raw, chars, markup, content, end_tag, tag, behind_tag, StartsTag, element}

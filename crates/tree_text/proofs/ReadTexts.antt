@@ -19,9 +19,7 @@ use Rattle.grammar_rules.proofs.Led.{Led, led_word, led_valued, led_behind, led_
 use Rattle.grammar_rules.proofs.Tests.{exact_either_head, exact_either_next, next_covers, other_covers}
 use Rattle.tree_text.specs.Words.{greater, comment_start, dashes, section_start, section_end, instruction_start, instruction_end, bang_bracket}
 use Rattle.tree_text.specs.declared.kind.Kind.{Kind}
-use Rattle.tree_text.specs.declared.markup.Markup.{Markup}
-use Rattle.tree_text.specs.declared.markup.Markup.TheVariants.{Reference, Section, Comment, Instruction, Inner}
-use Rattle.tree_text.specs.Pieces.{line_ends}
+use Rattle.tree_text.specs.Pieces.{Markup, Reference, Section, Comment, Instruction, Inner, line_ends}
 use Rattle.tree_text.specs.Grammar.{is_raw, comment, section, is_target, instructed, instruction, markup}
 use Rattle.tree_text.specs.Reading.{read_comment, read_section, read_instructed, read_instruction, read_markup}
 use Rattle.tree_text.proofs.ReadParts.{NoName, NoSpace, space_no_name, exact_name, closed_reference, starts_reference, same, apart}

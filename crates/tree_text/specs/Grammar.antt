@@ -11,10 +11,8 @@ use Rattle.grammar_rules.specs.Rules.{Rule, never, empty, one, word, run, run_wi
 use Rattle.tree_text.specs.Words.{less, greater, empty_end, end_start, equals_sign, colon, ampersand, semicolon, hash, small_x, amp, lt, gt, quot, apos, comment_start, dashes, section_start, section_end, instruction_start, instruction_end, declaration_start, version, one_dot, encoding, standalone, yes, not_alone, bang, doctype, byte_order_mark, xml, utf_8, us_ascii}
 use Rattle.tree_text.specs.declared.kind.Kind.{Kind}
 use Rattle.tree_text.specs.declared.kind.Kind.TheVariants.{Encoded, Doctyped, Depth}
-use Rattle.tree_text.specs.declared.markup.Markup.{Markup}
-use Rattle.tree_text.specs.declared.markup.Markup.TheVariants.{Reference, Section, Comment, Instruction, Inner}
 use Rattle.tree_text.specs.declared.said.Said.{Said}
-use Rattle.tree_text.specs.Pieces.{line_ends, value_of, qname_of, written, said_of, Tag, tag_of, same_letters, with_pieces}
+use Rattle.tree_text.specs.Pieces.{Markup, Reference, Section, Comment, Instruction, Inner, line_ends, value_of, qname_of, written, said_of, Tag, tag_of, same_letters, with_pieces}
 use Rattle.tree_text.specs.Names.{IsWrong, inside, element_of}
 
 -- ---- names and white space

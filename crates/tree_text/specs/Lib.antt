@@ -1,4 +1,3 @@
-pub mod Around
 pub mod Faults
 pub mod Gives
 pub mod Grammar

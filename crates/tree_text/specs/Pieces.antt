@@ -1,12 +1,10 @@
 -- What the pieces of a text say: values, the parts of a tag, and content put together from left to right.
 use Rattle.std.specs.Prelude.{ℕ, Bool, true, false, length, List, [], ◌∷◌, ◌++◌, ◌==◌, if◌then◌else◌, ◌||◌, Option, None, Some}
-use Rattle.xml_tree.specs.Tree.{Content}
+use Rattle.xml_tree.specs.Tree.{Content, Tree}
 use Rattle.xml_tree.specs.Edits.{with_text, with_elem, with_comment}
 use Rattle.xml_tree.specs.declared.names.Name.{Name}
 use Rattle.std.specs.Char.{to_ascii_lowercase}
 use Rattle.grammar_rules.specs.Reading.{head_is}
-use Rattle.tree_text.specs.declared.markup.Markup.{Markup}
-use Rattle.tree_text.specs.declared.markup.Markup.TheVariants.{Reference, Section, Comment, Instruction, Inner}
 use Rattle.tree_text.specs.declared.said.Said.{Said}
 use Rattle.tree_text.specs.Words.{colon}
 
@@ -79,6 +77,14 @@ same_letters [] [] = true
 same_letters [] (d ∷ ds) = false
 same_letters (c ∷ cs) [] = false
 same_letters (c ∷ cs) (d ∷ ds) = if to_ascii_lowercase c == d then same_letters cs ds else false
+
+-- a piece of markup, which stands between the runs of characters of content, and what it spells
+pub data Markup : Type 0 where
+  Reference : ℕ → Markup  -- a reference: its character
+  Section : List ℕ → Markup  -- a CDATA section: its text
+  Comment : List ℕ → Markup  -- a comment: its text
+  Instruction : Markup  -- a processing instruction, which spells nothing
+  Inner : Tree → Markup  -- an element
 
 -- content with a piece of markup behind it
 abbrev pub with_markup : Markup → Content → Content

@@ -10,10 +10,8 @@ use Rattle.grammar_rules.specs.Reading.{Reader, head_is, starts, spaced, read_ne
 use Rattle.tree_text.specs.Words.{less, greater, empty_end, end_start, equals_sign, colon, ampersand, semicolon, hash, small_x, amp, lt, gt, quot, apos, comment_start, dashes, section_start, section_end, instruction_start, instruction_end, declaration_start, version, one_dot, encoding, standalone, yes, not_alone, bang, bang_bracket, doctype, byte_order_mark}
 use Rattle.tree_text.specs.declared.kind.Kind.{Kind}
 use Rattle.tree_text.specs.declared.kind.Kind.TheVariants.{Encoded, Doctyped, Depth}
-use Rattle.tree_text.specs.declared.markup.Markup.{Markup}
-use Rattle.tree_text.specs.declared.markup.Markup.TheVariants.{Reference, Section, Comment, Instruction, Inner}
 use Rattle.tree_text.specs.declared.said.Said.{Said}
-use Rattle.tree_text.specs.Pieces.{line_ends, value_of, qname_of, written, said_of, Tag, tag_of, with_pieces}
+use Rattle.tree_text.specs.Pieces.{Markup, Reference, Section, Comment, Instruction, Inner, line_ends, value_of, qname_of, written, said_of, Tag, tag_of, with_pieces}
 use Rattle.tree_text.specs.Names.{inside, element_of, tag_fault}
 use Rattle.tree_text.specs.Grammar.{last_char, is_quote, is_raw, is_raw_in, is_target, is_letter, is_encoding_char, is_our_encoding}
 

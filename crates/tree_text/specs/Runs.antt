@@ -1,6 +1,7 @@
 -- How much of a text stands in front of what ends it.
-use Rattle.std.specs.Prelude.{ℕ, ◌+◌, ◌-◌, Bool, List, [], ◌∷◌, length, if◌then◌else◌, ◌==◌, not, nat_le}
-use Rattle.grammar_rules.specs.Reading.{starts}
+use Rattle.std.specs.Prelude.{◌≡◌, ℕ, ◌+◌, ◌-◌, Bool, List, [], ◌∷◌, length, if◌then◌else◌, ◌==◌, ◌&&◌, ◌||◌, not, nat_le, chars}
+use Rattle.grammar_rules.specs.Reading.{head_is, starts}
+use Rattle.xml_tree.specs.Characters.{within}
 
 -- the characters of a class
 abbrev pub run_len : (ℕ → Bool) → List ℕ → ℕ
@@ -19,3 +20,34 @@ is_no_return c = not (c == 13)
 -- a character that is read as it stands in a value: none below the space
 abbrev pub is_smooth : ℕ → Bool
 is_smooth c = nat_le 32 c
+
+abbrev pub is_ascii : ℕ → Bool
+is_ascii c = nat_le c 127
+
+-- the bytes of a text of these characters
+abbrev pub Spells : List ℕ → List ℕ → Type 0
+Spells run bytes = chars bytes ≡ run
+
+-- a character behind `&` and before the surrogates that is no `<`, so that it stands raw in values and content
+abbrev pub is_frequent : ℕ → Bool
+is_frequent c = not (c == 60) && within 39 55295 c
+
+-- what stands behind `]` and before the surrogates, a space and a line end: they stand raw in content wherever they are
+abbrev pub is_usual : ℕ → Bool
+is_usual c = within 94 55295 c || c == 32 || c == 10
+
+-- ASCII characters that stand raw in content wherever they are, and for themselves: from the space to the tilde but `&`, `<` and `]`, and a line end
+abbrev pub is_plain_in_content : ℕ → Bool
+is_plain_in_content c = within 94 126 c || c == 32 || c == 10 || within 61 92 c || within 33 37 c || within 39 59 c
+
+-- those that do so in a value between these quotes: from the space to the tilde but `&`, `<` and the quote
+abbrev pub is_plain_in_value : ℕ → ℕ → Bool
+is_plain_in_value quote c = not (c == quote) && (within 39 59 c || within 32 37 c || within 61 126 c)
+
+-- whether a `<` or a `&` follows, which ends a run of content
+abbrev pub ends_run : List ℕ → Bool
+ends_run text = head_is (λ c. c == 60 || c == 38) text
+
+-- whether the quote or a `&` follows, which ends a run in a value
+abbrev pub ends_run_in : ℕ → List ℕ → Bool
+ends_run_in quote text = head_is (λ c. c == quote || c == 38) text

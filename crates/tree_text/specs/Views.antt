@@ -17,4 +17,4 @@ name_in w = record { prefix = w.prefix.now; local = w.local.now }
 
 -- the tag that the code has read
 abbrev pub tag_in : CodeTag → Tag
-tag_in t = record { name = t.name; said = t.said.items; is_empty = t.is_empty; size = t.size }
+tag_in t = record { name = name_in t.written; said = t.said.items; is_empty = t.is_empty; size = t.size }

@@ -1,17 +1,17 @@
 //! Elements: their tags, their content, and the elements in it, no deeper than a limit.
 ghost use Rattle.std.specs.Prelude.{◌≡◌, ◌+◌, ◌-◌, ◌≤◌, ◌<◌, ◌^◌, ◌++◌, true, [], ◌∷◌, length, drop, IfOk, OnOk, Ok, Err, IsTrue};
-ghost use Rattle.grammar_rules.specs.Reading.{starts, read_judged, read_run};
+ghost use Rattle.grammar_rules.specs.Reading.{starts, judgement};
 ghost use Rattle.xml_tree.specs.Edits.{with_text};
+ghost use Rattle.xml_tree.specs.Tree.{last, tree_of};
 ghost use Rattle.tree_text.specs.Gives.{Gives, Fails};
-ghost use Rattle.tree_text.specs.Members.{MayStand, read_bare, read_bare_behind};
-ghost use Rattle.tree_text.specs.Names.{decls_of, attrs_of, first_of_tag, opening, tag_fault, widths};
-ghost use Rattle.tree_text.specs.Pieces.{line_ends, with_markup};
-ghost use Rattle.tree_text.specs.Reading.{markup_follows, read_tag, read_markup, read_element};
+ghost use Rattle.tree_text.specs.Members.{read_chars_onto, read_onto, read_child, read_filled, read_filled_behind};
+ghost use Rattle.tree_text.specs.Names.{attrs_of, counted_back, first_of_tag, opening, widths};
+ghost use Rattle.tree_text.specs.Reading.{markup_follows, read_tag, read_element};
+ghost use Rattle.tree_text.specs.Runs.{ends_run};
 ghost use Rattle.tree_text.specs.Views.{name_in, tag_in};
 
-use crate::around::Around;
+use crate::fronts::plain_in_content;
 use crate::kind::Kind;
-use crate::markup::Markup;
 use crate::names::{declares, decls_of, first_of_tag};
 use crate::parts::starts_with_name;
 use crate::pieces::{comment, instruction, section};
@@ -22,28 +22,29 @@ use crate::stop::Stop;
 use crate::tags::{Tag, whole_tag};
 use crate::texts::text_of;
 use crate::values::reference;
-use crate::written::{Written, end_tag};
+use crate::written::{end_tag, owned};
 use std::alloc::{AllocError, Global};
-use xml_tree::{Attr, Decl, Element, Name};
+use xml_tree::{Around, Attr, Decl, Declared, Element, Name};
 
-/// A tag whose names are right in the scope round it, its declarations, and what follows it.
-fn judged_tag<'a>(
+/// Stops at the first wrong name of a tag, which this follows, in the scope inside it.
+fn judged<'a>(
     alloc: Global,
     text: &'a [char],
-    scope: &Around<'_>,
-) -> Result<(Tag<'a>, Vec<Decl>, &'a [char]), Stop<'a>>
-    requires { length scope.now < 67 }
-    ensures read { Gives (λ x. (tag_in x.0, x.2.now)) result (read_judged (tag_fault scope.now) read_tag text.now) }
-    ensures decls { IfOk result (λ x. x.1.items ≡ decls_of x.0.said.items) }
-    ensures named { IfOk result (λ x. x.0.name ≡ name_in x.0.written) }
+    behind: &'a [char],
+    here: &Around<'_>,
+    name: &Name,
+    tag: &Tag<'_>,
+) -> Result<(), Stop<'a>>
+    requires named { name.now ≡ name_in tag.now.written }
+    requires opening { tag.now.opening ≡ opening (tag_in tag.now) }
+    requires sizes { tag.now.opening + widths tag.now.said.items ≤ length text.now }
+    ensures { Gives (λ _. (tag_in tag.now, behind.now)) result (judgement text.now (tag_in tag.now, behind.now) (counted_back tag.now.size (first_of_tag here.now (tag_in tag.now)))) }
 {
-    let (tag, rest) = whole_tag(alloc, text)?;
-    let decls = decls_of(alloc, &tag.said)?;
-    if let Some((kind, at)) = first_of_tag(alloc, &scope.inside(&decls), &tag)? {
-        let place = before(text, rest, tag.size.saturating_sub(at));
+    if let Some((kind, at)) = first_of_tag(alloc, here, name, tag)? {
+        let place = before(text, behind, tag.size.saturating_sub(at));
         return Err(Stop::Faulty(kind, place));
     }
-    Ok((tag, decls, rest))
+    Ok(())
 }
 
 /// Adds a character to content.
@@ -53,43 +54,44 @@ fn push_char(alloc: Global, element: &mut Element, c: char) -> Result<(), AllocE
     element.push_text(text_of(alloc, &[c])?)
 }
 
-/// Adds a run of raw characters to content, as they are read.
-#[tactic(auto, using(crate::proofs::ElementLemmas::no_run))]
-fn push_run(alloc: Global, element: &mut Element, run: &[char]) -> Result<(), AllocError>
-    ensures { OnOk result (element.new ≡ record element.old { content = with_text (line_ends run.now) element.old.content }) }
+/// Whether a `<` or a `&` follows, which ends a run.
+fn ends_run(text: &[char]) -> bool
+    ensures { result ≡ ends_run text.now }
 {
-    if run.is_empty() {
-        return Ok(());
-    }
-    element.push_text(lines(alloc, run)?)
+    matches!(text, ['<', ..] | ['&', ..])
 }
 
-/// Adds markup to content.
-fn push_markup(alloc: Global, element: &mut Element, markup: Markup) -> Result<(), AllocError>
-    requires { MayStand markup }
-    ensures { OnOk result (element.new ≡ record element.old { content = with_markup markup element.old.content }) }
-{
-    match markup {
-        Markup::Reference(c) => push_char(alloc, element, c),
-        Markup::Section(text) => element.push_text(text),
-        Markup::Comment(text) => element.push_comment(text),
-        Markup::Instruction => Ok(()),
-        Markup::Inner(inner) => element.push_elem(inner),
-    }
-}
-
-/// Adds markup and the raw characters behind it to content.
-fn push_piece(
+/// Adds a run of raw characters to content, as they are read, and answers what follows.
+fn push_mixed<'a>(
     alloc: Global,
+    text: &'a [char],
     element: &mut Element,
-    markup: Markup,
-    run: &[char],
-) -> Result<(), AllocError>
-    requires { MayStand markup }
-    ensures { OnOk result (element.new ≡ record element.old { content = with_text (line_ends run.now) (with_markup markup element.old.content) }) }
+) -> Result<&'a [char], AllocError>
+    ensures { IfOk result (λ rest. read_chars_onto element.old text.now ≡ Ok (element.new, rest.now)) }
 {
-    push_markup(alloc, element, markup)?;
-    push_run(alloc, element, run)
+    let (run, rest) = raw_run(text);
+    element.push_text(lines(alloc, run)?)?;
+    Ok(rest)
+}
+
+/// The same. Most runs are short and plain, and are read in one pass.
+fn push_run<'a>(
+    alloc: Global,
+    text: &'a [char],
+    element: &mut Element,
+) -> Result<&'a [char], AllocError>
+    ensures { IfOk result (λ rest. read_chars_onto element.old text.now ≡ Ok (element.new, rest.now)) }
+{
+    if ends_run(text) {
+        return Ok(text);
+    }
+    let mut bytes = [0; 64];
+    let (plain, rest) = plain_in_content(text, &mut bytes);
+    if ends_run(rest) {
+        element.push_chars(plain)?;
+        return Ok(rest);
+    }
+    push_mixed(alloc, text, element)
 }
 
 /// Adds declarations to an element.
@@ -128,18 +130,17 @@ fn push_attrs(element: &mut Element, said: Vec<Said>) -> Result<(), AllocError>
     Ok(())
 }
 
-/// An element with the declarations and attributes of its tag, which are moved into it.
-fn dressed(bare: Element, decls: Vec<Decl>, said: Vec<Said>) -> Result<Element, AllocError>
-    ensures { IfOk result (λ element. element ≡ record bare { decls = bare.decls ++ decls.items; attrs = bare.attrs ++ attrs_of said.items }) }
+/// Adds the declarations and attributes of its tag to an element.
+fn dress(element: &mut Element, decls: Vec<Decl>, said: Vec<Said>) -> Result<(), AllocError>
+    ensures { OnOk result (element.new ≡ record element.old { decls = element.old.decls ++ decls.items; attrs = element.old.attrs ++ attrs_of said.items }) }
 {
-    let mut element = bare;
     if !decls.is_empty() {
-        push_decls(&mut element, decls)?;
+        push_decls(element, decls)?;
     }
     if !said.is_empty() {
-        push_attrs(&mut element, said)?;
+        push_attrs(element, said)?;
     }
-    Ok(element)
+    Ok(())
 }
 
 /// Whether content goes on: a reference or a `<` follows, and no end tag.
@@ -168,97 +169,156 @@ fn no_level(text: &[char], depth: usize) -> Stop<'_>
     }
 }
 
-/// A piece of markup, and what follows it.
-#[cycle(element)]
-fn markup<'a>(
+/// Adds a piece of markup to content, and answers what follows it.
+#[cycle(nested)]
+fn push_markup<'a>(
     alloc: Global,
     text: &'a [char],
     scope: &Around<'_>,
     depth: usize,
     levels: usize,
-) -> Result<(Markup, &'a [char]), Stop<'a>>
+    element: &mut Element,
+) -> Result<&'a [char], Stop<'a>>
     requires lists { length scope.now + levels ≤ 67 }
     requires deep { depth + levels ≤ 1000 }
-    ensures read { Gives (λ x. (x.0, x.1.now)) result (read_markup (read_element levels scope.now depth) text.now) }
-    ensures may_stand { IfOk result (λ x. MayStand x.0) }
+    ensures { Gives (λ rest. (element.new, rest.now)) result (read_onto element.old (read_element levels scope.now depth) text.now) }
 {
     if let ['&', ..] = text {
         let (c, rest) = reference(text)?;
-        return Ok((Markup::Reference(c), rest));
+        push_char(alloc, element, c)?;
+        return Ok(rest);
     }
     if starts(text, &['<', '!', '[']) {
         let (chars, rest) = section(alloc, text)?;
-        return Ok((Markup::Section(chars), rest));
+        element.push_text(chars)?;
+        return Ok(rest);
     }
     if starts(text, &['<', '!']) {
         let (chars, rest) = comment(alloc, text)?;
-        return Ok((Markup::Comment(chars), rest));
+        element.push_comment(chars)?;
+        return Ok(rest);
     }
     if starts(text, &['<', '?']) {
         let rest = instruction(text)?;
-        return Ok((Markup::Instruction, rest));
+        return Ok(rest);
     }
-    let (inner, rest) = element(alloc, text, scope, depth, levels)?;
-    Ok((Markup::Inner(inner), rest))
+    push_child(alloc, text, scope, depth, levels, element)
 }
 
-/// Content, as that of an element of this name, and what follows it.
-#[cycle(element)]
+/// Adds content to an element that has none, and answers what follows it.
+#[cycle(nested)]
 fn content<'a>(
     alloc: Global,
     text: &'a [char],
     scope: &Around<'_>,
     depth: usize,
     levels: usize,
-    name: Name,
-) -> Result<(Element, &'a [char]), Stop<'a>>
+    element: &mut Element,
+) -> Result<&'a [char], Stop<'a>>
     requires lists { length scope.now + levels ≤ 67 }
     requires deep { depth + levels ≤ 1000 }
-    ensures { Gives (λ x. (x.0, x.1.now)) result (read_bare (read_element levels scope.now depth) name text.now) }
+    requires empty { element.old.content ≡ last [] }
+    ensures { Gives (λ rest. (element.new, rest.now)) result (read_filled element.old (read_element levels scope.now depth) text.now) }
 {
-    let mut element = Element::new(alloc, name);
-    let (first, start) = raw_run(text);
-    push_run(alloc, &mut element, first)?;
+    let start = push_run(alloc, text, element)?;
     let mut rest = start;
     for _ in 0..start.len() {
         if !markup_follows(rest) {
             break;
         }
-        let (markup, after) = markup(alloc, rest, scope, depth, levels)?;
-        let (run, after) = raw_run(after);
-        push_piece(alloc, &mut element, markup, run)?;
-        rest = after;
+        let after = push_markup(alloc, rest, scope, depth, levels, element)?;
+        rest = push_run(alloc, after, element)?;
     }
-    Ok((element, rest))
+    Ok(rest)
 }
 
-/// What stands behind a tag, as content of an element of its name, and what follows.
-#[cycle(element)]
+/// Adds what stands behind a tag to its element, which has no content, and answers what follows.
+#[cycle(nested)]
 fn behind_tag<'a>(
     alloc: Global,
     text: &'a [char],
     scope: &Around<'_>,
     depth: usize,
     levels: usize,
-    written: &Written<'_>,
-    name: Name,
-    is_empty: bool,
-) -> Result<(Element, &'a [char]), Stop<'a>>
+    tag: &Tag<'_>,
+    element: &mut Element,
+) -> Result<&'a [char], Stop<'a>>
     requires lists { length scope.now + levels ≤ 67 }
     requires deep { depth + levels ≤ 1000 }
-    requires named { name ≡ name_in written.now }
-    ensures { Gives (λ x. (x.0, x.1.now)) result (read_bare_behind (read_element levels scope.now depth) name is_empty text.now) }
+    requires empty { element.old.content ≡ last [] }
+    ensures { Gives (λ rest. (element.new, rest.now)) result (read_filled_behind element.old (read_element levels scope.now depth) (name_in tag.now.written) tag.now.is_empty text.now) }
 {
-    if is_empty {
-        return Ok((Element::new(alloc, name), text));
+    if tag.is_empty {
+        return Ok(text);
     }
-    let (element, rest) = content(alloc, text, scope, depth, levels, name)?;
-    let rest = end_tag(rest, written)?;
-    Ok((element, rest))
+    let rest = content(alloc, text, scope, depth, levels, element)?;
+    let rest = end_tag(rest, &tag.written)?;
+    Ok(rest)
+}
+
+/// Makes a bare element of the name of a tag that of the tag and of what stands behind it, and answers what follows.
+#[cycle(nested)]
+fn fill<'a>(
+    alloc: Global,
+    text: &'a [char],
+    behind: &'a [char],
+    scope: &Around<'_>,
+    depth: usize,
+    inner: usize,
+    tag: Tag<'_>,
+    element: &mut Element,
+) -> Result<&'a [char], Stop<'a>>
+    requires lists { length scope.now + inner < 67 }
+    requires deep { depth + inner < 1000 }
+    requires tagged { read_tag text.now ≡ Ok (tag_in tag, behind.now) }
+    requires opening { tag.opening ≡ opening (tag_in tag) }
+    requires sizes { tag.opening + widths tag.said.items ≤ length text.now }
+    requires bare { element.old ≡ tree_of (name_in tag.written) [] [] (last []) }
+    ensures { Gives (λ rest. (element.new, rest.now)) result (read_element (inner + 1) scope.now depth text.now) }
+{
+    let decls = decls_of(alloc, &tag.said)?;
+    let rest = {
+        let own = Declared::indexed(alloc, &decls)?;
+        let here = (&*scope).inside(&own);
+        judged(alloc, text, behind, &here, element.name(), &tag)?;
+        behind_tag(alloc, behind, &here, depth + 1, inner, &tag, element)?
+    };
+    let Tag {
+        written: _,
+        said,
+        is_empty: _,
+        opening: _,
+        size: _,
+    } = tag;
+    dress(element, decls, said)?;
+    Ok(rest)
+}
+
+/// Adds an element at this depth, with this many levels at most, to content, and answers what follows it.
+#[cycle(nested)]
+fn push_child<'a>(
+    alloc: Global,
+    text: &'a [char],
+    scope: &Around<'_>,
+    depth: usize,
+    levels: usize,
+    parent: &mut Element,
+) -> Result<&'a [char], Stop<'a>>
+    requires lists { length scope.now + levels ≤ 67 }
+    requires deep { depth + levels ≤ 1000 }
+    ensures { Gives (λ rest. (parent.new, rest.now)) result (read_child parent.old (read_element levels scope.now depth) text.now) }
+{
+    let Some(inner) = levels.checked_sub(1) else {
+        return Err(no_level(text, depth));
+    };
+    let (tag, behind) = whole_tag(alloc, text)?;
+    let mut element = Element::new(alloc, owned(alloc, &tag.written)?);
+    let rest = fill(alloc, text, behind, scope, depth, inner, tag, &mut element)?;
+    parent.push_elem(element)?;
+    Ok(rest)
 }
 
 /// An element at this depth, with this many levels at most, and what follows it.
-#[cycle(element)]
 pub fn element<'a>(
     alloc: Global,
     text: &'a [char],
@@ -273,24 +333,8 @@ pub fn element<'a>(
     let Some(inner) = levels.checked_sub(1) else {
         return Err(no_level(text, depth));
     };
-    let (tag, decls, rest) = judged_tag(alloc, text, scope)?;
-    let Tag {
-        written,
-        name,
-        said,
-        is_empty,
-        opening: _,
-        size: _,
-    } = tag;
-    let (bare, rest) = behind_tag(
-        alloc,
-        rest,
-        &scope.inside(&decls),
-        depth + 1,
-        inner,
-        &written,
-        name,
-        is_empty,
-    )?;
-    Ok((dressed(bare, decls, said)?, rest))
+    let (tag, behind) = whole_tag(alloc, text)?;
+    let mut element = Element::new(alloc, owned(alloc, &tag.written)?);
+    let rest = fill(alloc, text, behind, scope, depth, inner, tag, &mut element)?;
+    Ok((element, rest))
 }

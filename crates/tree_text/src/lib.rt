@@ -3,13 +3,12 @@
 //! XML 1.0 (fifth edition) and Namespaces in XML 1.0, as RFC 4825 exchanges them.
 #![tactic(auto)]
 
-mod around;
 mod bodies;
 mod declaration;
 mod elements;
 mod fault;
+mod fronts;
 mod kind;
-mod markup;
 mod meanings;
 mod names;
 mod parts;

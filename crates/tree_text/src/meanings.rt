@@ -3,10 +3,9 @@ ghost use Rattle.std.specs.Prelude.{◌≡◌, option_map, chars, encode_utf8_al
 ghost use Rattle.xml_tree.specs.Expanded.{attr_name};
 ghost use Rattle.tree_text.specs.Meanings.{Means, uri_bytes};
 
-use crate::around::Around;
 use crate::names::{declared_prefix, declares, is_nothing};
 use crate::said::Said;
-use xml_tree::{Name, Text};
+use xml_tree::{Around, Name, Text};
 
 /// What a name in a tag says. Local names are compared before namespaces, which many of them share.
 #[derive(Debug, Drop, PartialEq, Eq, PartialOrd, Ord)]

@@ -5,10 +5,9 @@ ghost use Rattle.xml_tree.specs.Scopes.{xml_prefix, xmlns_prefix, xml_uri, xmlns
 ghost use Rattle.xml_tree.specs.Proper.{may_stand};
 ghost use Rattle.tree_text.specs.Names.{declares, decl_of, decls_of, is_unbound, is_misnamed, is_repeated, wrong_said, widths, opening, first_wrong, first_of_tag};
 ghost use Rattle.tree_text.specs.Meanings.{Holds};
-ghost use Rattle.tree_text.specs.Views.{tag_in};
+ghost use Rattle.tree_text.specs.Views.{name_in, tag_in};
 ghost use Rattle.tree_text.specs.declared.said.Said.{Said};
 
-use crate::around::Around;
 use crate::kind::Kind;
 use crate::meanings::{Meaning, meaning_of};
 use crate::said::Said;
@@ -16,7 +15,7 @@ use crate::tags::Tag;
 use crate::texts::no_text;
 use std::alloc::{AllocError, Global};
 use std::collections::BTreeSet;
-use xml_tree::{Decl, Name, Text};
+use xml_tree::{Around, Decl, Name, Text};
 
 /// Whether a text is empty.
 pub fn is_nothing(text: &Text) -> bool
@@ -25,8 +24,7 @@ pub fn is_nothing(text: &Text) -> bool
     text.is("")
 }
 
-/// Whether a text is `xml`.
-pub fn is_xml(text: &Text) -> bool
+fn is_xml(text: &Text) -> bool
     ensures { result ≡ bytes_eq text.now xml_prefix }
 {
     text.is("xml")
@@ -237,17 +235,19 @@ pub fn first_wrong<'a>(
     }
 }
 
-/// The first wrong name of a tag, in the scope inside it, and how many characters of the tag stand before it.
+/// The first wrong name of a tag of this name, in the scope inside it, and how many characters of the tag stand before it.
 pub fn first_of_tag<'a>(
     alloc: Global,
     here: &Around<'a>,
+    name: &Name,
     tag: &'a Tag<'_>,
 ) -> Result<Option<(Kind, usize)>, AllocError>
+    requires named { name.now ≡ name_in tag.now.written }
     requires opening { tag.now.opening ≡ opening (tag_in tag.now) }
     requires fits { tag.now.opening + widths tag.now.said.items < 2 ^ 64 }
     ensures { IfOk result (λ found. found ≡ first_of_tag here.now (tag_in tag.now)) }
 {
-    if is_unbound(here, &tag.name) {
+    if is_unbound(here, name) {
         return Ok(Some((Kind::Unbound, 1)));
     }
     first_wrong(alloc, here, &tag.said, tag.opening)

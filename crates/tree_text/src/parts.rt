@@ -1,7 +1,7 @@
 //! Words, white space and names: the parts in which no other rule stands.
-ghost use Rattle.std.specs.Prelude.{◌≡◌, ◌+◌, ◌<◌, length, MatchResult, IfOk, IsOkAnd, Ok};
+ghost use Rattle.std.specs.Prelude.{◌≡◌, ◌+◌, ◌<◌, [], ◌∷◌, length, MatchResult, IfOk, IsOkAnd, Ok};
 ghost use Rattle.grammar_rules.specs.Reading.{head_is, after_front, read_word};
-ghost use Rattle.xml_tree.specs.Characters.{is_space, is_name_start, is_name_char};
+ghost use Rattle.xml_tree.specs.Characters.{is_space, is_name_start, is_name_char, within};
 ghost use Rattle.tree_text.specs.Gives.{Gives, Fails};
 ghost use Rattle.tree_text.specs.Runs.{run_len};
 ghost use Rattle.tree_text.specs.Reading.{read_name, read_spaces, read_some_spaces, read_equals};
@@ -9,8 +9,32 @@ ghost use Rattle.tree_text.specs.Reading.{read_name, read_spaces, read_some_spac
 use crate::stop::Stop;
 use xml_tree::{is_name_char, is_name_start, is_space};
 
-/// What follows a fixed word.
+/// What follows a fixed letter.
+#[inline(always)]
+pub fn letter(text: &[char], expected: char) -> Result<&[char], Stop<'_>>
+    ensures read { Gives (λ rest. (tt, rest.now)) result (read_word (expected ∷ []) text.now) }
+    ensures sizes { IfOk result (λ rest. 1 + length rest.now ≡ length text.now) }
+{
+    match text {
+        [found, rest @ ..] if *found == expected => Ok(rest),
+        _ => Err(Stop::Syntax(text)),
+    }
+}
+
+/// What follows a fixed word. Most words are one letter.
+#[inline(always)]
 pub fn word<'a>(text: &'a [char], word: &[char]) -> Result<&'a [char], Stop<'a>>
+    ensures read { Gives (λ rest. (tt, rest.now)) result (read_word word.now text.now) }
+    ensures sizes { IfOk result (λ rest. length word.now + length rest.now ≡ length text.now) }
+{
+    match word {
+        [first] => letter(text, *first),
+        _ => letters(text, word),
+    }
+}
+
+/// The same for words of several letters.
+fn letters<'a>(text: &'a [char], word: &[char]) -> Result<&'a [char], Stop<'a>>
     ensures read { Gives (λ rest. (tt, rest.now)) result (read_word word.now text.now) }
     ensures sizes { IfOk result (λ rest. length word.now + length rest.now ≡ length text.now) }
 {
@@ -29,14 +53,12 @@ pub fn word<'a>(text: &'a [char], word: &[char]) -> Result<&'a [char], Stop<'a>>
 fn spaces_len(text: &[char]) -> usize
     ensures { result ≡ run_len is_space text.now }
 {
-    let mut len = 0;
-    for &c in text {
+    for (i, &c) in text.iter().enumerate() {
         if !is_space(c) {
-            return len;
+            return i;
         }
-        len += 1;
     }
-    len
+    text.len()
 }
 
 /// White space, which may be absent, and what follows it.
@@ -49,18 +71,42 @@ pub fn spaces(text: &[char]) -> (&[char], &[char])
     text.split_at(spaces_len(text))
 }
 
+fn is_small_letter(c: char) -> bool
+    ensures { result ≡ within 97 122 c }
+{
+    matches!(c, 'a'..='z')
+}
+
+/// Whether a name may begin with a character. Most begin with a small letter.
+fn begins_name(c: char) -> bool
+    ensures { result ≡ is_name_start c }
+{
+    if is_small_letter(c) {
+        return true;
+    }
+    is_name_start(c)
+}
+
+/// Whether a character may stand in a name. Most are small letters.
+fn stands_in_name(c: char) -> bool
+    ensures { result ≡ is_name_char c }
+{
+    if is_small_letter(c) {
+        return true;
+    }
+    is_name_char(c)
+}
+
 #[tactic(auto, using(crate::proofs::RunLemmas::run_more, crate::proofs::RunLemmas::run_done))]
 fn name_len(text: &[char]) -> usize
     ensures { result ≡ run_len is_name_char text.now }
 {
-    let mut len = 0;
-    for &c in text {
-        if !is_name_char(c) {
-            return len;
+    for (i, &c) in text.iter().enumerate() {
+        if !stands_in_name(c) {
+            return i;
         }
-        len += 1;
     }
-    len
+    text.len()
 }
 
 /// A name, and what follows it.
@@ -71,7 +117,7 @@ pub fn name(text: &[char]) -> Result<(&[char], &[char]), Stop<'_>>
     ensures some { IfOk result (λ x. 0 < length x.0.now) }
 {
     match text {
-        [first, rest @ ..] if is_name_start(*first) => Ok(text.split_at(1 + name_len(rest))),
+        [first, rest @ ..] if begins_name(*first) => Ok(text.split_at(1 + name_len(rest))),
         _ => Err(Stop::Syntax(text)),
     }
 }
@@ -100,7 +146,7 @@ pub fn starts_with_space(text: &[char]) -> bool
 pub fn starts_with_name(text: &[char]) -> bool
     ensures { result ≡ head_is is_name_start text.now }
 {
-    matches!(text, [c, ..] if is_name_start(*c))
+    matches!(text, [c, ..] if begins_name(*c))
 }
 
 /// `=` with white space round it: the white space behind it, and what follows.
@@ -108,6 +154,6 @@ pub fn equals(text: &[char]) -> Result<(&[char], &[char]), Stop<'_>>
     ensures { Gives (λ x. (x.0.now, x.1.now)) result (read_equals text.now) }
 {
     let (_, rest) = spaces(text);
-    let rest = word(rest, &['='])?;
+    let rest = letter(rest, '=')?;
     Ok(spaces(rest))
 }

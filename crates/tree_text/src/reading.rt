@@ -10,7 +10,6 @@ ghost use Rattle.tree_text.specs.Reading.{read_text};
 ghost use Rattle.tree_text.specs.declared.fault.TextFault.TheVariants as texts;
 ghost use Rattle.tree_text.specs.declared.fault.ValueFault.TheVariants as bodies;
 
-use crate::around::Around;
 use crate::declaration::{declaration_if, mark_if};
 use crate::elements::element;
 use crate::fault::TextFault;
@@ -19,7 +18,7 @@ use crate::pieces::{epilog, prolog};
 use crate::places::place;
 use crate::stop::Stop;
 use std::alloc::{AllocError, Global};
-use xml_tree::{Element, Scope};
+use xml_tree::{Around, Element, Scope};
 
 /// The root element of a whole text, with this many levels at most.
 fn root<'a>(

@@ -1,5 +1,5 @@
 //! Runs of characters: raw ones in content, and those up to a word that ends them.
-ghost use Rattle.std.specs.Prelude.{◌≡◌, ◌+◌, ◌<◌, ◌≤◌, ◌++◌, true, [], ◌∷◌, length, OnOk, IfOk, IsTrue, Ok};
+ghost use Rattle.std.specs.Prelude.{◌≡◌, ◌==◌, ◌+◌, ◌<◌, ◌≤◌, ◌++◌, true, false, [], ◌∷◌, length, OnOk, IfOk, IsTrue, Ok};
 ghost use Rattle.grammar_rules.specs.Reading.{starts, read_up_to, read_run_without};
 ghost use Rattle.xml_tree.specs.Characters.{is_char};
 ghost use Rattle.tree_text.specs.Gives.{Gives};
@@ -7,7 +7,7 @@ ghost use Rattle.tree_text.specs.Grammar.{is_raw};
 ghost use Rattle.tree_text.specs.Pieces.{line_char, with_char, line_ends, same_letters};
 ghost use Rattle.tree_text.specs.Reading.{read_raw_run};
 ghost use Rattle.std.specs.List.{list_all};
-ghost use Rattle.tree_text.specs.Runs.{is_no_return, without_len};
+ghost use Rattle.tree_text.specs.Runs.{is_no_return, is_usual, without_len};
 ghost use Rattle.tree_text.specs.Words.{section_end};
 
 use crate::stop::Stop;
@@ -52,23 +52,38 @@ fn ends_section(text: &[char]) -> bool
     matches!(text, [']', ']', '>', ..])
 }
 
+/// Whether a character stands behind `]` and before the surrogates, or is a space or a line end.
+fn is_usual(c: char) -> bool
+    ensures { result ≡ is_usual c }
+{
+    matches!(c, '^'..='\u{D7FF}') || c == ' ' || c == '\n'
+}
+
+/// Whether a character is one of those that stand raw in content wherever they are. Most of them do.
+fn is_inner(c: char) -> bool
+    ensures raw { IsTrue result → IsTrue (is_raw c) }
+    ensures no_end { IsTrue result → (93 == c) ≡ false }
+{
+    is_usual(c)
+}
+
 /// How many raw characters of content stand in front of a `>` that would end `]]>`, or of what isn't raw.
+#[inline(never)]
 fn raw_len(text: &[char]) -> usize
     ensures { result ≡ without_len is_raw section_end text.now }
 {
-    let mut len = 0;
-    let mut rest = text;
-    while let [c, after @ ..] = rest {
-        if ends_section(rest) {
-            return len + 2;
+    for (i, &c) in text.iter().enumerate() {
+        if is_inner(c) {
+            continue;
         }
-        if !is_raw(*c) {
-            return len;
+        if ends_section(&text[i..]) {
+            return i + 2;
         }
-        len += 1;
-        rest = after;
+        if !is_raw(c) {
+            return i;
+        }
     }
-    len
+    text.len()
 }
 
 /// Raw characters of content, which may be none, and what follows them.

@@ -1,6 +1,6 @@
 //! Start tags and the tags of empty elements.
-ghost use Rattle.std.specs.Prelude.{◌≡◌, ◌+◌, ◌≤◌, length, map, IfOk, Ok};
-ghost use Rattle.grammar_rules.specs.Reading.{spaced, read_quoted};
+ghost use Rattle.std.specs.Prelude.{◌≡◌, ◌+◌, ◌≤◌, ◌++◌, ◌∷◌, [], length, map, IfOk, Ok};
+ghost use Rattle.grammar_rules.specs.Reading.{spaced, read_quoted, read_valued};
 ghost use Rattle.xml_tree.specs.Characters.{is_space, is_name_start};
 ghost use Rattle.tree_text.specs.Gives.{Gives};
 ghost use Rattle.tree_text.specs.Grammar.{is_quote};
@@ -14,14 +14,13 @@ use crate::stop::Stop;
 use crate::values::{quote, value};
 use crate::written::{Written, owned, qname};
 use std::alloc::Global;
-use xml_tree::{Name, Text};
+use xml_tree::Text;
 
 /// A start tag, or the tag of an empty element.
 #[derive(Debug, Drop)]
 pub struct Tag<'a> {
     /// Its name, as it stands in the text.
     pub written: Written<'a>,
-    pub name: Name,
     /// Its attributes and declarations, in order.
     pub said: Vec<Said>,
     pub is_empty: bool,
@@ -41,30 +40,34 @@ fn quoted(alloc: Global, text: &[char]) -> Result<(Text, &[char]), Stop<'_>>
 }
 
 /// A name, Eq and a value in quotes, and what follows them.
-fn attribute(alloc: Global, text: &[char]) -> Result<(Name, Text, &[char]), Stop<'_>>
-    ensures { Gives (λ x. ((x.0, x.1), x.2.now)) result (read_attribute text.now) }
+fn attribute(alloc: Global, text: &[char]) -> Result<(Written<'_>, Text, &[char]), Stop<'_>>
+    ensures { Gives (λ x. ((name_in x.0, x.1), x.2.now)) result (read_attribute text.now) }
 {
     let (name, rest) = qname(text)?;
     let (_, rest) = equals(rest)?;
     let (value, rest) = quoted(alloc, rest)?;
-    let name = owned(alloc, &name)?;
     Ok((name, value, rest))
 }
 
-/// An attribute behind white space, and what follows it.
-fn one_said(alloc: Global, text: &[char]) -> Result<(Said, &[char]), Stop<'_>>
-    ensures read { Gives (λ x. (x.0, x.1.now)) result (read_said text.now) }
-    ensures sizes { IfOk result (λ x. x.0.gap + x.0.size + length x.1.now ≡ length text.now) }
+/// Puts an attribute that stands behind white space behind these, and answers what follows it.
+fn push_said<'a>(
+    alloc: Global,
+    text: &'a [char],
+    all: &mut Vec<Said>,
+) -> Result<&'a [char], Stop<'a>>
+    ensures read { Gives (λ rest. (all.new.items, rest.now)) result (read_valued (λ said. all.old.items ++ said ∷ []) read_said text.now) }
+    ensures sizes { IfOk result (λ rest. widths all.new.items + length rest.now ≡ widths all.old.items + length text.now) }
 {
     let (white, from) = some_spaces(text)?;
     let (name, value, rest) = attribute(alloc, from)?;
     let said = Said {
-        name,
+        name: owned(alloc, &name)?,
         value,
         gap: white.len(),
         size: from.len() - rest.len(),
     };
-    Ok((said, rest))
+    all.push(said)?;
+    Ok(rest)
 }
 
 /// Whether an attribute follows behind white space.
@@ -89,9 +92,7 @@ fn all_said(alloc: Global, text: &[char]) -> Result<(Vec<Said>, &[char]), Stop<'
         if !said_follows(rest) {
             break;
         }
-        let (said, after) = one_said(alloc, rest)?;
-        all.push(said)?;
-        rest = after;
+        rest = push_said(alloc, rest, &mut all)?;
     }
     Ok((all, rest))
 }
@@ -116,7 +117,6 @@ fn tag_end(text: &[char]) -> Result<(bool, &[char]), Stop<'_>>
 /// A tag, and what follows it.
 pub fn whole_tag(alloc: Global, text: &[char]) -> Result<(Tag<'_>, &[char]), Stop<'_>>
     ensures read { Gives (λ x. (tag_in x.0, x.1.now)) result (read_tag text.now) }
-    ensures named { IfOk result (λ x. x.0.name ≡ name_in x.0.written) }
     ensures opening { IfOk result (λ x. x.0.opening ≡ opening (tag_in x.0)) }
     ensures sizes { IfOk result (λ x. x.0.opening + widths x.0.said.items ≤ length text.now) }
 {
@@ -126,11 +126,9 @@ pub fn whole_tag(alloc: Global, text: &[char]) -> Result<(Tag<'_>, &[char]), Sto
     let (said, rest) = all_said(alloc, rest)?;
     let (_, rest) = spaces(rest);
     let (is_empty, rest) = tag_end(rest)?;
-    let name = owned(alloc, &written)?;
     let size = text.len() - rest.len();
     let tag = Tag {
         written,
-        name,
         said,
         is_empty,
         opening,

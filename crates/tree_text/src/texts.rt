@@ -1,6 +1,8 @@
 //! Texts that are made of characters.
-ghost use Rattle.std.specs.Prelude.{◌≡◌, ◌<◌, ◌≤◌, ◌++◌, [], true, take, length, IfOk, OnOk};
-ghost use Rattle.std.specs.List.{All};
+ghost use Rattle.std.specs.Prelude.{◌≡◌, ◌≤◌, ◌++◌, [], take, chars, length, IsTrue, IfSome, IfOk, OnOk};
+ghost use Rattle.std.specs.List.{list_all};
+ghost use Rattle.std.specs.Str.{IsAscii};
+ghost use Rattle.tree_text.specs.Runs.{is_ascii, Spells};
 
 use std::alloc::{AllocError, Global};
 use xml_tree::Text;
@@ -15,19 +17,49 @@ pub fn no_text(alloc: Global) -> Text
     Text::own(String::new(alloc))
 }
 
-// Writes characters as bytes, and answers whether all are ASCII, so that they are.
-fn narrowed(chars: &[char], bytes: &mut [u8; 64]) -> bool
-    requires { length chars.now ≤ 64 }
-    ensures bytes { result ≡ true → take (length chars.now) bytes.new ≡ chars.now }
-    ensures ascii { result ≡ true → All (λ c. c < 128) chars.now }
+// Whether a character is an ASCII one.
+fn is_ascii(c: char) -> bool
+    ensures { result ≡ is_ascii c }
 {
-    for (i, &c) in chars.iter().enumerate() {
-        if !c.is_ascii() {
+    c <= '\u{7F}'
+}
+
+/// The text that the bytes in front are, which are ASCII.
+pub fn ascii(bytes: &[u8; 64], len: usize) -> &str
+    requires size { len ≤ 64 }
+    requires ascii { IsAscii (take len bytes.now) }
+    ensures { chars result.now ≡ take len bytes.now }
+{
+    // It is proved that these bytes are ASCII.
+    unsafe { str::from_utf8_unchecked(&bytes[..len]) }
+}
+
+// Writes characters as bytes, and answers whether all are ASCII, so that they are.
+fn narrowed(run: &[char], bytes: &mut [u8; 64]) -> bool
+    requires { length run.now ≤ 64 }
+    ensures bytes { IsTrue result → take (length run.now) bytes.new ≡ run.now }
+    ensures ascii { IsTrue result → IsTrue (list_all is_ascii run.now) }
+{
+    for (i, &c) in run.iter().enumerate() {
+        if !is_ascii(c) {
             return false;
         }
         bytes[i] = c as u8;
     }
     true
+}
+
+// A run as a text, where it is short and ASCII.
+fn plain<'a>(run: &[char], bytes: &'a mut [u8; 64]) -> Option<&'a str>
+    ensures { IfSome result (λ text. Spells run.now text.now) }
+{
+    if run.len() > CHUNK {
+        return None;
+    }
+    if !narrowed(run, bytes) {
+        return None;
+    }
+    Some(ascii(bytes, run.len()))
 }
 
 // Adds characters one by one.
@@ -42,16 +74,13 @@ fn push_each(text: &mut Text, chars: &[char]) -> Result<(), AllocError>
 
 // Adds a few characters, all at once where they are ASCII.
 fn push_chunk(text: &mut Text, chars: &[char]) -> Result<(), AllocError>
-    requires { length chars.now ≤ 64 }
     ensures { OnOk result (text.new ≡ text.old ++ chars.now) }
 {
     let mut bytes = [0; 64];
-    if narrowed(chars, &mut bytes) {
-        // It is proved that these bytes are ASCII.
-        let ascii = unsafe { str::from_utf8_unchecked(&bytes[..chars.len()]) };
-        return text.push_str(ascii);
+    match plain(chars, &mut bytes) {
+        Some(plain) => text.push_str(plain),
+        None => push_each(text, chars),
     }
-    push_each(text, chars)
 }
 
 /// Adds characters to a text.
@@ -69,6 +98,17 @@ pub fn push_all(text: &mut Text, chars: &[char]) -> Result<(), AllocError>
 
 /// A text of these characters.
 pub fn text_of(alloc: Global, chars: &[char]) -> Result<Text, AllocError>
+    ensures { IfOk result (λ text. text ≡ chars.now) }
+{
+    let mut bytes = [0; 64];
+    match plain(chars, &mut bytes) {
+        Some(plain) => Text::from(alloc, plain),
+        None => gathered(alloc, chars),
+    }
+}
+
+// The same, made bit by bit.
+fn gathered(alloc: Global, chars: &[char]) -> Result<Text, AllocError>
     ensures { IfOk result (λ text. text ≡ chars.now) }
 {
     let mut text = Text::with_capacity(alloc, chars.len())?;

@@ -1,15 +1,17 @@
 //! References, and values between quotes.
-ghost use Rattle.std.specs.Prelude.{◌≡◌, ◌+◌, ◌≤◌, ◌<◌, ◌++◌, true, false, [], ◌∷◌, length, map, MatchOption, OnOk, Ok, option_map};
+ghost use Rattle.std.specs.Prelude.{◌≡◌, ◌+◌, ◌≤◌, ◌<◌, ◌++◌, true, false, [], ◌∷◌, length, map, MatchOption, IfOk, OnOk, Ok, option_map};
 ghost use Rattle.grammar_rules.specs.Reading.{read_one, read_number};
-ghost use Rattle.xml_tree.specs.Characters.{is_char, within};
+ghost use Rattle.xml_tree.specs.Characters.{is_char};
 ghost use Rattle.tree_text.specs.Gives.{Gives};
 ghost use Rattle.std.specs.List.{list_all};
-ghost use Rattle.tree_text.specs.Runs.{is_smooth, run_len};
+ghost use Rattle.tree_text.specs.Runs.{is_frequent, is_smooth, run_len, ends_run_in};
 ghost use Rattle.tree_text.specs.Pieces.{line_char, with_char, blank, raw, line_ends};
+ghost use Rattle.tree_text.specs.Members.{read_blanked};
 ghost use Rattle.tree_text.specs.Views.{digits_of};
 ghost use Rattle.tree_text.specs.Grammar.{last_char, is_quote, is_raw, is_raw_in};
 ghost use Rattle.tree_text.specs.Reading.{read_stands_for, read_entity, read_numbered, read_named, read_reference, read_raw, reference_follows, read_value};
 
+use crate::fronts::plain_in_value;
 use crate::parts::word;
 use crate::stop::Stop;
 use crate::texts::push_all;
@@ -127,37 +129,35 @@ pub fn quote(text: &[char]) -> Result<(char, &[char]), Stop<'_>>
     }
 }
 
-/// Whether a character stands behind all ASCII punctuation that has a meaning, and before the surrogates.
-fn is_letter(c: char) -> bool
-    ensures { result ≡ within 63 55295 c }
+/// Whether a character stands behind the `&` and before the surrogates, and is no `<`. Most characters of values do.
+fn is_frequent(c: char) -> bool
+    ensures { result ≡ is_frequent c }
 {
-    matches!(c, '?'..='\u{D7FF}')
+    c != '<' && matches!(c, '\''..='\u{D7FF}')
 }
 
 /// Whether a character stands raw in content.
 pub fn is_raw(c: char) -> bool
     ensures { result ≡ is_raw c }
 {
-    // Most characters are letters.
-    if is_letter(c) {
+    if is_frequent(c) {
         return true;
     }
     is_char(c) && c != '<' && c != '&'
 }
 
 /// How many raw characters stand in front, in a value between these quotes.
+#[inline(never)]
 #[tactic(auto, using(crate::proofs::RunLemmas::run_more, crate::proofs::RunLemmas::run_done))]
 fn raw_len(text: &[char], quote: char) -> usize
     ensures { result ≡ run_len (is_raw_in quote) text.now }
 {
-    let mut len = 0;
-    for &c in text {
-        if !is_raw(c) || c == quote {
-            return len;
+    for (i, &c) in text.iter().enumerate() {
+        if c == quote || !is_raw(c) {
+            return i;
         }
-        len += 1;
     }
-    len
+    text.len()
 }
 
 /// The raw characters of a value between these quotes, and what follows them.
@@ -235,6 +235,15 @@ fn push_blanks(value: &mut Text, run: &[char]) -> Result<(), AllocError>
     Ok(())
 }
 
+/// The text that raw characters of a value are read as.
+fn raw_text(alloc: Global, run: &[char]) -> Result<Text, AllocError>
+    ensures { IfOk result (λ text. text ≡ raw run.now) }
+{
+    let mut text = Text::with_capacity(alloc, run.len())?;
+    push_raw(&mut text, run)?;
+    Ok(text)
+}
+
 /// Whether a reference follows.
 pub fn reference_follows(text: &[char]) -> bool
     ensures { result ≡ reference_follows text.now }
@@ -250,13 +259,34 @@ pub fn push_piece(value: &mut Text, c: char, run: &[char]) -> Result<(), AllocEr
     push_raw(value, run)
 }
 
+/// Whether the quote or a `&` follows, which ends a run.
+fn ends_run(text: &[char], quote: char) -> bool
+    ensures { result ≡ ends_run_in quote text.now }
+{
+    match text {
+        [c, ..] => *c == quote || *c == '&',
+        [] => false,
+    }
+}
+
+/// What raw characters of a value are read as, and what follows them. Most runs are short and plain, and are read in one pass.
+fn blanked(alloc: Global, text: &[char], quote: char) -> Result<(Text, &[char]), AllocError>
+    ensures { IfOk result (λ x. read_blanked quote text.now ≡ Ok (x.0, x.1.now)) }
+{
+    let mut bytes = [0; 64];
+    let (plain, rest) = plain_in_value(text, quote, &mut bytes);
+    if ends_run(rest, quote) {
+        return Ok((Text::from(alloc, plain)?, rest));
+    }
+    let (run, rest) = raw_run(text, quote);
+    Ok((raw_text(alloc, run)?, rest))
+}
+
 /// A value up to its quote, and what follows it.
 pub fn value(alloc: Global, text: &[char], quote: char) -> Result<(Text, &[char]), Stop<'_>>
     ensures { Gives (λ x. (x.0, x.1.now)) result (read_value quote text.now) }
 {
-    let (first, start) = raw_run(text, quote);
-    let mut value = Text::with_capacity(alloc, first.len())?;
-    push_raw(&mut value, first)?;
+    let (mut value, start) = blanked(alloc, text, quote)?;
     let mut rest = start;
     for _ in 0..start.len() {
         if !reference_follows(rest) {

@@ -5,8 +5,9 @@ ghost use Rattle.tree_text.specs.Gives.{Gives};
 ghost use Rattle.tree_text.specs.Pieces.{written};
 ghost use Rattle.tree_text.specs.Reading.{colon_follows, read_qname, read_end_tag};
 ghost use Rattle.tree_text.specs.Views.{name_in};
+ghost use Rattle.tree_text.specs.Words.{end_start};
 
-use crate::parts::{name, spaces, word};
+use crate::parts::{letter, name, spaces, word};
 use crate::stop::Stop;
 use crate::texts::{no_text, text_of};
 use std::alloc::{AllocError, Global};
@@ -42,7 +43,7 @@ pub fn qname(text: &[char]) -> Result<(Written<'_>, &[char]), Stop<'_>>
             rest,
         ));
     }
-    let rest = word(rest, &[':'])?;
+    let rest = letter(rest, ':')?;
     let (local, rest) = name(rest)?;
     Ok((
         Written {
@@ -62,18 +63,29 @@ fn same_name<'a>(text: &'a [char], name: &Written<'_>) -> Result<&'a [char], Sto
         return word(text, name.local);
     }
     let rest = word(text, name.prefix)?;
-    let rest = word(rest, &[':'])?;
+    let rest = letter(rest, ':')?;
     word(rest, name.local)
+}
+
+/// What follows the beginning of an end tag.
+#[inline(always)]
+fn end_start(text: &[char]) -> Result<&[char], Stop<'_>>
+    ensures { Gives (λ rest. (tt, rest.now)) result (read_word end_start text.now) }
+{
+    match text {
+        ['<', '/', rest @ ..] => Ok(rest),
+        _ => word(text, &['<', '/']),
+    }
 }
 
 /// What follows the end tag of an element of this name.
 pub fn end_tag<'a>(text: &'a [char], name: &Written<'_>) -> Result<&'a [char], Stop<'a>>
     ensures { Gives (λ rest. (tt, rest.now)) result (read_end_tag (name_in name.now) text.now) }
 {
-    let rest = word(text, &['<', '/'])?;
+    let rest = end_start(text)?;
     let rest = same_name(rest, name)?;
     let (_, rest) = spaces(rest);
-    word(rest, &['>'])
+    letter(rest, '>')
 }
 
 /// A prefix that owns its characters. Most names have none.

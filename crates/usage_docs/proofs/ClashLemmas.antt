@@ -7,6 +7,8 @@ use Rattle.xml_tree.specs.Tree.{Content, last, more, note, Tree, kids, kids_of}
 use Rattle.xml_tree.specs.Edits.{before}
 use Rattle.xml_tree.specs.Nodes.{content_of}
 use Rattle.xml_tree.specs.declared.names.Attr.{Attr}
+use Rattle.xml_tree.specs.declared.names.Decl.{Decl}
+use Rattle.xml_tree.specs.declared.names.Name.{Name}
 use Rattle.xml_tree.specs.declared.tree.Node.{Node}
 use Rattle.xml_tree.specs.declared.tree.Node.TheVariants.{Elem, Chars, Comment}
 use Rattle.usage_docs.specs.declared.rows.Kind.{Kind}
@@ -16,6 +18,14 @@ use Rattle.usage_docs.specs.Rows.{Scope, kind_of}
 use Rattle.usage_docs.specs.Keys.{key_of, value_of, key_value}
 use Rattle.usage_docs.specs.Clashes.{inside, Mark, mark, mark_of, mark_at, RepeatsAt, NoLater}
 use Rattle.usage_docs.specs.Siblings.{node_kids, marks_of, IsAmong, RepeatsHere, IsFirst, RepeatedKey}
+
+-- ---- an element in the scope inside it
+
+pub scope_is : (c : Scope) (e : Tree) (found : Scope) (own ds : List Decl) → found ≡ c ++ own ∷ [] → own ≡ ds → ds ≡ e.decls → found ≡ inside c e
+scope_is c e found own ds is own_is ds_is = is ∙ ap (λ (l : List Decl). c ++ l ∷ []) (own_is ∙ ds_is)
+
+pub kind_is : (row : Kind) (c : Scope) (e : Tree) (found : Scope) (n : Name) (o kind : Option Kind) → o ≡ kind_of row found n → found ≡ inside c e → n ≡ e.name → o ≡ kind → kind_of row (inside c e) e.name ≡ kind
+kind_is row c e found n o kind is scope named was = sym (is ∙ ap (λ (x : Scope). kind_of row x n) scope ∙ ap (kind_of row (inside c e)) named) ∙ was
 
 -- ---- marks
 

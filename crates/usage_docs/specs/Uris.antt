@@ -14,4 +14,4 @@ node_uri c (Comment x) = None
 
 -- the addresses that are still to come
 abbrev pub uris_left : ServiceUris → List (List ℕ)
-uris_left s = filter_map (node_uri (s.decls.now ∷ [])) s.nodes.now
+uris_left s = filter_map (node_uri (s.declared ∷ [])) s.nodes.now

@@ -1,6 +1,6 @@
 -- Which documents are valid: every element of a kind holds what its row of the table says.
 -- RFC 4826, sections 3.2 and 4.2. What stands inside a foreign element is not looked at.
-use Rattle.std.specs.Prelude.{ℕ, Bool, true, false, List, [], ◌∷◌, ◌++◌, ◌||◌, IsTrue}
+use Rattle.std.specs.Prelude.{◌≡◌, ℕ, Bool, true, false, List, [], ◌∷◌, ◌++◌, Option, None, Some, ◌||◌, IsTrue}
 use Rattle.std.specs.List.{list_all}
 use Rattle.std.specs.Option.{ForSome}
 use Rattle.xml_tree.specs.Characters.{is_space}
@@ -69,3 +69,8 @@ abbrev pub IsNodeValid : Kind → Scope → ℕ → Node → Type 0
 IsNodeValid row c before (Elem e) = IsTrue (follows row before (part_of row (c ++ e.decls ∷ []) e.name)) × ValidChild row c e
 IsNodeValid row c before (Chars t) = IsTrue (text_passes row t)
 IsNodeValid row c before (Comment x) = Unit {0}
+
+-- what a walk over nodes finds at one of them: the part before the next node, where the node may stand and is valid by itself
+abbrev pub IsNextPart : Kind → Scope → ℕ → Node → Option ℕ → Type 0
+IsNextPart row c before n None = IsNodeValid row c before n → ⊥
+IsNextPart row c before n (Some part) = IsNodeValid row c before n × (part ≡ part_behind row c before n)

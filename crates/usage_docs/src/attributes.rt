@@ -5,7 +5,7 @@ ghost use Rattle.usage_docs.specs.Words.{is_ascii};
 ghost use Rattle.usage_docs.specs.Keys.{word, key_of, is_optional, is_key, value_of, key_value, is_other_space, attr_passes, has_needed, attrs_pass, space_of_attr, is_own_word};
 
 use crate::rows::{Key, Kind, is_word, lists_space, services_space};
-use xml_tree::{Attr, Scope, Text};
+use xml_tree::{Around, Attr, Text};
 
 impl Key {
     /// The local name of the attribute. Takes no memory.
@@ -88,10 +88,10 @@ pub fn key_value<'a>(kind: Kind, attrs: &'a [Attr]) -> Option<&'a str>
 }
 
 // The namespace of a prefixed attribute.
-fn space_of<'a>(scope: &Scope<'a>, attr: &Attr) -> &'a str
+fn space_of<'a>(scope: &Around<'a>, attr: &Attr) -> &'a str
     ensures { chars result.now ≡ space_of_attr scope.now attr.now }
 {
-    match scope.resolve(attr.name.prefix.as_str()) {
+    match scope.resolve(&attr.name.prefix) {
         Some(space) => space,
         None => "",
     }
@@ -116,7 +116,7 @@ fn is_own_word(row: Kind, local: &str) -> bool
 
 // Whether an attribute may stand in an element of this row.
 #[tactic(auto, unfolding(crate::specs::Keys::attr_passes))]
-fn attr_passes(row: Kind, scope: &Scope<'_>, attr: &Attr) -> bool
+fn attr_passes(row: Kind, scope: &Around<'_>, attr: &Attr) -> bool
     ensures { result ≡ attr_passes row scope.now attr.now }
 {
     if is_word(attr.name.prefix.as_str(), "") {
@@ -144,7 +144,7 @@ fn has_value(key: Key, attrs: &[Attr]) -> bool
 }
 
 // Whether each attribute may stand in an element of this row.
-fn all_pass(row: Kind, scope: &Scope<'_>, attrs: &[Attr]) -> bool
+fn all_pass(row: Kind, scope: &Around<'_>, attrs: &[Attr]) -> bool
     ensures { result ≡ list_all (attr_passes row scope.now) attrs.now }
 {
     for attr in attrs {
@@ -158,7 +158,7 @@ fn all_pass(row: Kind, scope: &Scope<'_>, attrs: &[Attr]) -> bool
 /// Whether these may be the attributes of an element of this row, in the scope that ends with its own declarations.
 /// Takes no memory.
 #[tactic(auto, unfolding(crate::specs::Keys::attrs_pass))]
-pub fn attrs_pass(row: Kind, scope: &Scope<'_>, attrs: &[Attr]) -> bool
+pub fn attrs_pass(row: Kind, scope: &Around<'_>, attrs: &[Attr]) -> bool
     ensures { result ≡ attrs_pass row scope.now attrs.now }
 {
     all_pass(row, scope, attrs) && has_needed(row, attrs)

@@ -1,8 +1,6 @@
 //! The form of references (RFC 4826, sections 3.4.5 and 4.4.5).
-ghost use Rattle.std.specs.Prelude.{◌≡◌, ◌≤◌, ◌+◌, length, true, IsTrue, ◌↔◌};
+ghost use Rattle.std.specs.Prelude.{◌≡◌, true, IsTrue, ◌↔◌, IfOk};
 ghost use Rattle.std.specs.Option.{option_map_or};
-ghost use Rattle.xml_tree.specs.Tree.{height, content_height};
-ghost use Rattle.xml_tree.specs.Nodes.{node_height};
 ghost use Rattle.xml_tree.specs.declared.tree.Node.TheVariants.{Elem};
 ghost use Rattle.usage_docs.specs.declared.rows.Key.TheVariants.{Ref, Anchor};
 ghost use Rattle.usage_docs.specs.Keys.{value_of};
@@ -11,7 +9,9 @@ ghost use Rattle.usage_docs.specs.Forms.{is_http, is_reference, is_formed, AllFo
 use crate::attributes::value_of;
 use crate::letters::{is_http, is_http_inside, is_reference};
 use crate::rows::{Key, Kind, Usage, kind_of, root_kind};
-use xml_tree::{Attr, Element, Node, Scope};
+use crate::scopes::scope_inside;
+use std::alloc::Global;
+use xml_tree::{Around, Attr, Declared, Element, NoMemory, Node};
 
 // Whether `ref`, if it is there, has its form.
 fn is_ref_formed(attrs: &[Attr]) -> bool
@@ -48,56 +48,76 @@ pub fn is_formed(kind: Kind, element: &Element) -> bool
 }
 
 /// Whether the references of all elements in an element of this row have their form, in the scope inside it.
-/// Takes no memory.
+///
+/// # Errors
+/// `NoMemory` for want of memory.
 #[cycle(forms)]
-pub fn all_formed<'a>(row: Kind, scope: &Scope<'a>, element: &'a Element) -> bool
-    requires { length scope.now + content_height element.now.content ≤ 67 }
-    ensures { IsTrue result ↔ AllFormed row scope.now element.now.content }
+pub fn all_formed(
+    alloc: Global,
+    row: Kind,
+    scope: &Around<'_>,
+    element: &Element,
+) -> Result<bool, NoMemory>
+    ensures { IfOk result (λ formed. IsTrue formed ↔ AllFormed row scope.now element.now.content) }
 {
     for node in element.nodes() {
-        if !is_node_formed(row, scope, node) {
-            return false;
+        if !is_node_formed(alloc, row, scope, node)? {
+            return Ok(false);
         }
     }
-    true
+    Ok(true)
 }
 
 // Whether those in a node, and its own, have it.
 #[cycle(forms)]
-fn is_node_formed<'a>(row: Kind, scope: &Scope<'a>, node: &'a Node) -> bool
-    requires { length scope.now + node_height node.now ≤ 67 }
-    ensures { IsTrue result ↔ IsNodeFormed row scope.now node.now }
+fn is_node_formed(
+    alloc: Global,
+    row: Kind,
+    scope: &Around<'_>,
+    node: &Node,
+) -> Result<bool, NoMemory>
+    ensures { IfOk result (λ formed. IsTrue formed ↔ IsNodeFormed row scope.now node.now) }
 {
     match node {
-        Node::Elem(kid) => is_kid_formed(row, scope, kid),
-        Node::Chars(_) => true,
-        Node::Comment(_) => true,
+        Node::Elem(kid) => is_kid_formed(alloc, row, scope, kid),
+        Node::Chars(_) => Ok(true),
+        Node::Comment(_) => Ok(true),
     }
 }
 
 // The same of an element.
 #[cycle(forms)]
-fn is_kid_formed<'a>(row: Kind, scope: &Scope<'a>, kid: &'a Element) -> bool
-    requires { length scope.now + height kid.now ≤ 67 }
-    ensures { IsTrue result ↔ IsNodeFormed row scope.now (Elem kid.now) }
+fn is_kid_formed(
+    alloc: Global,
+    row: Kind,
+    scope: &Around<'_>,
+    kid: &Element,
+) -> Result<bool, NoMemory>
+    ensures { IfOk result (λ formed. IsTrue formed ↔ IsNodeFormed row scope.now (Elem kid.now)) }
 {
-    let inside = scope.with(kid.decls());
-    match kind_of(row, &inside, kid.name()) {
-        Some(kind) => {
-            if !is_formed(kind, kid) {
-                return false;
-            }
-            all_formed(kind, &inside, kid)
-        }
-        None => true,
+    let declared = Declared::indexed(alloc, kid.decls())?;
+    let inside = scope_inside(&*scope, &declared);
+    let Some(kind) = kind_of(row, &inside, kid.name()) else {
+        return Ok(true);
+    };
+    if !is_formed(kind, kid) {
+        return Ok(false);
     }
+    all_formed(alloc, kind, &inside, kid)
 }
 
-/// Whether every `ref`, `anchor` and `resource-list` of a document has its form. Takes no memory.
-pub fn constraints(usage: Usage, root: &Element) -> bool
-    requires { height root.now ≤ 64 }
-    ensures { IsTrue result ↔ Constraints usage root.now }
+/// Whether every `ref`, `anchor` and `resource-list` of a document has its form.
+///
+/// # Errors
+/// `NoMemory` for want of memory.
+pub fn constraints(alloc: Global, usage: Usage, root: &Element) -> Result<bool, NoMemory>
+    ensures { IfOk result (λ formed. IsTrue formed ↔ Constraints usage root.now) }
 {
-    let scope = Scope::empty().with(root.decls());
-    all_formed(root_kind(usage), &scope, root)
+    let declared = Declared::indexed(alloc, root.decls())?;
+    all_formed(
+        alloc,
+        root_kind(usage),
+        &scope_inside(&Around::empty(), &declared),
+        root,
+    )
 }

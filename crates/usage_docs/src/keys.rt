@@ -6,9 +6,10 @@ ghost use Rattle.usage_docs.specs.Siblings.{IsAmong, Holds, marks_of, own_marks,
 
 use crate::attributes::{key_of, text_of};
 use crate::rows::{Key, Kind, Usage, kind_of, root_kind};
+use crate::scopes::scope_inside;
 use std::alloc::Global;
 use std::collections::BTreeSet;
-use xml_tree::{Attr, Element, NoMemory, Node, Path, Scope, Text};
+use xml_tree::{Around, Attr, Declared, Element, NoMemory, Node, Path, Text};
 
 /// An element whose key equals that of an earlier sibling of its kind.
 #[derive(Debug, Drop)]
@@ -65,17 +66,17 @@ fn repeated_key<'a>(
 fn clash_at<'a>(
     alloc: Global,
     row: Kind,
-    scope: &Scope<'a>,
+    scope: &Around<'_>,
     seen: &mut BTreeSet<Keyed<'a>>,
     kid: &'a Element,
     here: Path,
 ) -> Result<Option<Clash>, NoMemory>
-    requires lists { length scope.now + height kid.now ≤ 67 }
-    requires numbers { length here + content_height kid.now.content ≤ 64 }
+    requires { length here + content_height kid.now.content ≤ 64 }
     ensures first { (ms : List Mark) → Holds ms seen.old → IfOk result (λ found. IsFirst (RepeatsHere row scope.now ms kid.now) here found) }
     ensures holds { (ms : List Mark) → Holds ms seen.old → IfOk result (λ found. found ≡ None → Holds (ms ++ marks_of row scope.now (kid.now ∷ [])) seen.new) }
 {
-    let inside = scope.with(kid.decls());
+    let declared = Declared::indexed(alloc, kid.decls())?;
+    let inside = scope_inside(&*scope, &declared);
     let Some(kind) = kind_of(row, &inside, kid.name()) else {
         return Ok(None);
     };
@@ -87,15 +88,14 @@ fn clash_at<'a>(
 
 // The first clash below an element of this row, in the scope inside it.
 #[cycle(clashes)]
-fn clash_inside<'a>(
+fn clash_inside(
     alloc: Global,
     row: Kind,
-    scope: &Scope<'a>,
-    element: &'a Element,
+    scope: &Around<'_>,
+    element: &Element,
     path: &Path,
 ) -> Result<Option<Clash>, NoMemory>
-    requires lists { length scope.now + content_height element.now.content ≤ 67 }
-    requires numbers { length path.now + content_height element.now.content ≤ 64 }
+    requires { length path.now + content_height element.now.content ≤ 64 }
     ensures { IfOk result (λ found. IsFirst (RepeatsAt row scope.now (kids_of element.now)) path.now found) }
 {
     let nodes = element.nodes();
@@ -122,6 +122,12 @@ pub fn first_clash(alloc: Global, usage: Usage, root: &Element) -> Result<Option
     requires { height root.now ≤ 64 }
     ensures { IfOk result (λ found. IsFirstClash usage root.now found) }
 {
-    let scope = Scope::empty().with(root.decls());
-    clash_inside(alloc, root_kind(usage), &scope, root, &Path::root())
+    let declared = Declared::indexed(alloc, root.decls())?;
+    clash_inside(
+        alloc,
+        root_kind(usage),
+        &scope_inside(&Around::empty(), &declared),
+        root,
+        &Path::root(),
+    )
 }

@@ -12,6 +12,7 @@ mod letters;
 mod listing;
 mod making;
 mod rows;
+mod scopes;
 mod uris;
 mod validity;
 

@@ -1,5 +1,5 @@
 //! The index of the services of many documents (RFC 4826, section 4).
-ghost use Rattle.std.specs.Prelude.{◌≡◌, ◌≤◌, ◌+◌, ◌∷◌, [], ◌++◌, map, min, length, IfOk, IfErr, OnOk, OnErr};
+ghost use Rattle.std.specs.Prelude.{◌≡◌, ◌≤◌, ◌+◌, ◌∷◌, [], ◌++◌, map, min, IfOk, IfErr, OnOk, OnErr};
 ghost use Rattle.xml_tree.specs.declared.tree.Node.TheVariants.{Elem};
 ghost use Rattle.usage_docs.specs.declared.listing.IndexFault.TheVariants as IndexFault;
 ghost use Rattle.usage_docs.specs.Services.{is_service, listed_as, listed, index_of};
@@ -8,9 +8,10 @@ ghost use Rattle.usage_docs.specs.Indexes.{len_with};
 
 use crate::making::{declaration, name};
 use crate::rows::{Kind, kind_of, services_space};
+use crate::scopes::scope_inside;
 use std::alloc::Global;
 use std::marker::Model;
-use xml_tree::{Element, NoMemory, Node, Scope, copy_tree, printed_len};
+use xml_tree::{Around, Decl, Declared, Element, NoMemory, Node, Scope, copy_tree, printed_len};
 
 /// Why a document's services can't be added to an index.
 #[derive(Debug, Drop)]
@@ -62,54 +63,63 @@ impl Model for IndexMaker {
     ghost invariant = { λ m. IsIndex m.root m.inner };
 }
 
-// Whether a child of a root, in the scope inside the root, is a service.
-fn is_service<'a>(scope: &Scope<'a>, kid: &'a Element) -> bool
-    requires { length scope.now ≤ 1 }
+/// Whether a child of a root, in the scope inside the root, is a service. Takes no memory.
+pub(crate) fn is_service(alloc: Global, scope: &Around<'_>, kid: &Element) -> bool
     ensures { result ≡ is_service scope.now kid.now }
 {
-    let inside = scope.with(kid.decls());
+    let declared = Declared::new(alloc, kid.decls());
+    let inside = scope_inside(scope, &declared);
     kind_of(Kind::RlsServices, &inside, kid.name()).is_some()
 }
 
-// A service as the index shows it.
-fn listed_as<'a>(alloc: Global, scope: &Scope<'a>, kid: &'a Element) -> Result<Element, NoMemory>
-    requires { length scope.now ≤ 1 }
-    ensures { IfOk result (λ made. made ≡ listed_as scope.now kid.now) }
+// A service of a root with these declarations, as the index shows it.
+fn listed_as(alloc: Global, decls: &[Decl], kid: &Element) -> Result<Element, NoMemory>
+    ensures { IfOk result (λ made. made ≡ listed_as (decls.now ∷ []) kid.now) }
 {
+    let scope = Scope::empty().with(decls);
     let bindings = scope.with(kid.decls()).bindings(alloc)?;
     let mut made = copy_tree(alloc, kid)?;
     let _ = made.exchange_decls(bindings);
     Ok(made)
 }
 
-// Adds a node to services as the index shows them, if it is one.
-fn push_listed<'a>(
+// Adds a node of a root with these declarations to services as the index shows them, if it is one.
+fn push_listed(
     alloc: Global,
-    scope: &Scope<'a>,
-    node: &'a Node,
+    decls: &[Decl],
+    scope: &Around<'_>,
+    node: &Node,
     made: &mut Vec<Node>,
 ) -> Result<(), NoMemory>
-    requires { length scope.now ≤ 1 }
+    requires { scope.now ≡ decls.now ∷ [] }
     ensures { OnOk result (made.new.items ≡ made.old.items ++ listed_nodes scope.now (node.now ∷ [])) }
 {
     if let Node::Elem(kid) = node {
-        if is_service(scope, kid) {
-            made.push(Node::Elem(listed_as(alloc, scope, kid)?))?;
+        if is_service(alloc, scope, kid) {
+            made.push(Node::Elem(listed_as(alloc, decls, kid)?))?;
         }
     }
     Ok(())
+}
+
+// The services of a root, in the scope inside it, as the index shows them.
+fn listed_in(alloc: Global, scope: &Around<'_>, root: &Element) -> Result<Vec<Node>, NoMemory>
+    requires { scope.now ≡ root.now.decls ∷ [] }
+    ensures { IfOk result (λ made. made.items ≡ map Elem (listed root.now)) }
+{
+    let mut made = Vec::new(alloc);
+    for node in root.nodes() {
+        push_listed(alloc, root.decls(), scope, node, &mut made)?;
+    }
+    Ok(made)
 }
 
 // The services of a document, as the index shows them.
 fn listed(alloc: Global, root: &Element) -> Result<Vec<Node>, NoMemory>
     ensures { IfOk result (λ made. made.items ≡ map Elem (listed root.now)) }
 {
-    let scope = Scope::empty().with(root.decls());
-    let mut made = Vec::new(alloc);
-    for node in root.nodes() {
-        push_listed(alloc, &scope, node, &mut made)?;
-    }
-    Ok(made)
+    let declared = Declared::indexed(alloc, root.decls())?;
+    listed_in(alloc, &scope_inside(&Around::empty(), &declared), root)
 }
 
 // The printed length of an element that is a node.

@@ -5,7 +5,7 @@ ghost use Rattle.std.specs.Str.{bytes_eq};
 ghost use Rattle.usage_docs.specs.declared.rows.Kind.TheVariants as Kind;
 ghost use Rattle.usage_docs.specs.Rows.{lists_space, services_space, root_kind, root_word, own_space, child_named, part_named, foreign_part, single_parts, needs_first, follows, space_of, kind_by, is_foreign, part_by, kind_of, part_of, is_root};
 
-use xml_tree::{Name, Scope, Text};
+use xml_tree::{Around, Name, Text};
 
 /// A type of document that is stored.
 #[derive(Debug, Clone, Copy, PartialEq, Eq)]
@@ -232,10 +232,10 @@ pub fn follows(row: Kind, before: u8, next: u8) -> bool
 pub const END: u8 = 4;
 
 // The namespace of an element's name, in the scope that ends with its own declarations.
-fn space_of<'a>(scope: &Scope<'a>, name: &Name) -> &'a str
+fn space_of<'a>(scope: &Around<'a>, name: &Name) -> &'a str
     ensures { chars result.now ≡ space_of scope.now name.now }
 {
-    match scope.resolve(name.prefix.as_str()) {
+    match scope.resolve(&name.prefix) {
         Some(space) => space,
         None => "",
     }
@@ -270,7 +270,7 @@ fn is_foreign(row: Kind, space: &str) -> bool
 /// The kind of a child, by the row of its parent and the scope that ends with its own declarations. Foreign elements and
 /// those that may not stand have none. Takes no memory.
 #[tactic(auto, unfolding(crate::specs::Rows::kind_of))]
-pub fn kind_of(row: Kind, scope: &Scope<'_>, name: &Name) -> Option<Kind>
+pub fn kind_of(row: Kind, scope: &Around<'_>, name: &Name) -> Option<Kind>
     ensures { result ≡ kind_of row scope.now name.now }
 {
     kind_by(row, space_of(scope, name), &name.local)
@@ -278,7 +278,7 @@ pub fn kind_of(row: Kind, scope: &Scope<'_>, name: &Name) -> Option<Kind>
 
 /// The part that a child belongs to, counted from 1; 0 where it may not stand. Takes no memory.
 #[tactic(auto, unfolding(crate::specs::Rows::part_of))]
-pub fn part_of(row: Kind, scope: &Scope<'_>, name: &Name) -> u8
+pub fn part_of(row: Kind, scope: &Around<'_>, name: &Name) -> u8
     ensures { result ≡ part_of row scope.now name.now }
 {
     let space = space_of(scope, name);
@@ -301,7 +301,7 @@ fn part_without_kind(row: Kind, space: &str) -> u8
 
 /// Whether a name is that of a document's root, in the scope of the root's declarations. Takes no memory.
 #[tactic(auto, unfolding(crate::specs::Rows::is_root))]
-pub fn is_root(usage: Usage, scope: &Scope<'_>, name: &Name) -> bool
+pub fn is_root(usage: Usage, scope: &Around<'_>, name: &Name) -> bool
     ensures { result ≡ is_root usage scope.now name.now }
 {
     is_word(space_of(scope, name), own_space(root_kind(usage)))

@@ -4,7 +4,15 @@ use std::alloc::Global;
 use std::test::Fail;
 use xml_tree::{Attr, Decl, Element, Name, NoMemory, Text, depth, printed_len};
 
+const LISTS: &str = "urn:ietf:params:xml:ns:resource-lists";
+
 const SERVICES: &str = "urn:ietf:params:xml:ns:rls-services";
+
+// Prefixes of attributes.
+const PREFIXES: [&str; 20] = [
+    "a", "b", "c", "d", "e", "f", "g", "h", "i", "j", "k", "l", "m", "n", "o", "p", "q", "r", "s",
+    "t",
+];
 
 // A name without a prefix.
 fn name(alloc: Global, local: &str) -> Result<Name, NoMemory> {
@@ -22,6 +30,13 @@ fn keyed(alloc: Global, local: &str, key: &str, value: &str) -> Result<Element, 
     Ok(made)
 }
 
+// Binds a prefix in an element.
+fn declare(alloc: Global, element: &mut Element, prefix: &str, uri: &str) -> Result<(), NoMemory> {
+    let prefix = Text::from(alloc, prefix)?;
+    let uri = Text::from(alloc, uri)?;
+    element.push_decl(Decl { prefix, uri })
+}
+
 // A service whose list is at an address.
 fn service(alloc: Global, uri: &str, address: &str) -> Result<Element, NoMemory> {
     let mut list = Element::new(alloc, name(alloc, "resource-list")?);
@@ -34,10 +49,35 @@ fn service(alloc: Global, uri: &str, address: &str) -> Result<Element, NoMemory>
 // An rls-services document without services.
 fn document(alloc: Global) -> Result<Element, NoMemory> {
     let mut made = Element::new(alloc, name(alloc, "rls-services")?);
-    let prefix = Text::from(alloc, "")?;
-    let uri = Text::from(alloc, SERVICES)?;
-    made.push_decl(Decl { prefix, uri })?;
+    declare(alloc, &mut made, "", SERVICES)?;
     Ok(made)
+}
+
+// An entry with an attribute of each of the prefixes.
+fn marked_entry(alloc: Global) -> Result<Element, NoMemory> {
+    let mut made = keyed(alloc, "entry", "uri", "sip:a@x")?;
+    for prefix in PREFIXES {
+        let prefix = Text::from(alloc, prefix)?;
+        let local = Text::from(alloc, "mark")?;
+        let name = Name { prefix, local };
+        let value = Text::from(alloc, "")?;
+        made.push_attr(Attr { name, value })?;
+    }
+    Ok(made)
+}
+
+// A resource-lists document of one list with such an entry. The root binds `k` to this URI, and each other prefix to its own.
+fn marked_lists(alloc: Global, of_k: &str) -> Result<Element, NoMemory> {
+    let mut root = Element::new(alloc, name(alloc, "resource-lists")?);
+    declare(alloc, &mut root, "", LISTS)?;
+    for prefix in PREFIXES {
+        let uri = if prefix == "k" { of_k } else { prefix };
+        declare(alloc, &mut root, prefix, uri)?;
+    }
+    let mut list = Element::new(alloc, name(alloc, "list")?);
+    list.push_elem(marked_entry(alloc)?)?;
+    root.push_elem(list)?;
+    Ok(root)
 }
 
 #[test]
@@ -48,14 +88,14 @@ fn a_service_twice_is_a_clash_at_the_later_one(rt: HostRuntime) -> Result<(), Fa
     root.push_elem(service(alloc, "sip:b@x", "https://x")?)?;
     root.push_elem(service(alloc, "sip:a@x", "http://")?)?;
     assert!(rt; depth(&root) <= 64);
-    assert!(rt; schema(Usage::RlsServices, &root));
-    assert!(rt; !schema(Usage::ResourceLists, &root));
-    assert!(rt; !constraints(Usage::RlsServices, &root));
+    assert!(rt; schema(alloc, Usage::RlsServices, &root)?);
+    assert!(rt; !schema(alloc, Usage::ResourceLists, &root)?);
+    assert!(rt; !constraints(alloc, Usage::RlsServices, &root)?);
     let clash = first_clash(alloc, Usage::RlsServices, &root)?.ok_or("no clash")?;
     assert_eq!(rt; clash.path.numbers(), [2].as_slice());
     assert_eq!(rt; clash.key.word(), "uri");
     let mut count = 0usize;
-    for uri in services(&root) {
+    for uri in services(alloc, &root)? {
         assert!(rt; uri.starts_with("sip:"));
         count = count.saturating_add(1);
     }
@@ -96,5 +136,17 @@ fn the_index_shows_each_service_with_its_bindings(rt: HostRuntime) -> Result<(),
 fn the_capabilities_are_made(rt: HostRuntime) -> Result<(), Fail> {
     let root = caps(rt.alloc())?;
     assert_eq!(rt; root.nodes().len(), 3);
+    Ok(())
+}
+
+#[test]
+fn attributes_of_twenty_foreign_namespaces_pass_and_one_of_the_lists_own_does_not(
+    rt: HostRuntime,
+) -> Result<(), Fail> {
+    let alloc = rt.alloc();
+    let foreign = marked_lists(alloc, "k")?;
+    assert!(rt; schema(alloc, Usage::ResourceLists, &foreign)?);
+    let own = marked_lists(alloc, LISTS)?;
+    assert!(rt; !schema(alloc, Usage::ResourceLists, &own)?);
     Ok(())
 }

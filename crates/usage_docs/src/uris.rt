@@ -1,48 +1,57 @@
 //! The addresses of a document's services (RFC 4826, section 4).
-ghost use Rattle.std.specs.Prelude.{◌≡◌, ◌∷◌, [], chars, option_map};
+ghost use Rattle.std.specs.Prelude.{◌≡◌, ◌∷◌, [], chars, option_map, IfOk};
 ghost use Rattle.std.specs.Iterator.{YieldsFirstBy, item_count};
 ghost use Rattle.usage_docs.specs.Services.{service_uri, service_uris};
 ghost use Rattle.usage_docs.specs.Uris.{node_uri, uris_left};
 
 use crate::attributes::value_of;
-use crate::rows::{Key, Kind, kind_of};
-use xml_tree::{Decl, Element, Node, Scope};
+use crate::listing::is_service;
+use crate::rows::Key;
+use crate::scopes::scope_inside;
+use std::alloc::Global;
+use xml_tree::{Around, Declared, Element, NoMemory, Node};
 
 /// The addresses of the services that a document has, in order.
 #[derive(Drop)]
 pub struct ServiceUris<'a> {
-    decls: &'a [Decl],
+    alloc: Global,
+    declared: Declared<'a>,
     nodes: &'a [Node],
 }
 
-/// The `uri` of each service of a document, in order. Takes no memory.
-pub fn services(root: &Element) -> ServiceUris<'_>
-    ensures { uris_left result ≡ service_uris root.now }
+/// The `uri` of each service of a document, in order.
+///
+/// # Errors
+/// `NoMemory` for want of memory.
+pub fn services(alloc: Global, root: &Element) -> Result<ServiceUris<'_>, NoMemory>
+    ensures { IfOk result (λ uris. uris_left uris ≡ service_uris root.now) }
 {
-    ServiceUris {
-        decls: root.decls(),
+    let declared = Declared::indexed(alloc, root.decls())?;
+    Ok(ServiceUris {
+        alloc,
+        declared,
         nodes: root.nodes(),
-    }
+    })
 }
 
 // The address of a child of a root with these declarations, if it is a service.
 #[tactic(auto, unfolding(crate::specs::Services::service_uri))]
-fn service_uri<'a>(decls: &'a [Decl], kid: &'a Element) -> Option<&'a str>
-    ensures { option_map (λ uri. chars uri.now) result ≡ service_uri (decls.now ∷ []) kid.now }
+fn service_uri<'a>(alloc: Global, root: &Declared<'_>, kid: &'a Element) -> Option<&'a str>
+    ensures { option_map (λ uri. chars uri.now) result ≡ service_uri (root.now ∷ []) kid.now }
 {
-    let scope = Scope::empty().with(decls).with(kid.decls());
-    match kind_of(Kind::RlsServices, &scope, kid.name()) {
-        Some(_) => value_of(Key::Uri, kid.attrs()),
-        None => None,
+    if is_service(alloc, &scope_inside(&Around::empty(), root), kid) {
+        value_of(Key::Uri, kid.attrs())
+    } else {
+        None
     }
 }
 
 // The address of a node, if it is a service.
-fn node_uri<'a>(decls: &'a [Decl], node: &'a Node) -> Option<&'a str>
-    ensures { option_map (λ uri. chars uri.now) result ≡ node_uri (decls.now ∷ []) node.now }
+fn node_uri<'a>(alloc: Global, root: &Declared<'_>, node: &'a Node) -> Option<&'a str>
+    ensures { option_map (λ uri. chars uri.now) result ≡ node_uri (root.now ∷ []) node.now }
 {
     match node {
-        Node::Elem(kid) => service_uri(decls, kid),
+        Node::Elem(kid) => service_uri(alloc, root, kid),
         Node::Chars(_) => None,
         Node::Comment(_) => None,
     }
@@ -58,7 +67,7 @@ impl<'a> Iterator for ServiceUris<'a> {
     fn next(&mut self) -> Option<&'a str> {
         while let Some((node, others)) = self.nodes.split_first() {
             self.nodes = others;
-            if let Some(uri) = node_uri(self.decls, node) {
+            if let Some(uri) = node_uri(self.alloc, &self.declared, node) {
                 return Some(uri);
             }
         }

@@ -1,15 +1,17 @@
 //! Which documents are valid (RFC 4826, sections 3.2 and 4.2).
-ghost use Rattle.std.specs.Prelude.{◌≡◌, ◌≤◌, ◌+◌, ◌∷◌, [], ◌++◌, length, chars, IsTrue, ◌↔◌, MatchOption};
+ghost use Rattle.std.specs.Prelude.{◌≡◌, chars, IsTrue, ◌↔◌, IfOk, Some, None, if◌then◌else◌};
 ghost use Rattle.std.specs.List.{list_all};
+ghost use Rattle.std.specs.Option.{ForSome};
 ghost use Rattle.xml_tree.specs.Characters.{is_space};
-ghost use Rattle.xml_tree.specs.Tree.{height, content_height};
 ghost use Rattle.xml_tree.specs.declared.tree.Node.TheVariants.{Elem};
-ghost use Rattle.xml_tree.specs.Nodes.{node_height};
-ghost use Rattle.usage_docs.specs.Validity.{takes_text, text_passes, ValidInRow, ValidChild, Schema, IsNodeValid, part_behind};
+ghost use Rattle.usage_docs.specs.Rows.{is_root, kind_of, root_kind};
+ghost use Rattle.usage_docs.specs.Validity.{takes_text, text_passes, ValidInRow, ValidChild, Schema, IsNextPart};
 
 use crate::attributes::attrs_pass;
 use crate::rows::{END, Kind, Usage, follows, is_root, kind_of, part_of, root_kind};
-use xml_tree::{Element, Node, Scope, is_space};
+use crate::scopes::scope_inside;
+use std::alloc::Global;
+use xml_tree::{Around, Declared, Element, NoMemory, Node, is_space};
 
 // Whether the row is text alone.
 #[tactic(auto, unfolding(crate::specs::Validity::takes_text))]
@@ -34,80 +36,145 @@ fn text_passes(row: Kind, text: &str) -> bool
     takes_text(row) || is_blank(text)
 }
 
-/// Whether an element of this kind is valid by itself, in the scope that ends with its own declarations. Takes no memory.
+/// Whether an element of this kind is valid by itself, in the scope that ends with its own declarations.
+///
+/// # Errors
+/// `NoMemory` for want of memory.
 #[cycle(validity)]
-pub fn is_valid_in_row<'a>(kind: Kind, scope: &Scope<'a>, element: &'a Element) -> bool
-    requires { length scope.now + content_height element.now.content ≤ 67 }
-    ensures { IsTrue result ↔ ValidInRow kind scope.now element.now }
+pub fn is_valid_in_row(
+    alloc: Global,
+    kind: Kind,
+    scope: &Around<'_>,
+    element: &Element,
+) -> Result<bool, NoMemory>
+    ensures { IfOk result (λ valid. IsTrue valid ↔ ValidInRow kind scope.now element.now) }
 {
     if !attrs_pass(kind, scope, element.attrs()) {
-        return false;
+        return Ok(false);
     }
     let mut before = 0;
     for node in element.nodes() {
-        match next_part(kind, scope, before, node) {
+        match next_part(alloc, kind, scope, before, node)? {
             Some(part) => before = part,
-            None => return false,
+            None => return Ok(false),
         }
     }
-    follows(kind, before, END)
+    Ok(follows(kind, before, END))
 }
 
 // Where a node may stand behind a child of the part `before` and is valid by itself, the part before the next node.
 #[cycle(validity)]
-fn next_part<'a>(row: Kind, scope: &Scope<'a>, before: u8, node: &'a Node) -> Option<u8>
-    requires { length scope.now + node_height node.now ≤ 67 }
-    ensures { MatchOption result (IsNodeValid row scope.now before node.now → ⊥) (λ part. IsNodeValid row scope.now before node.now × (part ≡ part_behind row scope.now before node.now)) }
+fn next_part(
+    alloc: Global,
+    row: Kind,
+    scope: &Around<'_>,
+    before: u8,
+    node: &Node,
+) -> Result<Option<u8>, NoMemory>
+    ensures { IfOk result (λ next. IsNextPart row scope.now before node.now next) }
 {
     match node {
-        Node::Elem(kid) => kid_part(row, scope, before, kid),
-        Node::Chars(text) => {
-            if text_passes(row, text.as_str()) {
-                Some(before)
-            } else {
-                None
-            }
-        }
-        Node::Comment(_) => Some(before),
+        Node::Elem(kid) => kid_part(alloc, row, scope, before, kid),
+        Node::Chars(text) => Ok(part_behind_text(row, before, text.as_str())),
+        Node::Comment(_) => Ok(Some(before)),
+    }
+}
+
+// The same of a text.
+fn part_behind_text(row: Kind, before: u8, text: &str) -> Option<u8>
+    ensures { result ≡ (if text_passes row (chars text.now) then Some before else None) }
+{
+    if text_passes(row, text) {
+        Some(before)
+    } else {
+        None
     }
 }
 
 // The same of an element.
 #[cycle(validity)]
-fn kid_part<'a>(row: Kind, scope: &Scope<'a>, before: u8, kid: &'a Element) -> Option<u8>
-    requires { length scope.now + height kid.now ≤ 67 }
-    ensures { MatchOption result (IsNodeValid row scope.now before (Elem kid.now) → ⊥) (λ part. IsNodeValid row scope.now before (Elem kid.now) × (part ≡ part_behind row scope.now before (Elem kid.now))) }
+fn kid_part(
+    alloc: Global,
+    row: Kind,
+    scope: &Around<'_>,
+    before: u8,
+    kid: &Element,
+) -> Result<Option<u8>, NoMemory>
+    ensures { IfOk result (λ next. IsNextPart row scope.now before (Elem kid.now) next) }
 {
-    let inside = scope.with(kid.decls());
+    let declared = Declared::indexed(alloc, kid.decls())?;
+    let inside = scope_inside(scope, &declared);
     let part = part_of(row, &inside, kid.name());
     if !follows(row, before, part) {
-        return None;
+        return Ok(None);
     }
-    if !is_valid_child(row, scope, kid) {
-        return None;
+    if !is_valid_inside(alloc, row, &inside, kid)? {
+        return Ok(None);
     }
-    Some(part)
+    Ok(Some(part))
+}
+
+// Whether a child is valid by itself, in the scope that ends with its own declarations and by the row of its parent.
+#[cycle(validity)]
+fn is_valid_inside(
+    alloc: Global,
+    row: Kind,
+    inside: &Around<'_>,
+    kid: &Element,
+) -> Result<bool, NoMemory>
+    ensures { IfOk result (λ valid. IsTrue valid ↔ ForSome (kind_of row inside.now kid.now.name) (λ kind. ValidInRow kind inside.now kid.now)) }
+{
+    match kind_of(row, inside, kid.name()) {
+        Some(kind) => is_valid_in_row(alloc, kind, inside, kid),
+        None => Ok(true),
+    }
 }
 
 /// Whether a child is valid by itself, in the scope around it and by the row of its parent: it is foreign, or valid by its own
-/// row. Takes no memory.
-#[cycle(validity)]
-pub fn is_valid_child<'a>(row: Kind, scope: &Scope<'a>, kid: &'a Element) -> bool
-    requires { length scope.now + height kid.now ≤ 67 }
-    ensures { IsTrue result ↔ ValidChild row scope.now kid.now }
+/// row.
+///
+/// # Errors
+/// `NoMemory` for want of memory.
+pub fn is_valid_child(
+    alloc: Global,
+    row: Kind,
+    scope: &Around<'_>,
+    kid: &Element,
+) -> Result<bool, NoMemory>
+    ensures { IfOk result (λ valid. IsTrue valid ↔ ValidChild row scope.now kid.now) }
 {
-    let inside = scope.with(kid.decls());
-    match kind_of(row, &inside, kid.name()) {
-        Some(kind) => is_valid_in_row(kind, &inside, kid),
-        None => true,
-    }
+    let declared = Declared::indexed(alloc, kid.decls())?;
+    let inside = scope_inside(scope, &declared);
+    is_valid_inside(alloc, row, &inside, kid)
 }
 
-/// Whether a document is valid for its usage. Takes no memory.
-pub fn schema(usage: Usage, root: &Element) -> bool
-    requires { height root.now ≤ 64 }
-    ensures { IsTrue result ↔ Schema usage root.now }
+// Whether a root is valid for a usage, in the scope of its declarations.
+fn is_valid_root(
+    alloc: Global,
+    usage: Usage,
+    scope: &Around<'_>,
+    root: &Element,
+) -> Result<bool, NoMemory>
+    ensures { IfOk result (λ valid. IsTrue valid ↔ (IsTrue (is_root usage scope.now root.now.name) × ValidInRow (root_kind usage) scope.now root.now)) }
 {
-    let scope = Scope::empty().with(root.decls());
-    is_root(usage, &scope, root.name()) && is_valid_in_row(root_kind(usage), &scope, root)
+    if !is_root(usage, scope, root.name()) {
+        return Ok(false);
+    }
+    is_valid_in_row(alloc, root_kind(usage), scope, root)
+}
+
+/// Whether a document is valid for its usage.
+///
+/// # Errors
+/// `NoMemory` for want of memory.
+pub fn schema(alloc: Global, usage: Usage, root: &Element) -> Result<bool, NoMemory>
+    ensures { IfOk result (λ valid. IsTrue valid ↔ Schema usage root.now) }
+{
+    let declared = Declared::indexed(alloc, root.decls())?;
+    is_valid_root(
+        alloc,
+        usage,
+        &scope_inside(&Around::empty(), &declared),
+        root,
+    )
 }

@@ -1,5 +1,5 @@
 -- The test by which maps find documents tells exactly when two names are one.
-use Rattle.std.proofs.Common.{◌≡◌, ◌≢◌, true, false, true≢false, ⊎_elim, refl, sym, ap, ◌∙◌, ◌&&◌}
+use Rattle.std.proofs.Common.{◌≡◌, ◌≢◌, true, false, ⊎_elim, refl, sym, ap}
 use Rattle.std.proofs.lemmas.Bool.{and_parts, and_from, cases_Bool}
 use Rattle.std.specs.Cmp.Lexicographic.{bytes_decides}
 use Rattle.xcap_uri.specs.declared.doc_id.DocId.{DocId}

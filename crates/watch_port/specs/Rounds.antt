@@ -1,5 +1,5 @@
 -- Watchers told of one change after another.
-use Rattle.std.proofs.Common.{◌≡◌, ℕ, ◌≤◌, List, [], ◌∷◌, ◌++◌, Option, Some, None, inl, inr, refl, ap, sym, subst, ◌∙◌, arith, append_assoc, append-nil, ⊎_elim}
+use Rattle.std.proofs.Common.{◌≡◌, ℕ, List, [], ◌∷◌, ◌++◌, Option, Some, None, inl, inr, refl, ap, sym, subst, ◌∙◌, arith, append_assoc, append-nil, ⊎_elim}
 use Rattle.watch_port.specs.declared.edit.Edit.{Edit}
 use Rattle.watch_port.specs.declared.watcher.Told.{Told}
 use Rattle.watch_port.specs.Telling.{AreKept, AreTold, with_edits}

@@ -18,10 +18,10 @@ fn judge_tree(alloc: Global, usage: Usage, root: &Element) -> Result<Exit, Alloc
     requires { height root.now ≤ 64 }
     ensures { IfOk result (λ exit. TreeVerdict usage root.now exit) }
 {
-    if !schema(usage, root) {
+    if !schema(alloc, usage, root)? {
         return Ok(Exit::Refused(Refusal::Schema));
     }
-    if !constraints(usage, root) {
+    if !constraints(alloc, usage, root)? {
         return Ok(Exit::Refused(Refusal::Constraint));
     }
     match first_clash(alloc, usage, root)? {

@@ -1,5 +1,5 @@
 -- What was asked and how it was answered, as what a turn of the connection did.
-use Rattle.std.proofs.Common.{◌≡◌, ℕ, ◌<◌, ◌⊎◌, inl, inr, Bool, true, false, true≢false, List, [], ◌++◌, length, take, Option, None, Some, Ok, Err, refl, sym, ap, subst, ◌∙◌, append-nil, append_assoc}
+use Rattle.std.proofs.Common.{◌≡◌, ℕ, ◌⊎◌, inl, inr, Bool, true, false, true≢false, List, [], ◌++◌, take, Option, None, Some, Ok, Err, refl, sym, ap, subst, ◌∙◌, append-nil}
 use Rattle.std.specs.Io.KnownBytes.{Appends, Consumes, IsAtEnd}
 use Rattle.std.proofs.KnownBytes.{Appends-nil}
 use Rattle.reply_text.specs.Heads.{Sent, bytes_of}
@@ -9,8 +9,8 @@ use Rattle.http_wire.specs.declared.request.Request.{Request}
 use Rattle.http_wire.specs.declared.request.Asked.{Asked}
 use Rattle.http_wire.specs.declared.request.Asked.TheVariants.{Request as Requested, Bad, TooLong, Coded, End, NoMemory}
 use Rattle.http_wire.specs.Asking.{WireState, IsNext, IsAsked, Asks, StandsAfter}
-use Rattle.http_wire.specs.Items.{Item, asks, bad, too_long, coded, AsksFor, FirstItem, ends_connection}
-use Rattle.http_wire.specs.Serving.{Answers, Closes, no_more, last_item, no_memory, GoesOn, told}
+use Rattle.http_wire.specs.Items.{Item, asks, bad, too_long, coded, FirstItem}
+use Rattle.http_wire.specs.Serving.{Closes, no_more, last_item, no_memory, GoesOn, told}
 use Rattle.http_wire.proofs.WholeItems.{asks-append}
 use Rattle.watch_port.specs.declared.edit.Edit.{Edit}
 use Rattle.xcap_server.specs.declared.connection.Ended.TheVariants.{Closed, ReadFailed, WriteFailed}

@@ -1,5 +1,5 @@
 -- One line of the table after the other: what was answered is what the lines before hand on.
-use Rattle.std.proofs.Common.{◌≡◌, ◌≢◌, ℕ, Bool, true, false, not, ◌&&◌, ◌⊎◌, inl, inr, List, Option, None, Some, option_map, Result, Ok, Err, IfOk, refl, sym, ap, subst, ◌∙◌, ⊎_elim}
+use Rattle.std.proofs.Common.{◌≡◌, ◌≢◌, ℕ, Bool, true, false, not, ◌&&◌, ◌⊎◌, List, Option, option_map, Result, Ok, Err, IfOk, refl, sym, ap, subst, ◌∙◌, ⊎_elim}
 use Rattle.std.specs.Bool.{MatchBool}
 use Rattle.xcap_uri.specs.Gives.{Answers}
 use Rattle.xcap_uri.specs.Targets.{target_read}

@@ -30,7 +30,7 @@ use Rattle.request_terms.specs.Rights.{is_allowed}
 use Rattle.machine_words.specs.Answers.{Answer, found, not_allowed, plain, unchanged}
 use Rattle.machine_words.specs.Resources.{Resource, absent, beyond_limit, there, document_of}
 use Rattle.machine_words.specs.Reading.{as_asked, by_outcome, if_found, document_reply, node_reply}
-use Rattle.machine_words.specs.Writing.{If, PutsBody, PutsDocument, PutsNodeOf, PutsText, DeletesHeld, DeletesNodeOf, by_judgement, delete_answer, put_answer, refused}
+use Rattle.machine_words.specs.Writing.{If, PutsBody, PutsNodeOf, PutsText, DeletesHeld, DeletesNodeOf, by_judgement, delete_answer, put_answer, refused}
 use Rattle.machine_words.specs.Requests.{ByMethod, ByTarget, ByUser, Deletes, IsAnswer, IsAnswered, Puts, auid_of, home_of, is_built, is_read_only, reads}
 
 -- either case of a test

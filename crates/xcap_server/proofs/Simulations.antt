@@ -1,6 +1,6 @@
 -- A machine that stands for another: where each step of the one is a step of the other on states that belong together, so
 -- is what either does on connections.
-use Rattle.std.proofs.Common.{◌≡◌, ℕ, ◌+◌, ◌⊎◌, inl, inr, List, [], ◌∷◌, ◌++◌, length, Option, refl, sym, subst, ⊎_elim}
+use Rattle.std.proofs.Common.{◌≡◌, ℕ, ◌+◌, inl, inr, List, [], ◌∷◌, length, Option, refl, sym, subst}
 use Rattle.xcap_io.specs.Causes.{LineState}
 use Rattle.watch_port.specs.declared.edit.Edit.{Edit}
 use Rattle.http_wire.specs.declared.request.Request.{Request}

@@ -9,7 +9,7 @@ use Rattle.store_core.specs.Held.{Content, Held, Stands, held_of}
 use Rattle.store_core.specs.Keeping.{Kept}
 use Rattle.store_core.specs.Changing.{content_after}
 use Rattle.store_core.proofs.Keeps.{keeps}
-use Rattle.machine_words.specs.Answers.{Answer, Made}
+use Rattle.machine_words.specs.Answers.{Made}
 use Rattle.machine_words.specs.Machine.{Does, IsSound, Step, after_answer, content_after_answer, held_in}
 use Rattle.machine_words.specs.Requests.{IsAnswer}
 use Rattle.xcap_server.specs.declared.connection.Ended.{Ended}

@@ -1,14 +1,14 @@
 -- Turns of a connection, one after the other.
-use Rattle.std.proofs.Common.{◌≡◌, ℕ, ◌+◌, ◌<◌, ◌==◌, ◌⊎◌, inl, inr, Bool, true, false, List, [], ◌∷◌, ◌++◌, length, Option, None, Some, IfSome, unwrap_or, refl, sym, ap, subst, ◌∙◌, arith, append_assoc}
+use Rattle.std.proofs.Common.{◌≡◌, ℕ, ◌+◌, ◌<◌, ◌==◌, inl, inr, false, List, [], ◌∷◌, ◌++◌, length, Option, None, Some, IfSome, refl, sym, ap, subst, ◌∙◌, arith}
 use Rattle.std.proofs.lemmas.Bool.Decides.{nat_tests}
 use Rattle.std.proofs.lemmas.List.{length_push}
 use Rattle.std.specs.Io.KnownBytes.{Appends, Consumes}
 use Rattle.std.proofs.KnownBytes.{Appends-nil, Appends-trans, Consumes-nil, Consumes-trans}
-use Rattle.xcap_io.specs.Causes.{LineState, Rose}
+use Rattle.xcap_io.specs.Causes.{LineState}
 use Rattle.http_wire.specs.declared.request.Request.{Request}
 use Rattle.http_wire.specs.Asking.{WireState, fresh_wire}
 use Rattle.http_wire.specs.Items.{AsksFor}
-use Rattle.http_wire.specs.Serving.{EndsBy, GoesOn, Run, ServesBytes, counted, told}
+use Rattle.http_wire.specs.Serving.{EndsBy, GoesOn, Run, counted, told}
 use Rattle.http_wire.proofs.Connections.{run_none, run_more, run-append}
 use Rattle.watch_port.specs.declared.edit.Edit.{Edit}
 use Rattle.xcap_server.specs.declared.connection.Ended.{Ended}
@@ -16,7 +16,7 @@ use Rattle.xcap_server.specs.declared.connection.Ended.TheVariants.{Closed, Read
 use Rattle.xcap_server.specs.Endings.{ending_of, Exchanges, FaultsBy, FaultsSoFar}
 use Rattle.xcap_server.specs.Fixed.{fixed}
 use Rattle.xcap_server.proofs.Faults.{faults_on}
-use Rattle.xcap_server.specs.Turns.{Did, GivesOn, Turn, told_left}
+use Rattle.xcap_server.specs.Turns.{GivesOn, Turn, told_left}
 use Rattle.xcap_server.specs.Connections.{ServesLine}
 
 -- a request that keeps the connection isn't the 1,000th

@@ -6,7 +6,6 @@ use Rattle.std.specs.List.{list_any}
 use Rattle.std.specs.Str.{bytes_eq}
 use Rattle.xml_tree.specs.declared.names.Decl.{Decl}
 use Rattle.xcap_uri.specs.declared.doc_id.Auid.{Auid}
-use Rattle.xcap_uri.specs.declared.doc_id.Auid.TheVariants.{RlsServices}
 use Rattle.xcap_uri.specs.declared.doc_id.Home.{Home}
 use Rattle.xcap_uri.specs.declared.doc_id.Home.TheVariants.{Global, User}
 use Rattle.xcap_uri.specs.declared.doc_id.DocId.{DocId}

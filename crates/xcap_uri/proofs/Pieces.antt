@@ -1,6 +1,6 @@
 -- Texts cut into pieces, one cut at a time.
-use Rattle.std.proofs.Common.{◌≡◌, ℕ, Bool, true, false, not, ◌==◌, List, [], ◌∷◌, Option, None, Some, unwrap_or, length, suc, ◌<◌, ◌≤◌, refl, ap, ◌∙◌, arith}
-use Rattle.grammar_rules.specs.Reading.{front_of, after_front}
+use Rattle.std.proofs.Common.{◌≡◌, ℕ, Bool, true, false, ◌==◌, List, [], ◌∷◌, Option, None, Some, unwrap_or, length, suc, ◌<◌, ◌≤◌, refl, ap, ◌∙◌, arith}
+use Rattle.grammar_rules.specs.Reading.{after_front}
 use Rattle.std.specs.List.{list_all}
 use Rattle.xcap_uri.specs.Cuts.{is_other, before, behind, behind_first, pieces, with_first}
 use Rattle.xcap_uri.specs.Roots.{is_some_of}

@@ -1,14 +1,13 @@
 -- A printed id reads back as itself.
-use Rattle.std.proofs.Common.{◌≡◌, ◌≢◌, ℕ, ◌<◌, ◌/◌, ◌%◌, Bool, true, false, not, ◌&&◌, ◌==◌, nat_eq, nat_le, List, [], ◌∷◌, ◌++◌, Option, None, Some, Result, Ok, Err, All, codes, encode_utf8_all, length, unwrap_or, refl, ap, ◌∙◌, sym, subst, ⊎_elim, append_assoc, arith}
+use Rattle.std.proofs.Common.{◌≡◌, ◌≢◌, ℕ, ◌<◌, ◌/◌, ◌%◌, Bool, true, false, not, ◌&&◌, ◌==◌, nat_eq, nat_le, List, [], ◌∷◌, ◌++◌, Option, None, Some, Result, Ok, All, codes, encode_utf8_all, length, unwrap_or, refl, ap, ◌∙◌, sym, subst, append_assoc, arith}
 use Rattle.std.proofs.lemmas.Bool.{and_parts, agree_below, agree_below_at, ltb-true, eqb-true, eq-eqb, true≢false}
 use Rattle.std.proofs.lemmas.Str.{IsUtf8-from_ascii}
-use Rattle.std.specs.Option.{option_or}
 use Rattle.std.specs.Char.{is_ascii, is_ascii_hexdigit}
 use Rattle.std.specs.Cmp.Lexicographic.{bytes_decides}
 use Rattle.std.specs.Fmt.{digit_glyph}
 use Rattle.std.specs.List.{list_all}
 use Rattle.std.specs.Str.{bytes_eq, chars, IsUtf8, IsAscii}
-use Rattle.grammar_rules.specs.Reading.{front_of, after_front}
+use Rattle.grammar_rules.specs.Reading.{after_front}
 use Rattle.grammar_rules.specs.Rules.{AllPass}
 use Rattle.percent_encoding.proofs.PercentLemmas.{round_trip}
 use Rattle.percent_encoding.specs.Percent.{percent_decode, percent_encode_byte}
@@ -19,9 +18,7 @@ use Rattle.xcap_uri.specs.declared.doc_id.Home.TheVariants.{Global, User}
 use Rattle.xcap_uri.specs.declared.doc_id.DocId.{DocId}
 use Rattle.xcap_uri.specs.declared.escapes.TheConstants.{ESCAPED_IN_PARTS}
 use Rattle.xcap_uri.specs.declared.fault.UriFault.{UriFault}
-use Rattle.xcap_uri.specs.declared.shape.Shape.{Shape}
 use Rattle.xcap_uri.specs.declared.shape.Shape.TheVariants.{Whole}
-use Rattle.xcap_uri.specs.declared.target.Target.{Target}
 use Rattle.xcap_uri.specs.declared.target.Target.TheVariants.{Document}
 use Rattle.xcap_uri.specs.Cuts.{after, before, behind, behind_first, pieces, with_first, is_other}
 use Rattle.xcap_uri.specs.Escapes.{has_whole_escapes, text_read, escaped, escaped_octet, is_plain, part_text}

@@ -4,7 +4,7 @@ use Rattle.std.proofs.lemmas.Bool.{leb-true, leb-false, le-leb, lt-leb}
 use Rattle.std.specs.List.{list_all}
 use Rattle.grammar_rules.specs.Digits.{decimal, is_digit}
 use Rattle.grammar_rules.specs.Rules.{number_from}
-use Rattle.xcap_uri.specs.Shapes.{tag_value, tag_of, is_tag, begins_with_digit}
+use Rattle.xcap_uri.specs.Shapes.{tag_value, tag_of, begins_with_digit}
 
 -- the greatest number of 64 bits
 abbrev top : ℕ

@@ -1,5 +1,5 @@
 -- Escapes of octets in addresses. RFC 3986, section 2.1.
-use Rattle.std.specs.Prelude.{ℕ, Bool, true, false, not, ◌&&◌, ◌||◌, ◌==◌, nat_le, List, [], ◌∷◌, codes, encode_utf8_all, Option, None, Some, Result, Ok, Err, if◌then◌else◌}
+use Rattle.std.specs.Prelude.{ℕ, Bool, true, not, ◌&&◌, ◌||◌, ◌==◌, nat_le, List, [], ◌∷◌, codes, encode_utf8_all, Option, None, Some, Result, Ok, Err, if◌then◌else◌}
 use Rattle.std.specs.List.{list_any, flat_map}
 use Rattle.std.specs.Char.{is_ascii, is_ascii_alphanumeric, is_ascii_hexdigit}
 use Rattle.std.specs.Str.{is_utf8, chars}

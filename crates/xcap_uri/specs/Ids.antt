@@ -1,5 +1,5 @@
 -- Names of documents. RFC 4825, section 6.2: a usage, then `global` or `users` and a user, then the name of the document.
-use Rattle.std.specs.Prelude.{◌≡◌, ◌≢◌, ℕ, List, [], ◌++◌, codes}
+use Rattle.std.specs.Prelude.{◌≢◌, ℕ, List, [], ◌++◌, codes}
 use Rattle.xcap_uri.specs.Words.{separator}
 use Rattle.xcap_uri.specs.Escapes.{part_text}
 use Rattle.xcap_uri.specs.declared.doc_id.Auid.{Auid}

@@ -6,7 +6,7 @@
 --
 -- where the NCName is neither `xml` nor `xmlns`, and a URI is one or more characters: `^` escapes a `(`, a `)` or a `^` behind it and stands
 -- before nothing else, and the parentheses that aren't escaped are balanced.
-use Rattle.std.specs.Prelude.{ℕ, zero, suc, ◌+◌, ◌-◌, Bool, true, false, not, ◌&&◌, ◌||◌, ◌==◌, nat_le, List, [], ◌∷◌, ◌++◌, codes, length, Option, None, Some, Result, Ok, Err, if◌then◌else◌}
+use Rattle.std.specs.Prelude.{ℕ, zero, suc, ◌+◌, ◌-◌, Bool, ◌&&◌, ◌||◌, ◌==◌, List, [], ◌∷◌, codes, length, Option, None, Some, Result, Ok, Err, if◌then◌else◌}
 use Rattle.std.specs.Str.{bytes_eq}
 use Rattle.grammar_rules.specs.Reading.{front_of, after_front, head_is}
 use Rattle.xml_tree.specs.Characters.{is_name_start, is_name_char, is_space}

@@ -1,6 +1,6 @@
 -- What the segments of an address name. The document selectors are those of RFC 4825, section 6.2; what stands under `~feed` and `~flat` is
 -- this server's own. The segments are those before the separator, decoded; the selector is the text behind it, where there is a separator.
-use Rattle.std.specs.Prelude.{ℕ, ◌+◌, ◌-◌, ◌*◌, Bool, true, false, ◌&&◌, nat_le, ◌==◌, List, [], ◌∷◌, encode_utf8_all, length, Option, None, Some, option_map, Result, Ok, Err, if◌then◌else◌}
+use Rattle.std.specs.Prelude.{ℕ, ◌+◌, ◌-◌, ◌*◌, Bool, true, false, ◌&&◌, nat_le, List, [], ◌∷◌, encode_utf8_all, Option, None, Some, option_map, Result, Ok, Err, if◌then◌else◌}
 use Rattle.std.specs.List.{list_any, list_all}
 use Rattle.std.specs.Str.{bytes_eq}
 use Rattle.grammar_rules.specs.Digits.{decimal, is_digit}

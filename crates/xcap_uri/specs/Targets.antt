@@ -1,5 +1,5 @@
 -- Targets of requests: what an address means, or the first of its faults. RFC 4825, section 6.
-use Rattle.std.specs.Prelude.{◌≡◌, ℕ, Bool, List, [], ◌∷◌, ◌++◌, codes, encode_utf8_all, Option, None, Some, option_and_then, Result, Ok, Err, if◌then◌else◌}
+use Rattle.std.specs.Prelude.{ℕ, List, [], ◌∷◌, ◌++◌, codes, encode_utf8_all, Option, None, Some, option_and_then, Result, Ok, Err, if◌then◌else◌}
 use Rattle.std.specs.Option.{option_or}
 use Rattle.std.specs.Str.{bytes_eq, chars}
 use Rattle.xml_tree.specs.declared.names.Decl.{Decl}
@@ -19,7 +19,6 @@ use Rattle.xcap_uri.specs.Shapes.{shape_of}
 use Rattle.xcap_uri.specs.Words.{separator}
 use Rattle.xcap_uri.specs.declared.doc_id.Auid.{Auid}
 use Rattle.xcap_uri.specs.declared.doc_id.Auid.TheVariants.{ResourceLists, RlsServices, XcapCaps}
-use Rattle.xcap_uri.specs.declared.doc_id.DocId.{DocId}
 use Rattle.xcap_uri.specs.declared.fault.UriFault.{UriFault}
 use Rattle.xcap_uri.specs.declared.fault.UriFault.TheVariants.{OutsideRoot, UnboundPrefix, BadSelector, NoMemory}
 use Rattle.xcap_uri.specs.declared.shape.Shape.{Shape}

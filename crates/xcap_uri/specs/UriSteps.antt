@@ -1,5 +1,5 @@
 -- What the code finds next in the URI of an item.
-use Rattle.std.specs.Prelude.{◌≡◌, ◌<◌, ◌≤◌, ℕ, ◌+◌, List, [], ◌∷◌, ◌++◌, length, Result, Ok, Err}
+use Rattle.std.specs.Prelude.{◌≡◌, ◌<◌, ◌≤◌, ℕ, ◌+◌, List, [], ◌++◌, length, Result, Ok, Err}
 use Rattle.xml_tree.specs.declared.names.Decl.{Decl}
 use Rattle.xcap_uri.specs.Gives.{◌>>=◌}
 use Rattle.xcap_uri.specs.Queries.{Read, uri_chars, with_char}

@@ -13,7 +13,7 @@ use Rattle.xml_tree.proofs.ScopeLemmas.{option_or-assoc, option_or-none}
 abbrev of_one : Decl → List ℕ → Option (List ℕ)
 of_one d p = cond (bytes_eq d.prefix p) (Some d.uri) None
 
-abbrev Behind : List ℕ → List Decl → Type 0
+abbrev pub Behind : List ℕ → List Decl → Type 0
 Behind p ds = AllByRecursion (λ x. order p x.prefix ≡ Less) ds
 
 -- ---- the order
@@ -86,7 +86,7 @@ none_behind p [] h = refl
 none_behind p (x ∷ ds) h = rw (none_behind p ds h.1, apart x p h.0) refl
 
 -- the first of a list in order is the only one of its prefix
-sole : (d : Decl) (p : List ℕ) (ds : List Decl) → Behind d.prefix ds → bytes_eq d.prefix p ≡ true → declared ds p ≡ None
+pub sole : (d : Decl) (p : List ℕ) (ds : List Decl) → Behind d.prefix ds → bytes_eq d.prefix p ≡ true → declared ds p ≡ None
 sole d p ds h is = none_behind p ds (subst (λ q. Behind q ds) ((bytes_decides d.prefix p).0 is) h)
 
 declared-placed : (d : Decl) (ds : List Decl) (p : List ℕ) → AreInOrder ds → declared (placed d ds) p ≡ option_or (of_one d p) (declared ds p)
@@ -109,7 +109,7 @@ declared-placed d (x ∷ ds) p h = by (order d.prefix x.prefix) refl (bytes_eq d
         rw (is, e, other) refl
     by Greater is b e rest = rw is (ap (λ o. option_or o (of_one x p)) rest ∙ sym (option_or-assoc (of_one d p) (declared ds p) (of_one x p)))
 
-declared-gathered : (acc ds : List Decl) (p : List ℕ) → AreInOrder acc → declared (gathered acc ds) p ≡ option_or (declared ds p) (declared acc p)
+pub declared-gathered : (acc ds : List Decl) (p : List ℕ) → AreInOrder acc → declared (gathered acc ds) p ≡ option_or (declared ds p) (declared acc p)
 declared-gathered acc [] p h = refl
 declared-gathered acc (d ∷ ds) p h =
     declared-gathered (placed d acc) ds p (AreInOrder-placed d acc h) ∙ ap (option_or (declared ds p)) (declared-placed d acc p h)

@@ -1,3 +1,4 @@
+pub mod AroundLemmas
 pub mod AttrLemmas
 pub mod BindingLaws
 pub mod ByteOrder
@@ -5,6 +6,7 @@ pub mod Escapes
 pub mod EverywhereLaws
 pub mod GatheringLemmas
 pub mod HeightLaws
+pub mod IndexLemmas
 pub mod KidLemmas
 pub mod Letters
 pub mod PathLemmas

@@ -1,4 +1,5 @@
 pub mod Apart
+pub mod Around
 pub mod Attributes
 pub mod Characters
 pub mod Comments

@@ -9,7 +9,10 @@ use std::alloc::{AllocError, Global};
 use std::collections::BTreeMap;
 
 // Puts declarations beside those that are there: of those of one prefix the last stays.
-fn gather<'a>(found: &mut BTreeMap<&'a str, &'a Decl>, decls: &'a [Decl]) -> Result<(), AllocError>
+pub(crate) fn gather<'a>(
+    found: &mut BTreeMap<&'a str, &'a Decl>,
+    decls: &'a [Decl],
+) -> Result<(), AllocError>
     requires { AreKeyed found.old.entries }
     ensures keyed { OnOk result (AreKeyed found.new.entries) }
     ensures gathered { OnOk result (values_in found.new.entries ≡ gathered (values_in found.old.entries) decls.now) }

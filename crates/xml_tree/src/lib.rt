@@ -3,9 +3,11 @@
 //! The standards are XML 1.0 (fifth edition) and Namespaces in XML 1.0.
 #![tactic(auto)]
 
+mod around;
 mod bindings;
 mod characters;
 mod declarations;
+mod declared;
 mod edits;
 mod laws;
 mod list;
@@ -27,7 +29,9 @@ mod whole;
 #[cfg(test)]
 mod word_tests;
 
+pub use around::Around;
 pub use characters::{is_char, is_name, is_name_char, is_name_start, is_space};
+pub use declared::Declared;
 pub use laws::{
     heights_after_edits, kids_after_edits, nodes_are_the_content, other_places_stay,
     paths_are_short, paths_go_on, what_was_made_is_there,

@@ -76,26 +76,6 @@ impl<'a> Scope<'a> {
         }
     }
 
-    /// The scope with one list more, for as long as that list is lent. Takes no memory.
-    pub fn inside<'b>(&self, decls: &'b [Decl]) -> Scope<'b>
-    where
-        'a: 'b,
-        requires { length self.now < SCOPE_LIMIT }
-        ensures { result ≡ self.now ++ decls.now ∷ [] }
-    {
-        let mut lists = [decls; 67];
-        let mut len = 0;
-        for &list in &self.lists[..self.len] {
-            lists[len] = list;
-            len += 1;
-        }
-        lists[len] = decls;
-        Scope {
-            lists,
-            len: len + 1,
-        }
-    }
-
     /// An equal scope, which borrows the same lists. Takes no memory.
     pub fn copy(&self) -> Scope<'a>
         ensures { result ≡ self.now }
@@ -130,7 +110,14 @@ impl<'a> Scope<'a> {
         if is_xml(prefix) {
             return Some(xml_uri());
         }
-        some_text(nearest(&self.lists[..self.len], prefix))
+        some_text(self.nearest(prefix))
+    }
+
+    // What the nearest declaration of a prefix says.
+    pub(crate) fn nearest(&self, prefix: &str) -> Option<&'a Text>
+        ensures { option_copied result ≡ declared (joined self.now) (chars prefix.now) }
+    {
+        nearest(&self.lists[..self.len], prefix)
     }
 }
 
@@ -142,14 +129,14 @@ pub(crate) fn is_xml(prefix: &str) -> bool
 }
 
 // The namespace of `xml`.
-fn xml_uri() -> &'static str
+pub(crate) fn xml_uri() -> &'static str
     ensures { chars result.now ≡ xml_uri }
 {
     "http://www.w3.org/XML/1998/namespace"
 }
 
 // A URI, unless it is empty, which binds nothing.
-fn some_text<'a>(uri: Option<&'a Text>) -> Option<&'a str>
+pub(crate) fn some_text<'a>(uri: Option<&'a Text>) -> Option<&'a str>
     ensures { option_map (λ text. chars text.now) result ≡ some_text (option_copied uri.entry) }
 {
     match uri {
@@ -173,7 +160,7 @@ fn nearest<'a>(lists: &[&'a [Decl]], prefix: &str) -> Option<&'a Text>
 }
 
 // What a list declares of a prefix.
-fn declared<'a>(decls: &'a [Decl], prefix: &str) -> Option<&'a Text>
+pub(crate) fn declared<'a>(decls: &'a [Decl], prefix: &str) -> Option<&'a Text>
     ensures { option_copied result ≡ declared decls.now (chars prefix.now) }
 {
     let mut found = None;

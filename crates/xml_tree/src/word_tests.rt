@@ -1,5 +1,5 @@
 //! Tests of scopes and of the length of a print.
-use crate::{Attr, Decl, Element, Name, Path, Scope, Text, is_name, printed_len};
+use crate::{Around, Attr, Decl, Declared, Element, Name, Path, Scope, Text, is_name, printed_len};
 use std::alloc::{AllocError, Global};
 use std::test::Fail;
 
@@ -54,6 +54,64 @@ fn bindings_come_in_order_and_the_nearest_counts(rt: HostRuntime) -> Result<(), 
     assert_eq!(rt; scope.resolve(""), None);
     let bindings = scope.bindings(rt.alloc())?;
     assert!(rt; have_uris(&bindings, &["inner", "near", "far"]));
+    Ok(())
+}
+
+// An element with ten declarations, of which two are of one prefix and one hides the default namespace.
+fn crowded(alloc: Global) -> Result<Element, AllocError> {
+    let mut element = Element::new(alloc, name(alloc, "", "c")?);
+    declare(&mut element, alloc, "i", "early")?;
+    for prefix in ["c", "b", "h", "e", "d", "g", "f"] {
+        declare(&mut element, alloc, prefix, prefix)?;
+    }
+    declare(&mut element, alloc, "", "")?;
+    declare(&mut element, alloc, "i", "late")?;
+    Ok(element)
+}
+
+// Whether a prefix is bound to this URI in an element with these declarations.
+fn is_bound_inside(
+    outer: &Around<'_>,
+    alloc: Global,
+    decls: &[Decl],
+    prefix: &str,
+    uri: Option<&str>,
+) -> Result<bool, AllocError> {
+    let declared = Declared::indexed(alloc, decls)?;
+    let here = outer.inside(&declared);
+    let prefix = Text::from(alloc, prefix)?;
+    Ok(here.resolve(&prefix) == uri)
+}
+
+#[test]
+fn the_nearest_declaration_counts_among_many(rt: HostRuntime) -> Result<(), Fail> {
+    let alloc = rt.alloc();
+    let root = nested(alloc)?;
+    let kid = crowded(alloc)?;
+    let scope = Scope::empty().with(root.decls());
+    let outer = Around::given(&scope);
+    assert!(rt; is_bound_inside(&outer, alloc, kid.decls(), "i", Some("late"))?);
+    assert!(rt; is_bound_inside(&outer, alloc, kid.decls(), "b", Some("b"))?);
+    assert!(rt; is_bound_inside(&outer, alloc, kid.decls(), "z", Some("outer"))?);
+    assert!(rt; is_bound_inside(&outer, alloc, kid.decls(), "", None)?);
+    assert!(rt; is_bound_inside(&outer, alloc, kid.decls(), "j", None)?);
+    let xml = Some("http://www.w3.org/XML/1998/namespace");
+    assert!(rt; is_bound_inside(&outer, alloc, kid.decls(), "xml", xml)?);
+    Ok(())
+}
+
+#[test]
+fn a_few_declarations_need_no_index(rt: HostRuntime) -> Result<(), Fail> {
+    let root = nested(rt.alloc())?;
+    assert!(rt;
+        is_bound_inside(
+            &Around::empty(),
+            rt.alloc(),
+            root.decls(),
+            "",
+            Some("default")
+        )?
+    );
     Ok(())
 }
 

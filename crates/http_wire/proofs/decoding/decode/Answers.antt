@@ -1,8 +1,7 @@
-use Rattle.std.proofs.Common.{◌≡◌, ◌-◌, ◌<◌, ◌≤◌, ℕ, List, true, false, length, take, drop, refl, sym, ap, subst, ◌∙◌, arith, length-drop, length-take}
+use Rattle.std.proofs.Common.{◌≡◌, ◌-◌, ◌≤◌, ℕ, List, true, false, length, take, drop, refl, sym, ap, subst, ◌∙◌, arith, length-drop}
 use Rattle.std.proofs.lemmas.List.{take_rest, length-take-le}
 use Rattle.std.proofs.lemmas.Result.{err_from_is_err_and}
 use Rattle.xcap_io.proofs.Lines.{reads_none, reads_on}
-use Rattle.http_wire.specs.declared.chunks.Stage.TheVariants.{Done, Bad as BadStage, TooLong as LongStage}
 use Rattle.http_wire.specs.Decoding.{Decoding, is_settled, ReadsOn}
 use Rattle.http_wire.proofs.DecodingLemmas.{so_far_first, so_far_next, fewer_so_far, decodes_done, decodes_long, decodes_bad, decodes_cut, decodes_failed}
 use Rattle.http_wire.proofs.BodyFacts.{other_is_bad}

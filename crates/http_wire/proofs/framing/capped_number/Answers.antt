@@ -1,4 +1,4 @@
-use Rattle.std.proofs.Common.{ℕ, ◌∙◌, arith}
+use Rattle.std.proofs.Common.{◌∙◌, arith}
 use Rattle.std.proofs.lemmas.Grind.{common_steps}
 use Rattle.http_wire.proofs.FieldSteps.{number_more}
 use Rattle.http_wire.proofs.framing.capped_number.Goals as goal

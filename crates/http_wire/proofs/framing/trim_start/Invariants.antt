@@ -1,4 +1,4 @@
-use Rattle.std.proofs.Common.{◌≡◌, length, reverse}
+use Rattle.std.proofs.Common.{◌≡◌, length}
 use Rattle.httparse.specs.Grammar.{skip_ows}
 use Rattle.http_wire.proofs.framing.trim_start.Given as goal
 

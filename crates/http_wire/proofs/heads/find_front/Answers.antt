@@ -1,7 +1,6 @@
-use Rattle.std.proofs.Common.{rules, ◌≡◌, ℕ, List, take, drop, subst, arith, length-take}
+use Rattle.std.proofs.Common.{rules, ◌≡◌, ℕ, List, take, subst, arith, length-take}
 use Rattle.std.proofs.lemmas.Grind.{common_steps}
 use Rattle.httparse.specs.Grammar.{HasNoRequest}
-use Rattle.http_wire.specs.Inflow.{IsHeadAt}
 use Rattle.http_wire.proofs.Fronts.{never_behind_full, never_behind_error, head_in_front}
 use Rattle.http_wire.proofs.heads.find_front.Goals as goal
 

@@ -1,4 +1,4 @@
-use Rattle.std.proofs.Common.{◌≡◌, refl, arith}
+use Rattle.std.proofs.Common.{refl, arith}
 use Rattle.xcap_io.proofs.Lines.{reads_none}
 use Rattle.http_wire.proofs.Fronts.{no_head_in_none}
 use Rattle.http_wire.proofs.ItemLemmas.{gains_none, gains_on}

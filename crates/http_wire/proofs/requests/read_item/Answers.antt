@@ -1,7 +1,7 @@
 use Rattle.std.specs.Prelude.{Ok}
-use Rattle.http_wire.specs.declared.framing.Framing.TheVariants.{Bad as BadFields, Coded as OtherCoding, TooLong as LongBody}
-use Rattle.http_wire.specs.declared.request.Asked.TheVariants.{Bad, TooLong, Coded}
-use Rattle.http_wire.proofs.ItemLemmas.{asks_after, asks_now, next_bad, next_coded, next_long, open_by}
+use Rattle.http_wire.specs.declared.framing.Framing.TheVariants.{Bad as BadFields, Coded as OtherCoding}
+use Rattle.http_wire.specs.declared.request.Asked.TheVariants.{Bad, Coded}
+use Rattle.http_wire.proofs.ItemLemmas.{asks_after, asks_now, next_bad, next_coded, open_by}
 use Rattle.http_wire.proofs.requests.read_item.Goals as goal
 
 pub returns-in-Bad-clause-asks : goal.returns-in-Bad-clause-asks

@@ -3,5 +3,5 @@ use Rattle.xml_tree.specs.Characters.{is_name_char}
 use Rattle.tree_text.specs.Runs.{run_len}
 use Rattle.tree_text.proofs.parts.name_len.Given as goal
 
-abbrev pub invariant-loop-c : goal.invariant-loop-c
-invariant-loop-c l = record { counted : l.len ≡ l.c-index; left : l.len + run_len is_name_char (drop l.c-index l.text) ≡ run_len is_name_char l.text }
+abbrev pub invariant-loop-i : goal.invariant-loop-i
+invariant-loop-i l = l.i + run_len is_name_char (drop l.i l.text) ≡ run_len is_name_char l.text

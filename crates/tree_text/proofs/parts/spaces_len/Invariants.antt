@@ -3,5 +3,5 @@ use Rattle.xml_tree.specs.Characters.{is_space}
 use Rattle.tree_text.specs.Runs.{run_len}
 use Rattle.tree_text.proofs.parts.spaces_len.Given as goal
 
-abbrev pub invariant-loop-c : goal.invariant-loop-c
-invariant-loop-c l = record { counted : l.len ≡ l.c-index; left : l.len + run_len is_space (drop l.c-index l.text) ≡ run_len is_space l.text }
+abbrev pub invariant-loop-i : goal.invariant-loop-i
+invariant-loop-i l = l.i + run_len is_space (drop l.i l.text) ≡ run_len is_space l.text

@@ -1,4 +1,4 @@
-use Rattle.std.proofs.Common.{rules, ◌≡◌, ℕ, List, IfOk, chars, sym, subst, ◌∙◌}
+use Rattle.std.proofs.Common.{rules, ◌≡◌, ℕ, List, IfOk, sym, subst, ◌∙◌}
 use Rattle.std.proofs.lemmas.Str.{chars-IsAscii, chars_from_encodes}
 use Rattle.tree_text.proofs.reading.decoded.Goals as goal
 

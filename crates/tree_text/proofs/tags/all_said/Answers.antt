@@ -1,25 +1,32 @@
-use Rattle.std.proofs.Common.{◌≡◌, List, [], ◌∷◌, ◌++◌, sym, ◌∙◌, append_assoc, arith}
+use Rattle.std.proofs.Common.{◌≡◌, List, [], ◌∷◌, ◌++◌, sym, ap, ◌∙◌, append_assoc, arith}
 use Rattle.std.proofs.lemmas.List.{append-nil}
 use Rattle.std.proofs.lemmas.Result.{err_from_is_err_and}
 use Rattle.tree_text.specs.declared.said.Said.{Said}
 use Rattle.tree_text.specs.Reading.{said_follows, read_said, read_all_said}
-use Rattle.tree_text.proofs.Loops.{goes_on, ends, is_done, is_stopped}
-use Rattle.tree_text.proofs.TagLemmas.{widths-append}
+use Rattle.tree_text.proofs.Loops.{goes_on, ends, is_done, is_stopped, valued_ok, valued_fails}
 use Rattle.tree_text.proofs.tags.all_said.Goals as goal
 use Rattle.tree_text.proofs.tags.all_said.Goals.{else-loop-test, then-loop-test+then-not-said_follows}
 
-pub returns-in_err-said-clause-read : goal.returns-in_err-said-clause-read
-returns-in_err-said-clause-read c =
+pub returns-in_err-rest-clause-read : goal.returns-in_err-rest-clause-read
+returns-in_err-rest-clause-read c =
     let p = err_from_is_err_and c.from_residual.result c.from_residual.ensures.1 in
-    rw (p.1, p.2) (ends said_follows read_said (λ front all. front ++ all) c.in_err-said.field-0.0 c.loop.all.items _ c.loop.counter c.loop.rest.now (read_all_said c.args.text.now) c.loop-test.true (sym c.said_follows.ensures ∙ c.if-not-said_follows.false) c.in_err-said.ensures.read c.loop.invariant.left)
+    let add = λ (one : Said). c.loop.all.items ++ one ∷ [] in
+    rw (p.1, p.2) (ends said_follows read_said (λ front all. front ++ all) c.in_err-rest.field-0.0 c.loop.all.items _ c.loop.counter c.loop.rest.now (read_all_said c.args.text.now) c.loop-test.true (sym c.said_follows.ensures ∙ c.if-not-said_follows.false)
+    (valued_fails add read_said c.loop.rest.now c.in_err-rest.field-0.0 c.in_err-rest.ensures.read) c.loop.invariant.left)
+
+one_more : (front more xs : List Said) (one : Said) → front ++ one ∷ [] ≡ more → front ++ one ∷ xs ≡ more ++ xs
+one_more front more xs one h = sym (append_assoc front (one ∷ []) xs) ∙ ap (λ (z : List Said). z ++ xs) h
 
 pub loop-preserved : goal.loop-preserved
 loop-preserved c =
-    rw c.in_ok-push.ensures.items (record {
-      left = goes_on said_follows read_said (λ front all. front ++ all) c.loop.all.items (c.loop.all.items ++ c.in_ok-said.said ∷ []) _ c.loop.counter c.loop.rest.now c.in_ok-said.after.now c.in_ok-said.said (read_all_said c.args.text.now) c.loop-test.true (sym c.said_follows.ensures ∙ c.if-not-said_follows.false) c.in_ok-said.ensures.read
-          (λ xs. sym (append_assoc c.loop.all.items (c.in_ok-said.said ∷ []) xs)) c.loop.invariant.left;
-      size = omega (arith, widths-append c.loop.all.items c.in_ok-said.said, c.in_ok-said.ensures.sizes, c.loop.invariant.size);
-    })
+    let more = c.push_said.new.all.items in
+    let add = λ (one : Said). c.loop.all.items ++ one ∷ [] in
+    let v = valued_ok add (read_said c.loop.rest.now) more c.in_ok-rest.rest.now c.in_ok-rest.ensures.read in
+    record {
+      left = goes_on said_follows read_said (λ front all. front ++ all) c.loop.all.items more _ c.loop.counter c.loop.rest.now c.in_ok-rest.rest.now v.value (read_all_said c.args.text.now) c.loop-test.true (sym c.said_follows.ensures ∙ c.if-not-said_follows.false) v.read
+          (λ xs. one_more c.loop.all.items more xs v.value v.made) c.loop.invariant.left;
+      size = omega (arith, c.in_ok-rest.ensures.sizes, c.loop.invariant.size);
+    }
 
 none_more : (front : List Said) → front ++ [] ≡ front
 none_more front = append-nil front

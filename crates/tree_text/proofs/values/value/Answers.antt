@@ -1,18 +1,21 @@
 use Rattle.std.proofs.Common.{◌≡◌, ℕ, ◌-◌, List, [], ◌∷◌, ◌++◌, length, sym, ap, ◌∙◌, append_assoc, arith}
 use Rattle.std.proofs.lemmas.List.{append-nil}
 use Rattle.std.proofs.lemmas.Result.{err_from_is_err_and}
+use Rattle.grammar_rules.specs.Reading.{read_many}
 use Rattle.tree_text.specs.Pieces.{value_of, raw, more_value}
 use Rattle.tree_text.specs.Members.{read_piece, value_with}
 use Rattle.tree_text.specs.Reading.{read_reference, read_raw, reference_follows, read_value}
-use Rattle.tree_text.proofs.Loops.{start, both_ok, first_stops, goes_on, ends, is_done, is_stopped}
+use Rattle.tree_text.proofs.Loops.{finish, start, valued_ok, both_ok, first_stops, goes_on, ends, is_done, is_stopped}
 use Rattle.tree_text.proofs.values.value.Goals as goal
 use Rattle.tree_text.proofs.values.value.Goals.{else-loop-test, then-loop-test+then-not-reference_follows}
 
 pub loop-init : goal.loop-init
 loop-init c =
-    let first : c.push_raw.new.value ≡ raw c.raw_run.result.0.now = c.in_ok-push_raw.ensures ∙ ap (λ (z : List ℕ). z ++ raw c.raw_run.result.0.now) c.in_ok-value.ensures in
-    let all : length c.raw_run.result.1.now - 0 ≡ length c.raw_run.result.1.now = omega arith in
-    rw (first, all) (start reference_follows (read_raw c.args.quote) read_reference value_of c.args.text.now c.raw_run.result.1.now c.raw_run.result.0.now c.raw_run.ensures)
+    let left = c.in_ok-value.start.now in
+    let all : length left - 0 ≡ length left = omega arith in
+    let first = valued_ok raw (read_raw c.args.quote c.args.text.now) c.in_ok-value.value left c.in_ok-value.ensures in
+    rw all (start reference_follows (read_raw c.args.quote) read_reference value_of c.args.text.now left first.value first.read
+    ∙ ap (λ (front : List ℕ). finish value_with front (read_many reference_follows (read_piece c.args.quote) left)) first.made)
 
 pub returns-in_err-c : goal.returns-in_err-c
 returns-in_err-c c =
@@ -25,9 +28,9 @@ join front x cs pieces = sym (append_assoc front (x ∷ raw cs) (more_value piec
 
 pub loop-preserved : goal.loop-preserved
 loop-preserved c =
-    rw c.in_ok-push_piece.ensures (goes_on reference_follows (read_piece c.args.quote) value_with c.loop.value (c.loop.value ++ (c.in_ok-c.c ∷ raw c.raw_run-in-loop.result.0.now)) _ c.loop.counter c.loop.rest.now c.raw_run-in-loop.result.1.now (c.in_ok-c.c, c.raw_run-in-loop.result.0.now) (read_value c.args.quote c.args.text.now) c.loop-test.true (sym c.reference_follows.ensures ∙ c.if-not-reference_follows.false)
-    (both_ok read_reference (λ _. read_raw c.args.quote) c.loop.rest.now c.in_ok-c.after.now c.raw_run-in-loop.result.1.now c.in_ok-c.c c.raw_run-in-loop.result.0.now c.in_ok-c.ensures c.raw_run-in-loop.ensures)
-    (λ xs. join c.loop.value c.in_ok-c.c c.raw_run-in-loop.result.0.now xs) c.loop.invariant)
+    rw c.in_ok-push_piece.ensures (goes_on reference_follows (read_piece c.args.quote) value_with c.loop.value (c.loop.value ++ (c.in_ok-c.c ∷ raw c.raw_run.result.0.now)) _ c.loop.counter c.loop.rest.now c.raw_run.result.1.now (c.in_ok-c.c, c.raw_run.result.0.now) (read_value c.args.quote c.args.text.now) c.loop-test.true (sym c.reference_follows.ensures ∙ c.if-not-reference_follows.false)
+    (both_ok read_reference (λ _. read_raw c.args.quote) c.loop.rest.now c.in_ok-c.after.now c.raw_run.result.1.now c.in_ok-c.c c.raw_run.result.0.now c.in_ok-c.ensures c.raw_run.ensures)
+    (λ xs. join c.loop.value c.in_ok-c.c c.raw_run.result.0.now xs) c.loop.invariant)
 
 none_more : (front : List ℕ) → front ++ [] ≡ front
 none_more front = append-nil front

@@ -1,10 +1,9 @@
 use Rattle.std.proofs.Common.{ℕ, List, [], Option, refl, sym, ap, ◌∙◌, chars, option_map}
 use Rattle.std.specs.Option.{unwrap_or}
 use Rattle.xml_tree.proofs.Letters.{chars_empty}
-use Rattle.xml_tree.specs.Scopes.{bound}
 use Rattle.usage_docs.proofs.attributes.space_of.Goals as goal
 
 pub returns-in-None : goal.returns-in-None
 returns-in-None c =
-    let e = ap (λ o. option_map (λ uri. chars uri.now) o) (sym c.in-None.is) ∙ c.resolve.ensures ∙ ap (bound c.args.scope.now) c.as_str.ensures.letters in
+    let e = ap (λ o. option_map (λ uri. chars uri.now) o) (sym c.in-None.is) ∙ c.resolve.ensures in
     chars_empty [] refl ∙ ap (λ (o : Option (List ℕ)). unwrap_or o []) e

@@ -1,5 +1,5 @@
 use Rattle.std.proofs.Common.{arith, refl}
-use Rattle.watch_port.proofs.Turns.{none_told, one_kept, one_left, all_told}
+use Rattle.watch_port.proofs.Turns.{one_kept, one_left, all_told}
 use Rattle.watch_port.specs.Rounds.{one_round}
 use Rattle.watch_port.proofs.tell.tell_all.Goals as goal
 

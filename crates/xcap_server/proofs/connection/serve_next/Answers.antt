@@ -1,4 +1,4 @@
-use Rattle.std.proofs.Common.{◌≡◌, ℕ, refl, sym, ap, ◌∙◌}
+use Rattle.std.proofs.Common.{ℕ, sym, ◌∙◌}
 use Rattle.xcap_server.proofs.Answering.{gives_on, turn_of_fault, turn_of_failed_write, turn_of_close, turn_of_request}
 use Rattle.xcap_server.proofs.connection.serve_next.Goals as goal
 

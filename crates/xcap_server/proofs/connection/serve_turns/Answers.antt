@@ -1,5 +1,5 @@
-use Rattle.std.proofs.Common.{◌≡◌, ap, subst, arith}
-use Rattle.http_wire.specs.Asking.{WireState, fresh_wire}
+use Rattle.std.proofs.Common.{ap, arith}
+use Rattle.http_wire.specs.Asking.{WireState}
 use Rattle.xcap_server.proofs.Turning.{another, at_end, at_first}
 use Rattle.xcap_server.proofs.connection.serve_turns.Goals as goal
 

@@ -1,4 +1,4 @@
-use Rattle.std.proofs.Common.{◌≡◌, ◌<◌, ◌-◌, ℕ, false}
+use Rattle.std.proofs.Common.{◌≡◌, ◌<◌, ◌-◌, false}
 use Rattle.xcap_server.proofs.Turning.{SoFar}
 use Rattle.xcap_server.proofs.connection.serve_turns.Given as goal
 

@@ -1,5 +1,3 @@
-use Rattle.std.proofs.Common.{sym, subst, Option, Some}
-use Rattle.http_wire.specs.Serving.{told}
 use Rattle.xcap_server.proofs.connection.tell_of.Goals as goal
 
 pub returns : goal.returns

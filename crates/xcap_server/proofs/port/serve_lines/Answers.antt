@@ -1,4 +1,4 @@
-use Rattle.std.proofs.Common.{◌≡◌, ℕ, arith, refl, sym, subst}
+use Rattle.std.proofs.Common.{ℕ, arith}
 use Rattle.xcap_server.proofs.Ports.{all_served, has_begun, has_ended, next_failed, no_connection, none_to_come, one_connection}
 use Rattle.xcap_server.proofs.port.serve_lines.Goals as goal
 

@@ -1,4 +1,4 @@
-use Rattle.std.proofs.Common.{sym, ap, ◌∙◌, take, drop, arith}
+use Rattle.std.proofs.Common.{ap, ◌∙◌, take, drop, arith}
 use Rattle.tree_text.proofs.RunLemmas.{take_run, drop_run, run_len_le}
 use Rattle.xcap_uri.specs.Cuts.{is_other}
 use Rattle.xcap_uri.proofs.cutting.cut_before.Goals as goal

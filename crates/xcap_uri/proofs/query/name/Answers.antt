@@ -1,4 +1,4 @@
-use Rattle.std.proofs.Common.{◌≡◌, ℕ, Bool, true, List, Ok, Err, length, take, drop, sym, ap, ◌∙◌, if◌then◌else◌, arith}
+use Rattle.std.proofs.Common.{◌≡◌, ℕ, Bool, true, List, Ok, Err, take, drop, sym, ap, ◌∙◌, if◌then◌else◌, arith}
 use Rattle.std.proofs.lemmas.Bool.{cond-true}
 use Rattle.grammar_rules.specs.Reading.{head_is, front_of, after_front}
 use Rattle.tree_text.specs.Runs.{run_len}

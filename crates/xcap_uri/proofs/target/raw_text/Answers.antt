@@ -1,4 +1,4 @@
-use Rattle.std.proofs.Common.{◌≡◌, List, ℕ, ◌++◌, option_map, string_bytes, ap, ◌∙◌}
+use Rattle.std.proofs.Common.{List, ℕ, ◌++◌, option_map, ap, ◌∙◌}
 use Rattle.std.specs.Str.{chars}
 use Rattle.xcap_uri.specs.Escapes.{escaped, is_visible}
 use Rattle.xcap_uri.specs.Targets.{with_query}

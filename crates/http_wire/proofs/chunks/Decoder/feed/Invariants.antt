@@ -1,4 +1,4 @@
-use Rattle.std.proofs.Common.{length, ◌-◌, ◌≡◌, ◌≤◌, take}
+use Rattle.std.proofs.Common.{length, ◌-◌, ◌≤◌, take}
 use Rattle.http_wire.specs.Decoding.{ReadsOn}
 use Rattle.http_wire.proofs.chunks.Decoder.feed.Given as goal
 

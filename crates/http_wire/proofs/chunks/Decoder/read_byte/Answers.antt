@@ -1,4 +1,4 @@
-use Rattle.std.proofs.Common.{◌≡◌, ◌≤◌, length, false, sym, subst, ap, ◌∙◌}
+use Rattle.std.proofs.Common.{◌≡◌, sym, subst, ap, ◌∙◌}
 use Rattle.http_wire.specs.declared.chunks.Stage.{Stage}
 use Rattle.http_wire.specs.Decoding.{Decoding, Fits, is_data}
 use Rattle.http_wire.proofs.Steps.{fits_next}

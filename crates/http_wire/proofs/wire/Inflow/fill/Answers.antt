@@ -1,4 +1,4 @@
-use Rattle.std.proofs.Common.{rules, ◌≡◌, ◌+◌, ◌-◌, ◌≤◌, length, take, ℕ, List, [], ◌++◌, slice_range, ap, sym, ◌∙◌, arith}
+use Rattle.std.proofs.Common.{rules, ◌≡◌, ◌-◌, length, take, ℕ, List, [], slice_range, ap, sym, ◌∙◌, arith}
 use Rattle.std.specs.Vec.{with_items}
 use Rattle.std.proofs.lemmas.List.{append-nil, length-take-le, places, with_items_is}
 use Rattle.std.proofs.KnownBytes.{Consumes-nil, Consumes-kept}

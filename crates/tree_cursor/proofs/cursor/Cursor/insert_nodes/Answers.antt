@@ -1,4 +1,4 @@
-use Rattle.std.proofs.Common.{[], sym, ap, ◌∙◌}
+use Rattle.std.proofs.Common.{sym, ap, ◌∙◌}
 use Rattle.std.proofs.lemmas.Result.{on_ok_weaker, on_err_weaker}
 use Rattle.xml_tree.specs.Nodes.{exchange_nodes}
 use Rattle.xml_tree.proofs.PathLemmas.{made_at, same_at}

@@ -1,0 +1,210 @@
+-- Plain characters in front of what ends their run are the run, and are read as they stand.
+use Rattle.std.proofs.Common.{◌≡◌, ℕ, ◌≤◌, ◌≢◌, Bool, true, false, List, [], ◌∷◌, ◌++◌, ◌&&◌, ◌||◌, Result, Ok, refl, sym, ap, subst, ◌∙◌, arith}
+use Rattle.std.specs.List.{list_all}
+use Rattle.std.specs.Prelude.{nat_eq, nat_le, not}
+use Rattle.std.proofs.lemmas.Bool.{and_parts, eqb-true, le-leb, ne_eqb}
+use Rattle.grammar_rules.specs.Reading.{Stop, ◌>>=◌, front_of, after_front, front_without, after_without}
+use Rattle.xml_tree.specs.Characters.{within}
+use Rattle.xml_tree.specs.Tree.{Content, Tree}
+use Rattle.xml_tree.proofs.Places.{with_text-nil}
+use Rattle.tree_text.specs.declared.kind.Kind.{Kind}
+use Rattle.tree_text.specs.Grammar.{is_raw, is_raw_in}
+use Rattle.tree_text.specs.Members.{with_chars, read_chars_onto, read_blanked}
+use Rattle.tree_text.specs.Pieces.{line_ends, raw}
+use Rattle.tree_text.specs.Reading.{read_chars, read_raw}
+use Rattle.tree_text.specs.Runs.{is_no_return, is_smooth, is_plain_in_content, is_plain_in_value, ends_run, ends_run_in}
+use Rattle.tree_text.specs.Words.{section_end}
+use Rattle.tree_text.proofs.PlainRuns.{plain_lines, smooth_raw}
+use Rattle.tree_text.proofs.RawLetters.{bounds}
+
+-- what stands raw for itself
+record IsPrinted (c : ℕ) : Type 0 where
+  stands : is_raw c ≡ true
+  smooth : nat_le 32 c ≡ true
+  no_return : nat_eq c 13 ≡ false
+
+printed : (c : ℕ) → 32 ≤ c → c ≤ 126 → c ≢ 38 → c ≢ 60 → IsPrinted c
+printed c low high amp less = record {
+  stands =
+      rw (ne_eqb c 9 (λ e. omega (arith, e, low)), ne_eqb c 10 (λ e. omega (arith, e, low)), ne_eqb c 13 (λ e. omega (arith, e, low)))
+      (rw (le-leb 32 c low, le-leb c 55295 (omega (arith, high)))
+      (rw (ne_eqb c 60 less, ne_eqb c 38 amp) refl));
+  smooth = le-leb 32 c low;
+  no_return = ne_eqb c 13 (λ e. omega (arith, e, low));
+}
+
+-- what does so in content wherever it is
+record IsInner (c : ℕ) : Type 0 where
+  stands : is_raw c ≡ true
+  no_bracket : nat_eq 93 c ≡ false
+  no_return : nat_eq c 13 ≡ false
+
+printed_inner : (c : ℕ) → IsPrinted c → 93 ≢ c → IsInner c
+printed_inner c p other = record { stands = p.stands; no_bracket = ne_eqb 93 c other; no_return = p.no_return }
+
+space_inner : IsInner 32
+space_inner = record { stands = refl; no_bracket = refl; no_return = refl }
+
+line_end_inner : IsInner 10
+line_end_inner = record { stands = refl; no_bracket = refl; no_return = refl }
+
+inner_by : (c : ℕ) (a b d e f g : Bool) → within 94 126 c ≡ a → nat_eq c 32 ≡ b → nat_eq c 10 ≡ d → within 61 92 c ≡ e → within 33 37 c ≡ f → within 39 59 c ≡ g → (((((a || b) || d) || e) || f) || g) ≡ true → IsInner c
+inner_by c true b d e f g i j k l m n h =
+    let w = bounds 94 126 c i in
+    let from : 94 ≤ c = w.0 in
+    printed_inner c (printed c (omega (arith, from)) w.1 (λ x. omega (arith, x, from)) (λ x. omega (arith, x, from))) (λ x. omega (arith, x, from))
+inner_by c false true d e f g i j k l m n h = subst IsInner (sym (eqb-true c 32 j)) space_inner
+inner_by c false false true e f g i j k l m n h = subst IsInner (sym (eqb-true c 10 k)) line_end_inner
+inner_by c false false false true f g i j k l m n h =
+    let w = bounds 61 92 c l in
+    let from : 61 ≤ c = w.0 in
+    let to : c ≤ 92 = w.1 in
+    printed_inner c (printed c (omega (arith, from)) (omega (arith, to)) (λ x. omega (arith, x, from)) (λ x. omega (arith, x, from))) (λ x. omega (arith, x, to))
+inner_by c false false false false true g i j k l m n h =
+    let w = bounds 33 37 c m in
+    let from : 33 ≤ c = w.0 in
+    let to : c ≤ 37 = w.1 in
+    printed_inner c (printed c (omega (arith, from)) (omega (arith, to)) (λ x. omega (arith, x, to)) (λ x. omega (arith, x, to))) (λ x. omega (arith, x, to))
+inner_by c false false false false false true i j k l m n h =
+    let w = bounds 39 59 c n in
+    let from : 39 ≤ c = w.0 in
+    let to : c ≤ 59 = w.1 in
+    printed_inner c (printed c (omega (arith, from)) (omega (arith, to)) (λ x. omega (arith, x, from)) (λ x. omega (arith, x, to))) (λ x. omega (arith, x, to))
+inner_by c false false false false false false i j k l m n h = absurd cc
+
+plain_inner : (c : ℕ) → is_plain_in_content c ≡ true → IsInner c
+plain_inner c h = inner_by c (within 94 126 c) (nat_eq c 32) (nat_eq c 10) (within 61 92 c) (within 33 37 c) (within 39 59 c) refl refl refl refl refl refl h
+
+value_by : (c : ℕ) (a b d : Bool) → within 39 59 c ≡ a → within 32 37 c ≡ b → within 61 126 c ≡ d → ((a || b) || d) ≡ true → IsPrinted c
+value_by c true b d i j k h =
+    let w = bounds 39 59 c i in
+    let from : 39 ≤ c = w.0 in
+    let to : c ≤ 59 = w.1 in
+    printed c (omega (arith, from)) (omega (arith, to)) (λ x. omega (arith, x, from)) (λ x. omega (arith, x, to))
+value_by c false true d i j k h =
+    let w = bounds 32 37 c j in
+    let to : c ≤ 37 = w.1 in
+    printed c w.0 (omega (arith, to)) (λ x. omega (arith, x, to)) (λ x. omega (arith, x, to))
+value_by c false false true i j k h =
+    let w = bounds 61 126 c k in
+    let from : 61 ≤ c = w.0 in
+    printed c (omega (arith, from)) w.1 (λ x. omega (arith, x, from)) (λ x. omega (arith, x, from))
+value_by c false false false i j k h = absurd cc
+
+module _ (quote c : ℕ) (h : is_plain_in_value quote c ≡ true) where
+  parts : (not (nat_eq c quote) ≡ true) × (((within 39 59 c || within 32 37 c) || within 61 126 c) ≡ true)
+  parts = and_parts (not (nat_eq c quote)) ((within 39 59 c || within 32 37 c) || within 61 126 c) h
+
+  plain_printed : IsPrinted c
+  plain_printed = value_by c (within 39 59 c) (within 32 37 c) (within 61 126 c) refl refl refl parts.1
+
+  plain_raw_in : is_raw_in quote c ≡ true
+  plain_raw_in = both_true (is_raw c) (not (nat_eq c quote)) plain_printed.stands parts.0
+    where
+      both_true : (a b : Bool) → a ≡ true → b ≡ true → (a && b) ≡ true
+      both_true a b i j = rw (i, j) refl
+
+-- what holds of each holds of all
+all_by : (p q : ℕ → Bool) → ((c : ℕ) → p c ≡ true → q c ≡ true) → (cs : List ℕ) → list_all p cs ≡ true → list_all q cs ≡ true
+all_by p q each [] h = refl
+all_by p q each (c ∷ cs) h =
+    let both = and_parts (p c) (list_all p cs) h in
+    rw (each c both.0) (all_by p q each cs both.1)
+
+-- they are read as they stand
+content_lines : (cs : List ℕ) → list_all is_plain_in_content cs ≡ true → line_ends cs ≡ cs
+content_lines cs h = plain_lines cs (all_by is_plain_in_content is_no_return (λ c i. ap not (plain_inner c i).no_return) cs h)
+
+value_raw : (quote : ℕ) (cs : List ℕ) → list_all (is_plain_in_value quote) cs ≡ true → raw cs ≡ cs
+value_raw quote cs h = smooth_raw cs (all_by (is_plain_in_value quote) is_smooth (λ c i. (plain_printed quote c i).smooth) cs h)
+
+-- a run of characters that pass, in front of what doesn't
+module _ (p q : ℕ → Bool) (each : (c : ℕ) → q c ≡ true → p c ≡ true) (rest : List ℕ) (none : front_of p rest ≡ []) (all : after_front p rest ≡ rest) where
+  front_is : (front : List ℕ) → list_all q front ≡ true → front_of p (front ++ rest) ≡ front
+  front_is [] h = none
+  front_is (c ∷ front) h =
+      let both = and_parts (q c) (list_all q front) h in
+      rw (each c both.0) (ap (λ (z : List ℕ). c ∷ z) (front_is front both.1))
+
+  rest_is : (front : List ℕ) → list_all q front ≡ true → after_front p (front ++ rest) ≡ rest
+  rest_is [] h = all
+  rest_is (c ∷ front) h =
+      let both = and_parts (q c) (list_all q front) h in
+      rw (each c both.0) (rest_is front both.1)
+
+-- the same where no `]]>` may stand, and none of them is a `]`
+module _ (p q : ℕ → Bool) (each : (c : ℕ) → q c ≡ true → p c ≡ true) (other : (c : ℕ) → q c ≡ true → nat_eq 93 c ≡ false) (rest : List ℕ)
+    (none : front_without p section_end rest ≡ []) (all : after_without p section_end rest ≡ rest) where
+  front_without_is : (front : List ℕ) → list_all q front ≡ true → front_without p section_end (front ++ rest) ≡ front
+  front_without_is [] h = none
+  front_without_is (c ∷ front) h =
+      let both = and_parts (q c) (list_all q front) h in
+      rw (other c both.0) (rw (each c both.0) (ap (λ (z : List ℕ). c ∷ z) (front_without_is front both.1)))
+
+  rest_without_is : (front : List ℕ) → list_all q front ≡ true → after_without p section_end (front ++ rest) ≡ rest
+  rest_without_is [] h = all
+  rest_without_is (c ∷ front) h =
+      let both = and_parts (q c) (list_all q front) h in
+      rw (other c both.0) (rw (each c both.0) (rest_without_is front both.1))
+
+answer : (f : List ℕ → List ℕ) (x y u v w : List ℕ) → x ≡ u → y ≡ v → f u ≡ w → let a : Result (List ℕ × List ℕ) (Stop Kind) = Ok (f x, y) in a ≡ Ok (w, v)
+answer f x y u v w h i j = rw h (rw (i, j) refl)
+
+-- # Content
+
+content_ends_by : (c : ℕ) (cs : List ℕ) (a b : Bool) → nat_eq c 60 ≡ a → nat_eq c 38 ≡ b → (a || b) ≡ true → (front_without is_raw section_end (c ∷ cs) ≡ []) × (after_without is_raw section_end (c ∷ cs) ≡ c ∷ cs)
+content_ends_by c cs true b i j h = let z = eqb-true c 60 i in rw z (refl, refl)
+content_ends_by c cs false true i j h = let z = eqb-true c 38 j in rw z (refl, refl)
+content_ends_by c cs false false i j h = absurd cc
+
+content_ends : (rest : List ℕ) → ends_run rest ≡ true → (front_without is_raw section_end rest ≡ []) × (after_without is_raw section_end rest ≡ rest)
+content_ends [] h = absurd cc
+content_ends (c ∷ cs) h = content_ends_by c cs (nat_eq c 60) (nat_eq c 38) refl refl h
+
+pub plain_chars : (text front rest : List ℕ) → text ≡ front ++ rest → list_all is_plain_in_content front ≡ true → ends_run rest ≡ true → read_chars text ≡ Ok (front, rest)
+plain_chars text front rest whole h e =
+    let none = content_ends rest e in
+    let stands = λ (c : ℕ) (i : is_plain_in_content c ≡ true). (plain_inner c i).stands in
+    let other = λ (c : ℕ) (i : is_plain_in_content c ≡ true). (plain_inner c i).no_bracket in
+    ap read_chars whole ∙ answer line_ends _ _ front rest front
+    (front_without_is is_raw is_plain_in_content stands other rest none.0 none.1 front h)
+    (rest_without_is is_raw is_plain_in_content stands other rest none.0 none.1 front h)
+    (content_lines front h)
+
+-- characters that are read are added to content
+pub chars_onto : (tree : Tree) (text cs rest : List ℕ) → read_chars text ≡ Ok (cs, rest) → read_chars_onto tree text ≡ Ok (with_chars tree cs, rest)
+chars_onto tree text cs rest h = ap (λ (r : Result (List ℕ × List ℕ) (Stop Kind)). r >>= λ x. let z : Tree × List ℕ = (with_chars tree x.0, x.1) in Ok z) h
+
+pub nothing_onto : (tree : Tree) (text : List ℕ) → ends_run text ≡ true → read_chars_onto tree text ≡ Ok (tree, text)
+nothing_onto tree text e =
+    chars_onto tree text [] text (plain_chars text [] text refl refl e)
+    ∙ ap (λ (k : Content). let z : Tree × List ℕ = (record tree { content = k }, text) in Ok z) (with_text-nil tree.content)
+
+-- # Values
+
+value_ends_by : (quote c : ℕ) (cs : List ℕ) (a b : Bool) → nat_eq c quote ≡ a → nat_eq c 38 ≡ b → (a || b) ≡ true → is_raw_in quote c ≡ false
+value_ends_by quote c cs true b i j h = rw i (never (is_raw c))
+  where
+    never : (b : Bool) → (b && false) ≡ false
+    never true = refl
+    never false = refl
+value_ends_by quote c cs false true i j h = let z = eqb-true c 38 j in rw z refl
+value_ends_by quote c cs false false i j h = absurd cc
+
+value_ends : (quote : ℕ) (rest : List ℕ) → ends_run_in quote rest ≡ true → (front_of (is_raw_in quote) rest ≡ []) × (after_front (is_raw_in quote) rest ≡ rest)
+value_ends quote [] h = absurd cc
+value_ends quote (c ∷ cs) h = by (is_raw_in quote) (value_ends_by quote c cs (nat_eq c quote) (nat_eq c 38) refl refl h)
+  where
+    by : (p : ℕ → Bool) → p c ≡ false → (front_of p (c ∷ cs) ≡ []) × (after_front p (c ∷ cs) ≡ c ∷ cs)
+    by p i = rw i (refl, refl)
+
+pub plain_blanked : (quote : ℕ) (text front rest : List ℕ) → text ≡ front ++ rest → list_all (is_plain_in_value quote) front ≡ true → ends_run_in quote rest ≡ true → read_blanked quote text ≡ Ok (front, rest)
+plain_blanked quote text front rest whole h e =
+    let none = value_ends quote rest e in
+    ap (read_blanked quote) whole ∙ answer raw _ _ front rest front
+    (front_is (is_raw_in quote) (is_plain_in_value quote) (plain_raw_in quote) rest none.0 none.1 front h)
+    (rest_is (is_raw_in quote) (is_plain_in_value quote) (plain_raw_in quote) rest none.0 none.1 front h)
+    (value_raw quote front h)
+
+pub raw_blanked : (quote : ℕ) (text cs rest : List ℕ) → read_raw quote text ≡ Ok (cs, rest) → read_blanked quote text ≡ Ok (raw cs, rest)
+raw_blanked quote text cs rest h = ap (λ (r : Result (List ℕ × List ℕ) (Stop Kind)). r >>= λ x. let z : List ℕ × List ℕ = (raw x.0, x.1) in Ok z) h

@@ -1,0 +1,24 @@
+use Rattle.std.proofs.Common.{◌≡◌, ◌+◌, ◌*◌, ◌-◌}
+use Rattle.grammar_rules.specs.Reading.{read_at_most}
+use Rattle.tree_text.specs.Members.{tree_with, read_member, read_filled}
+use Rattle.tree_text.specs.Reading.{markup_follows, read_element}
+use Rattle.tree_text.proofs.Loops.{finish}
+use Rattle.tree_text.proofs.elements.+nested.Given as goal
+
+abbrev pub decreases-push_child : goal.decreases-push_child
+decreases-push_child l = 5 * l.levels
+
+abbrev pub decreases-push_markup : goal.decreases-push_markup
+decreases-push_markup l = 5 * l.levels + 1
+
+abbrev pub decreases-content : goal.decreases-content
+decreases-content l = 5 * l.levels + 2
+
+abbrev pub decreases-behind_tag : goal.decreases-behind_tag
+decreases-behind_tag l = 5 * l.levels + 3
+
+abbrev pub decreases-fill : goal.decreases-fill
+decreases-fill l = 5 * l.inner + 4
+
+abbrev pub invariant-content-loop : goal.invariant-content-loop
+invariant-content-loop l = read_filled l.fn.element (read_element l.levels l.scope l.depth) l.text ≡ finish tree_with l.element (read_at_most markup_follows (read_member (read_element l.levels l.scope l.depth)) (l.end - l.counter) l.rest)

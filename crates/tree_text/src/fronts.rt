@@ -1,0 +1,83 @@
+//! The plain characters in front of a text: ASCII ones that are read as they stand. One pass finds their end and makes them bytes.
+ghost use Rattle.std.specs.Prelude.{◌≡◌, ◌≤◌, ◌++◌, take, chars, length, IsTrue};
+ghost use Rattle.std.specs.List.{list_all};
+ghost use Rattle.tree_text.specs.Runs.{is_plain_in_content, is_plain_in_value};
+
+use crate::texts::ascii;
+
+// How many characters are read at most.
+const MOST: usize = 64;
+
+// Whether a character is an ASCII one that stands raw in content wherever it is, and for itself. The most frequent are tested first.
+fn is_plain_in_content(c: char) -> bool
+    ensures { result ≡ is_plain_in_content c }
+{
+    matches!(c, '^'..='~')
+        || c == ' '
+        || c == '\n'
+        || matches!(c, '='..='\\')
+        || matches!(c, '!'..='%')
+        || matches!(c, '\''..=';')
+}
+
+// Whether a character is an ASCII one that stands raw in a value between these quotes, and for itself.
+fn is_plain_in_value(c: char, quote: char) -> bool
+    ensures { result ≡ is_plain_in_value quote c }
+{
+    c != quote && (matches!(c, '\''..=';') || matches!(c, ' '..='%') || matches!(c, '='..='~'))
+}
+
+// How many characters in front are plain in content. It writes them as bytes.
+fn content_len(text: &[char], bytes: &mut [u8; 64]) -> usize
+    requires few { length text.now ≤ 64 }
+    ensures size { result ≤ length text.now }
+    ensures bytes { take result bytes.new ≡ take result text.now }
+    ensures plain { IsTrue (list_all is_plain_in_content (take result text.now)) }
+{
+    for (i, &c) in text.iter().enumerate() {
+        if !is_plain_in_content(c) {
+            return i;
+        }
+        bytes[i] = c as u8;
+    }
+    text.len()
+}
+
+// How many characters in front are plain in a value between these quotes. It writes them as bytes.
+#[inline(never)]
+fn value_len(text: &[char], quote: char, bytes: &mut [u8; 64]) -> usize
+    requires few { length text.now ≤ 64 }
+    ensures size { result ≤ length text.now }
+    ensures bytes { take result bytes.new ≡ take result text.now }
+    ensures plain { IsTrue (list_all (is_plain_in_value quote) (take result text.now)) }
+{
+    for (i, &c) in text.iter().enumerate() {
+        if !is_plain_in_value(c, quote) {
+            return i;
+        }
+        bytes[i] = c as u8;
+    }
+    text.len()
+}
+
+/// The characters in front that are plain in content, 64 at most, and what follows them.
+pub fn plain_in_content<'a, 'b>(text: &'a [char], bytes: &'b mut [u8; 64]) -> (&'b str, &'a [char])
+    ensures text { text.now ≡ chars result.0.now ++ result.1.now }
+    ensures plain { IsTrue (list_all is_plain_in_content (chars result.0.now)) }
+{
+    let len = content_len(&text[..text.len().min(MOST)], bytes);
+    (ascii(bytes, len), &text[len..])
+}
+
+/// The characters in front that are plain in a value between these quotes, 64 at most, and what follows them.
+pub fn plain_in_value<'a, 'b>(
+    text: &'a [char],
+    quote: char,
+    bytes: &'b mut [u8; 64],
+) -> (&'b str, &'a [char])
+    ensures text { text.now ≡ chars result.0.now ++ result.1.now }
+    ensures plain { IsTrue (list_all (is_plain_in_value quote) (chars result.0.now)) }
+{
+    let len = value_len(&text[..text.len().min(MOST)], quote, bytes);
+    (ascii(bytes, len), &text[len..])
+}
