@@ -1,15 +1,18 @@
 -- An element is read: its tag, and what stands behind it.
 use Rattle.std.proofs.Common.{◌≡◌, ℕ, suc, ◌+◌, List, [], ◌∷◌, ◌++◌, length, Result, Ok, Err, refl, sym, subst, ap, ◌∙◌, arith}
+use Rattle.std.proofs.lemmas.List.{same_from_push}
 use Rattle.grammar_rules.specs.Reading.{Reader, Stop, Syntax, Faulty, ◌>>=◌, judgement, read_judged, read_at_most, read_many, read_valued}
 use Rattle.xml_tree.specs.Edits.{with_text}
 use Rattle.xml_tree.specs.Tree.{Content, last, Tree, tree_of}
 use Rattle.xml_tree.specs.declared.names.Name.{Name}
 use Rattle.xml_tree.specs.declared.names.Decl.{Decl}
+use Rattle.tree_text.specs.Bindings.{AreBack, AreKept, lists}
+use Rattle.tree_text.specs.declared.bindings.Bindings.{Bindings}
 use Rattle.tree_text.specs.declared.kind.Kind.{Kind}
 use Rattle.tree_text.specs.declared.stop.Stop.{Stop as CodeStop}
 use Rattle.tree_text.specs.declared.stop.Stop.TheVariants as stops
 use Rattle.tree_text.specs.Gives.{Fails}
-use Rattle.tree_text.specs.Members.{filled, tree_with, with_chars, with_one, read_chars_onto, read_member, read_child, read_filled, read_filled_behind}
+use Rattle.tree_text.specs.Members.{filled, tree_with, with_chars, with_one, read_chars_onto, read_member, read_child, read_onto, read_filled, read_filled_behind}
 use Rattle.tree_text.specs.Names.{decls_of, attrs_of, counted_back, first_of_tag, tag_fault, element_of}
 use Rattle.tree_text.specs.Pieces.{Markup, Inner, Tag, with_pieces}
 use Rattle.tree_text.specs.Reading.{markup_follows, read_chars, read_markup, read_tag, read_behind_tag, read_element}
@@ -118,3 +121,25 @@ level_ok levels i depth scope text rest e level h = ap (λ (n : ℕ). read_eleme
 
 pub level_stops : (levels i depth : ℕ) (scope : List (List Decl)) (text : List ℕ) (s : CodeStop) → levels ≡ i + 1 → Fails s (read_element (i + 1) scope depth text) → Fails s (read_element levels scope depth text)
 level_stops levels i depth scope text s level h = rw level h
+
+-- # Markup in an equal scope
+
+pub onto_ok : (levels depth : ℕ) (tree made : Tree) (text rest : List ℕ) (a b : List (List Decl)) → a ≡ b → read_onto tree (read_element levels a depth) text ≡ Ok (made, rest) → read_onto tree (read_element levels b depth) text ≡ Ok (made, rest)
+onto_ok levels depth tree made text rest a b same h = ap (λ (z : List (List Decl)). read_onto tree (read_element levels z depth) text) (sym same) ∙ h
+
+pub onto_stops : (levels depth : ℕ) (tree : Tree) (text : List ℕ) (s : CodeStop) (a b : List (List Decl)) → a ≡ b → Fails s (read_onto tree (read_element levels a depth) text) → Fails s (read_onto tree (read_element levels b depth) text)
+onto_stops levels depth tree text s a b same h = subst (λ (z : List (List Decl)). Fails s (read_onto tree (read_element levels z depth) text)) same h
+
+-- # The declarations around
+
+pub still : (b : Bindings) → AreKept b → AreBack b b
+still b kept = record { same = refl; kept = kept }
+
+pub back_again : (a b c : Bindings) → AreBack a b → AreBack b c → AreBack a c
+back_again a b c h i = record { same = i.same ∙ h.same; kept = i.kept }
+
+-- an element was opened, and closed
+pub closed : (before opened behind after : Bindings) (decls out : List Decl) → lists opened ≡ lists before ++ decls ∷ [] → AreBack opened behind → lists behind ≡ lists after ++ out ∷ [] → AreKept after → (out ≡ decls) × AreBack before after
+closed before opened behind after decls out inside back outside kept =
+    let p = same_from_push (lists after) (lists before) out decls (sym outside ∙ back.same ∙ inside) in
+    (p.1, record { same = p.0; kept = kept })

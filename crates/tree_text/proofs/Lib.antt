@@ -4,6 +4,9 @@ pub mod Shrinks
 pub mod NameLemmas
 pub mod TagLemmas
 pub mod JudgeLemmas
+pub mod StackLemmas
+pub mod NumberLemmas
+pub mod NamespaceLemmas
 pub mod MeaningLemmas
 pub mod CommentLemmas
 pub mod ElementLemmas

@@ -1,9 +1,10 @@
 -- A run, cut by its length.
-use Rattle.std.proofs.Common.{◌≡◌, ℕ, suc, ◌+◌, ◌-◌, ◌<◌, ◌≤◌, Bool, true, false, cond, List, [], ◌∷◌, ◌++◌, length, take, drop, get_or, Result, Ok, Err, refl, sym, ap, ◌∙◌, append_assoc, arith, add-one}
+use Rattle.std.proofs.Common.{◌≡◌, ℕ, suc, min, ◌+◌, ◌-◌, ◌<◌, ◌≤◌, Bool, true, false, cond, List, [], ◌∷◌, ◌++◌, length, take, drop, get_or, Result, Ok, Err, refl, sym, ap, ◌∙◌, append_assoc, arith, add-one}
 use Rattle.std.specs.Prelude.{nat_eq}
 use Rattle.std.proofs.lemmas.Bool.{eqb-true}
+use Rattle.std.proofs.Math.Nat.{min_comm}
 use Rattle.std.proofs.Math.Seq.{drop-cons, take-length, take-suc}
-use Rattle.std.proofs.lemmas.List.{get_or_default, length-append, length-drop, take-append-le, append-nil}
+use Rattle.std.proofs.lemmas.List.{get_or_default, length-append, length-drop, take-append-le, take_min, append-nil}
 use Rattle.grammar_rules.specs.Reading.{Stop, Syntax, ◌>>=◌, starts, front_of, after_front, all_but_last, front_without, after_without, with_front, read_up_to, read_name_of, read_some_of}
 use Rattle.tree_text.specs.declared.kind.Kind.{Kind}
 use Rattle.tree_text.specs.Runs.{run_len, without_len}
@@ -45,6 +46,10 @@ run_done p xs i n h e t =
     let d : drop i xs ≡ get_or xs i 0 ∷ drop (suc i) xs = drop-cons xs i 0 h in
     let f : run_len p (drop i xs) ≡ 0 = ap (run_len p) d ∙ rw t refl in
     omega (arith, f, e)
+
+-- the slice of the first ones
+pub take_least : (xs : List ℕ) (n least : ℕ) → least ≡ min (length xs) n → take least xs ≡ take n xs
+take_least xs n least is = ap (λ (k : ℕ). take k xs) (is ∙ min_comm (length xs) n) ∙ take_min n xs
 
 -- the slice behind the first item
 rest_all : (text : List ℕ) → 1 ≤ length text → take (length text - 1) (drop 1 text) ≡ drop 1 text

@@ -1,3 +1,4 @@
+pub mod Bindings
 pub mod Faults
 pub mod Gives
 pub mod Grammar

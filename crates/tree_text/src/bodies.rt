@@ -1,12 +1,12 @@
 //! Bodies that spell the value of an attribute (application/xcap-att+xml; RFC 4825, section 15.2.2).
-ghost use Rattle.std.specs.Prelude.{◌≡◌, ◌⊎◌, length, option_map, IfOk, IsTrue, Err, Ok};
+ghost use Rattle.std.specs.Prelude.{◌≡◌, ◌⊎◌, option_map, IfOk, IsTrue, Err, Ok};
 ghost use Rattle.std.specs.Str.{chars};
-ghost use Rattle.grammar_rules.specs.Reading.{front_of, after_front, read_atomic, read_run, read_whole};
+ghost use Rattle.grammar_rules.specs.Reading.{front_of, after_front, read_whole};
 ghost use Rattle.xml_tree.specs.Characters.{all_chars};
 ghost use Rattle.tree_text.specs.Faults.{Unless, BodyAnswer, BodyFaultOf, body_read, closing, in_quotes, is_other, spelling_of};
 ghost use Rattle.tree_text.specs.Gives.{Gives, GivesAll};
 ghost use Rattle.tree_text.specs.Grammar.{is_quote, is_raw};
-ghost use Rattle.tree_text.specs.Reading.{read_reference, read_spelling, read_plain, read_whole_reference};
+ghost use Rattle.tree_text.specs.Reading.{read_spelling, read_plain, read_whole_reference};
 ghost use Rattle.tree_text.specs.Runs.{run_len};
 ghost use Rattle.tree_text.specs.declared.fault.ValueFault.TheVariants as bodies;
 

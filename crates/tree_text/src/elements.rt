@@ -1,8 +1,9 @@
 //! Elements: their tags, their content, and the elements in it, no deeper than a limit.
-ghost use Rattle.std.specs.Prelude.{◌≡◌, ◌+◌, ◌-◌, ◌≤◌, ◌<◌, ◌^◌, ◌++◌, true, [], ◌∷◌, length, drop, IfOk, OnOk, Ok, Err, IsTrue};
+ghost use Rattle.std.specs.Prelude.{◌≡◌, ◌+◌, ◌-◌, ◌≤◌, ◌<◌, ◌++◌, true, [], ◌∷◌, length, IfOk, OnOk, Ok, Err};
 ghost use Rattle.grammar_rules.specs.Reading.{starts, judgement};
 ghost use Rattle.xml_tree.specs.Edits.{with_text};
 ghost use Rattle.xml_tree.specs.Tree.{last, tree_of};
+ghost use Rattle.tree_text.specs.Bindings.{AreBack, AreKept, lists};
 ghost use Rattle.tree_text.specs.Gives.{Gives, Fails};
 ghost use Rattle.tree_text.specs.Members.{read_chars_onto, read_onto, read_child, read_filled, read_filled_behind};
 ghost use Rattle.tree_text.specs.Names.{attrs_of, counted_back, first_of_tag, opening, widths};
@@ -10,6 +11,7 @@ ghost use Rattle.tree_text.specs.Reading.{markup_follows, read_tag, read_element
 ghost use Rattle.tree_text.specs.Runs.{ends_run};
 ghost use Rattle.tree_text.specs.Views.{name_in, tag_in};
 
+use crate::bindings::Bindings;
 use crate::fronts::plain_in_content;
 use crate::kind::Kind;
 use crate::names::{declares, decls_of, first_of_tag};
@@ -24,21 +26,22 @@ use crate::texts::text_of;
 use crate::values::reference;
 use crate::written::{end_tag, owned};
 use std::alloc::{AllocError, Global};
-use xml_tree::{Around, Attr, Decl, Declared, Element, Name};
+use xml_tree::{Attr, Decl, Element, Name};
 
-/// Stops at the first wrong name of a tag, which this follows, in the scope inside it.
+/// Stops at the first wrong name of a tag, which this follows, inside its element.
 fn judged<'a>(
     alloc: Global,
     text: &'a [char],
     behind: &'a [char],
-    here: &Around<'_>,
+    here: &Bindings,
     name: &Name,
     tag: &Tag<'_>,
 ) -> Result<(), Stop<'a>>
+    requires kept { AreKept here.now }
     requires named { name.now ≡ name_in tag.now.written }
     requires opening { tag.now.opening ≡ opening (tag_in tag.now) }
     requires sizes { tag.now.opening + widths tag.now.said.items ≤ length text.now }
-    ensures { Gives (λ _. (tag_in tag.now, behind.now)) result (judgement text.now (tag_in tag.now, behind.now) (counted_back tag.now.size (first_of_tag here.now (tag_in tag.now)))) }
+    ensures { Gives (λ _. (tag_in tag.now, behind.now)) result (judgement text.now (tag_in tag.now, behind.now) (counted_back tag.now.size (first_of_tag (lists here.now) (tag_in tag.now)))) }
 {
     if let Some((kind, at)) = first_of_tag(alloc, here, name, tag)? {
         let place = before(text, behind, tag.size.saturating_sub(at));
@@ -174,14 +177,15 @@ fn no_level(text: &[char], depth: usize) -> Stop<'_>
 fn push_markup<'a>(
     alloc: Global,
     text: &'a [char],
-    scope: &Around<'_>,
+    bindings: &mut Bindings,
     depth: usize,
     levels: usize,
     element: &mut Element,
 ) -> Result<&'a [char], Stop<'a>>
-    requires lists { length scope.now + levels ≤ 67 }
+    requires kept { AreKept bindings.old }
     requires deep { depth + levels ≤ 1000 }
-    ensures { Gives (λ rest. (element.new, rest.now)) result (read_onto element.old (read_element levels scope.now depth) text.now) }
+    ensures read { Gives (λ rest. (element.new, rest.now)) result (read_onto element.old (read_element levels (lists bindings.old) depth) text.now) }
+    ensures back { OnOk result (AreBack bindings.old bindings.new) }
 {
     if let ['&', ..] = text {
         let (c, rest) = reference(text)?;
@@ -202,7 +206,7 @@ fn push_markup<'a>(
         let rest = instruction(text)?;
         return Ok(rest);
     }
-    push_child(alloc, text, scope, depth, levels, element)
+    push_child(alloc, text, bindings, depth, levels, element)
 }
 
 /// Adds content to an element that has none, and answers what follows it.
@@ -210,15 +214,16 @@ fn push_markup<'a>(
 fn content<'a>(
     alloc: Global,
     text: &'a [char],
-    scope: &Around<'_>,
+    bindings: &mut Bindings,
     depth: usize,
     levels: usize,
     element: &mut Element,
 ) -> Result<&'a [char], Stop<'a>>
-    requires lists { length scope.now + levels ≤ 67 }
+    requires kept { AreKept bindings.old }
     requires deep { depth + levels ≤ 1000 }
     requires empty { element.old.content ≡ last [] }
-    ensures { Gives (λ rest. (element.new, rest.now)) result (read_filled element.old (read_element levels scope.now depth) text.now) }
+    ensures read { Gives (λ rest. (element.new, rest.now)) result (read_filled element.old (read_element levels (lists bindings.old) depth) text.now) }
+    ensures back { OnOk result (AreBack bindings.old bindings.new) }
 {
     let start = push_run(alloc, text, element)?;
     let mut rest = start;
@@ -226,7 +231,7 @@ fn content<'a>(
         if !markup_follows(rest) {
             break;
         }
-        let after = push_markup(alloc, rest, scope, depth, levels, element)?;
+        let after = push_markup(alloc, rest, bindings, depth, levels, element)?;
         rest = push_run(alloc, after, element)?;
     }
     Ok(rest)
@@ -237,21 +242,22 @@ fn content<'a>(
 fn behind_tag<'a>(
     alloc: Global,
     text: &'a [char],
-    scope: &Around<'_>,
+    bindings: &mut Bindings,
     depth: usize,
     levels: usize,
     tag: &Tag<'_>,
     element: &mut Element,
 ) -> Result<&'a [char], Stop<'a>>
-    requires lists { length scope.now + levels ≤ 67 }
+    requires kept { AreKept bindings.old }
     requires deep { depth + levels ≤ 1000 }
     requires empty { element.old.content ≡ last [] }
-    ensures { Gives (λ rest. (element.new, rest.now)) result (read_filled_behind element.old (read_element levels scope.now depth) (name_in tag.now.written) tag.now.is_empty text.now) }
+    ensures read { Gives (λ rest. (element.new, rest.now)) result (read_filled_behind element.old (read_element levels (lists bindings.old) depth) (name_in tag.now.written) tag.now.is_empty text.now) }
+    ensures back { OnOk result (AreBack bindings.old bindings.new) }
 {
     if tag.is_empty {
         return Ok(text);
     }
-    let rest = content(alloc, text, scope, depth, levels, element)?;
+    let rest = content(alloc, text, bindings, depth, levels, element)?;
     let rest = end_tag(rest, &tag.written)?;
     Ok(rest)
 }
@@ -262,27 +268,26 @@ fn fill<'a>(
     alloc: Global,
     text: &'a [char],
     behind: &'a [char],
-    scope: &Around<'_>,
+    bindings: &mut Bindings,
     depth: usize,
     inner: usize,
     tag: Tag<'_>,
     element: &mut Element,
 ) -> Result<&'a [char], Stop<'a>>
-    requires lists { length scope.now + inner < 67 }
+    requires kept { AreKept bindings.old }
     requires deep { depth + inner < 1000 }
     requires tagged { read_tag text.now ≡ Ok (tag_in tag, behind.now) }
     requires opening { tag.opening ≡ opening (tag_in tag) }
     requires sizes { tag.opening + widths tag.said.items ≤ length text.now }
     requires bare { element.old ≡ tree_of (name_in tag.written) [] [] (last []) }
-    ensures { Gives (λ rest. (element.new, rest.now)) result (read_element (inner + 1) scope.now depth text.now) }
+    ensures read { Gives (λ rest. (element.new, rest.now)) result (read_element (inner + 1) (lists bindings.old) depth text.now) }
+    ensures back { OnOk result (AreBack bindings.old bindings.new) }
 {
     let decls = decls_of(alloc, &tag.said)?;
-    let rest = {
-        let own = Declared::indexed(alloc, &decls)?;
-        let here = (&*scope).inside(&own);
-        judged(alloc, text, behind, &here, element.name(), &tag)?;
-        behind_tag(alloc, behind, &here, depth + 1, inner, &tag, element)?
-    };
+    bindings.enter(alloc, decls)?;
+    judged(alloc, text, behind, bindings, element.name(), &tag)?;
+    let rest = behind_tag(alloc, behind, bindings, depth + 1, inner, &tag, element)?;
+    let decls = bindings.leave();
     let Tag {
         written: _,
         said,
@@ -299,21 +304,31 @@ fn fill<'a>(
 fn push_child<'a>(
     alloc: Global,
     text: &'a [char],
-    scope: &Around<'_>,
+    bindings: &mut Bindings,
     depth: usize,
     levels: usize,
     parent: &mut Element,
 ) -> Result<&'a [char], Stop<'a>>
-    requires lists { length scope.now + levels ≤ 67 }
+    requires kept { AreKept bindings.old }
     requires deep { depth + levels ≤ 1000 }
-    ensures { Gives (λ rest. (parent.new, rest.now)) result (read_child parent.old (read_element levels scope.now depth) text.now) }
+    ensures read { Gives (λ rest. (parent.new, rest.now)) result (read_child parent.old (read_element levels (lists bindings.old) depth) text.now) }
+    ensures back { OnOk result (AreBack bindings.old bindings.new) }
 {
     let Some(inner) = levels.checked_sub(1) else {
         return Err(no_level(text, depth));
     };
     let (tag, behind) = whole_tag(alloc, text)?;
     let mut element = Element::new(alloc, owned(alloc, &tag.written)?);
-    let rest = fill(alloc, text, behind, scope, depth, inner, tag, &mut element)?;
+    let rest = fill(
+        alloc,
+        text,
+        behind,
+        bindings,
+        depth,
+        inner,
+        tag,
+        &mut element,
+    )?;
     parent.push_elem(element)?;
     Ok(rest)
 }
@@ -322,19 +337,29 @@ fn push_child<'a>(
 pub fn element<'a>(
     alloc: Global,
     text: &'a [char],
-    scope: &Around<'_>,
+    bindings: &mut Bindings,
     depth: usize,
     levels: usize,
 ) -> Result<(Element, &'a [char]), Stop<'a>>
-    requires lists { length scope.now + levels ≤ 67 }
+    requires kept { AreKept bindings.old }
     requires deep { depth + levels ≤ 1000 }
-    ensures { Gives (λ x. (x.0, x.1.now)) result (read_element levels scope.now depth text.now) }
+    ensures read { Gives (λ x. (x.0, x.1.now)) result (read_element levels (lists bindings.old) depth text.now) }
+    ensures back { OnOk result (AreBack bindings.old bindings.new) }
 {
     let Some(inner) = levels.checked_sub(1) else {
         return Err(no_level(text, depth));
     };
     let (tag, behind) = whole_tag(alloc, text)?;
     let mut element = Element::new(alloc, owned(alloc, &tag.written)?);
-    let rest = fill(alloc, text, behind, scope, depth, inner, tag, &mut element)?;
+    let rest = fill(
+        alloc,
+        text,
+        behind,
+        bindings,
+        depth,
+        inner,
+        tag,
+        &mut element,
+    )?;
     Ok((element, rest))
 }

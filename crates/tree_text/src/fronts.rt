@@ -1,7 +1,7 @@
 //! The plain characters in front of a text: ASCII ones that are read as they stand. One pass finds their end and makes them bytes.
 ghost use Rattle.std.specs.Prelude.{◌≡◌, ◌≤◌, ◌++◌, take, chars, length, IsTrue};
 ghost use Rattle.std.specs.List.{list_all};
-ghost use Rattle.tree_text.specs.Runs.{is_plain_in_content, is_plain_in_value};
+ghost use Rattle.tree_text.specs.Runs.{is_plain_in_content, is_plain_in_value, run_len};
 
 use crate::texts::ascii;
 
@@ -28,9 +28,11 @@ fn is_plain_in_value(c: char, quote: char) -> bool
 }
 
 // How many characters in front are plain in content. It writes them as bytes.
+#[tactic(auto, using(crate::proofs::RunLemmas::run_more, crate::proofs::RunLemmas::run_done))]
 fn content_len(text: &[char], bytes: &mut [u8; 64]) -> usize
     requires few { length text.now ≤ 64 }
     ensures size { result ≤ length text.now }
+    ensures len { result ≡ run_len is_plain_in_content text.now }
     ensures bytes { take result bytes.new ≡ take result text.now }
     ensures plain { IsTrue (list_all is_plain_in_content (take result text.now)) }
 {
@@ -45,9 +47,11 @@ fn content_len(text: &[char], bytes: &mut [u8; 64]) -> usize
 
 // How many characters in front are plain in a value between these quotes. It writes them as bytes.
 #[inline(never)]
+#[tactic(auto, using(crate::proofs::RunLemmas::run_more, crate::proofs::RunLemmas::run_done))]
 fn value_len(text: &[char], quote: char, bytes: &mut [u8; 64]) -> usize
     requires few { length text.now ≤ 64 }
     ensures size { result ≤ length text.now }
+    ensures len { result ≡ run_len (is_plain_in_value quote) text.now }
     ensures bytes { take result bytes.new ≡ take result text.now }
     ensures plain { IsTrue (list_all (is_plain_in_value quote) (take result text.now)) }
 {
@@ -63,6 +67,7 @@ fn value_len(text: &[char], quote: char, bytes: &mut [u8; 64]) -> usize
 /// The characters in front that are plain in content, 64 at most, and what follows them.
 pub fn plain_in_content<'a, 'b>(text: &'a [char], bytes: &'b mut [u8; 64]) -> (&'b str, &'a [char])
     ensures text { text.now ≡ chars result.0.now ++ result.1.now }
+    ensures len { length (chars result.0.now) ≡ run_len is_plain_in_content (take 64 text.now) }
     ensures plain { IsTrue (list_all is_plain_in_content (chars result.0.now)) }
 {
     let len = content_len(&text[..text.len().min(MOST)], bytes);
@@ -76,6 +81,7 @@ pub fn plain_in_value<'a, 'b>(
     bytes: &'b mut [u8; 64],
 ) -> (&'b str, &'a [char])
     ensures text { text.now ≡ chars result.0.now ++ result.1.now }
+    ensures len { length (chars result.0.now) ≡ run_len (is_plain_in_value quote) (take 64 text.now) }
     ensures plain { IsTrue (list_all (is_plain_in_value quote) (chars result.0.now)) }
 {
     let len = value_len(&text[..text.len().min(MOST)], quote, bytes);

@@ -3,6 +3,7 @@
 //! XML 1.0 (fifth edition) and Namespaces in XML 1.0, as RFC 4825 exchanges them.
 #![tactic(auto)]
 
+mod bindings;
 mod bodies;
 mod declaration;
 mod elements;
@@ -11,6 +12,7 @@ mod fronts;
 mod kind;
 mod meanings;
 mod names;
+mod namespaces;
 mod parts;
 mod pieces;
 mod places;

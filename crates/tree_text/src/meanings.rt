@@ -1,47 +1,41 @@
 //! What the names of a tag say, which none behind them may say again.
-ghost use Rattle.std.specs.Prelude.{◌≡◌, option_map, chars, encode_utf8_all};
+ghost use Rattle.std.specs.Prelude.{◌≡◌, option_map, Some};
 ghost use Rattle.xml_tree.specs.Expanded.{attr_name};
-ghost use Rattle.tree_text.specs.Meanings.{Means, uri_bytes};
+ghost use Rattle.tree_text.specs.Bindings.{AreKept, lists, number};
+ghost use Rattle.tree_text.specs.Meanings.{Means};
 
+use crate::bindings::Bindings;
 use crate::names::{declared_prefix, declares, is_nothing};
 use crate::said::Said;
-use xml_tree::{Around, Name, Text};
+use xml_tree::{Name, Text};
 
-/// What a name in a tag says. Local names are compared before namespaces, which many of them share.
+/// What a name in a tag says.
 #[derive(Debug, Drop, PartialEq, Eq, PartialOrd, Ord)]
 pub enum Meaning<'a> {
     /// Of a declaration: the prefix that it declares.
     Declared(&'a Text),
-    /// Of an attribute: its local name, and its namespace.
-    Named(&'a Text, Option<&'a str>),
+    /// Of an attribute: its local name, and the number of its namespace.
+    Named(&'a Text, Option<usize>),
 }
 
-/// The same text: its bytes are its characters, encoded.
-fn as_text(text: &str) -> &str
-    ensures { result.now ≡ encode_utf8_all (chars text.now) }
-{
-    text
-}
-
-/// The namespace of an attribute of this name.
-fn attr_uri<'a>(here: &Around<'a>, name: &Name) -> Option<&'a str>
-    ensures { option_map (λ uri. uri.now) result ≡ uri_bytes here.now name.now }
+/// The number of the namespace of an attribute of this name.
+fn attr_number(here: &Bindings, name: &Name) -> Option<usize>
+    requires { AreKept here.now }
+    ensures { option_map Some result ≡ option_map (number here.now.namespaces) (attr_name (lists here.now) name.now).uri }
 {
     if is_nothing(&name.prefix) {
         return None;
     }
-    match here.resolve(&name.prefix) {
-        Some(uri) => Some(as_text(uri)),
-        None => None,
-    }
+    here.namespace(&name.prefix)
 }
 
 /// What one says, in the scope inside its tag.
-pub fn meaning_of<'a>(here: &Around<'a>, said: &'a Said) -> Meaning<'a>
+pub fn meaning_of<'a>(here: &Bindings, said: &'a Said) -> Meaning<'a>
+    requires { AreKept here.now }
     ensures { Means here.now said.now result }
 {
     if declares(&said.name) {
         return Meaning::Declared(declared_prefix(said));
     }
-    Meaning::Named(&said.name.local, attr_uri(here, &said.name))
+    Meaning::Named(&said.name.local, attr_number(here, &said.name))
 }

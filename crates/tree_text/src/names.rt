@@ -4,10 +4,12 @@ ghost use Rattle.std.specs.Str.{bytes_eq};
 ghost use Rattle.xml_tree.specs.Scopes.{xml_prefix, xmlns_prefix, xml_uri, xmlns_uri};
 ghost use Rattle.xml_tree.specs.Proper.{may_stand};
 ghost use Rattle.tree_text.specs.Names.{declares, decl_of, decls_of, is_unbound, is_misnamed, is_repeated, wrong_said, widths, opening, first_wrong, first_of_tag};
+ghost use Rattle.tree_text.specs.Bindings.{AreKept, lists};
 ghost use Rattle.tree_text.specs.Meanings.{Holds};
 ghost use Rattle.tree_text.specs.Views.{name_in, tag_in};
 ghost use Rattle.tree_text.specs.declared.said.Said.{Said};
 
+use crate::bindings::Bindings;
 use crate::kind::Kind;
 use crate::meanings::{Meaning, meaning_of};
 use crate::said::Said;
@@ -15,7 +17,7 @@ use crate::tags::Tag;
 use crate::texts::no_text;
 use std::alloc::{AllocError, Global};
 use std::collections::BTreeSet;
-use xml_tree::{Around, Decl, Name, Text};
+use xml_tree::{Decl, Name, Text};
 
 /// Whether a text is empty.
 pub fn is_nothing(text: &Text) -> bool
@@ -132,21 +134,20 @@ fn may_stand(prefix: &Text, uri: &Text) -> bool
 }
 
 /// Whether a name has a prefix that isn't bound.
-pub fn is_unbound(here: &Around<'_>, name: &Name) -> bool
-    ensures { result ≡ is_unbound here.now name.now }
+pub fn is_unbound(here: &Bindings, name: &Name) -> bool
+    requires kept { AreKept here.now }
+    ensures { result ≡ is_unbound (lists here.now) name.now }
 {
     if is_nothing(&name.prefix) {
         return false;
     }
-    match here.resolve(&name.prefix) {
-        Some(_) => false,
-        None => true,
-    }
+    here.namespace(&name.prefix).is_none()
 }
 
 /// Whether a declaration may not stand, or an attribute has an unbound prefix.
-fn is_misnamed(here: &Around<'_>, said: &Said) -> bool
-    ensures { result ≡ is_misnamed here.now said.now }
+fn is_misnamed(here: &Bindings, said: &Said) -> bool
+    requires kept { AreKept here.now }
+    ensures { result ≡ is_misnamed (lists here.now) said.now }
 {
     if declares(&said.name) {
         return !may_stand(declared_prefix(said), &said.value);
@@ -156,11 +157,12 @@ fn is_misnamed(here: &Around<'_>, said: &Said) -> bool
 
 /// Whether one of a tag says what none before it says, which is then seen too.
 fn is_first<'a>(
-    here: &Around<'a>,
+    here: &Bindings,
     seen: &mut BTreeSet<Meaning<'a>>,
     said: &'a Said,
 ) -> Result<bool, AllocError>
-    ensures first { (es : List Said) → Holds here.now es seen.old → IfOk result (λ first. first ≡ not (is_repeated here.now es said.now)) }
+    requires kept { AreKept here.now }
+    ensures first { (es : List Said) → Holds here.now es seen.old → IfOk result (λ first. first ≡ not (is_repeated (lists here.now) es said.now)) }
     ensures holds { (es : List Said) → Holds here.now es seen.old → OnOk result (Holds here.now (es ++ said.now ∷ []) seen.new) }
 {
     let first = seen.insert(meaning_of(here, said))?;
@@ -169,11 +171,12 @@ fn is_first<'a>(
 
 /// What is wrong with one of a tag, behind those that say what is seen. Where nothing is, what it says is then seen too.
 fn wrong_said<'a>(
-    here: &Around<'a>,
+    here: &Bindings,
     seen: &mut BTreeSet<Meaning<'a>>,
     said: &'a Said,
 ) -> Result<Option<Kind>, AllocError>
-    ensures wrong { (es : List Said) → Holds here.now es seen.old → IfOk result (λ wrong. wrong ≡ wrong_said here.now es said.now) }
+    requires kept { AreKept here.now }
+    ensures wrong { (es : List Said) → Holds here.now es seen.old → IfOk result (λ wrong. wrong ≡ wrong_said (lists here.now) es said.now) }
     ensures holds { (es : List Said) → Holds here.now es seen.old → IfOk result (λ wrong. wrong ≡ None → Holds here.now (es ++ said.now ∷ []) seen.new) }
 {
     if is_misnamed(here, said) {
@@ -187,9 +190,10 @@ fn wrong_said<'a>(
 
 /// What is wrong with the only one of a tag, which nothing stands before, and how many characters of the tag stand before its name,
 /// of which this many before its white space.
-fn only_wrong(here: &Around<'_>, only: &Said, opening: usize) -> Option<(Kind, usize)>
-    requires { opening + widths (only.now ∷ []) < 2 ^ 64 }
-    ensures { result ≡ first_wrong here.now [] opening (only.now ∷ []) }
+fn only_wrong(here: &Bindings, only: &Said, opening: usize) -> Option<(Kind, usize)>
+    requires kept { AreKept here.now }
+    requires fits { opening + widths (only.now ∷ []) < 2 ^ 64 }
+    ensures { result ≡ first_wrong (lists here.now) [] opening (only.now ∷ []) }
 {
     if is_misnamed(here, only) {
         return Some((Kind::Unbound, opening + only.gap));
@@ -200,12 +204,13 @@ fn only_wrong(here: &Around<'_>, only: &Said, opening: usize) -> Option<(Kind, u
 /// The first of these that is wrong, as `first_wrong` finds it.
 fn first_of_several<'a>(
     alloc: Global,
-    here: &Around<'a>,
+    here: &Bindings,
     all: &'a [Said],
     opening: usize,
 ) -> Result<Option<(Kind, usize)>, AllocError>
-    requires { opening + widths all.now < 2 ^ 64 }
-    ensures { IfOk result (λ found. found ≡ first_wrong here.now [] opening all.now) }
+    requires kept { AreKept here.now }
+    requires fits { opening + widths all.now < 2 ^ 64 }
+    ensures { IfOk result (λ found. found ≡ first_wrong (lists here.now) [] opening all.now) }
 {
     let mut seen = BTreeSet::new(alloc);
     let mut at = opening;
@@ -221,12 +226,13 @@ fn first_of_several<'a>(
 /// The first of these that is wrong, and how many characters of the tag stand before its name, of which this many before all.
 pub fn first_wrong<'a>(
     alloc: Global,
-    here: &Around<'a>,
+    here: &Bindings,
     all: &'a [Said],
     opening: usize,
 ) -> Result<Option<(Kind, usize)>, AllocError>
-    requires { opening + widths all.now < 2 ^ 64 }
-    ensures { IfOk result (λ found. found ≡ first_wrong here.now [] opening all.now) }
+    requires kept { AreKept here.now }
+    requires fits { opening + widths all.now < 2 ^ 64 }
+    ensures { IfOk result (λ found. found ≡ first_wrong (lists here.now) [] opening all.now) }
 {
     match all {
         [] => Ok(None),
@@ -238,14 +244,15 @@ pub fn first_wrong<'a>(
 /// The first wrong name of a tag of this name, in the scope inside it, and how many characters of the tag stand before it.
 pub fn first_of_tag<'a>(
     alloc: Global,
-    here: &Around<'a>,
+    here: &Bindings,
     name: &Name,
     tag: &'a Tag<'_>,
 ) -> Result<Option<(Kind, usize)>, AllocError>
+    requires kept { AreKept here.now }
     requires named { name.now ≡ name_in tag.now.written }
     requires opening { tag.now.opening ≡ opening (tag_in tag.now) }
     requires fits { tag.now.opening + widths tag.now.said.items < 2 ^ 64 }
-    ensures { IfOk result (λ found. found ≡ first_of_tag here.now (tag_in tag.now)) }
+    ensures { IfOk result (λ found. found ≡ first_of_tag (lists here.now) (tag_in tag.now)) }
 {
     if is_unbound(here, name) {
         return Ok(Some((Kind::Unbound, 1)));

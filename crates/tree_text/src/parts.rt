@@ -1,8 +1,8 @@
 //! Words, white space and names: the parts in which no other rule stands.
-ghost use Rattle.std.specs.Prelude.{◌≡◌, ◌+◌, ◌<◌, [], ◌∷◌, length, MatchResult, IfOk, IsOkAnd, Ok};
+ghost use Rattle.std.specs.Prelude.{◌≡◌, ◌+◌, ◌<◌, [], ◌∷◌, length, IfOk, Ok};
 ghost use Rattle.grammar_rules.specs.Reading.{head_is, after_front, read_word};
 ghost use Rattle.xml_tree.specs.Characters.{is_space, is_name_start, is_name_char, within};
-ghost use Rattle.tree_text.specs.Gives.{Gives, Fails};
+ghost use Rattle.tree_text.specs.Gives.{Gives};
 ghost use Rattle.tree_text.specs.Runs.{run_len};
 ghost use Rattle.tree_text.specs.Reading.{read_name, read_spaces, read_some_spaces, read_equals};
 

@@ -4,12 +4,13 @@ ghost use Rattle.std.specs.Str.{chars};
 ghost use Rattle.grammar_rules.specs.Reading.{read_whole};
 ghost use Rattle.xml_tree.specs.Proper.{ProperIn};
 ghost use Rattle.xml_tree.specs.Tree.{height};
-ghost use Rattle.tree_text.specs.Faults.{Unless, FaultOf, TextAnswer, text_read, body_read};
-ghost use Rattle.tree_text.specs.Gives.{Fails, GivesAll};
+ghost use Rattle.tree_text.specs.Faults.{Unless, FaultOf, TextAnswer, text_read};
+ghost use Rattle.tree_text.specs.Gives.{GivesAll};
 ghost use Rattle.tree_text.specs.Reading.{read_text};
 ghost use Rattle.tree_text.specs.declared.fault.TextFault.TheVariants as texts;
 ghost use Rattle.tree_text.specs.declared.fault.ValueFault.TheVariants as bodies;
 
+use crate::bindings::Bindings;
 use crate::declaration::{declaration_if, mark_if};
 use crate::elements::element;
 use crate::fault::TextFault;
@@ -18,7 +19,7 @@ use crate::pieces::{epilog, prolog};
 use crate::places::place;
 use crate::stop::Stop;
 use std::alloc::{AllocError, Global};
-use xml_tree::{Around, Element, Scope};
+use xml_tree::{Element, Scope};
 
 /// The root element of a whole text, with this many levels at most.
 fn root<'a>(
@@ -33,7 +34,8 @@ fn root<'a>(
     let rest = mark_if(text);
     let rest = declaration_if(rest)?;
     let rest = prolog(rest)?;
-    let (root, rest) = element(alloc, rest, &Around::given(scope), 1, depth)?;
+    let mut bindings = Bindings::given(alloc, scope)?;
+    let (root, rest) = element(alloc, rest, &mut bindings, 1, depth)?;
     let rest = epilog(rest)?;
     if !rest.is_empty() {
         return Err(Stop::Syntax(rest));

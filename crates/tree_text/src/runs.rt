@@ -1,6 +1,6 @@
 //! Runs of characters: raw ones in content, and those up to a word that ends them.
-ghost use Rattle.std.specs.Prelude.{◌≡◌, ◌==◌, ◌+◌, ◌<◌, ◌≤◌, ◌++◌, true, false, [], ◌∷◌, length, OnOk, IfOk, IsTrue, Ok};
-ghost use Rattle.grammar_rules.specs.Reading.{starts, read_up_to, read_run_without};
+ghost use Rattle.std.specs.Prelude.{◌≡◌, ◌==◌, ◌+◌, ◌<◌, ◌≤◌, ◌++◌, true, false, [], length, OnOk, IfOk, IsTrue, Ok};
+ghost use Rattle.grammar_rules.specs.Reading.{starts, read_up_to};
 ghost use Rattle.xml_tree.specs.Characters.{is_char};
 ghost use Rattle.tree_text.specs.Gives.{Gives};
 ghost use Rattle.tree_text.specs.Grammar.{is_raw};

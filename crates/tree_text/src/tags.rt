@@ -1,7 +1,6 @@
 //! Start tags and the tags of empty elements.
-ghost use Rattle.std.specs.Prelude.{◌≡◌, ◌+◌, ◌≤◌, ◌++◌, ◌∷◌, [], length, map, IfOk, Ok};
-ghost use Rattle.grammar_rules.specs.Reading.{spaced, read_quoted, read_valued};
-ghost use Rattle.xml_tree.specs.Characters.{is_space, is_name_start};
+ghost use Rattle.std.specs.Prelude.{◌≡◌, ◌+◌, ◌≤◌, ◌++◌, ◌∷◌, [], length, IfOk, Ok};
+ghost use Rattle.grammar_rules.specs.Reading.{read_quoted, read_valued};
 ghost use Rattle.tree_text.specs.Gives.{Gives};
 ghost use Rattle.tree_text.specs.Grammar.{is_quote};
 ghost use Rattle.tree_text.specs.Names.{widths, opening};

@@ -1,11 +1,11 @@
 //! References, and values between quotes.
-ghost use Rattle.std.specs.Prelude.{◌≡◌, ◌+◌, ◌≤◌, ◌<◌, ◌++◌, true, false, [], ◌∷◌, length, map, MatchOption, IfOk, OnOk, Ok, option_map};
+ghost use Rattle.std.specs.Prelude.{◌≡◌, ◌+◌, ◌≤◌, ◌<◌, ◌++◌, true, false, [], ◌∷◌, MatchOption, IfOk, OnOk, Ok, option_map};
 ghost use Rattle.grammar_rules.specs.Reading.{read_one, read_number};
 ghost use Rattle.xml_tree.specs.Characters.{is_char};
 ghost use Rattle.tree_text.specs.Gives.{Gives};
 ghost use Rattle.std.specs.List.{list_all};
 ghost use Rattle.tree_text.specs.Runs.{is_frequent, is_smooth, run_len, ends_run_in};
-ghost use Rattle.tree_text.specs.Pieces.{line_char, with_char, blank, raw, line_ends};
+ghost use Rattle.tree_text.specs.Pieces.{line_char, with_char, blank, raw};
 ghost use Rattle.tree_text.specs.Members.{read_blanked};
 ghost use Rattle.tree_text.specs.Views.{digits_of};
 ghost use Rattle.tree_text.specs.Grammar.{last_char, is_quote, is_raw, is_raw_in};

@@ -1,6 +1,6 @@
 //! Names as they stand in a text.
 ghost use Rattle.std.specs.Prelude.{◌≡◌, ◌+◌, ◌<◌, length, IfOk};
-ghost use Rattle.grammar_rules.specs.Reading.{head_is, read_word};
+ghost use Rattle.grammar_rules.specs.Reading.{read_word};
 ghost use Rattle.tree_text.specs.Gives.{Gives};
 ghost use Rattle.tree_text.specs.Pieces.{written};
 ghost use Rattle.tree_text.specs.Reading.{colon_follows, read_qname, read_end_tag};

@@ -93,6 +93,13 @@ impl<'a> Scope<'a> {
         self.len
     }
 
+    /// The lists, outermost first. Takes no memory.
+    pub fn lists(&self) -> &[&'a [Decl]]
+        ensures { map (λ x. x.now) result.now ≡ self.now }
+    {
+        &self.lists[..self.len]
+    }
+
     /// All bindings in scope without that of `xml`: the default first, then the prefixes by code point.
     ///
     /// # Errors

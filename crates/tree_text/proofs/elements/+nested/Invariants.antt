@@ -1,5 +1,6 @@
 use Rattle.std.proofs.Common.{◌≡◌, ◌+◌, ◌*◌, ◌-◌}
 use Rattle.grammar_rules.specs.Reading.{read_at_most}
+use Rattle.tree_text.specs.Bindings.{AreBack, lists}
 use Rattle.tree_text.specs.Members.{tree_with, read_member, read_filled}
 use Rattle.tree_text.specs.Reading.{markup_follows, read_element}
 use Rattle.tree_text.proofs.Loops.{finish}
@@ -21,4 +22,7 @@ abbrev pub decreases-fill : goal.decreases-fill
 decreases-fill l = 5 * l.inner + 4
 
 abbrev pub invariant-content-loop : goal.invariant-content-loop
-invariant-content-loop l = read_filled l.fn.element (read_element l.levels l.scope l.depth) l.text ≡ finish tree_with l.element (read_at_most markup_follows (read_member (read_element l.levels l.scope l.depth)) (l.end - l.counter) l.rest)
+invariant-content-loop l = record {
+  filled : read_filled l.fn.element (read_element l.levels (lists l.fn.bindings) l.depth) l.text ≡ finish tree_with l.element (read_at_most markup_follows (read_member (read_element l.levels (lists l.fn.bindings) l.depth)) (l.end - l.counter) l.rest);
+  back : AreBack l.fn.bindings l.bindings;
+}

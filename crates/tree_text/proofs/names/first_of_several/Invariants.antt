@@ -1,11 +1,12 @@
 use Rattle.std.proofs.Common.{◌≡◌, ◌+◌, [], take, drop}
+use Rattle.tree_text.specs.Bindings.{lists}
 use Rattle.tree_text.specs.Meanings.{Holds}
 use Rattle.tree_text.specs.Names.{widths, first_wrong}
 use Rattle.tree_text.proofs.names.first_of_several.Given as goal
 
 abbrev pub invariant-loop-said : goal.invariant-loop-said
 invariant-loop-said l = record {
-  left : first_wrong l.here [] l.opening l.all ≡ first_wrong l.here (take l.said-index l.all) l.at (drop l.said-index l.all);
+  left : first_wrong (lists l.here) [] l.opening l.all ≡ first_wrong (lists l.here) (take l.said-index l.all) l.at (drop l.said-index l.all);
   place : l.at + widths (drop l.said-index l.all) ≡ l.opening + widths l.all;
   kept : Holds l.here (take l.said-index l.all) l.seen;
 }

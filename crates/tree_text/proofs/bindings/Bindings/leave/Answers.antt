@@ -1,0 +1,18 @@
+use Rattle.std.proofs.Common.{◌≡◌, List, [], ◌∷◌, ◌++◌, map, sym, ap, ◌∙◌, subst}
+use Rattle.std.specs.Option.{option_to_list}
+use Rattle.std.proofs.lemmas.List.{map-append}
+use Rattle.xml_tree.specs.declared.names.Decl.{Decl}
+use Rattle.xml_tree.specs.Scopes.{joined}
+use Rattle.tree_text.specs.Bindings.{AreOf, lists}
+use Rattle.tree_text.proofs.StackLemmas.{joined-more}
+use Rattle.tree_text.proofs.bindings.Bindings.leave.Goals as goal
+
+pub returns-clause-kept : goal.returns-clause-kept
+returns-clause-kept c =
+    let left : List (List Decl) = map (λ ds. ds.items) c.pop.new.self.items in
+    let decls = c.unwrap-decls.result in
+    let popped = c.pop.ensures.items ∙ ap (λ o. c.pop.new.self.items ++ option_to_list o) c.unwrap-decls.ensures in
+    let whole : lists c.args.self.now ≡ left ++ decls.items ∷ [] = ap (map (λ ds. ds.items)) popped ∙ map-append _ c.pop.new.self.items (decls ∷ []) in
+    c.forget_all.ensures (joined left)
+    (subst (AreOf c.args.self.now.namespaces) (ap joined whole ∙ joined-more left decls.items ∙ ap (λ (ds : List Decl). joined left ++ ds) (sym c.deref.ensures.value))
+    c.requires.kept)

@@ -1,0 +1,23 @@
+use Rattle.std.proofs.Common.{◌≡◌, [], Some, map, refl, sym, ap, ◌∙◌}
+use Rattle.std.specs.Str.{chars}
+use Rattle.xml_tree.specs.Scopes.{xml_uri}
+use Rattle.tree_text.specs.Bindings.{at_text}
+use Rattle.tree_text.proofs.NumberLemmas.{AreNumbers-empty, numbers_at-empty}
+use Rattle.tree_text.proofs.namespaces.Namespaces.new.Goals as goal
+
+no_letters : chars [] ≡ []
+unfolding chars
+no_letters = refl
+
+letters : chars xml_uri ≡ xml_uri
+unfolding chars xml_uri
+letters = refl
+
+pub returns : goal.returns
+unfolding xml_uri
+returns c = record {
+  numbers = c.in_ok-xml.ensures.kept (c.in_ok-none.ensures.kept (AreNumbers-empty c.new-numbers.result c.new-numbers.ensures.empty));
+  none = c.in_ok-xml.ensures.grown [] c.in_ok-none.none (ap (at_text c.numbered-2.new.numbers) (sym (c.in_ok-from.ensures ∙ no_letters)) ∙ c.in_ok-none.ensures.found);
+  xml = ap (at_text c.numbered-4.new.numbers) (sym (c.in_ok-from-2.ensures ∙ letters)) ∙ c.in_ok-xml.ensures.found;
+  declared = λ p. ap (map Some) (sym (numbers_at-empty c.new.result c.new.ensures.empty p));
+}

@@ -1,0 +1,24 @@
+use Rattle.std.proofs.Common.{◌≡◌, ℕ, ◌==◌, false, List, [], ◌∷◌, length, Ok, Err, refl, sym, subst, ◌∙◌}
+use Rattle.grammar_rules.specs.Reading.{Reader, Syntax, read_whole}
+use Rattle.xml_tree.specs.declared.names.Decl.{Decl}
+use Rattle.tree_text.specs.declared.kind.Kind.{Kind}
+use Rattle.tree_text.specs.Reading.{read_mark_if, read_declaration_if, read_prolog, read_element, read_epilog, read_text}
+use Rattle.tree_text.proofs.ReadFronts.{Reads, reads_before, reads_behind}
+use Rattle.tree_text.proofs.reading.root.Goals as goal
+
+-- what is left stops the reading of a whole text
+left_over : {A : Type 0} (p : Reader Kind A) (text rest : List ℕ) (a : A) → Reads p text a rest → (length rest == 0) ≡ false → read_whole p text ≡ Err (Syntax rest)
+left_over p text [] a h some = absurd cc
+left_over p text (c ∷ cs) a h some = rw h.read refl
+
+pub returns-then-not-is_empty : goal.returns-then-not-is_empty
+returns-then-not-is_empty c =
+    let tree = c.in_ok-root.root in
+    let behind = c.in_ok-root.rest.now in
+    let read = subst (λ (z : List (List Decl)). read_element c.args.depth z 1 c.in_ok-rest-2.rest.now ≡ Ok (tree, behind)) c.in_ok-bindings.ensures.given c.in_ok-root.ensures.read in
+    left_over (read_text c.args.depth c.args.scope.now) c.args.text.now c.in_ok-rest-3.rest.now tree
+    (reads_behind {p = read_mark_if} (record { read = c.mark_if-rest.ensures })
+    (reads_behind {p = read_declaration_if} (record { read = c.in_ok-rest.ensures })
+    (reads_behind {p = read_prolog} (record { read = c.in_ok-rest-2.ensures })
+    (reads_before {p = read_element c.args.depth c.args.scope.now 1} {q = read_epilog} (record { read = read }) (record { read = c.in_ok-rest-3.ensures })))))
+    (sym c.is_empty.ensures ∙ c.if-not-is_empty.true)

@@ -1,0 +1,85 @@
+//! The declarations of the elements that are open, and the namespaces that they bind.
+ghost use Rattle.std.specs.Prelude.{◌≡◌, ◌++◌, ◌<◌, ◌∷◌, [], option_map, Some, IfOk, OnOk, length};
+ghost use Rattle.xml_tree.specs.Scopes.{bound};
+ghost use Rattle.xml_tree.specs.declared.names.Decl.{Decl};
+ghost use Rattle.tree_text.specs.Bindings.{AreKept, lists, number};
+
+use crate::namespaces::Namespaces;
+use std::alloc::{AllocError, Global};
+use xml_tree::{Decl, Scope, Text};
+
+/// What is declared at a place.
+#[derive(Drop)]
+pub struct Bindings {
+    /// The declarations of the elements around it, outermost first.
+    pub open: Vec<Vec<Decl>>,
+    /// The namespaces of these declarations.
+    pub namespaces: Namespaces,
+}
+
+/// Equal declarations.
+fn copies(alloc: Global, decls: &[Decl]) -> Result<Vec<Decl>, AllocError>
+    ensures { IfOk result (λ made. made.items ≡ decls.now) }
+{
+    let mut made = Vec::with_capacity(alloc, decls.len())?;
+    for decl in decls {
+        made.push(decl.copy(alloc)?)?;
+    }
+    Ok(made)
+}
+
+impl Bindings {
+    /// What is declared where nothing is open.
+    fn new(alloc: Global) -> Result<Bindings, AllocError>
+        ensures none { IfOk result (λ made. lists made ≡ []) }
+        ensures kept { IfOk result AreKept }
+    {
+        Ok(Bindings {
+            open: Vec::new(alloc),
+            namespaces: Namespaces::new(alloc)?,
+        })
+    }
+
+    /// What is declared in a scope.
+    pub fn given(alloc: Global, scope: &Scope<'_>) -> Result<Bindings, AllocError>
+        ensures given { IfOk result (λ made. lists made ≡ scope.now) }
+        ensures kept { IfOk result AreKept }
+    {
+        let mut made = Bindings::new(alloc)?;
+        for decls in scope.lists() {
+            made.enter(alloc, copies(alloc, decls)?)?;
+        }
+        Ok(made)
+    }
+
+    /// Goes into an element with these declarations.
+    pub fn enter(&mut self, alloc: Global, decls: Vec<Decl>) -> Result<(), AllocError>
+        requires { AreKept self.old }
+        ensures inside { OnOk result (lists self.new ≡ lists self.old ++ decls.items ∷ []) }
+        ensures kept { OnOk result (AreKept self.new) }
+    {
+        self.namespaces.declare_all(alloc, &decls)?;
+        self.open.push(decls)?;
+        Ok(())
+    }
+
+    /// Goes out of the innermost element, and answers its declarations.
+    pub fn leave(&mut self) -> Vec<Decl>
+        requires kept { AreKept self.old }
+        requires some { 0 < length self.old.open.items }
+        ensures outside { lists self.old ≡ lists self.new ++ result.items ∷ [] }
+        ensures kept { AreKept self.new }
+    {
+        let decls = self.open.pop().unwrap();
+        self.namespaces.forget_all(&decls);
+        decls
+    }
+
+    /// The number of the namespace that a prefix is bound to, the empty prefix being the default namespace.
+    pub fn namespace(&self, prefix: &Text) -> Option<usize>
+        requires { AreKept self.now }
+        ensures { option_map Some result ≡ option_map (number self.now.namespaces) (bound (lists self.now) prefix.now) }
+    {
+        self.namespaces.of_prefix(prefix)
+    }
+}

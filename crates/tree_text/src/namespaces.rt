@@ -1,0 +1,139 @@
+//! Numbers for namespaces, so that names are compared without reading their namespaces again (Namespaces in XML 1.0, section 2.3).
+ghost use Rattle.std.specs.Prelude.{◌≡◌, ◌-◌, ◌++◌, List, ℕ, [], ◌∷◌, Some, length, take, option_map, IfOk, OnOk, if◌then◌else◌};
+ghost use Rattle.std.specs.Str.{bytes_eq};
+ghost use Rattle.xml_tree.specs.Scopes.{bound, joined};
+ghost use Rattle.xml_tree.specs.declared.names.Decl.{Decl};
+ghost use Rattle.tree_text.specs.Bindings.{AreNumbers, AreOf, at_text, number, numbers_at};
+
+use std::alloc::{AllocError, Global};
+use std::collections::BTreeMap;
+use xml_tree::{Decl, Text};
+
+/// A number for each namespace that was declared, and what is declared of each prefix.
+#[derive(Drop)]
+pub struct Namespaces {
+    /// Equal namespaces have equal numbers.
+    pub numbers: BTreeMap<Text, usize>,
+    /// The numbers of the namespaces that a prefix is declared for, the nearest last.
+    pub declared: BTreeMap<Text, Vec<usize>>,
+    /// The number of the empty text, which is no namespace.
+    pub none: usize,
+    /// The number of the namespace of `xml`.
+    pub xml: usize,
+}
+
+/// The number of a text, a new one where it has none.
+fn numbered(
+    alloc: Global,
+    numbers: &mut BTreeMap<Text, usize>,
+    text: &Text,
+) -> Result<usize, AllocError>
+    ensures kept { AreNumbers numbers.old → OnOk result (AreNumbers numbers.new) }
+    ensures found { IfOk result (λ n. at_text numbers.new text.now ≡ Some n) }
+    ensures grown { OnOk result ((u : List ℕ) (n : ℕ) → at_text numbers.old u ≡ Some n → at_text numbers.new u ≡ Some n) }
+{
+    if let Some(number) = numbers.get(text) {
+        return Ok(*number);
+    }
+    let number = numbers.len();
+    numbers.insert(text.copy(alloc)?, number)?;
+    Ok(number)
+}
+
+/// Puts a number behind those of a prefix.
+fn push_number(
+    alloc: Global,
+    declared: &mut BTreeMap<Text, Vec<usize>>,
+    prefix: &Text,
+    number: usize,
+) -> Result<(), AllocError>
+    ensures { OnOk result ((p : List ℕ) → numbers_at declared.new p ≡ numbers_at declared.old p ++ (if bytes_eq prefix.now p then number ∷ [] else [])) }
+{
+    match declared.get_mut(prefix) {
+        Some(numbers) => numbers.push(number)?,
+        None => {
+            let mut numbers = Vec::new(alloc);
+            numbers.push(number)?;
+            declared.insert(prefix.copy(alloc)?, numbers)?;
+        }
+    }
+    Ok(())
+}
+
+/// Takes the last number of a prefix away.
+fn pop_number(declared: &mut BTreeMap<Text, Vec<usize>>, prefix: &Text)
+    ensures { (p : List ℕ) → numbers_at declared.new p ≡ (if bytes_eq prefix.now p then take (length (numbers_at declared.old p) - 1) (numbers_at declared.old p) else numbers_at declared.old p) }
+{
+    if let Some(numbers) = declared.get_mut(prefix) {
+        numbers.pop();
+    }
+}
+
+impl Namespaces {
+    /// Those of no declarations.
+    pub fn new(alloc: Global) -> Result<Namespaces, AllocError>
+        ensures { IfOk result (λ made. AreOf made []) }
+    {
+        let mut numbers = BTreeMap::new(alloc);
+        let none = numbered(alloc, &mut numbers, &Text::from(alloc, "")?)?;
+        let xml = numbered(
+            alloc,
+            &mut numbers,
+            &Text::from(alloc, "http://www.w3.org/XML/1998/namespace")?,
+        )?;
+        Ok(Namespaces {
+            numbers,
+            declared: BTreeMap::new(alloc),
+            none,
+            xml,
+        })
+    }
+
+    /// Adds a declaration, which is nearer than the others.
+    fn declare(&mut self, alloc: Global, decl: &Decl) -> Result<(), AllocError>
+        ensures { (ds : List Decl) → AreOf self.old ds → OnOk result (AreOf self.new (ds ++ decl.now ∷ [])) }
+    {
+        let number = numbered(alloc, &mut self.numbers, &decl.uri)?;
+        push_number(alloc, &mut self.declared, &decl.prefix, number)
+    }
+
+    /// Takes the nearest declaration away.
+    fn forget(&mut self, decl: &Decl)
+        ensures { (ds : List Decl) → AreOf self.old (ds ++ decl.now ∷ []) → AreOf self.new ds }
+    {
+        pop_number(&mut self.declared, &decl.prefix);
+    }
+
+    /// Adds declarations, which are nearer than the others, and a later one nearer than those before it.
+    pub fn declare_all(&mut self, alloc: Global, decls: &[Decl]) -> Result<(), AllocError>
+        ensures { (ds : List Decl) → AreOf self.old ds → OnOk result (AreOf self.new (ds ++ decls.now)) }
+    {
+        for decl in decls {
+            self.declare(alloc, decl)?;
+        }
+        Ok(())
+    }
+
+    /// Takes the nearest declarations away.
+    pub fn forget_all(&mut self, decls: &[Decl])
+        ensures { (ds : List Decl) → AreOf self.old (ds ++ decls.now) → AreOf self.new ds }
+    {
+        for decl in decls.iter().rev() {
+            self.forget(decl);
+        }
+    }
+
+    /// The number of the namespace that a prefix is bound to, the empty prefix being the default namespace.
+    pub fn of_prefix(&self, prefix: &Text) -> Option<usize>
+        ensures { (here : List (List Decl)) → AreOf self.now (joined here) → option_map Some result ≡ option_map (number self.now) (bound here prefix.now) }
+    {
+        if prefix.is("xml") {
+            return Some(self.xml);
+        }
+        let number = *self.declared.get(prefix)?.last()?;
+        if number == self.none {
+            return None;
+        }
+        Some(number)
+    }
+}
