@@ -38,8 +38,8 @@ fn found(alloc: Global, document: &str, steps: &str) -> Result<(bool, usize), Fa
         return Err("no document")?;
     };
     Ok((
-        select(&tree, &selector).is_some(),
-        longest_match(&tree, &selector),
+        select(alloc, &tree, &selector).is_some(),
+        longest_match(alloc, &tree, &selector),
     ))
 }
 

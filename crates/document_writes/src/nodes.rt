@@ -45,11 +45,11 @@ fn put_node_of(
         (Some (record { id = doc.now; tag = held.entry.1; tree = held.entry.0.now; notes = [] })) request.now (unchanged reply)) }
 {
     let (tree, tag) = held;
-    if !has_place(tree, selector) {
+    if !has_place(alloc, tree, selector) {
         let uri = ancestor_uri(alloc, root, doc, tree, selector)?;
         return no_parent(alloc, uri, request.closes);
     }
-    unwritten(alloc, request, tag, is_found(tree, selector))
+    unwritten(alloc, request, tag, is_found(alloc, tree, selector))
 }
 
 /// Answers a PUT of a node: 409 `no-parent` where the document isn't held, with the home as ancestor, or where the node has no place, with the
@@ -104,7 +104,7 @@ fn delete_node_of(
         (Some (record { id = id; tag = held.entry.1; tree = held.entry.0.now; notes = [] })) request.now (unchanged reply)) }
 {
     let (tree, tag) = held;
-    if !is_found(tree, selector) {
+    if !is_found(alloc, tree, selector) {
         return Ok(Reply::fixed(404, request.closes));
     }
     unwritten(alloc, request, tag, true)

@@ -4,6 +4,7 @@ pub mod ExactParts
 pub mod StepFronts
 pub mod ExactSelectors
 pub mod ExactSteps
+pub mod Lists
 pub mod Positions
 pub mod Printed
 pub mod Reaching

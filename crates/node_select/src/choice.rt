@@ -1,5 +1,5 @@
 //! Which child of an element a step selects, and which attribute a name means.
-ghost use Rattle.std.specs.Prelude.{◌≡◌, ◌<◌, ◌+◌, ◌^◌, [], length, chars, position, cond, Some};
+ghost use Rattle.std.specs.Prelude.{◌≡◌, ◌<◌, ◌+◌, ◌++◌, ◌∷◌, ◌^◌, [], map, chars, position, cond, Some};
 ghost use Rattle.std.specs.Str.{bytes_eq};
 ghost use Rattle.xml_tree.specs.Tree.{kids_of};
 ghost use Rattle.xml_tree.specs.Expanded.{element_name, attr_name};
@@ -8,15 +8,78 @@ ghost use Rattle.node_select.specs.Names.{is_named_so, uri_of};
 ghost use Rattle.node_select.specs.Selection.{has_asked, is_asked, is_attr, is_named, is_tested, inside, selected_child};
 
 use crate::selector::{AttrTest, NameTest, Step};
-use xml_tree::{Attr, Element, Name, Node, Scope, Text};
+use std::alloc::Global;
+use xml_tree::{Around, Attr, Decl, Declared, Element, Name, Node, Scope, Text};
+
+/// Declarations, with an index where they are many and there is memory for one. What they declare doesn't depend on that.
+pub(crate) fn declared_in<'a>(alloc: Global, decls: &'a [Decl]) -> Declared<'a>
+    ensures { result ≡ decls.now }
+{
+    match Declared::indexed(alloc, decls) {
+        Ok(declared) => declared,
+        Err(_) => Declared::new(alloc, decls),
+    }
+}
+
+/// The scope inside an element with these declarations, in this scope. Takes no memory.
+pub(crate) fn scope_inside<'a>(outer: &'a Around<'_>, declared: &'a Declared<'_>) -> Around<'a>
+    ensures { result ≡ outer.now ++ declared.now ∷ [] }
+{
+    (&*outer).inside(&*declared)
+}
 
 /// The number of the first attribute of this namespace and local name, in the scope at the element: none exactly where there is no such
-/// attribute. An attribute without prefix is in no namespace, whose URI is empty. Takes no memory.
-pub fn find_attr(element: &Element, scope: &Scope<'_>, uri: &str, local: &str) -> Option<usize>
+/// attribute. An attribute without prefix is in no namespace, whose URI is empty. Memory is taken for an index of declarations alone, and the
+/// answer is the same without it.
+pub fn find_attr(
+    alloc: Global,
+    element: &Element,
+    scope: &Scope<'_>,
+    uri: &str,
+    local: &str,
+) -> Option<usize>
     ensures { result ≡ position (is_attr scope.now (chars uri.now) (chars local.now)) element.now.attrs }
 {
-    element
-        .attrs()
+    find_within(
+        alloc,
+        &Around::empty(),
+        scope.lists(),
+        element.attrs(),
+        uri,
+        local,
+    )
+}
+
+// The number of the first such attribute, in a scope with more lists of declarations inside it.
+fn find_within(
+    alloc: Global,
+    scope: &Around<'_>,
+    lists: &[&[Decl]],
+    attrs: &[Attr],
+    uri: &str,
+    local: &str,
+) -> Option<usize>
+    ensures { result ≡ position (is_attr (scope.now ++ map (λ x. x.now) lists.now) (chars uri.now) (chars local.now)) attrs.now }
+{
+    let [list, lists @ ..] = lists else {
+        return attr_place(scope, attrs, uri, local);
+    };
+    let declared = declared_in(alloc, list);
+    find_within(
+        alloc,
+        &scope_inside(&*scope, &declared),
+        lists,
+        attrs,
+        uri,
+        local,
+    )
+}
+
+// The number of the first such attribute in a scope.
+fn attr_place(scope: &Around<'_>, attrs: &[Attr], uri: &str, local: &str) -> Option<usize>
+    ensures { result ≡ position (is_attr scope.now (chars uri.now) (chars local.now)) attrs.now }
+{
+    attrs
         .iter()
         .position(|attr| is_attr(scope, uri, local, attr))
 }
@@ -36,17 +99,17 @@ fn same_text(a: &str, b: &str) -> bool
 }
 
 // The URI of an element's name, which is empty where it is in no namespace.
-fn element_uri<'a>(scope: &Scope<'a>, name: &Name) -> &'a str
+fn element_uri<'a>(scope: &Around<'a>, name: &Name) -> &'a str
     ensures { chars result.now ≡ uri_of (element_name scope.now name.now) }
 {
-    match scope.resolve(name.prefix.as_str()) {
+    match scope.resolve(&name.prefix) {
         Some(uri) => uri,
         None => no_uri(),
     }
 }
 
 // The same of an attribute's name.
-fn attr_uri<'a>(scope: &Scope<'a>, name: &Name) -> &'a str
+fn attr_uri<'a>(scope: &Around<'a>, name: &Name) -> &'a str
     ensures { chars result.now ≡ uri_of (attr_name scope.now name.now) }
 {
     if has_no_prefix(name) {
@@ -63,14 +126,14 @@ fn has_no_prefix(name: &Name) -> bool
 }
 
 // Whether it is the attribute of this name.
-fn is_attr(scope: &Scope<'_>, uri: &str, local: &str, attr: &Attr) -> bool
+fn is_attr(scope: &Around<'_>, uri: &str, local: &str, attr: &Attr) -> bool
     ensures { result ≡ is_attr scope.now (chars uri.now) (chars local.now) attr.now }
 {
     attr.name.local.is(local) && same_text(attr_uri(scope, &attr.name), uri)
 }
 
 // Whether it is the attribute that is asked for.
-fn is_asked(scope: &Scope<'_>, test: &AttrTest, attr: &Attr) -> bool
+fn is_asked(scope: &Around<'_>, test: &AttrTest, attr: &Attr) -> bool
     ensures { result ≡ is_asked scope.now test.now attr.now }
 {
     attr.value.is(test.value.as_str())
@@ -78,41 +141,44 @@ fn is_asked(scope: &Scope<'_>, test: &AttrTest, attr: &Attr) -> bool
 }
 
 // Whether an element has the name that is asked for, in the scope around it.
-fn is_named_so<'a>(scope: &Scope<'a>, uri: &Text, local: &Text, kid: &'a Element) -> bool
-    requires { length scope.now < 67 }
+fn is_named_so(alloc: Global, scope: &Around<'_>, uri: &Text, local: &Text, kid: &Element) -> bool
     ensures { result ≡ is_named_so uri.now local.now (element_name (inside scope.now kid.now) kid.now.name) }
 {
-    kid.name().local.is(local.as_str())
-        && same_text(
-            element_uri(&scope.with(kid.decls()), kid.name()),
-            uri.as_str(),
-        )
+    let declared = Declared::new(alloc, kid.decls());
+    let inside = scope_inside(&*scope, &declared);
+    kid.name().local.is(local.as_str()) && same_text(element_uri(&inside, kid.name()), uri.as_str())
 }
 
 // Whether an element passes a step's name test, in the scope around it.
-fn is_named<'a>(scope: &Scope<'a>, step: &Step, kid: &'a Element) -> bool
-    requires { length scope.now < 67 }
+fn is_named(alloc: Global, scope: &Around<'_>, step: &Step, kid: &Element) -> bool
     ensures { result ≡ is_named scope.now step.now kid.now }
 {
     match &step.name {
         NameTest::Any => true,
-        NameTest::Named { uri, local } => is_named_so(scope, uri, local, kid),
+        NameTest::Named { uri, local } => is_named_so(alloc, scope, uri, local, kid),
     }
 }
 
+// Whether an element has the attribute that is asked for, in the scope around it.
+fn has_tested(alloc: Global, scope: &Around<'_>, test: &AttrTest, kid: &Element) -> bool
+    ensures { result ≡ has_asked (inside scope.now kid.now) (Some test.now) kid.now.attrs }
+{
+    let declared = declared_in(alloc, kid.decls());
+    has_asked(&scope_inside(&*scope, &declared), test, kid.attrs())
+}
+
 // Whether an element passes a step's attribute test, in the scope around it.
-fn is_tested<'a>(scope: &Scope<'a>, step: &Step, kid: &'a Element) -> bool
-    requires { length scope.now < 67 }
+fn is_tested(alloc: Global, scope: &Around<'_>, step: &Step, kid: &Element) -> bool
     ensures { result ≡ is_tested scope.now step.now kid.now }
 {
     match &step.test {
         None => true,
-        Some(test) => has_asked(&scope.with(kid.decls()), test, kid.attrs()),
+        Some(test) => has_tested(alloc, scope, test, kid),
     }
 }
 
 // Whether some attribute is the one that is asked for.
-fn has_asked(scope: &Scope<'_>, test: &AttrTest, attrs: &[Attr]) -> bool
+fn has_asked(scope: &Around<'_>, test: &AttrTest, attrs: &[Attr]) -> bool
     ensures { result ≡ has_asked scope.now (Some test.now) attrs.now }
 {
     attrs.iter().any(|attr| is_asked(scope, test, attr))
@@ -130,13 +196,18 @@ fn is_at_position(position: Option<u64>, before: u64) -> bool
 }
 
 // Whether an element with so many siblings of its name before it matches a step, in the scope around it.
-pub(crate) fn is_match<'a>(scope: &Scope<'a>, step: &Step, kid: &'a Element, before: u64) -> bool
-    requires room { length scope.now < 67 }
-    requires fits { before + 1 < 2 ^ 64 }
+pub(crate) fn is_match(
+    alloc: Global,
+    scope: &Around<'_>,
+    step: &Step,
+    kid: &Element,
+    before: u64,
+) -> bool
+    requires { before + 1 < 2 ^ 64 }
     ensures { result ≡ child_matches (is_named scope.now step.now) (is_tested scope.now step.now) step.now.position before (Some kid.now) }
 {
-    is_named(scope, step, kid)
-        && (is_at_position(step.position, before) && is_tested(scope, step, kid))
+    is_named(alloc, scope, step, kid)
+        && (is_at_position(step.position, before) && is_tested(alloc, scope, step, kid))
 }
 
 // One more, if it is.
@@ -148,12 +219,12 @@ fn count(before: u64, more: bool) -> u64
 }
 
 // The number of the one element child that a step matches, in the scope at the element. One pass over the children.
-pub(crate) fn select_child<'a>(
-    scope: &Scope<'a>,
+pub(crate) fn select_child(
+    alloc: Global,
+    scope: &Around<'_>,
     step: &Step,
-    element: &'a Element,
+    element: &Element,
 ) -> Option<usize>
-    requires { length scope.now < 67 }
     ensures { result ≡ selected_child scope.now step.now (kids_of element.now) }
 {
     let mut found = None;
@@ -161,13 +232,13 @@ pub(crate) fn select_child<'a>(
     let mut i: usize = 0;
     for node in element.nodes() {
         if let Node::Elem(kid) = node {
-            if is_match(scope, step, kid, before) {
+            if is_match(alloc, scope, step, kid, before) {
                 if found.is_some() {
                     return None;
                 }
                 found = Some(i);
             }
-            before = count(before, is_named(scope, step, kid));
+            before = count(before, is_named(alloc, scope, step, kid));
             i += 1;
         }
     }

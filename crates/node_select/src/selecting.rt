@@ -4,34 +4,44 @@ ghost use Rattle.xml_tree.specs.Tree.{height, kids_of};
 ghost use Rattle.node_select.specs.Selection.{IsLongestMatch, SelectsPath, is_tested, is_named, depth_among, longest_in, path_text, selected_among, selected_in};
 ghost use Rattle.step_laws.specs.Selection.{matches};
 
-use crate::choice::{is_match, select_child};
+use crate::choice::{declared_in, is_match, scope_inside, select_child};
 use crate::selector::{Selector, Step};
 use std::alloc::{AllocError, Global};
-use xml_tree::{Element, Path, Scope, Text};
+use xml_tree::{Around, Element, Path, Text};
 
-/// The element that a selector's steps select: none exactly where some step matches no element or several. Each level is passed once. Takes
-/// no memory.
-pub fn select(root: &Element, selector: &Selector) -> Option<Path>
+/// The element that a selector's steps select: none exactly where some step matches no element or several. Each level is passed once. Memory is
+/// taken for indexes of declarations alone, and the answer is the same without it.
+pub fn select(alloc: Global, root: &Element, selector: &Selector) -> Option<Path>
     requires { height root.now ≤ 64 }
     ensures selected { (p : List ℕ) → (result ≡ Some p) ↔ SelectsPath selector.now.steps root.now p }
     ensures computed { result ≡ selected_in selector.now.steps root.now }
 {
-    select_steps(root, selector.steps.as_slice())
+    select_steps(alloc, root, selector.steps.as_slice())
 }
 
-/// The element that steps select, from the document on. Takes no memory.
-pub fn select_steps(root: &Element, steps: &[Step]) -> Option<Path>
+/// The element that steps select, from the document on. Memory as for `select`.
+pub fn select_steps(alloc: Global, root: &Element, steps: &[Step]) -> Option<Path>
     requires { height root.now ≤ 64 }
     ensures { result ≡ selected_in steps.now root.now }
 {
     let [step, steps @ ..] = steps else {
         return None;
     };
-    if !is_match(&Scope::empty(), step, root, 0) {
+    if !is_match(alloc, &Around::empty(), step, root, 0) {
         return None;
     }
+    select_inside(alloc, root, steps)
+}
+
+// The element that steps select from the root down.
+fn select_inside(alloc: Global, root: &Element, steps: &[Step]) -> Option<Path>
+    requires { height root.now ≤ 64 }
+    ensures { result ≡ selected_among (root.now.decls ∷ []) (kids_of root.now) steps.now }
+{
+    let declared = declared_in(alloc, root.decls());
     select_below(
-        &Scope::empty().with(root.decls()),
+        alloc,
+        &scope_inside(&Around::empty(), &declared),
         root,
         steps,
         Path::root(),
@@ -39,64 +49,76 @@ pub fn select_steps(root: &Element, steps: &[Step]) -> Option<Path>
 }
 
 // The element that steps select from an element down, in the scope at it, where the path leads to it.
-fn select_below<'a>(
-    scope: &Scope<'a>,
-    element: &'a Element,
+fn select_below(
+    alloc: Global,
+    scope: &Around<'_>,
+    element: &Element,
     steps: &[Step],
     path: Path,
 ) -> Option<Path>
-    requires room { length scope.now + height element.now ≤ 65 }
-    requires short { length path + height element.now ≤ 64 }
+    requires { length path + height element.now ≤ 64 }
     ensures { result ≡ option_map (λ q. path ++ q) (selected_among scope.now (kids_of element.now) steps.now) }
 {
     let [step, steps @ ..] = steps else {
         return Some(path);
     };
-    let child = select_child(scope, step, element)?;
+    let child = select_child(alloc, scope, step, element)?;
     let kid = element.kid(child)?;
     let path = path.child(child)?;
-    select_below(&scope.with(kid.decls()), kid, steps, path)
+    let declared = declared_in(alloc, kid.decls());
+    select_below(alloc, &scope_inside(&*scope, &declared), kid, steps, path)
 }
 
-/// The greatest number of first steps of a selector that select an element; 0 where not even the first one selects the root. Takes no
-/// memory.
-pub fn longest_match(root: &Element, selector: &Selector) -> usize
-    requires { height root.now ≤ 64 }
+/// The greatest number of first steps of a selector that select an element; 0 where not even the first one selects the root. Memory as for
+/// `select`.
+pub fn longest_match(alloc: Global, root: &Element, selector: &Selector) -> usize
     ensures longest { IsLongestMatch selector.now.steps root.now result }
     ensures computed { result ≡ longest_in selector.now.steps root.now }
 {
-    matched_steps(root, selector.steps.as_slice())
+    matched_steps(alloc, root, selector.steps.as_slice())
 }
 
 // How many first steps select an element.
-fn matched_steps(root: &Element, steps: &[Step]) -> usize
-    requires { height root.now ≤ 64 }
+fn matched_steps(alloc: Global, root: &Element, steps: &[Step]) -> usize
     ensures { result ≡ longest_in steps.now root.now }
 {
     let [step, steps @ ..] = steps else {
         return 0;
     };
-    if !is_match(&Scope::empty(), step, root, 0) {
+    if !is_match(alloc, &Around::empty(), step, root, 0) {
         return 0;
     }
-    1 + longest_below(&Scope::empty().with(root.decls()), root, steps)
+    1 + longest_inside(alloc, root, steps)
+}
+
+// How many first steps select one after the other from the root down.
+fn longest_inside(alloc: Global, root: &Element, steps: &[Step]) -> usize
+    ensures { result ≡ depth_among (root.now.decls ∷ []) (kids_of root.now) steps.now }
+{
+    let declared = declared_in(alloc, root.decls());
+    longest_below(
+        alloc,
+        &scope_inside(&Around::empty(), &declared),
+        root,
+        steps,
+    )
 }
 
 // How many first steps select one after the other from an element down, in the scope at it.
-fn longest_below<'a>(scope: &Scope<'a>, element: &'a Element, steps: &[Step]) -> usize
-    requires { length scope.now + height element.now ≤ 65 }
+fn longest_below(alloc: Global, scope: &Around<'_>, element: &Element, steps: &[Step]) -> usize
     ensures { result ≡ depth_among scope.now (kids_of element.now) steps.now }
 {
     let [step, steps @ ..] = steps else {
         return 0;
     };
-    let Some(child) = select_child(scope, step, element) else {
+    let Some(child) = select_child(alloc, scope, step, element) else {
         return 0;
     };
     let Some(kid) = element.kid(child) else {
         return 0;
     };
-    1 + longest_below(&scope.with(kid.decls()), kid, steps)
+    let declared = declared_in(alloc, kid.decls());
+    1 + longest_below(alloc, &scope_inside(&*scope, &declared), kid, steps)
 }
 
 /// The positional selector of a place: `*` for the root, and `/*[i]` for each number, counted from 1.

@@ -355,8 +355,8 @@ fn selected(
 ) -> Result<(Text, usize), Fail> {
     let root = read_document(alloc, document.as_bytes(), 64)?;
     let selector = read_selector(alloc, text, bindings, LISTS)?;
-    let steps = longest_match(&root, &selector);
-    match select(&root, &selector) {
+    let steps = longest_match(alloc, &root, &selector);
+    match select(alloc, &root, &selector) {
         None => Ok((Text::from(alloc, "")?, steps)),
         Some(path) => Ok((print_path(alloc, &path)?, steps)),
     }
@@ -456,9 +456,9 @@ fn the_last_binding_of_a_prefix_counts(rt: HostRuntime) -> Result<(), Fail> {
 fn an_attribute_without_prefix_is_in_no_namespace(rt: HostRuntime) -> Result<(), Fail> {
     let root = read_document(rt.alloc(), attributed(), 64)?;
     let scope = Scope::at(&root, &Path::root()).ok_or("no root")?;
-    assert_eq!(rt; find_attr(&root, &scope, "urn:a", "a"), Some(1));
-    assert_eq!(rt; find_attr(&root, &scope, "", "a"), Some(0));
-    assert_eq!(rt; find_attr(&root, &scope, "urn:a", "b"), None);
+    assert_eq!(rt; find_attr(rt.alloc(), &root, &scope, "urn:a", "a"), Some(1));
+    assert_eq!(rt; find_attr(rt.alloc(), &root, &scope, "", "a"), Some(0));
+    assert_eq!(rt; find_attr(rt.alloc(), &root, &scope, "urn:a", "b"), None);
     Ok(())
 }
 

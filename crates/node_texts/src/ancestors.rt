@@ -88,12 +88,12 @@ fn push_path(alloc: Global, uri: &mut Text, path: &Path) -> Result<(), NoMemory>
 }
 
 // The place of the element that the greatest number of first steps selects.
-fn closest(tree: &Element, selector: &Selector) -> Option<Path>
+fn closest(alloc: Global, tree: &Element, selector: &Selector) -> Option<Path>
     requires { height tree.now ≤ 64 }
     ensures { result ≡ closest_in selector.now.steps tree.now }
 {
-    let matched = longest_match(tree, selector);
-    select_steps(tree, &selector.steps.as_slice()[..matched])
+    let matched = longest_match(alloc, tree, selector);
+    select_steps(alloc, tree, &selector.steps.as_slice()[..matched])
 }
 
 /// The URI of the closest ancestor of a node that isn't there: of the element that the greatest number of first steps selects, or of the
@@ -112,7 +112,7 @@ pub fn ancestor_uri(
     ensures { IfOk result (λ uri. uri ≡ ancestor_uri root.now doc.now tree.now selector.now.steps) }
 {
     let mut uri = document_uri(alloc, root, doc)?;
-    if let Some(path) = closest(tree, selector) {
+    if let Some(path) = closest(alloc, tree, selector) {
         push_path(alloc, &mut uri, &path)?;
     }
     Ok(uri)

@@ -19,6 +19,7 @@ use xml_tree::{Attr, Decl, Element, Name, NoMemory, Path, Scope, Text, element_a
 
 // The attribute of an element that has this name, in the scope at the element.
 fn attribute<'a>(
+    alloc: Global,
     element: &'a Element,
     scope: &Scope<'_>,
     uri: &Text,
@@ -26,7 +27,7 @@ fn attribute<'a>(
 ) -> Option<&'a Attr>
     ensures { option_copied result ≡ find (is_attr scope.now uri.now local.now) element.now.attrs }
 {
-    let place = find_attr(element, scope, uri.as_str(), local.as_str())?;
+    let place = find_attr(alloc, element, scope, uri.as_str(), local.as_str())?;
     element.attrs().get(place)
 }
 
@@ -78,7 +79,7 @@ fn node_text(
             Ok(Some(text))
         }
         End::Attribute { uri, local } => {
-            attribute_text(alloc, attribute(element, scope, uri, local))
+            attribute_text(alloc, attribute(alloc, element, scope, uri, local))
         }
         End::Namespaces => {
             let text = bindings_text(alloc, element, scope)?;
@@ -88,12 +89,12 @@ fn node_text(
 }
 
 // Whether an end finds something of an element in its scope.
-fn has_node(element: &Element, scope: &Scope<'_>, end: &End) -> bool
+fn has_node(alloc: Global, element: &Element, scope: &Scope<'_>, end: &End) -> bool
     ensures { result ≡ is_some (node_text end.now scope.now element.now) }
 {
     match end {
         End::Element => true,
-        End::Attribute { uri, local } => attribute(element, scope, uri, local).is_some(),
+        End::Attribute { uri, local } => attribute(alloc, element, scope, uri, local).is_some(),
         End::Namespaces => true,
     }
 }
@@ -114,7 +115,7 @@ fn text_at(alloc: Global, root: &Element, path: &Path, end: &End) -> Result<Opti
 }
 
 // Whether an end finds something there.
-fn has_node_at(root: &Element, path: &Path, end: &End) -> bool
+fn has_node_at(alloc: Global, root: &Element, path: &Path, end: &End) -> bool
     ensures { result ≡ is_some (text_at end.now path.now root.now) }
 {
     let Some(element) = element_at(root, path) else {
@@ -122,7 +123,7 @@ fn has_node_at(root: &Element, path: &Path, end: &End) -> bool
     };
     match Scope::at(root, path) {
         None => false,
-        Some(scope) => has_node(element, &scope, end),
+        Some(scope) => has_node(alloc, element, &scope, end),
     }
 }
 
@@ -142,21 +143,21 @@ pub fn found_text(
     requires { height root.now ≤ 64 }
     ensures { IfOk result (λ text. text ≡ encoded (found_text root.now selector.now)) }
 {
-    let Some(path) = select(root, selector) else {
+    let Some(path) = select(alloc, root, selector) else {
         return Ok(None);
     };
     text_at(alloc, root, &path, &selector.end)
 }
 
-/// Whether a selector finds something in a document. Takes no memory.
-pub fn is_found(root: &Element, selector: &Selector) -> bool
+/// Whether a selector finds something in a document. Memory is taken for indexes of declarations alone, and the answer is the same without it.
+pub fn is_found(alloc: Global, root: &Element, selector: &Selector) -> bool
     requires { height root.now ≤ 64 }
     ensures { result ≡ is_some (found_text root.now selector.now) }
 {
-    let Some(path) = select(root, selector) else {
+    let Some(path) = select(alloc, root, selector) else {
         return false;
     };
-    has_node_at(root, &path, &selector.end)
+    has_node_at(alloc, root, &path, &selector.end)
 }
 
 /// The media type of what a selector with this end finds (RFC 4825, section 15.2). Takes no memory.

@@ -4,6 +4,7 @@ ghost use Rattle.xml_tree.specs.Tree.{height};
 ghost use Rattle.node_texts.specs.Places.{attribute_has_place, but_last, element_has_place, has_place};
 
 use node_select::{End, Selector, Step, select_steps};
+use std::alloc::Global;
 use xml_tree::Element;
 
 // All steps but the last.
@@ -18,35 +19,36 @@ fn but_last(steps: &[Step]) -> &[Step]
 }
 
 // Whether steps select an element.
-fn selects(root: &Element, steps: &[Step]) -> bool
+fn selects(alloc: Global, root: &Element, steps: &[Step]) -> bool
     requires { height root.now ≤ 64 }
     ensures { result ≡ attribute_has_place steps.now root.now }
 {
-    select_steps(root, steps).is_some()
+    select_steps(alloc, root, steps).is_some()
 }
 
 // Whether an element that these steps select has a place: it is there, or its parent is, or it would be the root.
-fn element_has_place(root: &Element, steps: &[Step]) -> bool
+fn element_has_place(alloc: Global, root: &Element, steps: &[Step]) -> bool
     requires { height root.now ≤ 64 }
     ensures { result ≡ element_has_place steps.now root.now }
 {
     match steps {
         [] => false,
         [_] => true,
-        [_, _, ..] => selects(root, steps) || selects(root, but_last(steps)),
+        [_, _, ..] => selects(alloc, root, steps) || selects(alloc, root, but_last(steps)),
     }
 }
 
 /// Whether a node that is put where a selector points has a place: the node is there; or an element's parent is, or the element would be the
-/// root; or an attribute's element is. A list of bindings has none. Takes no memory.
-pub fn has_place(root: &Element, selector: &Selector) -> bool
+/// root; or an attribute's element is. A list of bindings has none. Memory is taken for
+/// indexes of declarations alone, and the answer is the same without it.
+pub fn has_place(alloc: Global, root: &Element, selector: &Selector) -> bool
     requires { height root.now ≤ 64 }
     ensures { result ≡ has_place selector.now root.now }
 {
     let steps = selector.steps.as_slice();
     match &selector.end {
-        End::Element => element_has_place(root, steps),
-        End::Attribute { .. } => selects(root, steps),
+        End::Element => element_has_place(alloc, root, steps),
+        End::Attribute { .. } => selects(alloc, root, steps),
         End::Namespaces => false,
     }
 }

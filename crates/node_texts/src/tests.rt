@@ -92,7 +92,7 @@ fn finds(alloc: Global, steps: &str) -> Result<(bool, bool), Fail> {
     let tree = document(alloc)?;
     let selector = selector(alloc, steps)?;
     let found = found_text(alloc, &tree, &selector)?;
-    Ok((found.is_some(), is_found(&tree, &selector)))
+    Ok((found.is_some(), is_found(alloc, &tree, &selector)))
 }
 
 #[test]
@@ -107,7 +107,7 @@ fn an_attribute_that_is_not_there_is_not_found(rt: HostRuntime) -> Result<(), Fa
 fn places(alloc: Global, steps: &str) -> Result<bool, Fail> {
     let tree = document(alloc)?;
     let selector = selector(alloc, steps)?;
-    Ok(has_place(&tree, &selector))
+    Ok(has_place(alloc, &tree, &selector))
 }
 
 #[test]

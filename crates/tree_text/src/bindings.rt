@@ -6,7 +6,7 @@ ghost use Rattle.tree_text.specs.Bindings.{AreKept, lists, number};
 
 use crate::namespaces::Namespaces;
 use std::alloc::{AllocError, Global};
-use xml_tree::{Decl, Scope, Text};
+use xml_tree::{Decl, Scope, Text, copy_decls};
 
 /// What is declared at a place.
 #[derive(Drop)]
@@ -15,17 +15,6 @@ pub struct Bindings {
     pub open: Vec<Vec<Decl>>,
     /// The namespaces of these declarations.
     pub namespaces: Namespaces,
-}
-
-/// Equal declarations.
-fn copies(alloc: Global, decls: &[Decl]) -> Result<Vec<Decl>, AllocError>
-    ensures { IfOk result (λ made. made.items ≡ decls.now) }
-{
-    let mut made = Vec::with_capacity(alloc, decls.len())?;
-    for decl in decls {
-        made.push(decl.copy(alloc)?)?;
-    }
-    Ok(made)
 }
 
 impl Bindings {
@@ -47,7 +36,7 @@ impl Bindings {
     {
         let mut made = Bindings::new(alloc)?;
         for decls in scope.lists() {
-            made.enter(alloc, copies(alloc, decls)?)?;
+            made.enter(alloc, copy_decls(alloc, decls)?)?;
         }
         Ok(made)
     }

@@ -4,6 +4,7 @@ pub mod Forms
 pub mod Gaps
 pub mod Indexes
 pub mod Keys
+pub mod Lengths
 pub mod Letters
 pub mod Listing
 pub mod Rows

@@ -8,6 +8,7 @@ mod capabilities;
 mod forms;
 mod insertions;
 mod keys;
+mod lengths;
 mod letters;
 mod listing;
 mod making;

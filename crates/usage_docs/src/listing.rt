@@ -3,15 +3,16 @@ ghost use Rattle.std.specs.Prelude.{◌≡◌, ◌≤◌, ◌+◌, ◌∷◌, []
 ghost use Rattle.xml_tree.specs.declared.tree.Node.TheVariants.{Elem};
 ghost use Rattle.usage_docs.specs.declared.listing.IndexFault.TheVariants as IndexFault;
 ghost use Rattle.usage_docs.specs.Services.{is_service, listed_as, listed, index_of};
-ghost use Rattle.usage_docs.specs.Listing.{listed_nodes, elem_len, elems_len};
+ghost use Rattle.usage_docs.specs.Listing.{listed_nodes};
 ghost use Rattle.usage_docs.specs.Indexes.{len_with};
 
+use crate::lengths::listed_len;
 use crate::making::{declaration, name};
 use crate::rows::{Kind, kind_of, services_space};
 use crate::scopes::scope_inside;
 use std::alloc::Global;
 use std::marker::Model;
-use xml_tree::{Around, Decl, Declared, Element, NoMemory, Node, Scope, copy_tree, printed_len};
+use xml_tree::{Around, Decl, Declared, Element, NoMemory, Node, Scope, copy_tree};
 
 /// Why a document's services can't be added to an index.
 #[derive(Debug, Drop)]
@@ -122,28 +123,6 @@ fn listed(alloc: Global, root: &Element) -> Result<Vec<Node>, NoMemory>
     listed_in(alloc, &scope_inside(&Around::empty(), &declared), root)
 }
 
-// The printed length of an element that is a node.
-fn elem_len(node: &Node) -> usize
-    ensures { result ≡ min (elem_len node.now) usize.MAX }
-{
-    match node {
-        Node::Elem(element) => printed_len(element),
-        Node::Chars(_) => 0,
-        Node::Comment(_) => 0,
-    }
-}
-
-// The printed length of elements.
-fn elems_len(nodes: &[Node]) -> usize
-    ensures { result ≡ min (elems_len nodes.now) usize.MAX }
-{
-    let mut total = 0usize;
-    for node in nodes {
-        total = total.saturating_add(elem_len(node));
-    }
-    total
-}
-
 // The length of an index whose services have this length.
 fn len_with(inner: usize) -> usize
     ensures { result ≡ len_with inner }
@@ -174,7 +153,8 @@ impl IndexMaker {
         })
     }
 
-    /// Adds the services of an rls-services document behind those that are there.
+    /// Adds the services of an rls-services document behind those that are there. Their length is counted first, so that none are made where
+    /// they would be too many.
     ///
     /// # Errors
     /// `TooLarge` exactly where the printed index would have more than 16,777,216 bytes, with their number; else `NoMemory`.
@@ -185,12 +165,12 @@ impl IndexMaker {
         ensures fits { OnOk result (index_len self.new ≤ index_limit) }
         ensures refused { IfErr result (λ fault. RefusesServices (self.old ++ listed root.now) fault) }
     {
-        let services = listed(self.alloc, root)?;
-        let inner = self.inner.saturating_add(elems_len(&services));
+        let inner = self.inner.saturating_add(listed_len(self.alloc, root)?);
         let len = len_with(inner);
         if len > INDEX_LIMIT {
             return Err(IndexFault::TooLarge(len));
         }
+        let services = listed(self.alloc, root)?;
         let end = self.root.nodes().len();
         self.root.exchange_nodes(end, end, services)?;
         self.inner = inner;

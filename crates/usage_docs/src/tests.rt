@@ -14,11 +14,16 @@ const PREFIXES: [&str; 20] = [
     "t",
 ];
 
-// A name without a prefix.
-fn name(alloc: Global, local: &str) -> Result<Name, NoMemory> {
-    let prefix = Text::from(alloc, "")?;
+// A name with a prefix.
+fn prefixed(alloc: Global, prefix: &str, local: &str) -> Result<Name, NoMemory> {
+    let prefix = Text::from(alloc, prefix)?;
     let local = Text::from(alloc, local)?;
     Ok(Name { prefix, local })
+}
+
+// A name without a prefix.
+fn name(alloc: Global, local: &str) -> Result<Name, NoMemory> {
+    prefixed(alloc, "", local)
 }
 
 // An element with an attribute.
@@ -57,9 +62,7 @@ fn document(alloc: Global) -> Result<Element, NoMemory> {
 fn marked_entry(alloc: Global) -> Result<Element, NoMemory> {
     let mut made = keyed(alloc, "entry", "uri", "sip:a@x")?;
     for prefix in PREFIXES {
-        let prefix = Text::from(alloc, prefix)?;
-        let local = Text::from(alloc, "mark")?;
-        let name = Name { prefix, local };
+        let name = prefixed(alloc, prefix, "mark")?;
         let value = Text::from(alloc, "")?;
         made.push_attr(Attr { name, value })?;
     }
@@ -128,6 +131,28 @@ fn the_index_shows_each_service_with_its_bindings(rt: HostRuntime) -> Result<(),
     let index = maker.finish();
     let text =
         "<rls:rls-services xmlns:rls=\"urn:ietf:params:xml:ns:rls-services\"><service xmlns=\"urn:ietf:params:xml:ns:rls-services\" uri=\"sip:a@x\"><resource-list>http://x</resource-list></service></rls:rls-services>";
+    assert_eq!(rt; printed_len(&index), text.len());
+    Ok(())
+}
+
+#[test]
+fn the_index_shows_no_binding_that_a_service_hides_or_undeclares(
+    rt: HostRuntime,
+) -> Result<(), Fail> {
+    let alloc = rt.alloc();
+    let mut service = Element::new(alloc, prefixed(alloc, "r", "service")?);
+    declare(alloc, &mut service, "p", "urn:nearer")?;
+    declare(alloc, &mut service, "", "")?;
+    let mut root = Element::new(alloc, prefixed(alloc, "r", "rls-services")?);
+    declare(alloc, &mut root, "r", SERVICES)?;
+    declare(alloc, &mut root, "p", "urn:p")?;
+    declare(alloc, &mut root, "", "urn:default")?;
+    root.push_elem(service)?;
+    let mut maker = IndexMaker::new(alloc)?;
+    maker.add(&root).ok().ok_or("too large")?;
+    let index = maker.finish();
+    let text =
+        "<rls:rls-services xmlns:rls=\"urn:ietf:params:xml:ns:rls-services\"><r:service xmlns:p=\"urn:nearer\" xmlns:r=\"urn:ietf:params:xml:ns:rls-services\"/></rls:rls-services>";
     assert_eq!(rt; printed_len(&index), text.len());
     Ok(())
 }

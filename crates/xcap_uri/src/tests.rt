@@ -206,13 +206,13 @@ fn read(alloc: Global, under: &str, target: &[u8]) -> Result<String, Fail> {
 static TARGETS: [(&str, &str, &str); 52] = [
     (
         ROOT,
-        "/xcap/rls-services/users/~/work/~~/%72ls-services%5b@xml:name=\"&amp;\u{85}--%22%5D/service[1%5d/d1:resource-list/%c3%a90:xmlns?xmlns(%c3%a90=urn:y)xmlns(d1=urn:ietf:params:xml:ns:rls-services)",
-        "Node rls-services users ~ work /(urn:ietf:params:xml:ns:rls-services)rls-services[@(http://www.w3.org/XML/1998/namespace)name=&\u{85}--]/(urn:ietf:params:xml:ns:rls-services)service[1]/(urn:ietf:params:xml:ns:rls-services)resource-list/(urn:y)xmlns",
+        "/xcap/rls-services/users/~/friends/~~/%72ls-services%5b@xml:name=\"&amp;\u{85}--%22%5D/service[1%5d/d1:resource-list/%c3%a90:xmlns?xmlns(%c3%a90=urn:y)xmlns(d1=urn:ietf:params:xml:ns:rls-services)",
+        "Node rls-services users ~ friends /(urn:ietf:params:xml:ns:rls-services)rls-services[@(http://www.w3.org/XML/1998/namespace)name=&\u{85}--]/(urn:ietf:params:xml:ns:rls-services)service[1]/(urn:ietf:params:xml:ns:rls-services)resource-list/(urn:y)xmlns",
     ),
     (
         ROOT,
-        "/xcap/resource-lists/users/sip:joe@example.com/work/~~/resource-lists%2F%c3%a90:list%5B@name=''%5d/entry?xmlns(%C3%A90=urn:ietf:params:xml:ns:resource-lists%29",
-        "Node resource-lists users sip:joe@example.com work /(urn:ietf:params:xml:ns:resource-lists)resource-lists/(urn:ietf:params:xml:ns:resource-lists)list[@()name=]/(urn:ietf:params:xml:ns:resource-lists)entry",
+        "/xcap/resource-lists/users/sip:joe@example.com/friends/~~/resource-lists%2F%c3%a90:list%5B@name=''%5d/entry?xmlns(%C3%A90=urn:ietf:params:xml:ns:resource-lists%29",
+        "Node resource-lists users sip:joe@example.com friends /(urn:ietf:params:xml:ns:resource-lists)resource-lists/(urn:ietf:params:xml:ns:resource-lists)list[@()name=]/(urn:ietf:params:xml:ns:resource-lists)entry",
     ),
     (
         ROOT,
@@ -251,8 +251,8 @@ static TARGETS: [(&str, &str, &str); 52] = [
     ),
     (
         ROOT,
-        "/xcap/~flat/a%2Fb/work/sip:s0@x",
-        "Flat rls-services users a/b work sip:s0@x",
+        "/xcap/~flat/a%2Fb/friends/sip:s0@x",
+        "Flat rls-services users a/b friends sip:s0@x",
     ),
     (
         ROOT,

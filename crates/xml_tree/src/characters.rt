@@ -7,7 +7,7 @@ ghost use Rattle.xml_tree.specs.Characters.{is_char, is_space, is_name_start, is
 pub fn is_char(c: char) -> bool
     ensures { result ≡ is_char c }
 {
-    matches!(c, '\t' | '\n' | '\r' | ' '..='\u{D7FF}' | '\u{E000}'..='\u{FFFD}' | '\u{10000}'..='\u{10FFFF}')
+    matches!(c, '\t' | '\n' | '\r' | ' '..='\u{d7ff}' | '\u{e000}'..='\u{fffd}' | '\u{10000}'..='\u{10ffff}')
 }
 
 /// Whether a character is white space: a space, a tab or a line end (XML 1.0, production 3).
@@ -23,10 +23,10 @@ pub fn is_name_start(c: char) -> bool
 {
     match c {
         'A'..='Z' | '_' | 'a'..='z' => true,
-        '\u{C0}'..='\u{D6}' | '\u{D8}'..='\u{F6}' | '\u{F8}'..='\u{2FF}' => true,
-        '\u{370}'..='\u{37D}' | '\u{37F}'..='\u{1FFF}' | '\u{200C}'..='\u{200D}' => true,
-        '\u{2070}'..='\u{218F}' | '\u{2C00}'..='\u{2FEF}' | '\u{3001}'..='\u{D7FF}' => true,
-        '\u{F900}'..='\u{FDCF}' | '\u{FDF0}'..='\u{FFFD}' | '\u{10000}'..='\u{EFFFF}' => true,
+        '\u{c0}'..='\u{d6}' | '\u{d8}'..='\u{f6}' | '\u{f8}'..='\u{2ff}' => true,
+        '\u{370}'..='\u{37d}' | '\u{37f}'..='\u{1fff}' | '\u{200c}'..='\u{200d}' => true,
+        '\u{2070}'..='\u{218f}' | '\u{2c00}'..='\u{2fef}' | '\u{3001}'..='\u{d7ff}' => true,
+        '\u{f900}'..='\u{fdcf}' | '\u{fdf0}'..='\u{fffd}' | '\u{10000}'..='\u{effff}' => true,
         _ => false,
     }
 }
@@ -43,8 +43,8 @@ fn is_joining(c: char) -> bool
     ensures { result ≡ is_joining c }
 {
     match c {
-        '-' | '.' | '0'..='9' | '\u{B7}' => true,
-        '\u{300}'..='\u{36F}' | '\u{203F}'..='\u{2040}' => true,
+        '-' | '.' | '0'..='9' | '\u{b7}' => true,
+        '\u{300}'..='\u{36f}' | '\u{203f}'..='\u{2040}' => true,
         _ => false,
     }
 }

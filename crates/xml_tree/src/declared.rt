@@ -62,8 +62,8 @@ impl<'a> Declared<'a> {
         Ok(Declared { decls, index })
     }
 
-    // The URI of the last declaration of a prefix. Takes no memory.
-    pub(crate) fn uri_of(&self, prefix: &Text) -> Option<&'a Text>
+    /// What the last declaration of a prefix says, if there is one: its URI, which is empty where the prefix is undeclared. Takes no memory.
+    pub fn uri_of(&self, prefix: &Text) -> Option<&'a Text>
         ensures { option_copied result ≡ declared self.now prefix.now }
     {
         if self.index.is_empty() {

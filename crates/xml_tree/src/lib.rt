@@ -37,9 +37,9 @@ pub use laws::{
     paths_are_short, paths_go_on, what_was_made_is_there,
 };
 pub use list::List;
-pub use names::{Attr, Decl, Name};
+pub use names::{Attr, Decl, Name, copy_decls};
 pub use path::{Path, element_at};
-pub use printed::printed_len;
+pub use printed::{decl_len, printed_len};
 pub use proper_laws::{
     proper_after_an_edit, proper_at_each_place, proper_in_scopes_that_bind_alike, proper_when_put,
 };

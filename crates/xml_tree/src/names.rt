@@ -131,7 +131,11 @@ pub(crate) fn same_attrs(a: &[Attr], b: &[Attr]) -> bool
     true
 }
 
-pub(crate) fn copy_decls(alloc: Global, decls: &[Decl]) -> Result<Vec<Decl>, AllocError>
+/// Equal declarations.
+///
+/// # Errors
+/// `NoMemory` for want of memory.
+pub fn copy_decls(alloc: Global, decls: &[Decl]) -> Result<Vec<Decl>, AllocError>
     ensures { IfOk result (λ made. made.items ≡ decls.now) }
 {
     let mut made = Vec::with_capacity(alloc, decls.len())?;

@@ -86,9 +86,10 @@ fn declaring_len(prefix: &Text) -> usize
     prefix.as_str().len().saturating_add(6)
 }
 
-// The length of a declaration.
+/// The length in bytes of a declaration as it is printed in a tag, with the space before it; the greatest number where it is longer. Takes no
+/// memory.
 #[tactic(auto, using(crate::proofs::PrintLengths::lengths))]
-fn decl_len(decl: &Decl) -> usize
+pub fn decl_len(decl: &Decl) -> usize
     ensures { result ≡ min (byte_len (print_decl decl.now)) usize.MAX }
 {
     declaring_len(&decl.prefix)

@@ -29,7 +29,6 @@ loop-node-preserved c =
           let lt = at.1 in
           let one_more : Bool → ℕ = λ b. c.loop-node.before + cond b 1 0 in
           record {
-            room = c.requires;
             left = rw (w.i-is, add-one, add-one) at.2;
             within = omega arith;
             small = omega arith;
@@ -42,7 +41,6 @@ loop-node-preserved c =
           })
       | in_default w ↦
           (record {
-            room = c.requires;
             left = rw (w.i-is, add-one) (at_other ns c.loop-node.node-index c.loop-node.i xs c.node-item.result c.loop-node.invariant.left c.loop-node-test.true c.node-item.is (no_element c.node-item.result w.in_default.not-Elem));
             within = omega arith;
             small = omega arith;

@@ -1,4 +1,4 @@
-use Rattle.std.proofs.Common.{◌≡◌, ◌≤◌, ◌<◌, length, drop, take, count_by}
+use Rattle.std.proofs.Common.{◌≡◌, ◌≤◌, length, drop, take, count_by}
 use Rattle.xml_tree.specs.Tree.{kids, kids_of}
 use Rattle.xml_tree.specs.Nodes.{content_of}
 use Rattle.step_laws.proofs.OnePass.{OnlyBelow}
@@ -7,7 +7,6 @@ use Rattle.node_select.proofs.choice.select_child.Given as goal
 
 abbrev pub invariant-loop-node : goal.invariant-loop-node
 invariant-loop-node l = record {
-  room : length l.scope < 67;
   left : drop l.i (kids_of l.element) ≡ kids (content_of (drop l.node-index l.node-items));
   within : l.i ≤ length (kids_of l.element);
   small : l.i ≤ l.node-index;

@@ -1,6 +1,5 @@
 use Rattle.std.proofs.Common.{◌≤◌, ◌+◌, ◌++◌, List, length, map, min, ap, sym, ◌∙◌, subst, arith}
 use Rattle.xml_tree.specs.Tree.{Tree}
-use Rattle.xml_tree.specs.declared.tree.Node.{Node}
 use Rattle.xml_tree.specs.declared.tree.Node.TheVariants.{Elem}
 use Rattle.usage_docs.specs.Services.{listed, index_of, index_len, index_limit}
 use Rattle.usage_docs.specs.Listing.{elems_len}
@@ -10,14 +9,14 @@ use Rattle.usage_docs.proofs.listing.IndexMaker.add.Goals as goal
 pub returns-then-len-gt-INDEX_LIMIT-clause-refused : goal.returns-then-len-gt-INDEX_LIMIT-clause-refused
 returns-then-len-gt-INDEX_LIMIT-clause-refused c =
     let counted = c.self.invariant.counted ∙ ap (λ (ss : List Tree). elems_len (map Elem ss)) c.self.view_is in
-    let more = c.elems_len.ensures ∙ ap (λ (ns : List Node). min (elems_len ns) 18446744073709551615) (c.deref.ensures.value ∙ c.in_ok-services.ensures) in
+    let more = c.in_ok-listed_len.ensures in
     let added = c.saturating_add-inner.ensures ∙ ap (λ x. min (c.self.inside.inner + x) 18446744073709551615) more in
     too_large c.args.self.now (listed c.args.root.now) c.self.inside.inner c.saturating_add-inner.result c.len_with-len.result counted added c.len_with-len.ensures (omega arith)
 
 pub invariant_of-self-2 : goal.invariant_of-self-2
 invariant_of-self-2 c =
     let counted = c.self.invariant.counted ∙ ap (λ (ss : List Tree). elems_len (map Elem ss)) c.self.view_is in
-    let more = c.elems_len.ensures ∙ ap (λ (ns : List Node). min (elems_len ns) 18446744073709551615) (c.deref.ensures.value ∙ c.in_ok-services.ensures) in
+    let more = c.in_ok-listed_len.ensures in
     let added = c.saturating_add-inner.ensures ∙ ap (λ x. min (c.self.inside.inner + x) 18446744073709551615) more in
     let ss = c.args.self.now in
     let new = listed c.args.root.now in
@@ -38,7 +37,7 @@ returns-clause-ok c =
 pub returns-clause-fits : goal.returns-clause-fits
 returns-clause-fits c =
     let counted = c.self.invariant.counted ∙ ap (λ (ss : List Tree). elems_len (map Elem ss)) c.self.view_is in
-    let more = c.elems_len.ensures ∙ ap (λ (ns : List Node). min (elems_len ns) 18446744073709551615) (c.deref.ensures.value ∙ c.in_ok-services.ensures) in
+    let more = c.in_ok-listed_len.ensures in
     let added = c.saturating_add-inner.ensures ∙ ap (λ x. min (c.self.inside.inner + x) 18446744073709551615) more in
     let ss = c.args.self.now in
     let new = listed c.args.root.now in

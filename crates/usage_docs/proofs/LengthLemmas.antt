@@ -1,0 +1,217 @@
+-- The printed length of what is bound inside an element, by that of what is bound around it and of what it binds; and of services
+-- as the index shows them.
+use Rattle.std.proofs.Common.{◌≡◌, Ordering, Less, Equal, Greater, ℕ, ◌+◌, ◌<◌, min, Bool, true, false, cond, not, List, [], ◌∷◌, ◌++◌, length, get_or, drop, filter, flat_map, Option, Some, None, is_some, is_none, option_copied, Bor, bytes_eq, refl, sym, ap, ◌∙◌, append-nil, arith}
+use Rattle.std.proofs.lemmas.List.Concat.{flat_map-append}
+use Rattle.std.proofs.lemmas.List.Elements.{filter-append}
+use Rattle.std.specs.Cmp.Lexicographic.{bytes_decides}
+use Rattle.std.specs.Option.{option_or}
+use Rattle.std.specs.Ordering.{match_ordering}
+use Rattle.xml_tree.specs.Tree.{Content, Tree, tree_of}
+use Rattle.xml_tree.specs.Print.{print, print_content, print_decl, opening, ending, is_empty, byte_len}
+use Rattle.xml_tree.specs.Scopes.{AreInOrder, binds, bindings_in, declared, gathered, placed}
+use Rattle.xml_tree.specs.declared.names.Attr.{Attr}
+use Rattle.xml_tree.specs.declared.names.Decl.{Decl}
+use Rattle.xml_tree.specs.declared.names.Name.{Name}
+use Rattle.xml_tree.specs.declared.tree.Node.{Node}
+use Rattle.xml_tree.proofs.BindingLaws.{Behind, AreInOrder-placed, AreInOrder-gathered}
+use Rattle.xml_tree.proofs.ByteOrder.{order, order_same, order_equal}
+use Rattle.xml_tree.proofs.GatheringLemmas.{gathered-append}
+use Rattle.xml_tree.proofs.PrintLengths.{byte_len-append, byte_len-opening}
+use Rattle.xml_tree.proofs.ScopeLemmas.{drop_item, option_or-none}
+use Rattle.usage_docs.specs.Rows.{Scope}
+use Rattle.usage_docs.specs.Services.{listed_as}
+use Rattle.usage_docs.specs.Listing.{elems_len, listed_nodes}
+use Rattle.usage_docs.specs.Lengths.{decls_len, kept}
+use Rattle.usage_docs.proofs.ListingLemmas.{listed_step}
+
+-- ---- sums
+zero_behind : (n : ℕ) → n ≡ n + 0
+zero_behind n = omega arith
+
+zero_before : (n : ℕ) → 0 + n ≡ n
+zero_before n = omega arith
+
+turned : (a b : ℕ) → a + b ≡ b + a
+turned a b = omega arith
+
+grouped : (a b c : ℕ) → a + (b + c) ≡ (a + b) + c
+grouped a b c = omega arith
+
+-- sums that stop at the greatest number
+module _ (m : ℕ) where
+  pub two_capped : (a b p q r w : ℕ) → p ≡ min a m → q ≡ min b m → r ≡ min (p + q) m → w ≡ a + b → r ≡ min w m
+  two_capped a b p q r w first second made whole = omega arith
+
+  pub next_capped : (t x y z w r n : ℕ) → min (t + w) m ≡ z → n ≡ min x m → r ≡ min (t + n) m → w ≡ x + y → min (r + y) m ≡ z
+  next_capped t x y z w r n before one made parts = omega arith
+
+-- ---- the length of declarations
+decls_two : (a b : List Decl) → decls_len (a ++ b) ≡ decls_len a + decls_len b
+decls_two a b = ap byte_len (flat_map-append print_decl a b) ∙ byte_len-append (flat_map print_decl a) (flat_map print_decl b)
+
+-- that of an element without its declarations, and of these
+whole_opening : (w b o p e d x y : ℕ) → w ≡ o + e → b ≡ p + e → o ≡ x + (d + y) + 1 → p ≡ x + (0 + y) + 1 → w ≡ b + d
+whole_opening w b o p e d x y whole bare begins alone = omega arith
+
+with_decls : (n : Name) (ds : List Decl) (ats : List Attr) (k : Content) → byte_len (print (tree_of n ds ats k)) ≡ byte_len (print (tree_of n [] ats k)) + decls_len ds
+with_decls n ds ats k =
+    let end = ending n (is_empty k) (print_content k) in
+    whole_opening _ _ _ _ _ _ _ _ (byte_len-append (opening n ds ats) end) (byte_len-append (opening n [] ats) end) (byte_len-opening n ds ats) (byte_len-opening n [] ats)
+
+-- ---- what is kept of some bindings, in a loop over them
+module _ (own bs : List Decl) (i : ℕ) (b : Decl) (within : i < length bs) (is : b ≡ get_or bs i b) where
+  abbrev rest : List Decl
+  rest = drop (i + 1) bs
+
+  next_kept : (hides : Bool) → is_none (declared own b.prefix) ≡ hides → decls_len (kept own (drop i bs)) ≡ decls_len (cond hides (b ∷ kept own rest) (kept own rest))
+  next_kept hides e = ap (λ (ds : List Decl). decls_len (kept own ds)) (drop_item bs i b within is) ∙ ap (λ (h : Bool). decls_len (cond h (b ∷ kept own rest) (kept own rest))) e
+
+  pub one_kept : is_none (declared own b.prefix) ≡ true → decls_len (kept own (drop i bs)) ≡ byte_len (print_decl b) + decls_len (kept own rest)
+  one_kept e = next_kept true e ∙ byte_len-append (print_decl b) (flat_map print_decl (kept own rest))
+
+  pub one_hidden : is_none (declared own b.prefix) ≡ false → decls_len (kept own (drop i bs)) ≡ decls_len (kept own rest)
+  one_hidden e = next_kept false e
+
+-- what a look-up says
+copied : (o : Option (Bor (List ℕ))) → is_some (option_copied o) ≡ is_some o
+copied None = refl
+copied (Some x) = refl
+
+twice : (b : Bool) → not (not b) ≡ b
+twice true = refl
+twice false = refl
+
+pub looked_up : (o : Option (Bor (List ℕ))) (u : Option (List ℕ)) (none b : Bool) → option_copied o ≡ u → is_some o ≡ not none → none ≡ b → is_none u ≡ b
+looked_up o u none b is tested e = ap is_none (sym is) ∙ ap not (copied o ∙ tested) ∙ twice none ∙ e
+
+-- no declarations hide nothing
+pub all_kept : (bs : List Decl) → kept [] bs ≡ bs
+all_kept [] = refl
+all_kept (b ∷ bs) = ap (λ (ds : List Decl). b ∷ ds) (all_kept bs)
+
+-- ---- what is left of a list of declarations: those that bind, and whose prefixes others leave alone
+abbrev left : List Decl → List Decl → ℕ
+left own g = decls_len (kept own (filter binds g))
+
+two : (own a b : List Decl) → left own (a ++ b) ≡ left own a + left own b
+two own a b =
+    ap (λ (ds : List Decl). decls_len (kept own ds)) (filter-append binds a b)
+    ∙ ap decls_len (filter-append (λ (x : Decl). is_none (declared own x.prefix)) (filter binds a) (filter binds b)) ∙ decls_two (kept own (filter binds a)) (kept own (filter binds b))
+
+-- one declaration, by a test of those that others leave alone
+module _ (x : Decl) where
+  same_test : (f g : Decl → Bool) → f x ≡ g x → decls_len (filter f (filter binds (x ∷ []))) ≡ decls_len (filter g (filter binds (x ∷ [])))
+  same_test f g e = by (binds x)
+    where
+      by : (b : Bool) → decls_len (filter f (cond b (x ∷ []) [])) ≡ decls_len (filter g (cond b (x ∷ []) []))
+      by true = ap (λ (t : Bool). decls_len (cond t (x ∷ []) [])) e
+      by false = refl
+
+  failed_test : (f : Decl → Bool) → f x ≡ false → decls_len (filter f (filter binds (x ∷ []))) ≡ 0
+  failed_test f e = by (binds x)
+    where
+      by : (b : Bool) → decls_len (filter f (cond b (x ∷ []) [])) ≡ 0
+      by true = ap (λ (t : Bool). decls_len (cond t (x ∷ []) [])) e
+      by false = refl
+
+-- one more declaration of another prefix, and of the same
+module _ (d : Decl) (ds : List Decl) where
+  tested : (x : Decl) (b : Bool) → bytes_eq d.prefix x.prefix ≡ b → is_none (declared (d ∷ ds) x.prefix) ≡ is_none (option_or (declared ds x.prefix) (cond b (Some d.uri) None))
+  tested x b e = ap (λ (t : Bool). is_none (option_or (declared ds x.prefix) (cond t (Some d.uri) None))) e
+
+  hidden : (o : Option (List ℕ)) → is_none (option_or o (Some d.uri)) ≡ false
+  hidden None = refl
+  hidden (Some u) = refl
+
+  other_left : (x : Decl) → bytes_eq d.prefix x.prefix ≡ false → left (d ∷ ds) (x ∷ []) ≡ left ds (x ∷ [])
+  other_left x e =
+      same_test x (λ (y : Decl). is_none (declared (d ∷ ds) y.prefix)) (λ (y : Decl). is_none (declared ds y.prefix)) (tested x false e ∙ ap is_none (option_or-none (declared ds x.prefix)))
+
+  none_left : (x : Decl) → bytes_eq d.prefix x.prefix ≡ true → left (d ∷ ds) (x ∷ []) ≡ 0
+  none_left x e = failed_test x (λ (y : Decl). is_none (declared (d ∷ ds) y.prefix)) (tested x true e ∙ hidden (declared ds x.prefix))
+
+unlike : (p q : List ℕ) → (order p q ≡ Equal → ⊥) → bytes_eq p q ≡ false
+unlike p q apart = by (bytes_eq p q) refl
+  where
+    by : (b : Bool) → bytes_eq p q ≡ b → b ≡ false
+    by false e = refl
+    by true e = let same : p ≡ q = (bytes_decides p q).0 e in absurd (apart (ap (order p) (sym same) ∙ order_same p))
+
+-- what stands behind a prefix is left as it was by a declaration of it
+all_left : (d : Decl) (ds g : List Decl) → Behind d.prefix g → left (d ∷ ds) g ≡ left ds g
+all_left d ds [] h = refl
+all_left d ds (x ∷ g) h =
+    let first = other_left d ds x (unlike d.prefix x.prefix (λ e. let both : Less ≡ Equal = sym h.0 ∙ e in cc)) in
+    let others = all_left d ds g h.1 in
+    two (d ∷ ds) (x ∷ []) g ∙ (λ i. first i + others i) ∙ sym (two ds (x ∷ []) g)
+
+-- one declaration more around others
+one_more : (d : Decl) (ds g : List Decl) → AreInOrder g → left ds (placed d g) ≡ left (d ∷ ds) g + left ds (d ∷ [])
+one_more d ds [] h = sym (zero_before (left ds (d ∷ [])))
+one_more d ds (x ∷ g) h = by (order d.prefix x.prefix) refl (AreInOrder-placed d (x ∷ g) h) (one_more d ds g h.1)
+  where
+    here : ℕ
+    here = left ds (d ∷ [])
+
+    by : (o : Ordering) → order d.prefix x.prefix ≡ o → AreInOrder (match_ordering o (d ∷ x ∷ g) (d ∷ g) (x ∷ placed d g)) → left ds (placed d g) ≡ left (d ∷ ds) g + left ds (d ∷ [])
+        → left ds (match_ordering o (d ∷ x ∷ g) (d ∷ g) (x ∷ placed d g)) ≡ left (d ∷ ds) (x ∷ g) + left ds (d ∷ [])
+    by Less is all rest =
+        two ds (d ∷ []) (x ∷ g) ∙ ap (λ (n : ℕ). left ds (d ∷ []) + n) (sym (all_left d ds (x ∷ g) all.0)) ∙ turned (left ds (d ∷ [])) (left (d ∷ ds) (x ∷ g))
+    by Equal is all rest =
+        let first = none_left d ds x ((bytes_decides d.prefix x.prefix).1 (order_equal d.prefix x.prefix is)) in
+        let others = all_left d ds g all.0 in
+        let after : left (d ∷ ds) (x ∷ g) ≡ left ds g = two (d ∷ ds) (x ∷ []) g ∙ (λ i. first i + others i) ∙ zero_before (left ds g) in
+        two ds (d ∷ []) g ∙ ap (λ (n : ℕ). left ds (d ∷ []) + n) (sym after) ∙ turned (left ds (d ∷ [])) (left (d ∷ ds) (x ∷ g))
+    by Greater is all rest =
+        let first = sym (other_left d ds x (unlike d.prefix x.prefix (λ e. let both : Greater ≡ Equal = sym is ∙ e in cc))) in
+        two ds (x ∷ []) (placed d g) ∙ (λ i. first i + rest i) ∙ grouped (left (d ∷ ds) (x ∷ [])) (left (d ∷ ds) g) (left ds (d ∷ []))
+        ∙ ap (λ (n : ℕ). n + left ds (d ∷ [])) (sym (two (d ∷ ds) (x ∷ []) g))
+
+-- declarations around others: what they leave of the others, and what they bind themselves
+all_more : (own g : List Decl) → AreInOrder g → decls_len (filter binds (gathered g own)) ≡ left own g + decls_len (filter binds (gathered [] own))
+all_more [] g h = ap decls_len (sym (all_kept (filter binds g))) ∙ zero_behind (left [] g)
+all_more (d ∷ ds) g h =
+    let inner = decls_len (filter binds (gathered [] ds)) in
+    all_more ds (placed d g) (AreInOrder-placed d g h) ∙ ap (λ (n : ℕ). n + inner) (one_more d ds g h) ∙ sym (grouped (left (d ∷ ds) g) (left ds (d ∷ [])) inner)
+    ∙ ap (λ (n : ℕ). left (d ∷ ds) g + n) (sym (all_more ds (d ∷ []) (tt, tt)))
+
+-- what is bound inside a child of a root
+pub bound_inside : (root own : List Decl) → decls_len (bindings_in (root ∷ own ∷ [])) ≡ decls_len (kept own (bindings_in (root ∷ []))) + decls_len (bindings_in (own ∷ []))
+bound_inside root own =
+    let inner = decls_len (bindings_in (own ∷ [])) in
+    ap (λ (ds : List Decl). decls_len (filter binds ds)) (gathered-append [] root (own ++ []))
+    ∙ all_more (own ++ []) (gathered [] root) (AreInOrder-gathered [] root tt)
+    ∙ ap (λ (ds : List Decl). left ds (gathered [] root) + inner) (append-nil own)
+    ∙ ap (λ (ds : List Decl). left own (gathered [] ds) + inner) (sym (append-nil root))
+
+-- ---- a service as the index shows it
+no_decls : (ds : List Decl) → length ds ≡ 0 → ds ≡ []
+no_decls [] h = refl
+no_decls (d ∷ ds) h = absurd (omega (arith, h))
+
+-- one without declarations
+pub plain_service : (root : List Decl) (e : Tree) → length e.decls ≡ 0 → byte_len (print (listed_as (root ∷ []) e)) ≡ byte_len (print e) + decls_len (bindings_in (root ∷ []))
+plain_service root e h =
+    let none = no_decls e.decls h in
+    ap (λ (ds : List Decl). byte_len (print (tree_of e.name (bindings_in (root ∷ ds ∷ [])) e.attrs e.content))) none
+    ∙ with_decls e.name (bindings_in (root ∷ [])) e.attrs e.content
+    ∙ ap (λ (ds : List Decl). byte_len (print (tree_of e.name ds e.attrs e.content)) + decls_len (bindings_in (root ∷ []))) (sym none)
+
+-- one with declarations, by what it is without them
+pub own_service : (root : List Decl) (e bare : Tree) → bare ≡ tree_of e.name [] e.attrs e.content
+    → byte_len (print (listed_as (root ∷ []) e)) ≡ byte_len (print bare) + decls_len (bindings_in (root ∷ e.decls ∷ []))
+own_service root e bare is =
+    let inside = bindings_in (root ∷ e.decls ∷ []) in
+    with_decls e.name inside e.attrs e.content ∙ ap (λ (t : Tree). byte_len (print t) + decls_len inside) (sym is)
+
+-- ---- the services among nodes
+elems_append : (ms ns : List Node) → elems_len (ms ++ ns) ≡ elems_len ms + elems_len ns
+elems_append [] ns = omega arith
+elems_append (m ∷ ms) ns = let e = elems_append ms ns in omega arith
+
+module _ (c : Scope) where
+  pub next_listed : (ns : List Node) (i : ℕ) (n : Node) → i < length ns → n ≡ get_or ns i n
+      → elems_len (listed_nodes c (drop i ns)) ≡ elems_len (listed_nodes c (n ∷ [])) + elems_len (listed_nodes c (drop (i + 1) ns))
+  next_listed ns i n within is =
+      ap (λ (ms : List Node). elems_len (listed_nodes c ms)) (drop_item ns i n within is) ∙ ap elems_len (listed_step c n (drop (i + 1) ns))
+      ∙ elems_append (listed_nodes c (n ∷ [])) (listed_nodes c (drop (i + 1) ns))

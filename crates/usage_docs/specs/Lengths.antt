@@ -1,0 +1,19 @@
+-- The printed length of bindings.
+use Rattle.std.specs.Prelude.{◌≡◌, ℕ, min, List, [], ◌∷◌, filter, flat_map, is_none}
+use Rattle.xml_tree.specs.Print.{print_decl, byte_len}
+use Rattle.xml_tree.specs.Scopes.{bindings_in, declared}
+use Rattle.xml_tree.specs.declared.names.Decl.{Decl}
+use Rattle.usage_docs.specs.declared.lengths.Outer.{Outer}
+
+-- the printed length of declarations
+abbrev pub decls_len : List Decl → ℕ
+decls_len ds = byte_len (flat_map print_decl ds)
+
+-- the bindings whose prefixes these declarations leave alone
+abbrev pub kept : List Decl → List Decl → List Decl
+kept own bs = filter (λ b. is_none (declared own b.prefix)) bs
+
+-- what is kept of a root is what it binds, and the length of that
+pub record CountsFrom (outer : Outer) : Type 0 where
+  pub bindings : outer.bindings.items ≡ bindings_in (outer.decls.now ∷ [])
+  pub counted : outer.len ≡ min (decls_len (bindings_in (outer.decls.now ∷ []))) 18446744073709551615
