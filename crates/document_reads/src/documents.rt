@@ -2,30 +2,18 @@
 ghost use Rattle.std.specs.Prelude.{◌≡◌, Some, IfOk, encode_utf8_all};
 ghost use Rattle.tree_text.specs.Printing.{document_print};
 ghost use Rattle.machine_words.specs.Reading.{if_found, reads_document};
-ghost use Rattle.machine_words.specs.Resources.{document_media};
 
 use crate::NoMemory;
 use crate::finding::{Found, resource};
 use crate::replies::{in_place, with_text};
+use doc_names::DocId;
 use http_wire::Request;
 use reply_text::{Media, Reply};
-use request_terms::Method;
+use request_terms::{Method, document_media};
 use std::alloc::Global;
 use store_core::Store;
 use tree_text::print_document;
-use xcap_uri::{Auid, DocId};
 use xml_tree::Element;
-
-// The media type of a usage's documents.
-fn document_media(auid: Auid) -> Media
-    ensures { result ≡ document_media auid }
-{
-    match auid {
-        Auid::ResourceLists => Media::ResourceLists,
-        Auid::RlsServices => Media::RlsServices,
-        Auid::XcapCaps => Media::XcapCaps,
-    }
-}
 
 // The reply with a document, which is printed only where the conditions let it be sent.
 #[tactic(auto, using(crate::proofs::Outcomes::sent_unless))]

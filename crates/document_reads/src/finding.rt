@@ -9,10 +9,10 @@ ghost use Rattle.document_reads.specs.Finding.{IsLow, resource_of};
 
 use crate::NoMemory;
 use crate::listing::index_of_services;
+use doc_names::{Auid, DocId, Home};
 use std::alloc::{AllocError, Global};
 use store_core::Store;
 use usage_docs::{IndexFault, caps};
-use xcap_uri::{Auid, DocId, Home};
 use xml_tree::Element;
 
 /// What an address leads to.

@@ -8,8 +8,6 @@ mod finding;
 mod listing;
 mod nodes;
 mod replies;
-#[cfg(test)]
-mod tests;
 
 pub use documents::get_document;
 pub use nodes::get_node;

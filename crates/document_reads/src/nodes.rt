@@ -7,6 +7,7 @@ ghost use Rattle.machine_words.specs.Reading.{if_found, reads_node};
 use crate::NoMemory;
 use crate::finding::{Found, resource};
 use crate::replies::{in_place, with_text};
+use doc_names::DocId;
 use http_wire::Request;
 use node_select::Selector;
 use node_texts::{found_text, node_media};
@@ -14,7 +15,6 @@ use reply_text::Reply;
 use request_terms::Method;
 use std::alloc::Global;
 use store_core::Store;
-use xcap_uri::DocId;
 use xml_tree::Element;
 
 // The reply with a node of a document, which is looked for before the conditions. Its tag is the document's.

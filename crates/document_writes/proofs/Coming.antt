@@ -3,7 +3,7 @@ use Rattle.std.proofs.Common.{◌≡◌, ◌≤◌, ℕ, Bool, List, [], None, R
 use Rattle.tree_text.specs.Faults.{Unless, text_read}
 use Rattle.tree_text.specs.declared.fault.TextFault.{TextFault}
 use Rattle.tree_text.specs.declared.fault.TextFault.TheVariants as texts
-use Rattle.usage_docs.specs.declared.rows.Usage.{Usage}
+use Rattle.doc_names.specs.declared.usages.Usage.{Usage}
 use Rattle.xml_tree.specs.Proper.{ProperIn}
 use Rattle.xml_tree.specs.Tree.{Tree, height}
 use Rattle.machine_words.specs.Writing.{IsJudged, sound, PutsText}

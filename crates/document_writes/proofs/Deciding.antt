@@ -6,12 +6,12 @@ use Rattle.node_select.specs.declared.selector.Selector.{Selector}
 use Rattle.reply_text.specs.Heads.{Sent}
 use Rattle.request_terms.specs.Conditions.{outcome_of}
 use Rattle.request_terms.specs.declared.conditions.Outcome.{Outcome}
-use Rattle.watch_port.specs.declared.edit.Edit.{Edit}
-use Rattle.xcap_uri.specs.declared.doc_id.DocId.{DocId}
+use Rattle.notes.specs.declared.edit.Edit.{Edit}
+use Rattle.doc_names.specs.declared.doc_id.DocId.{DocId}
 use Rattle.xml_tree.specs.Tree.{Tree}
 use Rattle.store_core.specs.Changing.{changing}
 use Rattle.store_core.specs.Held.{Content, Held}
-use Rattle.store_core.specs.Keeping.{usage_of}
+use Rattle.doc_names.specs.Usages.{usage_of}
 use Rattle.machine_words.specs.Answers.{Answer, plain, unchanged}
 use Rattle.machine_words.specs.Machine.{Does}
 use Rattle.machine_words.specs.Resources.{document_of}

@@ -1,11 +1,11 @@
 -- What the machine does by an answer that was made.
 use Rattle.std.proofs.Common.{◌≡◌, ◌≢◌, Bool, Option, None, Some, Result, Ok, Err, refl, sym, ap, subst, ◌∙◌, ⊎_elim}
 use Rattle.edit_ops.specs.declared.change.Change.{Change}
-use Rattle.patch_words.specs.Notes.{Note}
-use Rattle.patch_record.specs.Recorded.{note_in}
+use Rattle.notes.specs.Notes.{Note}
+use Rattle.notes.specs.Recorded.{note_in}
 use Rattle.reply_text.specs.Heads.{Sent}
-use Rattle.watch_port.specs.declared.edit.Edit.{Edit}
-use Rattle.xcap_uri.specs.declared.doc_id.DocId.{DocId}
+use Rattle.notes.specs.declared.edit.Edit.{Edit}
+use Rattle.doc_names.specs.declared.doc_id.DocId.{DocId}
 use Rattle.store_core.specs.Asking.{Asks}
 use Rattle.store_core.specs.Changing.{changing, content_after}
 use Rattle.store_core.specs.Held.{Content}

@@ -1,25 +1,8 @@
 -- What is found of a document that is held.
-use Rattle.std.proofs.Common.{◌≡◌, ℕ, Bool, true, false, cond, List, [], ◌∷◌, find, Option, None, Some, option_map, is_some, IsSome, refl, sym, ap, ◌∙◌}
+use Rattle.std.proofs.Common.{◌≡◌, ℕ, Option, None, Some, option_map, is_some, IsSome, refl, ap}
 use Rattle.xml_tree.specs.Tree.{Tree}
-use Rattle.xcap_uri.specs.Same.{same_id}
-use Rattle.xcap_uri.specs.declared.doc_id.DocId.{DocId}
-use Rattle.store_core.specs.Held.{Content, Held}
-use Rattle.store_core.proofs.SameNames.{same-exact}
-use Rattle.machine_words.specs.Resources.{document_of}
+use Rattle.store_core.specs.Held.{Held}
 use Rattle.machine_words.specs.Writing.{tag_of}
-
--- what is found has the name that was looked for
-found_step : (id : DocId) (d h : Held) (ds : List Held) (b : Bool) → same_id id d.id ≡ b → cond b (Some d) (find (λ e. same_id id e.id) ds) ≡ Some h
-    → (find (λ e. same_id id e.id) ds ≡ Some h → same_id id h.id ≡ true) → same_id id h.id ≡ true
-found_step id d h ds true is found below = let same : d ≡ h = cc in sym (ap (λ (e : Held). same_id id e.id) same) ∙ is
-found_step id d h ds false is found below = below found
-
-found_same : (id : DocId) (h : Held) (ds : List Held) → find (λ e. same_id id e.id) ds ≡ Some h → same_id id h.id ≡ true
-found_same id h [] found = cc
-found_same id h (d ∷ ds) found = found_step id d h ds (same_id id d.id) refl found (found_same id h ds)
-
-pub found_name : (c : Content) (id : DocId) (h : Held) → document_of c id ≡ Some h → id ≡ h.id
-found_name c id h found = same-exact id h.id (found_same id h c.documents found)
 
 -- what a look-up of the tree and the tag tells
 abbrev pub seen : Option Held → Option (Tree × ℕ)

@@ -6,9 +6,9 @@ use Rattle.usage_docs.specs.Clashes.{IsFirstClash}
 use Rattle.usage_docs.specs.Forms.{Constraints}
 use Rattle.usage_docs.specs.Validity.{Schema}
 use Rattle.usage_docs.specs.declared.keys.Clash.{Clash}
-use Rattle.usage_docs.specs.declared.rows.Usage.{Usage}
-use Rattle.reply_text.specs.declared.conflicts.ErrorBody.{ErrorBody}
-use Rattle.reply_text.specs.declared.conflicts.ErrorBody.TheVariants as conflicts
+use Rattle.doc_names.specs.declared.usages.Usage.{Usage}
+use Rattle.conflict_docs.specs.declared.conflicts.ErrorBody.{ErrorBody}
+use Rattle.conflict_docs.specs.declared.conflicts.ErrorBody.TheVariants as conflicts
 use Rattle.machine_words.specs.Writing.{IsJudged, clashing, clash_field}
 
 -- what a test tells

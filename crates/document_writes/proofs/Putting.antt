@@ -1,17 +1,17 @@
 -- A tree that is put is a change that may be asked for, and its answer is that of a document that is new or of one that is held.
-use Rattle.std.proofs.Common.{◌≡◌, ◌≢◌, Bool, cond, [], is_some, Option, None, Some, IsSomeAnd, refl, sym, ap, subst, ◌∙◌}
-use Rattle.edit_ops.specs.Changes.{Fits, edited}
+use Rattle.std.proofs.Common.{◌≡◌, ◌≢◌, Bool, cond, [], is_some, Option, None, Some, refl, sym, ap, subst, ◌∙◌}
 use Rattle.edit_ops.specs.declared.change.Change.{Change}
 use Rattle.edit_ops.specs.declared.change.Change.TheVariants.{CreateDocument, Replace}
-use Rattle.patch_record.specs.Recorded.{note_in}
+use Rattle.notes.specs.Recorded.{note_in}
 use Rattle.reply_text.specs.Heads.{Sent}
-use Rattle.watch_port.specs.declared.edit.Edit.{Edit}
-use Rattle.xcap_uri.specs.Ids.{IsReadable}
-use Rattle.xcap_uri.specs.declared.doc_id.DocId.{DocId}
+use Rattle.notes.specs.declared.edit.Edit.{Edit}
+use Rattle.doc_names.specs.Ids.{IsReadable}
+use Rattle.doc_names.specs.declared.doc_id.DocId.{DocId}
 use Rattle.xml_tree.specs.Tree.{Tree}
 use Rattle.store_core.specs.Asking.{Asks, MayBeFor}
 use Rattle.store_core.specs.Held.{Content, Held}
-use Rattle.store_core.specs.Keeping.{IsUsers, usage_of}
+use Rattle.store_core.specs.Keeping.{IsUsers}
+use Rattle.doc_names.specs.Usages.{usage_of}
 use Rattle.store_core.specs.declared.refusal.StoreRefusal.{StoreRefusal}
 use Rattle.store_core.specs.declared.refusal.StoreRefusal.TheVariants.{NoMemory}
 use Rattle.machine_words.specs.Answers.{unchanged, tagged}
@@ -20,7 +20,7 @@ use Rattle.machine_words.specs.Resources.{document_of}
 use Rattle.machine_words.specs.Writing.{by_judgement, put_answer, put_change, put_status, refused, tag_of}
 use Rattle.document_writes.specs.Making.{IsMade, IsUnmade}
 use Rattle.document_writes.proofs.Doing.{does_change, does_refuse}
-use Rattle.document_writes.proofs.Finding.{found_name}
+use Rattle.machine_words.proofs.Asked.{asks_to_put}
 
 -- ---- what the code tells held documents by
 
@@ -35,13 +35,6 @@ status_by (Some h) = refl
 -- ---- PUT
 
 module _ (c : Content) (id : DocId) (t : Tree) where
-  asks_by : IsReadable id → IsUsers id.home → MayBeFor (usage_of id.auid) t → (held : Option Held) → document_of c id ≡ held → Asks c id (put_change held t)
-  asks_by readable users may None is = (is, readable, users, may)
-  asks_by readable users may (Some h) is =
-      let P : Held → Type 0 = λ e. Fits e.tree (Replace [] t) × MayBeFor (usage_of e.id.auid) (edited e.tree (Replace [] t)) in
-      let may_here : P h = (refl, subst (λ (d : DocId). MayBeFor (usage_of d.auid) t) (found_name c id h is) may) in
-      subst (λ (o : Option Held). IsSomeAnd o P) (sym is) may_here
-
   module _ (is_held : Bool) (known : is_held ≡ is_some (tag_of (document_of c id))) where
     is_put : cond is_held (Replace [] t) (CreateDocument t) ≡ put_change (document_of c id) t
     is_put = ap (λ (b : Bool). cond b (Replace [] t) (CreateDocument t)) known ∙ change_by (document_of c id) t
@@ -50,7 +43,7 @@ module _ (c : Content) (id : DocId) (t : Tree) where
     has_status = ap (λ (b : Bool). cond b 200 201) known ∙ status_by (document_of c id)
 
     pub asks_put : IsReadable id → IsUsers id.home → MayBeFor (usage_of id.auid) t → (change : Change) → change ≡ cond is_held (Replace [] t) (CreateDocument t) → Asks c id change
-    asks_put readable users may change is = subst (λ (x : Change). Asks c id x) (sym (is ∙ is_put)) (asks_by readable users may (document_of c id) refl)
+    asks_put readable users may change is = subst (λ (x : Change). Asks c id x) (sym (is ∙ is_put)) (asks_to_put c id t readable users may (document_of c id) refl)
 
     pub does_put : (closes : Bool) (change : Change) (reply : Sent) (edit : Edit) (next : Content) → change ≡ cond is_held (Replace [] t) (CreateDocument t) → Asks c id change → IsMade c id change edit next
         → reply ≡ tagged (cond is_held 200 201) edit.note.next closes → Does (λ a. a ≡ by_judgement c id None t closes) c reply (Some edit) next

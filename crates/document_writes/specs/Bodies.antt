@@ -1,11 +1,11 @@
 -- What comes of the body of a PUT of a document. RFC 4825, sections 8.2.1 (creating or replacing) and 11 (conflicts).
 use Rattle.std.specs.Prelude.{Bool, None}
-use Rattle.usage_docs.specs.declared.rows.Usage.{Usage}
-use Rattle.xcap_uri.specs.declared.doc_id.DocId.{DocId}
+use Rattle.doc_names.specs.declared.usages.Usage.{Usage}
+use Rattle.doc_names.specs.declared.doc_id.DocId.{DocId}
 use Rattle.http_wire.specs.declared.request.Request.{Request}
 use Rattle.store_core.specs.Asking.{MayBe, MayBeFor}
 use Rattle.store_core.specs.Held.{Content}
-use Rattle.store_core.specs.Keeping.{usage_of}
+use Rattle.doc_names.specs.Usages.{usage_of}
 use Rattle.machine_words.specs.Answers.{Answer, unchanged}
 use Rattle.machine_words.specs.Writing.{PutsBody, by_judgement}
 use Rattle.document_writes.specs.declared.bodies.Body.{Body}

@@ -1,9 +1,9 @@
 -- What came of a change of a document. RFC 4825, section 7.11: each change that is made gives the document a new entity tag.
 use Rattle.std.specs.Prelude.{◌≡◌, ◌⊎◌, Ok, Err}
-use Rattle.xcap_uri.specs.declared.doc_id.DocId.{DocId}
+use Rattle.doc_names.specs.declared.doc_id.DocId.{DocId}
 use Rattle.edit_ops.specs.declared.change.Change.{Change}
-use Rattle.patch_record.specs.Recorded.{note_in}
-use Rattle.watch_port.specs.declared.edit.Edit.{Edit}
+use Rattle.notes.specs.Recorded.{note_in}
+use Rattle.notes.specs.declared.edit.Edit.{Edit}
 use Rattle.store_core.specs.Changing.{changing, content_after}
 use Rattle.store_core.specs.Held.{Content}
 use Rattle.store_core.specs.declared.refusal.StoreRefusal.{StoreRefusal}

@@ -6,22 +6,20 @@ ghost use Rattle.xml_tree.specs.Tree.{height};
 ghost use Rattle.tree_text.specs.Faults.{text_read};
 ghost use Rattle.tree_text.specs.declared.fault.TextFault.TheVariants as texts;
 ghost use Rattle.request_terms.specs.MediaTypes.{has_type};
-ghost use Rattle.store_core.specs.Keeping.{usage_of};
 ghost use Rattle.machine_words.specs.Answers.{conflict, plain, unchanged};
-ghost use Rattle.machine_words.specs.Resources.{document_media};
 ghost use Rattle.machine_words.specs.Writing.{PutsText, text_conflict};
 ghost use Rattle.document_writes.specs.Bodies.{Comes, IsBodyOf};
 
 use crate::NoMemory;
 use crate::conflicts::conflict;
 use crate::judging::judge;
+use conflict_docs::ErrorBody;
+use doc_names::{DocId, Usage};
 use http_wire::Request;
-use reply_text::{ErrorBody, Media, Reply};
-use request_terms::has_type;
+use reply_text::{Media, Reply};
+use request_terms::{document_media, has_type};
 use std::alloc::Global;
 use tree_text::{TextFault, read_document};
-use usage_docs::Usage;
-use xcap_uri::{Auid, DocId};
 use xml_tree::Element;
 
 // How many levels a document has at most.
@@ -34,28 +32,6 @@ pub(crate) enum Body {
     Refused(Reply),
     /// It spells this tree, which may be a document.
     Document(Element),
-}
-
-// The usage whose documents are stored.
-fn usage_of(auid: Auid) -> Option<Usage>
-    ensures { result ≡ usage_of auid }
-{
-    match auid {
-        Auid::ResourceLists => Some(Usage::ResourceLists),
-        Auid::RlsServices => Some(Usage::RlsServices),
-        Auid::XcapCaps => None,
-    }
-}
-
-// The media type of a usage's documents.
-fn document_media(auid: Auid) -> Media
-    ensures { result ≡ document_media auid }
-{
-    match auid {
-        Auid::ResourceLists => Media::ResourceLists,
-        Auid::RlsServices => Media::RlsServices,
-        Auid::XcapCaps => Media::XcapCaps,
-    }
 }
 
 // What a text that is no document conflicts with.
@@ -131,7 +107,7 @@ fn body_of_type(
 pub(crate) fn body_of(alloc: Global, doc: &DocId, request: &Request) -> Result<Body, NoMemory>
     ensures { IfOk result (λ body. IsBodyOf doc.now request.now body) }
 {
-    match usage_of(doc.auid) {
+    match doc.auid.stored() {
         Some(usage) => body_of_type(alloc, usage, document_media(doc.auid), request),
         None => Ok(Body::Refused(Reply::fixed(403, request.closes))),
     }

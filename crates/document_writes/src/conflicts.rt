@@ -1,15 +1,15 @@
 //! Replies that say why a request conflicts (RFC 4825, section 11).
 ghost use Rattle.std.specs.Prelude.{◌≡◌, IfOk};
-ghost use Rattle.reply_text.specs.declared.conflicts.ErrorBody.TheVariants as conflicts;
+ghost use Rattle.conflict_docs.specs.declared.conflicts.ErrorBody.TheVariants as conflicts;
 ghost use Rattle.machine_words.specs.Answers.{conflict};
 ghost use Rattle.machine_words.specs.Writing.{clash_field};
 
 use crate::NoMemory;
-use node_select::print_path;
-use reply_text::{ErrorBody, Media, Reply, error_document};
+use conflict_docs::{ErrorBody, error_document};
+use reply_text::{Media, Reply};
 use std::alloc::Global;
 use usage_docs::Clash;
-use xml_tree::Text;
+use xml_tree::{Text, print_path};
 
 /// The reply with the document that says why.
 pub(crate) fn conflict(alloc: Global, body: &ErrorBody, closes: bool) -> Result<Reply, NoMemory>

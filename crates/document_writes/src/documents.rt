@@ -1,10 +1,11 @@
 //! Documents that are put and removed (RFC 4825, sections 8.2.1 and 8.4).
 ghost use Rattle.std.specs.Prelude.{◌≡◌, [], IfOk, IsSome, None, OnErr, Some, if◌then◌else◌};
 ghost use Rattle.edit_ops.specs.declared.change.Change.TheVariants as changes;
-ghost use Rattle.xcap_uri.specs.Ids.{IsReadable};
+ghost use Rattle.doc_names.specs.Ids.{IsReadable};
 ghost use Rattle.store_core.specs.Asking.{MayBeFor};
 ghost use Rattle.store_core.specs.Changing.{changing};
-ghost use Rattle.store_core.specs.Keeping.{IsUsers, usage_of};
+ghost use Rattle.store_core.specs.Keeping.{IsUsers};
+ghost use Rattle.doc_names.specs.Usages.{usage_of};
 ghost use Rattle.machine_words.specs.Answers.{tagged};
 ghost use Rattle.machine_words.specs.Machine.{Does};
 ghost use Rattle.machine_words.specs.Resources.{document_of};
@@ -16,13 +17,13 @@ use crate::conditions::stopped;
 use crate::making::make;
 use crate::refusals::refused;
 use crate::written::{Written, unchanged};
+use doc_names::DocId;
 use edit_ops::Change;
 use http_wire::Request;
 use reply_text::Reply;
 use std::alloc::Global;
 use store_core::Store;
 use xcap_io::Bytes;
-use xcap_uri::DocId;
 use xml_tree::{Element, Path};
 
 // The tag of a document, if it is held.

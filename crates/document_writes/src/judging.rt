@@ -5,9 +5,10 @@ ghost use Rattle.machine_words.specs.Writing.{IsJudged};
 
 use crate::NoMemory;
 use crate::conflicts::uniqueness;
-use reply_text::ErrorBody;
+use conflict_docs::ErrorBody;
+use doc_names::Usage;
 use std::alloc::Global;
-use usage_docs::{Usage, constraints, first_clash, schema};
+use usage_docs::{constraints, first_clash, schema};
 use xml_tree::Element;
 
 /// The first of the faults that keep a tree from being a document of the usage: it isn't valid, it breaks a constraint, or a key repeats that

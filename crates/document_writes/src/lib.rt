@@ -12,8 +12,6 @@ mod judging;
 mod making;
 mod nodes;
 mod refusals;
-#[cfg(test)]
-mod tests;
 mod written;
 
 pub use documents::{delete_document, put_document};

@@ -3,11 +3,11 @@ ghost use Rattle.std.specs.Prelude.{MatchResult};
 ghost use Rattle.store_core.specs.Asking.{Asks};
 ghost use Rattle.document_writes.specs.Making.{IsMade, IsUnmade};
 
+use doc_names::DocId;
 use edit_ops::Change;
+use notes::Edit;
 use std::alloc::Global;
 use store_core::{Store, StoreRefusal};
-use watch_port::Edit;
-use xcap_uri::DocId;
 
 /// Makes a change of a document, and answers what is told of it. All memory is taken before the store changes.
 ///

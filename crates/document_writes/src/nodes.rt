@@ -1,6 +1,6 @@
 //! PUT and DELETE of nodes (RFC 4825, sections 8.2 and 8.4). What is missing and what the conditions say is answered; no node is written yet.
 ghost use Rattle.std.specs.Prelude.{◌≡◌, ◌≤◌, [], false, IfOk, Some};
-ghost use Rattle.xcap_uri.specs.declared.doc_id.DocId.{DocId as TheDocId};
+ghost use Rattle.doc_names.specs.declared.doc_id.DocId.{DocId as TheDocId};
 ghost use Rattle.xml_tree.specs.Tree.{height};
 ghost use Rattle.request_terms.specs.Conditions.{outcome_of};
 ghost use Rattle.machine_words.specs.Answers.{plain, unchanged};
@@ -9,13 +9,14 @@ ghost use Rattle.machine_words.specs.Writing.{DeletesNode, DeletesNodeOf, If, Pu
 use crate::NoMemory;
 use crate::conditions::stopped;
 use crate::conflicts::no_parent;
+use doc_names::{Auid, DocId, Home};
 use http_wire::Request;
 use node_select::Selector;
-use node_texts::{ancestor_uri, has_place, home_uri, is_found};
+use node_texts::{has_place, is_found};
 use reply_text::Reply;
 use std::alloc::Global;
 use store_core::Store;
-use xcap_uri::{Auid, DocId, Home, Root};
+use xcap_uri::{Root, ancestor_uri, home_uri};
 use xml_tree::Element;
 
 // The answer to a write of a node of a document with this tag, where `exists` says whether the node is there.

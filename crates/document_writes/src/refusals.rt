@@ -3,7 +3,7 @@ ghost use Rattle.std.specs.Prelude.{◌≡◌, ◌≢◌, IfOk};
 ghost use Rattle.store_core.specs.declared.refusal.StoreRefusal.TheVariants as refusals;
 ghost use Rattle.machine_words.specs.Answers.{conflict, unchanged};
 ghost use Rattle.machine_words.specs.Writing.{clash_field, refused};
-ghost use Rattle.reply_text.specs.declared.conflicts.ErrorBody.TheVariants as conflicts;
+ghost use Rattle.conflict_docs.specs.declared.conflicts.ErrorBody.TheVariants as conflicts;
 
 use crate::NoMemory;
 use crate::conflicts::{conflict, uniqueness};

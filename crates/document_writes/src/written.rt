@@ -1,8 +1,8 @@
 //! What a request that writes comes to.
 ghost use Rattle.std.specs.Prelude.{◌≡◌, None};
 
+use notes::Edit;
 use reply_text::Reply;
-use watch_port::Edit;
 
 /// What a request that writes comes to: the reply, and the change of a document, if one was made.
 #[derive(Drop)]

@@ -42,19 +42,6 @@ pub enum Change {
     RemoveDocument,
 }
 
-/// What the address of a PUT means in a document.
-#[derive(Debug, Drop)]
-pub enum Spot {
-    /// It selects the element at this path.
-    Over(Path),
-    /// Its last step selects nothing, and the others the element at this path.
-    Under(Path),
-    /// It has one step, which selects nothing: the element would stand beside the root.
-    Beside,
-    /// It names an attribute of the element at this path.
-    Value(Path),
-}
-
 impl Change {
     /// An equal change.
     ///

@@ -8,14 +8,10 @@ mod change;
 mod laws;
 mod moves;
 mod rebuilding;
-mod refusal;
-#[cfg(test)]
-mod tests;
 
 pub use apply::apply_change;
-pub use change::{Change, Spot};
+pub use change::Change;
 pub use laws::elements_beside_a_change_stay;
 pub use moves::moved;
 pub use rebuilding::rebuilt;
-pub use refusal::EditRefusal;
 pub use std::alloc::AllocError as NoMemory;

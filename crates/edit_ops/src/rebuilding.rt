@@ -1,16 +1,18 @@
 //! The tree after a change as a new one, built from the nodes up: the plain program of the edited tree.
 ghost use Rattle.std.specs.Prelude.{◌≡◌, ◌<◌, ◌≤◌, ◌++◌, [], ◌∷◌, length, IfOk, IsSomeAnd};
-ghost use Rattle.xml_tree.specs.Tree.{at, kids, kids_of, last, tree_of};
+ghost use Rattle.xml_tree.specs.Tree.{at, kids_of, last, tree_of};
 ghost use Rattle.xml_tree.specs.Attributes.{with_attr, without_attr};
 ghost use Rattle.xml_tree.specs.Edits.{change_at, change_kid, cut_kid, drop_attr, put_kid, write_attr};
-ghost use Rattle.xml_tree.specs.Nodes.{content_of, gap_place, place};
+ghost use Rattle.xml_tree.specs.Nodes.{content_of};
 ghost use Rattle.xml_tree.specs.declared.tree.Node.TheVariants as node;
 ghost use Rattle.edit_ops.specs.Changes.{Fits, edited};
 ghost use Rattle.edit_ops.specs.Rebuilding.{FitsHere, made_here, site};
 
 use crate::change::Change;
 use std::alloc::{AllocError, Global};
-use xml_tree::{Attr, Element, Name, Node, Path, Text, copy_nodes, copy_tree};
+use xml_tree::{
+    Attr, Element, Name, Node, Path, Text, copy_nodes, copy_tree, place_of, place_of_gap,
+};
 
 // ---- an element, part by part
 
@@ -97,33 +99,6 @@ fn closed(element: Element, nodes: Vec<Node>) -> Result<Element, AllocError>
 }
 
 // ---- nodes
-
-// The place of an element child among the nodes, or the number of nodes.
-fn place_of(nodes: &[Node], child: usize) -> usize
-    ensures place { result ≡ place child nodes.now }
-    ensures within { result ≤ length nodes.now }
-{
-    let mut left = child;
-    for (i, node) in nodes.iter().enumerate() {
-        if let Node::Elem(_) = node {
-            if left == 0 {
-                return i;
-            }
-            left -= 1;
-        }
-    }
-    nodes.len()
-}
-
-// The place of a gap among the nodes.
-fn place_of_gap(nodes: &[Node], gap: usize) -> usize
-    ensures { result ≡ gap_place gap nodes.now }
-{
-    if gap == 0 {
-        return 0;
-    }
-    place_of(nodes, gap - 1) + 1
-}
 
 // Copies of nodes, an element, and copies of further nodes.
 fn around(

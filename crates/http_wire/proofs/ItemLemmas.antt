@@ -1,5 +1,5 @@
 -- Items, by what was found at the front of the bytes given.
-use Rattle.std.proofs.Common.{◌≡◌, ℕ, ◌+◌, ◌-◌, ◌<◌, ◌≤◌, ◌⊎◌, inl, inr, Bool, ◌==◌, ◌||◌, List, [], ◌++◌, length, take, drop, map, slice_range, Option, Result, Ok, Err, MatchResult, refl, sym, ap, subst, ◌∙◌, arith, length-append, length-drop, append_assoc, take-append-drop}
+use Rattle.std.proofs.Common.{◌≡◌, ℕ, ◌+◌, ◌<◌, ◌≤◌, ◌⊎◌, inl, inr, Bool, ◌==◌, ◌||◌, List, [], ◌++◌, length, take, drop, map, slice_range, Option, Result, Ok, Err, MatchResult, refl, sym, ap, subst, ◌∙◌, arith, length-append, length-drop, append_assoc, take-append-drop}
 use Rattle.std.proofs.lemmas.List.{append-nil, drop-drop, length-take-le}
 use Rattle.std.proofs.KnownBytes.{Consumes-nil, Consumes-trans}
 use Rattle.std.specs.Io.KnownBytes.{Consumes, IsAtEnd}

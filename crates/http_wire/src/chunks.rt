@@ -1,6 +1,6 @@
 // Chunked bodies, decoded as their bytes come.
-ghost use Rattle.std.specs.Prelude.{◌≡◌, ℕ, ◌<◌, ◌≤◌, ◌+◌, length, take, true, false, IfOk, not};
-ghost use Rattle.http_wire.specs.Decoding.{Decoding, start, is_settled, is_data, after_digits, in_digits, in_extension, after_line, after_data, in_trailers, if_feed, next_stage, next_decoding, ReadsOn, Fits, bytes_left};
+ghost use Rattle.std.specs.Prelude.{◌≡◌, ℕ, ◌<◌, ◌≤◌, ◌+◌, length, take, true, false, IfOk};
+ghost use Rattle.http_wire.specs.Decoding.{Decoding, start, is_settled, is_data, after_digits, in_digits, in_extension, after_line, in_trailers, if_feed, next_stage, next_decoding, ReadsOn, Fits};
 
 use crate::wire::MAX_BODY;
 use httparse::{is_header_value_token, is_space_or_tab, parse_hex_digit};

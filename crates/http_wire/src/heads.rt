@@ -1,5 +1,5 @@
 // Heads at the front of bytes (RFC 9112, sections 2 to 5).
-ghost use Rattle.std.specs.Prelude.{◌≡◌, ◌<◌, ◌≤◌, ◌+◌, length, take, IfOk, OnErr};
+ghost use Rattle.std.specs.Prelude.{◌≡◌, ◌<◌, ◌≤◌, length, take, IfOk, OnErr};
 ghost use Rattle.xcap_io.specs.Causes.{OnlyReads};
 ghost use Rattle.http_wire.specs.Heads.{HasNoHead};
 ghost use Rattle.http_wire.specs.Inflow.{IsFront, Gains, HeadOrNone};

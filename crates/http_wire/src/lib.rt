@@ -11,8 +11,6 @@ mod laws;
 mod replies;
 mod request;
 mod requests;
-#[cfg(test)]
-mod tests;
 mod wire;
 
 pub use laws::{bytes_have_one_talk, whole_items_stay};

@@ -1,5 +1,5 @@
 // A request, and what may stand in the place of one.
-ghost use Rattle.std.specs.Prelude.{◌≡◌, ◌≤◌, ◌==◌, ◌||◌, All, IfOk, length, map, take};
+ghost use Rattle.std.specs.Prelude.{◌≡◌, ◌==◌, ◌||◌, All, IfOk, length, map, take};
 ghost use Rattle.httparse.specs.Spans.{IsHeaderWithin, IsRequestWithin, header_bytes, span_bytes};
 ghost use Rattle.http_wire.specs.Fields.{asks_to_close};
 ghost use Rattle.http_wire.specs.Items.{field_of};

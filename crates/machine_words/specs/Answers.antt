@@ -1,12 +1,12 @@
 -- What a request is answered: a reply, and the change of a document that is made, if one is.
 use Rattle.std.specs.Prelude.{ℕ, Bool, List, [], length, Option, None, Some}
-use Rattle.xcap_uri.specs.declared.doc_id.DocId.{DocId}
-use Rattle.patch_words.specs.Notes.{Note}
+use Rattle.doc_names.specs.declared.doc_id.DocId.{DocId}
+use Rattle.notes.specs.Notes.{Note}
 use Rattle.reply_text.specs.Heads.{Sent, sent, parts}
-use Rattle.reply_text.specs.Conflicts.{conflict_bytes}
+use Rattle.conflict_docs.specs.Conflicts.{conflict_bytes}
 use Rattle.reply_text.specs.declared.media_types.Media.{Media}
 use Rattle.reply_text.specs.declared.media_types.Media.TheVariants as media
-use Rattle.reply_text.specs.declared.conflicts.ErrorBody.{ErrorBody}
+use Rattle.conflict_docs.specs.declared.conflicts.ErrorBody.{ErrorBody}
 
 -- a change that is made: the document's name, and the note of the change
 abbrev pub Made : Type 0

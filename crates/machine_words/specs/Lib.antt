@@ -4,3 +4,4 @@ pub mod Reading
 pub mod Writing
 pub mod Requests
 pub mod Machine
+pub mod Laws

@@ -1,7 +1,7 @@
 -- The machine: its state is that of all documents with all their versions, and its step answers one request.
 use Rattle.std.specs.Prelude.{◌≡◌, ℕ, List, map, Option, None, Some, option_map, Ok}
-use Rattle.patch_record.specs.Recorded.{note_in}
-use Rattle.watch_port.specs.declared.edit.Edit.{Edit}
+use Rattle.notes.specs.Recorded.{note_in}
+use Rattle.notes.specs.declared.edit.Edit.{Edit}
 use Rattle.reply_text.specs.Heads.{Sent, bytes_of}
 use Rattle.http_wire.specs.declared.request.Request.{Request}
 use Rattle.store_core.specs.Asking.{Asks}

@@ -2,7 +2,7 @@
 use Rattle.std.specs.Prelude.{ℕ, Bool, true, List, Option, None, Some, encode_utf8_all}
 use Rattle.tree_text.specs.Printing.{document_print}
 use Rattle.node_select.specs.declared.selector.Selector.{Selector}
-use Rattle.xcap_uri.specs.declared.doc_id.DocId.{DocId}
+use Rattle.doc_names.specs.declared.doc_id.DocId.{DocId}
 use Rattle.reply_text.specs.Heads.{Sent}
 use Rattle.reply_text.specs.declared.media_types.Media.{Media}
 use Rattle.http_wire.specs.declared.request.Request.{Request}
@@ -14,7 +14,8 @@ use Rattle.request_terms.specs.Conditions.{outcome_of}
 use Rattle.node_texts.specs.Nodes.{encoded, found_text, node_media}
 use Rattle.store_core.specs.Held.{Content}
 use Rattle.machine_words.specs.Answers.{plain, tagged, found, head_only}
-use Rattle.machine_words.specs.Resources.{Resource, absent, beyond_limit, there, resource, document_media}
+use Rattle.machine_words.specs.Resources.{Resource, absent, beyond_limit, there, resource}
+use Rattle.request_terms.specs.MediaTypes.{document_media}
 
 -- GET's reply, or its head
 abbrev pub as_asked : Method → Sent → Sent

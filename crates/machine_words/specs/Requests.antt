@@ -6,8 +6,8 @@ use Rattle.std.specs.Bool.{MatchBool}
 use Rattle.node_select.specs.declared.selector.End.{End}
 use Rattle.node_select.specs.declared.selector.End.TheVariants.{Element, Attribute, Namespaces}
 use Rattle.xcap_uri.specs.Targets.{target_read}
-use Rattle.xcap_uri.specs.declared.doc_id.Auid.{Auid}
-use Rattle.xcap_uri.specs.declared.doc_id.Home.{Home}
+use Rattle.doc_names.specs.declared.doc_id.Auid.{Auid}
+use Rattle.doc_names.specs.declared.doc_id.Home.{Home}
 use Rattle.xcap_uri.specs.declared.fault.UriFault.{UriFault}
 use Rattle.xcap_uri.specs.declared.fault.UriFault.TheVariants.{OutsideRoot, UnknownAuid, BadShape, BadEscape, BadQuery, UnboundPrefix, BadSelector, NoMemory}
 use Rattle.xcap_uri.specs.declared.target.Target.{Target}

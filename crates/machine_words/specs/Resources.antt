@@ -5,13 +5,11 @@ use Rattle.std.specs.Str.{bytes_eq}
 use Rattle.xml_tree.specs.Tree.{Tree}
 use Rattle.usage_docs.specs.Services.{index_of_documents, document_len, index_limit}
 use Rattle.usage_docs.specs.Capabilities.{capabilities}
-use Rattle.xcap_uri.specs.declared.doc_id.Auid.{Auid}
-use Rattle.xcap_uri.specs.declared.doc_id.Auid.TheVariants.{ResourceLists, RlsServices, XcapCaps}
-use Rattle.xcap_uri.specs.declared.doc_id.Home.{Home}
-use Rattle.xcap_uri.specs.declared.doc_id.Home.TheVariants.{Global, User}
-use Rattle.xcap_uri.specs.declared.doc_id.DocId.{DocId}
-use Rattle.reply_text.specs.declared.media_types.Media.{Media}
-use Rattle.reply_text.specs.declared.media_types.Media.TheVariants as media
+use Rattle.doc_names.specs.declared.doc_id.Auid.{Auid}
+use Rattle.doc_names.specs.declared.doc_id.Auid.TheVariants.{ResourceLists, RlsServices, XcapCaps}
+use Rattle.doc_names.specs.declared.doc_id.Home.{Home}
+use Rattle.doc_names.specs.declared.doc_id.Home.TheVariants.{Global, User}
+use Rattle.doc_names.specs.declared.doc_id.DocId.{DocId}
 use Rattle.store_core.specs.Changing.{document_in, held_name}
 use Rattle.store_core.specs.Held.{Content, Held}
 use Rattle.store_core.specs.Indexes.{index, index_trees}
@@ -47,9 +45,3 @@ resource_in c id (User xui) = if_held (document_of c id)
 
 abbrev pub resource : Content → DocId → Resource
 resource c id = resource_in c id id.home
-
--- the media type of a usage's documents
-abbrev pub document_media : Auid → Media
-document_media ResourceLists = media.ResourceLists
-document_media RlsServices = media.RlsServices
-document_media XcapCaps = media.XcapCaps

@@ -12,32 +12,33 @@ use Rattle.usage_docs.specs.Validity.{Schema}
 use Rattle.usage_docs.specs.declared.keys.Clash.{Clash}
 use Rattle.usage_docs.specs.declared.rows.Key.{Key}
 use Rattle.usage_docs.specs.declared.rows.Key.TheVariants.{Name, Uri, Ref, Anchor}
-use Rattle.usage_docs.specs.declared.rows.Usage.{Usage}
-use Rattle.node_select.specs.Selection.{path_text}
+use Rattle.doc_names.specs.declared.usages.Usage.{Usage}
+use Rattle.xml_tree.specs.PathTexts.{path_text}
 use Rattle.node_select.specs.declared.selector.Selector.{Selector}
-use Rattle.xcap_uri.specs.declared.doc_id.Auid.{Auid}
-use Rattle.xcap_uri.specs.declared.doc_id.Home.{Home}
-use Rattle.xcap_uri.specs.declared.doc_id.DocId.{DocId}
+use Rattle.doc_names.specs.declared.doc_id.Auid.{Auid}
+use Rattle.doc_names.specs.declared.doc_id.Home.{Home}
+use Rattle.doc_names.specs.declared.doc_id.DocId.{DocId}
 use Rattle.edit_ops.specs.declared.change.Change.{Change}
 use Rattle.edit_ops.specs.declared.change.Change.TheVariants.{CreateDocument, Replace, RemoveDocument}
-use Rattle.patch_words.specs.Notes.{Note}
-use Rattle.reply_text.specs.declared.conflicts.ErrorBody.{ErrorBody}
-use Rattle.reply_text.specs.declared.conflicts.ErrorBody.TheVariants as conflicts
+use Rattle.notes.specs.Notes.{Note}
+use Rattle.conflict_docs.specs.declared.conflicts.ErrorBody.{ErrorBody}
+use Rattle.conflict_docs.specs.declared.conflicts.ErrorBody.TheVariants as conflicts
 use Rattle.http_wire.specs.declared.request.Request.{Request}
 use Rattle.request_terms.specs.declared.conditions.Outcome.{Outcome}
 use Rattle.request_terms.specs.declared.conditions.Outcome.TheVariants.{Unreadable, Go, NotModified, Failed}
 use Rattle.request_terms.specs.Conditions.{outcome_of}
 use Rattle.request_terms.specs.MediaTypes.{has_type}
 use Rattle.node_texts.specs.Nodes.{found_text}
-use Rattle.node_texts.specs.Ancestors.{home_uri, ancestor_uri}
+use Rattle.xcap_uri.specs.Ancestors.{home_uri, ancestor_uri}
 use Rattle.node_texts.specs.Places.{has_place}
 use Rattle.store_core.specs.Changing.{changing}
 use Rattle.store_core.specs.Held.{Content, Held}
-use Rattle.store_core.specs.Keeping.{usage_of}
+use Rattle.doc_names.specs.Usages.{usage_of}
 use Rattle.store_core.specs.declared.refusal.StoreRefusal.{StoreRefusal}
 use Rattle.store_core.specs.declared.refusal.StoreRefusal.TheVariants.{ServiceTaken, TooLarge, TooMany, StoreFull, NoNumber, NoMemory}
 use Rattle.machine_words.specs.Answers.{Answer, unchanged, plain, conflict, tagged}
-use Rattle.machine_words.specs.Resources.{document_of, document_media}
+use Rattle.machine_words.specs.Resources.{document_of}
+use Rattle.request_terms.specs.MediaTypes.{document_media}
 
 -- ---- conditions
 

@@ -1,4 +1,9 @@
-//! The words of the machine: what each request is answered in a state of the documents, and the state after it. No code.
-//! Promises upward one meaning for those who read documents, those who write them, and those who serve connections.
+//! The words of the machine: what each request is answered in a state of the documents, and the state after it. No code but laws.
+//! Promises upward one meaning for those who read documents, those who write them, and those who serve connections: exactly one answer to
+//! each request, no change by what is refused, and kept states alone.
 //! The standards are RFC 4825 (sections 6 to 8 and 11), RFC 4826 (section 4.4) and RFC 9110 (section 13).
 #![tactic(auto)]
+
+mod laws;
+
+pub use laws::{each_request_has_one_answer, every_state_is_kept, what_is_refused_changes_nothing};

@@ -6,7 +6,6 @@ pub mod ExactSelectors
 pub mod ExactSteps
 pub mod Lists
 pub mod Positions
-pub mod Printed
 pub mod Reaching
 pub mod Resolving
 pub mod Walked

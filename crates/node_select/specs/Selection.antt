@@ -1,9 +1,8 @@
 -- What a selector selects in a tree. RFC 4825, section 6.3: each step must match exactly one element child.
 -- Each child is tested by itself, among its siblings; the document has the root element as its one child.
-use Rattle.std.specs.Prelude.{◌≡◌, ◌<◌, ◌≤◌, ℕ, suc, Bool, true, ◌&&◌, List, [], ◌∷◌, ◌++◌, Option, None, Some, IsTrue, length, take, slice_get, option_map, option_and_then, if◌then◌else◌, codes}
+use Rattle.std.specs.Prelude.{◌≡◌, ◌<◌, ◌≤◌, ℕ, suc, Bool, true, ◌&&◌, List, [], ◌∷◌, ◌++◌, Option, None, Some, IsTrue, length, take, slice_get, option_map, option_and_then, if◌then◌else◌}
 use Rattle.std.specs.List.{list_any}
 use Rattle.std.specs.Str.{bytes_eq}
-use Rattle.std.specs.Fmt.{decimal}
 use Rattle.xml_tree.specs.Tree.{Tree, kids_of, at}
 use Rattle.xml_tree.specs.Scopes.{scope_at}
 use Rattle.xml_tree.specs.Expanded.{Expanded, element_name, attr_name}
@@ -126,13 +125,3 @@ depth_among c kids (step ∷ steps) = deeper (option_map (λ kid. depth_among (i
 -- the greatest number of first steps that select an element
 abbrev pub longest_in : List Step → Tree → ℕ
 longest_in steps root = depth_among [] (root ∷ []) steps
-
--- ---- the positional selector of a place
-
--- what stands behind the root's `*`: `/*[i]` for each number, counted from 1
-abbrev pub steps_text : List ℕ → List ℕ
-steps_text [] = []
-steps_text (n ∷ p) = codes "/*[" ++ (decimal (suc n) ++ (codes "]" ++ steps_text p))
-
-abbrev pub path_text : List ℕ → List ℕ
-path_text p = codes "*" ++ steps_text p

@@ -1,6 +1,5 @@
 //! Bindings of prefixes, as the query of an address or the scope of a patch operation gives them.
 ghost use Rattle.std.specs.Prelude.{◌≡◌, ◌++◌, ◌∷◌, [], OnOk, OnErr, chars, option_map};
-ghost use Rattle.std.specs.Option.{option_copied};
 ghost use Rattle.node_select.specs.Names.{prefix_uri};
 ghost use Rattle.std.specs.Str.{bytes_eq};
 ghost use Rattle.xml_tree.specs.Scopes.{xmlns_prefix};

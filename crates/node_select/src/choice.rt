@@ -1,5 +1,5 @@
 //! Which child of an element a step selects, and which attribute a name means.
-ghost use Rattle.std.specs.Prelude.{◌≡◌, ◌<◌, ◌+◌, ◌++◌, ◌∷◌, ◌^◌, [], map, chars, position, cond, Some};
+ghost use Rattle.std.specs.Prelude.{◌≡◌, ◌<◌, ◌+◌, ◌++◌, ◌^◌, [], map, chars, position, cond, Some};
 ghost use Rattle.std.specs.Str.{bytes_eq};
 ghost use Rattle.xml_tree.specs.Tree.{kids_of};
 ghost use Rattle.xml_tree.specs.Expanded.{element_name, attr_name};
@@ -19,13 +19,6 @@ pub(crate) fn declared_in<'a>(alloc: Global, decls: &'a [Decl]) -> Declared<'a>
         Ok(declared) => declared,
         Err(_) => Declared::new(alloc, decls),
     }
-}
-
-/// The scope inside an element with these declarations, in this scope. Takes no memory.
-pub(crate) fn scope_inside<'a>(outer: &'a Around<'_>, declared: &'a Declared<'_>) -> Around<'a>
-    ensures { result ≡ outer.now ++ declared.now ∷ [] }
-{
-    (&*outer).inside(&*declared)
 }
 
 /// The number of the first attribute of this namespace and local name, in the scope at the element: none exactly where there is no such
@@ -67,7 +60,7 @@ fn find_within(
     let declared = declared_in(alloc, list);
     find_within(
         alloc,
-        &scope_inside(&*scope, &declared),
+        &(&*scope).inside(&declared),
         lists,
         attrs,
         uri,
@@ -145,7 +138,7 @@ fn is_named_so(alloc: Global, scope: &Around<'_>, uri: &Text, local: &Text, kid:
     ensures { result ≡ is_named_so uri.now local.now (element_name (inside scope.now kid.now) kid.now.name) }
 {
     let declared = Declared::new(alloc, kid.decls());
-    let inside = scope_inside(&*scope, &declared);
+    let inside = (&*scope).inside(&declared);
     kid.name().local.is(local.as_str()) && same_text(element_uri(&inside, kid.name()), uri.as_str())
 }
 
@@ -164,7 +157,7 @@ fn has_tested(alloc: Global, scope: &Around<'_>, test: &AttrTest, kid: &Element)
     ensures { result ≡ has_asked (inside scope.now kid.now) (Some test.now) kid.now.attrs }
 {
     let declared = declared_in(alloc, kid.decls());
-    has_asked(&scope_inside(&*scope, &declared), test, kid.attrs())
+    has_asked(&(&*scope).inside(&declared), test, kid.attrs())
 }
 
 // Whether an element passes a step's attribute test, in the scope around it.

@@ -1,5 +1,5 @@
 //! The form of selectors, read from left to right.
-ghost use Rattle.std.specs.Prelude.{◌≡◌, ◌+◌, ◌<◌, ◌^◌, length, map, IfOk, Ok};
+ghost use Rattle.std.specs.Prelude.{◌<◌, ◌^◌, length, map, IfOk, Ok};
 ghost use Rattle.grammar_rules.specs.Reading.{read_behind, read_optional, read_valued, read_whole, read_word};
 ghost use Rattle.tree_text.specs.Gives.{Gives};
 ghost use Rattle.node_select.specs.Raw.{HasRoom};

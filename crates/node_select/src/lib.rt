@@ -14,13 +14,11 @@ mod reading;
 mod selecting;
 mod selector;
 mod steps;
-#[cfg(test)]
-mod tests;
 
 pub use bindings::Bindings;
 pub use choice::find_attr;
 pub use fault::SelectorFault;
 pub use laws::paths;
 pub use reading::{read_patch_selector, read_selector};
-pub use selecting::{longest_match, print_path, select, select_steps};
+pub use selecting::{longest_match, select, select_steps};
 pub use selector::{AttrTest, End, NameTest, PatchEnd, PatchSelector, Selector, Step};

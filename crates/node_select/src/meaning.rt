@@ -1,5 +1,5 @@
 //! What the names of a selector mean, by the bindings of their prefixes.
-ghost use Rattle.std.specs.Prelude.{◌≡◌, ◌+◌, ◌<◌, ◌^◌, ◌++◌, IfOk, chars, length, map, Option, option_map};
+ghost use Rattle.std.specs.Prelude.{◌≡◌, ◌+◌, ◌<◌, ◌^◌, IfOk, chars, map, Option, option_map};
 ghost use Rattle.tree_text.specs.Views.{name_in};
 ghost use Rattle.node_select.specs.declared.meaning.Unresolved.TheVariants as troubles;
 ghost use Rattle.node_select.specs.Meaning.{Means};

@@ -1,6 +1,6 @@
 //! Reading selectors.
-ghost use Rattle.std.specs.Prelude.{◌≡◌, ◌⊎◌, ◌+◌, ◌-◌, ◌≤◌, ◌<◌, ◌^◌, length, drop, map, IfOk, Err, chars, encode_utf8_all};
-ghost use Rattle.node_select.specs.Faults.{Answered, GrammarAnswers, IsPatchSelectorAnswer, IsSelectorAnswer, byte_of, meant, patch_selector_read, selector_read, stop_place};
+ghost use Rattle.std.specs.Prelude.{◌≡◌, ◌+◌, ◌-◌, ◌<◌, ◌^◌, length, map, IfOk, Err, chars, encode_utf8_all};
+ghost use Rattle.node_select.specs.Faults.{Answered, GrammarAnswers, IsPatchSelectorAnswer, IsSelectorAnswer, byte_of, patch_selector_read, selector_read};
 ghost use Rattle.node_select.specs.Raw.{HasRoom, first_unbound, first_unbound_in_patch, patch_selector_of, selector_of};
 ghost use Rattle.node_select.specs.Views.{patch_selector_in, selector_in, step_in};
 ghost use Rattle.node_select.specs.Meaning.{Means};

@@ -1,13 +1,12 @@
-//! What a selector selects in a tree, and the positional selector of a place.
-ghost use Rattle.std.specs.Prelude.{◌≡◌, ◌≤◌, ◌<◌, ◌+◌, ◌++◌, ◌↔◌, ℕ, List, [], ◌∷◌, length, option_map, IfOk, Some};
+//! What a selector selects in a tree.
+ghost use Rattle.std.specs.Prelude.{◌≡◌, ◌≤◌, ◌<◌, ◌+◌, ◌++◌, ◌↔◌, ℕ, List, [], ◌∷◌, length, option_map, Some};
 ghost use Rattle.xml_tree.specs.Tree.{height, kids_of};
-ghost use Rattle.node_select.specs.Selection.{IsLongestMatch, SelectsPath, is_tested, is_named, depth_among, longest_in, path_text, selected_among, selected_in};
-ghost use Rattle.step_laws.specs.Selection.{matches};
+ghost use Rattle.node_select.specs.Selection.{IsLongestMatch, SelectsPath, depth_among, longest_in, selected_among, selected_in};
 
-use crate::choice::{declared_in, is_match, scope_inside, select_child};
+use crate::choice::{declared_in, is_match, select_child};
 use crate::selector::{Selector, Step};
-use std::alloc::{AllocError, Global};
-use xml_tree::{Around, Element, Path, Text};
+use std::alloc::Global;
+use xml_tree::{Around, Element, Path};
 
 /// The element that a selector's steps select: none exactly where some step matches no element or several. Each level is passed once. Memory is
 /// taken for indexes of declarations alone, and the answer is the same without it.
@@ -41,7 +40,7 @@ fn select_inside(alloc: Global, root: &Element, steps: &[Step]) -> Option<Path>
     let declared = declared_in(alloc, root.decls());
     select_below(
         alloc,
-        &scope_inside(&Around::empty(), &declared),
+        &Around::empty().inside(&declared),
         root,
         steps,
         Path::root(),
@@ -66,7 +65,7 @@ fn select_below(
     let kid = element.kid(child)?;
     let path = path.child(child)?;
     let declared = declared_in(alloc, kid.decls());
-    select_below(alloc, &scope_inside(&*scope, &declared), kid, steps, path)
+    select_below(alloc, &(&*scope).inside(&declared), kid, steps, path)
 }
 
 /// The greatest number of first steps of a selector that select an element; 0 where not even the first one selects the root. Memory as for
@@ -96,12 +95,7 @@ fn longest_inside(alloc: Global, root: &Element, steps: &[Step]) -> usize
     ensures { result ≡ depth_among (root.now.decls ∷ []) (kids_of root.now) steps.now }
 {
     let declared = declared_in(alloc, root.decls());
-    longest_below(
-        alloc,
-        &scope_inside(&Around::empty(), &declared),
-        root,
-        steps,
-    )
+    longest_below(alloc, &Around::empty().inside(&declared), root, steps)
 }
 
 // How many first steps select one after the other from an element down, in the scope at it.
@@ -118,20 +112,5 @@ fn longest_below(alloc: Global, scope: &Around<'_>, element: &Element, steps: &[
         return 0;
     };
     let declared = declared_in(alloc, kid.decls());
-    1 + longest_below(alloc, &scope_inside(&*scope, &declared), kid, steps)
-}
-
-/// The positional selector of a place: `*` for the root, and `/*[i]` for each number, counted from 1.
-///
-/// # Errors
-/// `NoMemory` for want of memory.
-pub fn print_path(alloc: Global, path: &Path) -> Result<Text, AllocError>
-    ensures { IfOk result (λ text. text ≡ path_text path.now) }
-{
-    let mut text = String::from_str(alloc, "*")?;
-    for number in path.numbers() {
-        let step = format!(in alloc; "/*[{}]", *number as u128 + 1)?;
-        text.push_str(&step)?;
-    }
-    Ok(Text::own(text))
+    1 + longest_below(alloc, &(&*scope).inside(&declared), kid, steps)
 }

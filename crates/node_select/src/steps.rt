@@ -1,10 +1,9 @@
 //! Steps of selectors, read from left to right.
-ghost use Rattle.std.specs.Prelude.{◌≡◌, ◌+◌, ◌-◌, ◌≤◌, ◌<◌, ◌^◌, ◌++◌, ◌∷◌, length, map, Some, option_map, OnOk, Ok};
-ghost use Rattle.grammar_rules.specs.Digits.{decimal, is_digit};
+ghost use Rattle.std.specs.Prelude.{◌≡◌, ◌+◌, ◌-◌, ◌<◌, ◌^◌, ◌++◌, ◌∷◌, map, Some, option_map, OnOk, Ok};
+ghost use Rattle.grammar_rules.specs.Digits.{decimal};
 ghost use Rattle.std.specs.Str.{bytes_eq};
-ghost use Rattle.grammar_rules.specs.Reading.{starts, read_some_of, read_valued, read_optional, read_sequence, read_sized, read_behind, read_word};
+ghost use Rattle.grammar_rules.specs.Reading.{starts, read_optional, read_sequence};
 ghost use Rattle.tree_text.specs.Gives.{Gives};
-ghost use Rattle.tree_text.specs.Runs.{run_len};
 ghost use Rattle.tree_text.specs.Views.{name_in};
 ghost use Rattle.node_select.specs.Raw.{position_of};
 ghost use Rattle.node_select.specs.Grammar.{names_attribute};
@@ -14,7 +13,7 @@ ghost use Rattle.node_select.specs.Views.{follows_in, step_in, test_in};
 use crate::raw::{Form, RawStep, RawTest};
 use std::alloc::{AllocError, Global};
 use tree_text::{
-    Stop, Written, no_text, qname, quote, raw_run, reference, reference_follows, word,
+    Stop, Written, digits, no_text, qname, quote, raw_run, reference, reference_follows, word,
 };
 use xml_tree::Text;
 
@@ -35,39 +34,6 @@ fn node_name(text: &[char]) -> Result<(Option<Written<'_>>, &[char]), Stop<'_>>
             Ok((Some(name), rest))
         }
     }
-}
-
-// Whether it is a digit.
-fn is_digit(c: char) -> bool
-    ensures { result ≡ is_digit c }
-{
-    matches!(c, '0'..='9')
-}
-
-// How many digits stand in front.
-#[tactic(auto, using(tree_text::proofs::RunLemmas::run_more, tree_text::proofs::RunLemmas::run_done))]
-fn digits_len(text: &[char]) -> usize
-    ensures { result ≡ run_len is_digit text.now }
-{
-    let mut len = 0;
-    for &c in text {
-        if !is_digit(c) {
-            return len;
-        }
-        len += 1;
-    }
-    len
-}
-
-// One or more digits, and what follows them.
-fn digits(text: &[char]) -> Result<(&[char], &[char]), Stop<'_>>
-    ensures { Gives (λ x. (x.0.now, x.1.now)) result (read_some_of is_digit text.now) }
-{
-    let len = digits_len(text);
-    if len == 0 {
-        return Err(Stop::Syntax(text));
-    }
-    Ok(text.split_at(len))
 }
 
 // What a digit is worth.

@@ -1,3 +1,2 @@
-pub mod Ancestors
 pub mod Nodes
 pub mod Places

@@ -1,5 +1,5 @@
 //! What is sent, and what has a place, beside what a selector means; nothing here runs.
-ghost use Rattle.std.specs.Prelude.{◌≡◌, ◌↔◌, List, ◌∷◌, IsSome, IsTrue};
+ghost use Rattle.std.specs.Prelude.{◌↔◌, List, ◌∷◌, IsSome, IsTrue};
 ghost use Rattle.xml_tree.specs.Tree.{Tree};
 ghost use Rattle.node_select.specs.Selection.{Found, selected_in};
 ghost use Rattle.node_select.specs.declared.selector.Selector.{Selector};

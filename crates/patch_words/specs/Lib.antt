@@ -1,5 +1,3 @@
 pub mod Applied
-pub mod Notes
 pub mod Notices
-pub mod Operations
 pub mod Replay

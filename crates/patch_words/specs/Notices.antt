@@ -5,8 +5,8 @@ use Rattle.std.specs.Str.{bytes_eq}
 use Rattle.xml_tree.specs.Tree.{Content, last, more, note, more_of, Tree, tree_of}
 use Rattle.xml_tree.specs.declared.names.Decl.{Decl}
 use Rattle.xml_tree.specs.declared.names.Attr.{Attr}
-use Rattle.patch_words.specs.Notes.{Note, tag_after}
-use Rattle.patch_words.specs.Operations.{in_diff, operation, plain}
+use Rattle.notes.specs.Notes.{Note, tag_after}
+use Rattle.notes.specs.Operations.{in_diff, operation, plain}
 
 -- the namespace of notices (RFC 5874, section 7.2)
 abbrev pub diff_uri : List ℕ

@@ -1,6 +1,5 @@
 //! The fields `If-Match` and `If-None-Match` (RFC 9110, sections 13.1.1 and 13.1.2).
-ghost use Rattle.std.specs.Prelude.{◌≡◌, ◌↔◌, ◌++◌, ◌∷◌, [], Some, None, IfOk, IsErrOf, flat_map, map};
-ghost use Rattle.preconditions.specs.Tags.{comma_joined};
+ghost use Rattle.std.specs.Prelude.{◌≡◌, ◌++◌, ◌∷◌, [], Some, None, IfOk, IsErrOf, flat_map};
 ghost use Rattle.preconditions.specs.Fields.{Preconditions, SayBoth};
 ghost use Rattle.preconditions.specs.Reading.{text_value, field_value, conditions_of, Answers};
 ghost use Rattle.preconditions.specs.Values.{value_of};

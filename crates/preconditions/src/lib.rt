@@ -7,8 +7,6 @@ mod faults;
 mod fields;
 mod laws;
 mod tags;
-#[cfg(test)]
-mod tests;
 mod verdicts;
 
 pub use faults::ConditionFault;

@@ -15,9 +15,9 @@ pub enum Media {
     Diff,
 }
 
-// The name of a media type.
+/// The name of a media type, of at most 30 bytes. Takes no memory.
 #[tactic(auto, unfolding(crate::specs::Heads::media_type))]
-pub(crate) fn media_type(media: Media) -> &'static str
+pub fn media_type(media: Media) -> &'static str
     ensures value { result.now ≡ media_type media }
     ensures short { length result.now ≤ 30 }
 {

@@ -4,6 +4,9 @@ use Rattle.std.specs.List.{list_all, slice_split}
 use Rattle.httparse.specs.Grammar.{trim_ows}
 use Rattle.reply_text.specs.Heads.{media_type}
 use Rattle.reply_text.specs.declared.media_types.Media.{Media}
+use Rattle.reply_text.specs.declared.media_types.Media.TheVariants as media
+use Rattle.doc_names.specs.declared.doc_id.Auid.{Auid}
+use Rattle.doc_names.specs.declared.doc_id.Auid.TheVariants.{ResourceLists, RlsServices, XcapCaps}
 use Rattle.http_wire.specs.Fields.{same_word}
 use Rattle.http_wire.specs.declared.request.Field.{Field}
 use Rattle.request_terms.specs.Rights.{fields_named}
@@ -26,3 +29,9 @@ unfoldable pub has_type : Media → List Field → Bool
 has_type media fields =
     list_all (λ v. same_word v (codes "identity")) (fields_named (codes "content-encoding") fields)
     && is_type (media_type media) (fields_named (codes "content-type") fields)
+
+-- the media type of a usage's documents
+abbrev pub document_media : Auid → Media
+document_media ResourceLists = media.ResourceLists
+document_media RlsServices = media.RlsServices
+document_media XcapCaps = media.XcapCaps

@@ -2,10 +2,10 @@
 -- front proxy asserts: a user has the home of that name, everyone reads what is global, and nobody writes there or in xcap-caps.
 use Rattle.std.specs.Prelude.{ℕ, Bool, true, false, not, ◌&&◌, List, [], ◌∷◌, map, codes, encode_utf8_all}
 use Rattle.std.specs.Str.{bytes_eq}
-use Rattle.xcap_uri.specs.declared.doc_id.Auid.{Auid}
-use Rattle.xcap_uri.specs.declared.doc_id.Auid.TheVariants.{ResourceLists, RlsServices, XcapCaps}
-use Rattle.xcap_uri.specs.declared.doc_id.Home.{Home}
-use Rattle.xcap_uri.specs.declared.doc_id.Home.TheVariants.{Global, User}
+use Rattle.doc_names.specs.declared.doc_id.Auid.{Auid}
+use Rattle.doc_names.specs.declared.doc_id.Auid.TheVariants.{ResourceLists, RlsServices, XcapCaps}
+use Rattle.doc_names.specs.declared.doc_id.Home.{Home}
+use Rattle.doc_names.specs.declared.doc_id.Home.TheVariants.{Global, User}
 use Rattle.http_wire.specs.Fields.{values_of}
 use Rattle.http_wire.specs.declared.request.Field.{Field}
 

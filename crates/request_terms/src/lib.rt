@@ -10,11 +10,9 @@ mod method;
 mod named;
 mod outcomes;
 mod rights;
-#[cfg(test)]
-mod tests;
 
 pub use conditions::Outcome;
-pub use media_types::has_type;
+pub use media_types::{document_media, has_type};
 pub use method::Method;
 pub use outcomes::outcome;
 pub use rights::is_allowed;

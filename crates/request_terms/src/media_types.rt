@@ -2,14 +2,14 @@
 ghost use Rattle.std.specs.Prelude.{◌≡◌, ◌==◌, codes, reverse};
 ghost use Rattle.std.specs.List.{before_first, position};
 ghost use Rattle.httparse.specs.Grammar.{skip_ows, trim_ows};
-ghost use Rattle.reply_text.specs.Heads.{media_type};
-ghost use Rattle.request_terms.specs.MediaTypes.{essence, is_type, has_type};
+ghost use Rattle.request_terms.specs.MediaTypes.{document_media, essence, is_type, has_type};
 ghost use Rattle.request_terms.specs.Rights.{fields_named};
 
 use crate::named::{all_named_are, is_same_word, only_named};
+use doc_names::Auid;
 use http_wire::{Field, Request};
 use httparse::is_space_or_tab;
-use reply_text::Media;
+use reply_text::{Media, media_type};
 
 /// Whether the body of a request is of this type as it was sent: there is exactly one `Content-Type`, which is this one, whatever
 /// its parameters, and every `Content-Encoding` is `identity`. Takes no memory.
@@ -86,18 +86,13 @@ fn trim_end(mut bytes: &[u8]) -> &[u8]
     bytes
 }
 
-#[tactic(auto, unfolding(reply_text::specs::Heads::media_type))]
-fn media_type(media: Media) -> &'static str
-    ensures { result.now ≡ media_type media }
+/// The media type of a usage's documents. Takes no memory.
+pub fn document_media(auid: Auid) -> Media
+    ensures { result ≡ document_media auid }
 {
-    match media {
-        Media::ResourceLists => "application/resource-lists+xml",
-        Media::RlsServices => "application/rls-services+xml",
-        Media::XcapCaps => "application/xcap-caps+xml",
-        Media::Element => "application/xcap-el+xml",
-        Media::Attribute => "application/xcap-att+xml",
-        Media::Namespaces => "application/xcap-ns+xml",
-        Media::Error => "application/xcap-error+xml",
-        Media::Diff => "application/xcap-diff+xml",
+    match auid {
+        Auid::ResourceLists => Media::ResourceLists,
+        Auid::RlsServices => Media::RlsServices,
+        Auid::XcapCaps => Media::XcapCaps,
     }
 }

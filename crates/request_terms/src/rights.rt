@@ -3,8 +3,8 @@ ghost use Rattle.std.specs.Prelude.{◌≡◌};
 ghost use Rattle.request_terms.specs.Rights.{is_allowed, is_fixed_usage, is_user};
 
 use crate::named::only_named;
+use doc_names::{Auid, Home};
 use http_wire::{Field, Request};
-use xcap_uri::{Auid, Home};
 use xml_tree::Text;
 
 /// Whether a request that writes, or only reads, is allowed for a document of this usage in this home. Takes no memory.

@@ -9,23 +9,24 @@ use Rattle.std.proofs.lemmas.List.Sums.{sum_by-append}
 use Rattle.xml_tree.specs.Tree.{Tree}
 use Rattle.usage_docs.specs.Services.{document_len}
 use Rattle.usage_docs.specs.declared.keys.Clash.{Clash}
-use Rattle.usage_docs.specs.declared.rows.Usage.{Usage}
-use Rattle.xcap_uri.specs.Same.{same_id}
-use Rattle.xcap_uri.specs.declared.doc_id.DocId.{DocId}
+use Rattle.doc_names.specs.declared.usages.Usage.{Usage}
+use Rattle.doc_names.specs.Same.{same_id}
+use Rattle.doc_names.specs.declared.doc_id.DocId.{DocId}
 use Rattle.edit_ops.specs.Changes.{Fits, edited}
 use Rattle.edit_ops.specs.declared.change.Change.{Change}
-use Rattle.patch_words.specs.Notes.{Note, note_of}
+use Rattle.notes.specs.Notes.{Note, note_of}
 use Rattle.store_core.specs.declared.refusal.StoreRefusal.{StoreRefusal}
 use Rattle.store_core.specs.declared.refusal.StoreRefusal.TheVariants.{ServiceTaken, TooLarge, TooMany, StoreFull}
 use Rattle.store_core.specs.State.{Document, State, created, renewed}
 use Rattle.store_core.specs.Held.{Content, Held, Stands, held_of}
-use Rattle.store_core.specs.Keeping.{AreApart, IsSoundFor, Kept, addresses, addresses_in, usage_of}
+use Rattle.store_core.specs.Keeping.{AreApart, IsSoundFor, Kept, addresses, addresses_in}
+use Rattle.doc_names.specs.Usages.{usage_of}
 use Rattle.store_core.specs.Asking.{Asks, AsksAct, MayBeFor}
 use Rattle.store_core.specs.Changing.{Act, Makes, Edits, Removes, act_of, after_act, against, against_number, against_tree, answered, changing, content_after, document_in, held_name, note_for, only_if, or_else, other_addresses, other_lengths, taken, without_document}
 use Rattle.store_core.specs.Suiting.{Suits, SuitsAct}
 use Rattle.store_core.proofs.Apart.{apart-cut, none-filtered, one-exchanged, one-filtered}
 use Rattle.store_core.proofs.KeptAfter.{round}
-use Rattle.store_core.proofs.SameNames.{same-exact}
+use Rattle.doc_names.proofs.SameIds.{id_exact}
 use Rattle.store_core.proofs.Services.{apart-mix, none-mapped, none-taken, own-apart}
 use Rattle.store_core.proofs.Standing.{map-filtered}
 
@@ -179,7 +180,7 @@ suited-edited m id change k (Some d) e a h =
     ∙ one-filtered (λ (e : Document). same_id id e.id) r.before r.behind d r.none-before r.passes r.none-behind in
     let now : AreApart (flat_map uris_of r.before ++ (uris_of d ++ flat_map uris_of r.behind)) =
     subst (λ (xs : List (List ℕ)). AreApart xs) (ap (λ (ds : List Document). addresses ds) r.parts ∙ flat_map-append uris_of r.before (d ∷ r.behind)) k.services in
-    let same : id ≡ d.id = same-exact id d.id r.passes in
+    let same : id ≡ d.id = id_exact id d.id r.passes in
     let own = addresses_in d.id.auid t in
     let apart : AllByRecursion (λ uri. AllByRecursion (λ o. uri ≢ o) (flat_map uris_of r.before ++ flat_map uris_of r.behind)) own =
     subst (λ (xs : List (List ℕ)). AllByRecursion (λ uri. AllByRecursion (λ o. uri ≢ o) xs) own)

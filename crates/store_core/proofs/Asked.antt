@@ -1,11 +1,11 @@
 -- A tree that may be a document of services is asked for as a document that is new, or in place of the one that is held.
 use Rattle.std.proofs.Common.{◌≡◌, Bool, true, false, cond, List, [], ◌∷◌, find, is_some, Option, None, Some, IsSomeAnd, option_map, refl, sym, ap, subst, ◌∙◌}
-use Rattle.usage_docs.specs.declared.rows.Usage.TheVariants as usages
-use Rattle.xcap_uri.specs.Ids.{IsReadable}
-use Rattle.xcap_uri.specs.Same.{same_id}
-use Rattle.xcap_uri.specs.declared.doc_id.Auid.{Auid}
-use Rattle.xcap_uri.specs.declared.doc_id.Auid.TheVariants.{RlsServices}
-use Rattle.xcap_uri.specs.declared.doc_id.DocId.{DocId}
+use Rattle.doc_names.specs.declared.usages.Usage.TheVariants as usages
+use Rattle.doc_names.specs.Ids.{IsReadable}
+use Rattle.doc_names.specs.Same.{same_id}
+use Rattle.doc_names.specs.declared.doc_id.Auid.{Auid}
+use Rattle.doc_names.specs.declared.doc_id.Auid.TheVariants.{RlsServices}
+use Rattle.doc_names.specs.declared.doc_id.DocId.{DocId}
 use Rattle.edit_ops.specs.Changes.{Fits, edited}
 use Rattle.edit_ops.specs.declared.change.Change.{Change}
 use Rattle.edit_ops.specs.declared.change.Change.TheVariants.{CreateDocument, Replace}
@@ -13,8 +13,9 @@ use Rattle.xml_tree.specs.Tree.{Tree}
 use Rattle.store_core.specs.Asking.{Asks, MayBe, MayBeFor}
 use Rattle.store_core.specs.Changing.{document_in, held_name}
 use Rattle.store_core.specs.Held.{Content, Held}
-use Rattle.store_core.specs.Keeping.{IsUsers, usage_of}
-use Rattle.store_core.proofs.SameNames.{same-exact}
+use Rattle.store_core.specs.Keeping.{IsUsers}
+use Rattle.doc_names.specs.Usages.{usage_of}
+use Rattle.doc_names.proofs.SameIds.{id_exact}
 
 -- ---- what is found has the name that was looked for
 
@@ -44,7 +45,7 @@ module _ (c : Content) (id : DocId) (t : Tree) (readable : IsReadable id) (users
   asks-by false (Some h) is e = cc
   asks-by true (Some h) is e =
       let P : Held → Type 0 = λ x. Fits x.tree (Replace [] t) × MayBeFor (usage_of x.id.auid) (edited x.tree (Replace [] t)) in
-      let here : P h = (refl, subst (λ (d : DocId). MayBeFor (usage_of d.auid) t) (same-exact id h.id (found-same id h c.documents is)) may) in
+      let here : P h = (refl, subst (λ (d : DocId). MayBeFor (usage_of d.auid) t) (id_exact id h.id (found-same id h c.documents is)) may) in
       subst (λ (o : Option Held). IsSomeAnd o P) (sym is) here
 
 may-for : (auid : Auid) (t : Tree) → auid ≡ RlsServices → MayBe usages.RlsServices t → MayBeFor (usage_of auid) t

@@ -1,6 +1,6 @@
 -- What a store keeps after a change that was ready for it.
 use Rattle.std.proofs.Common.{◌≡◌, ℕ, List, Option, None, Some, cond, sym, ap, subst, ◌∙◌}
-use Rattle.xcap_uri.specs.declared.doc_id.DocId.{DocId}
+use Rattle.doc_names.specs.declared.doc_id.DocId.{DocId}
 use Rattle.store_core.specs.declared.entry.Entry.{Entry}
 use Rattle.store_core.specs.Changing.{content_after}
 use Rattle.store_core.specs.Storing.{IsStoring, Room, Stored, content_in, exchanged, is_among, registered}

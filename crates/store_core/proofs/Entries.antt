@@ -1,23 +1,24 @@
 -- The entries of a store's documents, as what the store holds: the entry of a name among the others, and what a kept state says of all.
-use Rattle.std.proofs.Common.{◌≡◌, ◌≢◌, ℕ, ◌+◌, ◌≤◌, Bool, true, false, cond, List, [], ◌∷◌, ◌++◌, length, map, find, sum_by, Option, None, Some, option_map, refl, sym, ap, subst, ◌∙◌, arith}
+use Rattle.std.proofs.Common.{◌≡◌, ◌≢◌, ℕ, ◌≤◌, Bool, true, false, cond, List, [], ◌∷◌, ◌++◌, length, map, find, sum_by, Option, None, Some, option_map, refl, sym, ap, subst, ◌∙◌, arith}
 use Rattle.std.proofs.lemmas.List.{length-map, map-append}
 use Rattle.std.proofs.lemmas.List.Folds.{flat_map-map}
 use Rattle.std.specs.List.{AllByRecursion, flat_map}
 use Rattle.std.specs.Map.{lookup}
 use Rattle.xml_tree.specs.Tree.{Tree, height}
 use Rattle.usage_docs.specs.Services.{document_len}
-use Rattle.usage_docs.specs.declared.rows.Usage.{Usage}
-use Rattle.xcap_uri.specs.Same.{same_id}
-use Rattle.xcap_uri.specs.declared.doc_id.DocId.{DocId}
+use Rattle.doc_names.specs.declared.usages.Usage.{Usage}
+use Rattle.doc_names.specs.Same.{same_id}
+use Rattle.doc_names.specs.declared.doc_id.DocId.{DocId}
 use Rattle.store_core.specs.declared.entry.Entry.{Entry}
 use Rattle.store_core.specs.State.{Document, State}
 use Rattle.store_core.specs.Held.{Held, Stands, held_of}
-use Rattle.store_core.specs.Keeping.{AreApart, IsKept, IsSoundFor, Kept, addresses, addresses_in, usage_of}
+use Rattle.store_core.specs.Keeping.{AreApart, IsKept, IsSoundFor, Kept, addresses, addresses_in}
+use Rattle.doc_names.specs.Usages.{usage_of}
 use Rattle.store_core.specs.Changing.{document_in, held_name}
 use Rattle.store_core.specs.Storing.{content_in, held_in, len_in, name_in, uris_in}
 use Rattle.store_core.proofs.Accepted.{sum-mapped}
 use Rattle.store_core.proofs.Apart.{apart-behind, each-weaker}
-use Rattle.store_core.proofs.SameNames.{other-name, same-exact}
+use Rattle.doc_names.proofs.SameIds.{other-name, id_exact}
 
 -- ---- lists
 
@@ -97,7 +98,7 @@ pub record Around (es : List (DocId × Entry)) (doc : DocId) (v : Entry) : Type 
 pub around : (es : List (DocId × Entry)) (doc : DocId) (v : Entry) → AreApart (map name_in es) → lookup (same_id doc) es ≡ Some v → Around es doc v
 around es doc v apart h =
     let s = found-at (same_id doc) es v h in
-    let same : s.key ≡ doc = sym (same-exact doc s.key s.passes) in
+    let same : s.key ≡ doc = sym (id_exact doc s.key s.passes) in
     let names : AreApart (map name_in s.before ++ s.key ∷ map name_in s.behind) =
     subst (λ (xs : List DocId). AreApart xs) (ap (map name_in) s.parts ∙ map-append name_in s.before ((s.key, v) ∷ s.behind)) apart in
     record {

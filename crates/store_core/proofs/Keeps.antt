@@ -1,8 +1,8 @@
 -- After a change that the store makes it stands for the next state, which is kept.
 use Rattle.std.proofs.Common.{◌≡◌, Option, None, Some, Result, Ok, Err, ap, subst}
-use Rattle.xcap_uri.specs.declared.doc_id.DocId.{DocId}
+use Rattle.doc_names.specs.declared.doc_id.DocId.{DocId}
 use Rattle.edit_ops.specs.declared.change.Change.{Change}
-use Rattle.patch_words.specs.Notes.{Note}
+use Rattle.notes.specs.Notes.{Note}
 use Rattle.store_core.specs.declared.refusal.StoreRefusal.{StoreRefusal}
 use Rattle.store_core.specs.State.{State}
 use Rattle.store_core.specs.Held.{Content, Stands}

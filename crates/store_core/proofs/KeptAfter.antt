@@ -5,18 +5,19 @@ use Rattle.std.proofs.lemmas.List.{append-nil, map-append}
 use Rattle.std.proofs.lemmas.List.Concat.{flat_map-append}
 use Rattle.xml_tree.specs.Tree.{Tree}
 use Rattle.usage_docs.specs.Services.{document_len}
-use Rattle.xcap_uri.specs.Ids.{IsReadable}
-use Rattle.xcap_uri.specs.Same.{same_id}
-use Rattle.xcap_uri.specs.declared.doc_id.DocId.{DocId}
+use Rattle.doc_names.specs.Ids.{IsReadable}
+use Rattle.doc_names.specs.Same.{same_id}
+use Rattle.doc_names.specs.declared.doc_id.DocId.{DocId}
 use Rattle.edit_ops.specs.Changes.{Fits, edited}
 use Rattle.edit_ops.specs.declared.change.Change.{Change}
-use Rattle.patch_words.specs.Notes.{note_of}
+use Rattle.notes.specs.Notes.{note_of}
 use Rattle.store_core.specs.State.{Document, State, Version, versions, renewed, created, first_state}
-use Rattle.store_core.specs.Keeping.{AreApart, IsKept, IsSoundFor, IsUsers, Kept, addresses, usage_of}
+use Rattle.store_core.specs.Keeping.{AreApart, IsKept, IsSoundFor, IsUsers, Kept, addresses}
+use Rattle.doc_names.specs.Usages.{usage_of}
 use Rattle.store_core.specs.Changing.{Act, Makes, Edits, Removes, act_of, after, after_act}
 use Rattle.store_core.specs.Suiting.{Suits, SuitsAct}
 use Rattle.store_core.proofs.Apart.{each-append, each-left, each-right, each-weaker, apart-put, apart-cut, apart-behind, split, one-exchanged, one-filtered}
-use Rattle.store_core.proofs.SameNames.{not-same, other-name}
+use Rattle.doc_names.proofs.SameIds.{not-same, other-name}
 
 abbrev pub name_of : Document → DocId
 name_of d = d.id

@@ -3,20 +3,20 @@ use Rattle.std.proofs.Common.{◌≡◌, Bool, true, false, not, cond, List, [],
 use Rattle.std.proofs.lemmas.Map.Keys.{IsDistinct-head, IsDistinct-tail}
 use Rattle.std.specs.List.{AllByRecursion, IsDistinct}
 use Rattle.std.specs.Map.{keys_of, lookup, remove_entry, set_value}
-use Rattle.xcap_uri.specs.Same.{same_id}
-use Rattle.xcap_uri.specs.contracts.doc_id.DocIdPartialEq.TheImpl.{eq-value}
-use Rattle.xcap_uri.specs.declared.doc_id.DocId.{DocId}
-use Rattle.xcap_uri.proofs.Keys.{derived_eq}
+use Rattle.doc_names.specs.Same.{same_id}
+use Rattle.doc_names.specs.contracts.doc_id.DocIdPartialEq.TheImpl.{eq-value}
+use Rattle.doc_names.specs.declared.doc_id.DocId.{DocId}
+use Rattle.doc_names.proofs.Keys.{derived_eq}
 use Rattle.store_core.proofs.Apart.{none-exchanged, none-filtered}
 use Rattle.store_core.proofs.Entries.{each-unmapped}
-use Rattle.store_core.proofs.SameNames.{same-exact}
+use Rattle.doc_names.proofs.SameIds.{id_exact}
 
 module _ {V : Type 0} where
   -- behind an entry of this name there is none of it
   none-more : (doc : DocId) (e : DocId × V) (es : List (DocId × V)) → same_id doc e.0 ≡ true → IsDistinct same_id (keys_of (e ∷ es)) → AllByRecursion (λ x. same_id doc x.0 ≡ false) es
   none-more doc e es h d =
       let Q : DocId → Type 0 = λ y. same_id doc y ≡ false in
-      let same : e.0 ≡ doc = sym (same-exact doc e.0 h) in
+      let same : e.0 ≡ doc = sym (id_exact doc e.0 h) in
       let name : DocId × V → DocId = λ x. x.0 in
       each-unmapped Q name es (subst (λ (k : DocId). AllByRecursion (λ y. same_id k y ≡ false) (keys_of es)) same (IsDistinct-head same_id e.0 (keys_of es) d))
 

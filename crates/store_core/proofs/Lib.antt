@@ -15,7 +15,6 @@ pub mod Listing
 pub mod PlanAnswers
 pub mod Planning
 pub mod Rings
-pub mod SameNames
 pub mod Services
 pub mod Standing
 pub mod Stored

@@ -4,19 +4,20 @@ use Rattle.std.proofs.lemmas.Option.{same_Some}
 use Rattle.std.specs.Result.{IsErrAnd}
 use Rattle.xml_tree.specs.Tree.{Tree}
 use Rattle.usage_docs.specs.Services.{document_len}
-use Rattle.xcap_uri.specs.Same.{same_id}
-use Rattle.xcap_uri.specs.declared.doc_id.DocId.{DocId}
+use Rattle.doc_names.specs.Same.{same_id}
+use Rattle.doc_names.specs.declared.doc_id.DocId.{DocId}
 use Rattle.edit_ops.specs.Changes.{Fits, edited}
 use Rattle.edit_ops.specs.declared.change.Change.{Change}
 use Rattle.edit_ops.specs.declared.change.Change.TheVariants.{CreateDocument, Insert, Replace, Remove, SetAttr, DropAttr, RemoveDocument}
-use Rattle.patch_words.specs.Notes.{Note, note_of}
-use Rattle.patch_record.specs.Recorded.{note_in}
-use Rattle.patch_record.specs.declared.edit_note.EditNote.{EditNote}
+use Rattle.notes.specs.Notes.{Note, note_of}
+use Rattle.notes.specs.Recorded.{note_in}
+use Rattle.notes.specs.declared.edit_note.EditNote.{EditNote}
 use Rattle.store_core.specs.declared.refusal.StoreRefusal.{StoreRefusal}
 use Rattle.store_core.specs.declared.refusal.StoreRefusal.TheVariants.{NoMemory}
 use Rattle.store_core.specs.declared.step.Step.TheVariants.{Make, Renew, End}
 use Rattle.store_core.specs.Held.{Content, Held}
-use Rattle.store_core.specs.Keeping.{addresses_in, usage_of}
+use Rattle.store_core.specs.Keeping.{addresses_in}
+use Rattle.doc_names.specs.Usages.{usage_of}
 use Rattle.store_core.specs.Asking.{Asks, AsksAct, MayBeFor}
 use Rattle.store_core.specs.Changing.{Act, Edits, act_of, against, against_number, against_tree, answered, changing, content_after, document_in, held_name, note_for, or_else, other_lengths}
 use Rattle.store_core.specs.Storing.{Stored, entry_of}

@@ -9,9 +9,9 @@ use Rattle.xml_tree.specs.Tree.{Tree}
 use Rattle.usage_docs.specs.Services.{document_len}
 use Rattle.usage_docs.specs.declared.keys.Clash.{Clash}
 use Rattle.usage_docs.specs.declared.rows.Key.TheVariants.{Uri}
-use Rattle.xcap_uri.specs.Same.{same_id}
-use Rattle.xcap_uri.specs.declared.doc_id.DocId.{DocId}
-use Rattle.patch_words.specs.Notes.{Note}
+use Rattle.doc_names.specs.Same.{same_id}
+use Rattle.doc_names.specs.declared.doc_id.DocId.{DocId}
+use Rattle.notes.specs.Notes.{Note}
 use Rattle.store_core.specs.declared.entry.Entry.{Entry}
 use Rattle.store_core.specs.declared.refusal.StoreRefusal.{StoreRefusal}
 use Rattle.store_core.specs.declared.refusal.StoreRefusal.TheVariants.{ServiceTaken, TooLarge, TooMany, StoreFull}

@@ -15,10 +15,11 @@ use Rattle.usage_docs.specs.declared.keys.Clash.{Clash}
 use Rattle.usage_docs.specs.declared.rows.Kind.{Kind}
 use Rattle.usage_docs.specs.declared.rows.Kind.TheVariants.{RlsServices, Service}
 use Rattle.usage_docs.specs.declared.rows.Key.TheVariants.{Uri}
-use Rattle.usage_docs.specs.declared.rows.Usage.TheVariants as usages
-use Rattle.xcap_uri.specs.declared.doc_id.Auid.{Auid}
-use Rattle.xcap_uri.specs.declared.doc_id.Auid.TheVariants.{ResourceLists, RlsServices as RlsUsage, XcapCaps}
-use Rattle.store_core.specs.Keeping.{AreApart, addresses_in, usage_of}
+use Rattle.doc_names.specs.declared.usages.Usage.TheVariants as usages
+use Rattle.doc_names.specs.declared.doc_id.Auid.{Auid}
+use Rattle.doc_names.specs.declared.doc_id.Auid.TheVariants.{ResourceLists, RlsServices as RlsUsage, XcapCaps}
+use Rattle.store_core.specs.Keeping.{AreApart, addresses_in}
+use Rattle.doc_names.specs.Usages.{usage_of}
 use Rattle.store_core.specs.Asking.{MayBeFor}
 use Rattle.store_core.specs.Changing.{taken}
 use Rattle.store_core.proofs.Apart.{each-append, each-left, each-right, apart-put}

@@ -2,12 +2,12 @@
 use Rattle.std.proofs.Common.{◌≡◌, ℕ, ◌+◌, Bool, true, false, not, cond, List, [], ◌∷◌, ◌++◌, map, filter, refl, sym, ap, ◌∙◌}
 use Rattle.std.proofs.lemmas.List.{map-append, reverse-append}
 use Rattle.std.specs.List.{filter_map}
-use Rattle.xcap_uri.specs.declared.doc_id.DocId.{DocId}
-use Rattle.xcap_uri.specs.Same.{same_id}
+use Rattle.doc_names.specs.declared.doc_id.DocId.{DocId}
+use Rattle.doc_names.specs.Same.{same_id}
 use Rattle.edit_ops.specs.Changes.{edited}
 use Rattle.edit_ops.specs.declared.change.Change.{Change}
-use Rattle.patch_words.specs.Notes.{Note, note_of}
-use Rattle.patch_words.specs.Operations.{weight}
+use Rattle.notes.specs.Notes.{Note, note_of}
+use Rattle.notes.specs.Operations.{weight}
 use Rattle.store_core.specs.State.{Document, State, versions, notes, retained, renewed, created}
 use Rattle.store_core.specs.Held.{Content, Held, Stands, held_of}
 use Rattle.store_core.specs.Changing.{Act, Makes, Edits, Removes, act_of, after, after_act, content_after, content_after_act, held_after}

@@ -6,13 +6,14 @@ use Rattle.xml_tree.specs.Proper.{ProperIn}
 use Rattle.usage_docs.specs.Clashes.{Unique}
 use Rattle.usage_docs.specs.Forms.{Constraints}
 use Rattle.usage_docs.specs.Validity.{Schema}
-use Rattle.usage_docs.specs.declared.rows.Usage.{Usage}
-use Rattle.xcap_uri.specs.Ids.{IsReadable}
-use Rattle.xcap_uri.specs.declared.doc_id.DocId.{DocId}
+use Rattle.doc_names.specs.declared.usages.Usage.{Usage}
+use Rattle.doc_names.specs.Ids.{IsReadable}
+use Rattle.doc_names.specs.declared.doc_id.DocId.{DocId}
 use Rattle.edit_ops.specs.Changes.{Fits, edited}
 use Rattle.edit_ops.specs.declared.change.Change.{Change}
 use Rattle.store_core.specs.Held.{Content}
-use Rattle.store_core.specs.Keeping.{IsUsers, usage_of}
+use Rattle.store_core.specs.Keeping.{IsUsers}
+use Rattle.doc_names.specs.Usages.{usage_of}
 use Rattle.store_core.specs.Changing.{Act, Makes, Edits, Removes, act_of, document_in, held_name}
 
 -- a tree that may be a document of the usage, if it isn't too long

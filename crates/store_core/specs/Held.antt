@@ -1,8 +1,8 @@
 -- What a store holds of a state: of each document the tree and tag that it has now, and the notes that are retained.
 use Rattle.std.specs.Prelude.{◌≡◌, ℕ, List, map}
 use Rattle.xml_tree.specs.Tree.{Tree}
-use Rattle.xcap_uri.specs.declared.doc_id.DocId.{DocId}
-use Rattle.patch_words.specs.Notes.{Note}
+use Rattle.doc_names.specs.declared.doc_id.DocId.{DocId}
+use Rattle.notes.specs.Notes.{Note}
 use Rattle.store_core.specs.State.{Document, State, notes, retained}
 
 -- a document as a store holds it

@@ -5,10 +5,10 @@ use Rattle.std.specs.Cmp.Lexicographic.{slice_cmp}
 use Rattle.std.specs.Ordering.{match_ordering, nat_cmp}
 use Rattle.std.specs.Str.{bytes_eq, chars}
 use Rattle.xml_tree.specs.Tree.{Tree}
-use Rattle.xcap_uri.specs.declared.doc_id.Auid.{Auid}
-use Rattle.xcap_uri.specs.declared.doc_id.Auid.TheVariants.{ResourceLists, RlsServices, XcapCaps}
-use Rattle.xcap_uri.specs.declared.doc_id.Home.{Home}
-use Rattle.xcap_uri.specs.declared.doc_id.Home.TheVariants.{Global, User}
+use Rattle.doc_names.specs.declared.doc_id.Auid.{Auid}
+use Rattle.doc_names.specs.declared.doc_id.Auid.TheVariants.{ResourceLists, RlsServices, XcapCaps}
+use Rattle.doc_names.specs.declared.doc_id.Home.{Home}
+use Rattle.doc_names.specs.declared.doc_id.Home.TheVariants.{Global, User}
 use Rattle.store_core.specs.Held.{Content, Held}
 
 -- the name that each document of services has which the index lists

@@ -7,15 +7,15 @@ use Rattle.usage_docs.specs.Clashes.{Unique}
 use Rattle.usage_docs.specs.Forms.{Constraints}
 use Rattle.usage_docs.specs.Services.{document_len, service_uris}
 use Rattle.usage_docs.specs.Validity.{Schema}
-use Rattle.usage_docs.specs.declared.rows.Usage.{Usage}
-use Rattle.usage_docs.specs.declared.rows.Usage.TheVariants as usages
-use Rattle.xcap_uri.specs.Ids.{IsReadable}
-use Rattle.xcap_uri.specs.declared.doc_id.Auid.{Auid}
-use Rattle.xcap_uri.specs.declared.doc_id.Auid.TheVariants.{ResourceLists, RlsServices, XcapCaps}
-use Rattle.xcap_uri.specs.declared.doc_id.Home.{Home}
-use Rattle.xcap_uri.specs.declared.doc_id.Home.TheVariants.{Global, User}
+use Rattle.doc_names.specs.declared.usages.Usage.{Usage}
+use Rattle.doc_names.specs.Usages.{usage_of}
+use Rattle.doc_names.specs.Ids.{IsReadable}
+use Rattle.doc_names.specs.declared.doc_id.Auid.{Auid}
+use Rattle.doc_names.specs.declared.doc_id.Auid.TheVariants.{ResourceLists, RlsServices, XcapCaps}
+use Rattle.doc_names.specs.declared.doc_id.Home.{Home}
+use Rattle.doc_names.specs.declared.doc_id.Home.TheVariants.{Global, User}
 use Rattle.edit_ops.specs.Changes.{Fits, edited}
-use Rattle.patch_words.specs.Notes.{Note, note_of}
+use Rattle.notes.specs.Notes.{Note, note_of}
 use Rattle.store_core.specs.State.{Document, State, Version, versions}
 
 -- ---- names
@@ -24,12 +24,6 @@ use Rattle.store_core.specs.State.{Document, State, Version, versions}
 abbrev pub AreApart : {A : Type 0} → List A → Type 0
 AreApart [] = Unit {0}
 AreApart (x ∷ xs) = AllByRecursion (λ y. x ≢ y) xs × AreApart xs
-
--- the usage whose documents are stored
-abbrev pub usage_of : Auid → Option Usage
-usage_of ResourceLists = Some usages.ResourceLists
-usage_of RlsServices = Some usages.RlsServices
-usage_of XcapCaps = None
 
 abbrev pub IsUsers : Home → Type 0
 IsUsers Global = ⊥

@@ -4,14 +4,14 @@ use Rattle.std.specs.Map.{lookup}
 use Rattle.usage_docs.specs.Services.{document_len}
 use Rattle.usage_docs.specs.declared.keys.Clash.{Clash}
 use Rattle.usage_docs.specs.declared.rows.Key.TheVariants.{Uri}
-use Rattle.xcap_uri.specs.Same.{same_id}
-use Rattle.xcap_uri.specs.declared.doc_id.DocId.{DocId}
+use Rattle.doc_names.specs.Same.{same_id}
+use Rattle.doc_names.specs.declared.doc_id.DocId.{DocId}
 use Rattle.edit_ops.specs.Changes.{edited}
 use Rattle.edit_ops.specs.declared.change.Change.{Change}
 use Rattle.edit_ops.specs.declared.change.Change.TheVariants.{CreateDocument, RemoveDocument}
-use Rattle.patch_words.specs.Notes.{Note, note_of}
-use Rattle.patch_record.specs.Recorded.{note_in}
-use Rattle.patch_record.specs.declared.edit_note.EditNote.{EditNote}
+use Rattle.notes.specs.Notes.{Note, note_of}
+use Rattle.notes.specs.Recorded.{note_in}
+use Rattle.notes.specs.declared.edit_note.EditNote.{EditNote}
 use Rattle.xml_tree.specs.Tree.{Tree}
 use Rattle.store_core.specs.declared.entry.Entry.{Entry}
 use Rattle.store_core.specs.declared.step.Step.{Step}

@@ -1,7 +1,7 @@
 -- What a store tells of a document since a version of it. RFC 5874, section 3: changes between two entity tags.
 use Rattle.std.specs.Prelude.{ℕ, ◌==◌, List, [], ◌∷◌, Option, None, Some, if◌then◌else◌}
-use Rattle.xcap_uri.specs.declared.doc_id.DocId.{DocId}
-use Rattle.patch_words.specs.Notes.{Note}
+use Rattle.doc_names.specs.declared.doc_id.DocId.{DocId}
+use Rattle.notes.specs.Notes.{Note}
 use Rattle.store_core.specs.Held.{Content, Held}
 use Rattle.store_core.specs.Changing.{document_in, held_name}
 

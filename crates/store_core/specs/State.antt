@@ -2,10 +2,10 @@
 use Rattle.std.specs.Prelude.{ℕ, Bool, ◌&&◌, nat_le, List, [], ◌∷◌, length, reverse, sum_by, Option, None, Some, if◌then◌else◌}
 use Rattle.std.specs.List.{filter_map}
 use Rattle.xml_tree.specs.Tree.{Tree}
-use Rattle.xcap_uri.specs.declared.doc_id.DocId.{DocId}
+use Rattle.doc_names.specs.declared.doc_id.DocId.{DocId}
 use Rattle.edit_ops.specs.Changes.{edited}
-use Rattle.patch_words.specs.Notes.{Note}
-use Rattle.patch_words.specs.Operations.{weight}
+use Rattle.notes.specs.Notes.{Note}
+use Rattle.notes.specs.Operations.{weight}
 
 -- a version: its tag, its tree, and the note of the change that made it from the version before
 pub record Version : Type 0 where

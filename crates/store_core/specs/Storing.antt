@@ -7,9 +7,9 @@ use Rattle.std.specs.Str.{bytes_eq}
 use Rattle.circular_buffer.specs.Buffer.{buffer}
 use Rattle.xml_tree.specs.Tree.{Tree}
 use Rattle.usage_docs.specs.Services.{document_len}
-use Rattle.xcap_uri.specs.declared.doc_id.DocId.{DocId}
-use Rattle.patch_record.specs.Recorded.{note_in}
-use Rattle.patch_record.specs.declared.edit_note.EditNote.{EditNote}
+use Rattle.doc_names.specs.declared.doc_id.DocId.{DocId}
+use Rattle.notes.specs.Recorded.{note_in}
+use Rattle.notes.specs.declared.edit_note.EditNote.{EditNote}
 use Rattle.store_core.specs.declared.entry.Entry.{Entry}
 use Rattle.store_core.specs.State.{State, retained}
 use Rattle.store_core.specs.Held.{Content, Held, Stands}

@@ -2,12 +2,13 @@
 -- together stay within the limits and hold each service address once.
 use Rattle.std.specs.Prelude.{◌≡◌, ◌≤◌, length, sum_by, None, IsSome, IsSomeAnd}
 use Rattle.usage_docs.specs.Services.{document_len}
-use Rattle.xcap_uri.specs.Ids.{IsReadable}
-use Rattle.xcap_uri.specs.declared.doc_id.DocId.{DocId}
+use Rattle.doc_names.specs.Ids.{IsReadable}
+use Rattle.doc_names.specs.declared.doc_id.DocId.{DocId}
 use Rattle.edit_ops.specs.Changes.{Fits, edited}
 use Rattle.edit_ops.specs.declared.change.Change.{Change}
 use Rattle.store_core.specs.State.{State}
-use Rattle.store_core.specs.Keeping.{AreApart, IsSoundFor, IsUsers, addresses, usage_of}
+use Rattle.store_core.specs.Keeping.{AreApart, IsSoundFor, IsUsers, addresses}
+use Rattle.doc_names.specs.Usages.{usage_of}
 use Rattle.store_core.specs.Changing.{Act, Makes, Edits, Removes, act_of, after, document_in, document_name}
 
 abbrev pub SuitsAct : State → DocId → Change → Act → Type 0

@@ -1,6 +1,6 @@
 //! Changes that have all their memory are made.
-ghost use Rattle.std.specs.Prelude.{◌≡◌, Err, IfErr, IfOk, Ok};
-ghost use Rattle.patch_record.specs.Recorded.{note_in};
+ghost use Rattle.std.specs.Prelude.{◌≡◌, Ok};
+ghost use Rattle.notes.specs.Recorded.{note_in};
 ghost use Rattle.store_core.specs.declared.refusal.StoreRefusal.TheVariants as refusals;
 ghost use Rattle.store_core.specs.Asking.{Asks};
 ghost use Rattle.store_core.specs.Changing.{changing, content_after};
@@ -10,9 +10,9 @@ use crate::prepared::Prepared;
 use crate::refusal::StoreRefusal;
 use crate::registry::{enter, leave};
 use crate::store::Store;
+use doc_names::DocId;
 use edit_ops::Change;
-use patch_record::EditNote;
-use xcap_uri::DocId;
+use notes::EditNote;
 
 impl Store {
     /// Makes a change that has all its memory, and answers its note. Nothing may have changed since `prepare`. Takes no memory.

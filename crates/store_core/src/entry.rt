@@ -1,12 +1,12 @@
 //! One document as the store keeps it, with the notes that are retained of its changes (RFC 5874, section 3).
 ghost use Rattle.std.specs.Prelude.{◌≡◌, ◌<◌, ◌++◌, ◌∷◌, [], true, false, length, map, min, nat_le, sum_by, IfOk};
-ghost use Rattle.patch_words.specs.Operations.{weight};
-ghost use Rattle.patch_record.specs.Recorded.{note_in};
+ghost use Rattle.notes.specs.Operations.{weight};
+ghost use Rattle.notes.specs.Recorded.{note_in};
 ghost use Rattle.store_core.specs.State.{is_small, retained};
 ghost use Rattle.store_core.specs.Storing.{IsRenewed, entry_of};
 
 use circular_buffer::HeapCircularBuffer;
-use patch_record::{EditNote, weight};
+use notes::{EditNote, weight};
 use std::alloc::{AllocError, Global};
 use xml_tree::Element;
 

@@ -8,9 +8,9 @@ ghost use Rattle.store_core.specs.Listed.{entered, listed, pairs_in};
 
 use crate::step::Documents;
 use crate::{NoMemory, Store};
+use doc_names::{Auid, DocId, Home};
 use std::alloc::{AllocError, Global};
 use std::collections::BTreeMap;
-use xcap_uri::{Auid, DocId, Home};
 use xml_tree::{Element, Text};
 
 // The user whose home this is.

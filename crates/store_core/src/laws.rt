@@ -5,8 +5,8 @@ ghost use Rattle.store_core.specs.Held.{Content, Stands};
 ghost use Rattle.store_core.specs.Keeping.{Kept};
 ghost use Rattle.store_core.specs.Changing.{after, changing, content_after, document_in, held_name, note_for};
 ghost use Rattle.store_core.specs.Suiting.{Suits};
-ghost use Rattle.xcap_uri.specs.declared.doc_id.DocId.{DocId};
-ghost use Rattle.patch_words.specs.Notes.{Note};
+ghost use Rattle.doc_names.specs.declared.doc_id.DocId.{DocId};
+ghost use Rattle.notes.specs.Notes.{Note};
 ghost use Rattle.store_core.specs.Asking.{Asks};
 ghost use Rattle.edit_ops.specs.declared.change.Change.{Change};
 

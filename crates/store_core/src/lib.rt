@@ -23,6 +23,3 @@ pub use prepared::Prepared;
 pub use refusal::StoreRefusal;
 pub use std::alloc::AllocError as NoMemory;
 pub use store::Store;
-
-#[cfg(test)]
-mod tests;

@@ -1,11 +1,11 @@
 //! A change that has all its memory and isn't made yet.
 ghost use Rattle.std.specs.Prelude.{◌≡◌, length};
-ghost use Rattle.patch_record.specs.Recorded.{note_in};
+ghost use Rattle.notes.specs.Recorded.{note_in};
 
 use crate::step::Step;
-use patch_record::EditNote;
+use doc_names::DocId;
+use notes::EditNote;
 use std::marker::Model;
-use xcap_uri::DocId;
 use xml_tree::{List, Text};
 
 /// A change of a document that has all its memory. It borrows nothing, and where it is dropped nothing has changed.
@@ -23,10 +23,10 @@ pub struct Prepared {
 }
 
 impl Model for Prepared {
-    ghost use Rattle.patch_record.specs.Recorded.{note_in};
+    ghost use Rattle.notes.specs.Recorded.{note_in};
     ghost use Rattle.store_core.specs.Preparing.{Readied};
     ghost use Rattle.std.specs.Coded.{codes};
-    ghost use Rattle.xcap_uri.specs.contracts.doc_id.DocId as d;
+    ghost use Rattle.doc_names.specs.contracts.doc_id.DocId as d;
     ghost use Rattle.edit_ops.specs.contracts.change.Change as c;
     ghost use Rattle.store_core.specs.contracts.step.Step as s;
 

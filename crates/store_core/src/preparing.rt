@@ -4,14 +4,14 @@ ghost use Rattle.usage_docs.specs.Services.{document_len};
 ghost use Rattle.usage_docs.specs.declared.rows.Key.TheVariants as keys;
 ghost use Rattle.edit_ops.specs.declared.change.Change.TheVariants as changes;
 ghost use Rattle.store_core.specs.declared.refusal.StoreRefusal.TheVariants as refusals;
-ghost use Rattle.store_core.specs.Asking.{Asks, AsksAct};
+ghost use Rattle.store_core.specs.Asking.{Asks};
 ghost use Rattle.store_core.specs.Changing.{Edits, act_of, against_number, against_tree, changing, content_after, document_in, held_name, other_lengths};
 ghost use Rattle.store_core.specs.Keeping.{addresses_in};
 ghost use Rattle.edit_ops.specs.Changes.{Fits, edited};
 ghost use Rattle.store_core.specs.Preparing.{IsHeldWith, IsNoted, IsReady, Plans, refused_for, total_of};
 ghost use Rattle.store_core.specs.Storing.{entry_of};
 ghost use Rattle.store_core.specs.declared.step.Step.TheVariants as steps;
-ghost use Rattle.patch_record.specs.Recorded.{note_in};
+ghost use Rattle.notes.specs.Recorded.{note_in};
 
 use crate::entry::Entry;
 use crate::prepared::Prepared;
@@ -19,11 +19,11 @@ use crate::refusal::StoreRefusal;
 use crate::registry::{addresses, first_taken};
 use crate::step::{Step, find};
 use crate::store::Store;
+use doc_names::DocId;
 use edit_ops::{Change, rebuilt};
-use patch_record::EditNote;
+use notes::EditNote;
 use std::alloc::{AllocError, Global};
 use usage_docs::{Clash, Key};
-use xcap_uri::DocId;
 use xml_tree::{Element, List, Path, Text, copy_tree, printed_len};
 
 // How many documents there are at most, how many bytes one has at most, and how many all have together at most.

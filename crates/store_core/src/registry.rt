@@ -1,14 +1,14 @@
 //! Which document has a service address, by the number that the document's creation took (RFC 4826, section 4.4.5).
-ghost use Rattle.std.specs.Prelude.{◌≡◌, ℕ, ◌≤◌, List, length, position, vec_len, IfOk, OnOk, Some, None, if◌then◌else◌};
-ghost use Rattle.indexmap.specs.IndexMap.{spare, IsUnchanged};
+ghost use Rattle.std.specs.Prelude.{◌≡◌, ℕ, ◌≤◌, List, position, vec_len, IfOk, Some, None, if◌then◌else◌};
+ghost use Rattle.indexmap.specs.IndexMap.{spare};
 ghost use Rattle.usage_docs.specs.Services.{service_uris};
 ghost use Rattle.store_core.specs.Keeping.{addresses_in};
 ghost use Rattle.store_core.specs.Storing.{is_among, is_others, registered};
 
+use doc_names::Auid;
 use indexmap::IndexMap;
 use std::alloc::{AllocError, Global};
 use usage_docs::services;
-use xcap_uri::Auid;
 use xml_tree::{Element, List, Text};
 
 pub(crate) type Registry = IndexMap<Text, u64>;

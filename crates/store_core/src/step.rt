@@ -3,14 +3,14 @@ ghost use Rattle.std.specs.Prelude.{◌≡◌, ◌<◌, ◌++◌, ◌∷◌, [],
 ghost use Rattle.std.specs.Map.{lookup};
 ghost use Rattle.std.specs.Option.{option_copied};
 ghost use Rattle.indexmap.specs.IndexMap.{spare};
-ghost use Rattle.xcap_uri.specs.Same.{same_id};
+ghost use Rattle.doc_names.specs.Same.{same_id};
 ghost use Rattle.store_core.specs.declared.entry.Entry.{Entry as Held};
 ghost use Rattle.store_core.specs.Storing.{IsRenewed};
 
 use crate::entry::{Entry, renew};
+use doc_names::DocId;
 use indexmap::IndexMap;
-use patch_record::EditNote;
-use xcap_uri::DocId;
+use notes::EditNote;
 use xml_tree::Element;
 
 pub(crate) type Documents = IndexMap<DocId, Entry>;
@@ -72,7 +72,6 @@ fn end(documents: &mut Documents, doc: &DocId)
 }
 
 impl Step {
-    ghost use Rattle.store_core.specs.declared.step.Step.TheVariants as steps;
     ghost use Rattle.store_core.specs.Preparing.{Steppable, Stepped};
 
     /// Does it under a number, and answers the number of the document's creation.

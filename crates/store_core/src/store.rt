@@ -11,10 +11,10 @@ ghost use Rattle.store_core.specs.Changing.{document_in, held_name};
 use crate::NoMemory;
 use crate::registry::Registry;
 use crate::step::{Documents, find};
+use doc_names::DocId;
 use indexmap::IndexMap;
 use std::alloc::{AllocError, Global};
 use std::marker::Model;
-use xcap_uri::DocId;
 use xml_tree::Element;
 
 /// All documents in order of their creation, each with its tag and the notes that are retained. Contracts see them and the next
@@ -34,7 +34,7 @@ impl Model for Store {
     ghost use Rattle.store_core.specs.Storing.{IsStoring, Stored, content_in};
     ghost use Rattle.std.specs.Coded.{codes};
     ghost use Rattle.xml_tree.specs.Tree.{tree_code};
-    ghost use Rattle.xcap_uri.specs.contracts.doc_id.DocId as d;
+    ghost use Rattle.doc_names.specs.contracts.doc_id.DocId as d;
     ghost use Rattle.edit_ops.specs.contracts.change.Change as c;
 
     ghost Value = { Stored };

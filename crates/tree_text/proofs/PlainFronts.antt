@@ -12,7 +12,7 @@ use Rattle.tree_text.specs.Grammar.{is_raw, is_raw_in}
 use Rattle.tree_text.specs.Members.{with_chars, read_chars_onto, read_blanked}
 use Rattle.tree_text.specs.Pieces.{line_ends, raw}
 use Rattle.tree_text.specs.Reading.{read_chars, read_raw}
-use Rattle.tree_text.specs.Runs.{is_no_return, is_smooth, is_plain_in_content, is_plain_in_value, ends_run, ends_run_in}
+use Rattle.tree_text.specs.Runs.{is_no_return, is_smooth, is_plain_in_content, is_plain_in_value, ends_run}
 use Rattle.tree_text.specs.Words.{section_end}
 use Rattle.tree_text.proofs.PlainRuns.{plain_lines, smooth_raw}
 use Rattle.tree_text.proofs.RawLetters.{bounds}
@@ -157,11 +157,11 @@ content_ends_by c cs true b i j h = let z = eqb-true c 60 i in rw z (refl, refl)
 content_ends_by c cs false true i j h = let z = eqb-true c 38 j in rw z (refl, refl)
 content_ends_by c cs false false i j h = absurd cc
 
-content_ends : (rest : List ℕ) → ends_run rest ≡ true → (front_without is_raw section_end rest ≡ []) × (after_without is_raw section_end rest ≡ rest)
+content_ends : (rest : List ℕ) → ends_run 60 rest ≡ true → (front_without is_raw section_end rest ≡ []) × (after_without is_raw section_end rest ≡ rest)
 content_ends [] h = absurd cc
 content_ends (c ∷ cs) h = content_ends_by c cs (nat_eq c 60) (nat_eq c 38) refl refl h
 
-pub plain_chars : (text front rest : List ℕ) → text ≡ front ++ rest → list_all is_plain_in_content front ≡ true → ends_run rest ≡ true → read_chars text ≡ Ok (front, rest)
+pub plain_chars : (text front rest : List ℕ) → text ≡ front ++ rest → list_all is_plain_in_content front ≡ true → ends_run 60 rest ≡ true → read_chars text ≡ Ok (front, rest)
 plain_chars text front rest whole h e =
     let none = content_ends rest e in
     let stands = λ (c : ℕ) (i : is_plain_in_content c ≡ true). (plain_inner c i).stands in
@@ -175,7 +175,7 @@ plain_chars text front rest whole h e =
 pub chars_onto : (tree : Tree) (text cs rest : List ℕ) → read_chars text ≡ Ok (cs, rest) → read_chars_onto tree text ≡ Ok (with_chars tree cs, rest)
 chars_onto tree text cs rest h = ap (λ (r : Result (List ℕ × List ℕ) (Stop Kind)). r >>= λ x. let z : Tree × List ℕ = (with_chars tree x.0, x.1) in Ok z) h
 
-pub nothing_onto : (tree : Tree) (text : List ℕ) → ends_run text ≡ true → read_chars_onto tree text ≡ Ok (tree, text)
+pub nothing_onto : (tree : Tree) (text : List ℕ) → ends_run 60 text ≡ true → read_chars_onto tree text ≡ Ok (tree, text)
 nothing_onto tree text e =
     chars_onto tree text [] text (plain_chars text [] text refl refl e)
     ∙ ap (λ (k : Content). let z : Tree × List ℕ = (record tree { content = k }, text) in Ok z) (with_text-nil tree.content)
@@ -191,14 +191,14 @@ value_ends_by quote c cs true b i j h = rw i (never (is_raw c))
 value_ends_by quote c cs false true i j h = let z = eqb-true c 38 j in rw z refl
 value_ends_by quote c cs false false i j h = absurd cc
 
-value_ends : (quote : ℕ) (rest : List ℕ) → ends_run_in quote rest ≡ true → (front_of (is_raw_in quote) rest ≡ []) × (after_front (is_raw_in quote) rest ≡ rest)
+value_ends : (quote : ℕ) (rest : List ℕ) → ends_run quote rest ≡ true → (front_of (is_raw_in quote) rest ≡ []) × (after_front (is_raw_in quote) rest ≡ rest)
 value_ends quote [] h = absurd cc
 value_ends quote (c ∷ cs) h = by (is_raw_in quote) (value_ends_by quote c cs (nat_eq c quote) (nat_eq c 38) refl refl h)
   where
     by : (p : ℕ → Bool) → p c ≡ false → (front_of p (c ∷ cs) ≡ []) × (after_front p (c ∷ cs) ≡ c ∷ cs)
     by p i = rw i (refl, refl)
 
-pub plain_blanked : (quote : ℕ) (text front rest : List ℕ) → text ≡ front ++ rest → list_all (is_plain_in_value quote) front ≡ true → ends_run_in quote rest ≡ true → read_blanked quote text ≡ Ok (front, rest)
+pub plain_blanked : (quote : ℕ) (text front rest : List ℕ) → text ≡ front ++ rest → list_all (is_plain_in_value quote) front ≡ true → ends_run quote rest ≡ true → read_blanked quote text ≡ Ok (front, rest)
 plain_blanked quote text front rest whole h e =
     let none = value_ends quote rest e in
     ap (read_blanked quote) whole ∙ answer raw _ _ front rest front

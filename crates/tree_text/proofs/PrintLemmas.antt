@@ -19,37 +19,9 @@ set_value a v c d = append_assoc ((a ++ c ∷ []) ++ d ∷ []) v (d ∷ []) ∙ 
 
 -- texts of the code, read as characters
 
-pub letters_amp : chars (38 ∷ 97 ∷ 109 ∷ 112 ∷ 59 ∷ []) ≡ 38 ∷ 97 ∷ 109 ∷ 112 ∷ 59 ∷ []
-unfolding chars
-letters_amp = refl
-
-pub letters_lt : chars (38 ∷ 108 ∷ 116 ∷ 59 ∷ []) ≡ 38 ∷ 108 ∷ 116 ∷ 59 ∷ []
-unfolding chars
-letters_lt = refl
-
-pub letters_gt : chars (38 ∷ 103 ∷ 116 ∷ 59 ∷ []) ≡ 38 ∷ 103 ∷ 116 ∷ 59 ∷ []
-unfolding chars
-letters_gt = refl
-
-pub letters_quot : chars (38 ∷ 113 ∷ 117 ∷ 111 ∷ 116 ∷ 59 ∷ []) ≡ 38 ∷ 113 ∷ 117 ∷ 111 ∷ 116 ∷ 59 ∷ []
-unfolding chars
-letters_quot = refl
-
 pub letters_apos : chars (38 ∷ 97 ∷ 112 ∷ 111 ∷ 115 ∷ 59 ∷ []) ≡ 38 ∷ 97 ∷ 112 ∷ 111 ∷ 115 ∷ 59 ∷ []
 unfolding chars
 letters_apos = refl
-
-pub letters_tab : chars (38 ∷ 35 ∷ 120 ∷ 57 ∷ 59 ∷ []) ≡ 38 ∷ 35 ∷ 120 ∷ 57 ∷ 59 ∷ []
-unfolding chars
-letters_tab = refl
-
-pub letters_lf : chars (38 ∷ 35 ∷ 120 ∷ 65 ∷ 59 ∷ []) ≡ 38 ∷ 35 ∷ 120 ∷ 65 ∷ 59 ∷ []
-unfolding chars
-letters_lf = refl
-
-pub letters_cr : chars (38 ∷ 35 ∷ 120 ∷ 68 ∷ 59 ∷ []) ≡ 38 ∷ 35 ∷ 120 ∷ 68 ∷ 59 ∷ []
-unfolding chars
-letters_cr = refl
 
 pub letters_xmlns : chars (120 ∷ 109 ∷ 108 ∷ 110 ∷ 115 ∷ []) ≡ 120 ∷ 109 ∷ 108 ∷ 110 ∷ 115 ∷ []
 unfolding chars
@@ -75,7 +47,7 @@ pub letters_header : chars (codes "<?xml version=\"1.0\" encoding=\"UTF-8\"?>\n"
 unfolding chars
 letters_header = refl
 
-pub ruleset literals = (letters_amp, letters_lt, letters_gt, letters_quot, letters_apos, letters_tab, letters_lf, letters_cr, letters_xmlns, letters_xmlns_colon, letters_empty_end, letters_comment_start, letters_comment_end, letters_header)
+pub ruleset literals = (letters_apos, letters_xmlns, letters_xmlns_colon, letters_empty_end, letters_comment_start, letters_comment_end, letters_header)
 
 -- ---- nodes and elements
 

@@ -44,10 +44,6 @@ is_plain_in_content c = within 94 126 c || c == 32 || c == 10 || within 61 92 c 
 abbrev pub is_plain_in_value : ℕ → ℕ → Bool
 is_plain_in_value quote c = not (c == quote) && (within 39 59 c || within 32 37 c || within 61 126 c)
 
--- whether a `<` or a `&` follows, which ends a run of content
-abbrev pub ends_run : List ℕ → Bool
-ends_run text = head_is (λ c. c == 60 || c == 38) text
-
--- whether the quote or a `&` follows, which ends a run in a value
-abbrev pub ends_run_in : ℕ → List ℕ → Bool
-ends_run_in quote text = head_is (λ c. c == quote || c == 38) text
+-- whether this character or a `&` follows: a `<` ends a run of content so, and the quote one in a value
+abbrev pub ends_run : ℕ → List ℕ → Bool
+ends_run end text = head_is (λ c. c == end || c == 38) text

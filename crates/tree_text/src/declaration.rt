@@ -1,24 +1,18 @@
 //! The XML declaration and the byte order mark, which may stand before everything else.
 ghost use Rattle.std.specs.Prelude.{◌≡◌, true, false, option_map, Ok};
 ghost use Rattle.grammar_rules.specs.Digits.{is_digit};
-ghost use Rattle.grammar_rules.specs.Reading.{read_some_of};
 ghost use Rattle.tree_text.specs.Gives.{Gives};
 ghost use Rattle.tree_text.specs.Grammar.{is_letter, is_encoding_char, is_our_encoding};
 ghost use Rattle.tree_text.specs.Reading.{letter_follows, read_version_number, read_encoding_name, read_yes_or_no, read_version, read_encoding, read_standalone, read_encoding_if, read_standalone_if, read_xml_declaration, declaration_follows, read_declaration, read_declaration_if, read_mark_if};
 ghost use Rattle.tree_text.specs.Runs.{run_len};
 
+use crate::digit_runs::{digits, is_digit};
 use crate::kind::Kind;
 use crate::parts::{equals, some_spaces, spaces, starts_with_space, word};
 use crate::places::before;
 use crate::runs::{same_letters, starts};
 use crate::stop::Stop;
 use crate::values::quote;
-
-fn is_digit(c: char) -> bool
-    ensures { result ≡ is_digit c }
-{
-    matches!(c, '0'..='9')
-}
 
 fn is_letter(c: char) -> bool
     ensures { result ≡ is_letter c }
@@ -34,20 +28,6 @@ fn is_encoding_char(c: char) -> bool
 }
 
 #[tactic(auto, using(crate::proofs::RunLemmas::run_more, crate::proofs::RunLemmas::run_done))]
-fn digits_len(text: &[char]) -> usize
-    ensures { result ≡ run_len is_digit text.now }
-{
-    let mut len = 0;
-    for &c in text {
-        if !is_digit(c) {
-            return len;
-        }
-        len += 1;
-    }
-    len
-}
-
-#[tactic(auto, using(crate::proofs::RunLemmas::run_more, crate::proofs::RunLemmas::run_done))]
 fn encoding_len(text: &[char]) -> usize
     ensures { result ≡ run_len is_encoding_char text.now }
 {
@@ -59,17 +39,6 @@ fn encoding_len(text: &[char]) -> usize
         len += 1;
     }
     len
-}
-
-/// One or more digits, and what follows them.
-fn digits(text: &[char]) -> Result<(&[char], &[char]), Stop<'_>>
-    ensures { Gives (λ x. (x.0.now, x.1.now)) result (read_some_of is_digit text.now) }
-{
-    let len = digits_len(text);
-    if len == 0 {
-        return Err(Stop::Syntax(text));
-    }
-    Ok(text.split_at(len))
 }
 
 /// What follows a version number.

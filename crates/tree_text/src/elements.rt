@@ -8,7 +8,6 @@ ghost use Rattle.tree_text.specs.Gives.{Gives, Fails};
 ghost use Rattle.tree_text.specs.Members.{read_chars_onto, read_onto, read_child, read_filled, read_filled_behind};
 ghost use Rattle.tree_text.specs.Names.{attrs_of, counted_back, first_of_tag, opening, widths};
 ghost use Rattle.tree_text.specs.Reading.{markup_follows, read_tag, read_element};
-ghost use Rattle.tree_text.specs.Runs.{ends_run};
 ghost use Rattle.tree_text.specs.Views.{name_in, tag_in};
 
 use crate::bindings::Bindings;
@@ -23,7 +22,7 @@ use crate::said::Said;
 use crate::stop::Stop;
 use crate::tags::{Tag, whole_tag};
 use crate::texts::text_of;
-use crate::values::reference;
+use crate::values::{ends_run, reference};
 use crate::written::{end_tag, owned};
 use std::alloc::{AllocError, Global};
 use xml_tree::{Attr, Decl, Element, Name};
@@ -57,13 +56,6 @@ fn push_char(alloc: Global, element: &mut Element, c: char) -> Result<(), AllocE
     element.push_text(text_of(alloc, &[c])?)
 }
 
-/// Whether a `<` or a `&` follows, which ends a run.
-fn ends_run(text: &[char]) -> bool
-    ensures { result ≡ ends_run text.now }
-{
-    matches!(text, ['<', ..] | ['&', ..])
-}
-
 /// Adds a run of raw characters to content, as they are read, and answers what follows.
 fn push_mixed<'a>(
     alloc: Global,
@@ -85,12 +77,12 @@ fn push_run<'a>(
 ) -> Result<&'a [char], AllocError>
     ensures { IfOk result (λ rest. read_chars_onto element.old text.now ≡ Ok (element.new, rest.now)) }
 {
-    if ends_run(text) {
+    if ends_run(text, '<') {
         return Ok(text);
     }
     let mut bytes = [0; 64];
     let (plain, rest) = plain_in_content(text, &mut bytes);
-    if ends_run(rest) {
+    if ends_run(rest, '<') {
         element.push_chars(plain)?;
         return Ok(rest);
     }

@@ -6,6 +6,7 @@
 mod bindings;
 mod bodies;
 mod declaration;
+mod digit_runs;
 mod elements;
 mod fault;
 mod fronts;
@@ -23,8 +24,6 @@ mod runs;
 mod said;
 mod stop;
 mod tags;
-#[cfg(test)]
-mod tests;
 mod texts;
 mod values;
 mod written;
@@ -37,7 +36,8 @@ pub use print_laws::{
 pub use printing::{print_att_value, print_document, print_element};
 pub use reading::{read_document, read_fragment};
 
-// The parts that the grammar of selectors shares: words, names, references and the raw characters of values.
+// The parts that the grammar of selectors shares: words, digits, names, references and the raw characters of values.
+pub use digit_runs::digits;
 pub use kind::Kind;
 pub use parts::word;
 pub use stop::Stop;

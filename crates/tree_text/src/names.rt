@@ -14,22 +14,15 @@ use crate::kind::Kind;
 use crate::meanings::{Meaning, meaning_of};
 use crate::said::Said;
 use crate::tags::Tag;
-use crate::texts::no_text;
 use std::alloc::{AllocError, Global};
 use std::collections::BTreeSet;
-use xml_tree::{Decl, Name, Text};
+use xml_tree::{Decl, Name, Text, is_xml};
 
 /// Whether a text is empty.
 pub fn is_nothing(text: &Text) -> bool
     ensures { result ≡ bytes_eq text.now [] }
 {
     text.is("")
-}
-
-fn is_xml(text: &Text) -> bool
-    ensures { result ≡ bytes_eq text.now xml_prefix }
-{
-    text.is("xml")
 }
 
 fn is_xmlns(text: &Text) -> bool
@@ -111,7 +104,7 @@ fn fits_xml(prefix: &Text, uri: &Text) -> bool
     ensures { result ≡ (if bytes_eq prefix.now xml_prefix then bytes_eq uri.now xml_uri else not (bytes_eq uri.now xml_uri)) }
 {
     let own = is_xml_uri(uri);
-    if is_xml(prefix) { own } else { !own }
+    if is_xml(prefix.as_str()) { own } else { !own }
 }
 
 /// Whether a declaration may stand.

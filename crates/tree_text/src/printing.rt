@@ -7,52 +7,36 @@ use crate::names::is_nothing;
 use crate::texts::no_text;
 use std::alloc::{AllocError, Global};
 use xcap_io::Bytes;
-use xml_tree::{Attr, Decl, Element, Name, Node, Text};
+use xml_tree::{Attr, Decl, Element, Name, Node, Text, text_reference, value_reference};
 
 /// Adds a character of a text.
-#[tactic(auto, using(crate::proofs::PrintLemmas::literals))]
 fn push_text_char(out: &mut Text, c: char) -> Result<(), AllocError>
     ensures { OnOk result (out.new ≡ out.old ++ text_escape c) }
 {
-    match c {
-        '&' => out.push_str("&amp;"),
-        '<' => out.push_str("&lt;"),
-        '>' => out.push_str("&gt;"),
-        '\r' => out.push_str("&#xD;"),
-        _ => out.push(c),
+    match text_reference(c) {
+        Some(reference) => out.push_str(reference),
+        None => out.push(c),
     }
 }
 
 /// Adds a character of a value in quotes.
-#[tactic(auto, using(crate::proofs::PrintLemmas::literals))]
 fn push_value_char(out: &mut Text, c: char) -> Result<(), AllocError>
     ensures { OnOk result (out.new ≡ out.old ++ value_escape c) }
 {
-    match c {
-        '&' => out.push_str("&amp;"),
-        '<' => out.push_str("&lt;"),
-        '"' => out.push_str("&quot;"),
-        '\t' => out.push_str("&#x9;"),
-        '\n' => out.push_str("&#xA;"),
-        '\r' => out.push_str("&#xD;"),
-        _ => out.push(c),
+    match value_reference(c) {
+        Some(reference) => out.push_str(reference),
+        None => out.push(c),
     }
 }
 
-/// Adds a character of a body.
+/// Adds a character of a body, which may stand in either quotes.
 #[tactic(auto, using(crate::proofs::PrintLemmas::literals))]
 fn push_body_char(out: &mut Text, c: char) -> Result<(), AllocError>
     ensures { OnOk result (out.new ≡ out.old ++ body_escape c) }
 {
     match c {
-        '&' => out.push_str("&amp;"),
-        '<' => out.push_str("&lt;"),
-        '"' => out.push_str("&quot;"),
         '\'' => out.push_str("&apos;"),
-        '\t' => out.push_str("&#x9;"),
-        '\n' => out.push_str("&#xA;"),
-        '\r' => out.push_str("&#xD;"),
-        _ => out.push(c),
+        _ => push_value_char(out, c),
     }
 }
 

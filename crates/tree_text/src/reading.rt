@@ -8,7 +8,6 @@ ghost use Rattle.tree_text.specs.Faults.{Unless, FaultOf, TextAnswer, text_read}
 ghost use Rattle.tree_text.specs.Gives.{GivesAll};
 ghost use Rattle.tree_text.specs.Reading.{read_text};
 ghost use Rattle.tree_text.specs.declared.fault.TextFault.TheVariants as texts;
-ghost use Rattle.tree_text.specs.declared.fault.ValueFault.TheVariants as bodies;
 
 use crate::bindings::Bindings;
 use crate::declaration::{declaration_if, mark_if};

@@ -4,7 +4,7 @@ ghost use Rattle.grammar_rules.specs.Reading.{read_one, read_number};
 ghost use Rattle.xml_tree.specs.Characters.{is_char};
 ghost use Rattle.tree_text.specs.Gives.{Gives};
 ghost use Rattle.std.specs.List.{list_all};
-ghost use Rattle.tree_text.specs.Runs.{is_frequent, is_smooth, run_len, ends_run_in};
+ghost use Rattle.tree_text.specs.Runs.{is_frequent, is_smooth, run_len, ends_run};
 ghost use Rattle.tree_text.specs.Pieces.{line_char, with_char, blank, raw};
 ghost use Rattle.tree_text.specs.Members.{read_blanked};
 ghost use Rattle.tree_text.specs.Views.{digits_of};
@@ -259,12 +259,12 @@ pub fn push_piece(value: &mut Text, c: char, run: &[char]) -> Result<(), AllocEr
     push_raw(value, run)
 }
 
-/// Whether the quote or a `&` follows, which ends a run.
-fn ends_run(text: &[char], quote: char) -> bool
-    ensures { result ≡ ends_run_in quote text.now }
+/// Whether this character or a `&` follows, which ends a run: a `<` in content, the quote in a value.
+pub fn ends_run(text: &[char], end: char) -> bool
+    ensures { result ≡ ends_run end text.now }
 {
     match text {
-        [c, ..] => *c == quote || *c == '&',
+        [c, ..] => *c == end || *c == '&',
         [] => false,
     }
 }

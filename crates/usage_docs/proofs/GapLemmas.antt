@@ -4,7 +4,7 @@ use Rattle.std.proofs.lemmas.Option.{same_Some}
 use Rattle.std.specs.Option.{ForSome}
 use Rattle.xml_tree.specs.Tree.{Content, last, more, note, Tree, tree_of, kids}
 use Rattle.xml_tree.specs.Edits.{put, change, put_in}
-use Rattle.usage_docs.specs.declared.rows.Usage.{Usage}
+use Rattle.doc_names.specs.declared.usages.Usage.{Usage}
 use Rattle.usage_docs.specs.declared.rows.Kind.{Kind}
 use Rattle.usage_docs.specs.Rows.{Scope, kind_of, part_of, follows, root_kind}
 use Rattle.usage_docs.specs.Keys.{attrs_pass}

@@ -1,6 +1,6 @@
 -- The printed length of what is bound inside an element, by that of what is bound around it and of what it binds; and of services
 -- as the index shows them.
-use Rattle.std.proofs.Common.{◌≡◌, Ordering, Less, Equal, Greater, ℕ, ◌+◌, ◌<◌, min, Bool, true, false, cond, not, List, [], ◌∷◌, ◌++◌, length, get_or, drop, filter, flat_map, Option, Some, None, is_some, is_none, option_copied, Bor, bytes_eq, refl, sym, ap, ◌∙◌, append-nil, arith}
+use Rattle.std.proofs.Common.{◌≡◌, Ordering, Less, Equal, Greater, ℕ, ◌+◌, ◌<◌, min, Bool, true, false, cond, List, [], ◌∷◌, ◌++◌, length, get_or, drop, filter, flat_map, Option, Some, None, is_none, bytes_eq, refl, sym, ap, ◌∙◌, append-nil, arith}
 use Rattle.std.proofs.lemmas.List.Concat.{flat_map-append}
 use Rattle.std.proofs.lemmas.List.Elements.{filter-append}
 use Rattle.std.specs.Cmp.Lexicographic.{bytes_decides}
@@ -21,7 +21,7 @@ use Rattle.xml_tree.proofs.ScopeLemmas.{drop_item, option_or-none}
 use Rattle.usage_docs.specs.Rows.{Scope}
 use Rattle.usage_docs.specs.Services.{listed_as}
 use Rattle.usage_docs.specs.Listing.{elems_len, listed_nodes}
-use Rattle.usage_docs.specs.Lengths.{decls_len, kept}
+use Rattle.usage_docs.specs.Lengths.{decls_len}
 use Rattle.usage_docs.proofs.ListingLemmas.{listed_step}
 
 -- ---- sums
@@ -49,43 +49,27 @@ module _ (m : ℕ) where
 decls_two : (a b : List Decl) → decls_len (a ++ b) ≡ decls_len a + decls_len b
 decls_two a b = ap byte_len (flat_map-append print_decl a b) ∙ byte_len-append (flat_map print_decl a) (flat_map print_decl b)
 
+pub first_more : (d : Decl) (ds : List Decl) → decls_len (d ∷ ds) ≡ byte_len (print_decl d) + decls_len ds
+first_more d ds = byte_len-append (print_decl d) (flat_map print_decl ds)
+
+pub only_one : (d : Decl) → decls_len (d ∷ []) ≡ byte_len (print_decl d)
+only_one d = first_more d [] ∙ sym (zero_behind (byte_len (print_decl d)))
+
 -- that of an element without its declarations, and of these
 whole_opening : (w b o p e d x y : ℕ) → w ≡ o + e → b ≡ p + e → o ≡ x + (d + y) + 1 → p ≡ x + (0 + y) + 1 → w ≡ b + d
 whole_opening w b o p e d x y whole bare begins alone = omega arith
 
-with_decls : (n : Name) (ds : List Decl) (ats : List Attr) (k : Content) → byte_len (print (tree_of n ds ats k)) ≡ byte_len (print (tree_of n [] ats k)) + decls_len ds
+pub with_decls : (n : Name) (ds : List Decl) (ats : List Attr) (k : Content) → byte_len (print (tree_of n ds ats k)) ≡ byte_len (print (tree_of n [] ats k)) + decls_len ds
 with_decls n ds ats k =
     let end = ending n (is_empty k) (print_content k) in
     whole_opening _ _ _ _ _ _ _ _ (byte_len-append (opening n ds ats) end) (byte_len-append (opening n [] ats) end) (byte_len-opening n ds ats) (byte_len-opening n [] ats)
 
--- ---- what is kept of some bindings, in a loop over them
-module _ (own bs : List Decl) (i : ℕ) (b : Decl) (within : i < length bs) (is : b ≡ get_or bs i b) where
-  abbrev rest : List Decl
-  rest = drop (i + 1) bs
-
-  next_kept : (hides : Bool) → is_none (declared own b.prefix) ≡ hides → decls_len (kept own (drop i bs)) ≡ decls_len (cond hides (b ∷ kept own rest) (kept own rest))
-  next_kept hides e = ap (λ (ds : List Decl). decls_len (kept own ds)) (drop_item bs i b within is) ∙ ap (λ (h : Bool). decls_len (cond h (b ∷ kept own rest) (kept own rest))) e
-
-  pub one_kept : is_none (declared own b.prefix) ≡ true → decls_len (kept own (drop i bs)) ≡ byte_len (print_decl b) + decls_len (kept own rest)
-  one_kept e = next_kept true e ∙ byte_len-append (print_decl b) (flat_map print_decl (kept own rest))
-
-  pub one_hidden : is_none (declared own b.prefix) ≡ false → decls_len (kept own (drop i bs)) ≡ decls_len (kept own rest)
-  one_hidden e = next_kept false e
-
--- what a look-up says
-copied : (o : Option (Bor (List ℕ))) → is_some (option_copied o) ≡ is_some o
-copied None = refl
-copied (Some x) = refl
-
-twice : (b : Bool) → not (not b) ≡ b
-twice true = refl
-twice false = refl
-
-pub looked_up : (o : Option (Bor (List ℕ))) (u : Option (List ℕ)) (none b : Bool) → option_copied o ≡ u → is_some o ≡ not none → none ≡ b → is_none u ≡ b
-looked_up o u none b is tested e = ap is_none (sym is) ∙ ap not (copied o ∙ tested) ∙ twice none ∙ e
+-- ---- the bindings whose prefixes declarations leave alone
+abbrev pub kept : List Decl → List Decl → List Decl
+kept own bs = filter (λ b. is_none (declared own b.prefix)) bs
 
 -- no declarations hide nothing
-pub all_kept : (bs : List Decl) → kept [] bs ≡ bs
+all_kept : (bs : List Decl) → kept [] bs ≡ bs
 all_kept [] = refl
 all_kept (b ∷ bs) = ap (λ (ds : List Decl). b ∷ ds) (all_kept bs)
 
@@ -130,7 +114,7 @@ module _ (d : Decl) (ds : List Decl) where
   none_left : (x : Decl) → bytes_eq d.prefix x.prefix ≡ true → left (d ∷ ds) (x ∷ []) ≡ 0
   none_left x e = failed_test x (λ (y : Decl). is_none (declared (d ∷ ds) y.prefix)) (tested x true e ∙ hidden (declared ds x.prefix))
 
-unlike : (p q : List ℕ) → (order p q ≡ Equal → ⊥) → bytes_eq p q ≡ false
+pub unlike : (p q : List ℕ) → (order p q ≡ Equal → ⊥) → bytes_eq p q ≡ false
 unlike p q apart = by (bytes_eq p q) refl
   where
     by : (b : Bool) → bytes_eq p q ≡ b → b ≡ false
@@ -198,11 +182,12 @@ plain_service root e h =
     ∙ ap (λ (ds : List Decl). byte_len (print (tree_of e.name ds e.attrs e.content)) + decls_len (bindings_in (root ∷ []))) (sym none)
 
 -- one with declarations, by what it is without them
-pub own_service : (root : List Decl) (e bare : Tree) → bare ≡ tree_of e.name [] e.attrs e.content
-    → byte_len (print (listed_as (root ∷ []) e)) ≡ byte_len (print bare) + decls_len (bindings_in (root ∷ e.decls ∷ []))
-own_service root e bare is =
-    let inside = bindings_in (root ∷ e.decls ∷ []) in
-    with_decls e.name inside e.attrs e.content ∙ ap (λ (t : Tree). byte_len (print t) + decls_len inside) (sym is)
+pub own_service : (root : List Decl) (e : Tree)
+    → byte_len (print (listed_as (root ∷ []) e))
+    ≡ byte_len (print (tree_of e.name [] e.attrs e.content)) + (decls_len (kept e.decls (bindings_in (root ∷ []))) + decls_len (bindings_in (e.decls ∷ [])))
+own_service root e =
+    with_decls e.name (bindings_in (root ∷ e.decls ∷ [])) e.attrs e.content
+    ∙ ap (λ (n : ℕ). byte_len (print (tree_of e.name [] e.attrs e.content)) + n) (bound_inside root e.decls)
 
 -- ---- the services among nodes
 elems_append : (ms ns : List Node) → elems_len (ms ++ ns) ≡ elems_len ms + elems_len ns

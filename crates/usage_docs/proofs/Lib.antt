@@ -2,6 +2,7 @@ pub mod Addresses
 pub mod CapabilitiesText
 pub mod ClashLemmas
 pub mod GapLemmas
+pub mod HiddenLemmas
 pub mod LengthLemmas
 pub mod ListingLemmas
 pub mod MarkLemmas

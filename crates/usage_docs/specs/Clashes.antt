@@ -2,7 +2,7 @@
 -- two usages).
 use Rattle.std.specs.Prelude.{◌≡◌, ℕ, ◌<◌, ◌⊎◌, List, [], ◌∷◌, ◌++◌, Option, None, Some, option_map, option_and_then, slice_get}
 use Rattle.xml_tree.specs.Tree.{Tree, kids_of}
-use Rattle.usage_docs.specs.declared.rows.Usage.{Usage}
+use Rattle.doc_names.specs.declared.usages.Usage.{Usage}
 use Rattle.usage_docs.specs.declared.rows.Kind.{Kind}
 use Rattle.usage_docs.specs.declared.rows.Key.{Key}
 use Rattle.usage_docs.specs.declared.keys.Clash.{Clash}

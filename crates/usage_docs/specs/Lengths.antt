@@ -1,5 +1,6 @@
 -- The printed length of bindings.
-use Rattle.std.specs.Prelude.{◌≡◌, ℕ, min, List, [], ◌∷◌, filter, flat_map, is_none}
+use Rattle.std.specs.Prelude.{◌≡◌, ℕ, min, List, [], ◌∷◌, filter, flat_map, is_some}
+use Rattle.std.specs.Str.{bytes_eq}
 use Rattle.xml_tree.specs.Print.{print_decl, byte_len}
 use Rattle.xml_tree.specs.Scopes.{bindings_in, declared}
 use Rattle.xml_tree.specs.declared.names.Decl.{Decl}
@@ -9,9 +10,13 @@ use Rattle.usage_docs.specs.declared.lengths.Outer.{Outer}
 abbrev pub decls_len : List Decl → ℕ
 decls_len ds = byte_len (flat_map print_decl ds)
 
--- the bindings whose prefixes these declarations leave alone
-abbrev pub kept : List Decl → List Decl → List Decl
-kept own bs = filter (λ b. is_none (declared own b.prefix)) bs
+-- the bindings whose prefixes these declarations declare anew
+abbrev pub hidden : List Decl → List Decl → List Decl
+hidden own bs = filter (λ b. is_some (declared own b.prefix)) bs
+
+-- the bindings of a prefix
+abbrev pub binding_of : List ℕ → List Decl → List Decl
+binding_of p bs = filter (λ b. bytes_eq p b.prefix) bs
 
 -- what is kept of a root is what it binds, and the length of that
 pub record CountsFrom (outer : Outer) : Type 0 where

@@ -23,8 +23,8 @@ use Rattle.std.specs.Option.{option_map_or}
 use Rattle.xml_tree.specs.Scopes.{bound}
 use Rattle.xml_tree.specs.declared.names.Name.{Name}
 use Rattle.xml_tree.specs.declared.names.Decl.{Decl}
-use Rattle.usage_docs.specs.declared.rows.Usage.{Usage}
-use Rattle.usage_docs.specs.declared.rows.Usage.TheVariants as usage
+use Rattle.doc_names.specs.declared.usages.Usage.{Usage}
+use Rattle.doc_names.specs.declared.usages.Usage.TheVariants as usage
 use Rattle.usage_docs.specs.declared.rows.Kind.{Kind}
 use Rattle.usage_docs.specs.declared.rows.Kind.TheVariants.{ResourceLists, EntryList, Entry, EntryRef, External, DisplayName, RlsServices, Service, ResourceList, Packages, Package}
 

@@ -7,7 +7,7 @@ use Rattle.xml_tree.specs.Characters.{is_space}
 use Rattle.xml_tree.specs.Tree.{Content, last, more, note, Tree}
 use Rattle.xml_tree.specs.declared.tree.Node.{Node}
 use Rattle.xml_tree.specs.declared.tree.Node.TheVariants.{Elem, Chars, Comment}
-use Rattle.usage_docs.specs.declared.rows.Usage.{Usage}
+use Rattle.doc_names.specs.declared.usages.Usage.{Usage}
 use Rattle.usage_docs.specs.declared.rows.Kind.{Kind}
 use Rattle.usage_docs.specs.declared.rows.Kind.TheVariants.{ResourceLists, EntryList, Entry, EntryRef, External, DisplayName, RlsServices, Service, ResourceList, Packages, Package}
 use Rattle.usage_docs.specs.Rows.{Scope, kind_of, part_of, follows, end, root_kind, is_root}

@@ -1,5 +1,5 @@
 //! The attributes of the table's elements, and the keys among them (RFC 4826, sections 3.2 and 4.2).
-ghost use Rattle.std.specs.Prelude.{◌≡◌, Some, None, IsTrue, chars, option_map, if◌then◌else◌, is_some, unwrap_or, not};
+ghost use Rattle.std.specs.Prelude.{◌≡◌, Some, None, IsTrue, chars, option_map, is_some};
 ghost use Rattle.std.specs.List.{list_all};
 ghost use Rattle.usage_docs.specs.Words.{is_ascii};
 ghost use Rattle.usage_docs.specs.Keys.{word, key_of, is_optional, is_key, value_of, key_value, is_other_space, attr_passes, has_needed, attrs_pass, space_of_attr, is_own_word};

@@ -8,8 +8,8 @@ ghost use Rattle.usage_docs.specs.Forms.{is_http, is_reference, is_formed, AllFo
 
 use crate::attributes::value_of;
 use crate::letters::{is_http, is_http_inside, is_reference};
-use crate::rows::{Key, Kind, Usage, kind_of, root_kind};
-use crate::scopes::scope_inside;
+use crate::rows::{Key, Kind, kind_of, root_kind};
+use doc_names::Usage;
 use std::alloc::Global;
 use xml_tree::{Around, Attr, Declared, Element, NoMemory, Node};
 
@@ -96,7 +96,7 @@ fn is_kid_formed(
     ensures { IfOk result (λ formed. IsTrue formed ↔ IsNodeFormed row scope.now (Elem kid.now)) }
 {
     let declared = Declared::indexed(alloc, kid.decls())?;
-    let inside = scope_inside(&*scope, &declared);
+    let inside = (&*scope).inside(&declared);
     let Some(kind) = kind_of(row, &inside, kid.name()) else {
         return Ok(true);
     };
@@ -117,7 +117,7 @@ pub fn constraints(alloc: Global, usage: Usage, root: &Element) -> Result<bool, 
     all_formed(
         alloc,
         root_kind(usage),
-        &scope_inside(&Around::empty(), &declared),
+        &Around::empty().inside(&declared),
         root,
     )
 }

@@ -2,7 +2,7 @@
 ghost use Rattle.std.specs.Prelude.{ℕ, List, [], ◌∷◌, ◌↔◌};
 ghost use Rattle.xml_tree.specs.Tree.{Tree};
 ghost use Rattle.xml_tree.specs.Edits.{put_in};
-ghost use Rattle.usage_docs.specs.declared.rows.Usage.{Usage};
+ghost use Rattle.doc_names.specs.declared.usages.Usage.{Usage};
 ghost use Rattle.usage_docs.specs.Rows.{root_kind};
 ghost use Rattle.usage_docs.specs.Validity.{Schema};
 ghost use Rattle.usage_docs.specs.Gaps.{FitsBelow, GapThere};

@@ -1,12 +1,12 @@
 //! Keys that repeat those of siblings (RFC 4826, sections 3.2 and 4.2).
-ghost use Rattle.std.specs.Prelude.{◌≡◌, ◌≤◌, ◌+◌, ◌∷◌, List, [], ◌++◌, ◌↔◌, length, chars, IsTrue, None, IfOk, OnOk, not};
+ghost use Rattle.std.specs.Prelude.{◌≡◌, ◌≤◌, ◌+◌, ◌∷◌, List, [], ◌++◌, ◌↔◌, length, IsTrue, None, IfOk, OnOk, not};
 ghost use Rattle.xml_tree.specs.Tree.{height, content_height, kids_of};
 ghost use Rattle.usage_docs.specs.Clashes.{Mark, mark, RepeatsAt, IsFirstClash};
 ghost use Rattle.usage_docs.specs.Siblings.{IsAmong, Holds, marks_of, own_marks, RepeatedKey, RepeatsHere, IsFirst};
 
 use crate::attributes::{key_of, text_of};
-use crate::rows::{Key, Kind, Usage, kind_of, root_kind};
-use crate::scopes::scope_inside;
+use crate::rows::{Key, Kind, kind_of, root_kind};
+use doc_names::Usage;
 use std::alloc::Global;
 use std::collections::BTreeSet;
 use xml_tree::{Around, Attr, Declared, Element, NoMemory, Node, Path, Text};
@@ -76,7 +76,7 @@ fn clash_at<'a>(
     ensures holds { (ms : List Mark) → Holds ms seen.old → IfOk result (λ found. found ≡ None → Holds (ms ++ marks_of row scope.now (kid.now ∷ [])) seen.new) }
 {
     let declared = Declared::indexed(alloc, kid.decls())?;
-    let inside = scope_inside(&*scope, &declared);
+    let inside = (&*scope).inside(&declared);
     let Some(kind) = kind_of(row, &inside, kid.name()) else {
         return Ok(None);
     };
@@ -126,7 +126,7 @@ pub fn first_clash(alloc: Global, usage: Usage, root: &Element) -> Result<Option
     clash_inside(
         alloc,
         root_kind(usage),
-        &scope_inside(&Around::empty(), &declared),
+        &Around::empty().inside(&declared),
         root,
         &Path::root(),
     )

@@ -1,17 +1,17 @@
 //! The length of services as the index shows them, which is counted before they are made.
 ghost use Rattle.std.specs.Prelude.{◌≡◌, [], ◌∷◌, map, min, IfOk};
 ghost use Rattle.xml_tree.specs.Print.{print, byte_len};
-ghost use Rattle.xml_tree.specs.Scopes.{bindings_in};
+ghost use Rattle.xml_tree.specs.Scopes.{AreInOrder};
 ghost use Rattle.xml_tree.specs.declared.tree.Node.TheVariants.{Elem};
 ghost use Rattle.usage_docs.specs.Services.{listed, listed_as};
 ghost use Rattle.usage_docs.specs.Listing.{elems_len, listed_nodes};
-ghost use Rattle.usage_docs.specs.Lengths.{CountsFrom, decls_len, kept};
+ghost use Rattle.usage_docs.specs.Lengths.{CountsFrom, binding_of, decls_len, hidden};
 
-use crate::listing::is_service;
-use crate::scopes::scope_inside;
+use crate::listing::{is_service, listed_as};
 use std::alloc::Global;
+use std::collections::BTreeSet;
 use xml_tree::{
-    Around, Decl, Declared, Element, NoMemory, Node, Scope, copy_tree, decl_len, printed_len,
+    Around, Decl, Declared, Element, NoMemory, Node, Scope, Text, decl_len, decls_len, printed_len,
 };
 
 /// The root of a document whose services are counted.
@@ -32,7 +32,7 @@ impl<'a> Outer<'a> {
         ensures of { IfOk result (λ made. made.decls.now ≡ decls.now) }
     {
         let bindings = Scope::empty().with(decls).bindings(alloc)?;
-        let len = bindings_len(alloc, &bindings);
+        let len = decls_len(&bindings);
         Ok(Outer {
             decls,
             bindings,
@@ -41,50 +41,50 @@ impl<'a> Outer<'a> {
     }
 }
 
-// The printed length of those bindings whose prefixes these declarations leave alone.
-fn kept_len(bindings: &[Decl], own: &Declared<'_>) -> usize
-    ensures { result ≡ min (decls_len (kept own.now bindings.now)) usize.MAX }
+// The printed length of the binding of a prefix, if there is one; else 0.
+fn binding_len(bindings: &[Decl], prefix: &Text) -> usize
+    requires { AreInOrder bindings.now }
+    ensures { result ≡ min (decls_len (binding_of prefix.now bindings.now)) usize.MAX }
 {
+    match bindings.binary_search_by(|binding| binding.prefix.cmp(prefix)) {
+        Ok(place) => decl_len(&bindings[place]),
+        Err(_) => 0,
+    }
+}
+
+// The printed length of those bindings whose prefixes these declarations declare anew. Each prefix is looked up once.
+fn hidden_len(alloc: Global, bindings: &[Decl], own: &[Decl]) -> Result<usize, NoMemory>
+    requires { AreInOrder bindings.now }
+    ensures { IfOk result (λ len. len ≡ min (decls_len (hidden own.now bindings.now)) usize.MAX) }
+{
+    let mut seen = BTreeSet::new(alloc);
     let mut total = 0usize;
-    for binding in bindings {
-        if own.uri_of(&binding.prefix).is_none() {
-            total = total.saturating_add(decl_len(binding));
+    for decl in own {
+        if seen.insert(&decl.prefix)? {
+            total = total.saturating_add(binding_len(bindings, &decl.prefix));
         }
     }
-    total
+    Ok(total)
 }
 
-// The printed length of bindings.
-fn bindings_len(alloc: Global, bindings: &[Decl]) -> usize
-    ensures { result ≡ min (decls_len bindings.now) usize.MAX }
-{
-    let nothing = Declared::new(alloc, &[]);
-    kept_len(bindings, &nothing)
-}
-
-// The printed length of all that is bound inside a child of the root with these declarations.
-fn inside_len(alloc: Global, outer: &Outer<'_>, own: &[Decl]) -> Result<usize, NoMemory>
-    requires { CountsFrom outer.now }
-    ensures { IfOk result (λ len. len ≡ min (decls_len (bindings_in (outer.now.decls.now ∷ own.now ∷ []))) usize.MAX) }
-{
-    let declared = Declared::indexed(alloc, own)?;
-    let bindings = Scope::empty().with(own).bindings(alloc)?;
-    let kept = kept_len(&outer.bindings, &declared);
-    Ok(kept.saturating_add(bindings_len(alloc, &bindings)))
-}
-
-// The printed length of a service as the index shows it.
+// The printed length of a service as the index shows it: what the root binds is added, what the service hides of it is taken off, and its own
+// bindings stand for its declarations.
 fn service_len(alloc: Global, outer: &Outer<'_>, kid: &Element) -> Result<usize, NoMemory>
     requires { CountsFrom outer.now }
     ensures { IfOk result (λ len. len ≡ min (byte_len (print (listed_as (outer.now.decls.now ∷ []) kid.now))) usize.MAX) }
 {
-    if kid.decls().is_empty() {
-        return Ok(printed_len(kid).saturating_add(outer.len));
+    let own = kid.decls();
+    let whole = printed_len(kid).saturating_add(outer.len);
+    if own.is_empty() {
+        return Ok(whole);
     }
-    let mut bare = copy_tree(alloc, kid)?;
-    let _ = bare.exchange_decls(Vec::new(alloc));
-    let inside = inside_len(alloc, outer, kid.decls())?;
-    Ok(printed_len(&bare).saturating_add(inside))
+    // Nothing can be taken off a sum that is cut off.
+    if whole == usize::MAX {
+        return Ok(printed_len(&listed_as(alloc, outer.decls, kid)?));
+    }
+    let hidden = hidden_len(alloc, &outer.bindings, own)?;
+    let bindings = Scope::empty().with(own).bindings(alloc)?;
+    Ok((whole - hidden - decls_len(own)).saturating_add(decls_len(&bindings)))
 }
 
 // The printed length of a node as the index shows it, if it is a service; else 0.
@@ -135,10 +135,5 @@ pub(crate) fn listed_len(alloc: Global, root: &Element) -> Result<usize, NoMemor
 {
     let declared = Declared::indexed(alloc, root.decls())?;
     let outer = Outer::new(alloc, root.decls())?;
-    nodes_len(
-        alloc,
-        &scope_inside(&Around::empty(), &declared),
-        &outer,
-        root,
-    )
+    nodes_len(alloc, &Around::empty().inside(&declared), &outer, root)
 }

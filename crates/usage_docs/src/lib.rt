@@ -13,7 +13,6 @@ mod letters;
 mod listing;
 mod making;
 mod rows;
-mod scopes;
 mod uris;
 mod validity;
 
@@ -23,9 +22,6 @@ pub use forms::{all_formed, constraints, is_formed};
 pub use insertions::insertion_is_local;
 pub use keys::{Clash, first_clash};
 pub use listing::{INDEX_LIMIT, IndexFault, IndexMaker};
-pub use rows::{END, Key, Kind, Usage, follows, is_root, kind_of, part_of, root_kind};
+pub use rows::{END, Key, Kind, follows, is_root, kind_of, part_of, root_kind};
 pub use uris::{ServiceUris, services};
 pub use validity::{is_valid_child, is_valid_in_row, schema};
-
-#[cfg(test)]
-mod tests;

@@ -1,5 +1,5 @@
 //! The index of the services of many documents (RFC 4826, section 4).
-ghost use Rattle.std.specs.Prelude.{◌≡◌, ◌≤◌, ◌+◌, ◌∷◌, [], ◌++◌, map, min, IfOk, IfErr, OnOk, OnErr};
+ghost use Rattle.std.specs.Prelude.{◌≡◌, ◌≤◌, ◌+◌, ◌∷◌, [], ◌++◌, map, IfOk, IfErr, OnOk, OnErr};
 ghost use Rattle.xml_tree.specs.declared.tree.Node.TheVariants.{Elem};
 ghost use Rattle.usage_docs.specs.declared.listing.IndexFault.TheVariants as IndexFault;
 ghost use Rattle.usage_docs.specs.Services.{is_service, listed_as, listed, index_of};
@@ -9,7 +9,6 @@ ghost use Rattle.usage_docs.specs.Indexes.{len_with};
 use crate::lengths::listed_len;
 use crate::making::{declaration, name};
 use crate::rows::{Kind, kind_of, services_space};
-use crate::scopes::scope_inside;
 use std::alloc::Global;
 use std::marker::Model;
 use xml_tree::{Around, Decl, Declared, Element, NoMemory, Node, Scope, copy_tree};
@@ -69,12 +68,12 @@ pub(crate) fn is_service(alloc: Global, scope: &Around<'_>, kid: &Element) -> bo
     ensures { result ≡ is_service scope.now kid.now }
 {
     let declared = Declared::new(alloc, kid.decls());
-    let inside = scope_inside(scope, &declared);
+    let inside = (&*scope).inside(&declared);
     kind_of(Kind::RlsServices, &inside, kid.name()).is_some()
 }
 
-// A service of a root with these declarations, as the index shows it.
-fn listed_as(alloc: Global, decls: &[Decl], kid: &Element) -> Result<Element, NoMemory>
+/// A service of a root with these declarations, as the index shows it.
+pub(crate) fn listed_as(alloc: Global, decls: &[Decl], kid: &Element) -> Result<Element, NoMemory>
     ensures { IfOk result (λ made. made ≡ listed_as (decls.now ∷ []) kid.now) }
 {
     let scope = Scope::empty().with(decls);
@@ -120,7 +119,7 @@ fn listed(alloc: Global, root: &Element) -> Result<Vec<Node>, NoMemory>
     ensures { IfOk result (λ made. made.items ≡ map Elem (listed root.now)) }
 {
     let declared = Declared::indexed(alloc, root.decls())?;
-    listed_in(alloc, &scope_inside(&Around::empty(), &declared), root)
+    listed_in(alloc, &Around::empty().inside(&declared), root)
 }
 
 // The length of an index whose services have this length.

@@ -3,18 +3,10 @@ ghost use Rattle.std.specs.Prelude.{◌≡◌, Some, None, IsTrue, chars, if◌t
 ghost use Rattle.usage_docs.specs.Words.{is_ascii};
 ghost use Rattle.std.specs.Str.{bytes_eq};
 ghost use Rattle.usage_docs.specs.declared.rows.Kind.TheVariants as Kind;
-ghost use Rattle.usage_docs.specs.Rows.{lists_space, services_space, root_kind, root_word, own_space, child_named, part_named, foreign_part, single_parts, needs_first, follows, space_of, kind_by, is_foreign, part_by, kind_of, part_of, is_root};
+ghost use Rattle.usage_docs.specs.Rows.{lists_space, services_space, root_kind, root_word, own_space, child_named, part_named, foreign_part, single_parts, needs_first, follows, space_of, kind_by, is_foreign, kind_of, part_of, is_root};
 
+use doc_names::Usage;
 use xml_tree::{Around, Name, Text};
-
-/// A type of document that is stored.
-#[derive(Debug, Clone, Copy, PartialEq, Eq)]
-pub enum Usage {
-    /// Lists of a user's contacts (RFC 4826, section 3).
-    ResourceLists,
-    /// Services that stand for a list (RFC 4826, section 4).
-    RlsServices,
-}
 
 /// A kind of element: a row of the table.
 #[derive(Debug, Clone, Copy, PartialEq, Eq, PartialOrd, Ord)]

@@ -7,7 +7,6 @@ ghost use Rattle.usage_docs.specs.Uris.{node_uri, uris_left};
 use crate::attributes::value_of;
 use crate::listing::is_service;
 use crate::rows::Key;
-use crate::scopes::scope_inside;
 use std::alloc::Global;
 use xml_tree::{Around, Declared, Element, NoMemory, Node};
 
@@ -39,7 +38,7 @@ pub fn services(alloc: Global, root: &Element) -> Result<ServiceUris<'_>, NoMemo
 fn service_uri<'a>(alloc: Global, root: &Declared<'_>, kid: &'a Element) -> Option<&'a str>
     ensures { option_map (λ uri. chars uri.now) result ≡ service_uri (root.now ∷ []) kid.now }
 {
-    if is_service(alloc, &scope_inside(&Around::empty(), root), kid) {
+    if is_service(alloc, &Around::empty().inside(root), kid) {
         value_of(Key::Uri, kid.attrs())
     } else {
         None

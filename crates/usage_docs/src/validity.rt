@@ -8,8 +8,8 @@ ghost use Rattle.usage_docs.specs.Rows.{is_root, kind_of, root_kind};
 ghost use Rattle.usage_docs.specs.Validity.{takes_text, text_passes, ValidInRow, ValidChild, Schema, IsNextPart};
 
 use crate::attributes::attrs_pass;
-use crate::rows::{END, Kind, Usage, follows, is_root, kind_of, part_of, root_kind};
-use crate::scopes::scope_inside;
+use crate::rows::{END, Kind, follows, is_root, kind_of, part_of, root_kind};
+use doc_names::Usage;
 use std::alloc::Global;
 use xml_tree::{Around, Declared, Element, NoMemory, Node, is_space};
 
@@ -103,7 +103,7 @@ fn kid_part(
     ensures { IfOk result (λ next. IsNextPart row scope.now before (Elem kid.now) next) }
 {
     let declared = Declared::indexed(alloc, kid.decls())?;
-    let inside = scope_inside(scope, &declared);
+    let inside = (&*scope).inside(&declared);
     let part = part_of(row, &inside, kid.name());
     if !follows(row, before, part) {
         return Ok(None);
@@ -144,7 +144,7 @@ pub fn is_valid_child(
     ensures { IfOk result (λ valid. IsTrue valid ↔ ValidChild row scope.now kid.now) }
 {
     let declared = Declared::indexed(alloc, kid.decls())?;
-    let inside = scope_inside(scope, &declared);
+    let inside = (&*scope).inside(&declared);
     is_valid_inside(alloc, row, &inside, kid)
 }
 
@@ -171,10 +171,5 @@ pub fn schema(alloc: Global, usage: Usage, root: &Element) -> Result<bool, NoMem
     ensures { IfOk result (λ valid. IsTrue valid ↔ Schema usage root.now) }
 {
     let declared = Declared::indexed(alloc, root.decls())?;
-    is_valid_root(
-        alloc,
-        usage,
-        &scope_inside(&Around::empty(), &declared),
-        root,
-    )
+    is_valid_root(alloc, usage, &Around::empty().inside(&declared), root)
 }

@@ -5,8 +5,8 @@ use Rattle.std.specs.Result.{result_unwrap_or}
 use Rattle.tree_text.specs.Faults.{TextAnswer}
 use Rattle.tree_text.specs.declared.fault.TextFault.{TextFault}
 use Rattle.tree_text.specs.declared.fault.TextFault.TheVariants as faults
-use Rattle.usage_docs.specs.declared.rows.Usage.{Usage as TheUsage}
-use Rattle.watch_port.specs.declared.edit.Edit.{Edit}
+use Rattle.doc_names.specs.declared.usages.Usage.{Usage as TheUsage}
+use Rattle.notes.specs.declared.edit.Edit.{Edit}
 use Rattle.xml_tree.specs.Tree.{Tree}
 use Rattle.xcap_io.specs.Causes.{LineState}
 use Rattle.xcap_io.proofs.Lines.{reads_none}

@@ -7,15 +7,15 @@ use Rattle.store_core.specs.Keeping.{Kept}
 use Rattle.store_core.specs.State.{State}
 use Rattle.http_wire.specs.Serving.{no_more}
 use Rattle.machine_words.specs.Machine.{Step}
-use Rattle.watch_port.specs.declared.edit.Edit.{Edit}
+use Rattle.notes.specs.declared.edit.Edit.{Edit}
 use Rattle.xcap_io.specs.Causes.{Aside, LineState, PortState, Rose}
 use Rattle.xcap_io.specs.Connections.{Comes, Next, OnlyNext}
 use Rattle.xcap_io.specs.Pairs.{pair_left, pair_state, pair_to_come}
 use Rattle.xcap_io.proofs.Pairing.{Through, through}
-use Rattle.xcap_server.specs.Connections.{ServesLine}
-use Rattle.xcap_server.specs.Endings.{FaultsBy}
-use Rattle.xcap_server.specs.declared.connection.Ended.{Ended}
-use Rattle.xcap_server.specs.declared.connection.Ended.TheVariants.{Closed, ReadFailed, WriteFailed}
+use Rattle.http_serve.specs.Connections.{ServesLine}
+use Rattle.http_serve.specs.Endings.{FaultsBy}
+use Rattle.http_serve.specs.declared.connection.Ended.{Ended}
+use Rattle.http_serve.specs.declared.connection.Ended.TheVariants.{Closed, ReadFailed, WriteFailed}
 use Rattle.xcap_app.specs.Frames.{JustRead, JustWritten, joined}
 use Rattle.xcap_app.specs.Replays.{ServesInput}
 

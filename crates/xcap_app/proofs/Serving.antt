@@ -5,14 +5,14 @@ use Rattle.store_core.specs.Keeping.{Kept}
 use Rattle.store_core.specs.State.{State, first_state}
 use Rattle.store_core.proofs.KeptAfter.{kept-first}
 use Rattle.machine_words.specs.Machine.{Step}
-use Rattle.watch_port.specs.declared.edit.Edit.{Edit}
+use Rattle.notes.specs.declared.edit.Edit.{Edit}
 use Rattle.xcap_io.specs.Causes.{LineState}
 use Rattle.xcap_io.specs.Connections.{listening_at}
-use Rattle.xcap_server.specs.Ports.{ServesPort}
-use Rattle.xcap_server.specs.declared.connection.Ended.{Ended}
-use Rattle.xcap_server.specs.declared.connection.Ended.TheVariants.{Closed, ReadFailed, WriteFailed}
-use Rattle.xcap_server.specs.declared.port.Served.{Served}
-use Rattle.xcap_server.specs.declared.port.Stop.TheVariants.{PortFailed}
+use Rattle.http_serve.specs.Ports.{ServesPort}
+use Rattle.http_serve.specs.declared.connection.Ended.{Ended}
+use Rattle.http_serve.specs.declared.connection.Ended.TheVariants.{Closed, ReadFailed, WriteFailed}
+use Rattle.http_serve.specs.declared.port.Served.{Served}
+use Rattle.http_serve.specs.declared.port.Stop.TheVariants.{PortFailed}
 use Rattle.xcap_app.specs.Replays.{Replays, ServesInput, exit_of}
 use Rattle.xcap_app.specs.Serves.{IsComplete, Serves, ServesAddress, served_line}
 use Rattle.xcap_app.specs.Telling.{Prints}

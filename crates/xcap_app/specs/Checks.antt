@@ -1,7 +1,7 @@
 -- What `check` does with its input and its output, by how it ends. This is the project's own.
 use Rattle.std.specs.Prelude.{◌≡◌, ℕ, ◌<◌, ◌≤◌, List, codes, length, take, Option, Result, MatchResult}
 use Rattle.std.specs.Io.KnownBytes.{Consumes, IsAtEnd}
-use Rattle.usage_docs.specs.declared.rows.Usage.{Usage}
+use Rattle.doc_names.specs.declared.usages.Usage.{Usage}
 use Rattle.xcap_io.specs.Causes.{LineState, Reads, Rose}
 use Rattle.xcap_app.specs.Telling.{TakesAll, TakesSome}
 use Rattle.xcap_app.specs.Verdicts.{TextVerdict}

@@ -1,12 +1,10 @@
 -- Which words spell which command. The commands are the project's own; a ROOT is that of RFC 4825, section 6.1.
-use Rattle.std.specs.Prelude.{ℕ, ◌+◌, ◌-◌, ◌*◌, Bool, false, ◌&&◌, nat_le, List, [], ◌∷◌, chars, codes, Option, None, Some, if◌then◌else◌}
-use Rattle.std.specs.List.{list_all}
-use Rattle.std.specs.Option.{option_map}
+use Rattle.std.specs.Prelude.{ℕ, nat_le, List, [], ◌∷◌, chars, codes, Option, None, Some, if◌then◌else◌}
+use Rattle.std.specs.Option.{option_and_then, option_map}
 use Rattle.std.specs.Str.{bytes_eq}
-use Rattle.grammar_rules.specs.Digits.{decimal, is_digit}
-use Rattle.grammar_rules.specs.Rules.{number_from}
-use Rattle.usage_docs.specs.declared.rows.Usage.{Usage}
-use Rattle.usage_docs.specs.declared.rows.Usage.TheVariants.{ResourceLists, RlsServices}
+use Rattle.doc_names.specs.declared.usages.Usage.{Usage}
+use Rattle.doc_names.specs.declared.usages.Usage.TheVariants.{ResourceLists, RlsServices}
+use Rattle.xcap_uri.specs.Numerals.{numeral_of}
 use Rattle.xcap_uri.specs.Roots.{is_root}
 use Rattle.xcap_app.specs.declared.command.Command.{Command}
 use Rattle.xcap_app.specs.declared.command.Command.TheVariants.{Replay, Serve, Check}
@@ -37,23 +35,13 @@ usage_of word =
 unfoldable pub root_of : List ℕ → Option (List ℕ)
 root_of word = if is_root word then Some word else None
 
--- the first octet is a digit other than 0
-abbrev pub begins_with_digit : List ℕ → Bool
-begins_with_digit [] = false
-begins_with_digit (c ∷ cs) = is_digit c && nat_le 49 c
+-- a number of at most 1,000,000
+abbrev pub at_most_a_million : ℕ → Option ℕ
+at_most_a_million n = if nat_le n 1000000 then Some n else None
 
--- a numeral from 1 to 1,000,000, of digits alone and without leading zero
-abbrev pub is_count : List ℕ → Bool
-is_count word = begins_with_digit word && (list_all is_digit word && nat_le (number_from decimal 0 word) 1000000)
-
--- COUNT: the number of such a numeral
+-- COUNT: a numeral of at most 1,000,000
 unfoldable pub count_of : List ℕ → Option ℕ
-count_of word = if is_count word then Some (number_from decimal 0 word) else None
-
--- the same worked out digit by digit, behind digits that are worth n
-abbrev pub number_of : ℕ → List ℕ → Option ℕ
-number_of n [] = Some n
-number_of n (c ∷ cs) = if is_digit c && nat_le (n * 10 + (c - 48)) 1000000 then number_of (n * 10 + (c - 48)) cs else None
+count_of word = option_and_then at_most_a_million (numeral_of word)
 
 -- `replay ROOT`
 abbrev pub replay_of : List ℕ → Option Command

@@ -1,6 +1,6 @@
 -- How a run of the program can end. The statuses and texts are the project's own.
 use Rattle.std.specs.Prelude.{ℕ, List, [], ◌∷◌, ◌++◌, codes, decimal, encode_utf8_all, string_bytes}
-use Rattle.node_select.specs.Selection.{path_text}
+use Rattle.xml_tree.specs.PathTexts.{path_text}
 use Rattle.usage_docs.specs.declared.keys.Clash.{Clash}
 use Rattle.usage_docs.specs.declared.rows.Key.{Key}
 use Rattle.usage_docs.specs.declared.rows.Key.TheVariants.{Name, Uri, Ref, Anchor}

@@ -3,11 +3,11 @@ use Rattle.std.specs.Prelude.{◌≡◌, ℕ, List}
 use Rattle.store_core.specs.Keeping.{Kept}
 use Rattle.store_core.specs.State.{State, first_state}
 use Rattle.machine_words.specs.Machine.{Step}
-use Rattle.watch_port.specs.declared.edit.Edit.{Edit}
+use Rattle.notes.specs.declared.edit.Edit.{Edit}
 use Rattle.xcap_io.specs.Causes.{LineState}
-use Rattle.xcap_server.specs.Connections.{ServesLine}
-use Rattle.xcap_server.specs.declared.connection.Ended.{Ended}
-use Rattle.xcap_server.specs.declared.connection.Ended.TheVariants.{Closed, ReadFailed, WriteFailed}
+use Rattle.http_serve.specs.Connections.{ServesLine}
+use Rattle.http_serve.specs.declared.connection.Ended.{Ended}
+use Rattle.http_serve.specs.declared.connection.Ended.TheVariants.{Closed, ReadFailed, WriteFailed}
 use Rattle.xcap_app.specs.Frames.{JustRead, JustWritten, joined}
 use Rattle.xcap_app.specs.declared.exit.Exit.{Exit}
 use Rattle.xcap_app.specs.declared.exit.Exit.TheVariants.{Done, Usage, InputFailed, OutputFailed, NetworkFailed, Refused, OutOfMemory}

@@ -1,6 +1,6 @@
 -- What a run of the program did, by the command that its words spell and by how it ended. This is the project's own.
 use Rattle.std.specs.Prelude.{◌≡◌, List, encode_utf8_all, Option, None, Some}
-use Rattle.watch_port.specs.declared.edit.Edit.{Edit}
+use Rattle.notes.specs.declared.edit.Edit.{Edit}
 use Rattle.xcap_io.specs.Causes.{LineState}
 use Rattle.xcap_app.specs.Checks.{Checks}
 use Rattle.xcap_app.specs.Replays.{Replays}

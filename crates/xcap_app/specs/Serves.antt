@@ -3,13 +3,13 @@ use Rattle.std.specs.Prelude.{◌≡◌, ℕ, ◌⊎◌, List, [], ◌∷◌, �
 use Rattle.store_core.specs.Keeping.{Kept}
 use Rattle.store_core.specs.State.{State, first_state}
 use Rattle.machine_words.specs.Machine.{Step}
-use Rattle.watch_port.specs.declared.edit.Edit.{Edit}
+use Rattle.notes.specs.declared.edit.Edit.{Edit}
 use Rattle.xcap_io.specs.Causes.{LineState, Rose}
 use Rattle.xcap_io.specs.Connections.{listening_at, with_port_faults}
-use Rattle.xcap_server.specs.Ports.{ServesPort}
-use Rattle.xcap_server.specs.declared.port.Served.{Served}
-use Rattle.xcap_server.specs.declared.port.Stop.{Stop}
-use Rattle.xcap_server.specs.declared.port.Stop.TheVariants.{Count, NoMore, PortFailed}
+use Rattle.http_serve.specs.Ports.{ServesPort}
+use Rattle.http_serve.specs.declared.port.Served.{Served}
+use Rattle.http_serve.specs.declared.port.Stop.{Stop}
+use Rattle.http_serve.specs.declared.port.Stop.TheVariants.{Count, NoMore, PortFailed}
 use Rattle.xcap_app.specs.Telling.{TakesAll, TakesSome}
 use Rattle.xcap_app.specs.declared.exit.Exit.{Exit}
 use Rattle.xcap_app.specs.declared.exit.Exit.TheVariants.{Done, Usage, InputFailed, OutputFailed, NetworkFailed, Refused, OutOfMemory}

@@ -7,7 +7,7 @@ use Rattle.tree_text.specs.declared.fault.TextFault.TheVariants as faults
 use Rattle.usage_docs.specs.Clashes.{IsFirstClash, Unique}
 use Rattle.usage_docs.specs.Forms.{Constraints}
 use Rattle.usage_docs.specs.Validity.{Schema}
-use Rattle.usage_docs.specs.declared.rows.Usage.{Usage}
+use Rattle.doc_names.specs.declared.usages.Usage.{Usage}
 use Rattle.xml_tree.specs.Tree.{Tree}
 use Rattle.xcap_app.specs.declared.exit.Exit.{Exit}
 use Rattle.xcap_app.specs.declared.exit.Exit.TheVariants as exits

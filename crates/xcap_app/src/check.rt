@@ -1,5 +1,5 @@
 // The command `check`: the input as a document of a usage.
-ghost use Rattle.std.specs.Prelude.{◌≡◌, ◌≤◌, length};
+ghost use Rattle.std.specs.Prelude.{◌≡◌, length};
 ghost use Rattle.xcap_io.specs.Causes.{OnlyReads};
 ghost use Rattle.xcap_app.specs.Checks.{Checks, Examines, Fills};
 
@@ -7,8 +7,8 @@ use crate::exit::Exit;
 use crate::judging::judge;
 use crate::refusal::Refusal;
 use crate::telling::print;
+use doc_names::Usage;
 use std::alloc::{AllocError, Global};
-use usage_docs::Usage;
 use xcap_io::{Failed, Sink, Source};
 
 // How many bytes a document has at most.

@@ -1,5 +1,5 @@
 // What the words of the command line can spell.
-use usage_docs::Usage;
+use doc_names::Usage;
 use xcap_uri::Root;
 use xml_tree::Text;
 

@@ -5,9 +5,10 @@ ghost use Rattle.xcap_app.specs.Verdicts.{FaultVerdict, TextVerdict, TreeVerdict
 
 use crate::exit::Exit;
 use crate::refusal::Refusal;
+use doc_names::Usage;
 use std::alloc::{AllocError, Global};
 use tree_text::{TextFault, read_document};
-use usage_docs::{Usage, constraints, first_clash, schema};
+use usage_docs::{constraints, first_clash, schema};
 use xml_tree::Element;
 
 // How deep a document may be.

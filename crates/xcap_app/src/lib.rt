@@ -11,8 +11,6 @@ mod refusal;
 mod replay;
 mod serve;
 mod telling;
-#[cfg(test)]
-mod tests;
 mod top;
 mod words;
 

@@ -2,9 +2,9 @@
 ghost use Rattle.std.specs.Prelude.{◌≡◌, IfOk, string_bytes};
 ghost use Rattle.xcap_app.specs.Exits.{clash_words, key_word, refusal_words};
 
-use node_select::print_path;
 use std::alloc::{AllocError, Global};
 use usage_docs::{Clash, Key};
+use xml_tree::print_path;
 
 /// Why the input of `check` is no valid document, the first reason in this order.
 #[derive(Debug, Drop)]

@@ -6,10 +6,11 @@ ghost use Rattle.store_core.specs.State.{State};
 ghost use Rattle.xcap_app.specs.Replays.{Replays, ServesInput, exit_of};
 
 use crate::exit::Exit;
+use http_serve::Ended;
 use std::alloc::Global;
-use watch_port::Watchers;
+use watchers::Watchers;
 use xcap_io::{Failed, Line, Pair, Port, Sink, Source};
-use xcap_server::{Ended, Server, serve_connection};
+use xcap_server::{Server, serve_connection};
 use xcap_uri::Root;
 
 // How the command ends with its connection.

@@ -6,11 +6,12 @@ ghost use Rattle.xcap_app.specs.Serves.{Serves, served_line};
 ghost use Rattle.xcap_app.specs.Telling.{Prints};
 
 use crate::exit::Exit;
+use http_serve::Stop;
 use itoa::Buffer;
 use std::alloc::Global;
-use watch_port::Watchers;
+use watchers::Watchers;
 use xcap_io::{Failed, Gatherer, Line, Port, Sink, flush, put};
-use xcap_server::{Server, Stop, serve_port};
+use xcap_server::{Server, serve_port};
 use xcap_uri::Root;
 
 // Writes how many connections were served.

@@ -1,7 +1,4 @@
 // What is written on the output, and told on the stream for errors.
-ghost use Rattle.std.specs.Prelude.{◌≡◌};
-ghost use Rattle.xcap_io.specs.Causes.{OnlyWrites};
-ghost use Rattle.xcap_io.specs.Streams.{WritesAll};
 ghost use Rattle.xcap_app.specs.Exits.{words_of};
 ghost use Rattle.xcap_app.specs.Telling.{IsTold, Prints, Tells};
 

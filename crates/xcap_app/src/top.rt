@@ -14,7 +14,7 @@ use crate::serve::serve;
 use crate::telling::tell_exit;
 use crate::words::command_of;
 use std::alloc::Global;
-use watch_port::Watchers;
+use watchers::Watchers;
 use xcap_io::{Line, Peer, Port, Sink, Source};
 
 // Runs a command.

@@ -1,50 +1,26 @@
 // The words of the command line.
 ghost use Rattle.std.specs.Prelude.{◌≡◌, IfOk, map, string_bytes};
-ghost use Rattle.xcap_app.specs.Commands.{begins_with_digit, check_of, command_of, count_of, number_of, of_four, of_two, replay_of, root_of, serve_of, usage_of};
+ghost use Rattle.xcap_app.specs.Commands.{check_of, command_of, count_of, of_four, of_two, replay_of, root_of, serve_of, usage_of};
 
 use crate::command::Command;
+use doc_names::Usage;
 use std::alloc::{AllocError, Global};
-use usage_docs::Usage;
-use xcap_uri::{Root, RootFault, read_root};
+use xcap_uri::{Root, RootFault, numeral, read_root};
 use xml_tree::Text;
 
 // The greatest COUNT.
 const GREATEST_COUNT: u64 = 1_000_000;
-
-// Whether the first octet is a digit other than 0.
-fn begins_with_digit(octets: &[u8]) -> bool
-    ensures { result ≡ begins_with_digit octets.now }
-{
-    matches!(octets, [b'1'..=b'9', ..])
-}
-
-// The number that digits are worth, if it is no greater than the greatest COUNT.
-fn number_of(octets: &[u8]) -> Option<u64>
-    ensures { result ≡ number_of 0 octets.now }
-{
-    let mut number = 0;
-    for &b in octets {
-        if !matches!(b, b'0'..=b'9') {
-            return None;
-        }
-        number = number * 10 + (b - b'0') as u64;
-        if number > GREATEST_COUNT {
-            return None;
-        }
-    }
-    Some(number)
-}
 
 // The COUNT that a word is.
 #[tactic(auto, unfolding(crate::specs::Commands::count_of))]
 fn count_of(word: &str) -> Option<u64>
     ensures { result ≡ count_of word.now }
 {
-    let octets = word.as_bytes();
-    if !begins_with_digit(octets) {
+    let number = numeral(word.as_bytes())?;
+    if number > GREATEST_COUNT {
         return None;
     }
-    number_of(octets)
+    Some(number)
 }
 
 // The usage that a word names.

@@ -1,7 +1,7 @@
 -- What is known of the two objects of a pair, after calls on the pair.
-use Rattle.std.proofs.Common.{◌≡◌, ◌≤◌, List, [], ◌∷◌, ◌++◌, length, ap, arith}
+use Rattle.std.proofs.Common.{◌≡◌, List, [], ◌∷◌, ◌++◌, length, ap, arith}
 use Rattle.std.specs.Borrow.{GName}
-use Rattle.xcap_io.specs.Causes.{Aside, LineState, Reads, Writes}
+use Rattle.xcap_io.specs.Causes.{Aside, LineState}
 use Rattle.xcap_io.specs.Pairs.{unread, unwritten}
 
 -- two lists that are one, and begin with parts of one length, have one part first
@@ -52,27 +52,3 @@ through input output input' output' holds aside =
       same_input_aside = first_part input.aside output.aside input'.aside output'.aside long' set;
       same_output_aside = second_part input.aside output.aside input'.aside output'.aside long' set;
     }
-
--- so the input was only read
-pub input_reads : (input output input' output' : LineState) → Through input output input' output' → input.read_faults ≤ input'.read_faults → Reads input input'
-input_reads input output input' output' t later = record {
-  later = later;
-  same_taken = ap (λ (m : Aside). m.bytes) t.same_unread;
-  same_write_faults = ap (λ (m : Aside). m.faults) t.same_unread;
-  same_holds = t.same_input_holds;
-  same_aside = t.same_input_aside;
-  same_port = ap (λ (m : Aside). m.port) t.same_unread;
-  same_peer = ap (λ (m : Aside). m.peer) t.same_unread;
-}
-
--- and the output was only written to
-pub output_writes : (input output input' output' : LineState) → Through input output input' output' → output.write_faults ≤ output'.write_faults → Writes output output'
-output_writes input output input' output' t later = record {
-  later = later;
-  same_left = ap (λ (m : Aside). m.bytes) t.same_unwritten;
-  same_read_faults = ap (λ (m : Aside). m.faults) t.same_unwritten;
-  same_holds = t.same_output_holds;
-  same_aside = t.same_output_aside;
-  same_port = ap (λ (m : Aside). m.port) t.same_unwritten;
-  same_peer = ap (λ (m : Aside). m.peer) t.same_unwritten;
-}

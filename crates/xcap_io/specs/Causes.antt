@@ -111,10 +111,3 @@ pub record Writes (old new : LineState) : Type 0 where
 pub record OnlyWrites {T E : Type 0} (old new : LineState) (result : Result T E) : Type 0 where
   pub writes : Writes old new
   pub counts : Counts old.write_faults new.write_faults result
-
--- Between the two there were calls of any kind, if any.
-pub record Works (old new : LineState) : Type 0 where
-  pub later_reads : old.read_faults ≤ new.read_faults
-  pub later_writes : old.write_faults ≤ new.write_faults
-  pub same_holds : new.holds ≡ old.holds
-  pub same_aside : new.aside ≡ old.aside

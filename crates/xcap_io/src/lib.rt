@@ -15,8 +15,6 @@ mod pair;
 mod remembered;
 mod std_streams;
 mod tcp;
-#[cfg(test)]
-mod tests;
 mod writing;
 
 pub use bytes::Bytes;

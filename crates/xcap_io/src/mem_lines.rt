@@ -1,5 +1,5 @@
 // Lines in memory, of which one after the other begins: what a port and a peer in memory are made of.
-ghost use Rattle.std.specs.Prelude.{◌≡◌, ◌<◌, length, None, option_copied, slice_get, IfSome};
+ghost use Rattle.std.specs.Prelude.{◌≡◌, ◌<◌, length, None, option_copied, slice_get};
 ghost use Rattle.std.specs.Io.{ReadsAtMost};
 ghost use Rattle.std.specs.Io.KnownBytes.{ReadConsumes, WriteAppends};
 ghost use Rattle.xcap_io.specs.Causes.{OnlyReads, OnlyWrites};

@@ -1,6 +1,5 @@
 // A source and a sink as a port of one connection.
-ghost use Rattle.std.specs.Prelude.{◌≡◌, false, [], ◌∷◌, ◌++◌, Some, None};
-ghost use Rattle.xcap_io.specs.Causes.{no_peer};
+ghost use Rattle.std.specs.Prelude.{◌≡◌, false, [], ◌∷◌, Some, None};
 ghost use Rattle.xcap_io.specs.Pairs.{pair_state};
 
 use crate::{Failed, Line, Port, Sink, Source};

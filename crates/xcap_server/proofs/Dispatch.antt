@@ -3,12 +3,11 @@ use Rattle.std.proofs.Common.{◌≡◌, ◌≢◌, ℕ, Bool, true, false, not,
 use Rattle.std.specs.Bool.{MatchBool}
 use Rattle.xcap_uri.specs.Gives.{Answers}
 use Rattle.xcap_uri.specs.Targets.{target_read}
-use Rattle.xcap_uri.specs.declared.doc_id.Auid.{Auid}
-use Rattle.xcap_uri.specs.declared.doc_id.Home.{Home}
-use Rattle.xcap_uri.specs.declared.doc_id.Home.TheVariants.{Global, User}
+use Rattle.doc_names.specs.declared.doc_id.Auid.{Auid}
+use Rattle.doc_names.specs.declared.doc_id.Home.{Home}
 use Rattle.xcap_uri.specs.declared.fault.UriFault.{UriFault}
 use Rattle.xcap_uri.specs.declared.fault.UriFault.TheVariants.{NoMemory}
-use Rattle.xcap_uri.specs.declared.doc_id.DocId.{DocId}
+use Rattle.doc_names.specs.declared.doc_id.DocId.{DocId}
 use Rattle.xcap_uri.specs.declared.target.Target.{Target}
 use Rattle.xcap_uri.specs.declared.target.Target.TheVariants.{Node, Deep}
 use Rattle.node_select.specs.declared.selector.Selector.{Selector}
@@ -20,13 +19,12 @@ use Rattle.request_terms.specs.Rights.{is_allowed}
 use Rattle.request_terms.specs.declared.method.Method.{Method}
 use Rattle.request_terms.specs.declared.method.Method.TheVariants.{Get, Head, Put, Delete, Other}
 use Rattle.store_core.specs.Held.{Content}
-use Rattle.store_core.specs.Keeping.{IsUsers}
-use Rattle.watch_port.specs.declared.edit.Edit.{Edit}
+use Rattle.notes.specs.declared.edit.Edit.{Edit}
 use Rattle.machine_words.specs.Answers.{Answer, not_allowed, plain, unchanged}
 use Rattle.machine_words.specs.Machine.{Does, told_as}
 use Rattle.machine_words.specs.Requests.{ByMethod, ByTarget, ByUser, Deletes, IsAnswer, IsAnswered, Puts, auid_of, fault_status, home_of, is_built, is_read_only, reads}
 use Rattle.machine_words.specs.Writing.{DeletesNode, PutsNode, puts_deeper}
-use Rattle.xcap_server.specs.declared.machine.Answered.{Answered}
+use Rattle.http_serve.specs.declared.machine.Answered.{Answered}
 use Rattle.xcap_server.specs.Servers.{IsReply}
 
 -- a test that holds, and one that doesn't
@@ -126,15 +124,6 @@ module _ (root : List ℕ) (c : Content) (target : Target) (request : Request) w
 
   pub target_goes_on : (method : Method) (a : Answer) → (is_read_only target && not (is_reading method)) ≡ false → is_known method ≡ true → is_built target ≡ true → ByUser root c target method request a → ByTarget root c target method request a
   target_goes_on method a fits known built so = at_false _ _ _ fits (at_true _ _ _ known (at_true _ _ _ built so))
-
--- who may write in a home is a user, and the home is the user's
-users_write : (auid : Auid) (home : Home) (fields : List Field) → is_allowed true auid home fields ≡ true → IsUsers home
-users_write auid Global fields is = let no : ⊥ = cc in absurd no
-users_write auid (User xui) fields is = tt
-
-pub users_change : (method : Method) (auid : Auid) (home : Home) (fields : List Field) → is_allowed (not (is_reading method)) auid home fields ≡ true → is_reading method ≡ false → IsUsers home
-users_change method auid home fields is changes =
-    users_write auid home fields (subst (λ (reading : Bool). is_allowed (not reading) auid home fields ≡ true) changes is)
 
 -- a target that was read, or a fault, is the one that the definition reads
 stated : {A : Type 0} (r s : Result A UriFault) → Answers NoMemory s r → (r ≡ Err NoMemory → ⊥) → s ≡ r

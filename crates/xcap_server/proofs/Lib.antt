@@ -1,8 +1,3 @@
-pub mod Answering
-pub mod Faults
-pub mod Turning
-pub mod Ports
-pub mod Simulations
 pub mod Replies
 pub mod Dispatch
 pub mod Standing

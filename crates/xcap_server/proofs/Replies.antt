@@ -4,16 +4,16 @@ use Rattle.std.specs.Bool.{MatchBool}
 use Rattle.xml_tree.specs.Tree.{Tree}
 use Rattle.tree_text.specs.Printing.{document_print}
 use Rattle.tree_text.specs.declared.fault.TextFault.{TextFault}
-use Rattle.usage_docs.specs.declared.rows.Usage.{Usage}
+use Rattle.doc_names.specs.declared.usages.Usage.{Usage}
 use Rattle.node_select.specs.declared.selector.Selector.{Selector}
 use Rattle.xcap_uri.specs.Targets.{target_read}
-use Rattle.xcap_uri.specs.declared.doc_id.DocId.{DocId}
+use Rattle.doc_names.specs.declared.doc_id.DocId.{DocId}
 use Rattle.xcap_uri.specs.declared.fault.UriFault.{UriFault}
 use Rattle.xcap_uri.specs.declared.target.Target.{Target}
 use Rattle.xcap_uri.specs.declared.target.Target.TheVariants.{Document, Node, Deep, Feed, ElementFeed, Flat}
-use Rattle.patch_words.specs.Notes.{Note}
+use Rattle.notes.specs.Notes.{Note}
 use Rattle.reply_text.specs.Heads.{Sent}
-use Rattle.reply_text.specs.declared.conflicts.ErrorBody.{ErrorBody}
+use Rattle.conflict_docs.specs.declared.conflicts.ErrorBody.{ErrorBody}
 use Rattle.reply_text.specs.declared.media_types.Media.{Media}
 use Rattle.http_wire.specs.declared.request.Request.{Request}
 use Rattle.request_terms.specs.declared.conditions.Outcome.{Outcome}

@@ -2,7 +2,7 @@
 use Rattle.std.proofs.Common.{◌≡◌, ℕ, List, Option, None, Some, Result, Ok, Err, IfOk, refl, sym, ap, subst, ◌∙◌, map}
 use Rattle.reply_text.specs.Heads.{Sent, bytes_of}
 use Rattle.http_wire.specs.declared.request.Request.{Request}
-use Rattle.watch_port.specs.declared.edit.Edit.{Edit}
+use Rattle.notes.specs.declared.edit.Edit.{Edit}
 use Rattle.xcap_io.specs.Causes.{LineState}
 use Rattle.store_core.specs.State.{State}
 use Rattle.store_core.specs.Held.{Content, Held, Stands, held_of}
@@ -12,14 +12,14 @@ use Rattle.store_core.proofs.Keeps.{keeps}
 use Rattle.machine_words.specs.Answers.{Made}
 use Rattle.machine_words.specs.Machine.{Does, IsSound, Step, after_answer, content_after_answer, held_in}
 use Rattle.machine_words.specs.Requests.{IsAnswer}
-use Rattle.xcap_server.specs.declared.connection.Ended.{Ended}
-use Rattle.xcap_server.specs.declared.machine.Answered.{Answered}
-use Rattle.xcap_server.specs.declared.port.Served.{Served}
-use Rattle.xcap_server.specs.Connections.{ServesLine}
-use Rattle.xcap_server.specs.Ports.{ServesPort}
+use Rattle.http_serve.specs.declared.connection.Ended.{Ended}
+use Rattle.http_serve.specs.declared.machine.Answered.{Answered}
+use Rattle.http_serve.specs.declared.port.Served.{Served}
+use Rattle.http_serve.specs.Connections.{ServesLine}
+use Rattle.http_serve.specs.Ports.{ServesPort}
 use Rattle.xcap_server.specs.Servers.{AnswersRequest, ServerState}
 use Rattle.xcap_server.proofs.Replies.{answer_closes}
-use Rattle.xcap_server.proofs.Simulations.{line_by, port_by}
+use Rattle.http_serve.proofs.Simulations.{line_by, port_by}
 
 -- what stands for a state is what is held in it
 is_held : (c : Content) (m : State) → Stands c m → c ≡ held_in m

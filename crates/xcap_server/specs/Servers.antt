@@ -2,7 +2,7 @@
 use Rattle.std.specs.Prelude.{◌≡◌, ℕ, List, Option, None}
 use Rattle.reply_text.specs.Heads.{Sent, bytes_of}
 use Rattle.http_wire.specs.declared.request.Request.{Request}
-use Rattle.watch_port.specs.declared.edit.Edit.{Edit}
+use Rattle.notes.specs.declared.edit.Edit.{Edit}
 use Rattle.store_core.specs.Held.{Content}
 use Rattle.machine_words.specs.Machine.{Does}
 use Rattle.machine_words.specs.Requests.{IsAnswer}

@@ -3,7 +3,7 @@
 ghost use Rattle.std.specs.Prelude.{◌≡◌, ◌≢◌, ◌&&◌, not, true, false, None, IsOk, IsTrue, IfOk, OnErr};
 ghost use Rattle.reply_text.specs.Statuses.{is_status};
 ghost use Rattle.xcap_uri.specs.Targets.{IsReadableTarget, under_root};
-ghost use Rattle.request_terms.specs.Methods.{method_of, is_reading};
+ghost use Rattle.request_terms.specs.Methods.{is_reading};
 ghost use Rattle.request_terms.specs.Rights.{is_allowed};
 ghost use Rattle.store_core.specs.Keeping.{IsUsers};
 ghost use Rattle.machine_words.specs.Answers.{not_allowed, plain, unchanged};
@@ -11,10 +11,10 @@ ghost use Rattle.machine_words.specs.Machine.{Does};
 ghost use Rattle.machine_words.specs.Requests.{ByMethod, ByTarget, ByUser, Deletes, IsAnswer, Puts, auid_of, fault_status, home_of, is_built, is_read_only, reads};
 ghost use Rattle.xcap_server.specs.Servers.{IsReply};
 
-use crate::machine::Answered;
 use crate::targets::{auid_of, home_of, is_built, is_read_only};
 use document_reads::{get_document, get_node};
 use document_writes::{Written, delete_document, delete_node, put_deeper, put_document, put_node};
+use http_serve::Answered;
 use http_wire::Request;
 use reply_text::Reply;
 use request_terms::{Method, is_allowed};

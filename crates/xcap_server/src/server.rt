@@ -6,19 +6,16 @@ ghost use Rattle.store_core.specs.State.{State};
 ghost use Rattle.store_core.specs.Held.{Stands};
 ghost use Rattle.store_core.specs.Keeping.{Kept};
 ghost use Rattle.machine_words.specs.Machine.{Step};
-ghost use Rattle.xcap_server.specs.Connections.{ServesLine};
-ghost use Rattle.xcap_server.specs.Ports.{ServesPort};
+ghost use Rattle.http_serve.specs.Connections.{ServesLine};
+ghost use Rattle.http_serve.specs.Ports.{ServesPort};
 
-use crate::buffers::Buffers;
-use crate::connection::{Ended, serve_line};
-use crate::machine::Answered;
-use crate::port::{Served, serve_lines};
 use crate::service::Service;
+use http_serve::{Answered, Buffers, Ended, Served, serve_line, serve_lines};
 use http_wire::Request;
 use std::alloc::{AllocError, Global};
 use std::marker::Model;
 use store_core::Store;
-use watch_port::Watchers;
+use watchers::Watchers;
 use xcap_io::{Port, Sink, Source};
 use xcap_uri::Root;
 
@@ -34,7 +31,7 @@ impl Model for Server {
     ghost use Rattle.xcap_server.specs.Servers.{ServerState};
     ghost use Rattle.std.specs.Coded.{codes};
     ghost use Rattle.xml_tree.specs.Tree.{tree_code};
-    ghost use Rattle.xcap_uri.specs.contracts.doc_id.DocId as d;
+    ghost use Rattle.doc_names.specs.contracts.doc_id.DocId as d;
     ghost use Rattle.edit_ops.specs.contracts.change.Change as c;
 
     ghost Value = { ServerState };

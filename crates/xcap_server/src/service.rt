@@ -4,8 +4,8 @@ ghost use Rattle.xcap_uri.specs.Targets.{under_root};
 ghost use Rattle.machine_words.specs.Machine.{Does};
 ghost use Rattle.machine_words.specs.Requests.{IsAnswer};
 
-use crate::machine::{Answered, Machine};
 use crate::requests::answer_request;
+use http_serve::{Answered, Machine};
 use http_wire::Request;
 use std::alloc::{AllocError, Global};
 use std::marker::Model;
@@ -24,7 +24,7 @@ impl Model for Service {
     ghost use Rattle.xcap_server.specs.Servers.{ServerState};
     ghost use Rattle.std.specs.Coded.{codes};
     ghost use Rattle.xml_tree.specs.Tree.{tree_code};
-    ghost use Rattle.xcap_uri.specs.contracts.doc_id.DocId as d;
+    ghost use Rattle.doc_names.specs.contracts.doc_id.DocId as d;
     ghost use Rattle.edit_ops.specs.contracts.change.Change as c;
 
     ghost Value = { ServerState };

@@ -2,8 +2,9 @@
 ghost use Rattle.std.specs.Prelude.{◌≡◌};
 ghost use Rattle.machine_words.specs.Requests.{is_built, is_read_only, auid_of, home_of, is_bindings};
 
+use doc_names::{Auid, Home};
 use node_select::End;
-use xcap_uri::{Auid, Home, Target};
+use xcap_uri::Target;
 
 fn is_bindings(end: &End) -> bool
     ensures { result ≡ is_bindings end.now }

@@ -1,21 +1,17 @@
 -- Texts of ASCII: words, and roots with their paths.
-use Rattle.std.proofs.Common.{◌≡◌, ◌≢◌, ℕ, Bool, true, false, ◌==◌, nat_eq, nat_le, List, [], ◌∷◌, Option, None, Some, unwrap_or, codes, length, refl, ap, ◌∙◌, sym, arith}
-use Rattle.std.proofs.lemmas.Bool.{and_parts, and_from, ltb-true, eqb-true, true≢false}
+use Rattle.std.proofs.Common.{◌≡◌, ℕ, Bool, true, false, ◌==◌, nat_eq, nat_le, List, [], ◌∷◌, Option, None, Some, unwrap_or, codes, length, refl, ap, ◌∙◌, sym, arith}
+use Rattle.std.proofs.lemmas.Bool.{and_parts, and_from, eqb-true, true≢false}
 use Rattle.std.proofs.lemmas.Bool.Decides.{nat_tests}
 use Rattle.std.proofs.lemmas.Str.{encodes-chars, encodes-IsAscii}
-use Rattle.std.proofs.lemmas.Str.Ascii.{IsAscii-nil, IsAscii-cons}
 use Rattle.std.specs.Char.{is_ascii}
 use Rattle.std.specs.List.{list_all}
 use Rattle.std.specs.Option.{option_or}
 use Rattle.std.specs.Str.{IsAscii, IsUtf8, chars}
 use lib.Utf8.{encodes}
 use Rattle.grammar_rules.specs.Reading.{after_front}
+use Rattle.doc_names.proofs.Words.{word_letters}
 use Rattle.xcap_uri.specs.Cuts.{after, pieces, with_first, is_other}
 use Rattle.xcap_uri.specs.Roots.{slash, is_authority_char, is_segment_char, is_some_of, are_authority_and_segments, has_form, behind_scheme, is_root, path_of}
-
-pub word_letters : (cs : List ℕ) → list_all is_ascii cs ≡ true → IsAscii cs
-word_letters [] h = IsAscii-nil
-word_letters (c ∷ cs) h = let both = and_parts (is_ascii c) (list_all is_ascii cs) h in IsAscii-cons c cs (ltb-true c 128 both.0) (word_letters cs both.1)
 
 -- the octets of a text of ASCII
 pub octets_are : (octets text : List ℕ) → IsUtf8 octets → chars octets ≡ text → IsAscii text → octets ≡ text

@@ -1,16 +1,11 @@
--- Escapes: when octets are read as a text, and what is printed.
-use Rattle.std.proofs.Common.{◌≡◌, ℕ, ◌<◌, Bool, List, [], ◌∷◌, true, false, not, Ok, Err, refl, ⊎_elim, arith}
-use Rattle.std.proofs.lemmas.Bool.{and_from, and_parts, and_left, cond-true, cond-false, cases_Bool, agree_below, agree_below_at}
+-- Escapes: when octets are read as a text.
+use Rattle.std.proofs.Common.{◌≡◌, ℕ, List, true, false, Ok, Err, ⊎_elim}
+use Rattle.std.proofs.lemmas.Bool.{and_from, and_parts, and_left, cond-true, cond-false, cases_Bool}
 use Rattle.std.proofs.lemmas.Str.{IsUtf8-from_is_utf8, is_utf8-from_IsUtf8}
 use Rattle.std.specs.Str.{IsUtf8, chars}
-use Rattle.std.specs.Char.{is_ascii}
-use Rattle.std.specs.List.{flat_map}
-use Rattle.percent_encoding.specs.declared.ascii_set.AsciiSet.{AsciiSet}
-use Rattle.percent_encoding.specs.AsciiSet.{should_percent_encode}
-use Rattle.percent_encoding.specs.Percent.{percent_decode, percent_encode, encode_byte}
-use Rattle.xcap_uri.specs.declared.escapes.TheConstants.{ESCAPED_IN_PARTS, INVISIBLE}
+use Rattle.percent_encoding.specs.Percent.{percent_decode}
 use Rattle.xcap_uri.specs.declared.fault.UriFault.TheVariants.{BadEscape}
-use Rattle.xcap_uri.specs.Escapes.{has_whole_escapes, stands_for_text, text_read, escaped, escaped_octet, is_plain, is_visible}
+use Rattle.xcap_uri.specs.Escapes.{has_whole_escapes, stands_for_text, text_read}
 
 pub read_as_text : (part : List ℕ) → has_whole_escapes part ≡ true → IsUtf8 (percent_decode part) → text_read part ≡ Ok (chars (percent_decode part))
 read_as_text part whole utf8 = cond-true _ _ _ (and_from _ _ whole (is_utf8-from_IsUtf8 _ utf8))
@@ -24,47 +19,3 @@ read_as_no_text part never =
 
 pub read_as_no_escapes : (part : List ℕ) → has_whole_escapes part ≡ false → text_read part ≡ Err BadEscape
 read_as_no_escapes part e = cond-false _ _ _ (and_left (has_whole_escapes part) _ e)
-
--- octets outside the set are those that stay as they are
-same_octet : (set : AsciiSet) (plain : ℕ → Bool) (b : ℕ) (t : Bool) → should_percent_encode set b ≡ not t → plain b ≡ t → encode_byte set b ≡ escaped_octet plain b
-same_octet set plain b true e h = rw (e, h) refl
-same_octet set plain b false e h = rw (e, h) refl
-
-same_octets : (set : AsciiSet) (plain : ℕ → Bool) → ((b : ℕ) → should_percent_encode set b ≡ not (plain b)) → (bs : List ℕ) → flat_map (encode_byte set) bs ≡ escaped plain bs
-same_octets set plain h [] = refl
-same_octets set plain h (b ∷ bs) = rw (same_octet set plain b (plain b) (h b) refl, same_octets set plain h bs) refl
-
-pub escaped_by : (set : AsciiSet) (plain : ℕ → Bool) → ((b : ℕ) → should_percent_encode set b ≡ not (plain b)) → (bs : List ℕ) → percent_encode set bs ≡ escaped plain bs
-unfolding percent_encode
-escaped_by set plain h bs = same_octets set plain h bs
-
--- beyond ASCII everything is escaped
-beyond : (set : AsciiSet) (b : ℕ) → is_ascii b ≡ false → should_percent_encode set b ≡ true
-unfolding should_percent_encode
-beyond set b e = rw e refl
-
-in_parts : agree_below (λ b. should_percent_encode ESCAPED_IN_PARTS b) (λ b. not (is_plain b)) 128 ≡ true
-unfolding should_percent_encode
-in_parts = refl
-
-visible : agree_below (λ b. should_percent_encode INVISIBLE b) (λ b. not (is_visible b)) 128 ≡ true
-unfolding should_percent_encode
-visible = refl
-
-ascii_is_small : (b : ℕ) → is_ascii b ≡ true → b < 128
-ascii_is_small b e = grind arith
-
-parts_at : (b : ℕ) (t : Bool) → is_ascii b ≡ t → should_percent_encode ESCAPED_IN_PARTS b ≡ not (is_plain b)
-parts_at b true e = agree_below_at (λ c. should_percent_encode ESCAPED_IN_PARTS c) (λ c. not (is_plain c)) 128 b in_parts (ascii_is_small b e)
-parts_at b false e = rw (beyond ESCAPED_IN_PARTS b e, e) refl
-
-visible_at : (b : ℕ) (t : Bool) → is_ascii b ≡ t → should_percent_encode INVISIBLE b ≡ not (is_visible b)
-visible_at b true e = agree_below_at (λ c. should_percent_encode INVISIBLE c) (λ c. not (is_visible c)) 128 b visible (ascii_is_small b e)
-visible_at b false e = rw (beyond INVISIBLE b e, e) refl
-
--- what is printed of a part, and of a notice's selector
-pub parts_escaped : (bs : List ℕ) → percent_encode ESCAPED_IN_PARTS bs ≡ escaped is_plain bs
-parts_escaped bs = escaped_by ESCAPED_IN_PARTS is_plain (λ b. parts_at b (is_ascii b) refl) bs
-
-pub visible_escaped : (bs : List ℕ) → percent_encode INVISIBLE bs ≡ escaped is_visible bs
-visible_escaped bs = escaped_by INVISIBLE is_visible (λ b. visible_at b (is_ascii b) refl) bs

@@ -1,11 +1,12 @@
 mod Ascii
 mod Bindings
+mod DigitByDigit
 mod Escaped
-pub mod Keys
-mod Nameable
+mod HomeIds
+mod Lasts
+mod Letters
+pub mod Nameable
 mod Pieces
-mod Printed
 mod ReadsBack
 mod Separated
-mod Tags
 mod UriChars

@@ -5,10 +5,10 @@ use Rattle.std.specs.Cmp.Lexicographic.{bytes_decides}
 use Rattle.std.specs.List.{list_any}
 use Rattle.std.specs.Str.{bytes_eq}
 use Rattle.xml_tree.specs.declared.names.Decl.{Decl}
-use Rattle.xcap_uri.specs.declared.doc_id.Auid.{Auid}
-use Rattle.xcap_uri.specs.declared.doc_id.Home.{Home}
-use Rattle.xcap_uri.specs.declared.doc_id.Home.TheVariants.{Global, User}
-use Rattle.xcap_uri.specs.declared.doc_id.DocId.{DocId}
+use Rattle.doc_names.specs.declared.doc_id.Auid.{Auid}
+use Rattle.doc_names.specs.declared.doc_id.Home.{Home}
+use Rattle.doc_names.specs.declared.doc_id.Home.TheVariants.{Global, User}
+use Rattle.doc_names.specs.declared.doc_id.DocId.{DocId}
 use Rattle.xcap_uri.specs.declared.fault.UriFault.{UriFault}
 use Rattle.xcap_uri.specs.declared.fault.UriFault.TheVariants.{BadShape, NoMemory}
 use Rattle.xcap_uri.specs.declared.shape.Shape.{Shape}
@@ -18,12 +18,13 @@ use Rattle.xcap_uri.specs.declared.target.Target.{Target}
 use Rattle.xcap_uri.specs.Cuts.{joined, before, behind, pieces}
 use Rattle.xcap_uri.specs.Escapes.{text_read, optional_text_read}
 use Rattle.xcap_uri.specs.Gives.{◌>>=◌}
-use Rattle.xcap_uri.specs.Ids.{IsNameable, IsReadable, IsReadableHome}
+use Rattle.doc_names.specs.Ids.{IsNameable, IsReadable, IsReadableHome}
 use Rattle.xcap_uri.specs.Queries.{optional_bindings_read}
 use Rattle.xcap_uri.specs.Roots.{slash}
 use Rattle.xcap_uri.specs.Shapes
 use Rattle.xcap_uri.specs.Targets.{segments_read, path_read, target_of, part_read, about_element, rest_read, raw_text, question, IsReadableTarget}
-use Rattle.xcap_uri.specs.Words.{separator, users, global, feed, flat}
+use Rattle.xcap_uri.specs.Words.{users, global, feed, flat}
+use Rattle.doc_names.specs.Ids.{separator}
 
 -- a step after another, and a choice
 bind_ok : {A B : Type 0} (r : Result A UriFault) (f : A → Result B UriFault) (P : A → Type 0) (Q : B → Type 0) → IfOk r P → ((x : A) → P x → IfOk (f x) Q) → IfOk (r >>= f) Q

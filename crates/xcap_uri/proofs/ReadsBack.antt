@@ -9,28 +9,29 @@ use Rattle.std.specs.List.{list_all}
 use Rattle.std.specs.Str.{bytes_eq, chars, IsUtf8, IsAscii}
 use Rattle.grammar_rules.specs.Reading.{after_front}
 use Rattle.grammar_rules.specs.Rules.{AllPass}
-use Rattle.percent_encoding.proofs.PercentLemmas.{round_trip}
 use Rattle.percent_encoding.specs.Percent.{percent_decode, percent_encode_byte}
-use Rattle.xcap_uri.specs.declared.doc_id.Auid.{Auid}
-use Rattle.xcap_uri.specs.declared.doc_id.Auid.TheVariants.{ResourceLists, RlsServices, XcapCaps}
-use Rattle.xcap_uri.specs.declared.doc_id.Home.{Home}
-use Rattle.xcap_uri.specs.declared.doc_id.Home.TheVariants.{Global, User}
-use Rattle.xcap_uri.specs.declared.doc_id.DocId.{DocId}
-use Rattle.xcap_uri.specs.declared.escapes.TheConstants.{ESCAPED_IN_PARTS}
+use Rattle.doc_names.specs.declared.doc_id.Auid.{Auid}
+use Rattle.doc_names.specs.declared.doc_id.Auid.TheVariants.{ResourceLists, RlsServices, XcapCaps}
+use Rattle.doc_names.specs.declared.doc_id.Home.{Home}
+use Rattle.doc_names.specs.declared.doc_id.Home.TheVariants.{Global, User}
+use Rattle.doc_names.specs.declared.doc_id.DocId.{DocId}
 use Rattle.xcap_uri.specs.declared.fault.UriFault.{UriFault}
 use Rattle.xcap_uri.specs.declared.shape.Shape.TheVariants.{Whole}
 use Rattle.xcap_uri.specs.declared.target.Target.TheVariants.{Document}
 use Rattle.xcap_uri.specs.Cuts.{after, before, behind, behind_first, pieces, with_first, is_other}
-use Rattle.xcap_uri.specs.Escapes.{has_whole_escapes, text_read, escaped, escaped_octet, is_plain, part_text}
-use Rattle.xcap_uri.specs.Ids.{IsNameable, IsReadable, IsReadableHome, auid_text, home_text, id_text}
+use Rattle.xcap_uri.specs.Escapes.{has_whole_escapes, text_read}
+use Rattle.doc_names.specs.Escapes.{escaped, escaped_octet, is_plain, part_text}
+use Rattle.doc_names.specs.Ids.{IsNameable, IsReadable, IsReadableHome, home_text, id_text}
+use Rattle.doc_names.specs.Usages.{auid_text}
 use Rattle.xcap_uri.specs.Roots.{slash, is_root, has_form, behind_scheme, path_of}
 use Rattle.xcap_uri.specs.Shapes.{is_empty, shape_of}
 use Rattle.xcap_uri.specs.Spelled.{IsOctet, IsSpelled, IsSpelledHome}
 use Rattle.xcap_uri.specs.Targets.{under, under_root, target_read, rest_read, segments_read, path_read, question}
-use Rattle.xcap_uri.specs.Words.{separator}
-use Rattle.xcap_uri.proofs.Escaped.{parts_escaped, read_as_text}
-use Rattle.xcap_uri.proofs.Ascii.{word_letters}
-use Rattle.xcap_uri.proofs.Printed.{auid_letters}
+use Rattle.doc_names.specs.Ids.{separator}
+use Rattle.xcap_uri.proofs.Escaped.{read_as_text}
+use Rattle.doc_names.proofs.Escaped.{parts_decoded}
+use Rattle.doc_names.proofs.Words.{word_letters}
+use Rattle.doc_names.proofs.Printed.{auid_letters}
 
 -- ---- cuts where nothing is cut, and behind a front
 
@@ -134,7 +135,7 @@ whole [] = refl
 whole (b ∷ bs) = whole_octet b (escaped is_plain bs) (is_plain b) refl (whole bs)
 
 decoded : (bs : List ℕ) → All IsOctet bs → percent_decode (escaped is_plain bs) ≡ bs
-decoded bs small = subst (λ x. percent_decode x ≡ bs) (parts_escaped bs) (round_trip ESCAPED_IN_PARTS bs refl small)
+decoded bs small = parts_decoded bs small
 
 part_read : (text : List ℕ) → IsSpelled text → text_read (part_text text) ≡ Ok text
 part_read text spells =

@@ -8,7 +8,7 @@ use Rattle.xcap_uri.specs.Escapes.{text_read}
 use Rattle.xcap_uri.specs.Gives.{◌>>=◌}
 use Rattle.xcap_uri.specs.Roots.{slash}
 use Rattle.xcap_uri.specs.Targets.{path_read, segments_read}
-use Rattle.xcap_uri.specs.Words.{separator}
+use Rattle.doc_names.specs.Ids.{separator}
 use Rattle.xcap_uri.specs.declared.fault.UriFault.{UriFault}
 use Rattle.xcap_uri.specs.declared.fault.UriFault.TheVariants.{NoMemory}
 use Rattle.xcap_uri.proofs.Pieces.{pieces_cut, pieces_behind}

@@ -1,9 +1,8 @@
 -- Escapes of octets in addresses. RFC 3986, section 2.1.
-use Rattle.std.specs.Prelude.{ℕ, Bool, true, not, ◌&&◌, ◌||◌, ◌==◌, nat_le, List, [], ◌∷◌, codes, encode_utf8_all, Option, None, Some, Result, Ok, Err, if◌then◌else◌}
-use Rattle.std.specs.List.{list_any, flat_map}
-use Rattle.std.specs.Char.{is_ascii, is_ascii_alphanumeric, is_ascii_hexdigit}
+use Rattle.std.specs.Prelude.{ℕ, Bool, true, not, ◌&&◌, ◌==◌, List, [], ◌∷◌, Option, None, Some, Result, Ok, Err, if◌then◌else◌}
+use Rattle.std.specs.Char.{is_ascii_hexdigit}
 use Rattle.std.specs.Str.{is_utf8, chars}
-use Rattle.percent_encoding.specs.Percent.{percent_decode, percent_encode_byte}
+use Rattle.percent_encoding.specs.Percent.{percent_decode}
 use Rattle.xcap_uri.specs.Gives.{◌>>=◌}
 use Rattle.xcap_uri.specs.declared.fault.UriFault.{UriFault}
 use Rattle.xcap_uri.specs.declared.fault.UriFault.TheVariants.{BadEscape}
@@ -28,23 +27,3 @@ text_read part = if stands_for_text part then Ok (chars (percent_decode part)) e
 abbrev pub optional_text_read : Option (List ℕ) → Result (Option (List ℕ)) UriFault
 optional_text_read None = Ok None
 optional_text_read (Some part) = text_read part >>= λ text. Ok (Some text)
-
--- the octets that a printed part has as they are: those of `pchar`, RFC 3986, section 3.3
-abbrev pub is_plain : ℕ → Bool
-is_plain b = is_ascii b && (is_ascii_alphanumeric b || list_any (λ c. b == c) (codes "-._~!$&'()*+,;=:@"))
-
--- an octet as it is, or as `%` and two upper-case digits
-abbrev pub escaped_octet : (ℕ → Bool) → ℕ → List ℕ
-escaped_octet plain b = if plain b then b ∷ [] else percent_encode_byte b
-
--- octets, with those escaped that aren't plain
-abbrev pub escaped : (ℕ → Bool) → List ℕ → List ℕ
-escaped plain octets = flat_map (escaped_octet plain) octets
-
--- a text as a part of a printed address
-abbrev pub part_text : List ℕ → List ℕ
-part_text text = escaped is_plain (encode_utf8_all text)
-
--- the octets that the selector of a notice about an element has as they are: the visible ones of ASCII
-abbrev pub is_visible : ℕ → Bool
-is_visible b = is_ascii b && (nat_le 33 b && nat_le b 126)

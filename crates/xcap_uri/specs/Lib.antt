@@ -1,10 +1,10 @@
+pub mod Ancestors
 pub mod Cuts
 pub mod Escapes
 pub mod Gives
-pub mod Ids
+pub mod Numerals
 pub mod Queries
 pub mod Roots
-pub mod Same
 pub mod Shapes
 pub mod Spelled
 pub mod Targets

@@ -1,16 +1,15 @@
 -- What the segments of an address name. The document selectors are those of RFC 4825, section 6.2; what stands under `~feed` and `~flat` is
 -- this server's own. The segments are those before the separator, decoded; the selector is the text behind it, where there is a separator.
-use Rattle.std.specs.Prelude.{ℕ, ◌+◌, ◌-◌, ◌*◌, Bool, true, false, ◌&&◌, nat_le, List, [], ◌∷◌, encode_utf8_all, Option, None, Some, option_map, Result, Ok, Err, if◌then◌else◌}
-use Rattle.std.specs.List.{list_any, list_all}
+use Rattle.std.specs.Prelude.{ℕ, Bool, true, false, List, [], ◌∷◌, encode_utf8_all, Option, None, Some, option_map, Result, Ok, Err, if◌then◌else◌}
+use Rattle.std.specs.List.{list_any}
 use Rattle.std.specs.Str.{bytes_eq}
-use Rattle.grammar_rules.specs.Digits.{decimal, is_digit}
-use Rattle.grammar_rules.specs.Rules.{number_from}
+use Rattle.xcap_uri.specs.Numerals.{numeral_of}
 use Rattle.xcap_uri.specs.Words.{resource_lists, rls_services, xcap_caps, global, users, feed, flat, element, no_patching, xcap_patching, aggregate}
-use Rattle.xcap_uri.specs.declared.doc_id.Auid.{Auid}
-use Rattle.xcap_uri.specs.declared.doc_id.Auid.TheVariants.{ResourceLists, RlsServices, XcapCaps}
-use Rattle.xcap_uri.specs.declared.doc_id.Home.{Home}
-use Rattle.xcap_uri.specs.declared.doc_id.Home.TheVariants.{Global, User}
-use Rattle.xcap_uri.specs.declared.doc_id.DocId.{DocId}
+use Rattle.doc_names.specs.declared.doc_id.Auid.{Auid}
+use Rattle.doc_names.specs.declared.doc_id.Auid.TheVariants.{ResourceLists, RlsServices, XcapCaps}
+use Rattle.doc_names.specs.declared.doc_id.Home.{Home}
+use Rattle.doc_names.specs.declared.doc_id.Home.TheVariants.{Global, User}
+use Rattle.doc_names.specs.declared.doc_id.DocId.{DocId}
 use Rattle.xcap_uri.specs.declared.fault.UriFault.{UriFault}
 use Rattle.xcap_uri.specs.declared.fault.UriFault.TheVariants.{BadShape, UnknownAuid}
 use Rattle.xcap_uri.specs.declared.target.Mode.{Mode}
@@ -43,23 +42,9 @@ mode_of name =
     else if bytes_eq name aggregate then Some Aggregate
     else None
 
--- the first octet is a digit other than 0
-abbrev pub begins_with_digit : List ℕ → Bool
-begins_with_digit [] = false
-begins_with_digit (c ∷ cs) = is_digit c && nat_le 49 c
-
--- a numeral from 1 to the greatest 64-bit number, without leading zero
-abbrev pub is_tag : List ℕ → Bool
-is_tag octets = begins_with_digit octets && (list_all is_digit octets && nat_le (number_from decimal 0 octets) 18446744073709551615)
-
--- the same worked out digit by digit, behind digits that are worth n
-abbrev pub tag_value : ℕ → List ℕ → Option ℕ
-tag_value n [] = Some n
-tag_value n (c ∷ cs) = if is_digit c && nat_le (n * 10 + (c - 48)) 18446744073709551615 then tag_value (n * 10 + (c - 48)) cs else None
-
--- the number of a tag
+-- the number of a tag, which is a numeral
 abbrev pub tag_of : List ℕ → Option ℕ
-tag_of text = if is_tag (encode_utf8_all text) then Some (number_from decimal 0 (encode_utf8_all text)) else None
+tag_of text = numeral_of (encode_utf8_all text)
 
 -- ---- documents
 

@@ -1,8 +1,8 @@
 -- Texts that octets spell in UTF-8, as every text of the program is.
 use Rattle.std.specs.Prelude.{◌≡◌, ℕ, ◌<◌, List, All, encode_utf8_all}
 use Rattle.std.specs.Str.{IsUtf8, chars}
-use Rattle.xcap_uri.specs.declared.doc_id.Home.{Home}
-use Rattle.xcap_uri.specs.declared.doc_id.Home.TheVariants.{Global, User}
+use Rattle.doc_names.specs.declared.doc_id.Home.{Home}
+use Rattle.doc_names.specs.declared.doc_id.Home.TheVariants.{Global, User}
 
 -- a number that an octet can be
 abbrev pub IsOctet : ℕ → Type 0

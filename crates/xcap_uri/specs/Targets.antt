@@ -1,5 +1,5 @@
 -- Targets of requests: what an address means, or the first of its faults. RFC 4825, section 6.
-use Rattle.std.specs.Prelude.{ℕ, List, [], ◌∷◌, ◌++◌, codes, encode_utf8_all, Option, None, Some, option_and_then, Result, Ok, Err, if◌then◌else◌}
+use Rattle.std.specs.Prelude.{ℕ, List, [], ◌∷◌, ◌++◌, encode_utf8_all, Option, None, Some, option_and_then, Result, Ok, Err, if◌then◌else◌}
 use Rattle.std.specs.Option.{option_or}
 use Rattle.std.specs.Str.{bytes_eq, chars}
 use Rattle.xml_tree.specs.declared.names.Decl.{Decl}
@@ -10,15 +10,16 @@ use Rattle.node_select.specs.declared.selector.Selector.{Selector}
 use Rattle.node_select.specs.declared.selector.End.{End}
 use Rattle.node_select.specs.declared.selector.End.TheVariants as ends
 use Rattle.xcap_uri.specs.Cuts.{after, before, behind, pieces, joined}
-use Rattle.xcap_uri.specs.Escapes.{text_read, optional_text_read, escaped, is_visible}
+use Rattle.xcap_uri.specs.Escapes.{text_read, optional_text_read}
+use Rattle.doc_names.specs.Escapes.{escaped, is_visible}
 use Rattle.xcap_uri.specs.Gives.{◌>>=◌}
-use Rattle.xcap_uri.specs.Ids.{IsReadable, IsReadableHome}
+use Rattle.doc_names.specs.Ids.{IsReadable, IsReadableHome}
 use Rattle.xcap_uri.specs.Queries.{optional_bindings_read}
 use Rattle.xcap_uri.specs.Roots.{slash, path_of}
 use Rattle.xcap_uri.specs.Shapes.{shape_of}
-use Rattle.xcap_uri.specs.Words.{separator}
-use Rattle.xcap_uri.specs.declared.doc_id.Auid.{Auid}
-use Rattle.xcap_uri.specs.declared.doc_id.Auid.TheVariants.{ResourceLists, RlsServices, XcapCaps}
+use Rattle.doc_names.specs.Ids.{separator}
+use Rattle.doc_names.specs.declared.doc_id.Auid.{Auid}
+use Rattle.doc_names.specs.Usages.{namespace_of}
 use Rattle.xcap_uri.specs.declared.fault.UriFault.{UriFault}
 use Rattle.xcap_uri.specs.declared.fault.UriFault.TheVariants.{OutsideRoot, UnboundPrefix, BadSelector, NoMemory}
 use Rattle.xcap_uri.specs.declared.shape.Shape.{Shape}
@@ -57,12 +58,6 @@ path_read path = segments_read (pieces slash path)
 
 -- ---- last: the selector
 
--- the namespace of a usage, which a selector's unprefixed element names have
-abbrev pub namespace_of : Auid → List ℕ
-namespace_of ResourceLists = chars (codes "urn:ietf:params:xml:ns:resource-lists")
-namespace_of RlsServices = chars (codes "urn:ietf:params:xml:ns:rls-services")
-namespace_of XcapCaps = chars (codes "urn:ietf:params:xml:ns:xcap-caps")
-
 abbrev pub fault_of : SelectorFault → UriFault
 fault_of (selectors.BadSelector place) = BadSelector
 fault_of (selectors.UnboundPrefix place) = UnboundPrefix
@@ -74,7 +69,7 @@ as_target_part (Err fault) = Err (fault_of fault)
 
 -- the selector of a part of a document
 abbrev pub part_read : List Decl → Auid → List ℕ → Result Selector UriFault
-part_read bindings auid text = as_target_part (selector_read bindings (namespace_of auid) (encode_utf8_all text))
+part_read bindings auid text = as_target_part (selector_read bindings (chars (namespace_of auid)) (encode_utf8_all text))
 
 -- a notice is about an element, and about nothing else
 abbrev pub ends_in_element : End → Selector → Result Selector UriFault

@@ -19,10 +19,6 @@ global = chars (codes "global")
 abbrev pub users : List ℕ
 users = chars (codes "users")
 
--- the segment behind which the node selector stands
-abbrev pub separator : List ℕ
-separator = chars (codes "~~")
-
 -- the first segments of the addresses of notices and of flat lists
 abbrev pub feed : List ℕ
 feed = chars (codes "~feed")

@@ -1,13 +1,13 @@
 //! The law of printed ids; nothing here runs.
 ghost use Rattle.std.specs.Prelude.{◌≡◌, ◌++◌, ◌∷◌, All, Ok};
-ghost use Rattle.xcap_uri.specs.Ids.{IsReadable, id_text};
+ghost use Rattle.doc_names.specs.Ids.{IsReadable, id_text};
 ghost use Rattle.xcap_uri.specs.Roots.{path_of, slash};
 ghost use Rattle.xcap_uri.specs.Spelled.{IsOctet, IsSpelled, IsSpelledHome};
 ghost use Rattle.xcap_uri.specs.Targets.{target_read};
 ghost use Rattle.xcap_uri.specs.declared.target.Target.TheVariants as targets;
 
-use crate::doc_id::{DocId, Home};
 use crate::root::Root;
+use doc_names::{DocId, Home};
 use xml_tree::Text;
 
 // Octets are small numbers.

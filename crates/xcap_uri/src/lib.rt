@@ -1,25 +1,23 @@
-//! Addresses: the root of a server, the targets of requests under it, and the names of documents.
+//! Addresses: the root of a server, the targets of requests under it, and the addresses of homes and of nodes.
 //! Promises upward that a target is read as what it means or refused with its first fault, and that a printed document id reads back.
-//! The standard is RFC 4825, section 6; the escapes are those of RFC 3986.
+//! The standard is RFC 4825, sections 6 and 11; the escapes are those of RFC 3986.
 #![tactic(auto)]
 
+mod ancestors;
 mod cutting;
-mod doc_id;
 mod escapes;
 mod fault;
 mod laws;
-mod print;
+mod numerals;
 mod query;
 mod root;
 mod segments;
 mod shape;
 mod target;
-#[cfg(test)]
-mod tests;
 
-pub use doc_id::{Auid, DocId, Home};
+pub use ancestors::{ancestor_uri, home_uri};
 pub use fault::{RootFault, UriFault};
 pub use laws::printed_id_reads_back;
-pub use print::print_doc_id;
+pub use numerals::numeral;
 pub use root::{Root, read_root};
 pub use target::{Mode, Target, read_target};

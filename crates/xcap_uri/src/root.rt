@@ -1,9 +1,7 @@
 //! Roots (RFC 4825, section 6.1): the URI under which all addresses of a server stand.
-ghost use Rattle.std.specs.Prelude.{◌≡◌, true, IfOk, chars, unwrap_or, length, option_map, []};
-ghost use Rattle.grammar_rules.specs.Reading.{after_front};
+ghost use Rattle.std.specs.Prelude.{◌≡◌, true, IfOk, chars, unwrap_or, option_map, []};
 ghost use Rattle.std.specs.List.{list_all};
-ghost use Rattle.std.specs.Option.{option_or};
-ghost use Rattle.xcap_uri.specs.Cuts.{is_other, pieces};
+ghost use Rattle.xcap_uri.specs.Cuts.{pieces};
 ghost use Rattle.xcap_uri.specs.Gives.{Answers};
 ghost use Rattle.xcap_uri.specs.Roots.{are_authority_and_segments, authority_of, behind_scheme, is_authority_char, is_root, is_segment_char, is_some_of, path_of, root_read, slash};
 

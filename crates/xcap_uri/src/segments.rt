@@ -1,9 +1,9 @@
 //! The segments of a path (RFC 3986, section 3.3), decoded, up to the separator (RFC 4825, section 6).
-ghost use Rattle.std.specs.Prelude.{◌≡◌, ◌++◌, ◌∷◌, [], OnOk, option_map, unwrap_or};
+ghost use Rattle.std.specs.Prelude.{◌≡◌, [], option_map, unwrap_or};
 ghost use Rattle.std.specs.Str.{bytes_eq};
 ghost use Rattle.xcap_uri.specs.Gives.{Gives};
 ghost use Rattle.xcap_uri.specs.Targets.{path_read};
-ghost use Rattle.xcap_uri.specs.Words.{separator};
+ghost use Rattle.doc_names.specs.Ids.{separator};
 
 use crate::cutting::cut;
 use crate::escapes::read_part;

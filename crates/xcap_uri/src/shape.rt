@@ -3,11 +3,12 @@
 ghost use Rattle.std.specs.Prelude.{◌≡◌, IfOk};
 ghost use Rattle.std.specs.List.{list_any};
 ghost use Rattle.xcap_uri.specs.Gives.{Answers};
-ghost use Rattle.xcap_uri.specs.Shapes.{auid_of, begins_with_digit, changes, changes_or_part, document, doc_of, feed_shape, flat_shape, in_home, in_usage, is_empty, mode_of, named, of_usage, of_user, part_changes, shape_of, stored_auid_of, stored_doc, tag_of, tag_value};
+ghost use Rattle.xcap_uri.specs.Shapes.{auid_of, changes, changes_or_part, document, doc_of, feed_shape, flat_shape, in_home, in_usage, is_empty, mode_of, named, of_usage, of_user, part_changes, shape_of, stored_auid_of, stored_doc, tag_of};
 
-use crate::doc_id::{Auid, DocId, Home};
 use crate::fault::UriFault;
+use crate::numerals::numeral;
 use crate::target::Mode;
+use doc_names::{Auid, DocId, Home};
 use std::alloc::{AllocError, Global};
 use xml_tree::Text;
 
@@ -73,37 +74,11 @@ fn mode_of(name: &Text) -> Option<Mode>
     None
 }
 
-// Whether the first octet is a digit other than 0.
-fn begins_with_digit(octets: &[u8]) -> bool
-    ensures { result ≡ begins_with_digit octets.now }
-{
-    matches!(octets, [b'1'..=b'9', ..])
-}
-
-// The number that digits are worth, if it has at most 64 bits.
-fn numeral(octets: &[u8]) -> Option<u64>
-    ensures { result ≡ tag_value 0 octets.now }
-{
-    let mut value: u64 = 0;
-    for &b in octets {
-        if !matches!(b, b'0'..=b'9') {
-            return None;
-        }
-        let digit = (b - b'0') as u64;
-        value = value.checked_mul(10)?.checked_add(digit)?;
-    }
-    Some(value)
-}
-
 // The number of a tag.
 fn tag_of(text: &Text) -> Option<u64>
     ensures { result ≡ tag_of text.now }
 {
-    let octets = text.as_str().as_bytes();
-    if !begins_with_digit(octets) {
-        return None;
-    }
-    numeral(octets)
+    numeral(text.as_str().as_bytes())
 }
 
 // A document, or with a selector a part of it.

@@ -1,18 +1,18 @@
 //! Targets of requests (RFC 4825, section 6): what the address in a request means under the root.
-ghost use Rattle.std.specs.Prelude.{◌≡◌, ◌++◌, None, Err, chars, option_map, IfOk, OnOk, string_bytes};
-ghost use Rattle.xcap_uri.specs.Escapes.{escaped, is_visible};
+ghost use Rattle.std.specs.Prelude.{◌≡◌, ◌++◌, None, Err, option_map, IfOk, OnOk, string_bytes};
+ghost use Rattle.doc_names.specs.Escapes.{escaped, is_visible};
 ghost use Rattle.xcap_uri.specs.Roots.{path_of};
 ghost use Rattle.xcap_uri.specs.Gives.{Answers};
-ghost use Rattle.xcap_uri.specs.Targets.{IsReadableTarget, about_element, namespace_of, part_read, raw_text, rest_read, target_of, target_read, under, under_root, with_query};
+ghost use Rattle.xcap_uri.specs.Targets.{IsReadableTarget, about_element, part_read, raw_text, rest_read, target_of, target_read, under, under_root, with_query};
 
 use crate::cutting::{after, cut};
-use crate::doc_id::{Auid, DocId, Home};
-use crate::escapes::{push_visible, read_optional_part};
+use crate::escapes::read_optional_part;
 use crate::fault::{UriFault, selector_fault};
 use crate::query::read_query;
 use crate::root::Root;
 use crate::segments::read_path;
 use crate::shape::{Shape, shape_of};
+use doc_names::{Auid, DocId, Home, push_visible};
 use node_select::{Bindings, End, Selector, read_selector};
 use std::alloc::{AllocError, Global};
 use tree_text::no_text;
@@ -87,22 +87,11 @@ fn under_root<'a>(root: &Root, target: &'a [u8]) -> Option<&'a [u8]>
     }
 }
 
-// The namespace that the unprefixed element names of a selector have.
-fn namespace_of(auid: Auid) -> &'static str
-    ensures { chars result.now ≡ namespace_of auid }
-{
-    match auid {
-        Auid::ResourceLists => "urn:ietf:params:xml:ns:resource-lists",
-        Auid::RlsServices => "urn:ietf:params:xml:ns:rls-services",
-        Auid::XcapCaps => "urn:ietf:params:xml:ns:xcap-caps",
-    }
-}
-
 // The selector of a part of a document.
 fn part(alloc: Global, bindings: &Bindings, auid: Auid, text: &Text) -> Result<Selector, UriFault>
     ensures { Answers UriFault.NoMemory (part_read bindings.now auid text.now) result }
 {
-    match read_selector(alloc, text.as_str(), bindings, namespace_of(auid)) {
+    match read_selector(alloc, text.as_str(), bindings, auid.namespace()) {
         Ok(selector) => Ok(selector),
         Err(fault) => Err(selector_fault(&fault)),
     }

@@ -7,7 +7,7 @@
 use std::process::ExitCode;
 use std::rt::Env;
 use std::{env, io};
-use watch_port::{Audit, Watcher};
+use watchers::{Audit, Watcher};
 use xcap_app::run;
 use xcap_io::{StdSink, StdSource, TcpPeer, TcpPort};
 

@@ -10,11 +10,13 @@ pub mod IndexLemmas
 pub mod KidLemmas
 pub mod Letters
 pub mod PathLemmas
+pub mod PathLetters
 pub mod PlaceLaws
 pub mod Places
 pub mod PrintLengths
 pub mod PrintedNodes
 pub mod ProperEdits
+pub mod ReferenceLetters
 pub mod Removals
 pub mod RunLemmas
 pub mod ScopeLemmas

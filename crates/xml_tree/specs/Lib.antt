@@ -10,6 +10,7 @@ pub mod Falls
 pub mod Gathering
 pub mod Lending
 pub mod Nodes
+pub mod PathTexts
 pub mod Print
 pub mod Proper
 pub mod Scopes

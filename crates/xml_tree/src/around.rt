@@ -67,11 +67,11 @@ impl<'a> Around<'a> {
     }
 
     /// The scope inside an element with these declarations, in this scope. Takes no memory.
-    pub fn inside(&'a self, declared: &'a Declared<'a>) -> Around<'a>
+    pub fn inside<'b>(&'b self, declared: &'b Declared<'_>) -> Around<'b>
         ensures { result ≡ self.now ++ declared.now ∷ [] }
     {
         Around {
-            place: Place::Within(self, declared),
+            place: Place::Within(&*self, &*declared),
         }
     }
 

@@ -15,19 +15,17 @@ mod names;
 mod node_edits;
 mod nodes;
 mod path;
+mod path_texts;
 mod printed;
 mod proper_laws;
+mod references;
 mod runs;
 mod scope;
 mod scope_laws;
 mod text;
 mod text_bytes;
 mod tree;
-#[cfg(test)]
-mod tree_tests;
 mod whole;
-#[cfg(test)]
-mod word_tests;
 
 pub use around::Around;
 pub use characters::{is_char, is_name, is_name_char, is_name_start, is_space};
@@ -38,12 +36,15 @@ pub use laws::{
 };
 pub use list::List;
 pub use names::{Attr, Decl, Name, copy_decls};
+pub use nodes::{place_of, place_of_gap};
 pub use path::{Path, element_at};
-pub use printed::{decl_len, printed_len};
+pub use path_texts::print_path;
+pub use printed::{decl_len, decls_len, printed_len, text_len, value_len};
 pub use proper_laws::{
     proper_after_an_edit, proper_at_each_place, proper_in_scopes_that_bind_alike, proper_when_put,
 };
-pub use scope::Scope;
+pub use references::{text_reference, value_reference};
+pub use scope::{Scope, is_xml};
 pub use scope_laws::bindings_are_those_of_the_scope;
 pub use std::alloc::AllocError as NoMemory;
 pub use text::Text;

@@ -13,8 +13,8 @@ use crate::tree::{Element, Node};
 use std::alloc::{AllocError, AllocFailed, Global};
 use std::mem;
 
-// The place of an element child among the nodes, or the number of nodes.
-pub(crate) fn place_of(nodes: &[Node], child: usize) -> usize
+/// The place of an element child among nodes, or the number of nodes where it isn't there.
+pub fn place_of(nodes: &[Node], child: usize) -> usize
     ensures place { result ≡ place child nodes.now }
     ensures within { result ≤ length nodes.now }
 {
@@ -138,8 +138,8 @@ pub(crate) fn text_at(nodes: &[Node], place: usize) -> Option<&Text>
     nodes[place].text()
 }
 
-// The place of a gap among the nodes.
-pub(crate) fn place_of_gap(nodes: &[Node], gap: usize) -> usize
+/// The place of a gap between element children among nodes: behind the child before it.
+pub fn place_of_gap(nodes: &[Node], gap: usize) -> usize
     ensures { result ≡ gap_place gap nodes.now }
 {
     if gap == 0 {

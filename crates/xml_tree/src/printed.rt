@@ -1,8 +1,9 @@
 //! The length of the print of an element. It is counted from the tree, and nothing is printed.
 ghost use Rattle.std.specs.Prelude.{◌≡◌, flat_map, length, min};
-ghost use Rattle.xml_tree.specs.Print.{byte_len, closing, declaring, opening, print, print_attr, print_comment, print_decl, print_name, print_node, quoted, text_escape, value_escape};
+ghost use Rattle.xml_tree.specs.Print.{byte_len, declaring, opening, print, print_attr, print_comment, print_decl, print_name, print_node, quoted, text_escape, value_escape};
 
 use crate::names::{Attr, Decl, Name};
+use crate::references::{text_reference, value_reference};
 use crate::text::Text;
 use crate::tree::{Element, Node};
 
@@ -10,10 +11,9 @@ use crate::tree::{Element, Node};
 fn text_width(byte: u8) -> usize
     ensures { result ≡ length (text_escape byte) }
 {
-    match byte {
-        b'&' | b'\r' => 5,
-        b'<' | b'>' => 4,
-        _ => 1,
+    match text_reference(byte as char) {
+        Some(reference) => reference.len(),
+        None => 1,
     }
 }
 
@@ -21,16 +21,14 @@ fn text_width(byte: u8) -> usize
 fn value_width(byte: u8) -> usize
     ensures { result ≡ length (value_escape byte) }
 {
-    match byte {
-        b'"' => 6,
-        b'&' | b'\t' | b'\n' | b'\r' => 5,
-        b'<' => 4,
-        _ => 1,
+    match value_reference(byte as char) {
+        Some(reference) => reference.len(),
+        None => 1,
     }
 }
 
-// The length of the print of a text; the greatest number where it is longer, as in all that follows.
-fn text_len(text: &[u8]) -> usize
+/// The length in bytes of the print of a text, by its bytes; the greatest number where it is longer, as in all that follows. Takes no memory.
+pub fn text_len(text: &[u8]) -> usize
     ensures { result ≡ min (length (flat_map text_escape text.now)) usize.MAX }
 {
     let mut total = 0usize;
@@ -40,8 +38,8 @@ fn text_len(text: &[u8]) -> usize
     total
 }
 
-// The length of a value as it is written, without the quotes.
-fn value_len(value: &[u8]) -> usize
+/// The length in bytes of a value as it is written, without the quotes, by its bytes. Takes no memory.
+pub fn value_len(value: &[u8]) -> usize
     ensures { result ≡ min (length (flat_map value_escape value.now)) usize.MAX }
 {
     let mut total = 0usize;
@@ -107,9 +105,9 @@ fn attr_len(attr: &Attr) -> usize
         .saturating_add(2)
 }
 
-// The length of all declarations of an element.
+/// The length in bytes of all declarations of an element as they are printed in its tag. Takes no memory.
 #[tactic(auto, using(crate::proofs::PrintLengths::lengths))]
-fn decls_len(decls: &[Decl]) -> usize
+pub fn decls_len(decls: &[Decl]) -> usize
     ensures { result ≡ min (byte_len (flat_map print_decl decls.now)) usize.MAX }
 {
     let mut total = 0usize;

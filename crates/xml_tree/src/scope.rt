@@ -128,8 +128,8 @@ impl<'a> Scope<'a> {
     }
 }
 
-// Whether a prefix is `xml`, which is always bound.
-pub(crate) fn is_xml(prefix: &str) -> bool
+/// Whether a prefix is `xml`, which is always bound.
+pub fn is_xml(prefix: &str) -> bool
     ensures { result ≡ bytes_eq (chars prefix.now) xml_prefix }
 {
     prefix == "xml"

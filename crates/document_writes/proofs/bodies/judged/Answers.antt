@@ -1,5 +1,5 @@
 use Rattle.std.proofs.Common.{Option, subst}
-use Rattle.reply_text.specs.declared.conflicts.ErrorBody.{ErrorBody}
+use Rattle.conflict_docs.specs.declared.conflicts.ErrorBody.{ErrorBody}
 use Rattle.machine_words.specs.Writing.{IsJudged}
 use Rattle.document_writes.proofs.Coming.{tree_comes}
 use Rattle.document_writes.proofs.bodies.judged.Goals as goal

@@ -1,4 +1,4 @@
-use Rattle.node_select.specs.Selection.{path_text}
+use Rattle.xml_tree.specs.PathTexts.{path_text}
 use Rattle.document_writes.proofs.Fields.{field_is}
 use Rattle.document_writes.proofs.conflicts.clash_field.Goals as goal
 

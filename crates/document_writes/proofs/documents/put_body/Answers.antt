@@ -1,5 +1,5 @@
 use Rattle.std.proofs.Common.{None, refl, subst}
-use Rattle.store_core.specs.Keeping.{usage_of}
+use Rattle.doc_names.specs.Usages.{usage_of}
 use Rattle.machine_words.specs.Answers.{Answer}
 use Rattle.machine_words.specs.Writing.{PutsBody}
 use Rattle.document_writes.specs.Bodies.{IsBodyOf}

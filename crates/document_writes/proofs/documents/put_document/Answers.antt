@@ -1,6 +1,6 @@
 use Rattle.std.proofs.Common.{None, refl, sym, ◌∙◌}
 use Rattle.std.proofs.lemmas.Result.{IfOk-weaker}
-use Rattle.store_core.specs.Keeping.{usage_of}
+use Rattle.doc_names.specs.Usages.{usage_of}
 use Rattle.machine_words.specs.Machine.{Does}
 use Rattle.machine_words.specs.Writing.{PutsBody, PutsDocument}
 use Rattle.document_writes.specs.declared.written.Written.{Written}

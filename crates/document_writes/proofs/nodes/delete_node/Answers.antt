@@ -1,7 +1,7 @@
 use Rattle.std.proofs.Common.{[], Some}
 use Rattle.std.proofs.lemmas.Result.{IfOk-weaker}
 use Rattle.reply_text.specs.Heads.{Sent}
-use Rattle.xcap_uri.specs.declared.doc_id.DocId.{DocId}
+use Rattle.doc_names.specs.declared.doc_id.DocId.{DocId}
 use Rattle.machine_words.specs.Answers.{unchanged}
 use Rattle.machine_words.specs.Writing.{DeletesNode, DeletesNodeOf}
 use Rattle.document_writes.proofs.Deciding.{delete_in_held, delete_in_absent}

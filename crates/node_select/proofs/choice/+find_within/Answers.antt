@@ -14,6 +14,6 @@ returns t c =
     let found = λ (s : List (List Decl)). position (is_attr s (chars c.args.uri.now) (chars c.args.local.now)) c.args.attrs.now in
     let ls = c.args.lists.now in
     let rest = map (λ x. x.now) (take (length ls - 1) (drop 1 ls)) in
-    let first = c.scope_inside.ensures ∙ ap (λ (ds : List Decl). c.args.scope.now ++ ds ∷ []) c.declared_in-declared.ensures in
+    let first = c.inside.ensures ∙ ap (λ (ds : List Decl). c.args.scope.now ++ ds ∷ []) c.declared_in-declared.ensures in
     c.find_within.ensures ∙ ap (λ (s : List (List Decl)). found (s ++ rest)) first
     ∙ ap found (first_inside c.args.scope.now ls c.list-item.result c.in-len1-up.len_at_least c.list-item.is)

@@ -1,7 +1,7 @@
 use Rattle.std.proofs.Common.{map, arith}
 use Rattle.std.proofs.lemmas.List.{length-map}
-use Rattle.patch_words.specs.Operations.{weight}
-use Rattle.patch_record.specs.Recorded.{note_in}
+use Rattle.notes.specs.Operations.{weight}
+use Rattle.notes.specs.Recorded.{note_in}
 use Rattle.store_core.proofs.Rings.{light-is, one-stays}
 use Rattle.store_core.proofs.entry.is_heavy.Goals as goal
 

@@ -1,5 +1,5 @@
 use Rattle.std.proofs.Common.{◌≡◌, length, map}
-use Rattle.patch_record.specs.Recorded.{note_in}
+use Rattle.notes.specs.Recorded.{note_in}
 use Rattle.store_core.specs.State.{retained}
 use Rattle.store_core.proofs.entry.trim.Given as goal
 

@@ -1,7 +1,7 @@
 use Rattle.std.proofs.Common.{ap, arith}
-use Rattle.patch_words.specs.Operations.{weight}
-use Rattle.patch_record.specs.Recorded.{note_in}
-use Rattle.patch_record.specs.declared.edit_note.EditNote.{EditNote}
+use Rattle.notes.specs.Operations.{weight}
+use Rattle.notes.specs.Recorded.{note_in}
+use Rattle.notes.specs.declared.edit_note.EditNote.{EditNote}
 use Rattle.store_core.proofs.Rings.{weighed-next}
 use Rattle.store_core.proofs.entry.weight_of.Goals as goal
 

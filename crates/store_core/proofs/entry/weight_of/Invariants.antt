@@ -1,6 +1,6 @@
 use Rattle.std.proofs.Common.{◌≡◌, ◌+◌, ◌≤◌, drop, map, min, sum_by}
-use Rattle.patch_words.specs.Operations.{weight}
-use Rattle.patch_record.specs.Recorded.{note_in}
+use Rattle.notes.specs.Operations.{weight}
+use Rattle.notes.specs.Recorded.{note_in}
 use Rattle.store_core.proofs.entry.weight_of.Given as goal
 
 abbrev pub invariant-loop-note : goal.invariant-loop-note

@@ -1,9 +1,9 @@
 use Rattle.std.proofs.Common.{◌≡◌, ℕ, List, [], false, ap, ◌∙◌}
 use Rattle.xml_tree.specs.Tree.{Tree}
-use Rattle.xcap_uri.specs.declared.doc_id.DocId.{DocId}
+use Rattle.doc_names.specs.declared.doc_id.DocId.{DocId}
 use Rattle.edit_ops.specs.declared.change.Change.TheVariants.{CreateDocument}
-use Rattle.patch_words.specs.Notes.{Note}
-use Rattle.patch_record.specs.Recorded.{note_in}
+use Rattle.notes.specs.Notes.{Note}
+use Rattle.notes.specs.Recorded.{note_in}
 use Rattle.store_core.specs.declared.entry.Entry.{Entry}
 use Rattle.store_core.specs.declared.step.Step.TheVariants.{Make}
 use Rattle.store_core.specs.Preparing.{Readied}

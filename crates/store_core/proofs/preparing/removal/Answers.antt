@@ -1,9 +1,9 @@
 use Rattle.std.proofs.Common.{◌≡◌, ℕ, List, [], false, ap, ◌∙◌}
 use Rattle.xml_tree.specs.Tree.{Tree, last}
-use Rattle.xcap_uri.specs.declared.doc_id.DocId.{DocId}
+use Rattle.doc_names.specs.declared.doc_id.DocId.{DocId}
 use Rattle.edit_ops.specs.declared.change.Change.TheVariants.{RemoveDocument}
-use Rattle.patch_words.specs.Notes.{Note}
-use Rattle.patch_record.specs.Recorded.{note_in}
+use Rattle.notes.specs.Notes.{Note}
+use Rattle.notes.specs.Recorded.{note_in}
 use Rattle.store_core.specs.declared.step.Step.TheVariants.{End}
 use Rattle.store_core.specs.Preparing.{Readied}
 use Rattle.store_core.proofs.preparing.removal.Goals as goal

@@ -1,7 +1,7 @@
 use Rattle.std.proofs.Common.{◌≡◌, Some, refl, sym, subst, ◌∙◌}
 use Rattle.std.proofs.lemmas.Option.{same_Some}
 use Rattle.std.specs.Map.{lookup}
-use Rattle.xcap_uri.specs.Same.{same_id}
+use Rattle.doc_names.specs.Same.{same_id}
 use Rattle.store_core.specs.declared.entry.Entry.{Entry}
 use Rattle.store_core.proofs.Keyed.{exchanged-in, looked-up}
 use Rattle.store_core.proofs.step.exchange.Goals as goal

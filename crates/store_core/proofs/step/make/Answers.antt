@@ -1,6 +1,6 @@
 use Rattle.std.proofs.Common.{◌∙◌}
 use Rattle.indexmap.proofs.CallerLemmas.{insert_entry-new}
-use Rattle.xcap_uri.specs.contracts.doc_id.DocIdPartialEq.TheImpl.{eq-value}
+use Rattle.doc_names.specs.contracts.doc_id.DocIdPartialEq.TheImpl.{eq-value}
 use Rattle.store_core.proofs.Keyed.{looked-up}
 use Rattle.store_core.proofs.step.make.Goals as goal
 

@@ -15,20 +15,20 @@ use Rattle.usage_docs.proofs.keys.+clashes.Goals.{clash_inside-in-Elem+in_ok-cla
 
 pub clash_at-returns-in_default-clause-first : goal.clash_at-returns-in_default-clause-first
 clash_at-returns-in_default-clause-first t c =
-    let s = scope_is c.args.scope.now c.args.kid.now c.scope_inside-inside.result c.in_ok-declared.declared c.decls.result.now c.scope_inside-inside.ensures c.in_ok-declared.ensures c.decls.ensures in
-    let e = kind_is c.args.row c.args.scope.now c.args.kid.now c.scope_inside-inside.result c.name.result.now c.kind_of.result None c.kind_of.ensures s c.name.ensures c.in_default.is in
+    let s = scope_is c.args.scope.now c.args.kid.now c.inside-inside.result c.in_ok-declared.declared c.decls.result.now c.inside-inside.ensures c.in_ok-declared.ensures c.decls.ensures in
+    let e = kind_is c.args.row c.args.scope.now c.args.kid.now c.inside-inside.result c.name.result.now c.kind_of.result None c.kind_of.ensures s c.name.ensures c.in_default.is in
     λ ms holds. at_none c.args.row c.args.scope.now ms c.args.kid.now c.args.here e
 
 pub clash_at-returns-in_default-clause-holds : goal.clash_at-returns-in_default-clause-holds
 clash_at-returns-in_default-clause-holds t c =
-    let s = scope_is c.args.scope.now c.args.kid.now c.scope_inside-inside.result c.in_ok-declared.declared c.decls.result.now c.scope_inside-inside.ensures c.in_ok-declared.ensures c.decls.ensures in
-    let e = kind_is c.args.row c.args.scope.now c.args.kid.now c.scope_inside-inside.result c.name.result.now c.kind_of.result None c.kind_of.ensures s c.name.ensures c.in_default.is in
+    let s = scope_is c.args.scope.now c.args.kid.now c.inside-inside.result c.in_ok-declared.declared c.decls.result.now c.inside-inside.ensures c.in_ok-declared.ensures c.decls.ensures in
+    let e = kind_is c.args.row c.args.scope.now c.args.kid.now c.inside-inside.result c.name.result.now c.kind_of.result None c.kind_of.ensures s c.name.ensures c.in_default.is in
     λ ms holds none. without_kind c.args.row c.args.scope.now c.args.kid.now ms c.args.seen.now e holds
 
 pub clash_at-returns-in-Some-2-clause-first : goal.clash_at-returns-in-Some-2-clause-first
 clash_at-returns-in-Some-2-clause-first t c =
-    let s = scope_is c.args.scope.now c.args.kid.now c.scope_inside-inside.result c.in_ok-declared.declared c.decls.result.now c.scope_inside-inside.ensures c.in_ok-declared.ensures c.decls.ensures in
-    let e = kind_is c.args.row c.args.scope.now c.args.kid.now c.scope_inside-inside.result c.name.result.now c.kind_of.result (Some c.in-Some.kind) c.kind_of.ensures s c.name.ensures c.in-Some.is in
+    let s = scope_is c.args.scope.now c.args.kid.now c.inside-inside.result c.in_ok-declared.declared c.decls.result.now c.inside-inside.ensures c.in_ok-declared.ensures c.decls.ensures in
+    let e = kind_is c.args.row c.args.scope.now c.args.kid.now c.inside-inside.result c.name.result.now c.kind_of.result (Some c.in-Some.kind) c.kind_of.ensures s c.name.ensures c.in-Some.is in
     let clash : Clash = record { path = c.args.here; key = c.in-Some-2.key } in
     λ ms holds.
     let k = subst (λ (o : Option _). RepeatedKey ms c.in-Some.kind c.attrs.result.now o) c.in-Some-2.is (c.in_ok-key.ensures.repeats ms holds) in
@@ -40,8 +40,8 @@ clash_at-returns-clause-first t c =
     let scope = c.args.scope.now in
     let kid = c.args.kid.now in
     let kind = c.in-Some.kind in
-    let s = scope_is scope kid c.scope_inside-inside.result c.in_ok-declared.declared c.decls.result.now c.scope_inside-inside.ensures c.in_ok-declared.ensures c.decls.ensures in
-    let e = kind_is row scope kid c.scope_inside-inside.result c.name.result.now c.kind_of.result (Some kind) c.kind_of.ensures s c.name.ensures c.in-Some.is in
+    let s = scope_is scope kid c.inside-inside.result c.in_ok-declared.declared c.decls.result.now c.inside-inside.ensures c.in_ok-declared.ensures c.decls.ensures in
+    let e = kind_is row scope kid c.inside-inside.result c.name.result.now c.kind_of.result (Some kind) c.kind_of.ensures s c.name.ensures c.in-Some.is in
     let below = subst (λ (x : Scope). IfOk c.clash_inside.result (λ found. IsFirst (RepeatsAt kind x (kids_of kid)) c.args.here found)) s c.clash_inside.ensures in
     λ ms holds.
     let k = subst (λ (o : Option _). RepeatedKey ms kind c.attrs.result.now o) c.in_default-2.is (c.in_ok-key.ensures.repeats ms holds) in
@@ -54,13 +54,13 @@ clash_at-returns-clause-holds t c =
     let scope = c.args.scope.now in
     let kid = c.args.kid.now in
     let kind = c.in-Some.kind in
-    let s = scope_is scope kid c.scope_inside-inside.result c.in_ok-declared.declared c.decls.result.now c.scope_inside-inside.ensures c.in_ok-declared.ensures c.decls.ensures in
-    let e = kind_is row scope kid c.scope_inside-inside.result c.name.result.now c.kind_of.result (Some kind) c.kind_of.ensures s c.name.ensures c.in-Some.is in
+    let s = scope_is scope kid c.inside-inside.result c.in_ok-declared.declared c.decls.result.now c.inside-inside.ensures c.in_ok-declared.ensures c.decls.ensures in
+    let e = kind_is row scope kid c.inside-inside.result c.name.result.now c.kind_of.result (Some kind) c.kind_of.ensures s c.name.ensures c.in-Some.is in
     λ ms holds.
     let held = c.in_ok-key.ensures.holds ms holds c.in_default-2.is in
     let own = subst (λ (ats : List Attr). Holds (ms ++ own_marks kind ats) c.repeated_key.new.seen) c.attrs.ensures held in
     let all = subst (λ (ns : List Mark). Holds (ms ++ ns) c.repeated_key.new.seen) (by_kind row scope kid kind e) own in
-    IfOk-weaker c.clash_inside.result (λ found. IsFirst (RepeatsAt kind c.scope_inside-inside.result (kids_of kid)) c.args.here found) (λ found. found ≡ None → Holds (ms ++ marks_of row scope (kid ∷ [])) c.repeated_key.new.seen) (λ found h none. all) c.clash_inside.ensures
+    IfOk-weaker c.clash_inside.result (λ found. IsFirst (RepeatsAt kind c.inside-inside.result (kids_of kid)) c.args.here found) (λ found. found ≡ None → Holds (ms ++ marks_of row scope (kid ∷ [])) c.repeated_key.new.seen) (λ found h none. all) c.clash_inside.ensures
 
 pub clash_inside-loop-node-init : goal.clash_inside-loop-node-init
 clash_inside-loop-node-init t c = record {

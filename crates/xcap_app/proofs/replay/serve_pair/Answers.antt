@@ -2,7 +2,7 @@ use Rattle.std.proofs.Common.{rules, [], ◌∷◌}
 use Rattle.xcap_io.specs.Pairs.{pair_state}
 use Rattle.xcap_io.specs.declared.line.Failed.{Failed}
 use Rattle.xcap_app.specs.Replays.{ServesInput}
-use Rattle.xcap_server.specs.declared.connection.Ended.TheVariants.{Closed}
+use Rattle.http_serve.specs.declared.connection.Ended.TheVariants.{Closed}
 use Rattle.xcap_app.proofs.Pairs.{by_pair, no_connection}
 use Rattle.xcap_app.proofs.replay.serve_pair.Goals as goal
 

@@ -1,5 +1,5 @@
 use Rattle.indexmap.specs.IndexMap.{spare}
-use Rattle.patch_record.specs.Recorded.{note_in}
+use Rattle.notes.specs.Recorded.{note_in}
 use Rattle.store_core.specs.Preparing.{Readied}
 use Rattle.store_core.specs.Storing.{Room}
 use Rattle.store_core.proofs.Committed.{holds-next, may-step, still-storing}

@@ -3,7 +3,7 @@ use Rattle.std.proofs.lemmas.Result.{err_from_is_err_and}
 use Rattle.xml_tree.specs.Tree.{Tree}
 use Rattle.usage_docs.specs.Services.{document_len}
 use Rattle.edit_ops.specs.Changes.{edited}
-use Rattle.patch_words.specs.Notes.{note_of}
+use Rattle.notes.specs.Notes.{note_of}
 use Rattle.store_core.specs.Held.{Held}
 use Rattle.store_core.specs.Keeping.{addresses_in}
 use Rattle.store_core.specs.Changing.{document_in, held_name}

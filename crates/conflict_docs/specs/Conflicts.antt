@@ -1,0 +1,90 @@
+-- Conflict documents. RFC 4825, section 11 (detailed conflict reports).
+use Rattle.std.specs.Prelude.{◌≢◌, ℕ, List, [], ◌∷◌, ◌++◌, codes, encode_utf8_all, flat_map}
+use Rattle.xml_tree.specs.Tree.{last, Tree, tree_of, more_of}
+use Rattle.xml_tree.specs.Print.{print, text_escape, value_escape}
+use Rattle.xml_tree.specs.declared.names.Name.{Name}
+use Rattle.xml_tree.specs.declared.names.Decl.{Decl}
+use Rattle.conflict_docs.specs.declared.conflicts.ErrorBody.{ErrorBody}
+use Rattle.conflict_docs.specs.declared.conflicts.ErrorBody.TheVariants.{NotUtf8, NotWellFormed, NotXmlFrag, NotXmlAttValue, NoParent, Schema, CannotInsert, CannotDelete, Unique, Constraint}
+
+-- what stands before the child of the root, and behind it; there is no white space between the elements
+abbrev pub opening_bytes : List ℕ
+opening_bytes =
+    codes "<?xml version=" ++ (34 ∷ []) ++ codes "1.0" ++ (34 ∷ []) ++ codes " encoding=" ++ (34 ∷ []) ++ codes "UTF-8" ++ (34 ∷ []) ++ codes "?>" ++ (10 ∷ [])
+    ++ codes "<xcap-error xmlns=" ++ (34 ∷ []) ++ codes "urn:ietf:params:xml:ns:xcap-error" ++ (34 ∷ []) ++ codes ">"
+
+abbrev pub closing_bytes : List ℕ
+closing_bytes = codes "</xcap-error>"
+
+-- the child, with the bytes of a URI or of a field
+abbrev pub no_parent_bytes : List ℕ → List ℕ
+no_parent_bytes uri = codes "<no-parent><ancestor>" ++ flat_map text_escape uri ++ codes "</ancestor></no-parent>"
+
+abbrev pub unique_bytes : List ℕ → List ℕ
+unique_bytes field = (codes "<uniqueness-failure><exists field=" ++ (34 ∷ [])) ++ flat_map value_escape field ++ (34 ∷ codes "/></uniqueness-failure>")
+
+abbrev pub child_bytes : ErrorBody → List ℕ
+child_bytes NotUtf8 = codes "<not-utf-8/>"
+child_bytes NotWellFormed = codes "<not-well-formed/>"
+child_bytes NotXmlFrag = codes "<not-xml-frag/>"
+child_bytes NotXmlAttValue = codes "<not-xml-att-value/>"
+child_bytes (NoParent uri) = no_parent_bytes (encode_utf8_all uri)
+child_bytes Schema = codes "<schema-validation-error/>"
+child_bytes CannotInsert = codes "<cannot-insert/>"
+child_bytes CannotDelete = codes "<cannot-delete/>"
+child_bytes (Unique field) = unique_bytes (encode_utf8_all field)
+child_bytes Constraint = codes "<constraint-failure/>"
+
+-- the bytes of a conflict document
+abbrev pub conflict_bytes : ErrorBody → List ℕ
+conflict_bytes body = opening_bytes ++ child_bytes body ++ closing_bytes
+
+-- ---- the same as a tree
+
+abbrev pub name_of : List ℕ → Name
+name_of local = record { prefix = []; local = local }
+
+-- an element of this name, without anything in it
+abbrev pub empty : List ℕ → Tree
+empty local = tree_of (name_of local) [] [] (last [])
+
+-- an element with one child and no white space
+abbrev pub around : List ℕ → Tree → Tree
+around local kid = tree_of (name_of local) [] [] (more_of [] kid (last []))
+
+-- the child of the root that says what is wrong
+abbrev pub conflict : ErrorBody → Tree
+conflict NotUtf8 = empty (codes "not-utf-8")
+conflict NotWellFormed = empty (codes "not-well-formed")
+conflict NotXmlFrag = empty (codes "not-xml-frag")
+conflict NotXmlAttValue = empty (codes "not-xml-att-value")
+conflict (NoParent uri) = around (codes "no-parent") (tree_of (name_of (codes "ancestor")) [] [] (last uri))
+conflict Schema = empty (codes "schema-validation-error")
+conflict CannotInsert = empty (codes "cannot-insert")
+conflict CannotDelete = empty (codes "cannot-delete")
+conflict (Unique field) = around (codes "uniqueness-failure") (tree_of (name_of (codes "exists")) [] (record { name = name_of (codes "field"); value = field } ∷ []) (last []))
+conflict Constraint = empty (codes "constraint-failure")
+
+-- the default namespace of the document
+abbrev pub error_decls : List Decl
+error_decls = record { prefix = []; uri = codes "urn:ietf:params:xml:ns:xcap-error" } ∷ []
+
+abbrev pub conflict_root : ErrorBody → Tree
+conflict_root body = tree_of (name_of (codes "xcap-error")) error_decls [] (more_of [] (conflict body) (last []))
+
+-- a document's print: the declaration of XML, a line end, the root
+abbrev pub document_text : Tree → List ℕ
+document_text t = (codes "<?xml version=" ++ (34 ∷ codes "1.0" ++ (34 ∷ codes " encoding=" ++ (34 ∷ codes "UTF-8" ++ (34 ∷ codes "?>"))))) ++ 10 ∷ print t
+
+-- a URI, where there is one, is not empty
+abbrev pub IsNamed : ErrorBody → Type 0
+IsNamed NotUtf8 = Unit {0}
+IsNamed NotWellFormed = Unit {0}
+IsNamed NotXmlFrag = Unit {0}
+IsNamed NotXmlAttValue = Unit {0}
+IsNamed (NoParent uri) = uri ≢ []
+IsNamed Schema = Unit {0}
+IsNamed CannotInsert = Unit {0}
+IsNamed CannotDelete = Unit {0}
+IsNamed (Unique field) = Unit {0}
+IsNamed Constraint = Unit {0}

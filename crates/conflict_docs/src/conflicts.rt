@@ -1,0 +1,123 @@
+//! Conflict documents (RFC 4825, section 11).
+ghost use Rattle.std.specs.Prelude.{◌≡◌, [], ◌∷◌, ◌++◌, IfNone, IfOk, IfSome, OnOk, encode_utf8_all, flat_map};
+ghost use Rattle.xml_tree.specs.Print.{text_escape, value_escape};
+ghost use Rattle.conflict_docs.specs.Conflicts.{IsNamed, document_text, conflict_root, conflict_bytes, child_bytes, no_parent_bytes, unique_bytes};
+
+use std::alloc::Global;
+use xcap_io::Bytes;
+use xml_tree::{NoMemory, Text, text_reference, value_reference};
+
+/// Why a request conflicts with the document that it is made on.
+#[derive(Debug, Drop)]
+pub enum ErrorBody {
+    NotUtf8,
+    NotWellFormed,
+    NotXmlFrag,
+    NotXmlAttValue,
+    /// The nearest ancestor that is there, as a URI.
+    NoParent(Text),
+    Schema,
+    CannotInsert,
+    CannotDelete,
+    /// The attribute whose value is already there: a path, `/@` and a name.
+    Unique(Text),
+    Constraint,
+}
+
+// What stands before the child of the root, and behind it.
+const OPENING: &[u8] =
+    b"<?xml version=\"1.0\" encoding=\"UTF-8\"?>\n<xcap-error xmlns=\"urn:ietf:params:xml:ns:xcap-error\">";
+
+const CLOSING: &[u8] = b"</xcap-error>";
+
+/// The document that says why a request conflicts.
+///
+/// # Errors
+/// `NoMemory` for want of memory.
+pub fn error_document(alloc: Global, body: &ErrorBody) -> Result<Bytes, NoMemory>
+    ensures bytes { IfOk result (λ document. document ≡ conflict_bytes body.now) }
+    ensures print { IsNamed body.now → IfOk result (λ document. document ≡ encode_utf8_all (document_text (conflict_root body.now))) }
+{
+    let document = document(alloc, body)?;
+    Ok(document)
+}
+
+// The document, piece by piece.
+fn document(alloc: Global, body: &ErrorBody) -> Result<Bytes, NoMemory>
+    ensures { IfOk result (λ document. document ≡ conflict_bytes body.now) }
+{
+    let mut document = Bytes::new(alloc);
+    document.extend(OPENING)?;
+    push_child(&mut document, body)?;
+    document.extend(CLOSING)?;
+    Ok(document)
+}
+
+// Adds the child of the root.
+fn push_child(document: &mut Bytes, body: &ErrorBody) -> Result<(), NoMemory>
+    ensures { OnOk result (document.new ≡ document.old ++ child_bytes body.now) }
+{
+    match body {
+        ErrorBody::NotUtf8 => document.extend(b"<not-utf-8/>"),
+        ErrorBody::NotWellFormed => document.extend(b"<not-well-formed/>"),
+        ErrorBody::NotXmlFrag => document.extend(b"<not-xml-frag/>"),
+        ErrorBody::NotXmlAttValue => document.extend(b"<not-xml-att-value/>"),
+        ErrorBody::NoParent(uri) => push_no_parent(document, uri.as_str().as_bytes()),
+        ErrorBody::Schema => document.extend(b"<schema-validation-error/>"),
+        ErrorBody::CannotInsert => document.extend(b"<cannot-insert/>"),
+        ErrorBody::CannotDelete => document.extend(b"<cannot-delete/>"),
+        ErrorBody::Unique(field) => push_unique(document, field.as_str().as_bytes()),
+        ErrorBody::Constraint => document.extend(b"<constraint-failure/>"),
+    }
+}
+
+// Adds the child that names an ancestor.
+fn push_no_parent(document: &mut Bytes, uri: &[u8]) -> Result<(), NoMemory>
+    ensures { OnOk result (document.new ≡ document.old ++ no_parent_bytes uri.now) }
+{
+    document.extend(b"<no-parent><ancestor>")?;
+    push_text(document, uri)?;
+    document.extend(b"</ancestor></no-parent>")?;
+    Ok(())
+}
+
+// Adds the child that names an attribute.
+fn push_unique(document: &mut Bytes, field: &[u8]) -> Result<(), NoMemory>
+    ensures { OnOk result (document.new ≡ document.old ++ unique_bytes field.now) }
+{
+    document.extend(b"<uniqueness-failure><exists field=\"")?;
+    push_value(document, field)?;
+    document.extend(b"\"/></uniqueness-failure>")?;
+    Ok(())
+}
+
+// Adds a text, its markup escaped.
+fn push_text(document: &mut Bytes, text: &[u8]) -> Result<(), NoMemory>
+    ensures { OnOk result (document.new ≡ document.old ++ flat_map text_escape text.now) }
+{
+    for byte in text {
+        push_byte(document, *byte, text_reference(*byte as char))?;
+    }
+    Ok(())
+}
+
+// Adds a value in quotes, its markup escaped.
+fn push_value(document: &mut Bytes, value: &[u8]) -> Result<(), NoMemory>
+    ensures { OnOk result (document.new ≡ document.old ++ flat_map value_escape value.now) }
+{
+    for byte in value {
+        push_byte(document, *byte, value_reference(*byte as char))?;
+    }
+    Ok(())
+}
+
+// Adds a byte, as a reference where it is written as one.
+fn push_byte(document: &mut Bytes, byte: u8, reference: Option<&str>) -> Result<(), NoMemory>
+    ensures referred { IfSome reference.entry (λ letters. OnOk result (document.new ≡ document.old ++ letters.now)) }
+    ensures itself { IfNone reference.entry (OnOk result (document.new ≡ document.old ++ byte ∷ [])) }
+{
+    match reference {
+        Some(letters) => document.extend(letters.as_bytes()),
+        None => document.push(byte),
+    }
+}

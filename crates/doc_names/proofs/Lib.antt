@@ -1,0 +1,5 @@
+pub mod Escaped
+pub mod Keys
+pub mod Printed
+pub mod SameIds
+pub mod Words

@@ -1,0 +1,6 @@
+use Rattle.std.proofs.Common.{refl}
+use Rattle.doc_names.proofs.Escaped.{parts_escaped}
+use Rattle.doc_names.proofs.escapes.push_part.Goals as goal
+
+pub returns : goal.returns
+returns c = rw (c.in_ok-append_to.ensures.ok, c.utf8_percent_encode.ensures.text, c.as_str.ensures.bytes, parts_escaped) refl

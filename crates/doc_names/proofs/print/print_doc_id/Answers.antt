@@ -1,0 +1,10 @@
+use Rattle.std.proofs.Common.{◌≡◌, string_bytes, append_assoc, refl, ap, ◌∙◌}
+use Rattle.std.specs.Str.{chars}
+use Rattle.doc_names.specs.Ids.{id_text}
+use Rattle.doc_names.proofs.Printed.{id_letters}
+use Rattle.doc_names.proofs.print.print_doc_id.Goals as goal
+
+pub returns : goal.returns
+returns c =
+    let bytes : string_bytes c.push_part.new.line ≡ id_text c.args.doc.now = rw (c.in_ok-push_part.ensures, c.in_ok-push_home.ensures, c.in_ok-push_auid.ensures, c.new-line.ensures.bytes, append_assoc) refl in
+    c.own.ensures ∙ ap chars bytes ∙ id_letters c.args.doc.now

@@ -1,0 +1,4 @@
+pub mod Escapes
+pub mod Ids
+pub mod Same
+pub mod Usages

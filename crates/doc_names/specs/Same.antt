@@ -1,0 +1,29 @@
+-- When two names of documents are the same, as a test that computes: the test by which maps find their keys.
+use Rattle.std.specs.Prelude.{Bool, true, false, ◌&&◌}
+use Rattle.std.specs.Str.{bytes_eq}
+use Rattle.doc_names.specs.declared.doc_id.Auid.{Auid}
+use Rattle.doc_names.specs.declared.doc_id.Auid.TheVariants.{ResourceLists, RlsServices, XcapCaps}
+use Rattle.doc_names.specs.declared.doc_id.Home.{Home}
+use Rattle.doc_names.specs.declared.doc_id.Home.TheVariants.{Global, User}
+use Rattle.doc_names.specs.declared.doc_id.DocId.{DocId}
+
+abbrev pub same_auid : Auid → Auid → Bool
+same_auid ResourceLists ResourceLists = true
+same_auid ResourceLists RlsServices = false
+same_auid ResourceLists XcapCaps = false
+same_auid RlsServices ResourceLists = false
+same_auid RlsServices RlsServices = true
+same_auid RlsServices XcapCaps = false
+same_auid XcapCaps ResourceLists = false
+same_auid XcapCaps RlsServices = false
+same_auid XcapCaps XcapCaps = true
+
+abbrev pub same_home : Home → Home → Bool
+same_home Global Global = true
+same_home Global (User b) = false
+same_home (User a) Global = false
+same_home (User a) (User b) = bytes_eq a b
+
+-- each part of the one is that of the other
+abbrev pub same_id : DocId → DocId → Bool
+same_id a b = same_auid a.auid b.auid && (same_home a.home b.home && bytes_eq a.name b.name)

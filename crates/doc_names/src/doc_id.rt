@@ -1,0 +1,75 @@
+//! Names of documents (RFC 4825, section 6.2). Two names are equal where their parts are, so they serve as keys of maps.
+ghost use Rattle.std.specs.Prelude.{◌≡◌, ◌↔◌, IsTrue, IfOk};
+ghost use Rattle.doc_names.specs.Same.{same_id};
+
+use std::alloc::{AllocError, Global};
+use xml_tree::Text;
+
+/// An application usage.
+#[derive(Clone, Copy, Debug, PartialEq, Eq, Hash)]
+pub enum Auid {
+    ResourceLists,
+    RlsServices,
+    XcapCaps,
+}
+
+/// Where a document of a usage lies.
+#[derive(Debug, Drop, PartialEq, Eq, Hash)]
+pub enum Home {
+    /// Under `global`.
+    Global,
+    /// Under `users`, with this XCAP user identifier.
+    User(Text),
+}
+
+/// The name of a document.
+#[derive(Debug, Drop, PartialEq, Eq, Hash)]
+pub struct DocId {
+    pub auid: Auid,
+    pub home: Home,
+    pub name: Text,
+}
+
+impl Home {
+    /// An equal home.
+    ///
+    /// # Errors
+    /// `NoMemory` for want of memory.
+    pub fn copy(&self, alloc: Global) -> Result<Home, AllocError>
+        ensures { IfOk result (λ made. made ≡ self.now) }
+    {
+        match self {
+            Home::Global => Ok(Home::Global),
+            Home::User(xui) => {
+                let xui = xui.copy(alloc)?;
+                Ok(Home::User(xui))
+            }
+        }
+    }
+}
+
+impl DocId {
+    /// An equal name.
+    ///
+    /// # Errors
+    /// `NoMemory` for want of memory.
+    pub fn copy(&self, alloc: Global) -> Result<DocId, AllocError>
+        ensures { IfOk result (λ made. made ≡ self.now) }
+    {
+        let home = self.home.copy(alloc)?;
+        let name = self.name.copy(alloc)?;
+        Ok(DocId {
+            auid: self.auid,
+            home,
+            name,
+        })
+    }
+
+    /// Whether two names are the same. Takes no memory.
+    pub fn same(&self, other: &DocId) -> bool
+        ensures exact { IsTrue result ↔ (self.now ≡ other.now) }
+        ensures test { result ≡ same_id self.now other.now }
+    {
+        self == other
+    }
+}

@@ -1,0 +1,56 @@
+//! Escapes in printed addresses (RFC 3986, section 2.1).
+ghost use Rattle.std.specs.Prelude.{◌≡◌, ◌++◌, OnOk, string_bytes};
+ghost use Rattle.doc_names.specs.Escapes.{escaped, is_visible, part_text};
+
+use percent_encoding::{
+    AsciiSet, CONTROLS, NON_ALPHANUMERIC, ascii_set, percent_encode, utf8_percent_encode,
+};
+use std::alloc::AllocError;
+use xml_tree::Text;
+
+/// The ASCII octets that a printed part of an address has escaped: all but those of `pchar` (RFC 3986, section 3.3).
+const ESCAPED_IN_PARTS: AsciiSet = ascii_set!(
+    NON_ALPHANUMERIC
+        .remove(b'-')
+        .remove(b'.')
+        .remove(b'_')
+        .remove(b'~')
+        .remove(b'!')
+        .remove(b'$')
+        .remove(b'&')
+        .remove(b'\'')
+        .remove(b'(')
+        .remove(b')')
+        .remove(b'*')
+        .remove(b'+')
+        .remove(b',')
+        .remove(b';')
+        .remove(b'=')
+        .remove(b':')
+        .remove(b'@')
+);
+
+/// The ASCII octets that aren't visible.
+const INVISIBLE: AsciiSet = ascii_set!(CONTROLS.add(b' '));
+
+/// Adds a text as a part of a printed address.
+///
+/// # Errors
+/// `NoMemory` for want of memory.
+pub fn push_part(line: &mut String, text: &Text) -> Result<(), AllocError>
+    ensures { OnOk result (string_bytes line.new ≡ string_bytes line.old ++ part_text text.now) }
+{
+    utf8_percent_encode(text.as_str(), ESCAPED_IN_PARTS).append_to(line)?;
+    Ok(())
+}
+
+/// Adds octets, with those escaped that aren't visible.
+///
+/// # Errors
+/// `NoMemory` for want of memory.
+pub fn push_visible(line: &mut String, octets: &[u8]) -> Result<(), AllocError>
+    ensures { OnOk result (string_bytes line.new ≡ string_bytes line.old ++ escaped is_visible octets.now) }
+{
+    percent_encode(octets, INVISIBLE).append_to(line)?;
+    Ok(())
+}

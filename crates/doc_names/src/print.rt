@@ -1,0 +1,44 @@
+//! Printed document ids: `AUID/users/XUI/NAME` or `AUID/global/NAME` (RFC 4825, section 6.2), with each part escaped.
+ghost use Rattle.std.specs.Prelude.{◌≡◌, ◌++◌, OnOk, IfOk, string_bytes};
+ghost use Rattle.doc_names.specs.Ids.{home_text, id_text};
+ghost use Rattle.doc_names.specs.Usages.{auid_text};
+
+use crate::doc_id::{Auid, DocId, Home};
+use crate::escapes::push_part;
+use std::alloc::{AllocError, Global};
+use xml_tree::Text;
+
+// Adds the name of a usage.
+fn push_auid(line: &mut String, auid: Auid) -> Result<(), AllocError>
+    ensures { OnOk result (string_bytes line.new ≡ string_bytes line.old ++ auid_text auid) }
+{
+    line.push_str(auid.text())
+}
+
+// Adds the segments of a home, between slashes.
+fn push_home(line: &mut String, home: &Home) -> Result<(), AllocError>
+    ensures { OnOk result (string_bytes line.new ≡ string_bytes line.old ++ home_text home.now) }
+{
+    match home {
+        Home::Global => line.push_str("/global/"),
+        Home::User(xui) => {
+            line.push_str("/users/")?;
+            push_part(line, xui)?;
+            line.push_str("/")
+        }
+    }
+}
+
+/// The printed id of a document, in which every octet is ASCII.
+///
+/// # Errors
+/// `NoMemory` for want of memory.
+pub fn print_doc_id(alloc: Global, doc: &DocId) -> Result<Text, AllocError>
+    ensures { IfOk result (λ text. text ≡ id_text doc.now) }
+{
+    let mut line = String::new(alloc);
+    push_auid(&mut line, doc.auid)?;
+    push_home(&mut line, &doc.home)?;
+    push_part(&mut line, &doc.name)?;
+    Ok(Text::own(line))
+}

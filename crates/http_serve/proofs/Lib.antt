@@ -1,0 +1,5 @@
+pub mod Answering
+pub mod Faults
+pub mod Turning
+pub mod Ports
+pub mod Simulations

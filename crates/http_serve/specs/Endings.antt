@@ -1,0 +1,29 @@
+-- How a connection ended, and what that says of the counts of faults. This is the project's own.
+use Rattle.std.specs.Prelude.{◌≡◌, Option, None, Some}
+use Rattle.xcap_io.specs.Causes.{LineState, Rose}
+use Rattle.http_wire.specs.Serving.{Ending, closed, read_failed, write_failed}
+use Rattle.http_serve.specs.declared.connection.Ended.{Ended}
+use Rattle.http_serve.specs.declared.connection.Ended.TheVariants.{Closed, ReadFailed, WriteFailed}
+
+abbrev pub ending_of : Ended → Ending
+ending_of Closed = closed
+ending_of ReadFailed = read_failed
+ending_of WriteFailed = write_failed
+
+-- The count of the reads or writes that failed rose where the connection ended so, and else both counts are as before.
+abbrev pub FaultsBy : Ended → LineState → LineState → Type 0
+FaultsBy Closed old new = (new.read_faults ≡ old.read_faults) × (new.write_faults ≡ old.write_faults)
+FaultsBy ReadFailed old new = Rose old.read_faults new.read_faults × (new.write_faults ≡ old.write_faults)
+FaultsBy WriteFailed old new = (new.read_faults ≡ old.read_faults) × Rose old.write_faults new.write_faults
+
+-- the same of a connection that may go on
+abbrev pub FaultsSoFar : Option Ended → LineState → LineState → Type 0
+FaultsSoFar None old new = (new.read_faults ≡ old.read_faults) × (new.write_faults ≡ old.write_faults)
+FaultsSoFar (Some ended) old new = FaultsBy ended old new
+
+-- Between the two there were reads and writes of one connection alone, if any.
+pub record Exchanges (old new : LineState) : Type 0 where
+  pub same_holds : new.holds ≡ old.holds
+  pub same_aside : new.aside ≡ old.aside
+  pub same_port : new.port ≡ old.port
+  pub same_peer : new.peer ≡ old.peer

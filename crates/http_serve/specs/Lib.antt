@@ -1,0 +1,5 @@
+pub mod Connections
+pub mod Endings
+pub mod Fixed
+pub mod Ports
+pub mod Turns

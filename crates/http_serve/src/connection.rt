@@ -1,0 +1,145 @@
+//! One connection, served to its end.
+ghost use Rattle.std.specs.Prelude.{◌≡◌, ◌≢◌, false, None, IsTrue, MatchOption};
+ghost use Rattle.reply_text.specs.Statuses.{is_status};
+ghost use Rattle.http_wire.specs.Asking.{fresh_wire};
+ghost use Rattle.http_wire.specs.Serving.{told};
+ghost use Rattle.http_serve.specs.Connections.{ServesLine};
+ghost use Rattle.http_serve.specs.Endings.{Exchanges, FaultsSoFar};
+ghost use Rattle.http_serve.specs.Fixed.{fixed_reply};
+ghost use Rattle.http_serve.specs.Turns.{AnswersAsked, GivesOn, Turn};
+
+use crate::buffers::Buffers;
+use crate::machine::{Answered, Machine};
+use http_wire::{Asked, ReadFault, Request, next_request, write_reply_through};
+use notes::Edit;
+use reply_text::Reply;
+use std::alloc::AllocError;
+use watchers::Watchers;
+use xcap_io::{Failed, Line, Sink, Source};
+
+/// How a connection ended.
+#[derive(Clone, Copy, Debug, PartialEq, Eq)]
+pub enum Ended {
+    /// Behind a reply that closes it, or with its bytes.
+    Closed,
+    /// A read failed, and the line's count of such faults rose.
+    ReadFailed,
+    /// A write failed, and the line's count of such faults rose.
+    WriteFailed,
+}
+
+// The fixed reply of a status.
+fn fixed(status: u16) -> Answered
+    requires status { IsTrue (is_status status) }
+    requires plain { (status ≢ 304) × (status ≢ 405) × (status ≢ 409) }
+    ensures reply { result.reply ≡ fixed_reply status }
+    ensures edit { result.edit ≡ None }
+{
+    Answered {
+        reply: Reply::fixed(status, true),
+        edit: None,
+    }
+}
+
+// The machine's answer; for want of memory the fixed 503.
+fn answer_request<M: Machine>(machine: &mut M, request: &Request) -> Answered
+    ensures { AnswersAsked M.steps machine.old (Asked.Request request.now) result.reply result.edit machine.new }
+{
+    match machine.answer(request) {
+        Ok(answered) => answered,
+        Err(AllocError) => fixed(503),
+    }
+}
+
+// The answer to what was asked; None at the end of the connection.
+fn answer_to<M: Machine>(machine: &mut M, asked: &Asked) -> Option<Answered>
+    ensures { MatchOption result ((asked.now ≡ Asked.End) × (machine.new ≡ machine.old))
+        (λ answered. AnswersAsked M.steps machine.old asked.now answered.reply answered.edit machine.new) }
+{
+    match asked {
+        Asked::Request(request) => Some(answer_request(machine, request)),
+        Asked::Bad => Some(fixed(400)),
+        Asked::TooLong => Some(fixed(413)),
+        Asked::Coded => Some(fixed(501)),
+        Asked::NoMemory => Some(fixed(503)),
+        Asked::End => None,
+    }
+}
+
+// Tells the watchers of a change, if there is one.
+fn tell_of<W: Watchers>(watchers: &mut W, edit: &Option<Edit>)
+    ensures { W.keeps (told edit.now) watchers.old watchers.new }
+{
+    let Some(edit) = edit else {
+        return;
+    };
+    watchers.tell(edit);
+}
+
+// Reads what is asked next on a wire that isn't spent, answers it, tells the watchers, and replies. None where the connection
+// goes on.
+fn serve_next<M: Machine, L: Source + Sink, W: Watchers>(
+    machine: &mut M,
+    buffers: &mut Buffers,
+    line: &mut L,
+    watchers: &mut W,
+) -> Option<Ended>
+    ensures turn { buffers.old.wire.spent ≡ false → Turn M.steps W.keeps result
+        buffers.old.wire buffers.new.wire machine.old machine.new (L.state line.old) (L.state line.new)
+        watchers.old watchers.new }
+    ensures goes_on { result ≡ None → GivesOn buffers.old.wire buffers.new.wire }
+    ensures faults { FaultsSoFar result (L.state line.old) (L.state line.new) }
+    ensures exchanges { Exchanges (L.state line.old) (L.state line.new) }
+{
+    let asked = match next_request(buffers.alloc, line, &mut buffers.wire) {
+        Ok(asked) => asked,
+        Err(ReadFault) => return Some(Ended::ReadFailed),
+    };
+    let Some(answered) = answer_to(machine, &asked) else {
+        return Some(Ended::Closed);
+    };
+    tell_of(watchers, &answered.edit);
+    match write_reply_through(line, &mut buffers.gatherer, &answered.reply) {
+        Ok(()) => {}
+        Err(Failed) => return Some(Ended::WriteFailed),
+    }
+    if answered.reply.closes() {
+        return Some(Ended::Closed);
+    }
+    None
+}
+
+// The turns of a connection that begins, until one ends it.
+fn serve_turns<M: Machine, L: Source + Sink, W: Watchers>(
+    machine: &mut M,
+    buffers: &mut Buffers,
+    line: &mut L,
+    watchers: &mut W,
+) -> Ended
+    requires { buffers.old.wire ≡ fresh_wire }
+    ensures { ServesLine M.steps W.keeps result
+        machine.old machine.new (L.state line.old) (L.state line.new) watchers.old watchers.new }
+{
+    'turns: loop {
+        if let Some(ended) = serve_next(machine, buffers, line, watchers) {
+            return ended;
+        }
+    }
+}
+
+// Serves a connection: each request is read, answered by the machine, told to the watchers where it made a change, and
+// replied to, in this order, until a reply closes the connection, its bytes end, or a read or a write fails. What is no
+// request gets its fixed reply, and for want of memory a request gets the fixed 503; both close. After a read that failed
+// there is no further reply. Takes no memory before the first request.
+pub fn serve_line<M: Machine, L: Source + Sink, W: Watchers>(
+    machine: &mut M,
+    buffers: &mut Buffers,
+    line: &mut L,
+    watchers: &mut W,
+) -> Ended
+    ensures { ServesLine M.steps W.keeps result
+        machine.old machine.new (L.state line.old) (L.state line.new) watchers.old watchers.new }
+{
+    buffers.wire.reset();
+    serve_turns(machine, buffers, line, watchers)
+}

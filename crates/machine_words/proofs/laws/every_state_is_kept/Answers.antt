@@ -1,0 +1,5 @@
+use Rattle.machine_words.proofs.Steps.{kept_after}
+use Rattle.machine_words.proofs.laws.every_state_is_kept.Goals as goal
+
+pub returns : goal.returns
+returns c = λ root m request bytes next edit kept s. kept_after root m request bytes next edit s kept

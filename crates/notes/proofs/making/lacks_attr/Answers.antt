@@ -1,0 +1,7 @@
+use Rattle.std.proofs.Common.{not, sym, ap, ◌∙◌}
+use Rattle.xml_tree.specs.Attributes.{is_named}
+use Rattle.notes.proofs.Around.{none-found}
+use Rattle.notes.proofs.making.lacks_attr.Goals as goal
+
+pub returns : goal.returns
+returns c = ap not c.has_attr.ensures ∙ sym (none-found (is_named c.args.name.now) c.args.element.now.attrs)

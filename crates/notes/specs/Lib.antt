@@ -1,0 +1,4 @@
+pub mod Lengths
+pub mod Notes
+pub mod Operations
+pub mod Recorded

@@ -1,0 +1,160 @@
+//! How much a note weighs: the length of its operation, which isn't printed for it.
+ghost use Rattle.std.specs.Prelude.{◌≡◌, ◌+◌, true, false, codes, flat_map, min};
+ghost use Rattle.xml_tree.specs.Print.{byte_len, print, print_attr, print_decl};
+ghost use Rattle.edit_ops.specs.declared.change.Change.TheVariants as change;
+ghost use Rattle.notes.specs.Operations.{attr_path_text, gap_attrs, told, weight};
+ghost use Rattle.notes.specs.Lengths.{bare_len as bare_sum, filled_len as filled_sum, valued_len as valued_sum, written_len};
+ghost use Rattle.notes.specs.Recorded.{note_in};
+
+use crate::edit_note::EditNote;
+use crate::lengths::{name_len, path_len, step_len, text_len};
+use edit_ops::Change;
+use xml_tree::{Decl, Element, Name, Path, Text, decls_len, printed_len};
+
+// ---- the words of operations and their attributes
+
+const ADD: usize = 3;
+
+const REPLACE: usize = 7;
+
+const REMOVE: usize = 6;
+
+// ` sel=""`, ` type="@"`, ` pos="prepend"`, ` pos="after"`, `/@`
+const SEL: usize = 7;
+
+const TYPE: usize = 9;
+
+const PREPEND: usize = 14;
+
+const AFTER: usize = 12;
+
+const AT: usize = 2;
+
+// ---- an operation by its parts
+
+// With nothing in it; the length of its word and of its attributes are given.
+fn bare_len(word: usize, bindings: &[Decl], attrs: usize) -> usize
+    ensures { result ≡ min (bare_sum word (byte_len (flat_map print_decl bindings.now)) attrs) usize.MAX }
+{
+    decls_len(bindings)
+        .saturating_add(attrs)
+        .saturating_add(word)
+        .saturating_add(5)
+}
+
+// With something in it.
+fn filled_len(word: usize, bindings: &[Decl], attrs: usize, inside: usize) -> usize
+    ensures { result ≡ min (filled_sum word (byte_len (flat_map print_decl bindings.now)) attrs inside) usize.MAX }
+{
+    decls_len(bindings)
+        .saturating_add(attrs)
+        .saturating_add(inside)
+        .saturating_add(word)
+        .saturating_add(word)
+        .saturating_add(9)
+}
+
+// With a value as its text.
+fn valued_len(word: usize, bindings: &[Decl], attrs: usize, value: &Text) -> usize
+    ensures { result ≡ min (valued_sum word (byte_len (flat_map print_decl bindings.now)) attrs value.now) usize.MAX }
+{
+    if value.is_empty() {
+        return bare_len(word, bindings, attrs);
+    }
+    filled_len(word, bindings, attrs, text_len(value))
+}
+
+// ---- each operation
+
+// The attributes that say where an element is put.
+fn gap_len(parent: &Path, gap: usize) -> usize
+    ensures { result ≡ min (byte_len (flat_map print_attr (gap_attrs parent.now gap))) usize.MAX }
+{
+    let sel = path_len(parent).saturating_add(SEL);
+    if gap == 0 {
+        return sel.saturating_add(PREPEND);
+    }
+    sel.saturating_add(step_len(gap - 1)).saturating_add(AFTER)
+}
+
+fn insertion_len(bindings: &[Decl], parent: &Path, gap: usize, element: &Element) -> usize
+    ensures { result ≡ min (byte_len (print (told (codes "d") bindings.now false (change.Insert parent.now gap element.now)))) usize.MAX }
+{
+    filled_len(ADD, bindings, gap_len(parent, gap), printed_len(element))
+}
+
+fn replacement_len(bindings: &[Decl], at: &Path, element: &Element) -> usize
+    ensures { result ≡ min (byte_len (print (told (codes "d") bindings.now false (change.Replace at.now element.now)))) usize.MAX }
+{
+    let attrs = path_len(at).saturating_add(SEL);
+    filled_len(REPLACE, bindings, attrs, printed_len(element))
+}
+
+fn removal_len(bindings: &[Decl], at: &Path) -> usize
+    ensures { result ≡ min (byte_len (print (told (codes "d") bindings.now false (change.Remove at.now)))) usize.MAX }
+{
+    let attrs = path_len(at).saturating_add(SEL);
+    bare_len(REMOVE, bindings, attrs)
+}
+
+// The attribute that selects an attribute.
+fn attr_len(at: &Path, name: &Name) -> usize
+    ensures { result ≡ min (written_len (attr_path_text at.now name.now) + 7) usize.MAX }
+{
+    path_len(at)
+        .saturating_add(name_len(name))
+        .saturating_add(AT + SEL)
+}
+
+fn drop_len(bindings: &[Decl], at: &Path, name: &Name) -> usize
+    ensures { result ≡ min (byte_len (print (told (codes "d") bindings.now false (change.DropAttr at.now name.now)))) usize.MAX }
+{
+    bare_len(REMOVE, bindings, attr_len(at, name))
+}
+
+// An attribute that is new.
+fn addition_len(bindings: &[Decl], at: &Path, name: &Name, value: &Text) -> usize
+    ensures { result ≡ min (byte_len (print (told (codes "d") bindings.now true (change.SetAttr at.now name.now value.now)))) usize.MAX }
+{
+    let attrs = path_len(at)
+        .saturating_add(name_len(name))
+        .saturating_add(SEL + TYPE);
+    valued_len(ADD, bindings, attrs, value)
+}
+
+// An attribute that was there.
+fn rewriting_len(bindings: &[Decl], at: &Path, name: &Name, value: &Text) -> usize
+    ensures { result ≡ min (byte_len (print (told (codes "d") bindings.now false (change.SetAttr at.now name.now value.now)))) usize.MAX }
+{
+    valued_len(REPLACE, bindings, attr_len(at, name), value)
+}
+
+fn writing_len(bindings: &[Decl], at: &Path, name: &Name, value: &Text, fresh: bool) -> usize
+    ensures { result ≡ min (byte_len (print (told (codes "d") bindings.now fresh (change.SetAttr at.now name.now value.now)))) usize.MAX }
+{
+    if fresh {
+        return addition_len(bindings, at, name, value);
+    }
+    rewriting_len(bindings, at, name, value)
+}
+
+/// The length in bytes of a note's operation, as a notice with the prefix `d` has it (RFC 5261, section 4): the greatest number where it is
+/// longer, and 0 for a document that is made or removed. Takes no memory.
+pub fn weight(note: &EditNote) -> usize
+    ensures { result ≡ min (weight (note_in note.now)) usize.MAX }
+{
+    let bindings = note.bindings.as_slice();
+    match &note.change {
+        Change::CreateDocument { .. } => 0,
+        Change::Insert {
+            parent,
+            gap,
+            element,
+        } => insertion_len(bindings, parent, *gap, element),
+        Change::Replace { at, element } => replacement_len(bindings, at, element),
+        Change::Remove { at } => removal_len(bindings, at),
+        Change::SetAttr { at, name, value } => writing_len(bindings, at, name, value, note.fresh),
+        Change::DropAttr { at, name } => drop_len(bindings, at, name),
+        Change::RemoveDocument => 0,
+    }
+}

@@ -1,9 +1,0 @@
-use Rattle.std.proofs.Common.{◌≢◌, [], arith}
-use Rattle.patch_record.proofs.Values.{written-prefixed}
-use Rattle.patch_record.proofs.lengths.name_len.Goals as goal
-
-pub returns : goal.returns
-returns c =
-    let prefixed : c.args.name.now.prefix ≢ [] = λ e. cc (c.is_empty.ensures.1 e) in
-    let whole = written-prefixed c.args.name.now prefixed in
-    omega (arith, whole)

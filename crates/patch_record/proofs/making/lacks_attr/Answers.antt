@@ -1,7 +1,0 @@
-use Rattle.std.proofs.Common.{not, sym, ap, ◌∙◌}
-use Rattle.xml_tree.specs.Attributes.{is_named}
-use Rattle.patch_record.proofs.Around.{none-found}
-use Rattle.patch_record.proofs.making.lacks_attr.Goals as goal
-
-pub returns : goal.returns
-returns c = ap not c.has_attr.ensures ∙ sym (none-found (is_named c.args.name.now) c.args.element.now.attrs)

@@ -1,0 +1,16 @@
+//! Tables of cases, one a line: their fields, what several tables have in their columns, and the count of the cases that differ.
+//! It promises nothing upward but that it is safe; the programs that judge tables stand on it.
+//! The standards are those of the calls that the tables judge.
+#![tactic(auto)]
+
+mod fields;
+mod names;
+mod readings;
+mod tally;
+mod words;
+
+pub use fields::{Field, escaped, is_case, read_fields};
+pub use names::{home, lists_of, tag, usage};
+pub use readings::{LEVELS, bindings, decls, document, element, name, path, print};
+pub use tally::{Case, Tally};
+pub use words::first_word;

@@ -1,0 +1,40 @@
+//! Runs of digits.
+ghost use Rattle.std.specs.Prelude.{◌≡◌};
+ghost use Rattle.grammar_rules.specs.Digits.{is_digit};
+ghost use Rattle.grammar_rules.specs.Reading.{read_some_of};
+ghost use Rattle.tree_text.specs.Gives.{Gives};
+ghost use Rattle.tree_text.specs.Runs.{run_len};
+
+use crate::stop::Stop;
+
+/// Whether a character is a digit.
+pub fn is_digit(c: char) -> bool
+    ensures { result ≡ is_digit c }
+{
+    matches!(c, '0'..='9')
+}
+
+#[tactic(auto, using(crate::proofs::RunLemmas::run_more, crate::proofs::RunLemmas::run_done))]
+fn digits_len(text: &[char]) -> usize
+    ensures { result ≡ run_len is_digit text.now }
+{
+    let mut len = 0;
+    for &c in text {
+        if !is_digit(c) {
+            return len;
+        }
+        len += 1;
+    }
+    len
+}
+
+/// One or more digits, and what follows them.
+pub fn digits(text: &[char]) -> Result<(&[char], &[char]), Stop<'_>>
+    ensures { Gives (λ x. (x.0.now, x.1.now)) result (read_some_of is_digit text.now) }
+{
+    let len = digits_len(text);
+    if len == 0 {
+        return Err(Stop::Syntax(text));
+    }
+    Ok(text.split_at(len))
+}

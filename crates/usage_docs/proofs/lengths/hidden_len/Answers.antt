@@ -1,0 +1,45 @@
+use Rattle.std.proofs.Common.{List, [], ◌∷◌, ◌++◌, ◌+◌, ◌≡◌, ◌∙◌, true, false, is_some, take, min, ap, sym, subst}
+use Rattle.std.proofs.lemmas.List.{take_more, take_all}
+use Rattle.xml_tree.specs.Scopes.{declared}
+use Rattle.xml_tree.specs.declared.names.Decl.{Decl}
+use Rattle.usage_docs.specs.Lengths.{binding_of, decls_len, hidden}
+use Rattle.usage_docs.proofs.HiddenLemmas.{HasSeen, hides_more, hides_same, lent, none_hidden, none_seen, seen_more, was_new, was_not_new}
+use Rattle.usage_docs.proofs.LengthLemmas.{two_capped}
+use Rattle.usage_docs.proofs.lengths.hidden_len.Goals as goal
+use Rattle.usage_docs.proofs.lengths.hidden_len.Goals.{then-branch, else-branch}
+
+pub loop-decl-init : goal.loop-decl-init
+loop-decl-init c =
+    record {
+      seen = none_seen c.new-seen.result c.new-seen.ensures.empty;
+      counted = sym (ap (λ (bs : List Decl). min (decls_len bs) 18446744073709551615) (none_hidden c.args.bindings.now));
+    }
+
+pub loop-decl-preserved : goal.loop-decl-preserved
+loop-decl-preserved c =
+    let own = c.args.own.now in
+    let bs = c.args.bindings.now in
+    let i = c.loop-decl.decl-index in
+    let xs = take i own in
+    let d = c.decl-item.result in
+    let inv = c.loop-decl.invariant in
+    let next : take (i + 1) own ≡ xs ++ d ∷ [] = take_more own i d c.loop-decl-test.true ∙ ap (λ (x : Decl). xs ++ x ∷ []) (sym c.decl-item.is) in
+    record {
+      seen = subst (λ (ds : List Decl). HasSeen ds c.insert.new.self) (sym next) (seen_more xs d c.loop-decl.seen c.insert.new.self inv.seen c.in_ok-insert.ensures.updates);
+      counted = elim c.if-branch.branch [
+        | then-branch w ↦ (
+            let new : is_some (declared xs d.prefix) ≡ false = was_new _ _ _ c.in_ok-insert.ensures.added (inv.seen (lent d.prefix)) w.if-branch.true in
+            let more : decls_len (hidden (take (i + 1) own) bs) ≡ decls_len (hidden xs bs) + decls_len (binding_of d.prefix bs) =
+            ap (λ (ds : List Decl). decls_len (hidden ds bs)) next ∙ hides_more xs d new bs in
+            two_capped 18446744073709551615 _ _ _ _ _ _ inv.counted w.binding_len.ensures (w.total-is ∙ w.saturating_add-total.ensures) more)
+        | else-branch w ↦ (
+            let old : is_some (declared xs d.prefix) ≡ true = was_not_new _ _ _ c.in_ok-insert.ensures.added (inv.seen (lent d.prefix)) w.if-branch.false in
+            let same : hidden (take (i + 1) own) bs ≡ hidden xs bs = ap (λ (ds : List Decl). hidden ds bs) next ∙ hides_same xs d old bs in
+            w.total-is ∙ inv.counted ∙ sym (ap (λ (ds : List Decl). min (decls_len ds) 18446744073709551615) same))
+      ];
+    }
+
+pub returns : goal.returns
+returns c =
+    c.loop-decl.invariant.counted
+    ∙ ap (λ (ds : List Decl). min (decls_len (hidden ds c.args.bindings.now)) 18446744073709551615) (take_all c.loop-decl.decl-index c.args.own.now c.loop-decl-test.false)

@@ -1,8 +1,0 @@
--- What watchers answer. This is the project's own.
-use Rattle.std.specs.Prelude.{◌≢◌}
-use Rattle.watch_port.specs.declared.watcher.Told.{Told}
-use Rattle.watch_port.specs.declared.watcher.Told.TheVariants.{Failed}
-
--- of a watcher that works through nothing that fails
-abbrev pub NeverFails : Told → Type 0
-NeverFails told = told ≢ Failed

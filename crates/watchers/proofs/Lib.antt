@@ -1,0 +1,4 @@
+pub mod Found
+pub mod Holdings
+pub mod Spelling
+pub mod Turns

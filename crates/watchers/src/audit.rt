@@ -1,0 +1,64 @@
+//! A watcher that writes a line about each change.
+ghost use Rattle.std.specs.Prelude.{◌≡◌, ⊤, None};
+ghost use Rattle.watchers.specs.Audits.{Audits};
+
+use crate::line::line_of;
+use crate::watcher::{Told, Watcher};
+use doc_names::DocId;
+use notes::EditNote;
+use std::alloc::Global;
+use xcap_io::{Failed, Line, Sink, write_all};
+use xml_tree::Element;
+
+/// A sink that gets one line for each change: the change's number, the document's printed id, a word, and for all but a
+/// document that is made or removed the place of the change as a selector.
+#[derive(Drop)]
+pub struct Audit<S: Sink> {
+    alloc: Global,
+    sink: S,
+}
+
+impl<S: Sink> Audit<S> {
+    /// Writes to this sink. Takes no memory; each line takes it from `alloc`.
+    pub fn new(alloc: Global, sink: S) -> Audit<S>
+        ensures { result.sink ≡ sink }
+    {
+        Audit { alloc, sink }
+    }
+
+    /// The sink, lent. Takes no memory.
+    pub fn sink(&self) -> &S
+        ensures { result.now ≡ self.now.sink }
+    {
+        &self.sink
+    }
+}
+
+impl<S: Sink + Drop> Watcher for Audit<S> {
+    ghost told_list = { λ _. None };
+
+    ghost faults = { λ a. (S.state a.sink).write_faults };
+
+    ghost never_refuses = { λ _. ⊥ };
+
+    ghost answers = { λ _ _ _. ⊤ };
+
+    ghost holds = { λ _ _. None };
+
+    fn told(&mut self, doc: &DocId, note: &EditNote) -> Told
+        ensures { Audits (S.state self.old.sink) (record { doc = doc.now; note = note.now }) result (S.state self.new.sink) }
+    {
+        let line = match line_of(self.alloc, doc, note) {
+            Ok(line) => line,
+            Err(_) => return Told::NoMemory,
+        };
+        match write_all(&mut self.sink, line.as_bytes()) {
+            Ok(()) => Told::Kept,
+            Err(Failed) => Told::Failed,
+        }
+    }
+
+    fn kept(&self, _doc: &DocId) -> Option<(&Element, u64)> {
+        None
+    }
+}

@@ -1,0 +1,159 @@
+//! A watcher that keeps every document as it is now.
+ghost use Rattle.std.specs.Prelude.{◌≡◌, [], None, Some, IfOk, OnErr, OnOk, if◌then◌else◌};
+ghost use Rattle.std.specs.Option.{option_map};
+ghost use Rattle.watchers.specs.Answers.{NeverFails};
+ghost use Rattle.watchers.specs.Mirrors.{HoldsAfter, HoldsEdited, HoldsLow, HoldsSame, Mirrors, OthersStay, held_in, held_of};
+
+use crate::fits::fits;
+use crate::holding::Holding;
+use crate::watcher::{Told, Watcher};
+use doc_names::DocId;
+use edit_ops::{Change, apply_change};
+use indexmap::IndexMap;
+use notes::EditNote;
+use std::alloc::{AllocError, Global};
+use std::marker::Model;
+use xml_tree::{Element, copy_tree, depth};
+
+// How many levels a tree that is held has at most.
+const MAX_DEPTH: usize = 64;
+
+/// Every document of which it was told, as it is now.
+#[derive(Drop)]
+pub struct Mirror {
+    alloc: Global,
+    held: IndexMap<DocId, Holding>,
+}
+
+impl Model for Mirror {
+    ghost use Rattle.std.specs.Prelude.{List};
+    ghost use Rattle.std.specs.Coded.{codes};
+    ghost use Rattle.doc_names.specs.declared.doc_id.DocId.{DocId as TheDocId};
+    ghost use Rattle.watchers.specs.contracts.holding.Holding as h;
+    ghost use Rattle.watchers.specs.declared.holding.Holding.{Holding as TheHolding};
+
+    ghost Value = { List (TheDocId × TheHolding) };
+
+    ghost coded = { Prim.hlevel (codes, h.the_row.coded) };
+
+    ghost view = { λ m. m.held.entries };
+}
+
+// Makes a change of a tree that is held, and answers whether it is still held.
+fn follow(
+    alloc: Global,
+    held: &mut Holding,
+    change: &Change,
+    number: u64,
+) -> Result<bool, AllocError>
+    ensures ok { IfOk result (λ stays. HoldsEdited change.now number (Some (held_of held.old))
+        (if stays then Some (held_of held.new) else None)) }
+    ensures err { OnErr result (held.new ≡ held.old) }
+{
+    if !fits(&held.tree, change) {
+        return Ok(false);
+    }
+    apply_change(alloc, &mut held.tree, change)?;
+    held.number = number;
+    Ok(depth(&held.tree) <= MAX_DEPTH)
+}
+
+impl Mirror {
+    /// A mirror that holds nothing. Takes no memory; what it holds later takes it from `alloc`.
+    pub fn new(alloc: Global) -> Mirror
+        ensures { result ≡ [] }
+    {
+        Mirror {
+            alloc,
+            held: IndexMap::new(alloc),
+        }
+    }
+
+    /// The tree that it holds of a document, and the number of the change that made it. Takes no memory.
+    pub fn get(&self, doc: &DocId) -> Option<(&Element, u64)>
+        ensures { option_map (λ held. (held.0.now, held.1)) result ≡ held_in self.now doc.now }
+    {
+        let held = self.held.get(doc)?;
+        Some((&held.tree, held.number))
+    }
+
+    // Holds nothing of a document.
+    fn forget(&mut self, doc: &DocId)
+        ensures gone { held_in self.new doc.now ≡ None }
+        ensures others { OthersStay self.old doc.now self.new }
+    {
+        self.held.swap_remove(doc);
+    }
+
+    // Holds a document that was made; nothing of it, where its tree is too deep.
+    fn begin(&mut self, doc: &DocId, root: &Element, number: u64) -> Result<(), AllocError>
+        ensures ok { OnOk result (HoldsLow root.now number (held_in self.new doc.now)) }
+        ensures others { OthersStay self.old doc.now self.new }
+        ensures err { OnErr result (HoldsSame self.old self.new) }
+    {
+        if depth(root) > MAX_DEPTH {
+            self.forget(doc);
+            return Ok(());
+        }
+        let tree = copy_tree(self.alloc, root)?;
+        let doc = doc.copy(self.alloc)?;
+        self.held.insert(doc, Holding { tree, number })?;
+        Ok(())
+    }
+
+    // Makes a change of what is held of a document; nothing is held of it where there is nothing to change, or where the
+    // change doesn't fit or makes the tree too deep.
+    fn go_on(&mut self, doc: &DocId, change: &Change, number: u64) -> Result<(), AllocError>
+        ensures ok { OnOk result (HoldsEdited change.now number (held_in self.old doc.now) (held_in self.new doc.now)) }
+        ensures others { OthersStay self.old doc.now self.new }
+        ensures err { OnErr result (HoldsSame self.old self.new) }
+    {
+        let alloc = self.alloc;
+        let Some(held) = self.held.get_mut(doc) else {
+            return Ok(());
+        };
+        let stays = follow(alloc, held, change, number)?;
+        if stays {
+            return Ok(());
+        }
+        self.forget(doc);
+        Ok(())
+    }
+
+    fn mirror(&mut self, doc: &DocId, note: &EditNote) -> Result<(), AllocError>
+        ensures ok { OnOk result (HoldsAfter note.now.change note.now.next (held_in self.old doc.now) (held_in self.new doc.now)) }
+        ensures others { OthersStay self.old doc.now self.new }
+        ensures err { OnErr result (HoldsSame self.old self.new) }
+    {
+        match &note.change {
+            Change::CreateDocument { root } => self.begin(doc, root, note.next),
+            change => self.go_on(doc, change, note.next),
+        }
+    }
+}
+
+impl Watcher for Mirror {
+    ghost told_list = { λ _. None };
+
+    ghost faults = { λ _. 0 };
+
+    ghost never_refuses = { λ _. ⊥ };
+
+    ghost answers = { λ _ _ told. NeverFails told };
+
+    ghost holds = { held_in };
+
+    fn told(&mut self, doc: &DocId, note: &EditNote) -> Told
+        ensures never_fails { NeverFails result }
+        ensures mirrors { Mirrors self.old (record { doc = doc.now; note = note.now }) result self.new }
+    {
+        match self.mirror(doc, note) {
+            Ok(()) => Told::Kept,
+            Err(AllocError) => Told::NoMemory,
+        }
+    }
+
+    fn kept(&self, doc: &DocId) -> Option<(&Element, u64)> {
+        self.get(doc)
+    }
+}

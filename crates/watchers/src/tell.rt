@@ -1,0 +1,34 @@
+//! Telling watchers of changes.
+ghost use Rattle.std.specs.Prelude.{◌≡◌, IsTrue, false, [], ◌∷◌};
+ghost use Rattle.watchers.specs.Telling.{AreKept, AreTold, HasKept, HasLeft};
+
+use crate::watcher::{Told, Watcher};
+use notes::Edit;
+
+// Tells a watcher of a change, and answers whether it kept it.
+fn tell(watcher: &mut Box<dyn Watcher>, edit: &Edit) -> bool
+    ensures kept { IsTrue result → HasKept told_list faults never_refuses answers edit.now watcher.old watcher.new }
+    ensures left { result ≡ false → HasLeft told_list faults never_refuses answers edit.now watcher.old }
+{
+    watcher.told(&edit.doc, &edit.note) == Told::Kept
+}
+
+/// Tells each watcher of a change, in order, and answers how many left: exactly those that answered other than `Kept` leave
+/// the list, and the others keep their order. Takes no memory of its own.
+pub fn tell_all(watchers: &mut Vec<Box<dyn Watcher>>, edit: &Edit) -> usize
+    ensures told { AreTold told_list faults never_refuses answers edit.now watchers.old.items watchers.new.items result }
+    ensures kept { AreKept told_list faults never_refuses (edit.now ∷ []) watchers.old.items watchers.new.items }
+{
+    let mut kept = 0;
+    let mut left = 0;
+    'watchers: while kept < watchers.len() {
+        let watcher = &mut watchers[kept];
+        if tell(watcher, edit) {
+            kept += 1;
+        } else {
+            watchers.remove(kept);
+            left += 1;
+        }
+    }
+    left
+}

@@ -1,0 +1,10 @@
+use Rattle.std.proofs.Common.{ℕ, List, ◌++◌, flat_map, sym, ap, ◌∙◌, map-id}
+use Rattle.std.proofs.lemmas.Iterator.{YieldsList-from_chars}
+use Rattle.std.proofs.lemmas.Iterator.Consumers.{YieldsList-end}
+use Rattle.xcap_uri.specs.Ancestors.{bracket_escape}
+use Rattle.xcap_uri.proofs.ancestors.push_selector.Goals as goal
+
+pub returns : goal.returns
+returns c =
+    let end = YieldsList-end (YieldsList-from_chars c.args.selector.now c.utf8.selector cc) c.loop-c.yielded _ c.loop-c.yielded_by _ _ c.in-None.is c.next.ensures.steps in
+    c.loop-c.invariant ∙ ap (λ (z : List ℕ). c.args.uri.now ++ flat_map bracket_escape z) (sym (map-id c.loop-c.yielded) ∙ end.0)

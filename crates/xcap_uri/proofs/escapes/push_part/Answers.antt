@@ -1,6 +1,0 @@
-use Rattle.std.proofs.Common.{refl}
-use Rattle.xcap_uri.proofs.Escaped.{parts_escaped}
-use Rattle.xcap_uri.proofs.escapes.push_part.Goals as goal
-
-pub returns : goal.returns
-returns c = rw (c.in_ok-append_to.ensures.ok, c.utf8_percent_encode.ensures.text, c.as_str.ensures.bytes, parts_escaped) refl

@@ -1,0 +1,120 @@
+//! The URIs that a conflict document names where a node has no parent (RFC 4825, section 11).
+ghost use Rattle.std.specs.Prelude.{◌≡◌, ◌≤◌, ℕ, List, [], ◌∷◌, ◌++◌, IfOk, OnOk, chars, codes, flat_map};
+ghost use Rattle.xml_tree.specs.Tree.{height};
+ghost use Rattle.xml_tree.specs.PathTexts.{path_text};
+ghost use Rattle.xcap_uri.specs.Ancestors.{ancestor_uri, bracket_escape, closest_in, document_uri, home_uri};
+
+use crate::root::Root;
+use doc_names::{Auid, DocId, Home, print_doc_id};
+use node_select::{Selector, longest_match, select_steps};
+use std::alloc::Global;
+use tree_text::no_text;
+use xml_tree::{Element, NoMemory, Path, Text, print_path};
+
+// The URI of what has this path under the root.
+fn uri_under(alloc: Global, root: &Root, path: &str) -> Result<Text, NoMemory>
+    ensures { IfOk result (λ uri. uri ≡ root.now ++ (codes "/" ++ chars path.now)) }
+{
+    let mut uri = Text::from(alloc, root.text())?;
+    uri.push('/')?;
+    uri.push_str(path)?;
+    Ok(uri)
+}
+
+// A text without its last character.
+fn without_last(text: &str) -> &str
+    ensures { (front : List ℕ) (c : ℕ) → chars text.now ≡ front ++ c ∷ [] → chars result.now ≡ front }
+{
+    let mut letters = text.chars();
+    let _ = letters.next_back();
+    letters.as_str()
+}
+
+/// The URI of a home: the root, the usage, and `global` or `users` and the user, escaped.
+///
+/// # Errors
+/// `NoMemory` for want of memory.
+pub fn home_uri(alloc: Global, root: &Root, auid: Auid, home: &Home) -> Result<Text, NoMemory>
+    ensures { IfOk result (λ uri. uri ≡ home_uri root.now auid home.now) }
+{
+    // The id of a document without a name is that of its home and a slash.
+    let home = home.copy(alloc)?;
+    let unnamed = DocId {
+        auid,
+        home,
+        name: no_text(alloc),
+    };
+    let id = print_doc_id(alloc, &unnamed)?;
+    uri_under(alloc, root, without_last(id.as_str()))
+}
+
+// The URI of a document.
+fn document_uri(alloc: Global, root: &Root, doc: &DocId) -> Result<Text, NoMemory>
+    ensures { IfOk result (λ uri. uri ≡ document_uri root.now doc.now) }
+{
+    let id = print_doc_id(alloc, doc)?;
+    uri_under(alloc, root, id.as_str())
+}
+
+// Adds a character of a node selector.
+#[tactic(auto, using(crate::proofs::Letters::letters))]
+fn push_escaped(uri: &mut Text, c: char) -> Result<(), NoMemory>
+    ensures { OnOk result (uri.new ≡ uri.old ++ bracket_escape c) }
+{
+    match c {
+        '[' => uri.push_str("%5B"),
+        ']' => uri.push_str("%5D"),
+        _ => uri.push(c),
+    }
+}
+
+// Adds a node selector.
+fn push_selector(uri: &mut Text, selector: &str) -> Result<(), NoMemory>
+    ensures { OnOk result (uri.new ≡ uri.old ++ flat_map bracket_escape (chars selector.now)) }
+{
+    for c in selector.chars() {
+        push_escaped(uri, c)?;
+    }
+    Ok(())
+}
+
+// Adds what follows the document's URI in that of the element at a path.
+#[tactic(auto, using(crate::proofs::Letters::letters, std::proofs::Common::append_assoc))]
+fn push_path(alloc: Global, uri: &mut Text, path: &Path) -> Result<(), NoMemory>
+    ensures { OnOk result (uri.new ≡ uri.old ++ (codes "/~~/" ++ flat_map bracket_escape (path_text path.now))) }
+{
+    let selector = print_path(alloc, path)?;
+    uri.push_str("/~~/")?;
+    push_selector(uri, selector.as_str())
+}
+
+// The place of the element that the greatest number of first steps selects.
+fn closest(alloc: Global, tree: &Element, selector: &Selector) -> Option<Path>
+    requires { height tree.now ≤ 64 }
+    ensures { result ≡ closest_in selector.now.steps tree.now }
+{
+    let matched = longest_match(alloc, tree, selector);
+    select_steps(alloc, tree, &selector.steps.as_slice()[..matched])
+}
+
+/// The URI of the closest ancestor of a node that isn't there: of the element that the greatest number of first steps selects, or of the
+/// document where not even the first step selects the root. The element is named by its place, as `*/*[2]` with its brackets escaped.
+///
+/// # Errors
+/// `NoMemory` for want of memory.
+pub fn ancestor_uri(
+    alloc: Global,
+    root: &Root,
+    doc: &DocId,
+    tree: &Element,
+    selector: &Selector,
+) -> Result<Text, NoMemory>
+    requires { height tree.now ≤ 64 }
+    ensures { IfOk result (λ uri. uri ≡ ancestor_uri root.now doc.now tree.now selector.now.steps) }
+{
+    let mut uri = document_uri(alloc, root, doc)?;
+    if let Some(path) = closest(alloc, tree, selector) {
+        push_path(alloc, &mut uri, &path)?;
+    }
+    Ok(uri)
+}

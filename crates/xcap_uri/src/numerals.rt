@@ -1,0 +1,35 @@
+//! Numerals, as tags and counts are written: digits alone, of which the first is not 0.
+ghost use Rattle.std.specs.Prelude.{◌≡◌};
+ghost use Rattle.xcap_uri.specs.Numerals.{begins_with_digit, number_behind, numeral_of};
+
+// Whether the first octet is a digit other than 0.
+fn begins_with_digit(octets: &[u8]) -> bool
+    ensures { result ≡ begins_with_digit octets.now }
+{
+    matches!(octets, [b'1'..=b'9', ..])
+}
+
+// The number that digits are worth, if it has at most 64 bits.
+fn number_of(octets: &[u8]) -> Option<u64>
+    ensures { result ≡ number_behind 0 octets.now }
+{
+    let mut number: u64 = 0;
+    for &b in octets {
+        if !matches!(b, b'0'..=b'9') {
+            return None;
+        }
+        let digit = (b - b'0') as u64;
+        number = number.checked_mul(10)?.checked_add(digit)?;
+    }
+    Some(number)
+}
+
+/// The number of a numeral, if it is one and has at most 64 bits. Takes no memory.
+pub fn numeral(octets: &[u8]) -> Option<u64>
+    ensures { result ≡ numeral_of octets.now }
+{
+    if !begins_with_digit(octets) {
+        return None;
+    }
+    number_of(octets)
+}
