@@ -1,4 +1,3 @@
 pub mod Heights
 pub mod Lengths
 pub mod Gathering
-pub mod Outcomes

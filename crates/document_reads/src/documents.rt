@@ -1,22 +1,21 @@
-//! GET and HEAD of documents (RFC 4825, sections 7.1 and 8.1).
+//! GET and HEAD of documents (RFC 4825, sections 7.3 and 8.3).
 ghost use Rattle.std.specs.Prelude.{◌≡◌, Some, IfOk, encode_utf8_all};
 ghost use Rattle.tree_text.specs.Printing.{document_print};
 ghost use Rattle.machine_words.specs.Reading.{if_found, reads_document};
 
 use crate::NoMemory;
 use crate::finding::{Found, resource};
-use crate::replies::{in_place, with_text};
+use crate::replies::with_text;
 use doc_names::DocId;
 use http_wire::Request;
 use reply_text::{Media, Reply};
-use request_terms::{Method, document_media};
+use request_terms::{Method, document_media, stop};
 use std::alloc::Global;
 use store_core::Store;
 use tree_text::print_document;
 use xml_tree::Element;
 
 // The reply with a document, which is printed only where the conditions let it be sent.
-#[tactic(auto, using(crate::proofs::Outcomes::sent_unless))]
 fn document_reply(
     alloc: Global,
     root: &Element,
@@ -25,13 +24,13 @@ fn document_reply(
     method: Method,
     request: &Request,
 ) -> Result<Reply, NoMemory>
-    ensures { IfOk result (λ r. r ≡ if_found (Some (encode_utf8_all (document_print root.now))) tag media method request.now) }
+    ensures sends_what_is_there { IfOk result (λ r. r ≡ if_found (Some (encode_utf8_all (document_print root.now))) tag media method request.now) }
 {
-    if let Some(reply) = in_place(alloc, tag, request)? {
+    if let Some(reply) = stop(alloc, request, Some(tag), true, true)? {
         return Ok(reply);
     }
     let text = print_document(alloc, root)?;
-    Ok(with_text(tag, media, text, method, request.closes))
+    Ok(with_text(Some(tag), media, text, method, request.closes))
 }
 
 /// The reply to a GET or HEAD of a document: its print with its tag, 404 where there is none, 507 for an index of services beyond its
@@ -46,7 +45,7 @@ pub fn get_document(
     method: Method,
     request: &Request,
 ) -> Result<Reply, NoMemory>
-    ensures { IfOk result (λ r. r ≡ reads_document store.now.content doc.now method request.now) }
+    ensures replies_as_the_machine { IfOk result (λ r. r ≡ reads_document store.now.content doc.now method request.now) }
 {
     let media = document_media(doc.auid);
     match resource(alloc, store, doc)? {

@@ -4,7 +4,7 @@ ghost use Rattle.std.specs.Str.{bytes_eq};
 ghost use Rattle.usage_docs.specs.Services.{index_of_documents};
 ghost use Rattle.usage_docs.specs.Capabilities.{capabilities};
 ghost use Rattle.store_core.specs.Indexes.{index, index_trees};
-ghost use Rattle.machine_words.specs.Resources.{document_of, global_resource, if_held, if_within_limit, resource, there};
+ghost use Rattle.machine_words.specs.Resources.{global_resource, if_held, if_within_limit, resource, there, version_of};
 ghost use Rattle.document_reads.specs.Finding.{IsLow, resource_of};
 
 use crate::NoMemory;
@@ -30,8 +30,8 @@ pub enum Found<'a> {
 
 // A document that is held, or nothing.
 fn held<'a>(store: &'a Store, doc: &DocId) -> Found<'a>
-    ensures resource { resource_of result ≡ if_held (document_of store.now.content doc.now) }
-    ensures low { IsLow result }
+    ensures leads_there { resource_of result ≡ if_held (version_of store.now.content doc.now) }
+    ensures found_low { IsLow result }
 {
     match store.get(doc) {
         None => Found::Absent,
@@ -41,9 +41,9 @@ fn held<'a>(store: &'a Store, doc: &DocId) -> Found<'a>
 
 // The index, unless it is beyond its limit. Its tag is the last number given.
 fn index_found<'a>(alloc: Global, store: &'a Store) -> Result<Found<'a>, NoMemory>
-    ensures resource { IfOk result (λ f. resource_of f
+    ensures leads_there { IfOk result (λ f. resource_of f
         ≡ if_within_limit (index_of_documents (index_trees store.now.content)) (store.now.content.next - 1)) }
-    ensures low { IfOk result (λ f. IsLow f) }
+    ensures found_low { IfOk result (λ f. IsLow f) }
 {
     match index_of_services(alloc, store) {
         Ok(root) => Ok(Found::Computed(root, store.last_number())),
@@ -54,8 +54,8 @@ fn index_found<'a>(alloc: Global, store: &'a Store) -> Result<Found<'a>, NoMemor
 
 // The capabilities, which never change.
 fn caps_found<'a>(alloc: Global) -> Result<Found<'a>, NoMemory>
-    ensures resource { IfOk result (λ f. resource_of f ≡ there capabilities 0) }
-    ensures low { IfOk result (λ f. IsLow f) }
+    ensures leads_there { IfOk result (λ f. resource_of f ≡ there capabilities 0) }
+    ensures found_low { IfOk result (λ f. IsLow f) }
 {
     let root = caps(alloc)?;
     Ok(Found::Computed(root, 0))
@@ -63,8 +63,8 @@ fn caps_found<'a>(alloc: Global) -> Result<Found<'a>, NoMemory>
 
 // The computed document of a usage whose name is `index`.
 fn computed<'a>(alloc: Global, store: &'a Store, auid: Auid) -> Result<Found<'a>, NoMemory>
-    ensures resource { IfOk result (λ f. resource_of f ≡ global_resource store.now.content auid true) }
-    ensures low { IfOk result (λ f. IsLow f) }
+    ensures leads_there { IfOk result (λ f. resource_of f ≡ global_resource store.now.content auid true) }
+    ensures found_low { IfOk result (λ f. IsLow f) }
 {
     match auid {
         Auid::ResourceLists => Ok(Found::Absent),
@@ -76,8 +76,8 @@ fn computed<'a>(alloc: Global, store: &'a Store, auid: Auid) -> Result<Found<'a>
 // A document under `global`.
 #[tactic(auto, unfolding(store_core::specs::Indexes::index))]
 fn global<'a>(alloc: Global, store: &'a Store, doc: &DocId) -> Result<Found<'a>, NoMemory>
-    ensures resource { IfOk result (λ f. resource_of f ≡ global_resource store.now.content doc.now.auid (bytes_eq doc.now.name index)) }
-    ensures low { IfOk result (λ f. IsLow f) }
+    ensures leads_there { IfOk result (λ f. resource_of f ≡ global_resource store.now.content doc.now.auid (bytes_eq doc.now.name index)) }
+    ensures found_low { IfOk result (λ f. IsLow f) }
 {
     if !doc.name.is("index") {
         return Ok(Found::Absent);
@@ -90,8 +90,8 @@ fn global<'a>(alloc: Global, store: &'a Store, doc: &DocId) -> Result<Found<'a>,
 /// # Errors
 /// `NoMemory` for want of memory.
 pub fn resource<'a>(alloc: Global, store: &'a Store, doc: &DocId) -> Result<Found<'a>, NoMemory>
-    ensures resource { IfOk result (λ f. resource_of f ≡ resource store.now.content doc.now) }
-    ensures low { IfOk result (λ f. IsLow f) }
+    ensures leads_there { IfOk result (λ f. resource_of f ≡ resource store.now.content doc.now) }
+    ensures found_low { IfOk result (λ f. IsLow f) }
 {
     match &doc.home {
         Home::Global => global(alloc, store, doc),

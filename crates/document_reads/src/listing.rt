@@ -15,10 +15,10 @@ use xml_tree::Element;
 /// # Errors
 /// `TooLarge` exactly where it would be beyond its limit, else `NoMemory`.
 pub fn index_of_services(alloc: Global, store: &Store) -> Result<Element, IndexFault>
-    ensures index { IfOk result (λ root. root ≡ index_of_documents (index_trees store.now.content)) }
-    ensures fits { IfOk result (λ root. document_len root ≤ index_limit) }
-    ensures low { IfOk result (λ root. height root ≤ 64) }
-    ensures beyond { IfErr result (λ fault. IsBeyond (index_of_documents (index_trees store.now.content)) fault) }
+    ensures lists_all { IfOk result (λ root. root ≡ index_of_documents (index_trees store.now.content)) }
+    ensures within_limit { IfOk result (λ root. document_len root ≤ index_limit) }
+    ensures found_low { IfOk result (λ root. height root ≤ 64) }
+    ensures refused_beyond_limit { IfErr result (λ fault. IsBeyond (index_of_documents (index_trees store.now.content)) fault) }
 {
     let mut maker = IndexMaker::new(alloc)?;
     for root in store.user_indexes(alloc)? {

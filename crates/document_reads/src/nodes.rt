@@ -1,4 +1,4 @@
-//! GET and HEAD of nodes of documents (RFC 4825, sections 7.4, 7.7, 7.10 and 8.1).
+//! GET and HEAD of nodes of documents (RFC 4825, sections 7.6, 7.9, 7.10 and 8.3).
 ghost use Rattle.std.specs.Prelude.{◌≡◌, ◌≤◌, IfOk};
 ghost use Rattle.xml_tree.specs.Tree.{height};
 ghost use Rattle.node_texts.specs.Nodes.{encoded, found_text, node_media};
@@ -6,19 +6,18 @@ ghost use Rattle.machine_words.specs.Reading.{if_found, reads_node};
 
 use crate::NoMemory;
 use crate::finding::{Found, resource};
-use crate::replies::{in_place, with_text};
+use crate::replies::with_text;
 use doc_names::DocId;
 use http_wire::Request;
 use node_select::Selector;
 use node_texts::{found_text, node_media};
 use reply_text::Reply;
-use request_terms::Method;
+use request_terms::{Method, stop};
 use std::alloc::Global;
 use store_core::Store;
 use xml_tree::Element;
 
 // The reply with a node of a document, which is looked for before the conditions. Its tag is the document's.
-#[tactic(auto, using(crate::proofs::Outcomes::sent_unless))]
 fn node_reply(
     alloc: Global,
     root: &Element,
@@ -27,17 +26,17 @@ fn node_reply(
     method: Method,
     request: &Request,
 ) -> Result<Reply, NoMemory>
-    requires { height root.now ≤ 64 }
-    ensures { IfOk result (λ r. r ≡ if_found (encoded (found_text root.now selector.now)) tag (node_media selector.now.end) method request.now) }
+    requires low { height root.now ≤ 64 }
+    ensures sends_what_is_there { IfOk result (λ r. r ≡ if_found (encoded (found_text root.now selector.now)) tag (node_media selector.now.end) method request.now) }
 {
     let Some(text) = found_text(alloc, root, selector)? else {
         return Ok(Reply::fixed(404, request.closes));
     };
-    if let Some(reply) = in_place(alloc, tag, request)? {
+    if let Some(reply) = stop(alloc, request, Some(tag), true, true)? {
         return Ok(reply);
     }
     let media = node_media(&selector.end);
-    Ok(with_text(tag, media, text, method, request.closes))
+    Ok(with_text(Some(tag), media, text, method, request.closes))
 }
 
 /// The reply to a GET or HEAD of a node of a document: what the selector finds as it is sent, with the document's tag; 404 where there is
@@ -53,7 +52,7 @@ pub fn get_node(
     method: Method,
     request: &Request,
 ) -> Result<Reply, NoMemory>
-    ensures { IfOk result (λ r. r ≡ reads_node store.now.content doc.now selector.now method request.now) }
+    ensures replies_as_the_machine { IfOk result (λ r. r ≡ reads_node store.now.content doc.now selector.now method request.now) }
 {
     match resource(alloc, store, doc)? {
         Found::Absent => Ok(Reply::fixed(404, request.closes)),

@@ -1,33 +1,34 @@
 -- What comes of a body, step by step.
-use Rattle.std.proofs.Common.{◌≡◌, ◌≤◌, ℕ, Bool, List, [], None, Result, Ok, Err, IfOk, refl, subst, ⊎_elim}
-use Rattle.tree_text.specs.Faults.{Unless, text_read}
-use Rattle.tree_text.specs.declared.fault.TextFault.{TextFault}
-use Rattle.tree_text.specs.declared.fault.TextFault.TheVariants as texts
+use Rattle.std.proofs.Common.{◌≡◌, ◌≤◌, ℕ, Bool, List, [], None, Result, Ok, Err, IfOk, refl, subst}
+use Rattle.tree_text.specs.Faults.{TextAnswer}
 use Rattle.doc_names.specs.declared.usages.Usage.{Usage}
+use Rattle.usage_docs.specs.Judging.{Judged}
 use Rattle.xml_tree.specs.Proper.{ProperIn}
 use Rattle.xml_tree.specs.Tree.{Tree, height}
-use Rattle.machine_words.specs.Writing.{IsJudged, sound, PutsText}
+use Rattle.http_wire.specs.declared.request.Request.{Request}
+use Rattle.reply_text.specs.declared.media_types.Media.{Media}
+use Rattle.machine_words.specs.Writing.{PutsBody, PutsSpelled, PutsText}
 use Rattle.document_writes.specs.Bodies.{Comes}
 use Rattle.document_writes.specs.declared.bodies.Body.{Body}
-use Rattle.document_writes.specs.declared.bodies.Body.TheVariants.{Document}
+use Rattle.document_writes.specs.declared.bodies.Body.TheVariants.{Document, Refused}
 
 module _ (usage : Usage) (closes : Bool) where
   -- ---- a tree
 
-  pub tree_comes : (t : Tree) → ProperIn [] t → height t ≤ 64 → IsJudged usage t None → Comes (λ c id a. PutsText c id usage (Ok t) closes a) usage closes (Document t)
-  tree_comes t proper low (sound valid formed unique) =
-      (record { proper = proper; low = low; valid = valid; formed = formed; unique = unique }, λ c id. (None, sound valid formed unique, refl))
+  pub tree_comes : (t : Tree) → ProperIn [] t → height t ≤ 64 → Judged usage t None → Comes (λ answer a. PutsText usage (Ok t) closes answer a) usage (Document t)
+  tree_comes t proper low judged = (record { proper = proper; low = low; faultless = judged }, λ answer. (None, judged, refl))
 
-  -- ---- a text, by what reading states of it
+-- ---- a text, by the answer that it has
 
-  module _ (stated : Result Tree TextFault) where
-    text_comes_as : {E : Type 0} (r : Result Body E) (t : Tree) → Unless texts.NoMemory stated (Ok t)
-        → IfOk r (λ body. Comes (λ c id a. PutsText c id usage (Ok t) closes a) usage closes body) → IfOk r (λ body. Comes (λ c id a. PutsText c id usage stated closes a) usage closes body)
-    text_comes_as r t answer h =
-        ⊎_elim (λ (e : Ok t ≡ stated). subst (λ (s : Result Tree TextFault). IfOk r (λ body. Comes (λ c id a. PutsText c id usage s closes a) usage closes body)) e h)
-        (λ (e : ◌≡◌ {A = Result Tree TextFault} (Ok t) (Err texts.NoMemory)). cc) answer
+pub text_comes : {E : Type 0} (usage : Usage) (request : Request) (r : Result Body E) (t : Tree) (read : List ℕ) → read ≡ request.body → TextAnswer 64 [] read (Ok t)
+    → IfOk r (λ came. Comes (λ answer a. PutsText usage (Ok t) request.closes answer a) usage came) → IfOk r (λ came. Comes (λ answer a. PutsSpelled usage request answer a) usage came)
+text_comes usage request (Ok (Refused reply)) t read same spelled h = λ answer. (Ok t, subst (λ (bytes : List ℕ). TextAnswer 64 [] bytes (Ok t)) same spelled, h answer)
+text_comes usage request (Ok (Document tree)) t read same spelled h =
+    (h.0, λ answer. (Ok t, subst (λ (bytes : List ℕ). TextAnswer 64 [] bytes (Ok t)) same spelled, h.1 answer))
+text_comes usage request (Err e) t read same spelled h = tt
 
-  pub text_comes : {E : Type 0} (r : Result Body E) (t : Tree) (read body : List ℕ) → read ≡ body → Unless texts.NoMemory (text_read 64 [] read) (Ok t)
-      → IfOk r (λ came. Comes (λ c id a. PutsText c id usage (Ok t) closes a) usage closes came) → IfOk r (λ came. Comes (λ c id a. PutsText c id usage (text_read 64 [] body) closes a) usage closes came)
-  text_comes r t read body same answer h =
-      subst (λ (bytes : List ℕ). IfOk r (λ came. Comes (λ c id a. PutsText c id usage (text_read 64 [] bytes) closes a) usage closes came)) same (text_comes_as (text_read 64 [] read) r t answer h)
+-- ---- a body of the media type
+
+pub body_comes : (usage : Usage) (m media : Media) (request : Request) (came body : Body) → m ≡ media → came ≡ body → Comes (λ answer a. PutsBody usage m request answer a) usage came → Comes (λ answer a. PutsBody usage media request answer a) usage body
+body_comes usage m media request came body same is h =
+    subst (λ (b : Body). Comes (λ answer a. PutsBody usage media request answer a) usage b) is (subst (λ (x : Media). Comes (λ answer a. PutsBody usage x request answer a) usage came) same h)

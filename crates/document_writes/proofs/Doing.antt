@@ -1,54 +1,54 @@
--- What the machine does by an answer that was made.
-use Rattle.std.proofs.Common.{◌≡◌, ◌≢◌, Bool, Option, None, Some, Result, Ok, Err, refl, sym, ap, subst, ◌∙◌, ⊎_elim}
+-- What a decision comes to.
+use Rattle.std.proofs.Common.{◌≡◌, ◌≢◌, Bool, Some, Result, Ok, Err, IfOk, sym, ap, ◌∙◌, ⊎_elim}
+use Rattle.doc_names.specs.declared.doc_id.DocId.{DocId}
 use Rattle.edit_ops.specs.declared.change.Change.{Change}
 use Rattle.notes.specs.Notes.{Note}
-use Rattle.notes.specs.Recorded.{note_in}
 use Rattle.reply_text.specs.Heads.{Sent}
-use Rattle.notes.specs.declared.edit.Edit.{Edit}
-use Rattle.doc_names.specs.declared.doc_id.DocId.{DocId}
-use Rattle.store_core.specs.Asking.{Asks}
-use Rattle.store_core.specs.Changing.{changing, content_after}
+use Rattle.store_core.specs.Changing.{changing}
 use Rattle.store_core.specs.Held.{Content}
+use Rattle.store_core.specs.Preparing.{Readied}
+use Rattle.store_core.specs.Storing.{Stored}
 use Rattle.store_core.specs.declared.refusal.StoreRefusal.{StoreRefusal}
 use Rattle.store_core.specs.declared.refusal.StoreRefusal.TheVariants.{NoMemory}
 use Rattle.machine_words.specs.Answers.{Answer, unchanged}
-use Rattle.machine_words.specs.Machine.{Does}
-use Rattle.machine_words.specs.Writing.{refused}
-use Rattle.document_writes.specs.Making.{IsMade, IsUnmade}
-use Rattle.document_writes.specs.declared.written.Written.{Written}
+use Rattle.machine_words.specs.Writing.{change_answer, refused, store_answer}
+use Rattle.document_writes.specs.Deciding.{Decides, answer_of}
+use Rattle.document_writes.specs.Making.{IsPrepared, IsRefused}
+use Rattle.document_writes.specs.declared.decision.Decision.{Decision}
+use Rattle.document_writes.specs.declared.decision.Decision.TheVariants.{Stays, Changes}
 
--- an answer that changes nothing
-pub does_nothing : (Is : Answer → Type 0) (c : Content) (reply : Sent) (next : Content) → next ≡ c → Is (unchanged reply) → Does Is c reply None next
-does_nothing Is c reply next same is = record { answer = unchanged reply; is_answer = is; replied = refl; told = refl; sound = tt; goes_on = same }
+module _ (Is : Answer → Type 0) (s : Stored) where
+  -- a reply alone
+  pub stays : (reply : Sent) → Is (unchanged reply) → Decides Is s (Stays reply)
+  stays reply is = record { answers = is; ready = tt }
 
--- an answer of one kind is one of another
-pub does_so : (Is Will : Answer → Type 0) (c : Content) (reply : Sent) (edit : Option Edit) (next : Content) → ((a : Answer) → Is a → Will a) → Does Is c reply edit next → Does Will c reply edit next
-does_so Is Will c reply edit next so d = record { answer = d.answer; is_answer = so d.answer d.is_answer; replied = d.replied; told = d.told; sound = d.sound; goes_on = d.goes_on }
+  -- a decision of one kind is one of another
+  pub decides_so : (Will : Answer → Type 0) → ((a : Answer) → Is a → Will a) → (d : Decision) → Decides Is s d → Decides Will s d
+  decides_so Will so d decides = record { answers = so (answer_of d) decides.answers; ready = decides.ready }
 
--- the same of what the code hands out
-pub as_written : (Is : Answer → Type 0) (c : Content) (w : Written) (reply : Sent) (edit : Option Edit) (next : Content) → w ≡ record { reply = reply; edit = edit } → Does Is c reply edit next → Does Is c w.reply w.edit next
-as_written Is c w reply edit next is d = subst (λ (x : Written). Does Is c x.reply x.edit next) (sym is) d
+  -- the same of what is decided unless memory runs out
+  pub all_so : {E : Type 0} (Will : Answer → Type 0) → ((a : Answer) → Is a → Will a) → (r : Result Decision E) → IfOk r (λ d. Decides Is s d) → IfOk r (λ d. Decides Will s d)
+  all_so Will so (Ok d) decides = decides_so Will so d decides
+  all_so Will so (Err e) decides = tt
 
-module _ (c : Content) (id : DocId) (change : Change) (answer_to : Result (Note × Content) StoreRefusal → Answer) where
-  -- a change that was made
-  pub does_change : (reply : Sent) (edit : Edit) (next : Content) → Asks c id change → IsMade c id change edit next
-      → record { reply = reply; made = Some (id, note_in edit.note) } ≡ answer_to (Ok (note_in edit.note, content_after c id change))
-      → Does (λ a. a ≡ answer_to (changing c id change)) c reply (Some edit) next
-  does_change reply edit next asks m is =
+module _ (c : Content) (id : DocId) (change : Change) (closes : Bool) (reply_to : Note → Sent) (s : Stored) where
+  abbrev Is : Answer → Type 0
+  Is a = a ≡ change_answer c id change closes reply_to
+
+  -- a change that has all its memory
+  pub makes : (reply : Sent) (name : DocId) (p : Readied) → IsPrepared c id change s name p → reply ≡ reply_to p.note → Decides Is s (Changes reply name p)
+  makes reply name p m is =
+      let with_reply : Sent → Answer = λ r. record { reply = r; made = Some (name, p.note) } in
+      let with_name : DocId → Answer = λ d. record { reply = reply_to p.note; made = Some (d, p.note) } in
       record {
-        answer = record { reply = reply; made = Some (id, note_in edit.note) };
-        is_answer = is ∙ sym (ap answer_to m.answered);
-        replied = refl;
-        told = ap (λ (d : DocId). Some (d, note_in edit.note)) m.of_document;
-        sound = subst (λ (x : Change). Asks c id x × (changing c id x ≡ Ok (note_in edit.note, content_after c id x))) (sym m.by_change) (asks, m.answered);
-        goes_on = m.held ∙ ap (λ (x : Change). content_after c id x) (sym m.by_change);
+        answers = ap with_reply is ∙ ap with_name m.named ∙ sym (ap (λ (x : Result (Note × Content) StoreRefusal). store_answer id closes reply_to x) m.answered);
+        ready = (m.of_document ∙ sym m.named, m.ready);
       }
 
   -- a change that is refused, and not for want of memory
-  pub does_refuse : (closes : Bool) (reply : Sent) (refusal : StoreRefusal) (next : Content) → IsUnmade c id change refusal next → refusal ≢ NoMemory → unchanged reply ≡ refused refusal closes
-      → answer_to (Err refusal) ≡ refused refusal closes → Does (λ a. a ≡ answer_to (changing c id change)) c reply None next
-  does_refuse closes reply refusal next u has_memory is refuses =
+  pub refuses : (reply : Sent) (refusal : StoreRefusal) → IsRefused c id change refusal → (reply ≡ refused refusal closes) × (refusal ≢ NoMemory) → Decides Is s (Stays reply)
+  refuses reply refusal u told =
       ⊎_elim
-      (λ (e : changing c id change ≡ Err refusal). does_nothing (λ a. a ≡ answer_to (changing c id change)) c reply next u.held (is ∙ sym refuses ∙ sym (ap answer_to e)))
-      (λ (e : refusal ≡ NoMemory). absurd (has_memory e))
-      u.answered
+      (λ (e : changing c id change ≡ Err refusal). stays Is s reply (ap unchanged told.0 ∙ sym (ap (λ (x : Result (Note × Content) StoreRefusal). store_answer id closes reply_to x) e)))
+      (λ (e : refusal ≡ NoMemory). absurd (told.1 e))
+      u

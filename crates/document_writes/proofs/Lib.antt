@@ -1,8 +1,6 @@
 pub mod Coming
-pub mod Deciding
+pub mod Conditions
 pub mod Doing
 pub mod Fields
-pub mod Finding
-pub mod Going
-pub mod Judgements
+pub mod Held
 pub mod Putting

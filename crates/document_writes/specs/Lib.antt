@@ -1,3 +1,3 @@
 pub mod Bodies
+pub mod Deciding
 pub mod Making
-pub mod Stopping

@@ -1,25 +1,22 @@
-//! The body of a PUT of a document (RFC 4825, section 8.2.1).
-ghost use Rattle.std.specs.Prelude.{◌≡◌, ◌≢◌, ◌≤◌, [], IfOk, Ok};
-ghost use Rattle.std.specs.Bool.{MatchBool};
+//! The body of a PUT of a document (RFC 4825, section 8.2.2).
+ghost use Rattle.std.specs.Prelude.{◌≡◌, ◌≤◌, [], IfOk, Ok};
 ghost use Rattle.xml_tree.specs.Proper.{ProperIn};
 ghost use Rattle.xml_tree.specs.Tree.{height};
-ghost use Rattle.tree_text.specs.Faults.{text_read};
-ghost use Rattle.tree_text.specs.declared.fault.TextFault.TheVariants as texts;
-ghost use Rattle.request_terms.specs.MediaTypes.{has_type};
-ghost use Rattle.machine_words.specs.Answers.{conflict, plain, unchanged};
-ghost use Rattle.machine_words.specs.Writing.{PutsText, text_conflict};
-ghost use Rattle.document_writes.specs.Bodies.{Comes, IsBodyOf};
+ghost use Rattle.conflict_docs.specs.declared.conflicts.ErrorBody.TheVariants as conflicts;
+ghost use Rattle.machine_words.specs.Answers.{conflict};
+ghost use Rattle.machine_words.specs.Writing.{PutsBody, PutsSpelled, PutsText, text_conflict};
+ghost use Rattle.document_writes.specs.Bodies.{Comes};
 
 use crate::NoMemory;
-use crate::conflicts::conflict;
-use crate::judging::judge;
+use crate::conflicts::{conflict, fault_conflict};
 use conflict_docs::ErrorBody;
-use doc_names::{DocId, Usage};
+use doc_names::Usage;
 use http_wire::Request;
 use reply_text::{Media, Reply};
-use request_terms::{document_media, has_type};
+use request_terms::has_type;
 use std::alloc::Global;
-use tree_text::{TextFault, read_document};
+use tree_text::{ReadError, TextFault, read_document};
+use usage_docs::judge;
 use xml_tree::Element;
 
 // How many levels a document has at most.
@@ -34,26 +31,25 @@ pub(crate) enum Body {
     Document(Element),
 }
 
-// What a text that is no document conflicts with.
-fn text_conflict(fault: TextFault) -> Result<ErrorBody, NoMemory>
-    ensures { IfOk result (λ body. (body ≡ text_conflict fault) × (fault ≢ texts.NoMemory)) }
+// What a text that can't be read conflicts with, where it is malformed unless it isn't UTF-8.
+fn text_conflict(malformed: ErrorBody, fault: TextFault) -> ErrorBody
+    ensures tells_the_fault { result ≡ text_conflict malformed fault }
 {
     match fault {
-        TextFault::NotUtf8 => Ok(ErrorBody::NotUtf8),
-        TextFault::NoMemory => Err(NoMemory),
-        TextFault::NotWellFormed(_) => Ok(ErrorBody::NotWellFormed),
-        TextFault::Namespace(_) => Ok(ErrorBody::NotWellFormed),
-        TextFault::RepeatedAttribute(_) => Ok(ErrorBody::NotWellFormed),
-        TextFault::TooDeep(_) => Ok(ErrorBody::NotWellFormed),
-        TextFault::Doctype(_) => Ok(ErrorBody::NotWellFormed),
+        TextFault::NotUtf8 => ErrorBody::NotUtf8,
+        TextFault::NotWellFormed(_) => malformed,
+        TextFault::Namespace(_) => malformed,
+        TextFault::RepeatedAttribute(_) => malformed,
+        TextFault::TooDeep(_) => malformed,
+        TextFault::Doctype(_) => malformed,
     }
 }
 
-// The reply to it.
+// The reply to a text that is no document.
 fn refused_text(alloc: Global, fault: TextFault, closes: bool) -> Result<Reply, NoMemory>
-    ensures { IfOk result (λ reply. (reply ≡ conflict (text_conflict fault) closes) × (fault ≢ texts.NoMemory)) }
+    ensures tells_the_fault { IfOk result (λ reply. reply ≡ conflict (text_conflict conflicts.NotWellFormed fault) closes) }
 {
-    let body = text_conflict(fault)?;
+    let body = text_conflict(ErrorBody::NotWellFormed, fault);
     conflict(alloc, &body, closes)
 }
 
@@ -61,12 +57,13 @@ fn refused_text(alloc: Global, fault: TextFault, closes: bool) -> Result<Reply, 
 fn judged(alloc: Global, usage: Usage, root: Element, closes: bool) -> Result<Body, NoMemory>
     requires proper { ProperIn [] root }
     requires low { height root ≤ 64 }
-    ensures { IfOk result (λ body. Comes (λ c id a. PutsText c id usage (Ok root) closes a) usage closes body) }
+    ensures comes_of_the_tree { IfOk result (λ body. Comes (λ answer a. PutsText usage (Ok root) closes answer a) usage body) }
 {
     match judge(alloc, usage, &root)? {
         None => Ok(Body::Document(root)),
         Some(fault) => {
-            let reply = conflict(alloc, &fault, closes)?;
+            let body = fault_conflict(alloc, &fault)?;
+            let reply = conflict(alloc, &body, closes)?;
             Ok(Body::Refused(reply))
         }
     }
@@ -74,41 +71,29 @@ fn judged(alloc: Global, usage: Usage, root: Element, closes: bool) -> Result<Bo
 
 // A body of the usage's media type.
 fn body_read(alloc: Global, usage: Usage, request: &Request) -> Result<Body, NoMemory>
-    ensures { IfOk result (λ body. Comes (λ c id a. PutsText c id usage (text_read 64 [] request.now.body) request.now.closes a)
-        usage request.now.closes body) }
+    ensures comes_of_the_text { IfOk result (λ body. Comes (λ answer a. PutsSpelled usage request.now answer a) usage body) }
 {
     match read_document(alloc, request.body.as_slice(), DEPTH) {
         Ok(root) => judged(alloc, usage, root, request.closes),
-        Err(fault) => {
+        Err(ReadError::Fault(fault)) => {
             let reply = refused_text(alloc, fault, request.closes)?;
             Ok(Body::Refused(reply))
         }
+        Err(ReadError::NoMemory) => Err(NoMemory),
     }
 }
 
-// A body of any media type.
-fn body_of_type(
+/// What comes of the body of a PUT of a document of this usage, whose media type is this one.
+pub(crate) fn body_of(
     alloc: Global,
     usage: Usage,
     media: Media,
     request: &Request,
 ) -> Result<Body, NoMemory>
-    ensures { IfOk result (λ body. Comes (λ c id a. MatchBool (has_type media request.now.fields)
-        (PutsText c id usage (text_read 64 [] request.now.body) request.now.closes a)
-        (a ≡ unchanged (plain 415 request.now.closes))) usage request.now.closes body) }
+    ensures comes_of_the_body { IfOk result (λ body. Comes (λ answer a. PutsBody usage media request.now answer a) usage body) }
 {
     if !has_type(request, media) {
         return Ok(Body::Refused(Reply::fixed(415, request.closes)));
     }
     body_read(alloc, usage, request)
-}
-
-/// What comes of the body of a PUT of this document.
-pub(crate) fn body_of(alloc: Global, doc: &DocId, request: &Request) -> Result<Body, NoMemory>
-    ensures { IfOk result (λ body. IsBodyOf doc.now request.now body) }
-{
-    match doc.auid.stored() {
-        Some(usage) => body_of_type(alloc, usage, document_media(doc.auid), request),
-        None => Ok(Body::Refused(Reply::fixed(403, request.closes))),
-    }
 }

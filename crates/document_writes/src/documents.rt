@@ -1,26 +1,25 @@
-//! Documents that are put and removed (RFC 4825, sections 8.2.1 and 8.4).
-ghost use Rattle.std.specs.Prelude.{◌≡◌, [], IfOk, IsSome, None, OnErr, Some, if◌then◌else◌};
-ghost use Rattle.edit_ops.specs.declared.change.Change.TheVariants as changes;
+//! Documents that are put and removed (RFC 4825, sections 8.2 and 8.4).
+ghost use Rattle.std.specs.Prelude.{◌≡◌, false, IfOk, Some, if◌then◌else◌};
 ghost use Rattle.doc_names.specs.Ids.{IsReadable};
-ghost use Rattle.store_core.specs.Asking.{MayBeFor};
-ghost use Rattle.store_core.specs.Changing.{changing};
-ghost use Rattle.store_core.specs.Keeping.{IsUsers};
 ghost use Rattle.doc_names.specs.Usages.{usage_of};
+ghost use Rattle.edit_ops.specs.declared.change.Change.TheVariants as changes;
+ghost use Rattle.store_core.specs.Asking.{Asks, MayBe};
+ghost use Rattle.store_core.specs.Keeping.{IsUsers};
+ghost use Rattle.request_terms.specs.MediaTypes.{document_media};
 ghost use Rattle.machine_words.specs.Answers.{tagged};
-ghost use Rattle.machine_words.specs.Machine.{Does};
-ghost use Rattle.machine_words.specs.Resources.{document_of};
-ghost use Rattle.machine_words.specs.Writing.{DeletesDocument, PutsBody, PutsDocument, by_judgement, delete_answer, tag_of};
+ghost use Rattle.machine_words.specs.Resources.{version_of};
+ghost use Rattle.machine_words.specs.Writing.{DeletesDocument, PutsBody, PutsDocument, change_answer, deleted_reply, put_answer, put_change, tag_of};
+ghost use Rattle.document_writes.specs.Deciding.{Decides};
 
-use crate::NoMemory;
 use crate::bodies::{Body, body_of};
-use crate::conditions::stopped;
-use crate::making::make;
+use crate::making::prepare;
 use crate::refusals::refused;
-use crate::written::{Written, unchanged};
-use doc_names::DocId;
+use crate::{Decision, NoMemory};
+use doc_names::{DocId, Usage};
 use edit_ops::Change;
 use http_wire::Request;
 use reply_text::Reply;
+use request_terms::{document_media, stop};
 use std::alloc::Global;
 use store_core::Store;
 use xcap_io::Bytes;
@@ -28,7 +27,7 @@ use xml_tree::{Element, Path};
 
 // The tag of a document, if it is held.
 fn tag_of(store: &Store, doc: &DocId) -> Option<u64>
-    ensures { result ≡ tag_of (document_of store.now.content doc.now) }
+    ensures tag_now { result ≡ tag_of (version_of store.now.content doc.now) }
 {
     let (_, tag) = store.get(doc)?;
     Some(tag)
@@ -37,10 +36,10 @@ fn tag_of(store: &Store, doc: &DocId) -> Option<u64>
 // ---- PUT
 
 // The change that a document is put by: it takes the place of the one held, or it is new.
-fn put_change(is_held: bool, root: Element) -> Change
-    ensures { result ≡ (if is_held then changes.Replace [] root else changes.CreateDocument root) }
+fn put_change(exists: bool, root: Element) -> Change
+    ensures replaces_or_creates { result ≡ put_change exists root }
 {
-    if is_held {
+    if exists {
         return Change::Replace {
             at: Path::root(),
             element: root,
@@ -49,11 +48,11 @@ fn put_change(is_held: bool, root: Element) -> Change
     Change::CreateDocument { root }
 }
 
-// The reply to a document that was put.
-fn put_reply(alloc: Global, is_held: bool, tag: u64, closes: bool) -> Reply
-    ensures { result ≡ tagged (if is_held then 200 else 201) tag closes }
+// The reply to what was put.
+fn put_reply(alloc: Global, exists: bool, tag: u64, closes: bool) -> Reply
+    ensures tells_the_tag { result ≡ tagged (if exists then 200 else 201) tag closes }
 {
-    if is_held {
+    if exists {
         return Reply::with(200, Some(tag), None, Bytes::new(alloc), closes);
     }
     Reply::with(201, Some(tag), None, Bytes::new(alloc), closes)
@@ -64,26 +63,27 @@ fn put_tree(
     alloc: Global,
     store: &mut Store,
     doc: &DocId,
+    usage: Usage,
     root: Element,
     closes: bool,
-) -> Result<Written, NoMemory>
+) -> Result<Decision, NoMemory>
     requires readable { IsReadable doc.now }
     requires users { IsUsers doc.now.home }
-    requires may_be { MayBeFor (usage_of doc.now.auid) root }
-    ensures does { IfOk result (λ w. Does (λ a. a ≡ by_judgement store.old.content doc.now None root closes)
-        store.old.content w.reply w.edit store.new.content) }
-    ensures err { OnErr result (store.new.content ≡ store.old.content) }
+    requires usage { usage_of doc.now.auid ≡ Some usage }
+    requires may_be { MayBe usage root }
+    ensures decides_the_put { IfOk result (λ d. Decides (λ a. a ≡ put_answer store.old.content doc.now closes root) store.new d) }
+    ensures holds_the_same { store.new.content ≡ store.old.content }
 {
-    let is_held = tag_of(store, doc).is_some();
-    let change = put_change(is_held, root);
-    match make(alloc, store, doc, change) {
-        Ok(edit) => Ok(Written {
-            reply: put_reply(alloc, is_held, edit.note.next, closes),
-            edit: Some(edit),
+    let exists = tag_of(store, doc).is_some();
+    match prepare(alloc, store, doc, put_change(exists, root)) {
+        Ok((name, prepared)) => Ok(Decision::Changes {
+            reply: put_reply(alloc, exists, prepared.note().next, closes),
+            doc: name,
+            prepared,
         }),
         Err(refusal) => {
             let reply = refused(alloc, refusal, closes)?;
-            Ok(unchanged(reply))
+            Ok(Decision::Stays(reply))
         }
     }
 }
@@ -93,99 +93,105 @@ fn put_body(
     alloc: Global,
     store: &mut Store,
     doc: &DocId,
+    usage: Usage,
     request: &Request,
-) -> Result<Written, NoMemory>
+) -> Result<Decision, NoMemory>
     requires readable { IsReadable doc.now }
     requires users { IsUsers doc.now.home }
-    ensures does { IfOk result (λ w. Does (λ a. PutsBody store.old.content doc.now (usage_of doc.now.auid) request.now a)
-        store.old.content w.reply w.edit store.new.content) }
-    ensures err { OnErr result (store.new.content ≡ store.old.content) }
+    requires usage { usage_of doc.now.auid ≡ Some usage }
+    ensures decides_by_the_body { IfOk result (λ d.
+        Decides (PutsBody usage (document_media doc.now.auid) request.now (put_answer store.old.content doc.now request.now.closes)) store.new d) }
+    ensures holds_the_same { store.new.content ≡ store.old.content }
 {
-    match body_of(alloc, doc, request)? {
-        Body::Refused(reply) => Ok(unchanged(reply)),
-        Body::Document(root) => put_tree(alloc, store, doc, root, request.closes),
+    let media = document_media(doc.auid);
+    match body_of(alloc, usage, media, request)? {
+        Body::Refused(reply) => Ok(Decision::Stays(reply)),
+        Body::Document(root) => put_tree(alloc, store, doc, usage, root, request.closes),
     }
 }
 
-/// Answers a PUT of a document: 201 where it is new and 200 where it takes the place of the one held, both with the new tag. A refused request
-/// changes nothing: 400 or 412 for its conditions, 415 for its media type, 409 where its text is no document of the usage or a service
-/// address in it is another document's, 507 beyond a limit.
+/// Decides a PUT of a document of this usage: 201 where it is new and 200 where it takes the place of the one held, both with the new tag.
+/// What changes nothing is replied: 400 or 412 for the conditions, 415 for the media type, 409 where the text is no document of the usage or
+/// a service address in it is another document's, 507 beyond a limit.
 ///
 /// # Errors
-/// `NoMemory` for want of memory; the store then holds what it held.
+/// `NoMemory` for want of memory.
 pub fn put_document(
     alloc: Global,
     store: &mut Store,
     doc: &DocId,
+    usage: Usage,
     request: &Request,
-) -> Result<Written, NoMemory>
+) -> Result<Decision, NoMemory>
     requires readable { IsReadable doc.now }
     requires users { IsUsers doc.now.home }
-    ensures does { IfOk result (λ w. Does (PutsDocument store.old.content doc.now request.now) store.old.content w.reply w.edit store.new.content) }
-    ensures err { OnErr result (store.new.content ≡ store.old.content) }
+    requires usage { usage_of doc.now.auid ≡ Some usage }
+    ensures decides_the_put { IfOk result (λ d. Decides (PutsDocument store.old.content doc.now usage request.now) store.new d) }
+    ensures holds_the_same { store.new.content ≡ store.old.content }
 {
     let tag = tag_of(store, doc);
-    match stopped(alloc, request, tag, tag.is_some())? {
-        Some(reply) => Ok(unchanged(reply)),
-        None => put_body(alloc, store, doc, request),
+    match stop(alloc, request, tag, tag.is_some(), false)? {
+        Some(reply) => Ok(Decision::Stays(reply)),
+        None => put_body(alloc, store, doc, usage, request),
     }
 }
 
 // ---- DELETE
 
 // Removes a document that is held.
-fn remove(alloc: Global, store: &mut Store, doc: &DocId, closes: bool) -> Result<Written, NoMemory>
-    requires { IsSome (document_of store.old.content doc.now) }
-    ensures does { IfOk result (λ w. Does (λ a. a ≡ delete_answer doc.now closes (changing store.old.content doc.now changes.RemoveDocument))
-        store.old.content w.reply w.edit store.new.content) }
-    ensures err { OnErr result (store.new.content ≡ store.old.content) }
+fn remove(alloc: Global, store: &mut Store, doc: &DocId, closes: bool) -> Result<Decision, NoMemory>
+    requires held { Asks store.old.content doc.now changes.RemoveDocument }
+    ensures decides_the_removal { IfOk result (λ d.
+        Decides (λ a. a ≡ change_answer store.old.content doc.now changes.RemoveDocument closes (deleted_reply closes)) store.new d) }
+    ensures holds_the_same { store.new.content ≡ store.old.content }
 {
-    match make(alloc, store, doc, Change::RemoveDocument) {
-        Ok(edit) => Ok(Written {
+    match prepare(alloc, store, doc, Change::RemoveDocument) {
+        Ok((name, prepared)) => Ok(Decision::Changes {
             reply: Reply::fixed(200, closes),
-            edit: Some(edit),
+            doc: name,
+            prepared,
         }),
         Err(refusal) => {
             let reply = refused(alloc, refusal, closes)?;
-            Ok(unchanged(reply))
+            Ok(Decision::Stays(reply))
         }
     }
 }
 
-// Answers a DELETE of a document that is held and has this tag.
+// Decides a DELETE of a document that is held and has this tag.
 fn delete_held(
     alloc: Global,
     store: &mut Store,
     doc: &DocId,
     tag: u64,
     request: &Request,
-) -> Result<Written, NoMemory>
-    requires { Some tag ≡ tag_of (document_of store.old.content doc.now) }
-    ensures does { IfOk result (λ w. Does (DeletesDocument store.old.content doc.now request.now) store.old.content w.reply w.edit store.new.content) }
-    ensures err { OnErr result (store.new.content ≡ store.old.content) }
+) -> Result<Decision, NoMemory>
+    requires tagged { Some tag ≡ tag_of (version_of store.old.content doc.now) }
+    ensures decides_the_removal { IfOk result (λ d. Decides (DeletesDocument store.old.content doc.now request.now) store.new d) }
+    ensures holds_the_same { store.new.content ≡ store.old.content }
 {
-    match stopped(alloc, request, Some(tag), true)? {
-        Some(reply) => Ok(unchanged(reply)),
+    match stop(alloc, request, Some(tag), true, false)? {
+        Some(reply) => Ok(Decision::Stays(reply)),
         None => remove(alloc, store, doc, request.closes),
     }
 }
 
-/// Answers a DELETE of a document: 200, without a tag. A refused request changes nothing: 404 where the document isn't held, 400 or 412 for
-/// its conditions, 507 where the greatest number has been given.
+/// Decides a DELETE of a document: 200, without a tag. What changes nothing is replied: 404 where the document isn't held, 400 or 412 for the
+/// conditions, 507 where the greatest number has been given.
 ///
 /// # Errors
-/// `NoMemory` for want of memory; the store then holds what it held.
+/// `NoMemory` for want of memory.
 pub fn delete_document(
     alloc: Global,
     store: &mut Store,
     doc: &DocId,
     request: &Request,
-) -> Result<Written, NoMemory>
-    ensures does { IfOk result (λ w. Does (DeletesDocument store.old.content doc.now request.now) store.old.content w.reply w.edit store.new.content) }
-    ensures err { OnErr result (store.new.content ≡ store.old.content) }
+) -> Result<Decision, NoMemory>
+    ensures decides_the_removal { IfOk result (λ d. Decides (DeletesDocument store.old.content doc.now request.now) store.new d) }
+    ensures holds_the_same { store.new.content ≡ store.old.content }
 {
     match tag_of(store, doc) {
         Some(tag) => delete_held(alloc, store, doc, tag, request),
-        None => Ok(unchanged(Reply::fixed(404, request.closes))),
+        None => Ok(Decision::Stays(Reply::fixed(404, request.closes))),
     }
 }

@@ -1,7 +1,7 @@
 //! Replies to changes that the store refuses (RFC 4825, section 11; RFC 4918, section 11.5).
 ghost use Rattle.std.specs.Prelude.{◌≡◌, ◌≢◌, IfOk};
 ghost use Rattle.store_core.specs.declared.refusal.StoreRefusal.TheVariants as refusals;
-ghost use Rattle.machine_words.specs.Answers.{conflict, unchanged};
+ghost use Rattle.machine_words.specs.Answers.{conflict};
 ghost use Rattle.machine_words.specs.Writing.{clash_field, refused};
 ghost use Rattle.conflict_docs.specs.declared.conflicts.ErrorBody.TheVariants as conflicts;
 
@@ -14,7 +14,7 @@ use usage_docs::Clash;
 
 // The reply to a service address that another document has.
 fn taken(alloc: Global, clash: Clash, closes: bool) -> Result<Reply, NoMemory>
-    ensures { IfOk result (λ reply. reply ≡ conflict (conflicts.Unique (clash_field clash)) closes) }
+    ensures tells_the_clash { IfOk result (λ reply. reply ≡ conflict (conflicts.Unique (clash_field clash)) closes) }
 {
     let body = uniqueness(alloc, &clash)?;
     conflict(alloc, &body, closes)
@@ -22,7 +22,7 @@ fn taken(alloc: Global, clash: Clash, closes: bool) -> Result<Reply, NoMemory>
 
 /// The reply to a change that the store refuses: a conflict, or a limit leaves no room.
 pub(crate) fn refused(alloc: Global, refusal: StoreRefusal, closes: bool) -> Result<Reply, NoMemory>
-    ensures { IfOk result (λ reply. (unchanged reply ≡ refused refusal closes) × (refusal ≢ refusals.NoMemory)) }
+    ensures tells_the_refusal { IfOk result (λ reply. (reply ≡ refused refusal closes) × (refusal ≢ refusals.NoMemory)) }
 {
     match refusal {
         StoreRefusal::ServiceTaken(clash) => taken(alloc, clash, closes),

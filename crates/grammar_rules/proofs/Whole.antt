@@ -118,7 +118,7 @@ module _ {Kind : Type 0} {faults : Faults Kind} where
   pub answers_whole : {A : Type 0} {r : Rule Kind A} {p : Reader Kind A} → Lawful r → Exact faults r (λ _. ends) p → (text : List ℕ) → Answers faults r text (read_whole p text)
   answers_whole {A} {r} {p} lawful exact text = outcome_answers faults r lawful text (p text) (exact.by text)
 
--- # The answer is one
+-- # Answers are told alike
 
 module _ {Kind A : Type 0} (faults : Faults Kind) (r : Rule Kind A) (text : List ℕ) where
   -- two longest beginnings are one
@@ -126,7 +126,7 @@ module _ {Kind A : Type 0} (faults : Faults Kind) (r : Rule Kind A) (text : List
   one_break left other h i = (same_front h.beginning left i.beginning other (sym h.joined ∙ i.joined) (omega (arith, h.longest i.beginning other i.joined i.begun, i.longest h.beginning left h.joined h.begun))).1
 
   -- two first faults have one place, and neither has the lesser rank
-  pub one_fault : (kind other : Kind) (left place : List ℕ) → IsFirstFault faults r text kind left → IsFirstFault faults r text other place → (left ≡ place) × (faults.rank kind ≡ faults.rank other)
+  one_fault : (kind other : Kind) (left place : List ℕ) → IsFirstFault faults r text kind left → IsFirstFault faults r text other place → (left ≡ place) × (faults.rank kind ≡ faults.rank other)
   one_fault kind other left place h i = by_order (h.first other place i.is_fault i.said) (i.first kind left h.is_fault h.said)
     where
       by_order : (length place < length left) ⊎ ((place ≡ left) × (faults.rank kind ≤ faults.rank other)) → (length left < length place) ⊎ ((left ≡ place) × (faults.rank other ≤ faults.rank kind)) → (left ≡ place) × (faults.rank kind ≡ faults.rank other)
@@ -135,22 +135,17 @@ module _ {Kind A : Type 0} (faults : Faults Kind) (r : Rule Kind A) (text : List
       by_order (inr a) (inl b) = absurd (omega (arith, b, ap length a.0))
       by_order (inr a) (inr b) = (b.0, omega (arith, a.1, b.1))
 
-  stop_is : (left other : List ℕ) → left ≡ other → let x : Result A (Stop Kind) = Err (Syntax left) in x ≡ Err (Syntax other)
-  stop_is left other e = ap (λ (z : List ℕ). let y : Result A (Stop Kind) = Err (Syntax z) in y) e
-
-  fault_is : (kind other : Kind) (left place : List ℕ) → kind ≡ other → left ≡ place → let x : Result A (Stop Kind) = Err (Faulty kind left) in x ≡ Err (Faulty other place)
-  fault_is kind other left place e f = ap (λ (z : Kind). let y : Result A (Stop Kind) = Err (Faulty z left) in y) e ∙ ap (λ (z : List ℕ). let y : Result A (Stop Kind) = Err (Faulty other z) in y) f
-
-  -- Where faults of one rank are of one kind, a text has one answer.
-  pub one_answer : ((kind other : Kind) → faults.is_fault kind ≡ true → faults.is_fault other ≡ true → faults.rank kind ≡ faults.rank other → kind ≡ other) → (x y : Result A (Stop Kind)) → Answers faults r text x → Answers faults r text y → x ≡ y
-  one_answer ranks (Ok a) (Ok b) h i = ap (λ (z : A). let x : Result A (Stop Kind) = Ok z in x) (sym (h.unique b i.spelled))
-  one_answer ranks (Ok a) (Err (Syntax left)) h i = absurd (i.nothing a h.spelled)
-  one_answer ranks (Ok a) (Err (Faulty kind left)) h i = absurd (h.calm kind left i.is_fault i.said)
-  one_answer ranks (Err (Syntax left)) (Ok b) h i = absurd (h.nothing b i.spelled)
-  one_answer ranks (Err (Syntax left)) (Err (Syntax other)) h i = stop_is left other (one_break left other h i)
-  one_answer ranks (Err (Syntax left)) (Err (Faulty kind place)) h i = absurd (h.calm kind place i.is_fault i.said)
-  one_answer ranks (Err (Faulty kind left)) (Ok b) h i = absurd (i.calm kind left h.is_fault h.said)
-  one_answer ranks (Err (Faulty kind left)) (Err (Syntax place)) h i = absurd (i.calm kind left h.is_fault h.said)
-  one_answer ranks (Err (Faulty kind left)) (Err (Faulty other place)) h i =
-      let o = one_fault kind other left place h i in
-      fault_is kind other left place (ranks kind other h.is_fault i.is_fault o.1) o.0
+  -- However an answer is told: where faults of one rank are told alike, all answers to a text are.
+  module _ {B : Type 0} (told : Result A (Stop Kind) → B) (alike : (kind other : Kind) (left : List ℕ) → faults.is_fault kind ≡ true → faults.is_fault other ≡ true → faults.rank kind ≡ faults.rank other → told (Err (Faulty kind left)) ≡ told (Err (Faulty other left))) where
+    pub told_alike : (x y : Result A (Stop Kind)) → Answers faults r text x → Answers faults r text y → told x ≡ told y
+    told_alike (Ok a) (Ok b) h i = ap (λ (z : A). told (Ok z)) (sym (h.unique b i.spelled))
+    told_alike (Ok a) (Err (Syntax left)) h i = absurd (i.nothing a h.spelled)
+    told_alike (Ok a) (Err (Faulty kind left)) h i = absurd (h.calm kind left i.is_fault i.said)
+    told_alike (Err (Syntax left)) (Ok b) h i = absurd (h.nothing b i.spelled)
+    told_alike (Err (Syntax left)) (Err (Syntax other)) h i = ap (λ (z : List ℕ). told (Err (Syntax z))) (one_break left other h i)
+    told_alike (Err (Syntax left)) (Err (Faulty kind place)) h i = absurd (h.calm kind place i.is_fault i.said)
+    told_alike (Err (Faulty kind left)) (Ok b) h i = absurd (i.calm kind left h.is_fault h.said)
+    told_alike (Err (Faulty kind left)) (Err (Syntax place)) h i = absurd (i.calm kind left h.is_fault h.said)
+    told_alike (Err (Faulty kind left)) (Err (Faulty other place)) h i =
+        let o = one_fault kind other left place h i in
+        alike kind other left h.is_fault i.is_fault o.1 ∙ ap (λ (z : List ℕ). told (Err (Faulty other z))) o.0

@@ -1,33 +1,26 @@
 -- What was asked and how it was answered, as what a turn of the connection did.
-use Rattle.std.proofs.Common.{◌≡◌, ℕ, ◌⊎◌, inl, inr, Bool, true, false, true≢false, List, [], ◌++◌, take, Option, None, Some, Ok, Err, refl, sym, ap, subst, ◌∙◌, append-nil}
-use Rattle.std.specs.Io.KnownBytes.{Appends, Consumes, IsAtEnd}
-use Rattle.std.proofs.KnownBytes.{Appends-nil}
+use Rattle.std.proofs.Common.{◌≡◌, ℕ, ◌⊎◌, inl, inr, Bool, true, false, true≢false, List, [], ◌++◌, take, Option, None, Some, Ok, Err, refl, sym, ap, subst, ◌∙◌}
 use Rattle.reply_text.specs.Heads.{Sent, bytes_of}
-use Rattle.xcap_io.specs.Causes.{LineState}
-use Rattle.xcap_io.specs.Streams.{AppendsProperPrefix}
+use Rattle.xcap_io.specs.Causes.{Inward, LineState}
+use Rattle.xcap_io.specs.Passing.{Gave, Took}
+use Rattle.xcap_io.proofs.Passing.{took_none}
+use Rattle.xcap_io.specs.Streams.{TookProperPrefix}
 use Rattle.http_wire.specs.declared.request.Request.{Request}
 use Rattle.http_wire.specs.declared.request.Asked.{Asked}
 use Rattle.http_wire.specs.declared.request.Asked.TheVariants.{Request as Requested, Bad, TooLong, Coded, End, NoMemory}
 use Rattle.http_wire.specs.Asking.{WireState, IsNext, IsAsked, Asks, StandsAfter}
-use Rattle.http_wire.specs.Items.{Item, asks, bad, too_long, coded, FirstItem}
+use Rattle.http_wire.specs.Items.{Item, asks, bad, too_long, coded, IsFirst}
 use Rattle.http_wire.specs.Serving.{Closes, no_more, last_item, no_memory, GoesOn, told}
 use Rattle.http_wire.proofs.WholeItems.{asks-append}
 use Rattle.notes.specs.declared.edit.Edit.{Edit}
 use Rattle.http_serve.specs.declared.connection.Ended.TheVariants.{Closed, ReadFailed, WriteFailed}
 use Rattle.http_serve.specs.Fixed.{fixed}
-use Rattle.http_serve.specs.Turns.{AnswersAsked, Did, GivesOn, IsFixed, Turn, told_left}
+use Rattle.http_serve.specs.Turns.{AnswersAsked, Did, GivesOn, IsFixed, Turn}
 
--- a line at its end tells of no more bytes
-none_left : (left : Option (List ℕ)) → IsAtEnd left → told_left left ≡ []
-none_left None ended = refl
-none_left (Some bytes) ended = ended
-
--- the next item is the first of all bytes
-first_item : (before : ℕ) (given : List ℕ) (left : Option (List ℕ)) (item : Item) (held : List ℕ) → IsNext before given left item held → FirstItem before (given ++ told_left left) item (held ++ told_left left)
-first_item before given left item held (inl each) = each (told_left left)
-first_item before given left item held (inr (first, ended)) =
-    subst (λ (l : List ℕ). FirstItem before (given ++ l) item (held ++ l)) (sym (none_left left ended))
-    (subst (λ (l : List ℕ). FirstItem before l item (held ++ [])) (sym (append-nil given)) (subst (FirstItem before given item) (sym (append-nil held)) first))
+-- the next item is the first one
+first_item : (before : ℕ) (given : List ℕ) (now : Inward) (item : Item) (held : List ℕ) → IsNext before given now item held → IsFirst before given now.ended item
+first_item before given now item held (inl each) = inl (λ more. (held ++ more, each more))
+first_item before given now item held (inr (first, ended)) = inr (ended.0, (held, first))
 
 module _ {M : Type 0} where
   -- a fixed reply closes
@@ -39,19 +32,19 @@ module _ {M : Type 0} where
   fixed_answer status machine next reply edit is = (ap bytes_of is.0, is.2, is.1)
 
 module _ {M : Type 0} (Step : M → Request → List ℕ → M → Option Edit → Type 0) where
-  module _ (before : ℕ) (given : List ℕ) (left : Option (List ℕ)) (machine next : M) (reply : Sent) (edit : Option Edit) (held : List ℕ) where
+  module _ (before : ℕ) (given : List ℕ) (now : Inward) (machine next : M) (reply : Sent) (edit : Option Edit) (held : List ℕ) where
     -- a reply that closes ends the connection
-    ends_so : (asked : Asked) → IsAsked before given left asked held → AnswersAsked Step machine asked reply edit next → reply.closes ≡ true → Closes Step fixed before machine (given ++ told_left left) (bytes_of reply) next edit
-    ends_so (Requested request) is (inl (step, same)) closes = last_item (asks request) (held ++ told_left left) (asks-append before given (told_left left) request held is) (sym same ∙ closes) step
-    ends_so (Requested request) is (inr fix) closes = no_memory request (held ++ told_left left) (asks-append before given (told_left left) request held is) (ap bytes_of fix.0) fix.2 fix.1
-    ends_so Bad is fix closes = last_item bad (held ++ told_left left) (first_item before given left bad held is) refl (fixed_answer 400 machine next reply edit fix)
-    ends_so TooLong is fix closes = last_item too_long (held ++ told_left left) (first_item before given left too_long held is) refl (fixed_answer 413 machine next reply edit fix)
-    ends_so Coded is fix closes = last_item coded (held ++ told_left left) (first_item before given left coded held is) refl (fixed_answer 501 machine next reply edit fix)
+    ends_so : (asked : Asked) → IsAsked before given now asked held → AnswersAsked Step machine asked reply edit next → reply.closes ≡ true → Closes Step fixed before machine given now.ended (bytes_of reply) next edit
+    ends_so (Requested request) is (inl (step, same)) closes = last_item (asks request) (inl (λ more. (held ++ more, asks-append before given more request held is))) (sym same ∙ closes) step
+    ends_so (Requested request) is (inr fix) closes = no_memory request held is (ap bytes_of fix.0) fix.2 fix.1
+    ends_so Bad is fix closes = last_item bad (first_item before given now bad held is) refl (fixed_answer 400 machine next reply edit fix)
+    ends_so TooLong is fix closes = last_item too_long (first_item before given now too_long held is) refl (fixed_answer 413 machine next reply edit fix)
+    ends_so Coded is fix closes = last_item coded (first_item before given now coded held is) refl (fixed_answer 501 machine next reply edit fix)
     ends_so End is answer closes = absurd answer
-    ends_so NoMemory (request, rest, is) fix closes = no_memory request (rest ++ told_left left) (asks-append before given (told_left left) request rest is) (ap bytes_of fix.0) fix.2 fix.1
+    ends_so NoMemory (request, rest, is) fix closes = no_memory request rest is (ap bytes_of fix.0) fix.2 fix.1
 
     -- behind a reply that doesn't close it goes on
-    goes_so : (asked : Asked) → IsAsked before given left asked held → AnswersAsked Step machine asked reply edit next → reply.closes ≡ false → GoesOn Step fixed before machine given (bytes_of reply) next edit held
+    goes_so : (asked : Asked) → IsAsked before given now asked held → AnswersAsked Step machine asked reply edit next → reply.closes ≡ false → GoesOn Step fixed before machine given (bytes_of reply) next edit held
     goes_so (Requested request) is (inl (step, same)) goes_on = record { request = request; asked = is; stays = sym same ∙ goes_on; step = step }
     goes_so (Requested request) is (inr fix) goes_on = fixed_closes 503 machine next reply edit fix goes_on
     goes_so Bad is fix goes_on = fixed_closes 400 machine next reply edit fix goes_on
@@ -60,89 +53,83 @@ module _ {M : Type 0} (Step : M → Request → List ℕ → M → Option Edit �
     goes_so End is answer goes_on = absurd answer
     goes_so NoMemory is fix goes_on = fixed_closes 503 machine next reply edit fix goes_on
 
-    -- the same over all bytes
-    goes_over_all : GoesOn Step fixed before machine given (bytes_of reply) next edit held → GoesOn Step fixed before machine (given ++ told_left left) (bytes_of reply) next edit (held ++ told_left left)
-    goes_over_all g = record { request = g.request; asked = asks-append before given (told_left left) g.request held g.asked; stays = g.stays; step = g.step }
-
-    either_so : (asked : Asked) (closes : Bool) → reply.closes ≡ closes → IsAsked before given left asked held → AnswersAsked Step machine asked reply edit next
-        → Closes Step fixed before machine (given ++ told_left left) (bytes_of reply) next edit ⊎ ((rest : List ℕ) × GoesOn Step fixed before machine (given ++ told_left left) (bytes_of reply) next edit rest)
+    either_so : (asked : Asked) (closes : Bool) → reply.closes ≡ closes → IsAsked before given now asked held → AnswersAsked Step machine asked reply edit next
+        → Closes Step fixed before machine given now.ended (bytes_of reply) next edit ⊎ ((rest : List ℕ) × GoesOn Step fixed before machine given (bytes_of reply) next edit rest)
     either_so asked true closes is answer = inl (ends_so asked is answer closes)
-    either_so asked false closes is answer = inr (held ++ told_left left, goes_over_all (goes_so asked is answer closes))
+    either_so asked false closes is answer = inr (held, goes_so asked is answer closes)
 
 module _ {M W : Type 0} (Step : M → Request → List ℕ → M → Option Edit → Type 0) (Keeps : List Edit → W → W → Type 0) (wire wire' : WireState) (machine : M) (old new : LineState) (watchers : W) where
   -- a read failed
-  pub turn_of_fault : {E : Type 0} (e : E) → Asks wire.requests wire.held old.left (Err e) wire'.held new.left → new.taken ≡ old.taken → Keeps [] watchers watchers
+  pub turn_of_fault : {E : Type 0} (e : E) → Asks wire.requests wire.held old.inward (Err e) wire'.held new.inward → new.taken ≡ old.taken → Keeps [] watchers watchers
       → Turn Step Keeps (Some ReadFailed) wire wire' machine machine old new watchers watchers
   turn_of_fault e a same none = record {
     read = a.read;
     written = [];
     edit = None;
-    consumed = a.given;
-    appended = subst (λ (t : Option (List ℕ)). Appends old.taken t []) (sym same) (Appends-nil old.taken);
+    gave = a.given;
+    took = subst (λ (t : List ℕ). Took old.taken t []) (sym same) (took_none old.taken);
     did = (a.answer, refl, refl, refl);
     kept = none;
   }
 
   -- nothing was left
-  pub turn_of_end : {E : Type 0} (next : M) (asked : Asked) → Asks {E = E} wire.requests wire.held old.left (Ok asked) wire'.held new.left → asked ≡ End → new.taken ≡ old.taken → next ≡ machine → Keeps [] watchers watchers
+  pub turn_of_end : {E : Type 0} (next : M) (asked : Asked) → Asks {E = E} wire.requests wire.held old.inward (Ok asked) wire'.held new.inward → asked ≡ End → new.taken ≡ old.taken → next ≡ machine → Keeps [] watchers watchers
       → Turn Step Keeps (Some Closed) wire wire' machine next old new watchers watchers
   turn_of_end {E = E} next asked first is same stands none =
-      let a : Asks {E = E} wire.requests wire.held old.left (Ok End) wire'.held new.left = subst (λ (q : Asked). Asks {E = E} wire.requests wire.held old.left (Ok q) wire'.held new.left) is first in
-      let bytes = wire.held ++ a.read in
-      let all : bytes ++ told_left new.left ≡ [] = ap (λ (l : List ℕ). l ++ told_left new.left) a.answer.0 ∙ none_left new.left a.answer.1 in
+      let a : Asks {E = E} wire.requests wire.held old.inward (Ok End) wire'.held new.inward = subst (λ (q : Asked). Asks {E = E} wire.requests wire.held old.inward (Ok q) wire'.held new.inward) is first in
       record {
         read = a.read;
         written = [];
         edit = None;
-        consumed = a.given;
-        appended = subst (λ (t : Option (List ℕ)). Appends old.taken t []) (sym same) (Appends-nil old.taken);
-        did = no_more all refl stands refl;
+        gave = a.given;
+        took = subst (λ (t : List ℕ). Took old.taken t []) (sym same) (took_none old.taken);
+        did = no_more a.answer.0 a.answer.1.0 refl stands refl;
         kept = none;
       }
 
-  module _ {E : Type 0} (next : M) (mid : LineState) (watchers' : W) (asked : Asked) (reply : Sent) (edit : Option Edit) (a : Asks {E = E} wire.requests wire.held old.left (Ok asked) wire'.held mid.left)
-      (answer : AnswersAsked Step machine asked reply edit next) (same_taken : mid.taken ≡ old.taken) (same_left : new.left ≡ mid.left) (kept : Keeps (told edit) watchers watchers') where
+  module _ {E : Type 0} (next : M) (mid : LineState) (watchers' : W) (asked : Asked) (reply : Sent) (edit : Option Edit) (a : Asks {E = E} wire.requests wire.held old.inward (Ok asked) wire'.held mid.inward)
+      (answer : AnswersAsked Step machine asked reply edit next) (same_taken : mid.taken ≡ old.taken) (same_inward : new.inward ≡ mid.inward) (kept : Keeps (told edit) watchers watchers') where
     abbrev bytes : List ℕ
     bytes = wire.held ++ a.read
 
-    consumed : Consumes old.left new.left a.read
-    consumed = subst (λ (l : Option (List ℕ)). Consumes old.left l a.read) (sym same_left) a.given
+    gave : Gave old.inward new.inward a.read
+    gave = subst (λ (now : Inward). Gave old.inward now a.read) (sym same_inward) a.given
 
     -- the reply's write failed
-    pub turn_of_failed_write : AppendsProperPrefix mid.taken new.taken (bytes_of reply) → Turn Step Keeps (Some WriteFailed) wire wire' machine next old new watchers watchers'
+    pub turn_of_failed_write : TookProperPrefix mid.taken new.taken (bytes_of reply) → Turn Step Keeps (Some WriteFailed) wire wire' machine next old new watchers watchers'
     turn_of_failed_write cut = record {
       read = a.read;
       written = take cut.0 (bytes_of reply);
       edit = edit;
-      consumed = consumed;
-      appended = subst (λ (t : Option (List ℕ)). Appends t new.taken (take cut.0 (bytes_of reply))) same_taken cut.2;
-      did = subst (λ (l : Option (List ℕ)). Did Step (Some WriteFailed) wire.requests machine bytes (told_left l) (take cut.0 (bytes_of reply)) next edit wire'.held) (sym same_left)
-          (bytes_of reply, cut.0, cut.1, refl, either_so Step wire.requests bytes mid.left machine next reply edit wire'.held asked reply.closes refl a.answer answer);
+      gave = gave;
+      took = subst (λ (t : List ℕ). Took t new.taken (take cut.0 (bytes_of reply))) same_taken cut.2;
+      did = subst (λ (now : Inward). Did Step (Some WriteFailed) wire.requests machine bytes now.ended (take cut.0 (bytes_of reply)) next edit wire'.held) (sym same_inward)
+          (bytes_of reply, cut.0, cut.1, refl, either_so Step wire.requests bytes mid.inward machine next reply edit wire'.held asked reply.closes refl a.answer answer);
       kept = kept;
     }
 
     -- the reply closes
-    pub turn_of_close : reply.closes ≡ true → Appends mid.taken new.taken (bytes_of reply) → Turn Step Keeps (Some Closed) wire wire' machine next old new watchers watchers'
+    pub turn_of_close : reply.closes ≡ true → Took mid.taken new.taken (bytes_of reply) → Turn Step Keeps (Some Closed) wire wire' machine next old new watchers watchers'
     turn_of_close closes whole = record {
       read = a.read;
       written = bytes_of reply;
       edit = edit;
-      consumed = consumed;
-      appended = subst (λ (t : Option (List ℕ)). Appends t new.taken (bytes_of reply)) same_taken whole;
-      did = subst (λ (l : Option (List ℕ)). Did Step (Some Closed) wire.requests machine bytes (told_left l) (bytes_of reply) next edit wire'.held) (sym same_left)
-          (ends_so Step wire.requests bytes mid.left machine next reply edit wire'.held asked a.answer answer closes);
+      gave = gave;
+      took = subst (λ (t : List ℕ). Took t new.taken (bytes_of reply)) same_taken whole;
+      did = subst (λ (now : Inward). Did Step (Some Closed) wire.requests machine bytes now.ended (bytes_of reply) next edit wire'.held) (sym same_inward)
+          (ends_so Step wire.requests bytes mid.inward machine next reply edit wire'.held asked a.answer answer closes);
       kept = kept;
     }
 
     -- the connection goes on
-    pub turn_of_request : reply.closes ≡ false → Appends mid.taken new.taken (bytes_of reply) → Turn Step Keeps None wire wire' machine next old new watchers watchers'
+    pub turn_of_request : reply.closes ≡ false → Took mid.taken new.taken (bytes_of reply) → Turn Step Keeps None wire wire' machine next old new watchers watchers'
     turn_of_request goes_on whole = record {
       read = a.read;
       written = bytes_of reply;
       edit = edit;
-      consumed = consumed;
-      appended = subst (λ (t : Option (List ℕ)). Appends t new.taken (bytes_of reply)) same_taken whole;
-      did = goes_so Step wire.requests bytes mid.left machine next reply edit wire'.held asked a.answer answer goes_on;
+      gave = gave;
+      took = subst (λ (t : List ℕ). Took t new.taken (bytes_of reply)) same_taken whole;
+      did = goes_so Step wire.requests bytes mid.inward machine next reply edit wire'.held asked a.answer answer goes_on;
       kept = kept;
     }
 

@@ -1,16 +1,14 @@
 -- Connections of a port, served one after the other.
-use Rattle.std.proofs.Common.{◌≡◌, ℕ, ◌+◌, ◌-◌, ◌^◌, ◌<◌, inl, inr, Bool, true, false, List, [], ◌∷◌, ◌++◌, length, Option, None, Some, IfSome, Ok, refl, sym, ap, subst, ◌∙◌, arith, append_assoc, append-nil, ⊎_elim}
+use Rattle.std.proofs.Common.{◌≡◌, ℕ, ◌+◌, ◌-◌, ◌^◌, ◌<◌, inl, inr, Bool, true, false, true≢false, List, [], ◌∷◌, ◌++◌, length, Option, None, Some, IfSome, Ok, refl, sym, ap, subst, ◌∙◌, arith, append_assoc, append-nil, ⊎_elim}
 use Rattle.std.proofs.lemmas.Bool.{cases_lt}
 use Rattle.std.proofs.lemmas.List.{length_push}
-use Rattle.std.proofs.lemmas.List.Folds.{concat-append}
-use Rattle.std.specs.List.{concat}
-use Rattle.std.specs.Option.{option_and_then}
-use Rattle.std.specs.Io.KnownBytes.{Appends}
-use Rattle.std.proofs.KnownBytes.{Appends-nil, Appends-trans}
-use Rattle.xcap_io.specs.Causes.{Begun, LineState, PortState, Rose}
-use Rattle.xcap_io.specs.Connections.{Comes, Next, OnlyNext, PortBegins, sent, sent_by, with_port_faults}
+use Rattle.std.specs.Io.KnownBytes.{Consumes, IsAtEnd}
+use Rattle.xcap_io.specs.Causes.{Begun, Inward, LineState, PortState, Rose}
+use Rattle.xcap_io.specs.Connections.{Comes, Next, NextFailed, OnlyNext, carried, traffic}
+use Rattle.xcap_io.specs.Histories.{Traffic, carried_by}
+use Rattle.xcap_io.specs.Passing.{Gave, IsTruthful, Took}
 use Rattle.http_wire.specs.declared.request.Request.{Request}
-use Rattle.http_wire.specs.Serving.{Ending, closed, read_failed, write_failed, IsBounded, Serves, ServesEach, read_failures, write_failures}
+use Rattle.http_wire.specs.Serving.{Ending, closed, read_failed, write_failed, HasBytes, HaveBytes, IsBounded, Serves, ServesEach, read_failures, write_failures}
 use Rattle.notes.specs.declared.edit.Edit.{Edit}
 use Rattle.http_serve.specs.declared.connection.Ended.{Ended}
 use Rattle.http_serve.specs.declared.connection.Ended.TheVariants.{Closed, ReadFailed, WriteFailed}
@@ -21,7 +19,7 @@ use Rattle.http_serve.specs.Endings.{ending_of, FaultsBy}
 use Rattle.http_serve.specs.Fixed.{fixed}
 use Rattle.http_serve.specs.Connections.{ServesLine}
 use Rattle.http_serve.proofs.Faults.{faults_on}
-use Rattle.http_serve.specs.Ports.{Came, Sends, ServesPort, Stops, last_of}
+use Rattle.http_serve.specs.Ports.{Came, ServesPort, Stops, last_of}
 
 -- ---- one connection behind others
 
@@ -66,104 +64,82 @@ writes_bound ReadFailed endings first mid new f b = bound_stays (write_failures 
 writes_bound WriteFailed endings first mid new f b = bound_rises (write_failures endings) _ first mid.write_faults new.write_faults (writes_added endings write_failed) f.1 b
 
 module _ {M E : Type 0} (Step : M → Request → List ℕ → M → Option E → Type 0) where
-  each_more : (connections : List (List ℕ)) (machine mid next : M) (endings : List Ending) (written : List (List ℕ)) (edits : List E) (ending : Ending) (bytes given wrote : List ℕ) (later : List E)
-      → ServesEach Step fixed machine connections endings written mid edits → Serves Step fixed ending mid bytes given wrote next later
-      → ServesEach Step fixed machine (connections ++ bytes ∷ []) (endings ++ ending ∷ []) (written ++ wrote ∷ []) next (edits ++ later)
-  each_more [] machine mid next endings written edits ending bytes given wrote later h one = (
+  each_more : (connections : List Traffic) (machine mid next : M) (endings : List Ending) (edits : List E) (ending : Ending) (passed : Traffic) (later : List E)
+      → ServesEach Step fixed machine connections endings mid edits → Serves Step fixed ending mid passed next later
+      → ServesEach Step fixed machine (connections ++ passed ∷ []) (endings ++ ending ∷ []) next (edits ++ later)
+  each_more [] machine mid next endings edits ending passed later h one = (
     ending,
-    [],
-    given,
-    wrote,
     [],
     next,
     later,
     [],
     ap (λ (l : List Ending). l ++ ending ∷ []) h.0,
-    ap (λ (l : List (List ℕ)). l ++ wrote ∷ []) h.1,
-    ap (λ (l : List E). l ++ later) h.3 ∙ sym (append-nil later),
-    subst (λ (m : M). Serves Step fixed ending m bytes given wrote next later) h.2 one,
-    (refl, refl, refl, refl),
+    ap (λ (l : List E). l ++ later) h.2 ∙ sym (append-nil later),
+    subst (λ (m : M). Serves Step fixed ending m passed next later) h.1 one,
+    (refl, refl, refl),
   )
-  each_more (b ∷ connections) machine mid next endings written edits ending bytes given wrote later (e, others, g, w, more, m, first, rest, all_endings, all_written, all_told, served, each) one = (
+  each_more (p ∷ connections) machine mid next endings edits ending passed later (e, others, m, first, rest, all_endings, all_told, served, each) one = (
     e,
     others ++ ending ∷ [],
-    g,
-    w,
-    more ++ wrote ∷ [],
     m,
     first,
     rest ++ later,
     ap (λ (l : List Ending). l ++ ending ∷ []) all_endings,
-    ap (λ (l : List (List ℕ)). l ++ wrote ∷ []) all_written,
     ap (λ (l : List E). l ++ later) all_told ∙ append_assoc first rest later,
     served,
-    each_more connections m mid next others more rest ending bytes given wrote later each one,
+    each_more connections m mid next others rest ending passed later each one,
   )
 
 -- ---- what the port tells
 
+-- bytes of connections, and of one behind them
+have_more : (came : List (List ℕ)) (connections : List Traffic) (bytes : List ℕ) (passed : Traffic) → HaveBytes came connections → HasBytes bytes passed → HaveBytes (came ++ bytes ∷ []) (connections ++ passed ∷ [])
+have_more [] [] bytes passed have has = (has, tt)
+have_more [] (p ∷ connections) bytes passed have has = absurd have
+have_more (b ∷ came) [] bytes passed have has = absurd have
+have_more (b ∷ came) (p ∷ connections) bytes passed have has = (have.0, have_more came connections bytes passed have.1 has)
+
+-- what was left of a connection that began, and what was given on it
+pub has_bytes : (start now : Inward) (bytes : List ℕ) (passed : Traffic) → start.left ≡ Some bytes → IsTruthful start → Gave start now passed.given → passed.ended ≡ now.ended → HasBytes bytes passed
+has_bytes start now bytes passed told truthful gave found =
+    by_left now.left (subst (λ (l : Option (List ℕ)). Consumes l now.left passed.given) told gave.consumed) (λ ended. gave.truthful truthful (sym found ∙ ended))
+  where
+    by_left : (left : Option (List ℕ)) → Consumes (Some bytes) left passed.given → (passed.ended ≡ true → IsAtEnd left) → HasBytes bytes passed
+    by_left None consumed at_end = absurd consumed
+    by_left (Some left) consumed at_end = (left, consumed, at_end)
+
 -- the connection that began was the next one to come
-came_more : (old mid begun : Option (List (List ℕ))) (left : Option (List ℕ)) (connections : List (List ℕ)) (bytes : List ℕ) → Came old mid connections → Comes mid begun left → IfSome left (λ (l : List ℕ). l ≡ bytes) → Came old begun (connections ++ bytes ∷ [])
-came_more None mid begun left connections bytes came comes told = tt
-came_more (Some all) mid begun left connections bytes (rest, is, now) comes told =
-    let next : Comes (Some rest) begun left = subst (λ (m : Option (List (List ℕ))). Comes m begun left) now comes in
-    let same : next.0 ≡ bytes = subst (λ (l : Option (List ℕ)). IfSome l (λ (b : List ℕ). b ≡ bytes)) next.4 told in (
+came_more : (old mid begun : Option (List (List ℕ))) (start now : Inward) (connections : List Traffic) (passed : Traffic) → Came old mid connections → Comes mid begun start.left
+    → IsTruthful start → Gave start now passed.given → passed.ended ≡ now.ended → Came old begun (connections ++ passed ∷ [])
+came_more None mid begun start now connections passed came comes truthful gave found = tt
+came_more (Some all) mid begun start now connections passed (came, rest, is, here, have) comes truthful gave found =
+    let next : Comes (Some rest) begun start.left = subst (λ (m : Option (List (List ℕ))). Comes m begun start.left) here comes in (
+      came ++ next.0 ∷ [],
       next.1,
-      is ∙ ap (λ (l : List (List ℕ)). connections ++ l) (next.2 ∙ ap (λ (b : List ℕ). b ∷ next.1) same) ∙ sym (append_assoc connections (bytes ∷ []) next.1),
+      is ∙ ap (λ (l : List (List ℕ)). came ++ l) next.2 ∙ sym (append_assoc came (next.0 ∷ []) next.1),
       next.3,
+      have_more came connections next.0 passed have (has_bytes start now next.0 passed next.4 truthful gave found),
     )
 
--- what was sent on connections, by what is told of them and what was taken
-abbrev sent_of : Option Begun → Option (List ℕ) → Option (List (List ℕ))
-sent_of begun taken = option_and_then (λ (b : Begun). sent_by b taken) begun
+-- a connection that begins has found no end
+begins_truthful : (mid begun : LineState) → Next mid begun → IsTruthful begun.inward
+begins_truthful mid begun n = λ ended. absurd (true≢false (sym ended ∙ ap (λ (t : Traffic). t.ended) n.nothing_passed))
 
-taken_of : (taken : Option (List ℕ)) (wrote : List ℕ) → Appends (Some []) taken wrote → taken ≡ Some wrote
-taken_of None wrote appended = absurd appended
-taken_of (Some bytes) wrote appended = ap Some appended
+-- what passed is one connection more
+carried_more : (old mid begun new : LineState) (connections : List Traffic) (passed : Traffic) → carried mid ≡ carried old ++ connections → Next mid begun → new.port ≡ begun.port
+    → Gave begun.inward new.inward passed.given → passed.ended ≡ new.inward.ended → Took begun.taken new.taken passed.taken → carried new ≡ carried old ++ (connections ++ passed ∷ [])
+carried_more old mid begun new connections passed before n same gave found took =
+    let given : new.inward.given ≡ passed.given = gave.behind ∙ ap (λ (t : Traffic). t.given ++ passed.given) n.nothing_passed in
+    let taken : new.taken ≡ passed.taken = took ∙ ap (λ (t : Traffic). t.taken ++ passed.taken) n.nothing_passed in
+    let now : traffic new ≡ passed = λ i. record { given = given i; ended = sym found i; taken = taken i } in
+    ap (λ (b : Begun). carried_by b.earlier b.is_present (traffic new)) (ap (λ (p : PortState). p.begun) same ∙ n.begins)
+    ∙ ap (λ (t : Traffic). carried mid ++ t ∷ []) now
+    ∙ ap (λ (l : List Traffic). l ++ passed ∷ []) before
+    ∙ append_assoc (carried old) connections (passed ∷ [])
 
--- what was sent is one connection more
-sent_more : (mid begun new : LineState) (b : Option Begun) (before : List (List ℕ)) (wrote : List ℕ) → mid.port.begun ≡ b → sent mid ≡ Some before → PortBegins b mid begun → new.port.begun ≡ begun.port.begun → Appends begun.taken new.taken wrote
-    → sent new ≡ Some (before ++ wrote ∷ [])
-sent_more mid begun new None before wrote is all begins same appended =
-    let none : None ≡ Some before = sym (ap (λ (b : Option Begun). sent_of b mid.taken) is) ∙ all in
-    let no : ⊥ = cc in
-    absurd no
-sent_more mid begun new (Some b) before wrote is all (none, (earlier, told, now)) same appended =
-    let both : Some earlier ≡ Some before = sym told ∙ all in
-    let one : earlier ≡ before = cc in
-    ap (λ (b : Option Begun). sent_of b new.taken) (same ∙ now)
-    ∙ ap (λ (t : Option (List ℕ)). sent_of (Some (record { earlier = earlier; is_present = true })) t) (taken_of new.taken wrote (subst (λ (t : Option (List ℕ)). Appends t new.taken wrote) none appended))
-    ∙ ap (λ (l : List (List ℕ)). Some (l ++ wrote ∷ [])) one
-
-apart_more : (all_before : Option (List (List ℕ))) (mid begun new : LineState) (written : List (List ℕ)) (wrote : List ℕ) → PortBegins mid.port.begun mid begun → new.port.begun ≡ begun.port.begun → Appends begun.taken new.taken wrote
-    → IfSome all_before (λ all. sent mid ≡ Some (all ++ written)) → IfSome all_before (λ all. sent new ≡ Some (all ++ (written ++ wrote ∷ [])))
-apart_more None mid begun new written wrote begins same appended h = tt
-apart_more (Some all) mid begun new written wrote begins same appended h =
-    sent_more mid begun new mid.port.begun (all ++ written) wrote refl h begins same appended ∙ ap Some (append_assoc all written (wrote ∷ []))
-
-joined_more : (old mid begun new : LineState) (written : List (List ℕ)) (wrote : List ℕ) → PortBegins mid.port.begun mid begun → new.port.begun ≡ begun.port.begun → Appends begun.taken new.taken wrote
-    → (mid.port.begun ≡ None) × Appends old.taken mid.taken (concat written) → (new.port.begun ≡ None) × Appends old.taken new.taken (concat (written ++ wrote ∷ []))
-joined_more old mid begun new written wrote begins same appended h =
-    let b : PortBegins None mid begun = subst (λ (b : Option Begun). PortBegins b mid begun) h.0 begins in
-    let all : concat written ++ wrote ≡ concat (written ++ wrote ∷ []) = ap (λ (l : List ℕ). concat written ++ l) (sym (append-nil wrote)) ∙ sym (concat-append written (wrote ∷ [])) in (
-      same ∙ b.0,
-      subst (Appends old.taken new.taken) all (Appends-trans old.taken mid.taken new.taken (concat written) wrote h.1 (subst (λ (t : Option (List ℕ)). Appends t new.taken wrote) b.1 appended)),
-    )
-
-sends_more : (old mid begun new : LineState) (written : List (List ℕ)) (wrote : List ℕ) → Sends old mid written → PortBegins mid.port.begun mid begun → new.port.begun ≡ begun.port.begun → Appends begun.taken new.taken wrote → Sends old new (written ++ wrote ∷ [])
-sends_more old mid begun new written wrote s begins same appended = record {
-  apart = apart_more (sent old) mid begun new written wrote begins same appended s.apart;
-  joined = λ none. joined_more old mid begun new written wrote begins same appended (s.joined none);
-}
-
--- nothing was sent
-sent_none : (all_before : Option (List (List ℕ))) → IfSome all_before (λ all. all_before ≡ Some (all ++ []))
-sent_none None = tt
-sent_none (Some all) = ap Some (sym (append-nil all))
-
-came_none : (all_before : Option (List (List ℕ))) → Came all_before all_before []
+came_none : (to_come : Option (List (List ℕ))) → Came to_come to_come []
 came_none None = tt
-came_none (Some all) = (all, refl, refl)
+came_none (Some all) = ([], all, refl, refl, tt)
 
 -- ---- what `next` said
 
@@ -180,14 +156,13 @@ has_ended E old new false n is = n
 module _ {M W : Type 0} (Step : M → Request → List ℕ → M → Option Edit → Type 0) (Keeps : List Edit → W → W → Type 0) where
   -- So many connections were served, the last of which ended so.
   pub record PortSoFar (count : ℕ) (last : Ended) (machine now : M) (old mid : LineState) (watchers watchers' : W) : Type 0 where
-    pub connections : List (List ℕ)
-    pub written : List (List ℕ)
+    pub connections : List Traffic
     pub edits : List Edit
     pub endings : List Ending
     pub many : length connections ≡ count
     pub came : Came old.port.to_come mid.port.to_come connections
-    pub sends : Sends old mid written
-    pub each : ServesEach Step fixed machine connections endings written now edits
+    pub all_carried : carried mid ≡ carried old ++ connections
+    pub each : ServesEach Step fixed machine connections endings now edits
     pub read_bound : IsBounded (read_failures endings) old.read_faults mid.read_faults
     pub write_bound : IsBounded (write_failures endings) old.write_faults mid.write_faults
     pub ended : ending_of last ≡ last_of endings
@@ -201,13 +176,12 @@ module _ {M W : Type 0} (Step : M → Request → List ℕ → M → Option Edit
   pub no_connection : (machine : M) (port : LineState) (watchers : W) → Keeps [] watchers watchers → PortSoFar 0 Closed machine machine port port watchers watchers
   no_connection machine port watchers none = record {
     connections = [];
-    written = [];
     edits = [];
     endings = [];
     many = refl;
     came = came_none port.port.to_come;
-    sends = record { apart = sent_none (sent port); joined = λ none. (none, Appends-nil port.taken) };
-    each = (refl, refl, refl, refl);
+    all_carried = sym (append-nil (carried port));
+    each = (refl, refl, refl);
     read_bound = inl (omega arith);
     write_bound = inl (omega arith);
     ended = refl;
@@ -226,16 +200,16 @@ module _ {M W : Type 0} (Step : M → Request → List ℕ → M → Option Edit
       let x = v.exchanges in
       let same_port = x.same_port in
       let faults : FaultsBy ended mid new = faults_on ended mid begun new n.same_read_faults n.same_write_faults v.faults in
+      let truthful = begins_truthful mid begun n in
       record {
-        connections = s.connections ++ v.bytes ∷ [];
-        written = s.written ++ v.written ∷ [];
+        connections = s.connections ++ v.passed ∷ [];
         edits = s.edits ++ v.edits;
         endings = s.endings ++ ending_of ended ∷ [];
-        many = omega (arith, s.many, length_push s.connections v.bytes);
-        came = subst (λ (t : Option (List (List ℕ))). Came old.port.to_come t (s.connections ++ v.bytes ∷ [])) (sym (ap (λ (p : PortState). p.to_come) same_port))
-            (came_more old.port.to_come mid.port.to_come begun.port.to_come begun.left s.connections v.bytes s.came n.comes v.all_left);
-        sends = sends_more old mid begun new s.written v.written s.sends n.begins (ap (λ (p : PortState). p.begun) same_port) v.appended;
-        each = each_more Step s.connections machine now next s.endings s.written s.edits (ending_of ended) v.bytes v.given v.written v.edits s.each v.serves;
+        many = omega (arith, s.many, length_push s.connections v.passed);
+        came = subst (λ (t : Option (List (List ℕ))). Came old.port.to_come t (s.connections ++ v.passed ∷ [])) (sym (ap (λ (p : PortState). p.to_come) same_port))
+            (came_more old.port.to_come mid.port.to_come begun.port.to_come begun.inward new.inward s.connections v.passed s.came n.comes truthful v.gave v.found_end);
+        all_carried = carried_more old mid begun new s.connections v.passed s.all_carried n same_port v.gave v.found_end v.took;
+        each = each_more Step s.connections machine now next s.endings s.edits (ending_of ended) v.passed v.edits s.each v.serves;
         read_bound = reads_bound ended s.endings old.read_faults mid new faults s.read_bound;
         write_bound = writes_bound ended s.endings old.write_faults mid new faults s.write_bound;
         ended = last_added s.endings (ending_of ended);
@@ -255,11 +229,10 @@ module _ {M W : Type 0} (Step : M → Request → List ℕ → M → Option Edit
     stopped : (stop : Stop) → Stops stop most count old mid → ServesPort Step Keeps most (served stop) machine now old mid a b
     stopped stop stops = record {
       connections = s.connections;
-      written = s.written;
       edits = s.edits;
       count = s.many;
       came = s.came;
-      sends = s.sends;
+      all_carried = s.all_carried;
       serves = record { endings = s.endings; each = s.each; read_bound = s.read_bound; write_bound = s.write_bound };
       last = s.ended;
       stop = stops;
@@ -278,21 +251,24 @@ module _ {M W : Type 0} (Step : M → Request → List ℕ → M → Option Edit
     none_to_come new few (same, none) = subst (λ (l : LineState). ServesPort Step Keeps most (served NoMore) machine now old l a b) (sym same) (stopped NoMore (few, none, s.same_faults))
 
     -- the next one didn't begin
-    pub next_failed : (new : LineState) → count < most → (new ≡ with_port_faults mid new.port.faults) × Rose mid.port.faults new.port.faults → ServesPort Step Keeps most (served PortFailed) machine now old new a b
-    next_failed new few (same, rose) =
-        subst (λ (l : LineState). ServesPort Step Keeps most (served PortFailed) machine now old l a b) (sym same) (record {
-          connections = s.connections;
-          written = s.written;
-          edits = s.edits;
-          count = s.many;
-          came = s.came;
-          sends = record { apart = s.sends.apart; joined = s.sends.joined };
-          serves = record { endings = s.endings; each = s.each; read_bound = s.read_bound; write_bound = s.write_bound };
-          last = s.ended;
-          stop = (few, subst (λ (n : ℕ). Rose n new.port.faults) s.same_faults rose);
-          kept = s.kept;
-          same_listening = s.same_listening;
-          same_holds = s.same_holds;
-          same_aside = s.same_aside;
-          same_peer = s.same_peer;
-        })
+    pub next_failed : (new : LineState) → count < most → NextFailed mid new → ServesPort Step Keeps most (served PortFailed) machine now old new a b
+    next_failed new few f = record {
+      connections = s.connections;
+      edits = s.edits;
+      count = s.many;
+      came = subst (λ (t : Option (List (List ℕ))). Came old.port.to_come t s.connections) (sym f.same_to_come) s.came;
+      all_carried = f.keeps ∙ s.all_carried;
+      serves = record {
+        endings = s.endings;
+        each = s.each;
+        read_bound = subst (IsBounded (read_failures s.endings) old.read_faults) (sym f.same_read_faults) s.read_bound;
+        write_bound = subst (IsBounded (write_failures s.endings) old.write_faults) (sym f.same_write_faults) s.write_bound;
+      };
+      last = s.ended;
+      stop = (few, subst (λ (n : ℕ). Rose n new.port.faults) s.same_faults f.rose);
+      kept = s.kept;
+      same_listening = f.same_listening ∙ s.same_listening;
+      same_holds = f.same_holds ∙ s.same_holds;
+      same_aside = f.same_aside ∙ s.same_aside;
+      same_peer = f.same_peer ∙ s.same_peer;
+    }

@@ -1,11 +1,12 @@
 -- A machine that stands for another: where each step of the one is a step of the other on states that belong together, so
 -- is what either does on connections.
-use Rattle.std.proofs.Common.{◌≡◌, ℕ, ◌+◌, inl, inr, List, [], ◌∷◌, length, Option, refl, sym, subst}
+use Rattle.std.proofs.Common.{◌≡◌, ℕ, ◌+◌, inl, inr, Bool, List, [], ◌∷◌, length, Option, refl, sym, subst}
 use Rattle.xcap_io.specs.Causes.{LineState}
+use Rattle.xcap_io.specs.Histories.{Traffic}
 use Rattle.notes.specs.declared.edit.Edit.{Edit}
 use Rattle.http_wire.specs.declared.request.Request.{Request}
 use Rattle.http_wire.specs.Items.{Item, asks, bad, too_long, coded}
-use Rattle.http_wire.specs.Serving.{Answers, Closes, no_more, last_item, no_memory, Ending, closed, read_failed, write_failed, EndsBy, GoesOn, Run, Serves, ServesBytes, ServesEach, ServesAll, counted}
+use Rattle.http_wire.specs.Serving.{Answers, Closes, no_more, last_item, no_memory, Ending, closed, read_failed, write_failed, EndsBy, GoesOn, Run, Serves, ServesEach}
 use Rattle.http_serve.specs.declared.connection.Ended.{Ended}
 use Rattle.http_serve.specs.declared.port.Served.{Served}
 use Rattle.http_serve.specs.Connections.{ServesLine}
@@ -32,57 +33,40 @@ module _ {S M E : Type 0} (Steps : S → Request → List ℕ → S → Option E
       let others = runs (before + 1) requests mid s' one.0 behind more rest later one.1 run in
       (others.0, others.1, (behind, reply, one.0, edit, more, later, asked, kept, one.2, wrote, all_told, others.2))
 
-  closes : (before : ℕ) (s s' : S) (m : M) (bytes reply : List ℕ) (edit : Option E) → Stands s m → Closes Steps fixed before s bytes reply s' edit → (m' : M) × Stands s' m' × Closes Step fixed before m bytes reply m' edit
-  closes before s s' m bytes reply edit stands (no_more none wrote same unchanged) = (m, stays s s' m stands same, no_more none wrote refl unchanged)
-  closes before s s' m bytes reply edit stands (last_item item rest first ends answer) =
-      let a = answers item s s' m reply edit stands answer in (a.0, a.1, last_item item rest first ends a.2)
-  closes before s s' m bytes reply edit stands (no_memory request rest asked wrote same unchanged) = (m, stays s s' m stands same, no_memory request rest asked wrote refl unchanged)
+  closes : (before : ℕ) (s s' : S) (m : M) (bytes : List ℕ) (ended : Bool) (reply : List ℕ) (edit : Option E) → Stands s m → Closes Steps fixed before s bytes ended reply s' edit → (m' : M) × Stands s' m' × Closes Step fixed before m bytes ended reply m' edit
+  closes before s s' m bytes ended reply edit stands (no_more none end wrote same unchanged) = (m, stays s s' m stands same, no_more none end wrote refl unchanged)
+  closes before s s' m bytes ended reply edit stands (last_item item first ends answer) =
+      let a = answers item s s' m reply edit stands answer in (a.0, a.1, last_item item first ends a.2)
+  closes before s s' m bytes ended reply edit stands (no_memory request rest asked wrote same unchanged) = (m, stays s s' m stands same, no_memory request rest asked wrote refl unchanged)
 
   goes_on : (before : ℕ) (s s' : S) (m : M) (bytes reply rest : List ℕ) (edit : Option E) → Stands s m → GoesOn Steps fixed before s bytes reply s' edit rest → (m' : M) × Stands s' m' × GoesOn Step fixed before m bytes reply m' edit rest
   goes_on before s s' m bytes reply rest edit stands g =
       let one = step s s' m g.request reply edit stands g.step in (one.0, one.1, record { request = g.request; asked = g.asked; stays = g.stays; step = one.2 })
 
-  ends : (ending : Ending) (before : ℕ) (s s' : S) (m : M) (bytes written : List ℕ) (edit : Option E) → Stands s m → EndsBy Steps fixed ending before s bytes written s' edit → (m' : M) × Stands s' m' × EndsBy Step fixed ending before m bytes written m' edit
-  ends closed before s s' m bytes written edit stands e = closes before s s' m bytes written edit stands e
-  ends read_failed before s s' m bytes written edit stands e = (m, stays s s' m stands e.2, (e.0, e.1, refl, e.3))
-  ends write_failed before s s' m bytes written edit stands (reply, n, cut, wrote, inl e) =
-      let c = closes before s s' m bytes reply edit stands e in (c.0, c.1, (reply, n, cut, wrote, inl c.2))
-  ends write_failed before s s' m bytes written edit stands (reply, n, cut, wrote, inr (rest, e)) =
+  ends : (ending : Ending) (before : ℕ) (s s' : S) (m : M) (bytes : List ℕ) (ended : Bool) (written : List ℕ) (edit : Option E) → Stands s m → EndsBy Steps fixed ending before s bytes ended written s' edit → (m' : M) × Stands s' m' × EndsBy Step fixed ending before m bytes ended written m' edit
+  ends closed before s s' m bytes ended written edit stands e = closes before s s' m bytes ended written edit stands e
+  ends read_failed before s s' m bytes ended written edit stands e = (m, stays s s' m stands e.2, (e.0, e.1, refl, e.3))
+  ends write_failed before s s' m bytes ended written edit stands (reply, n, cut, wrote, inl e) =
+      let c = closes before s s' m bytes ended reply edit stands e in (c.0, c.1, (reply, n, cut, wrote, inl c.2))
+  ends write_failed before s s' m bytes ended written edit stands (reply, n, cut, wrote, inr (rest, e)) =
       let g = goes_on before s s' m bytes reply rest edit stands e in (g.0, g.1, (reply, n, cut, wrote, inr (rest, g.2)))
 
-  serves_bytes : (ending : Ending) (s s' : S) (m : M) (bytes written : List ℕ) (edits : List E) → Stands s m → ServesBytes Steps fixed ending s bytes written s' edits → (m' : M) × Stands s' m' × ServesBytes Step fixed ending m bytes written m' edits
-  serves_bytes ending s s' m bytes written edits stands v =
-      let r = runs 0 v.requests s v.mid m bytes v.replies v.behind v.early stands v.run in
-      let e = ends ending (length v.requests) v.mid s' r.0 v.behind v.last v.edit r.1 v.ends in
+  -- one connection
+  pub serves : (ending : Ending) (s s' : S) (m : M) (passed : Traffic) (edits : List E) → Stands s m → Serves Steps fixed ending s passed s' edits
+      → (m' : M) × Stands s' m' × Serves Step fixed ending m passed m' edits
+  serves ending s s' m passed edits stands v =
+      let r = runs 0 v.requests s v.mid m passed.given v.replies v.behind v.early stands v.run in
+      let e = ends ending (length v.requests) v.mid s' r.0 v.behind passed.ended v.last v.edit r.1 v.ends in
       (e.0, e.1, record { requests = v.requests; replies = v.replies; early = v.early; mid = r.0; behind = v.behind; last = v.last; edit = v.edit; run = r.2; ends = e.2; wrote = v.wrote; all_told = v.all_told })
 
-  -- the bytes that count don't depend on the machine
-  same_count : (ending : Ending) (bytes given : List ℕ) → counted Steps fixed ending bytes given ≡ counted Step fixed ending bytes given
-  same_count closed bytes given = refl
-  same_count read_failed bytes given = refl
-  same_count write_failed bytes given = refl
-
-  -- one connection
-  pub serves : (ending : Ending) (s s' : S) (m : M) (bytes given written : List ℕ) (edits : List E) → Stands s m → Serves Steps fixed ending s bytes given written s' edits → (m' : M) × Stands s' m' × Serves Step fixed ending m bytes given written m' edits
-  serves ending s s' m bytes given written edits stands v =
-      let b = serves_bytes ending s s' m (counted Steps fixed ending bytes given) written edits stands v.served in
-      (b.0, b.1, record { ungiven = v.ungiven; prefix = v.prefix; served = subst (λ (l : List ℕ). ServesBytes Step fixed ending m l written b.0 edits) (same_count ending bytes given) b.2 })
-
   -- connections, one after the other
-  pub serves_each : (connections : List (List ℕ)) (s s' : S) (m : M) (endings : List Ending) (written : List (List ℕ)) (edits : List E) → Stands s m → ServesEach Steps fixed s connections endings written s' edits
-      → (m' : M) × Stands s' m' × ServesEach Step fixed m connections endings written m' edits
-  serves_each [] s s' m endings written edits stands v = (m, stays s s' m stands v.2, (v.0, v.1, refl, v.3))
-  serves_each (bytes ∷ connections) s s' m endings written edits stands (ending, others, given, wrote, more, mid, first, later, all_endings, all_written, all_told, one, rest) =
-      let o = serves ending s mid m bytes given wrote first stands one in
-      let r = serves_each connections mid s' o.0 others more later o.1 rest in
-      (r.0, r.1, (ending, others, given, wrote, more, o.0, first, later, all_endings, all_written, all_told, o.2, r.2))
-
-  -- all connections, with the same endings and bounds
-  pub serves_all : (s s' : S) (m : M) (connections written : List (List ℕ)) (edits : List E) (reads reads' writes writes' : ℕ) → Stands s m → ServesAll Steps fixed s connections written s' edits reads reads' writes writes'
-      → (m' : M) × Stands s' m' × ServesAll Step fixed m connections written m' edits reads reads' writes writes'
-  serves_all s s' m connections written edits reads reads' writes writes' stands v =
-      let e = serves_each connections s s' m v.endings written edits stands v.each in
-      (e.0, e.1, record { endings = v.endings; each = e.2; read_bound = v.read_bound; write_bound = v.write_bound })
+  pub serves_each : (connections : List Traffic) (s s' : S) (m : M) (endings : List Ending) (edits : List E) → Stands s m → ServesEach Steps fixed s connections endings s' edits
+      → (m' : M) × Stands s' m' × ServesEach Step fixed m connections endings m' edits
+  serves_each [] s s' m endings edits stands v = (m, stays s s' m stands v.1, (v.0, refl, v.2))
+  serves_each (passed ∷ connections) s s' m endings edits stands (ending, others, mid, first, later, all_endings, all_told, one, rest) =
+      let o = serves ending s mid m passed first stands one in
+      let r = serves_each connections mid s' o.0 others later o.1 rest in
+      (r.0, r.1, (ending, others, o.0, first, later, all_endings, all_told, o.2, r.2))
 
 module _ {S M W : Type 0} (Steps : S → Request → List ℕ → S → Option Edit → Type 0) (Step : M → Request → List ℕ → M → Option Edit → Type 0) (Stands : S → M → Type 0)
     (step : (s s' : S) (m : M) (request : Request) (reply : List ℕ) (edit : Option Edit) → Stands s m → Steps s request reply s' edit → (m' : M) × Stands s' m' × Step m request reply m' edit)
@@ -91,17 +75,15 @@ module _ {S M W : Type 0} (Steps : S → Request → List ℕ → S → Option E
   pub line_by : (ended : Ended) (s s' : S) (m : M) (old new : LineState) (watchers watchers' : W) → Stands s m → ServesLine Steps Keeps ended s s' old new watchers watchers'
       → (m' : M) × Stands s' m' × ServesLine Step Keeps ended m m' old new watchers watchers'
   line_by ended s s' m old new watchers watchers' stands v =
-      let o = serves Steps Step fixed Stands step (ending_of ended) s s' m v.bytes v.given v.written v.edits stands v.serves in (
+      let o = serves Steps Step fixed Stands step (ending_of ended) s s' m v.passed v.edits stands v.serves in (
         o.0,
         o.1,
         record {
-          bytes = v.bytes;
-          given = v.given;
-          written = v.written;
+          passed = v.passed;
           edits = v.edits;
-          all_left = v.all_left;
-          consumed = v.consumed;
-          appended = v.appended;
+          gave = v.gave;
+          found_end = v.found_end;
+          took = v.took;
           serves = o.2;
           kept = v.kept;
           faults = v.faults;
@@ -113,16 +95,15 @@ module _ {S M W : Type 0} (Steps : S → Request → List ℕ → S → Option E
   pub port_by : (most : ℕ) (served : Served) (s s' : S) (m : M) (old new : LineState) (watchers watchers' : W) → Stands s m → ServesPort Steps Keeps most served s s' old new watchers watchers'
       → (m' : M) × Stands s' m' × ServesPort Step Keeps most served m m' old new watchers watchers'
   port_by most served s s' m old new watchers watchers' stands v =
-      let e = serves_each Steps Step fixed Stands step v.connections s s' m v.serves.endings v.written v.edits stands v.serves.each in (
+      let e = serves_each Steps Step fixed Stands step v.connections s s' m v.serves.endings v.edits stands v.serves.each in (
         e.0,
         e.1,
         record {
           connections = v.connections;
-          written = v.written;
           edits = v.edits;
           count = v.count;
           came = v.came;
-          sends = v.sends;
+          all_carried = v.all_carried;
           serves = record { endings = v.serves.endings; each = e.2; read_bound = v.serves.read_bound; write_bound = v.serves.write_bound };
           last = v.last;
           stop = v.stop;

@@ -1,22 +1,21 @@
 -- Turns of a connection, one after the other.
-use Rattle.std.proofs.Common.{◌≡◌, ℕ, ◌+◌, ◌<◌, ◌==◌, inl, inr, false, List, [], ◌∷◌, ◌++◌, length, Option, None, Some, IfSome, refl, sym, ap, subst, ◌∙◌, arith}
+use Rattle.std.proofs.Common.{◌≡◌, ℕ, ◌+◌, ◌<◌, ◌==◌, inl, inr, false, List, [], ◌∷◌, ◌++◌, length, Option, None, Some, refl, sym, ap, subst, ◌∙◌, arith}
 use Rattle.std.proofs.lemmas.Bool.Decides.{nat_tests}
 use Rattle.std.proofs.lemmas.List.{length_push}
-use Rattle.std.specs.Io.KnownBytes.{Appends, Consumes}
-use Rattle.std.proofs.KnownBytes.{Appends-nil, Appends-trans, Consumes-nil, Consumes-trans}
 use Rattle.xcap_io.specs.Causes.{LineState}
+use Rattle.xcap_io.specs.Passing.{Gave, Took}
+use Rattle.xcap_io.proofs.Passing.{gave_none, gave_on, took_none, took_on}
 use Rattle.http_wire.specs.declared.request.Request.{Request}
 use Rattle.http_wire.specs.Asking.{WireState, fresh_wire}
 use Rattle.http_wire.specs.Items.{AsksFor}
-use Rattle.http_wire.specs.Serving.{EndsBy, GoesOn, Run, counted, told}
+use Rattle.http_wire.specs.Serving.{EndsBy, GoesOn, Run, told}
 use Rattle.http_wire.proofs.Connections.{run_none, run_more, run-append}
 use Rattle.notes.specs.declared.edit.Edit.{Edit}
 use Rattle.http_serve.specs.declared.connection.Ended.{Ended}
-use Rattle.http_serve.specs.declared.connection.Ended.TheVariants.{Closed, ReadFailed, WriteFailed}
 use Rattle.http_serve.specs.Endings.{ending_of, Exchanges, FaultsBy, FaultsSoFar}
 use Rattle.http_serve.specs.Fixed.{fixed}
 use Rattle.http_serve.proofs.Faults.{faults_on}
-use Rattle.http_serve.specs.Turns.{GivesOn, Turn, told_left}
+use Rattle.http_serve.specs.Turns.{GivesOn, Turn}
 use Rattle.http_serve.specs.Connections.{ServesLine}
 
 -- a request that keeps the connection isn't the 1,000th
@@ -27,12 +26,6 @@ open_below before bytes request rest (inr a) stays = let e = ap (λ (r : Request
 pub few_requests : {M : Type 0} (Step : M → Request → List ℕ → M → Option Edit → Type 0) (before : ℕ) (machine next : M) (bytes written rest : List ℕ) (edit : Option Edit)
     → before < 1000 → GoesOn Step fixed before machine bytes written next edit rest → before + 1 < 1000
 few_requests Step before machine next bytes written rest edit below g = let e = open_below before bytes g.request rest g.asked g.stays in grind (arith, nat_tests)
-
--- what was left is what was given and what a line tells to be left
-all_left : (old new : Option (List ℕ)) (given : List ℕ) → Consumes old new given → IfSome old (λ left. left ≡ given ++ told_left new)
-all_left None new given consumed = tt
-all_left (Some xs) None given consumed = absurd consumed
-all_left (Some xs) (Some ys) given consumed = consumed
 
 -- exchanges, one after the other
 pub exchanges_none : (line : LineState) → Exchanges line line
@@ -48,8 +41,8 @@ module _ {M W : Type 0} (Step : M → Request → List ℕ → M → Option Edit
     pub given : List ℕ
     pub written : List ℕ
     pub edits : List Edit
-    pub consumed : Consumes old.left mid.left given
-    pub appended : Appends old.taken mid.taken written
+    pub gave : Gave old.inward mid.inward given
+    pub took : Took old.taken mid.taken written
     pub run : Run Step fixed 0 machine given requests written edits now wire.held
     pub count : length requests ≡ wire.requests
     pub kept : Keeps edits watchers watchers'
@@ -67,8 +60,8 @@ module _ {M W : Type 0} (Step : M → Request → List ℕ → M → Option Edit
         given = [];
         written = [];
         edits = [];
-        consumed = Consumes-nil line.left;
-        appended = Appends-nil line.taken;
+        gave = gave_none line.inward;
+        took = took_none line.taken;
         run = subst (Run Step fixed 0 machine [] [] [] [] machine) (sym held) (run_none Step fixed 0 machine []);
         count = sym requests;
         kept = none;
@@ -93,8 +86,8 @@ module _ {M W : Type 0} (Step : M → Request → List ℕ → M → Option Edit
           given = so_far.given ++ t.read;
           written = so_far.written ++ t.written;
           edits = so_far.edits ++ told t.edit;
-          consumed = Consumes-trans old.left mid.left new.left so_far.given t.read so_far.consumed t.consumed;
-          appended = Appends-trans old.taken mid.taken new.taken so_far.written t.written so_far.appended t.appended;
+          gave = gave_on old.inward mid.inward new.inward so_far.given t.read so_far.gave t.gave;
+          took = took_on old.taken mid.taken new.taken so_far.written t.written so_far.took t.took;
           run = run_more Step fixed 0 machine now next (so_far.given ++ t.read) (wire.held ++ t.read) wire'.held so_far.written t.written so_far.requests so_far.edits did.request t.edit (run_on t.read)
               (subst (λ (n : ℕ). AsksFor n (wire.held ++ t.read) did.request wire'.held) before did.asked) did.stays did.step;
           count = omega (arith, so_far.count, counted, length_push so_far.requests did.request);
@@ -114,44 +107,28 @@ module _ {M W : Type 0} (Step : M → Request → List ℕ → M → Option Edit
         let few = few_requests Step wire.requests now next (wire.held ++ one.read) one.written wire'.held one.edit below did in
         (one_more one goes.requests (subst (λ (r : Option Ended). FaultsSoFar r mid new) is faults) exchanges, (goes.open_still, omega (arith, goes.requests, few)))
 
-    -- all bytes, or those given, as the ending counts them
-    run_over : (ended : Ended) (read ungiven : List ℕ) → Run Step fixed 0 machine (counted Step fixed (ending_of ended) ((so_far.given ++ read) ++ ungiven) (so_far.given ++ read)) so_far.requests so_far.written so_far.edits now
-        (counted Step fixed (ending_of ended) ((wire.held ++ read) ++ ungiven) (wire.held ++ read))
-    run_over Closed read ungiven = run-append Step fixed 0 machine now (so_far.given ++ read) ungiven (wire.held ++ read) so_far.written so_far.requests so_far.edits (run_on read)
-    run_over ReadFailed read ungiven = run_on read
-    run_over WriteFailed read ungiven = run-append Step fixed 0 machine now (so_far.given ++ read) ungiven (wire.held ++ read) so_far.written so_far.requests so_far.edits (run_on read)
-
     -- the last turn
     pub at_end : (ended : Ended) → Turn Step Keeps (Some ended) wire wire' now next mid new b c → FaultsBy ended mid new → Exchanges mid new → ServesLine Step Keeps ended machine next old new a c
     at_end ended t faults exchanges =
         let bytes = wire.held ++ t.read in
-        let given = so_far.given ++ t.read in
-        let ungiven = told_left new.left in
-        let consumed = Consumes-trans old.left mid.left new.left so_far.given t.read so_far.consumed t.consumed in
         record {
-          bytes = given ++ ungiven;
-          given = given;
-          written = so_far.written ++ t.written;
+          passed = record { given = so_far.given ++ t.read; ended = new.inward.ended; taken = so_far.written ++ t.written };
           edits = so_far.edits ++ told t.edit;
-          all_left = all_left old.left new.left given consumed;
-          consumed = consumed;
-          appended = Appends-trans old.taken mid.taken new.taken so_far.written t.written so_far.appended t.appended;
+          gave = gave_on old.inward mid.inward new.inward so_far.given t.read so_far.gave t.gave;
+          found_end = refl;
+          took = took_on old.taken mid.taken new.taken so_far.written t.written so_far.took t.took;
           serves = record {
-            ungiven = ungiven;
-            prefix = refl;
-            served = record {
-              requests = so_far.requests;
-              replies = so_far.written;
-              early = so_far.edits;
-              mid = now;
-              behind = counted Step fixed (ending_of ended) (bytes ++ ungiven) bytes;
-              last = t.written;
-              edit = t.edit;
-              run = run_over ended t.read ungiven;
-              ends = subst (λ (n : ℕ). EndsBy Step fixed (ending_of ended) n now (counted Step fixed (ending_of ended) (bytes ++ ungiven) bytes) t.written next t.edit) (sym so_far.count) t.did;
-              wrote = refl;
-              all_told = refl;
-            };
+            requests = so_far.requests;
+            replies = so_far.written;
+            early = so_far.edits;
+            mid = now;
+            behind = bytes;
+            last = t.written;
+            edit = t.edit;
+            run = run_on t.read;
+            ends = subst (λ (n : ℕ). EndsBy Step fixed (ending_of ended) n now bytes new.inward.ended t.written next t.edit) (sym so_far.count) t.did;
+            wrote = refl;
+            all_told = refl;
           };
           kept = more so_far.edits (told t.edit) a b c so_far.kept t.kept;
           faults = faults_on ended old mid new so_far.same_reads so_far.same_writes faults;

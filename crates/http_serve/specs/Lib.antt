@@ -3,3 +3,4 @@ pub mod Endings
 pub mod Fixed
 pub mod Ports
 pub mod Turns
+pub mod Written

@@ -1,11 +1,10 @@
 -- The connections of a port, served one after the other. RFC 9112, section 9.
-use Rattle.std.specs.Prelude.{◌≡◌, ℕ, ◌<◌, List, [], ◌∷◌, ◌++◌, length, Option, None, Some, IfSome}
-use Rattle.std.specs.List.{concat}
-use Rattle.std.specs.Io.KnownBytes.{Appends}
+use Rattle.std.specs.Prelude.{◌≡◌, ℕ, ◌<◌, List, [], ◌∷◌, ◌++◌, length, Option, Some, IfSome}
 use Rattle.http_wire.specs.declared.request.Request.{Request}
-use Rattle.http_wire.specs.Serving.{Ending, closed, ServesAll}
+use Rattle.http_wire.specs.Serving.{Ending, closed, HaveBytes, ServesAll}
 use Rattle.xcap_io.specs.Causes.{LineState, Rose}
-use Rattle.xcap_io.specs.Connections.{sent}
+use Rattle.xcap_io.specs.Connections.{carried}
+use Rattle.xcap_io.specs.Histories.{Traffic}
 use Rattle.notes.specs.declared.edit.Edit.{Edit}
 use Rattle.http_serve.specs.declared.port.Served.{Served}
 use Rattle.http_serve.specs.declared.port.Stop.{Stop}
@@ -27,25 +26,20 @@ Stops NoMore most connections old new =
     (connections < most) × IfSome new.port.to_come (λ all. all ≡ []) × (new.port.faults ≡ old.port.faults)
 Stops PortFailed most connections old new = (connections < most) × Rose old.port.faults new.port.faults
 
--- Connections with these bytes were the next ones to come, where the port tells that, and the others are still to come.
-abbrev pub Came : Option (List (List ℕ)) → Option (List (List ℕ)) → List (List ℕ) → Type 0
-Came old new connections = IfSome old (λ all. (rest : List (List ℕ)) × (all ≡ connections ++ rest) × (new ≡ Some rest))
+-- Of connections over which this passed, all bytes were the next ones to come, where the port tells them, and the other
+-- connections are still to come.
+abbrev pub Came : Option (List (List ℕ)) → Option (List (List ℕ)) → List Traffic → Type 0
+Came old new connections =
+    IfSome old (λ all. (came : List (List ℕ)) × (rest : List (List ℕ)) × (all ≡ came ++ rest) × (new ≡ Some rest) × HaveBytes came connections)
 
--- What was sent on each connection, where the port tells it; where it doesn't tell connections apart, all that was sent on
--- them was taken one after the other.
-pub record Sends (old new : LineState) (written : List (List ℕ)) : Type 0 where
-  pub apart : IfSome (sent old) (λ all. sent new ≡ Some (all ++ written))
-  pub joined : old.port.begun ≡ None → (new.port.begun ≡ None) × Appends old.taken new.taken (concat written)
-
--- So many connections at most were served, by these bytes each. `Keeps` says what watchers are after such changes.
+-- So many connections at most were served, over which this passed. `Keeps` says what watchers are after such changes.
 pub record ServesPort {M W : Type 0} (Step : M → Request → List ℕ → M → Option Edit → Type 0) (Keeps : List Edit → W → W → Type 0) (most : ℕ) (served : Served) (machine next : M) (old new : LineState) (watchers watchers' : W) : Type 0 where
-  pub connections : List (List ℕ)
-  pub written : List (List ℕ)
+  pub connections : List Traffic
   pub edits : List Edit
   pub count : length connections ≡ served.connections
   pub came : Came old.port.to_come new.port.to_come connections
-  pub sends : Sends old new written
-  pub serves : ServesAll Step fixed machine connections written next edits old.read_faults new.read_faults old.write_faults new.write_faults
+  pub all_carried : carried new ≡ carried old ++ connections
+  pub serves : ServesAll Step fixed machine connections next edits old.read_faults new.read_faults old.write_faults new.write_faults
   pub last : ending_of served.last ≡ last_of serves.endings
   pub stop : Stops served.stop most served.connections old new
   pub kept : Keeps edits watchers watchers'

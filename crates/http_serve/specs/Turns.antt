@@ -1,13 +1,13 @@
 -- One turn of a connection: what is asked next is answered, told and replied to. RFC 9112, sections 9.3 and 9.6.
-use Rattle.std.specs.Prelude.{◌≡◌, ℕ, ◌+◌, ◌⊎◌, false, List, [], ◌++◌, Option, None, Some, unwrap_or}
-use Rattle.std.specs.Io.KnownBytes.{Appends, Consumes}
+use Rattle.std.specs.Prelude.{◌≡◌, ℕ, ◌+◌, ◌⊎◌, Bool, false, List, ◌++◌, Option, None, Some}
 use Rattle.reply_text.specs.Heads.{Sent, bytes_of}
 use Rattle.http_wire.specs.declared.request.Request.{Request}
 use Rattle.http_wire.specs.declared.request.Asked.{Asked}
 use Rattle.http_wire.specs.declared.request.Asked.TheVariants.{Request as Requested, Bad, TooLong, Coded, End, NoMemory}
 use Rattle.http_wire.specs.Asking.{WireState}
-use Rattle.http_wire.specs.Serving.{EndsBy, GoesOn, counted, told}
+use Rattle.http_wire.specs.Serving.{EndsBy, GoesOn, told}
 use Rattle.xcap_io.specs.Causes.{LineState}
+use Rattle.xcap_io.specs.Passing.{Gave, Took}
 use Rattle.notes.specs.declared.edit.Edit.{Edit}
 use Rattle.http_serve.specs.declared.connection.Ended.{Ended}
 use Rattle.http_serve.specs.Endings.{ending_of}
@@ -16,10 +16,6 @@ use Rattle.http_serve.specs.Fixed.{fixed, fixed_reply}
 -- the fixed reply of this status, which changes nothing
 abbrev pub IsFixed : {M : Type 0} → ℕ → M → Sent → Option Edit → M → Type 0
 IsFixed status machine reply edit next = (reply ≡ fixed_reply status) × (edit ≡ None) × (next ≡ machine)
-
--- the bytes that a line tells to be left, and none where it doesn't tell
-abbrev pub told_left : Option (List ℕ) → List ℕ
-told_left left = unwrap_or left []
 
 module _ {M : Type 0} (Step : M → Request → List ℕ → M → Option Edit → Type 0) where
   -- How what was asked is answered: a request by the machine, or for want of memory by the fixed 503; nothing is answered
@@ -33,21 +29,21 @@ module _ {M : Type 0} (Step : M → Request → List ℕ → M → Option Edit �
   AnswersAsked machine NoMemory reply edit next = IsFixed 503 machine reply edit next
   AnswersAsked machine End reply edit next = ⊥
 
-  -- What a turn did behind so many requests, by the bytes given and those that the connection has besides: a request was
+  -- What a turn did behind so many requests, by the bytes given behind them and whether a read found the end: a request was
   -- answered, after which the connection goes on and these bytes are held; or the connection ended.
-  abbrev pub Did : Option Ended → ℕ → M → List ℕ → List ℕ → List ℕ → M → Option Edit → List ℕ → Type 0
-  Did None before machine given ungiven written next edit held = GoesOn Step fixed before machine given written next edit held
-  Did (Some ended) before machine given ungiven written next edit held =
-      EndsBy Step fixed (ending_of ended) before machine (counted Step fixed (ending_of ended) (given ++ ungiven) given) written next edit
+  abbrev pub Did : Option Ended → ℕ → M → List ℕ → Bool → List ℕ → M → Option Edit → List ℕ → Type 0
+  Did None before machine given end written next edit held = GoesOn Step fixed before machine given written next edit held
+  Did (Some ended) before machine given end written next edit held =
+      EndsBy Step fixed (ending_of ended) before machine given end written next edit
 
   -- Some bytes were read and some written, and the watchers were told the change, if there was one.
   pub record Turn {W : Type 0} (Keeps : List Edit → W → W → Type 0) (result : Option Ended) (wire wire' : WireState) (machine next : M) (old new : LineState) (watchers watchers' : W) : Type 0 where
     pub read : List ℕ
     pub written : List ℕ
     pub edit : Option Edit
-    pub consumed : Consumes old.left new.left read
-    pub appended : Appends old.taken new.taken written
-    pub did : Did result wire.requests machine (wire.held ++ read) (told_left new.left) written next edit wire'.held
+    pub gave : Gave old.inward new.inward read
+    pub took : Took old.taken new.taken written
+    pub did : Did result wire.requests machine (wire.held ++ read) new.inward.ended written next edit wire'.held
     pub kept : Keeps (told edit) watchers watchers'
 
 -- A wire that gave a request which doesn't close goes on.

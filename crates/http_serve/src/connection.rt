@@ -7,6 +7,7 @@ ghost use Rattle.http_serve.specs.Connections.{ServesLine};
 ghost use Rattle.http_serve.specs.Endings.{Exchanges, FaultsSoFar};
 ghost use Rattle.http_serve.specs.Fixed.{fixed_reply};
 ghost use Rattle.http_serve.specs.Turns.{AnswersAsked, GivesOn, Turn};
+ghost use Rattle.http_serve.specs.Written.{InBytes};
 
 use crate::buffers::Buffers;
 use crate::machine::{Answered, Machine};
@@ -43,7 +44,7 @@ fn fixed(status: u16) -> Answered
 
 // The machine's answer; for want of memory the fixed 503.
 fn answer_request<M: Machine>(machine: &mut M, request: &Request) -> Answered
-    ensures { AnswersAsked M.steps machine.old (Asked.Request request.now) result.reply result.edit machine.new }
+    ensures { AnswersAsked (InBytes M.steps) machine.old (Asked.Request request.now) result.reply result.edit machine.new }
 {
     match machine.answer(request) {
         Ok(answered) => answered,
@@ -54,7 +55,7 @@ fn answer_request<M: Machine>(machine: &mut M, request: &Request) -> Answered
 // The answer to what was asked; None at the end of the connection.
 fn answer_to<M: Machine>(machine: &mut M, asked: &Asked) -> Option<Answered>
     ensures { MatchOption result ((asked.now ≡ Asked.End) × (machine.new ≡ machine.old))
-        (λ answered. AnswersAsked M.steps machine.old asked.now answered.reply answered.edit machine.new) }
+        (λ answered. AnswersAsked (InBytes M.steps) machine.old asked.now answered.reply answered.edit machine.new) }
 {
     match asked {
         Asked::Request(request) => Some(answer_request(machine, request)),
@@ -84,7 +85,7 @@ fn serve_next<M: Machine, L: Source + Sink, W: Watchers>(
     line: &mut L,
     watchers: &mut W,
 ) -> Option<Ended>
-    ensures turn { buffers.old.wire.spent ≡ false → Turn M.steps W.keeps result
+    ensures turn { buffers.old.wire.spent ≡ false → Turn (InBytes M.steps) W.keeps result
         buffers.old.wire buffers.new.wire machine.old machine.new (L.state line.old) (L.state line.new)
         watchers.old watchers.new }
     ensures goes_on { result ≡ None → GivesOn buffers.old.wire buffers.new.wire }
@@ -117,7 +118,7 @@ fn serve_turns<M: Machine, L: Source + Sink, W: Watchers>(
     watchers: &mut W,
 ) -> Ended
     requires { buffers.old.wire ≡ fresh_wire }
-    ensures { ServesLine M.steps W.keeps result
+    ensures { ServesLine (InBytes M.steps) W.keeps result
         machine.old machine.new (L.state line.old) (L.state line.new) watchers.old watchers.new }
 {
     'turns: loop {
@@ -137,7 +138,7 @@ pub fn serve_line<M: Machine, L: Source + Sink, W: Watchers>(
     line: &mut L,
     watchers: &mut W,
 ) -> Ended
-    ensures { ServesLine M.steps W.keeps result
+    ensures { ServesLine (InBytes M.steps) W.keeps result
         machine.old machine.new (L.state line.old) (L.state line.new) watchers.old watchers.new }
 {
     buffers.wire.reset();

@@ -1,6 +1,6 @@
 //! What answers requests.
-ghost use Rattle.std.specs.Prelude.{◌≡◌, ℕ, List, Option, IfOk, OnErr};
-ghost use Rattle.reply_text.specs.Heads.{bytes_of};
+ghost use Rattle.std.specs.Prelude.{◌≡◌, Option, IfOk, OnErr};
+ghost use Rattle.reply_text.specs.Heads.{Sent};
 ghost use Rattle.http_wire.specs.declared.request.Request.{Request as TheRequest};
 ghost use Rattle.notes.specs.declared.edit.Edit.{Edit as TheEdit};
 
@@ -18,15 +18,15 @@ pub struct Answered {
 
 /// An object that answers requests, one after the other.
 pub trait Machine {
-    /// Its state, a request, the bytes of a reply, the state after it, and the change that is told.
-    ghost steps: { Self → TheRequest → List ℕ → Self → Option TheEdit → Type 0 };
+    /// Its state, a request, the reply, the state after it, and the change that is told.
+    ghost steps: { Self → TheRequest → Sent → Self → Option TheEdit → Type 0 };
 
     /// Answers a request. The reply closes the connection exactly where the request does.
     ///
     /// # Errors
     /// `NoMemory` for want of memory; the state is then as before.
     fn answer(&mut self, request: &Request) -> Result<Answered, AllocError>
-        ensures step { IfOk result (λ answered. steps self.old request.now (bytes_of answered.reply) self.new answered.edit) }
+        ensures step { IfOk result (λ answered. steps self.old request.now answered.reply self.new answered.edit) }
         ensures closes { IfOk result (λ answered. answered.reply.closes ≡ request.now.closes) }
         ensures err { OnErr result (self.new ≡ self.old) };
 }

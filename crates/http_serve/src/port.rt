@@ -1,5 +1,6 @@
 //! The connections of a port, served one after the other.
 ghost use Rattle.http_serve.specs.Ports.{ServesPort};
+ghost use Rattle.http_serve.specs.Written.{InBytes};
 
 use crate::buffers::Buffers;
 use crate::connection::{Ended, serve_line};
@@ -36,7 +37,7 @@ pub fn serve_lines<M: Machine, P: Port, W: Watchers>(
     count: u64,
     watchers: &mut W,
 ) -> Served
-    ensures { ServesPort M.steps W.keeps count result
+    ensures { ServesPort (InBytes M.steps) W.keeps count result
         machine.old machine.new (P.state port.old) (P.state port.new) watchers.old watchers.new }
 {
     let mut connections = 0;

@@ -1,9 +1,10 @@
 -- Bytes that lie between two places of a buffer of fixed size.
-use Rattle.std.proofs.Common.{◌≡◌, ℕ, ◌+◌, ◌-◌, ◌≤◌, nat_lt, Bool, true, false, List, [], ◌++◌, length, take, drop, slice_range, Option, refl, ap, sym, ◌∙◌, arith, length-append, length-drop}
+use Rattle.std.proofs.Common.{◌≡◌, ℕ, ◌+◌, ◌-◌, ◌≤◌, nat_lt, Bool, true, false, List, [], ◌++◌, length, take, drop, slice_range, refl, ap, sym, ◌∙◌, arith, length-append, length-drop}
 use Rattle.std.proofs.lemmas.Bool.{ltb-true, ltb-false}
 use Rattle.std.proofs.lemmas.List.{append-nil, nil_from_length, length-take-le, take-append-le, drop-append-le, drop-take, drop-drop}
 use Rattle.std.proofs.Math.Seq.{take-append-add}
-use Rattle.std.specs.Io.KnownBytes.{IsAtEnd}
+use Rattle.xcap_io.specs.Causes.{Inward}
+use Rattle.xcap_io.specs.Passing.{IsEnded}
 use Rattle.http_wire.specs.Inflow.{GainedOrEnded}
 
 -- how many there are
@@ -54,7 +55,7 @@ unfilled held buffer items behind start end before is ordered inside =
     ap (slice_range items start) (sym none) ∙ filled held buffer items [] behind start end 0 before is ordered inside (omega arith) ∙ append-nil held
 
 -- a read gave so many bytes, or none at the end
-pub gained : (count : ℕ) (held held' read : List ℕ) (left' : Option (List ℕ)) → held' ≡ held ++ read → length read ≡ count → (count ≡ 0 → IsAtEnd left') → GainedOrEnded (nat_lt 0 count) held held' left'
+pub gained : (count : ℕ) (held held' read : List ℕ) (left' : Inward) → held' ≡ held ++ read → length read ≡ count → (count ≡ 0 → IsEnded left') → GainedOrEnded (nat_lt 0 count) held held' left'
 gained count held held' read left' added size ends = by_test (nat_lt 0 count) refl
   where
     by_test : (b : Bool) → nat_lt 0 count ≡ b → GainedOrEnded b held held' left'

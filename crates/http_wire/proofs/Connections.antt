@@ -1,47 +1,10 @@
 -- How the answers of a wire, one after the other, serve a connection.
-use Rattle.std.proofs.Common.{◌≡◌, ℕ, ◌+◌, inl, inr, false, List, [], ◌∷◌, ◌++◌, length, Option, Some, Ok, refl, sym, ap, subst, ◌∙◌, arith, append_assoc}
+use Rattle.std.proofs.Common.{◌≡◌, ℕ, ◌+◌, false, List, [], ◌∷◌, ◌++◌, length, Option, refl, sym, ap, subst, ◌∙◌, arith, append_assoc}
 use Rattle.std.proofs.lemmas.List.{append-nil}
 use Rattle.http_wire.specs.declared.request.Request.{Request}
-use Rattle.http_wire.specs.declared.request.Asked.{Asked}
-use Rattle.http_wire.specs.declared.request.Asked.TheVariants.{Request as Requested, Bad, TooLong, Coded, End, NoMemory}
-use Rattle.http_wire.specs.Items.{Item, bad, too_long, coded, AsksFor, FirstItem}
-use Rattle.http_wire.specs.Asking.{IsNext, IsAsked, Asks}
+use Rattle.http_wire.specs.Items.{AsksFor}
 use Rattle.http_wire.specs.Serving.{Run, told}
 use Rattle.http_wire.proofs.WholeItems.{asks-append}
-
--- An answer, by all bytes of the connection, where the source tells what it has left.
-
--- what was asked, by all bytes that were not used before, and what stands behind a request
-abbrev pub IsAskedOf : ℕ → List ℕ → Asked → List ℕ → Type 0
-IsAskedOf before bytes (Requested request) rest = AsksFor before bytes request rest
-IsAskedOf before bytes Bad rest = FirstItem before bytes bad rest
-IsAskedOf before bytes TooLong rest = FirstItem before bytes too_long rest
-IsAskedOf before bytes Coded rest = FirstItem before bytes coded rest
-IsAskedOf before bytes End rest = bytes ≡ []
-IsAskedOf before bytes NoMemory rest = (request : Request) × (behind : List ℕ) × AsksFor before bytes request behind
-
-next_of : (before : ℕ) (given left : List ℕ) (item : Item) (held : List ℕ) → IsNext before given (Some left) item held → FirstItem before (given ++ left) item (held ++ left)
-next_of before given left item held (inl each) = each left
-next_of before given left item held (inr (first, ended)) =
-    let none : left ≡ [] = ended in
-    subst (λ (l : List ℕ). FirstItem before (given ++ l) item (held ++ l)) (sym none)
-    (subst (λ (l : List ℕ). FirstItem before l item (held ++ [])) (sym (append-nil given)) (subst (FirstItem before given item) (sym (append-nil held)) first))
-
-asked_of : (before : ℕ) (given left : List ℕ) (asked : Asked) (held : List ℕ) → IsAsked before given (Some left) asked held → IsAskedOf before (given ++ left) asked (held ++ left)
-asked_of before given left (Requested request) held is = asks-append before given left request held is
-asked_of before given left Bad held is = next_of before given left bad held is
-asked_of before given left TooLong held is = next_of before given left too_long held is
-asked_of before given left Coded held is = next_of before given left coded held is
-asked_of before given left End held (none, ended) =
-    let left_none : left ≡ [] = ended in
-    ap (λ (l : List ℕ). l ++ left) none ∙ left_none
-asked_of before given left NoMemory held (request, rest, is) = (request, rest ++ left, asks-append before given left request rest is)
-
--- what was held and what the source had left, before and after
-pub asks_of : {E : Type 0} (before : ℕ) (held left : List ℕ) (asked : Asked) (held' left' : List ℕ) → Asks {E = E} before held (Some left) (Ok asked) held' (Some left') → IsAskedOf before (held ++ left) asked (held' ++ left')
-asks_of before held left asked held' left' a =
-    let given : left ≡ a.read ++ left' = a.given in
-    subst (λ (l : List ℕ). IsAskedOf before l asked (held' ++ left')) (append_assoc held a.read left' ∙ ap (λ (l : List ℕ). held ++ l) (sym given)) (asked_of before (held ++ a.read) left' asked held' a.answer)
 
 -- Requests, one after the other.
 

@@ -1,8 +1,9 @@
 -- Items, by what was found at the front of the bytes given.
-use Rattle.std.proofs.Common.{◌≡◌, ℕ, ◌+◌, ◌<◌, ◌≤◌, ◌⊎◌, inl, inr, Bool, ◌==◌, ◌||◌, List, [], ◌++◌, length, take, drop, map, slice_range, Option, Result, Ok, Err, MatchResult, refl, sym, ap, subst, ◌∙◌, arith, length-append, length-drop, append_assoc, take-append-drop}
+use Rattle.std.proofs.Common.{◌≡◌, ℕ, ◌+◌, ◌<◌, ◌≤◌, ◌⊎◌, inl, inr, Bool, ◌==◌, ◌||◌, List, [], ◌++◌, length, take, drop, map, slice_range, Result, Ok, Err, MatchResult, refl, sym, ap, subst, ◌∙◌, arith, length-append, length-drop, append_assoc, take-append-drop}
 use Rattle.std.proofs.lemmas.List.{append-nil, drop-drop, length-take-le}
-use Rattle.std.proofs.KnownBytes.{Consumes-nil, Consumes-trans}
-use Rattle.std.specs.Io.KnownBytes.{Consumes, IsAtEnd}
+use Rattle.xcap_io.proofs.Passing.{gave_none, gave_on}
+use Rattle.xcap_io.specs.Causes.{Inward}
+use Rattle.xcap_io.specs.Passing.{Gave, IsEnded}
 use Rattle.httparse.specs.Grammar.{RequestHead}
 use Rattle.httparse.specs.Spans.{header_bytes, span_bytes, name_and_value}
 use Rattle.httparse.specs.declared.spans.HeaderSpan.{HeaderSpan}
@@ -25,29 +26,29 @@ use Rattle.http_wire.proofs.Fronts.{begins-append, head_at-append}
 
 -- Reads, one after the other.
 
-pub gains_none : (held : List ℕ) (left : Option (List ℕ)) → Gains held held left left
-gains_none held left = record { read = []; added = sym (append-nil held); given = Consumes-nil left }
+pub gains_none : (held : List ℕ) (left : Inward) → Gains held held left left
+gains_none held left = record { read = []; added = sym (append-nil held); given = gave_none left }
 
-pub gains_on : (a b c : List ℕ) (l m n : Option (List ℕ)) → Gains a b l m → Gains b c m n → Gains a c l n
+pub gains_on : (a b c : List ℕ) (l m n : Inward) → Gains a b l m → Gains b c m n → Gains a c l n
 gains_on a b c l m n first next = record {
   read = first.read ++ next.read;
   added = next.added ∙ ap (λ (s : List ℕ). s ++ next.read) first.added ∙ append_assoc a first.read next.read;
-  given = Consumes-trans l m n first.read next.read first.given next.given;
+  given = gave_on l m n first.read next.read first.given next.given;
 }
 
 -- an answer by the bytes that are held
-pub asks_now : {E : Type 0} (before : ℕ) (held : List ℕ) (left : Option (List ℕ)) (asked : Asked) (held' : List ℕ) → IsAsked before held left asked held' → Asks {E = E} before held left (Ok asked) held' left
+pub asks_now : {E : Type 0} (before : ℕ) (held : List ℕ) (left : Inward) (asked : Asked) (held' : List ℕ) → IsAsked before held left asked held' → Asks {E = E} before held left (Ok asked) held' left
 asks_now before held left asked held' is = record {
   read = [];
-  given = Consumes-nil left;
+  given = gave_none left;
   answer = subst (λ (l : List ℕ). IsAsked before l left asked held') (sym (append-nil held)) is;
 }
 
 -- an answer by bytes that were read before and those read then
-pub asks_after : {E : Type 0} (before : ℕ) (held mid : List ℕ) (left left1 : Option (List ℕ)) (result : Result Asked E) (held' : List ℕ) (left' : Option (List ℕ)) → Gains held mid left left1 → Asks before mid left1 result held' left' → Asks before held left result held' left'
+pub asks_after : {E : Type 0} (before : ℕ) (held mid : List ℕ) (left left1 : Inward) (result : Result Asked E) (held' : List ℕ) (left' : Inward) → Gains held mid left left1 → Asks before mid left1 result held' left' → Asks before held left result held' left'
 asks_after {E} before held mid left left1 result held' left' gains then = record {
   read = gains.read ++ then.read;
-  given = Consumes-trans left left1 left' gains.read then.read gains.given then.given;
+  given = gave_on left left1 left' gains.read then.read gains.given then.given;
   answer = moved result (ap (λ (l : List ℕ). l ++ then.read) gains.added ∙ append_assoc held gains.read then.read) then.answer;
 }
   where
@@ -58,7 +59,7 @@ asks_after {E} before held mid left left1 result held' left' gains then = record
     moved (Err e) same is = subst IsUnfinished same is
 
 -- a read failed, and no item lies whole in the bytes given
-pub asks_failed : {E : Type 0} (before : ℕ) (held mid : List ℕ) (left left' : Option (List ℕ)) (e : E) → Gains held mid left left' → IsUnfinished mid → Asks before held left (Err e) mid left'
+pub asks_failed : {E : Type 0} (before : ℕ) (held mid : List ℕ) (left left' : Inward) (e : E) → Gains held mid left left' → IsUnfinished mid → Asks before held left (Err e) mid left'
 asks_failed before held mid left left' e gains is = record {
   read = gains.read;
   given = gains.given;
@@ -74,7 +75,7 @@ opens-append bytes more head what rest opens = record { begins = begins-append b
 pub open_at-append : (held more : List ℕ) (headers : List HeaderSpan) (spans : RequestSpans) (what : Framing) → IsOpenAt held headers spans what → IsOpenAt (held ++ more) headers spans what
 open_at-append held more headers spans what o = record { head = o.head; at = head_at-append held more headers spans o.head o.at; framed = o.framed }
 
-pub open_gains : (held held' : List ℕ) (left left' : Option (List ℕ)) (headers : List HeaderSpan) (spans : RequestSpans) (what : Framing) → IsOpenAt held headers spans what → Gains held held' left left' → IsOpenAt held' headers spans what
+pub open_gains : (held held' : List ℕ) (left left' : Inward) (headers : List HeaderSpan) (spans : RequestSpans) (what : Framing) → IsOpenAt held headers spans what → Gains held held' left left' → IsOpenAt held' headers spans what
 open_gains held held' left left' headers spans what o gains = subst (λ (l : List ℕ). IsOpenAt l headers spans what) (sym gains.added) (open_at-append held gains.read headers spans what o)
 
 pub opens_at : (held : List ℕ) (headers : List HeaderSpan) (spans : RequestSpans) (what : Framing) (o : IsOpenAt held headers spans what) → Opens held o.head what (drop spans.len held)
@@ -171,50 +172,50 @@ given_and_more : (held read more : List ℕ) → held ++ (read ++ more) ≡ (hel
 given_and_more held read more = sym (append_assoc held read more)
 
 -- the fields can't be taken, or name another coding, or a length beyond the limit
-pub next_bad : (before : ℕ) (held : List ℕ) (left : Option (List ℕ)) (held' : List ℕ) (headers : List HeaderSpan) (spans : RequestSpans) → IsOpenAt held headers spans BadFields → IsNext before held left bad held'
+pub next_bad : (before : ℕ) (held : List ℕ) (left : Inward) (held' : List ℕ) (headers : List HeaderSpan) (spans : RequestSpans) → IsOpenAt held headers spans BadFields → IsNext before held left bad held'
 next_bad before held left held' headers spans o = inl (λ more. bad_fields (framed_on held more headers spans BadFields o))
 
-pub next_coded : (before : ℕ) (held : List ℕ) (left : Option (List ℕ)) (held' : List ℕ) (headers : List HeaderSpan) (spans : RequestSpans) → IsOpenAt held headers spans OtherCoding → IsNext before held left coded held'
+pub next_coded : (before : ℕ) (held : List ℕ) (left : Inward) (held' : List ℕ) (headers : List HeaderSpan) (spans : RequestSpans) → IsOpenAt held headers spans OtherCoding → IsNext before held left coded held'
 next_coded before held left held' headers spans o = inl (λ more. framed_on held more headers spans OtherCoding o)
 
-pub next_long : (before : ℕ) (held : List ℕ) (left : Option (List ℕ)) (held' : List ℕ) (headers : List HeaderSpan) (spans : RequestSpans) → IsOpenAt held headers spans LongBody → IsNext before held left too_long held'
+pub next_long : (before : ℕ) (held : List ℕ) (left : Inward) (held' : List ℕ) (headers : List HeaderSpan) (spans : RequestSpans) → IsOpenAt held headers spans LongBody → IsNext before held left too_long held'
 next_long before held left held' headers spans o = inl (λ more. long_body (framed_on held more headers spans LongBody o))
 
 -- there is no head, and none can come or the bytes have ended
-pub next_headless : (before : ℕ) (held : List ℕ) (left : Option (List ℕ)) (held' : List ℕ) → 0 < length held → (NeverHasHead held × (0 < length held)) ⊎ (HasNoHead held × IsAtEnd left) → IsNext before held left bad held'
+pub next_headless : (before : ℕ) (held : List ℕ) (left : Inward) (held' : List ℕ) → 0 < length held → (NeverHasHead held × (0 < length held)) ⊎ (HasNoHead held × IsEnded left) → IsNext before held left bad held'
 next_headless before held left held' some (inl never) = inl (λ more. no_head (omega (arith, length-append held more)) (never.0 more))
 next_headless before held left held' some (inr (none, ended)) = inr (no_head some none, ended)
 
 -- the body is cut short by the end
-pub asks_cut : {E : Type 0} (before : ℕ) (held mid : List ℕ) (left left' : Option (List ℕ)) (headers : List HeaderSpan) (spans : RequestSpans) (len : ℕ) → IsOpenAt held headers spans (Length len) → Gains held mid left left' → length mid < spans.len + len → IsAtEnd left' → Asks {E = E} before held left (Ok Bad) mid left'
+pub asks_cut : {E : Type 0} (before : ℕ) (held mid : List ℕ) (left left' : Inward) (headers : List HeaderSpan) (spans : RequestSpans) (len : ℕ) → IsOpenAt held headers spans (Length len) → Gains held mid left left' → length mid < spans.len + len → IsEnded left' → Asks {E = E} before held left (Ok Bad) mid left'
 asks_cut before held mid left left' headers spans len o gains fewer ended =
     asks_after before held mid left left' (Ok Bad) mid left' gains
     (asks_now before mid left' Bad mid (inr (body_cut len (lacks mid headers spans len (open_gains held mid left left' headers spans (Length len) o gains) fewer), ended)))
 
-pub asks_unfinished : {E : Type 0} (before : ℕ) (held mid : List ℕ) (left left' : Option (List ℕ)) (headers : List HeaderSpan) (spans : RequestSpans) (len : ℕ) (e : E) → IsOpenAt held headers spans (Length len) → Gains held mid left left' → length mid < spans.len + len → Asks before held left (Err e) mid left'
+pub asks_unfinished : {E : Type 0} (before : ℕ) (held mid : List ℕ) (left left' : Inward) (headers : List HeaderSpan) (spans : RequestSpans) (len : ℕ) (e : E) → IsOpenAt held headers spans (Length len) → Gains held mid left left' → length mid < spans.len + len → Asks before held left (Err e) mid left'
 asks_unfinished before held mid left left' headers spans len e o gains fewer =
     asks_failed before held mid left left' e gains (lacks_body len (lacks mid headers spans len (open_gains held mid left left' headers spans (Length len) o gains) fewer))
 
 -- A chunked body.
 
 -- an answer by the bytes that were held and those that were read
-asks_read : {E : Type 0} (before : ℕ) (held read : List ℕ) (left left' : Option (List ℕ)) (asked : Asked) (held' : List ℕ) → Consumes left left' read → IsAsked before (held ++ read) left' asked held' → Asks {E = E} before held left (Ok asked) held' left'
+asks_read : {E : Type 0} (before : ℕ) (held read : List ℕ) (left left' : Inward) (asked : Asked) (held' : List ℕ) → Gave left left' read → IsAsked before (held ++ read) left' asked held' → Asks {E = E} before held left (Ok asked) held' left'
 asks_read before held read left left' asked held' given is = record { read = read; given = given; answer = is }
 
-pub chunks_unfinished : {E : Type 0} (before : ℕ) (held : List ℕ) (left : Option (List ℕ)) (body held' : List ℕ) (left' : Option (List ℕ)) (headers : List HeaderSpan) (spans : RequestSpans) (e : E) → IsOpenAt held headers spans Chunked → Decodes spans.len held left (Err e) body held' left' → Asks before held left (Err e) held' left'
+pub chunks_unfinished : {E : Type 0} (before : ℕ) (held : List ℕ) (left : Inward) (body held' : List ℕ) (left' : Inward) (headers : List HeaderSpan) (spans : RequestSpans) (e : E) → IsOpenAt held headers spans Chunked → Decodes spans.len held left (Err e) body held' left' → Asks before held left (Err e) held' left'
 chunks_unfinished before held left body held' left' headers spans e o d = record {
   read = d.read;
   given = d.given;
   answer = lacks_chunks (follows_at held d.read headers spans Chunked (λ rest. MayBecomeBody rest × HasNoBody rest × ¬ (PassesLimit rest)) o (d.outcome.0, d.outcome.1.0, d.outcome.1.1));
 }
 
-pub chunks_bad : {E : Type 0} (before : ℕ) (held : List ℕ) (left : Option (List ℕ)) (body held' : List ℕ) (left' : Option (List ℕ)) (headers : List HeaderSpan) (spans : RequestSpans) → IsOpenAt held headers spans Chunked → Decodes {E = E} spans.len held left (Ok BadChunks) body held' left' → Asks {E = E} before held left (Ok Bad) held' left'
+pub chunks_bad : {E : Type 0} (before : ℕ) (held : List ℕ) (left : Inward) (body held' : List ℕ) (left' : Inward) (headers : List HeaderSpan) (spans : RequestSpans) → IsOpenAt held headers spans Chunked → Decodes {E = E} spans.len held left (Ok BadChunks) body held' left' → Asks {E = E} before held left (Ok Bad) held' left'
 chunks_bad before held left body held' left' headers spans o d =
     asks_read before held d.read left left' Bad held' d.given
     (inl (λ more. subst IsBad (given_and_more held d.read more)
     (no_body (follows_at held (d.read ++ more) headers spans Chunked HasNoBodyYet o (subst HasNoBodyYet (append_assoc (drop spans.len held) d.read more) (d.outcome more))))))
 
-pub chunks_cut : {E : Type 0} (before : ℕ) (held : List ℕ) (left : Option (List ℕ)) (body held' : List ℕ) (left' : Option (List ℕ)) (headers : List HeaderSpan) (spans : RequestSpans) → IsOpenAt held headers spans Chunked → Decodes {E = E} spans.len held left (Ok Cut) body held' left' → Asks {E = E} before held left (Ok Bad) held' left'
+pub chunks_cut : {E : Type 0} (before : ℕ) (held : List ℕ) (left : Inward) (body held' : List ℕ) (left' : Inward) (headers : List HeaderSpan) (spans : RequestSpans) → IsOpenAt held headers spans Chunked → Decodes {E = E} spans.len held left (Ok Cut) body held' left' → Asks {E = E} before held left (Ok Bad) held' left'
 chunks_cut before held left body held' left' headers spans o d =
     asks_read before held d.read left left' Bad held' d.given (inr (no_body (follows_at held d.read headers spans Chunked HasNoBodyYet o d.outcome.0), d.outcome.1))
 
@@ -230,24 +231,24 @@ passes-append bytes more p = record {
   over = p.over;
 }
 
-pub chunks_long : {E : Type 0} (before : ℕ) (held : List ℕ) (left : Option (List ℕ)) (body held' : List ℕ) (left' : Option (List ℕ)) (headers : List HeaderSpan) (spans : RequestSpans) → IsOpenAt held headers spans Chunked → Decodes {E = E} spans.len held left (Ok LongChunks) body held' left' → Asks {E = E} before held left (Ok TooLong) held' left'
+pub chunks_long : {E : Type 0} (before : ℕ) (held : List ℕ) (left : Inward) (body held' : List ℕ) (left' : Inward) (headers : List HeaderSpan) (spans : RequestSpans) → IsOpenAt held headers spans Chunked → Decodes {E = E} spans.len held left (Ok LongChunks) body held' left' → Asks {E = E} before held left (Ok TooLong) held' left'
 chunks_long before held left body held' left' headers spans o d =
     asks_read before held d.read left left' TooLong held' d.given
     (inl (λ more. subst IsTooLong (given_and_more held d.read more)
     (long_chunks (follows_at held (d.read ++ more) headers spans Chunked PassesLimit o (subst PassesLimit (append_assoc (drop spans.len held) d.read more) (passes-append (drop spans.len held ++ d.read) more d.outcome))))))
 
 -- the request, whose parts the spans cover in what is held
-pub chunks_whole : {E : Type 0} (before : ℕ) (held : List ℕ) (left : Option (List ℕ)) (body held' : List ℕ) (left' : Option (List ℕ)) (headers : List HeaderSpan) (spans : RequestSpans) (end : ℕ) (request : Request) (o : IsOpenAt held headers spans Chunked) → Decodes {E = E} spans.len held left (Ok (Whole end)) body held' left' → request ≡ request_of before o.head body → Asks {E = E} before held left (Ok (Requested request)) (drop end held') left'
+pub chunks_whole : {E : Type 0} (before : ℕ) (held : List ℕ) (left : Inward) (body held' : List ℕ) (left' : Inward) (headers : List HeaderSpan) (spans : RequestSpans) (end : ℕ) (request : Request) (o : IsOpenAt held headers spans Chunked) → Decodes {E = E} spans.len held left (Ok (Whole end)) body held' left' → request ≡ request_of before o.head body → Asks {E = E} before held left (Ok (Requested request)) (drop end held') left'
 chunks_whole before held left body held' left' headers spans end request o d is =
     asks_read before held d.read left left' (Requested request) (drop end held') d.given (asks_in_chunks before held d.read headers spans request body (drop end held') o d.outcome.2 is)
 
-pub chunks_no_memory : {E : Type 0} (before : ℕ) (held : List ℕ) (left : Option (List ℕ)) (body held' : List ℕ) (left' : Option (List ℕ)) (headers : List HeaderSpan) (spans : RequestSpans) (end : ℕ) (o : IsOpenAt held headers spans Chunked) → Decodes {E = E} spans.len held left (Ok (Whole end)) body held' left' → Asks {E = E} before held left (Ok NoMemory) held' left'
+pub chunks_no_memory : {E : Type 0} (before : ℕ) (held : List ℕ) (left : Inward) (body held' : List ℕ) (left' : Inward) (headers : List HeaderSpan) (spans : RequestSpans) (end : ℕ) (o : IsOpenAt held headers spans Chunked) → Decodes {E = E} spans.len held left (Ok (Whole end)) body held' left' → Asks {E = E} before held left (Ok NoMemory) held' left'
 chunks_no_memory before held left body held' left' headers spans end o d =
     let request : Request = request_of before o.head body in
     asks_read before held d.read left left' NoMemory held' d.given (request, drop end held', asks_in_chunks before held d.read headers spans request body (drop end held') o d.outcome.2 refl)
 
 -- what the spans say is so of the head that was found
-pub open_by : (held bytes : List ℕ) (left : Option (List ℕ)) (headers : List HeaderSpan) (spans : RequestSpans) (what read : Framing) → (head : RequestHead) × IsHeadAt held headers spans head → bytes ≡ held → read ≡ framing spans.version (map (header_bytes bytes) (take spans.headers headers)) → read ≡ what → IsOpenAt held headers spans what
+pub open_by : (held bytes : List ℕ) (left : Inward) (headers : List HeaderSpan) (spans : RequestSpans) (what read : Framing) → (head : RequestHead) × IsHeadAt held headers spans head → bytes ≡ held → read ≡ framing spans.version (map (header_bytes bytes) (take spans.headers headers)) → read ≡ what → IsOpenAt held headers spans what
 open_by held bytes left headers spans what read found same value is = record {
   head = found.0;
   at = found.1;

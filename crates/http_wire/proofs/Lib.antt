@@ -11,3 +11,4 @@ pub mod DecodingLemmas
 pub mod OneTalk
 pub mod WholeItems
 pub mod Connections
+pub mod Counting

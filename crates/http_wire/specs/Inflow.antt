@@ -1,6 +1,7 @@
 -- What reads add to the bytes that a connection holds, and what is looked for in them.
 use Rattle.std.specs.Prelude.{◌≡◌, ℕ, ◌+◌, ◌<◌, ◌≤◌, ◌⊎◌, List, map, [], ◌∷◌, ◌++◌, length, drop, take, Option, None, Some, Bool, true, false, Result, Ok, Err}
-use Rattle.std.specs.Io.KnownBytes.{Consumes, IsAtEnd}
+use Rattle.xcap_io.specs.Causes.{Inward}
+use Rattle.xcap_io.specs.Passing.{Gave, IsEnded}
 use Rattle.httparse.specs.Grammar.{RequestHead}
 use Rattle.httparse.specs.Spans.{IsRequestAt, IsRequestWithin, name_and_value}
 use Rattle.httparse.specs.declared.spans.HeaderSpan.{HeaderSpan}
@@ -19,20 +20,20 @@ use Rattle.http_wire.specs.Decoding.{Decoding, start, is_settled, ReadsOn}
 use Rattle.http_wire.specs.Chunked.{ChunkedBody, ReadsBody, HasNoBody, MayBecomeBody, PassesLimit, joined}
 
 -- the next bytes of the source were added to those that are held
-pub record Gains (held held' : List ℕ) (left left' : Option (List ℕ)) : Type 0 where
+pub record Gains (held held' : List ℕ) (source source' : Inward) : Type 0 where
   pub read : List ℕ
   pub added : held' ≡ held ++ read
-  pub given : Consumes left left' read
+  pub given : Gave source source' read
 
 -- one byte was added or more, or none as the source had ended
-abbrev pub GainedOrEnded : Bool → List ℕ → List ℕ → Option (List ℕ) → Type 0
-GainedOrEnded true held held' left' = length held < length held'
-GainedOrEnded false held held' left' = (held' ≡ held) × IsAtEnd left'
+abbrev pub GainedOrEnded : Bool → List ℕ → List ℕ → Inward → Type 0
+GainedOrEnded true held held' source' = length held < length held'
+GainedOrEnded false held held' source' = (held' ≡ held) × IsEnded source'
 
 -- so many bytes are held, or fewer as the source had ended
-abbrev pub HoldsOrEnded : Bool → ℕ → List ℕ → Option (List ℕ) → Type 0
-HoldsOrEnded true count held left = count ≤ length held
-HoldsOrEnded false count held left = (length held < count) × IsAtEnd left
+abbrev pub HoldsOrEnded : Bool → ℕ → List ℕ → Inward → Type 0
+HoldsOrEnded true count held source = count ≤ length held
+HoldsOrEnded false count held source = (length held < count) × IsEnded source
 
 -- the spans cover the parts of the head at the front
 pub record IsHeadAt (bytes : List ℕ) (headers : List HeaderSpan) (spans : RequestSpans) (head : RequestHead) : Type 0 where
@@ -47,9 +48,9 @@ IsFront bytes headers Open = HasNoHead bytes × (length bytes < 16_384)
 IsFront bytes headers Hopeless = NeverHasHead bytes × (0 < length bytes)
 
 -- a head stands at the front, or none however the bytes go on, or none as they have ended
-abbrev pub HeadOrNone : List ℕ → Option (List ℕ) → List HeaderSpan → Option RequestSpans → Type 0
-HeadOrNone held left headers (Some spans) = (head : RequestHead) × IsHeadAt held headers spans head
-HeadOrNone held left headers None = (NeverHasHead held × (0 < length held)) ⊎ (HasNoHead held × IsAtEnd left)
+abbrev pub HeadOrNone : List ℕ → Inward → List HeaderSpan → Option RequestSpans → Type 0
+HeadOrNone held source headers (Some spans) = (head : RequestHead) × IsHeadAt held headers spans head
+HeadOrNone held source headers None = (NeverHasHead held × (0 < length held)) ⊎ (HasNoHead held × IsEnded source)
 
 -- a head was found at the front, and this is what its fields say of the body
 pub record IsOpenAt (bytes : List ℕ) (headers : List HeaderSpan) (spans : RequestSpans) (what : Framing) : Type 0 where
@@ -83,29 +84,29 @@ abbrev pub HasNoBodyYet : List ℕ → Type 0
 HasNoBodyYet raw = HasNoBody raw × ¬ (PassesLimit raw)
 
 -- what was made of the bytes behind a head
-abbrev pub IsDecoded : List ℕ → Option (List ℕ) → Decoded → List ℕ → List ℕ → ℕ → Type 0
-IsDecoded raw left (Whole end) body held head = (head ≤ end) × (end ≤ length held) × HasBody raw body (drop end held)
-IsDecoded raw left TooLong body held head = PassesLimit raw
-IsDecoded raw left Bad body held head = (more : List ℕ) → HasNoBodyYet (raw ++ more)
-IsDecoded raw left Cut body held head = HasNoBodyYet raw × IsAtEnd left
+abbrev pub IsDecoded : List ℕ → Inward → Decoded → List ℕ → List ℕ → ℕ → Type 0
+IsDecoded raw source (Whole end) body held head = (head ≤ end) × (end ≤ length held) × HasBody raw body (drop end held)
+IsDecoded raw source TooLong body held head = PassesLimit raw
+IsDecoded raw source Bad body held head = (more : List ℕ) → HasNoBodyYet (raw ++ more)
+IsDecoded raw source Cut body held head = HasNoBodyYet raw × IsEnded source
 
-abbrev pub DecodedOrNot : {E : Type 0} → List ℕ → Option (List ℕ) → Result Decoded E → List ℕ → List ℕ → ℕ → Type 0
-DecodedOrNot raw left (Ok decoded) body held head = IsDecoded raw left decoded body held head
-DecodedOrNot raw left (Err e) body held head = MayBecomeBody raw × HasNoBodyYet raw
+abbrev pub DecodedOrNot : {E : Type 0} → List ℕ → Inward → Result Decoded E → List ℕ → List ℕ → ℕ → Type 0
+DecodedOrNot raw source (Ok decoded) body held head = IsDecoded raw source decoded body held head
+DecodedOrNot raw source (Err e) body held head = MayBecomeBody raw × HasNoBodyYet raw
 
 -- the bytes behind the head were decoded as they came; those of the head stay
-pub record Decodes {E : Type 0} (head : ℕ) (held : List ℕ) (left : Option (List ℕ)) (result : Result Decoded E) (body held' : List ℕ) (left' : Option (List ℕ)) : Type 0 where
+pub record Decodes {E : Type 0} (head : ℕ) (held : List ℕ) (source : Inward) (result : Result Decoded E) (body held' : List ℕ) (source' : Inward) : Type 0 where
   pub read : List ℕ
-  pub given : Consumes left left' read
+  pub given : Gave source source' read
   pub same_head : take head held' ≡ take head held
   pub inside : head ≤ length held'
-  pub outcome : DecodedOrNot (drop head held ++ read) left' result body held' head
+  pub outcome : DecodedOrNot (drop head held ++ read) source' result body held' head
 
 -- so far: these bytes behind the head were decoded, and those from a place on are still held
-pub record DecodesSoFar (head : ℕ) (held : List ℕ) (left : Option (List ℕ)) (decoder : Decoding) (held' : List ℕ) (left' : Option (List ℕ)) (used : ℕ) : Type 0 where
+pub record DecodesSoFar (head : ℕ) (held : List ℕ) (source : Inward) (decoder : Decoding) (held' : List ℕ) (source' : Inward) (used : ℕ) : Type 0 where
   pub raw : List ℕ
   pub read : List ℕ
-  pub given : Consumes left left' read
+  pub given : Gave source source' read
   pub same_head : take head held' ≡ take head held
   pub inside : head + used ≤ length held'
   pub reads : ReadsOn start raw decoder

@@ -94,6 +94,12 @@ FirstItem before bytes bad rest = IsBad bytes
 FirstItem before bytes too_long rest = IsTooLong bytes
 FirstItem before bytes coded rest = IsFramed Coded bytes
 
+-- These bytes were given, and the item is the first one: however they go on, or as a read found their end.
+abbrev pub IsFirst : ℕ → List ℕ → Bool → Item → Type 0
+IsFirst before given ended item =
+    ((more : List ℕ) → (rest : List ℕ) × FirstItem before (given ++ more) item rest)
+    ⊎ ((ended ≡ true) × ((rest : List ℕ) × FirstItem before given item rest))
+
 -- what stands behind two first items, where it is looked at, is the same
 abbrev pub SameRest : Item → List ℕ → List ℕ → Type 0
 SameRest (asks request) rest other = rest ≡ other

@@ -1,9 +1,11 @@
--- Connections served by a machine. The machine is any: its states are M, what it tells of a change is E, and its step
--- says which bytes answer a request, in which state it goes on, and what it tells. `fixed` gives the bytes of the reply
--- without body that has a status and ends the connection.
-use Rattle.std.specs.Prelude.{◌≡◌, ℕ, ◌+◌, ◌<◌, ◌≤◌, ◌⊎◌, ◌^◌, ◌-◌, true, false, List, [], ◌∷◌, ◌++◌, length, take, Option, None, Some}
+-- Connections served by a machine (RFC 9112, sections 2.2 and 9.3). The machine is any: its states are M, what it tells of a
+-- change is E, and its step says which bytes answer a request, in which state it goes on, and what it tells. `fixed` gives the
+-- bytes of the reply without body that has a status and ends the connection. Of a connection only the bytes count that were
+-- given on it, and whether a read found their end; so this says what was done on a real socket, too.
+use Rattle.std.specs.Prelude.{◌≡◌, ℕ, ◌+◌, ◌<◌, ◌≤◌, ◌⊎◌, ◌^◌, ◌-◌, ⊤, Bool, true, false, List, [], ◌∷◌, ◌++◌, length, take, Option, None, Some}
+use Rattle.xcap_io.specs.Histories.{Traffic}
 use Rattle.http_wire.specs.declared.request.Request.{Request}
-use Rattle.http_wire.specs.Items.{Item, asks, bad, too_long, coded, FirstItem, AsksFor, ends_connection, IsUnfinished}
+use Rattle.http_wire.specs.Items.{Item, asks, bad, too_long, coded, IsFirst, AsksFor, ends_connection, IsUnfinished}
 
 -- How a connection ended: after a reply that closes it or with its bytes, by a read that failed, or by a write.
 pub data Ending : Type 0 where
@@ -33,15 +35,16 @@ module _ {M E : Type 0} (Step : M → Request → List ℕ → M → Option E �
       × (written ≡ reply ++ more) × (edits ≡ told edit ++ later)
       × Run (before + 1) mid behind requests more later next rest
 
-  -- How a connection that was closed ends, behind so many requests: with its bytes, and no further reply; with the reply
-  -- to an item that ends it; or in the place of a request with the fixed 503, which stands for want of memory and changes
-  -- nothing.
-  pub data Closes (before : ℕ) (machine : M) (bytes reply : List ℕ) (next : M) (edit : Option E) : Type 0 where
-    no_more : bytes ≡ [] → reply ≡ [] → next ≡ machine → edit ≡ None → Closes before machine bytes reply next edit
-    last_item : (item : Item) (rest : List ℕ) → FirstItem before bytes item rest → ends_connection item ≡ true
-        → Answers machine item reply next edit → Closes before machine bytes reply next edit
-    no_memory : (request : Request) (rest : List ℕ) → AsksFor before bytes request rest → reply ≡ fixed 503
-        → next ≡ machine → edit ≡ None → Closes before machine bytes reply next edit
+  -- How a connection that was closed ends, behind so many requests, by the bytes given behind them and whether a read found
+  -- the end: with no further reply, where no byte was given and the end was found; with the reply to an item that ends it; or
+  -- in the place of a request with the fixed 503, which stands for want of memory and changes nothing.
+  pub data Closes (before : ℕ) (machine : M) (given : List ℕ) (ended : Bool) (reply : List ℕ) (next : M) (edit : Option E) : Type 0 where
+    no_more : given ≡ [] → ended ≡ true → reply ≡ [] → next ≡ machine → edit ≡ None
+        → Closes before machine given ended reply next edit
+    last_item : (item : Item) → IsFirst before given ended item → ends_connection item ≡ true
+        → Answers machine item reply next edit → Closes before machine given ended reply next edit
+    no_memory : (request : Request) (rest : List ℕ) → AsksFor before given request rest → reply ≡ fixed 503
+        → next ≡ machine → edit ≡ None → Closes before machine given ended reply next edit
 
   -- A request that keeps the connection is answered.
   pub record GoesOn (before : ℕ) (machine : M) (bytes reply : List ℕ) (next : M) (edit : Option E) (rest : List ℕ) : Type 0 where
@@ -50,18 +53,19 @@ module _ {M E : Type 0} (Step : M → Request → List ℕ → M → Option E �
     pub stays : request.closes ≡ false
     pub step : Step machine request reply next edit
 
-  -- How a connection with these bytes ends behind so many requests, and what is written then. A failed write leaves a
-  -- proper prefix of a reply, and the item has had its effect.
-  abbrev pub EndsBy : Ending → ℕ → M → List ℕ → List ℕ → M → Option E → Type 0
-  EndsBy closed before machine bytes written next edit = Closes before machine bytes written next edit
-  EndsBy read_failed before machine bytes written next edit =
-      IsUnfinished bytes × (written ≡ []) × (next ≡ machine) × (edit ≡ None)
-  EndsBy write_failed before machine bytes written next edit =
+  -- How a connection ends behind so many requests, by the bytes given behind them, and what is written then. Where a read
+  -- failed, no item lies whole in these. A failed write leaves a proper prefix of a reply, and the item has had its effect.
+  abbrev pub EndsBy : Ending → ℕ → M → List ℕ → Bool → List ℕ → M → Option E → Type 0
+  EndsBy closed before machine given ended written next edit = Closes before machine given ended written next edit
+  EndsBy read_failed before machine given ended written next edit =
+      IsUnfinished given × (written ≡ []) × (next ≡ machine) × (edit ≡ None)
+  EndsBy write_failed before machine given ended written next edit =
       (reply : List ℕ) × (n : ℕ) × (n < length reply) × (written ≡ take n reply)
-      × (Closes before machine bytes reply next edit ⊎ ((rest : List ℕ) × GoesOn before machine bytes reply next edit rest))
+      × (Closes before machine given ended reply next edit ⊎ ((rest : List ℕ) × GoesOn before machine given reply next edit rest))
 
-  -- One connection, by the bytes that count: requests after which it went on, and then what ended it.
-  pub record ServesBytes (ending : Ending) (machine : M) (bytes written : List ℕ) (next : M) (edits : List E) : Type 0 where
+  -- One connection, over which this passed: requests at the front of the bytes given, after which it went on, and then what
+  -- ended it. The replies to these items, one after the other, are the bytes taken, and their changes all that was told.
+  pub record Serves (ending : Ending) (machine : M) (passed : Traffic) (next : M) (edits : List E) : Type 0 where
     pub requests : List Request
     pub replies : List ℕ
     pub early : List E
@@ -69,33 +73,49 @@ module _ {M E : Type 0} (Step : M → Request → List ℕ → M → Option E �
     pub behind : List ℕ
     pub last : List ℕ
     pub edit : Option E
-    pub run : Run 0 machine bytes requests replies early mid behind
-    pub ends : EndsBy ending (length requests) mid behind last next edit
-    pub wrote : written ≡ replies ++ last
+    pub run : Run 0 machine passed.given requests replies early mid behind
+    pub ends : EndsBy ending (length requests) mid behind passed.ended last next edit
+    pub wrote : passed.taken ≡ replies ++ last
     pub all_told : edits ≡ early ++ told edit
 
-  -- the bytes that count: all of the connection, or those given where a read failed, so that exactly the items that lie
-  -- whole in them were answered
-  abbrev pub counted : Ending → List ℕ → List ℕ → List ℕ
-  counted closed bytes given = bytes
-  counted read_failed bytes given = given
-  counted write_failed bytes given = bytes
+  -- Connections over which this passed, served one after the other, each from the state that the one before left: how each
+  -- ended, and all changes told.
+  abbrev pub ServesEach : M → List Traffic → List Ending → M → List E → Type 0
+  ServesEach machine [] endings next edits = (endings ≡ []) × (next ≡ machine) × (edits ≡ [])
+  ServesEach machine (passed ∷ connections) endings next edits =
+      (ending : Ending) × (others : List Ending) × (mid : M) × (first : List E) × (later : List E)
+      × (endings ≡ ending ∷ others) × (edits ≡ first ++ later)
+      × Serves ending machine passed mid first
+      × ServesEach mid connections others next later
 
-  -- One connection: its bytes, the first of them that were given, what was written, and the changes told.
-  pub record Serves (ending : Ending) (machine : M) (bytes given written : List ℕ) (next : M) (edits : List E) : Type 0 where
-    pub ungiven : List ℕ
-    pub prefix : bytes ≡ given ++ ungiven
-    pub served : ServesBytes ending machine (counted ending bytes given) written next edits
+-- a step that ends in a state with the property
+abbrev pub Into : {M R E : Type 0} → (M → Type 0) → (M → Request → R → M → Option E → Type 0) → M → Request → R → M → Option E → Type 0
+Into Holds Step machine request reply next edit = Step machine request reply next edit × Holds next
 
-  -- Connections with these bytes served one after the other, each from the state that the one before left: how each
-  -- ended, what was written on each, and all changes told.
-  abbrev pub ServesEach : M → List (List ℕ) → List Ending → List (List ℕ) → M → List E → Type 0
-  ServesEach machine [] endings written next edits = (endings ≡ []) × (written ≡ []) × (next ≡ machine) × (edits ≡ [])
-  ServesEach machine (bytes ∷ connections) endings written next edits =
-      (ending : Ending) × (others : List Ending) × (given : List ℕ) × (wrote : List ℕ) × (more : List (List ℕ)) × (mid : M)
-      × (first : List E) × (later : List E) × (endings ≡ ending ∷ others) × (written ≡ wrote ∷ more)
-      × (edits ≡ first ++ later) × Serves ending machine bytes given wrote mid first
-      × ServesEach mid connections others more next later
+-- These are all bytes of a connection over which this passed: those given, and those left, of which there are none where a
+-- read found the end.
+abbrev pub HasBytes : List ℕ → Traffic → Type 0
+HasBytes bytes passed = (left : List ℕ) × (bytes ≡ passed.given ++ left) × (passed.ended ≡ true → left ≡ [])
+
+-- the same of each of some connections
+abbrev pub HaveBytes : List (List ℕ) → List Traffic → Type 0
+HaveBytes [] [] = ⊤
+HaveBytes (bytes ∷ all) (passed ∷ connections) = HasBytes bytes passed × HaveBytes all connections
+HaveBytes all connections = ⊥
+
+-- what counts of a connection with these bytes that ended so: all of them, as if they had been given and the end been found;
+-- where a read failed, those given alone
+abbrev pub counted : Ending → List ℕ → Traffic → Traffic
+counted closed bytes passed = record passed { given = bytes; ended = true }
+counted read_failed bytes passed = passed
+counted write_failed bytes passed = record passed { given = bytes; ended = true }
+
+-- the same of each of some connections
+abbrev pub counted_each : List Traffic → List (List ℕ) → List Ending → List Traffic
+counted_each [] all endings = []
+counted_each (passed ∷ connections) [] endings = passed ∷ connections
+counted_each (passed ∷ connections) (bytes ∷ all) [] = passed ∷ connections
+counted_each (passed ∷ connections) (bytes ∷ all) (ending ∷ endings) = counted ending bytes passed ∷ counted_each connections all endings
 
 -- how many connections ended that way
 abbrev pub read_failures : List Ending → ℕ
@@ -115,8 +135,8 @@ abbrev pub IsBounded : ℕ → ℕ → ℕ → Type 0
 IsBounded failures before now = (before + failures ≤ now) ⊎ (2 ^ 64 - 1 ≤ now)
 
 -- All connections, where each failure is one of the reads or writes that failed.
-pub record ServesAll {M E : Type 0} (Step : M → Request → List ℕ → M → Option E → Type 0) (fixed : ℕ → List ℕ) (machine : M) (connections written : List (List ℕ)) (next : M) (edits : List E) (reads reads' writes writes' : ℕ) : Type 0 where
+pub record ServesAll {M E : Type 0} (Step : M → Request → List ℕ → M → Option E → Type 0) (fixed : ℕ → List ℕ) (machine : M) (connections : List Traffic) (next : M) (edits : List E) (reads reads' writes writes' : ℕ) : Type 0 where
   pub endings : List Ending
-  pub each : ServesEach Step fixed machine connections endings written next edits
+  pub each : ServesEach Step fixed machine connections endings next edits
   pub read_bound : IsBounded (read_failures endings) reads reads'
   pub write_bound : IsBounded (write_failures endings) writes writes'

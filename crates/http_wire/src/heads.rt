@@ -55,8 +55,8 @@ pub fn next_head<S: Source>(
     headers: &mut [HeaderSpan],
 ) -> Result<Option<RequestSpans>, ReadFault>
     requires { length headers.old ≡ 64 }
-    ensures gains { Gains inflow.old inflow.new (S.state source.old).left (S.state source.new).left }
-    ensures ok { IfOk result (HeadOrNone inflow.new (S.state source.new).left headers.new) }
+    ensures gains { Gains inflow.old inflow.new (S.state source.old).inward (S.state source.new).inward }
+    ensures ok { IfOk result (HeadOrNone inflow.new (S.state source.new).inward headers.new) }
     ensures err { OnErr result (HasNoHead inflow.new) }
     ensures only_reads { OnlyReads (S.state source.old) (S.state source.new) result }
 {

@@ -1,6 +1,8 @@
 // Laws of the definitions that the contracts cite.
-ghost use Rattle.std.specs.Prelude.{◌≡◌, ◌++◌, List, ℕ};
-ghost use Rattle.http_wire.specs.Items.{Item, FirstItem, SameRest, Talk, LiesWhole, IsUnfinished};
+ghost use Rattle.std.specs.Prelude.{◌≡◌, ◌↔◌, ◌++◌, true, List, ℕ};
+ghost use Rattle.xcap_io.specs.Histories.{Traffic};
+ghost use Rattle.http_wire.specs.Items.{Item, FirstItem, IsFirst, SameRest, Talk, LiesWhole, IsUnfinished};
+ghost use Rattle.http_wire.specs.Serving.{HasBytes};
 
 /// A connection's bytes have one first item, and behind a request one rest; so they have one talk, and it doesn't matter in
 /// which pieces they came.
@@ -15,4 +17,13 @@ pub fn whole_items_stay()
     ensures stays { (before : ℕ) (bytes more : List ℕ) (item : Item) → LiesWhole before bytes item
         → (rest : List ℕ) × FirstItem before (bytes ++ more) item rest }
     ensures unfinished { (before : ℕ) (bytes : List ℕ) (item : Item) → IsUnfinished bytes → ¬ (LiesWhole before bytes item) }
+{}
+
+/// Where all bytes of a connection are known, those given and those left, of which there are none where a read found the end, the
+/// first item of the bytes given is the first one of all. Where all were given, it is the first item and no other.
+pub fn given_bytes_decide()
+    ensures of_all { (before : ℕ) (bytes : List ℕ) (passed : Traffic) (item : Item) → HasBytes bytes passed
+        → IsFirst before passed.given passed.ended item → (rest : List ℕ) × FirstItem before bytes item rest }
+    ensures all_given { (before : ℕ) (bytes : List ℕ) (item : Item) → IsFirst before bytes true item
+        ↔ ((rest : List ℕ) × FirstItem before bytes item rest) }
 {}

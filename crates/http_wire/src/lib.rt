@@ -13,7 +13,7 @@ mod request;
 mod requests;
 mod wire;
 
-pub use laws::{bytes_have_one_talk, whole_items_stay};
+pub use laws::{bytes_have_one_talk, given_bytes_decide, whole_items_stay};
 pub use replies::{write_reply, write_reply_through};
 pub use request::{Asked, Field, Request};
 pub use requests::next_request;

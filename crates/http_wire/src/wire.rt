@@ -102,8 +102,8 @@ impl Inflow {
     // in the bytes, and the first one for an item moves them: so no byte is moved twice.
     pub fn fill<S: Source>(&mut self, source: &mut S) -> Result<bool, ReadFault>
         requires { length self.old < 278_528 }
-        ensures gains { Gains self.old self.new (S.state source.old).left (S.state source.new).left }
-        ensures ok { IfOk result (λ more. GainedOrEnded more self.old self.new (S.state source.new).left) }
+        ensures gains { Gains self.old self.new (S.state source.old).inward (S.state source.new).inward }
+        ensures ok { IfOk result (λ more. GainedOrEnded more self.old self.new (S.state source.new).inward) }
         ensures err { OnErr result (self.new ≡ self.old) }
         ensures only_reads { OnlyReads (S.state source.old) (S.state source.new) result }
     {
@@ -123,8 +123,8 @@ impl Inflow {
     // Reads until so many bytes are held. False where the source ends before.
     pub fn hold<S: Source>(&mut self, source: &mut S, count: usize) -> Result<bool, ReadFault>
         requires { count ≤ 278_528 }
-        ensures gains { Gains self.old self.new (S.state source.old).left (S.state source.new).left }
-        ensures ok { IfOk result (λ enough. HoldsOrEnded enough count self.new (S.state source.new).left) }
+        ensures gains { Gains self.old self.new (S.state source.old).inward (S.state source.new).inward }
+        ensures ok { IfOk result (λ enough. HoldsOrEnded enough count self.new (S.state source.new).inward) }
         ensures err { OnErr result (length self.new < count) }
         ensures only_reads { OnlyReads (S.state source.old) (S.state source.new) result }
     {

@@ -1,20 +1,34 @@
--- The cases of a test and of a condition.
-use Rattle.std.proofs.Common.{◌≡◌, Bool, true, false, refl}
+-- The cases of a test, of a reply that stops a request, and of a usage.
+use Rattle.std.proofs.Common.{◌≡◌, Bool, true, false, Option, None, Some, refl, subst, sym}
 use Rattle.std.specs.Bool.{MatchBool}
+use Rattle.doc_names.specs.declared.usages.Usage.{Usage}
 use Rattle.http_wire.specs.declared.request.Request.{Request}
-use Rattle.request_terms.specs.declared.conditions.Outcome.{Outcome}
-use Rattle.request_terms.specs.declared.conditions.Outcome.TheVariants.{Unreadable, Go, NotModified, Failed}
-use Rattle.machine_words.specs.Answers.{Answer, plain, unchanged}
-use Rattle.machine_words.specs.Writing.{If}
+use Rattle.reply_text.specs.Heads.{Sent, plain}
+use Rattle.machine_words.specs.Answers.{Answer, Behind, unchanged}
+use Rattle.machine_words.specs.Writing.{IfStored}
 
 -- either case of a test
 pub either : {X : Type 0} (b : Bool) (P Q : Type 0) → (b ≡ true → P → X) → (b ≡ false → Q → X) → MatchBool b P Q → X
 either true P Q p q h = p refl h
 either false P Q p q h = q refl h
 
--- either reply to a condition, or what comes behind it
-pub by_condition : {X : Type 0} (o : Outcome) (request : Request) (a : Answer) (P : Type 0) → (a ≡ unchanged (plain 400 request.closes) → X) → (a ≡ unchanged (plain 412 request.closes) → X) → (P → X) → If o request a P → X
-by_condition Unreadable request a P unreadable fails goes_on is = unreadable is
-by_condition Go request a P unreadable fails goes_on is = goes_on is
-by_condition NotModified request a P unreadable fails goes_on is = fails is
-by_condition Failed request a P unreadable fails goes_on is = fails is
+-- a test that holds, and one that doesn't
+pub at_true : (b : Bool) (P Q : Type 0) → b ≡ true → P → MatchBool b P Q
+at_true b P Q is p = subst (λ (t : Bool). MatchBool t P Q) (sym is) p
+
+pub at_false : (b : Bool) (P Q : Type 0) → b ≡ false → Q → MatchBool b P Q
+at_false b P Q is q = subst (λ (t : Bool). MatchBool t P Q) (sym is) q
+
+-- a reply that stops the request is the answer; without one, what comes behind it counts
+pub stopped : (stop : Option Sent) (reply : Sent) (P : Type 0) → stop ≡ Some reply → Behind stop (unchanged reply) P
+stopped stop reply P is = subst (λ (s : Option Sent). Behind s (unchanged reply) P) (sym is) refl
+
+pub unstopped : (stop : Option Sent) (a : Answer) (P : Type 0) → stop ≡ None → P → Behind stop a P
+unstopped stop a P is p = subst (λ (s : Option Sent). Behind s a P) (sym is) p
+
+-- a usage that stores documents, and one that doesn't
+pub stored : (u : Option Usage) (request : Request) (a : Answer) (P : Usage → Type 0) (usage : Usage) → u ≡ Some usage → P usage → IfStored u request a P
+stored u request a P usage is p = subst (λ (x : Option Usage). IfStored x request a P) (sym is) p
+
+pub not_stored : (u : Option Usage) (request : Request) (P : Usage → Type 0) → u ≡ None → IfStored u request (unchanged (plain 403 request.closes)) P
+not_stored u request P is = subst (λ (x : Option Usage). IfStored x request (unchanged (plain 403 request.closes)) P) (sym is) refl

@@ -1,216 +1,166 @@
--- A request has one answer where this is held.
-use Rattle.std.proofs.Common.{◌≡◌, ℕ, Bool, true, false, not, ◌&&◌, List, [], ◌∷◌, is_some, Option, None, Some, Result, Ok, Err, slice_get, inl, inr, refl, sym, ap, subst, ◌∙◌, arith}
+-- A request has exactly one answer where this is held.
+use Rattle.std.proofs.Common.{◌≡◌, ℕ, Bool, true, false, not, List, [], is_some, Option, None, Some, Result, Ok, Err, refl, sym, subst, ◌∙◌}
 use Rattle.std.specs.Bool.{MatchBool}
-use Rattle.xml_tree.specs.Tree.{Tree, kids_of}
-use Rattle.tree_text.specs.Faults.{text_read}
+use Rattle.xml_tree.specs.Tree.{Tree}
+use Rattle.tree_text.specs.Faults.{TextAnswer}
+use Rattle.tree_text.specs.readers.Whole.{text_read}
+use Rattle.tree_text.proofs.ReadAnswers.{text_answer}
+use Rattle.tree_text.proofs.OneAnswer.{one_text as one_reading}
 use Rattle.tree_text.specs.declared.fault.TextFault.{TextFault}
-use Rattle.usage_docs.specs.Clashes.{Clashes, IsFirstClash, NoLater, Repeats, RepeatsAt, inside}
-use Rattle.usage_docs.specs.Keys.{key_of}
-use Rattle.usage_docs.specs.Rows.{Scope, kind_of, root_kind}
-use Rattle.usage_docs.specs.declared.keys.Clash.{Clash}
-use Rattle.usage_docs.specs.declared.rows.Key.{Key}
-use Rattle.usage_docs.specs.declared.rows.Kind.{Kind}
+use Rattle.usage_docs.specs.Judging.{Judged}
+use Rattle.usage_docs.proofs.Judgements.{judged_one, judgement}
 use Rattle.doc_names.specs.Usages.{usage_of}
 use Rattle.doc_names.specs.declared.usages.Usage.{Usage}
 use Rattle.doc_names.specs.declared.doc_id.DocId.{DocId}
 use Rattle.node_select.specs.declared.selector.Selector.{Selector}
-use Rattle.xcap_uri.specs.Ancestors.{ancestor_uri, home_uri}
-use Rattle.xcap_uri.specs.Targets.{target_read}
+use Rattle.xcap_uri.specs.Ancestors.{ancestor_uri}
+use Rattle.xcap_uri.specs.Targets.{TargetAnswer}
+use Rattle.xcap_uri.proofs.TargetAnswers.{one_target, some_target}
 use Rattle.xcap_uri.specs.declared.fault.UriFault.{UriFault}
 use Rattle.xcap_uri.specs.declared.target.Target.{Target}
 use Rattle.xcap_uri.specs.declared.target.Target.TheVariants.{Document, Node, Deep, Feed, ElementFeed, Flat}
 use Rattle.edit_ops.specs.declared.change.Change.TheVariants.{RemoveDocument}
-use Rattle.conflict_docs.specs.declared.conflicts.ErrorBody.{ErrorBody}
 use Rattle.conflict_docs.specs.declared.conflicts.ErrorBody.TheVariants as conflicts
+use Rattle.reply_text.specs.Heads.{Sent, plain}
+use Rattle.reply_text.specs.declared.media_types.Media.{Media}
 use Rattle.http_wire.specs.declared.request.Request.{Request}
-use Rattle.request_terms.specs.Conditions.{outcome_of}
 use Rattle.request_terms.specs.MediaTypes.{document_media, has_type}
-use Rattle.request_terms.specs.Methods.{method_of, is_known, is_reading}
+use Rattle.request_terms.specs.Methods.{method_of, is_reading}
 use Rattle.request_terms.specs.Rights.{is_allowed}
-use Rattle.request_terms.specs.declared.conditions.Outcome.{Outcome}
-use Rattle.request_terms.specs.declared.conditions.Outcome.TheVariants.{Unreadable, Go, NotModified, Failed}
 use Rattle.request_terms.specs.declared.method.Method.{Method}
 use Rattle.request_terms.specs.declared.method.Method.TheVariants.{Get, Head, Put, Delete, Other}
 use Rattle.node_texts.specs.Nodes.{found_text}
 use Rattle.node_texts.specs.Places.{has_place}
-use Rattle.store_core.specs.Changing.{changing}
-use Rattle.store_core.specs.Held.{Content, Held}
-use Rattle.machine_words.specs.Answers.{Answer, conflict, not_allowed, plain, unchanged}
-use Rattle.machine_words.specs.Requests.{ByMethod, ByTarget, ByUser, Deletes, IsAnswer, IsAnswered, Puts, auid_of, home_of, is_built, is_read_only}
-use Rattle.machine_words.specs.Resources.{document_of}
-use Rattle.machine_words.specs.Writing.{DeletesHeld, DeletesNodeOf, If, IsJudged, PutsBody, PutsDocument, PutsNodeOf, PutsText, by_judgement, clash_field, clashing, delete_answer, invalid, puts_deeper, sound, tag_of, unformed}
+use Rattle.store_core.specs.Held.{Content}
+use Rattle.machine_words.specs.Answers.{Answer, Behind, conflict, not_allowed, unchanged}
+use Rattle.machine_words.specs.Requests.{ByMethod, ByTarget, ByUser, Deletes, IsAnswer, IsAnswered, Puts, auid_of, fault_status, home_of, is_read_only, reads, takes}
+use Rattle.machine_words.specs.Resources.{version_of}
+use Rattle.machine_words.specs.Writing.{CutsNode, DeletesDocumentIn, DeletesNodeIn, IfStored, PutsBody, PutsDocument, PutsFragment, PutsNodeIn, PutsSpelled, PutsText, by_judgement, change_answer, deleted_reply, puts_deeper, put_answer, tag_of, text_conflict, write_stop}
 
--- ---- the first clash is one
-
-one_some : {A : Type 0} (o : Option A) (x y : A) → o ≡ Some x → o ≡ Some y → x ≡ y
-one_some o x y p q = let both : Some x ≡ Some y = sym p ∙ q in cc
-
-repeats_one : (row : Kind) (c : Scope) (kids : List Tree) (i : ℕ) (key other : Key) → Repeats row c kids i key → Repeats row c kids i other → key ≡ other
-repeats_one row c kids i key other r s =
-    let same = one_some _ r.shared s.shared r.this s.this in
-    one_some (key_of s.shared.kind) key other (ap (λ m. key_of m.kind) (sym same) ∙ r.by_key) s.by_key
-
-key_one : (row : Kind) (c : Scope) (kids : List Tree) (p : List ℕ) (key other : Key) → RepeatsAt row c kids p key → RepeatsAt row c kids p other → key ≡ other
-key_one row c kids [] key other r s = absurd r
-key_one row c kids (i ∷ []) key other r s = repeats_one row c kids i key other r s
-key_one row c kids (i ∷ n ∷ p) key other (kid, (kind, (there, of_kind, r))) (kid', (kind', (there', of_kind', s))) =
-    let same_kid = one_some (slice_get kids i) kid' kid there' there in
-    let same_kind = one_some (kind_of row (inside c kid) kid.name) kind' kind (ap (λ (k : Tree). kind_of row (inside c k) k.name) (sym same_kid) ∙ of_kind') of_kind in
-    let s_here : RepeatsAt kind (inside c kid) (kids_of kid) (n ∷ p) other =
-    subst (λ (k : Kind). RepeatsAt k (inside c kid) (kids_of kid) (n ∷ p) other) same_kind (subst (λ (k : Tree). RepeatsAt kind' (inside c k) (kids_of k) (n ∷ p) other) same_kid s) in
-    key_one kind (inside c kid) (kids_of kid) (n ∷ p) key other r s_here
-
--- two paths of which neither is later are one
-path_one : (p q : List ℕ) → NoLater p q → NoLater q p → p ≡ q
-path_one [] [] h k = refl
-path_one [] (m ∷ q) h k = absurd k
-path_one (n ∷ p) [] h k = absurd h
-path_one (n ∷ p) (m ∷ q) (inl less) (inl more) = absurd (omega (arith, less, more))
-path_one (n ∷ p) (m ∷ q) (inl less) (inr more) = let e = more.0 in absurd (omega (arith, less, e))
-path_one (n ∷ p) (m ∷ q) (inr same) (inl more) = let e = same.0 in absurd (omega (arith, more, e))
-path_one (n ∷ p) (m ∷ q) (inr same) (inr more) = ap (λ (x : ℕ). x ∷ p) same.0 ∙ ap (λ (r : List ℕ). m ∷ r) (path_one p q same.1 more.1)
-
-clash_one : (usage : Usage) (t : Tree) (clash other : Clash) → IsFirstClash usage t (Some clash) → IsFirstClash usage t (Some other) → clash ≡ other
-clash_one usage t clash other f g =
-    let path = path_one clash.path other.path (f.1 other.path other.key g.0) (g.1 clash.path clash.key f.0) in
-    let here : Clashes usage t other.path clash.key = subst (λ (p : List ℕ). Clashes usage t p clash.key) path f.0 in
-    let key = key_one (root_kind usage) (t.decls ∷ []) (kids_of t) other.path clash.key other.key here g.0 in
-    let with_path : List ℕ → Clash = λ p. record { path = p; key = clash.key } in
-    let with_key : Key → Clash = λ k. record { path = other.path; key = k } in
-    ap with_path path ∙ ap with_key key
-
--- ---- a tree has one judgement
-
-judged_one : (usage : Usage) (t : Tree) (one other : Option ErrorBody) → IsJudged usage t one → IsJudged usage t other → one ≡ other
-judged_one usage t one other (invalid not_valid) (invalid _) = refl
-judged_one usage t one other (invalid not_valid) (unformed valid _) = absurd (not_valid valid)
-judged_one usage t one other (invalid not_valid) (clashing valid _ _ _) = absurd (not_valid valid)
-judged_one usage t one other (invalid not_valid) (sound valid _ _) = absurd (not_valid valid)
-judged_one usage t one other (unformed valid not_formed) (invalid not_valid) = absurd (not_valid valid)
-judged_one usage t one other (unformed valid not_formed) (unformed _ _) = refl
-judged_one usage t one other (unformed valid not_formed) (clashing _ formed _ _) = absurd (not_formed formed)
-judged_one usage t one other (unformed valid not_formed) (sound _ formed _) = absurd (not_formed formed)
-judged_one usage t one other (clashing valid formed clash first) (invalid not_valid) = absurd (not_valid valid)
-judged_one usage t one other (clashing valid formed clash first) (unformed _ not_formed) = absurd (not_formed formed)
-judged_one usage t one other (clashing valid formed clash first) (clashing _ _ again first') = ap (λ (x : Clash). Some (conflicts.Unique (clash_field x))) (clash_one usage t clash again first first')
-judged_one usage t one other (clashing valid formed clash first) (sound _ _ unique) = absurd (unique clash.path clash.key first.0)
-judged_one usage t one other (sound valid formed unique) (invalid not_valid) = absurd (not_valid valid)
-judged_one usage t one other (sound valid formed unique) (unformed _ not_formed) = absurd (not_formed formed)
-judged_one usage t one other (sound valid formed unique) (clashing _ _ clash first) = absurd (unique clash.path clash.key first.0)
-judged_one usage t one other (sound valid formed unique) (sound _ _ _) = refl
-
--- ---- kinds of answers of which there is one
-
-abbrev IsOne : (Answer → Type 0) → Type 0
-IsOne Is = (a b : Answer) → Is a → Is b → a ≡ b
+-- there is an answer of this kind, and each one of it is that
+record IsOne (Is : Answer → Type 0) : Type 0 where
+  answer : Answer
+  is : Is answer
+  only : (a : Answer) → Is a → a ≡ answer
 
 one_equal : (x : Answer) → IsOne (λ a. a ≡ x)
-one_equal x a b p q = p ∙ sym q
+one_equal x = record { answer = x; is = refl; only = λ a p. p }
 
-one_either : (test : Bool) (P Q : Answer → Type 0) → IsOne P → IsOne Q → IsOne (λ a. MatchBool test (P a) (Q a))
-one_either true P Q p q = p
-one_either false P Q p q = q
+one_either : (test : Bool) (P Q : Answer → Type 0) → (test ≡ true → IsOne P) → (test ≡ false → IsOne Q) → IsOne (λ a. MatchBool test (P a) (Q a))
+one_either true P Q p q = p refl
+one_either false P Q p q = q refl
 
-one_behind : (o : Outcome) (request : Request) (P : Answer → Type 0) → IsOne P → IsOne (λ a. If o request a (P a))
-one_behind Unreadable request P p = one_equal (unchanged (plain 400 request.closes))
-one_behind Go request P p = p
-one_behind NotModified request P p = one_equal (unchanged (plain 412 request.closes))
-one_behind Failed request P p = one_equal (unchanged (plain 412 request.closes))
+one_behind : (stop : Option Sent) (P : Answer → Type 0) → IsOne P → IsOne (λ a. Behind stop a (P a))
+one_behind None P p = p
+one_behind (Some reply) P p = one_equal (unchanged reply)
 
--- ---- PUT and DELETE
+one_stored : (u : Option Usage) (request : Request) (P : Usage → Answer → Type 0) → ((usage : Usage) → IsOne (P usage)) → IsOne (λ a. IfStored u request a (λ usage. P usage a))
+one_stored None request P p = one_equal (unchanged (plain 403 request.closes))
+one_stored (Some usage) request P p = p usage
+
+-- the answer goes by one thing that is found so
+one_by : {R : Type 0} (IsFound : R → Type 0) (P : R → Answer → Type 0) (r : R) → IsFound r → ((x : R) → IsFound x → x ≡ r) → IsOne (P r) → IsOne (λ a. (x : R) × IsFound x × P x a)
+one_by IsFound P r found only_r one = record { answer = one.answer; is = (r, found, one.is); only = λ a h. one.only a (subst (λ x. P x a) (only_r h.0 h.1) h.2) }
+
+-- ---- PUT of documents
+
+one_text : (usage : Usage) (closes : Bool) (answer : Tree → Answer) (read : Result Tree TextFault) → IsOne (λ a. PutsText usage read closes answer a)
+one_text usage closes answer (Err fault) = one_equal (unchanged (conflict (text_conflict conflicts.NotWellFormed fault) closes))
+one_text usage closes answer (Ok t) =
+    let found = judgement usage t in
+    one_by (Judged usage t) (λ j a. a ≡ by_judgement j closes (answer t)) found.0 found.1 (λ j is. judged_one usage t j found.0 is found.1) (one_equal (by_judgement found.0 closes (answer t)))
+
+one_spelled : (usage : Usage) (request : Request) (answer : Tree → Answer) → IsOne (λ a. PutsSpelled usage request answer a)
+one_spelled usage request answer =
+    let read = text_read 64 [] request.body in
+    let spelled = text_answer 64 [] request.body in
+    one_by (TextAnswer 64 [] request.body) (λ r a. PutsText usage r request.closes answer a) read spelled (λ r is. one_reading 64 [] request.body r read is spelled) (one_text usage request.closes answer read)
+
+one_body : (usage : Usage) (media : Media) (request : Request) (answer : Tree → Answer) → IsOne (λ a. PutsBody usage media request answer a)
+one_body usage media request answer =
+    one_either (has_type media request.fields) (λ a. PutsSpelled usage request answer a) (λ a. a ≡ unchanged (plain 415 request.closes))
+    (λ _. one_spelled usage request answer) (λ _. one_equal (unchanged (plain 415 request.closes)))
 
 module _ (c : Content) (id : DocId) (request : Request) where
-  one_text : (usage : Usage) (read : Result Tree TextFault) → IsOne (λ a. PutsText c id usage read request.closes a)
-  one_text usage (Err fault) a b p q = p ∙ sym q
-  one_text usage (Ok t) a b (judgement, judged, is) (other, judged', is') =
-      is ∙ ap (λ (j : Option ErrorBody). by_judgement c id j t request.closes) (judged_one usage t judgement other judged judged') ∙ sym is'
+  one_document_put : (usage : Usage) → IsOne (λ a. PutsDocument c id usage request a)
+  one_document_put usage =
+      one_behind (write_stop request (tag_of (version_of c id)) (is_some (version_of c id))) (λ a. PutsBody usage (document_media id.auid) request (put_answer c id request.closes) a)
+      (one_body usage (document_media id.auid) request (put_answer c id request.closes))
 
-  one_body : (usage : Option Usage) → IsOne (λ a. PutsBody c id usage request a)
-  one_body None = one_equal (unchanged (plain 403 request.closes))
-  one_body (Some usage) =
-      one_either (has_type (document_media id.auid) request.fields) (λ a. PutsText c id usage (text_read 64 [] request.body) request.closes a) (λ a. a ≡ unchanged (plain 415 request.closes))
-      (one_text usage (text_read 64 [] request.body)) (one_equal (unchanged (plain 415 request.closes)))
+  -- ---- PUT of nodes
 
-  one_document_put : IsOne (λ a. PutsDocument c id request a)
-  one_document_put =
-      one_behind (outcome_of request.fields (tag_of (document_of c id)) (is_some (document_of c id)) false) request (λ a. PutsBody c id (usage_of id.auid) request a) (one_body (usage_of id.auid))
+  one_node_put : (root : List ℕ) (usage : Usage) (selector : Selector) (version : Option (Tree × ℕ)) → IsOne (λ a. PutsNodeIn root c id usage selector version request a)
+  one_node_put root usage selector None = one_equal (puts_deeper root id.auid id.home request)
+  one_node_put root usage selector (Some (t, tag)) =
+      let stop = write_stop request (Some tag) (is_some (found_text t selector)) in
+      let Last : Answer → Type 0 = λ a. PutsFragment c id usage selector t request a in
+      let no_parent : Answer = unchanged (conflict (conflicts.NoParent (ancestor_uri root id t selector.steps)) request.closes) in
+      one_either (has_place selector t) (λ a. Behind stop a (Last a)) (λ a. a ≡ no_parent) (λ _. one_behind stop Last (one_equal (unchanged (plain 501 request.closes)))) (λ _. one_equal no_parent)
 
-  one_node_put : (root : List ℕ) (selector : Selector) (held : Option Held) → IsOne (λ a. PutsNodeOf root id selector held request a)
-  one_node_put root selector None = one_equal (unchanged (conflict (conflicts.NoParent (home_uri root id.auid id.home)) request.closes))
-  one_node_put root selector (Some h) =
-      let outcome = outcome_of request.fields (Some h.tag) (is_some (found_text h.tree selector)) false in
-      let last : Answer = unchanged (plain 501 request.closes) in
-      let no_parent : Answer = unchanged (conflict (conflicts.NoParent (ancestor_uri root id h.tree selector.steps)) request.closes) in
-      one_either (has_place selector h.tree) (λ a. If outcome request a (a ≡ last)) (λ a. a ≡ no_parent) (one_behind outcome request (λ a. a ≡ last) (one_equal last)) (one_equal no_parent)
+  -- ---- DELETE
 
-  one_document_deleted : (held : Option Held) → IsOne (λ a. DeletesHeld c id held request a)
+  one_document_deleted : (version : Option (Tree × ℕ)) → IsOne (λ a. DeletesDocumentIn c id version request a)
   one_document_deleted None = one_equal (unchanged (plain 404 request.closes))
-  one_document_deleted (Some h) =
-      let last : Answer = delete_answer id request.closes (changing c id RemoveDocument) in
-      one_behind (outcome_of request.fields (Some h.tag) true false) request (λ a. a ≡ last) (one_equal last)
+  one_document_deleted (Some (t, tag)) =
+      let last : Answer = change_answer c id RemoveDocument request.closes (deleted_reply request.closes) in
+      one_behind (write_stop request (Some tag) true) (λ a. a ≡ last) (one_equal last)
 
-  one_node_deleted : (selector : Selector) (held : Option Held) → IsOne (λ a. DeletesNodeOf selector held request a)
-  one_node_deleted selector None = one_equal (unchanged (plain 404 request.closes))
-  one_node_deleted selector (Some h) =
-      let outcome = outcome_of request.fields (Some h.tag) true false in
-      let last : Answer = unchanged (plain 501 request.closes) in
+  one_node_deleted : (usage : Usage) (selector : Selector) (version : Option (Tree × ℕ)) → IsOne (λ a. DeletesNodeIn c id usage selector version request a)
+  one_node_deleted usage selector None = one_equal (unchanged (plain 404 request.closes))
+  one_node_deleted usage selector (Some (t, tag)) =
+      let stop = write_stop request (Some tag) true in
+      let Last : Answer → Type 0 = λ a. CutsNode c id usage selector t request a in
       let missing : Answer = unchanged (plain 404 request.closes) in
-      one_either (is_some (found_text h.tree selector)) (λ a. If outcome request a (a ≡ last)) (λ a. a ≡ missing) (one_behind outcome request (λ a. a ≡ last) (one_equal last)) (one_equal missing)
+      one_either (is_some (found_text t selector)) (λ a. Behind stop a (Last a)) (λ a. a ≡ missing) (λ _. one_behind stop Last (one_equal (unchanged (plain 501 request.closes)))) (λ _. one_equal missing)
 
 -- ---- all in order
 
 module _ (root : List ℕ) (c : Content) (request : Request) where
-  one_put : (target : Target) → IsOne (λ a. Puts root c target request a)
-  one_put (Document id) = one_document_put c id request
-  one_put (Node id selector) = one_node_put c id request root selector (document_of c id)
-  one_put (Deep auid home) = one_equal (puts_deeper root auid home request)
-  one_put (Feed mode tag id) = λ a b p q. absurd p
-  one_put (ElementFeed tag id selector raw) = λ a b p q. absurd p
-  one_put (Flat id service) = λ a b p q. absurd p
+  -- what can only be read isn't written
+  one_put : (target : Target) (usage : Usage) → takes target Put ≡ true → IsOne (λ a. Puts root c target usage request a)
+  one_put (Document id) usage written = one_document_put c id request usage
+  one_put (Node id selector) usage written = one_node_put c id request root usage selector (version_of c id)
+  one_put (Deep auid home) usage written = one_equal (puts_deeper root auid home request)
+  one_put (Feed mode tag id) usage written = let none : ⊥ = cc in absurd none
+  one_put (ElementFeed tag id selector raw) usage written = let none : ⊥ = cc in absurd none
+  one_put (Flat id service) usage written = let none : ⊥ = cc in absurd none
 
-  one_deleted : (target : Target) → IsOne (λ a. Deletes c target request a)
-  one_deleted (Document id) = one_document_deleted c id request (document_of c id)
-  one_deleted (Node id selector) = one_node_deleted c id request selector (document_of c id)
-  one_deleted (Deep auid home) = one_equal (unchanged (plain 404 request.closes))
-  one_deleted (Feed mode tag id) = λ a b p q. absurd p
-  one_deleted (ElementFeed tag id selector raw) = λ a b p q. absurd p
-  one_deleted (Flat id service) = λ a b p q. absurd p
+  one_deleted : (target : Target) (usage : Usage) → takes target Delete ≡ true → IsOne (λ a. Deletes c target usage request a)
+  one_deleted (Document id) usage written = one_document_deleted c id request (version_of c id)
+  one_deleted (Node id selector) usage written = one_node_deleted c id request usage selector (version_of c id)
+  one_deleted (Deep auid home) usage written = one_equal (unchanged (plain 404 request.closes))
+  one_deleted (Feed mode tag id) usage written = let none : ⊥ = cc in absurd none
+  one_deleted (ElementFeed tag id selector raw) usage written = let none : ⊥ = cc in absurd none
+  one_deleted (Flat id service) usage written = let none : ⊥ = cc in absurd none
 
-  one_by_method : (target : Target) (method : Method) → IsOne (λ a. ByMethod root c target method request a)
-  one_by_method target Get a b p q = p ∙ sym q
-  one_by_method target Head a b p q = p ∙ sym q
-  one_by_method target Put a b p q = one_put target a b p q
-  one_by_method target Delete a b p q = one_deleted target a b p q
-  one_by_method target Other a b p q = p ∙ sym q
+  one_by_method : (target : Target) (method : Method) → takes target method ≡ true → IsOne (λ a. ByMethod root c target method request a)
+  one_by_method target Get takes_it = one_equal (unchanged (reads root c target Get request))
+  one_by_method target Head takes_it = one_equal (unchanged (reads root c target Head request))
+  one_by_method target Put takes_it = one_stored (usage_of (auid_of target)) request (λ usage a. Puts root c target usage request a) (λ usage. one_put target usage takes_it)
+  one_by_method target Delete takes_it = one_stored (usage_of (auid_of target)) request (λ usage a. Deletes c target usage request a) (λ usage. one_deleted target usage takes_it)
+  one_by_method target Other takes_it = let none : ⊥ = cc in absurd none
 
-  module _ (target : Target) (method : Method) where
-    abbrev Allowed : Answer → Type 0
-    Allowed a = ByUser root c target method request a
+  one_by_user : (target : Target) (method : Method) → takes target method ≡ true → IsOne (λ a. ByUser root c target method request a)
+  one_by_user target method takes_it =
+      one_either (is_allowed (not (is_reading method)) (auid_of target) (home_of target) request.fields) (λ a. ByMethod root c target method request a) (λ a. a ≡ unchanged (plain 403 request.closes))
+      (λ _. one_by_method target method takes_it) (λ _. one_equal (unchanged (plain 403 request.closes)))
 
-    abbrev Known : Answer → Type 0
-    Known a = MatchBool (is_built target) (Allowed a) (a ≡ unchanged (plain 501 request.closes))
-
-    abbrev Taken : Answer → Type 0
-    Taken a = MatchBool (is_known method) (Known a) (a ≡ unchanged (not_allowed false request.closes))
-
-    one_by_user : IsOne Allowed
-    one_by_user =
-        one_either (is_allowed (not (is_reading method)) (auid_of target) (home_of target) request.fields) (λ a. ByMethod root c target method request a) (λ a. a ≡ unchanged (plain 403 request.closes))
-        (one_by_method target method) (one_equal (unchanged (plain 403 request.closes)))
-
-    one_known : IsOne Known
-    one_known = one_either (is_built target) Allowed (λ a. a ≡ unchanged (plain 501 request.closes)) one_by_user (one_equal (unchanged (plain 501 request.closes)))
-
-    one_taken : IsOne Taken
-    one_taken = one_either (is_known method) Known (λ a. a ≡ unchanged (not_allowed false request.closes)) one_known (one_equal (unchanged (not_allowed false request.closes)))
-
-    one_by_target : IsOne (λ a. ByTarget root c target method request a)
-    one_by_target =
-        one_either (is_read_only target && not (is_reading method)) (λ a. a ≡ unchanged (not_allowed true request.closes)) Taken (one_equal (unchanged (not_allowed true request.closes))) one_taken
+  one_by_target : (target : Target) (method : Method) → IsOne (λ a. ByTarget root c target method request a)
+  one_by_target target method =
+      one_either (takes target method) (λ a. ByUser root c target method request a) (λ a. a ≡ unchanged (not_allowed (is_read_only target) request.closes))
+      (one_by_user target method) (λ _. one_equal (unchanged (not_allowed (is_read_only target) request.closes)))
 
   one_answered : (read : Result Target UriFault) → IsOne (λ a. IsAnswered root c read request a)
-  one_answered (Err fault) a b p q = p ∙ sym q
-  one_answered (Ok target) a b p q = one_by_target target (method_of request.method) a b p q
+  one_answered (Err fault) = one_equal (unchanged (plain (fault_status fault) request.closes))
+  one_answered (Ok target) = one_by_target target (method_of request.method)
+
+  exactly_one : IsOne (IsAnswer root c request)
+  exactly_one =
+      let read = some_target root request.target in
+      one_by (TargetAnswer root request.target) (λ r a. IsAnswered root c r request a) read.0 read.1 (λ r is. one_target root request.target r read.0 is read.1) (one_answered read.0)
+
+pub some_answer : (root : List ℕ) (c : Content) (request : Request) → (a : Answer) × IsAnswer root c request a
+some_answer root c request = let one = exactly_one root c request in (one.answer, one.is)
 
 pub one_answer : (root : List ℕ) (c : Content) (request : Request) (a b : Answer) → IsAnswer root c request a → IsAnswer root c request b → a ≡ b
-one_answer root c request a b p q = one_answered root c request (target_read root request.target) a b p q
+one_answer root c request a b p q = let one = exactly_one root c request in one.only a p ∙ sym (one.only b q)

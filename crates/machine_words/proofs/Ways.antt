@@ -1,60 +1,62 @@
--- The two ways to answer a request: with a reply that tells no change, and nothing is changed; or with one that tells a change which may be
--- asked for and which the store makes.
-use Rattle.std.proofs.Common.{◌≡◌, ℕ, Bool, true, false, not, ◌&&◌, ◌||◌, ◌==◌, List, [], is_some, Option, None, Some, Result, Ok, Err, IfOk, inl, refl, sym, subst, ◌∙◌}
-use Rattle.std.specs.Bool.{MatchBool}
+-- The two ways to answer a request, each with a reply that closes where the request does: with one that tells no change, and nothing is
+-- changed; or with one that tells a change which may be asked for and which the store makes.
+use Rattle.std.proofs.Common.{◌≡◌, ℕ, Bool, true, false, not, ◌||◌, ◌==◌, List, [], is_some, Option, None, Some, Result, Ok, Err, IfOk, unwrap_or, refl, sym, subst, encode_utf8_all}
 use Rattle.xml_tree.specs.Tree.{Tree}
-use Rattle.tree_text.specs.Faults.{text_read}
+use Rattle.tree_text.specs.Faults.{TextAnswer}
+use Rattle.tree_text.specs.Printing.{document_print}
 use Rattle.tree_text.specs.declared.fault.TextFault.{TextFault}
-use Rattle.tree_text.proofs.ReadProper.{text_proper}
-use Rattle.usage_docs.specs.Clashes.{Unique}
-use Rattle.usage_docs.specs.Forms.{Constraints}
-use Rattle.usage_docs.specs.Validity.{Schema}
+use Rattle.tree_text.proofs.ReadProper.{answer_proper}
+use Rattle.usage_docs.specs.Judging.{Judged}
+use Rattle.usage_docs.specs.declared.judging.Fault.{Fault}
 use Rattle.doc_names.specs.Ids.{IsReadable}
 use Rattle.doc_names.specs.Usages.{usage_of}
 use Rattle.doc_names.specs.declared.usages.Usage.{Usage}
 use Rattle.doc_names.specs.declared.doc_id.DocId.{DocId}
 use Rattle.node_select.specs.declared.selector.Selector.{Selector}
-use Rattle.xcap_uri.specs.Targets.{IsReadableTarget, target_read, under_read, under_root}
+use Rattle.xcap_uri.specs.Ancestors.{ancestor_uri, home_uri}
+use Rattle.xcap_uri.specs.Targets.{IsReadableTarget, TargetAnswer}
 use Rattle.xcap_uri.specs.declared.fault.UriFault.{UriFault}
-use Rattle.xcap_uri.specs.declared.fault.UriFault.TheVariants.{OutsideRoot, UnknownAuid, BadShape, BadEscape, BadQuery, UnboundPrefix, BadSelector, NoMemory}
+use Rattle.xcap_uri.specs.declared.fault.UriFault.TheVariants.{OutsideRoot, UnknownAuid, BadShape, BadEscape, BadQuery, UnboundPrefix, BadSelector}
 use Rattle.xcap_uri.specs.declared.target.Target.{Target}
 use Rattle.xcap_uri.specs.declared.target.Target.TheVariants.{Document, Node, Deep, Feed, ElementFeed, Flat}
-use Rattle.xcap_uri.proofs.Nameable.{rest_ok}
-use Rattle.xcap_uri.specs.Ancestors.{ancestor_uri}
+use Rattle.xcap_uri.proofs.TargetAnswers.{readable_target}
 use Rattle.edit_ops.specs.declared.change.Change.{Change}
 use Rattle.edit_ops.specs.declared.change.Change.TheVariants.{RemoveDocument}
 use Rattle.notes.specs.Notes.{Note}
-use Rattle.reply_text.specs.Heads.{Sent}
+use Rattle.reply_text.specs.Heads.{Sent, plain}
+use Rattle.reply_text.specs.declared.media_types.Media.{Media}
 use Rattle.conflict_docs.specs.declared.conflicts.ErrorBody.{ErrorBody}
 use Rattle.conflict_docs.specs.declared.conflicts.ErrorBody.TheVariants as conflicts
 use Rattle.http_wire.specs.declared.request.Request.{Request}
+use Rattle.request_terms.specs.Conditions.{outcome_of, stopped_by}
 use Rattle.request_terms.specs.MediaTypes.{document_media, has_type}
-use Rattle.request_terms.specs.Methods.{method_of, is_known, is_reading}
+use Rattle.request_terms.specs.Methods.{method_of, is_reading}
 use Rattle.request_terms.specs.Rights.{is_allowed}
-use Rattle.request_terms.specs.Conditions.{outcome_of}
 use Rattle.request_terms.specs.declared.conditions.Outcome.{Outcome}
+use Rattle.request_terms.specs.declared.conditions.Outcome.TheVariants.{Unreadable, Go, NotModified, Failed}
 use Rattle.request_terms.specs.declared.method.Method.{Method}
 use Rattle.request_terms.specs.declared.method.Method.TheVariants.{Get, Head, Put, Delete, Other}
-use Rattle.node_texts.specs.Nodes.{found_text}
+use Rattle.node_texts.specs.Nodes.{encoded, found_text, node_media}
 use Rattle.node_texts.specs.Places.{has_place}
 use Rattle.store_core.specs.Asking.{Asks, MayBeFor}
 use Rattle.store_core.specs.Changing.{changing}
-use Rattle.store_core.specs.Held.{Content, Held}
+use Rattle.store_core.specs.Held.{Content}
 use Rattle.store_core.specs.Keeping.{IsUsers}
 use Rattle.store_core.specs.declared.refusal.StoreRefusal.{StoreRefusal}
 use Rattle.store_core.specs.declared.refusal.StoreRefusal.TheVariants as refusals
-use Rattle.machine_words.specs.Answers.{Answer, conflict, not_allowed, plain, tagged, unchanged}
-use Rattle.machine_words.specs.Requests.{ByMethod, ByTarget, ByUser, Deletes, IsAnswer, IsAnswered, Puts, auid_of, fault_status, home_of, is_built, is_read_only, reads}
-use Rattle.machine_words.specs.Resources.{document_of}
+use Rattle.machine_words.specs.Answers.{Answer, Behind, conflict, found, not_allowed, unchanged}
 use Rattle.machine_words.specs.Laws.{tells_change}
-use Rattle.machine_words.specs.Writing.{DeletesHeld, DeletesNodeOf, If, IsJudged, PutsBody, PutsDocument, PutsNodeOf, PutsText, by_judgement, delete_answer, put_answer, put_change, put_status, refused, sound, tag_of}
+use Rattle.machine_words.specs.Reading.{as_asked, document_reply, if_found, node_reply}
+use Rattle.machine_words.specs.Requests.{ByMethod, ByTarget, ByUser, Deletes, IsAnswer, IsAnswered, Puts, auid_of, fault_status, home_of, is_read_only, reads, takes}
+use Rattle.machine_words.specs.Resources.{Resource, absent, beyond_limit, there, resource, version_of}
+use Rattle.machine_words.specs.Writing.{CutsNode, DeletesDocumentIn, DeletesNodeIn, IfStored, PutsBody, PutsDocument, PutsFragment, PutsNodeIn, PutsSpelled, PutsText, by_judgement, change_answer, deleted_reply, fault_conflict, put_answer, put_change, put_reply, refused, store_answer, tag_of, text_conflict}
 use Rattle.machine_words.proofs.Asked.{asks_to_delete, asks_to_put, users_write}
-use Rattle.machine_words.proofs.Cases.{by_condition, either}
+use Rattle.machine_words.proofs.Cases.{either}
 
-pub data Way (method : Method) (c : Content) (a : Answer) : Type 0 where
-  stays : (reply : Sent) → tells_change method reply.status ≡ false → a ≡ unchanged reply → Way method c a
-  changes : (reply : Sent) → tells_change method reply.status ≡ true → (id : DocId) (change : Change) (note : Note) (next : Content) → Asks c id change → changing c id change ≡ Ok (note, next)
-      → a ≡ record { reply = reply; made = Some (id, note) } → Way method c a
+pub data Way (method : Method) (closes : Bool) (c : Content) (a : Answer) : Type 0 where
+  stays : (reply : Sent) → tells_change method reply.status ≡ false → reply.closes ≡ closes → a ≡ unchanged reply → Way method closes c a
+  changes : (reply : Sent) → tells_change method reply.status ≡ true → reply.closes ≡ closes → (id : DocId) (change : Change) (note : Note) (next : Content)
+      → Asks c id change → changing c id change ≡ Ok (note, next) → a ≡ record { reply = reply; made = Some (id, note) } → Way method closes c a
 
 -- ---- statuses that tell no change
 
@@ -70,174 +72,196 @@ tells_none Put status p q = neither (status == 200) (status == 201) p q
 tells_none Delete status p q = p
 tells_none Other status p q = refl
 
-module _ (method : Method) (c : Content) (a : Answer) where
-  refuses : (reply : Sent) → (reply.status == 200) ≡ false → (reply.status == 201) ≡ false → a ≡ unchanged reply → Way method c a
-  refuses reply p q is = stays reply (tells_none method reply.status p q) is
+module _ (method : Method) (c : Content) (request : Request) (a : Answer) where
+  refuses : (reply : Sent) → (reply.status == 200) ≡ false → (reply.status == 201) ≡ false → reply.closes ≡ request.closes → a ≡ unchanged reply → Way method request.closes c a
+  refuses reply p q closes is = stays reply (tells_none method reply.status p q) closes is
 
-  -- a condition that can't be read or doesn't hold, and what comes behind it
-  goes_on : (o : Outcome) (request : Request) (P : Type 0) → (P → Way method c a) → If o request a P → Way method c a
-  goes_on o request P so is = by_condition o request a P (refuses (plain 400 request.closes) refl refl) (refuses (plain 412 request.closes) refl refl) so is
+  -- a status alone
+  only : (status : ℕ) → (status == 200) ≡ false → (status == 201) ≡ false → a ≡ unchanged (plain status request.closes) → Way method request.closes c a
+  only status p q is = refuses (plain status request.closes) p q refl is
 
-  store_refuses : (refusal : StoreRefusal) (closes : Bool) → a ≡ refused refusal closes → Way method c a
-  store_refuses (refusals.ServiceTaken clash) closes is = refuses _ refl refl is
-  store_refuses (refusals.TooLarge len) closes is = refuses _ refl refl is
-  store_refuses refusals.TooMany closes is = refuses _ refl refl is
-  store_refuses (refusals.StoreFull total) closes is = refuses _ refl refl is
-  store_refuses refusals.NoNumber closes is = refuses _ refl refl is
-  store_refuses refusals.NoMemory closes is = refuses _ refl refl is
+  conflicts_so : (body : ErrorBody) → a ≡ unchanged (conflict body request.closes) → Way method request.closes c a
+  conflicts_so body is = refuses (conflict body request.closes) refl refl refl is
+
+  -- what a condition replies, and what comes behind it
+  behind : (o : Outcome) (tag : Option ℕ) (P : Type 0) → (P → Way method request.closes c a) → Behind (stopped_by o tag request.closes) a P → Way method request.closes c a
+  behind Unreadable tag P so is = refuses _ refl refl refl is
+  behind Go tag P so is = so is
+  behind NotModified tag P so is = refuses _ refl refl refl is
+  behind Failed tag P so is = refuses _ refl refl refl is
+
+  store_refuses : (refusal : StoreRefusal) → a ≡ unchanged (refused refusal request.closes) → Way method request.closes c a
+  store_refuses (refusals.ServiceTaken clash) is = refuses _ refl refl refl is
+  store_refuses (refusals.TooLarge len) is = refuses _ refl refl refl is
+  store_refuses refusals.TooMany is = refuses _ refl refl refl is
+  store_refuses (refusals.StoreFull total) is = refuses _ refl refl refl is
+  store_refuses refusals.NoNumber is = refuses _ refl refl refl is
+  store_refuses refusals.NoMemory is = refuses _ refl refl refl is
+
+  -- a change that may be asked for, where each reply to one that is made tells it
+  by_store : (id : DocId) (change : Change) (reply : Note → Sent) → Asks c id change → ((note : Note) → tells_change method (reply note).status ≡ true) → ((note : Note) → (reply note).closes ≡ request.closes)
+      → (made : Result (Note × Content) StoreRefusal) → changing c id change ≡ made → a ≡ store_answer id request.closes reply made → Way method request.closes c a
+  by_store id change reply asks tells closes (Err refusal) e is = store_refuses refusal is
+  by_store id change reply asks tells closes (Ok (note, next)) e is = changes (reply note) (tells note) (closes note) id change note next asks e is
+
+  no_usage : (u : Option Usage) (P : Usage → Type 0) → ((usage : Usage) → u ≡ Some usage → P usage → Way method request.closes c a) → IfStored u request a P → Way method request.closes c a
+  no_usage None P so is = only 403 refl refl is
+  no_usage (Some usage) P so is = so usage refl is
 
 -- ---- reading
 
-reads_only : (c : Content) (target : Target) (method : Method) (request : Request) → reads c target method request ≡ unchanged (reads c target method request).reply
-reads_only c (Document id) method request = refl
-reads_only c (Node id selector) method request = refl
-reads_only c (Deep auid home) method request = refl
-reads_only c (Feed mode tag id) method request = refl
-reads_only c (ElementFeed tag id selector raw) method request = refl
-reads_only c (Flat id service) method request = refl
+asked_closes : (method : Method) (reply : Sent) → (as_asked method reply).closes ≡ reply.closes
+asked_closes Get reply = refl
+asked_closes Head reply = refl
+asked_closes Put reply = refl
+asked_closes Delete reply = refl
+asked_closes Other reply = refl
+
+stop_closes : (o : Outcome) (tag : Option ℕ) (closes : Bool) (reply : Sent) → reply.closes ≡ closes → (unwrap_or (stopped_by o tag closes) reply).closes ≡ closes
+stop_closes Unreadable tag closes reply same = refl
+stop_closes Go tag closes reply same = same
+stop_closes NotModified tag closes reply same = refl
+stop_closes Failed tag closes reply same = refl
+
+found_closes : (text : Option (List ℕ)) (tag : ℕ) (media : Media) (method : Method) (request : Request) → (if_found text tag media method request).closes ≡ request.closes
+found_closes None tag media method request = refl
+found_closes (Some text) tag media method request =
+    stop_closes (outcome_of request.fields (Some tag) true true) (Some tag) request.closes (as_asked method (found (Some tag) media text request.closes)) (asked_closes method (found (Some tag) media text request.closes))
+
+document_closes : (r : Resource) (media : Media) (method : Method) (request : Request) → (document_reply r media method request).closes ≡ request.closes
+document_closes absent media method request = refl
+document_closes beyond_limit media method request = refl
+document_closes (there t tag) media method request = found_closes (Some (encode_utf8_all (document_print t))) tag media method request
+
+node_closes : (r : Resource) (selector : Selector) (method : Method) (request : Request) → (node_reply r selector method request).closes ≡ request.closes
+node_closes absent selector method request = refl
+node_closes beyond_limit selector method request = refl
+node_closes (there t tag) selector method request = found_closes (encoded (found_text t selector)) tag (node_media selector.end) method request
+
+reads_closes : (root : List ℕ) (c : Content) (target : Target) (method : Method) (request : Request) → (reads root c target method request).closes ≡ request.closes
+reads_closes root c (Document id) method request = document_closes (resource c id) (document_media id.auid) method request
+reads_closes root c (Node id selector) method request = node_closes (resource c id) selector method request
+reads_closes root c (Deep auid home) method request = refl
+reads_closes root c (Feed mode tag id) method request = refl
+reads_closes root c (ElementFeed tag id selector raw) method request = refl
+reads_closes root c (Flat id service) method request = refl
 
 -- ---- PUT
 
-status_tells : (held : Option Held) → tells_change Put (put_status held) ≡ true
-status_tells None = refl
-status_tells (Some h) = refl
+put_tells : (exists closes : Bool) (note : Note) → tells_change Put (put_reply exists closes note).status ≡ true
+put_tells true closes note = refl
+put_tells false closes note = refl
 
--- a tree that is judged to be sound is one
-judged_sound : (usage : Usage) (t : Tree) → IsJudged usage t None → Schema usage t × Constraints usage t × Unique usage t
-judged_sound usage t (sound valid formed unique) = (valid, formed, unique)
+put_closes : (exists closes : Bool) (note : Note) → (put_reply exists closes note).closes ≡ closes
+put_closes true closes note = refl
+put_closes false closes note = refl
 
 module _ (c : Content) (id : DocId) (request : Request) (a : Answer) where
-  stored : (change : Change) (held : Option Held) → Asks c id change → (made : Result (Note × Content) StoreRefusal) → changing c id change ≡ made → a ≡ put_answer id held request.closes made → Way Put c a
-  stored change held asks (Err refusal) e is = store_refuses Put c a refusal request.closes is
-  stored change held asks (Ok (note, next)) e is = changes (tagged (put_status held) note.next request.closes) (status_tells held) id change note next asks e is
+  module _ (readable : IsReadable id) (users : IsUsers id.home) (usage : Usage) (known : usage_of id.auid ≡ Some usage) where
+    judged : (t : Tree) → TextAnswer 64 [] request.body (Ok t) → (judgement : Option Fault) → Judged usage t judgement → a ≡ by_judgement judgement request.closes (put_answer c id request.closes t) → Way Put request.closes c a
+    judged t e (Some fault) j is = conflicts_so Put c request a (fault_conflict fault) is
+    judged t e None j is =
+        let exists = is_some (version_of c id) in
+        let good = answer_proper 64 [] request.body t e in
+        let may : MayBeFor (Some usage) t = record { proper = good.0; low = good.1; faultless = j } in
+        let asks = asks_to_put c id t readable users (subst (λ (x : Option Usage). MayBeFor x t) (sym known) may) in
+        by_store Put c request a id (put_change exists t) (put_reply exists request.closes) asks (put_tells exists request.closes) (put_closes exists request.closes) (changing c id (put_change exists t)) refl is
 
-  module _ (readable : IsReadable id) (users : IsUsers id.home) where
-    judged : (usage : Usage) (t : Tree) → usage_of id.auid ≡ Some usage → text_read 64 [] request.body ≡ Ok t → (judgement : Option ErrorBody) → IsJudged usage t judgement → a ≡ by_judgement c id judgement t request.closes → Way Put c a
-    judged usage t u e (Some body) j is = refuses Put c a (conflict body request.closes) refl refl is
-    judged usage t u e None j is =
-        let good = text_proper 64 [] request.body t (inl (sym e)) in
-        let three = judged_sound usage t j in
-        let may : MayBeFor (Some usage) t = record { proper = good.0; low = good.1; valid = three.0; formed = three.1; unique = three.2 } in
-        let asks = asks_to_put c id t readable users (subst (λ (x : Option Usage). MayBeFor x t) (sym u) may) (document_of c id) refl in
-        stored (put_change (document_of c id) t) (document_of c id) asks (changing c id (put_change (document_of c id) t)) refl is
+    text_put : (read : Result Tree TextFault) → TextAnswer 64 [] request.body read → PutsText usage read request.closes (put_answer c id request.closes) a → Way Put request.closes c a
+    text_put (Err fault) e is = conflicts_so Put c request a (text_conflict conflicts.NotWellFormed fault) is
+    text_put (Ok t) e (judgement, j, is) = judged t e judgement j is
 
-    text_put : (usage : Usage) → usage_of id.auid ≡ Some usage → (read : Result Tree TextFault) → text_read 64 [] request.body ≡ read → PutsText c id usage read request.closes a → Way Put c a
-    text_put usage u (Err fault) e is = refuses Put c a _ refl refl is
-    text_put usage u (Ok t) e (judgement, j, is) = judged usage t u e judgement j is
+    body_put : PutsBody usage (document_media id.auid) request (put_answer c id request.closes) a → Way Put request.closes c a
+    body_put is =
+        either (has_type (document_media id.auid) request.fields) (PutsSpelled usage request (put_answer c id request.closes) a) (a ≡ unchanged (plain 415 request.closes))
+        (λ _ spelled. text_put spelled.0 spelled.1 spelled.2) (λ _. only Put c request a 415 refl refl) is
 
-    body_put : (u : Option Usage) → usage_of id.auid ≡ u → PutsBody c id u request a → Way Put c a
-    body_put None u is = refuses Put c a (plain 403 request.closes) refl refl is
-    body_put (Some usage) u is =
-        either (has_type (document_media id.auid) request.fields) (PutsText c id usage (text_read 64 [] request.body) request.closes a) (a ≡ unchanged (plain 415 request.closes))
-        (λ _. text_put usage u (text_read 64 [] request.body) refl) (λ _. refuses Put c a (plain 415 request.closes) refl refl) is
-
-    document_put : PutsDocument c id request a → Way Put c a
+    document_put : PutsDocument c id usage request a → Way Put request.closes c a
     document_put is =
-        goes_on Put c a (outcome_of request.fields (tag_of (document_of c id)) (is_some (document_of c id)) false) request (PutsBody c id (usage_of id.auid) request a) (body_put (usage_of id.auid) refl) is
+        behind Put c request a (outcome_of request.fields (tag_of (version_of c id)) (is_some (version_of c id)) false) (tag_of (version_of c id)) (PutsBody usage (document_media id.auid) request (put_answer c id request.closes) a) body_put is
 
-  node_put : (root : List ℕ) (selector : Selector) (held : Option Held) → PutsNodeOf root id selector held request a → Way Put c a
-  node_put root selector None is = refuses Put c a _ refl refl is
-  node_put root selector (Some h) is =
-      let Goes : Type 0 = a ≡ unchanged (plain 501 request.closes) in
-      let Asked : Type 0 = If (outcome_of request.fields (Some h.tag) (is_some (found_text h.tree selector)) false) request a Goes in
-      let no_parent : Sent = conflict (conflicts.NoParent (ancestor_uri root id h.tree selector.steps)) request.closes in
-      either (has_place selector h.tree) Asked (a ≡ unchanged no_parent)
-      (λ _. goes_on Put c a (outcome_of request.fields (Some h.tag) (is_some (found_text h.tree selector)) false) request Goes (refuses Put c a (plain 501 request.closes) refl refl))
-      (λ _. refuses Put c a no_parent refl refl) is
+  node_put : (root : List ℕ) (usage : Usage) (selector : Selector) (version : Option (Tree × ℕ)) → PutsNodeIn root c id usage selector version request a → Way Put request.closes c a
+  node_put root usage selector None is = conflicts_so Put c request a (conflicts.NoParent (home_uri root id.auid id.home)) is
+  node_put root usage selector (Some (t, tag)) is =
+      let Last : Type 0 = PutsFragment c id usage selector t request a in
+      let outcome = outcome_of request.fields (Some tag) (is_some (found_text t selector)) false in
+      let no_parent : ErrorBody = conflicts.NoParent (ancestor_uri root id t selector.steps) in
+      either (has_place selector t) (Behind (stopped_by outcome (Some tag) request.closes) a Last) (a ≡ unchanged (conflict no_parent request.closes))
+      (λ _. behind Put c request a outcome (Some tag) Last (only Put c request a 501 refl refl)) (λ _. conflicts_so Put c request a no_parent) is
 
   -- ---- DELETE
 
-  taken_out : Asks c id RemoveDocument → (made : Result (Note × Content) StoreRefusal) → changing c id RemoveDocument ≡ made → a ≡ delete_answer id request.closes made → Way Delete c a
-  taken_out asks (Err refusal) e is = store_refuses Delete c a refusal request.closes is
-  taken_out asks (Ok (note, next)) e is = changes (plain 200 request.closes) refl id RemoveDocument note next asks e is
+  document_deleted : (version : Option (Tree × ℕ)) → version_of c id ≡ version → DeletesDocumentIn c id version request a → Way Delete request.closes c a
+  document_deleted None e is = only Delete c request a 404 refl refl is
+  document_deleted (Some (t, tag)) e is =
+      behind Delete c request a (outcome_of request.fields (Some tag) true false) (Some tag) (a ≡ change_answer c id RemoveDocument request.closes (deleted_reply request.closes))
+      (by_store Delete c request a id RemoveDocument (deleted_reply request.closes) (asks_to_delete c id t tag e) (λ note. refl) (λ note. refl) (changing c id RemoveDocument) refl) is
 
-  held_deleted : (held : Option Held) → document_of c id ≡ held → DeletesHeld c id held request a → Way Delete c a
-  held_deleted None e is = refuses Delete c a (plain 404 request.closes) refl refl is
-  held_deleted (Some h) e is =
-      goes_on Delete c a (outcome_of request.fields (Some h.tag) true false) request (a ≡ delete_answer id request.closes (changing c id RemoveDocument))
-      (taken_out (asks_to_delete c id h e) (changing c id RemoveDocument) refl) is
+  node_deleted : (usage : Usage) (selector : Selector) (version : Option (Tree × ℕ)) → DeletesNodeIn c id usage selector version request a → Way Delete request.closes c a
+  node_deleted usage selector None is = only Delete c request a 404 refl refl is
+  node_deleted usage selector (Some (t, tag)) is =
+      let Last : Type 0 = CutsNode c id usage selector t request a in
+      let outcome = outcome_of request.fields (Some tag) true false in
+      either (is_some (found_text t selector)) (Behind (stopped_by outcome (Some tag) request.closes) a Last) (a ≡ unchanged (plain 404 request.closes))
+      (λ _. behind Delete c request a outcome (Some tag) Last (only Delete c request a 501 refl refl)) (λ _. only Delete c request a 404 refl refl) is
 
-  node_deleted : (selector : Selector) (held : Option Held) → DeletesNodeOf selector held request a → Way Delete c a
-  node_deleted selector None is = refuses Delete c a (plain 404 request.closes) refl refl is
-  node_deleted selector (Some h) is =
-      let Goes : Type 0 = a ≡ unchanged (plain 501 request.closes) in
-      let Asked : Type 0 = If (outcome_of request.fields (Some h.tag) true false) request a Goes in
-      either (is_some (found_text h.tree selector)) Asked (a ≡ unchanged (plain 404 request.closes))
-      (λ _. goes_on Delete c a (outcome_of request.fields (Some h.tag) true false) request Goes (refuses Delete c a (plain 501 request.closes) refl refl))
-      (λ _. refuses Delete c a (plain 404 request.closes) refl refl) is
-
--- ---- by method
+-- ---- all in order
 
 module _ (root : List ℕ) (c : Content) (request : Request) (a : Answer) where
-  target_put : (target : Target) → IsReadableTarget target → IsUsers (home_of target) → Puts root c target request a → Way Put c a
-  target_put (Document id) readable users is = document_put c id request a readable users is
-  target_put (Node id selector) readable users is = node_put c id request a root selector (document_of c id) is
-  target_put (Deep auid home) readable users is = refuses Put c a _ refl refl is
-  target_put (Feed mode tag id) readable users is = absurd is
-  target_put (ElementFeed tag id selector raw) readable users is = absurd is
-  target_put (Flat id service) readable users is = absurd is
+  target_put : (target : Target) → IsReadableTarget target → IsUsers (home_of target) → (usage : Usage) → usage_of (auid_of target) ≡ Some usage → Puts root c target usage request a → Way Put request.closes c a
+  target_put (Document id) readable users usage known is = document_put c id request a readable users usage known is
+  target_put (Node id selector) readable users usage known is = node_put c id request a root usage selector (version_of c id) is
+  target_put (Deep auid home) readable users usage known is = conflicts_so Put c request a (conflicts.NoParent (home_uri root auid home)) is
+  target_put (Feed mode tag id) readable users usage known is = absurd is
+  target_put (ElementFeed tag id selector raw) readable users usage known is = absurd is
+  target_put (Flat id service) readable users usage known is = absurd is
 
-  target_deleted : (target : Target) → Deletes c target request a → Way Delete c a
-  target_deleted (Document id) is = held_deleted c id request a (document_of c id) refl is
-  target_deleted (Node id selector) is = node_deleted c id request a selector (document_of c id) is
-  target_deleted (Deep auid home) is = refuses Delete c a (plain 404 request.closes) refl refl is
-  target_deleted (Feed mode tag id) is = absurd is
-  target_deleted (ElementFeed tag id selector raw) is = absurd is
-  target_deleted (Flat id service) is = absurd is
+  target_deleted : (target : Target) (usage : Usage) → Deletes c target usage request a → Way Delete request.closes c a
+  target_deleted (Document id) usage is = document_deleted c id request a (version_of c id) refl is
+  target_deleted (Node id selector) usage is = node_deleted c id request a usage selector (version_of c id) is
+  target_deleted (Deep auid home) usage is = only Delete c request a 404 refl refl is
+  target_deleted (Feed mode tag id) usage is = absurd is
+  target_deleted (ElementFeed tag id selector raw) usage is = absurd is
+  target_deleted (Flat id service) usage is = absurd is
 
   method_way : (target : Target) (method : Method) → IsReadableTarget target → is_allowed (not (is_reading method)) (auid_of target) (home_of target) request.fields ≡ true
-      → ByMethod root c target method request a → Way method c a
-  method_way target Get readable allowed is = stays (reads c target Get request).reply refl (is ∙ reads_only c target Get request)
-  method_way target Head readable allowed is = stays (reads c target Head request).reply refl (is ∙ reads_only c target Head request)
-  method_way target Put readable allowed is = target_put target readable (users_write (auid_of target) (home_of target) request.fields allowed) is
-  method_way target Delete readable allowed is = target_deleted target is
-  method_way target Other readable allowed is = stays (not_allowed false request.closes) refl is
+      → ByMethod root c target method request a → Way method request.closes c a
+  method_way target Get readable allowed is = stays (reads root c target Get request) refl (reads_closes root c target Get request) is
+  method_way target Head readable allowed is = stays (reads root c target Head request) refl (reads_closes root c target Head request) is
+  method_way target Put readable allowed is =
+      no_usage Put c request a (usage_of (auid_of target)) (λ usage. Puts root c target usage request a)
+      (target_put target readable (users_write (auid_of target) (home_of target) request.fields allowed)) is
+  method_way target Delete readable allowed is =
+      no_usage Delete c request a (usage_of (auid_of target)) (λ usage. Deletes c target usage request a) (λ usage known. target_deleted target usage) is
+  method_way target Other readable allowed is = absurd is
 
-  -- ---- all in order
+  user_way : (target : Target) (method : Method) → IsReadableTarget target → ByUser root c target method request a → Way method request.closes c a
+  user_way target method readable is =
+      either (is_allowed (not (is_reading method)) (auid_of target) (home_of target) request.fields) (ByMethod root c target method request a) (a ≡ unchanged (plain 403 request.closes))
+      (method_way target method readable) (λ _. only method c request a 403 refl refl) is
 
-  module _ (target : Target) (method : Method) (readable : IsReadableTarget target) where
-    abbrev Allowed : Type 0
-    Allowed = ByUser root c target method request a
+  target_way : (target : Target) (method : Method) → IsReadableTarget target → ByTarget root c target method request a → Way method request.closes c a
+  target_way target method readable is =
+      either (takes target method) (ByUser root c target method request a) (a ≡ unchanged (not_allowed (is_read_only target) request.closes))
+      (λ _. user_way target method readable) (λ _. refuses method c request a (not_allowed (is_read_only target) request.closes) refl refl refl) is
 
-    abbrev Known : Type 0
-    Known = MatchBool (is_built target) Allowed (a ≡ unchanged (plain 501 request.closes))
+  fault_way : (fault : UriFault) (method : Method) → a ≡ unchanged (plain (fault_status fault) request.closes) → Way method request.closes c a
+  fault_way OutsideRoot method is = only method c request a 404 refl refl is
+  fault_way UnknownAuid method is = only method c request a 404 refl refl is
+  fault_way BadShape method is = only method c request a 400 refl refl is
+  fault_way BadEscape method is = only method c request a 400 refl refl is
+  fault_way BadQuery method is = only method c request a 400 refl refl is
+  fault_way UnboundPrefix method is = only method c request a 400 refl refl is
+  fault_way BadSelector method is = only method c request a 400 refl refl is
 
-    abbrev Taken : Type 0
-    Taken = MatchBool (is_known method) Known (a ≡ unchanged (not_allowed false request.closes))
-
-    user_way : Allowed → Way method c a
-    user_way is =
-        either (is_allowed (not (is_reading method)) (auid_of target) (home_of target) request.fields) (ByMethod root c target method request a) (a ≡ unchanged (plain 403 request.closes))
-        (method_way target method readable) (λ _. refuses method c a (plain 403 request.closes) refl refl) is
-
-    known_way : Known → Way method c a
-    known_way is = either (is_built target) Allowed (a ≡ unchanged (plain 501 request.closes)) (λ _. user_way) (λ _. refuses method c a (plain 501 request.closes) refl refl) is
-
-    taken_way : Taken → Way method c a
-    taken_way is = either (is_known method) Known (a ≡ unchanged (not_allowed false request.closes)) (λ _. known_way) (λ _. refuses method c a (not_allowed false request.closes) refl refl) is
-
-    target_way : ByTarget root c target method request a → Way method c a
-    target_way is =
-        either (is_read_only target && not (is_reading method)) (a ≡ unchanged (not_allowed true request.closes)) Taken (λ _. refuses method c a (not_allowed true request.closes) refl refl) (λ _. taken_way) is
-
-  fault_way : (fault : UriFault) (method : Method) → a ≡ unchanged (plain (fault_status fault) request.closes) → Way method c a
-  fault_way OutsideRoot method is = refuses method c a (plain 404 request.closes) refl refl is
-  fault_way UnknownAuid method is = refuses method c a (plain 404 request.closes) refl refl is
-  fault_way BadShape method is = refuses method c a (plain 400 request.closes) refl refl is
-  fault_way BadEscape method is = refuses method c a (plain 400 request.closes) refl refl is
-  fault_way BadQuery method is = refuses method c a (plain 400 request.closes) refl refl is
-  fault_way UnboundPrefix method is = refuses method c a (plain 400 request.closes) refl refl is
-  fault_way BadSelector method is = refuses method c a (plain 400 request.closes) refl refl is
-  fault_way NoMemory method is = refuses method c a (plain 503 request.closes) refl refl is
-
-  read_way : (read : Result Target UriFault) → IfOk read IsReadableTarget → IsAnswered root c read request a → Way (method_of request.method) c a
+  read_way : (read : Result Target UriFault) → IfOk read IsReadableTarget → IsAnswered root c read request a → Way (method_of request.method) request.closes c a
   read_way (Err fault) readable is = fault_way fault (method_of request.method) is
   read_way (Ok target) readable is = target_way target (method_of request.method) readable is
 
--- the ids in a target that is read can be named by an address
-readable_under : (rest : Option (List ℕ)) → IfOk (under_read rest) IsReadableTarget
-readable_under None = tt
-readable_under (Some rest) = rest_ok rest
+-- the ids in a target can be named by an address
+readable : (root target : List ℕ) (read : Result Target UriFault) → TargetAnswer root target read → IfOk read IsReadableTarget
+readable root target (Ok t) is = readable_target root target t is
+readable root target (Err fault) is = tt
 
-pub way_of : (root : List ℕ) (c : Content) (request : Request) (a : Answer) → IsAnswer root c request a → Way (method_of request.method) c a
-way_of root c request a is = read_way root c request a (target_read root request.target) (readable_under (under_root root request.target)) is
+pub way_of : (root : List ℕ) (c : Content) (request : Request) (a : Answer) → IsAnswer root c request a → Way (method_of request.method) request.closes c a
+way_of root c request a is = read_way root c request a is.0 (readable root request.target is.0 is.1) is.2

@@ -1,12 +1,12 @@
--- What a request is answered: a reply, and the change of a document that is made, if one is.
-use Rattle.std.specs.Prelude.{ℕ, Bool, List, [], length, Option, None, Some}
+-- What a request is answered: a reply, and the change of a document that is made, if one is. RFC 4825, sections 8 and 11.
+use Rattle.std.specs.Prelude.{◌≡◌, ℕ, Bool, List, [], length, Option, None, Some}
+use Rattle.conflict_docs.specs.Conflicts.{conflict_bytes}
+use Rattle.conflict_docs.specs.declared.conflicts.ErrorBody.{ErrorBody}
 use Rattle.doc_names.specs.declared.doc_id.DocId.{DocId}
 use Rattle.notes.specs.Notes.{Note}
 use Rattle.reply_text.specs.Heads.{Sent, sent, parts}
-use Rattle.conflict_docs.specs.Conflicts.{conflict_bytes}
 use Rattle.reply_text.specs.declared.media_types.Media.{Media}
 use Rattle.reply_text.specs.declared.media_types.Media.TheVariants as media
-use Rattle.conflict_docs.specs.declared.conflicts.ErrorBody.{ErrorBody}
 
 -- a change that is made: the document's name, and the note of the change
 abbrev pub Made : Type 0
@@ -20,13 +20,14 @@ pub record Answer : Type 0 where
 abbrev pub unchanged : Sent → Answer
 unchanged reply = record { reply = reply; made = None }
 
+-- a reply that stops the request, or what comes behind it
+abbrev pub Behind : Option Sent → Answer → Type 0 → Type 0
+Behind None a GoesOn = GoesOn
+Behind (Some reply) a GoesOn = a ≡ unchanged reply
+
 -- ---- replies
 
--- a status without tag and body
-abbrev pub plain : ℕ → Bool → Sent
-plain status closes = sent (parts status None None None 0 closes) []
-
--- the method isn't one of those that the resource takes
+-- the method isn't one of those that the resource takes (RFC 9110, section 15.5.6)
 abbrev pub not_allowed : Bool → Bool → Sent
 not_allowed read_only closes = sent (parts 405 None (Some read_only) None 0 closes) []
 
@@ -34,13 +35,13 @@ not_allowed read_only closes = sent (parts 405 None (Some read_only) None 0 clos
 abbrev pub conflict : ErrorBody → Bool → Sent
 conflict body closes = sent (parts 409 None None (Some media.Error) (length (conflict_bytes body)) closes) (conflict_bytes body)
 
--- a tag alone
+-- a status with the tag of a document (RFC 4825, section 8.5)
 abbrev pub tagged : ℕ → ℕ → Bool → Sent
 tagged status tag closes = sent (parts status (Some tag) None None 0 closes) []
 
--- a text of this media type
-abbrev pub found : ℕ → Media → List ℕ → Bool → Sent
-found tag m body closes = sent (parts 200 (Some tag) None (Some m) (length body) closes) body
+-- a text of this media type, with a tag where it is one of a document
+abbrev pub found : Option ℕ → Media → List ℕ → Bool → Sent
+found tag m body closes = sent (parts 200 tag None (Some m) (length body) closes) body
 
 -- the same without its body, for HEAD (RFC 9110, section 9.3.2)
 abbrev pub head_only : Sent → Sent

@@ -2,6 +2,7 @@
 -- it is to change nothing, and to do exactly one thing.
 use Rattle.std.specs.Prelude.{◌≡◌, ℕ, Bool, false, ◌||◌, ◌==◌, List, Option, None}
 use Rattle.notes.specs.declared.edit.Edit.{Edit}
+use Rattle.reply_text.specs.Heads.{Sent}
 use Rattle.http_wire.specs.declared.request.Request.{Request}
 use Rattle.request_terms.specs.declared.method.Method.{Method}
 use Rattle.request_terms.specs.declared.method.Method.TheVariants.{Get, Head, Put, Delete, Other}
@@ -26,7 +27,7 @@ AllowsOne {Reply} {Next} Is = (reply other : Reply) (next after : Next) (edit to
 
 -- a step that the machine makes from a state, on a request
 pub record HasStep (root : List ℕ) (m : State) (request : Request) : Type 0 where
-  pub reply : List ℕ
+  pub reply : Sent
   pub next : State
   pub edit : Option Edit
   pub step : Step root m request reply next edit

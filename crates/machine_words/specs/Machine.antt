@@ -1,19 +1,15 @@
 -- The machine: its state is that of all documents with all their versions, and its step answers one request.
-use Rattle.std.specs.Prelude.{◌≡◌, ℕ, List, map, Option, None, Some, option_map, Ok}
+use Rattle.std.specs.Prelude.{◌≡◌, ℕ, List, Option, None, Some, option_map}
 use Rattle.notes.specs.Recorded.{note_in}
 use Rattle.notes.specs.declared.edit.Edit.{Edit}
-use Rattle.reply_text.specs.Heads.{Sent, bytes_of}
+use Rattle.reply_text.specs.Heads.{Sent}
 use Rattle.http_wire.specs.declared.request.Request.{Request}
-use Rattle.store_core.specs.Asking.{Asks}
-use Rattle.store_core.specs.Changing.{after, changing, content_after}
-use Rattle.store_core.specs.Held.{Content, held_of}
+use Rattle.store_core.specs.Changing.{after, content_after}
+use Rattle.store_core.specs.Held.{Content, content_of}
+use Rattle.store_core.specs.Keeping.{Kept}
 use Rattle.store_core.specs.State.{State}
 use Rattle.machine_words.specs.Answers.{Answer, Made}
 use Rattle.machine_words.specs.Requests.{IsAnswer}
-
--- what is held in a state: of each document the tree and tag that it has now, and the notes that are retained
-abbrev pub held_in : State → Content
-held_in m = record { documents = map held_of m.documents; next = m.next }
 
 -- the state after a change, if one is made
 abbrev pub after_answer : State → Option Made → State
@@ -24,14 +20,19 @@ after_answer m (Some made) = after m made.0 made.1.change
 abbrev pub told_as : Edit → Made
 told_as e = (e.doc, note_in e.note)
 
--- The step of the machine of this root: in a state, a request is answered by these bytes, and then it is in this state, and tells this
+-- the answer that a reply is, with the change that is told, if one is
+abbrev pub answer_as : Sent → Option Edit → Answer
+answer_as reply edit = record { reply = reply; made = option_map told_as edit }
+
+-- The step of the machine of this root: in a state, a request is answered by this reply, and then it is in this state, and tells this
 -- change, if one was made.
-pub record Step (root : List ℕ) (m : State) (request : Request) (reply : List ℕ) (next : State) (edit : Option Edit) : Type 0 where
-  pub answer : Answer
-  pub is_answer : IsAnswer root (held_in m) request answer
-  pub replied : reply ≡ bytes_of answer.reply
-  pub goes_on : next ≡ after_answer m answer.made
-  pub told : option_map told_as edit ≡ answer.made
+pub record Step (root : List ℕ) (m : State) (request : Request) (reply : Sent) (next : State) (edit : Option Edit) : Type 0 where
+  pub answers : IsAnswer root (content_of m) request (answer_as reply edit)
+  pub goes_on : next ≡ after_answer m (option_map told_as edit)
+
+-- the same from a kept state to a kept state
+abbrev pub KeptStep : List ℕ → State → Request → Sent → State → Option Edit → Type 0
+KeptStep root m request reply next edit = Kept m × Step root m request reply next edit × Kept next
 
 -- ---- the same over what is held alone, which is all that an answer depends on
 
@@ -40,16 +41,7 @@ abbrev pub content_after_answer : Content → Option Made → Content
 content_after_answer c None = c
 content_after_answer c (Some made) = content_after c made.0 made.1.change
 
--- a change that is made is one that may be asked for, and the store makes it
-abbrev pub IsSound : Content → Option Made → Type 0
-IsSound c None = Unit {0}
-IsSound c (Some made) = Asks c made.0 made.1.change × (changing c made.0 made.1.change ≡ Ok (made.1, content_after c made.0 made.1.change))
-
--- Where this is held, an answer of this kind is given: this is replied, this is told, and then this is held.
-pub record Does (Is : Answer → Type 0) (c : Content) (reply : Sent) (edit : Option Edit) (next : Content) : Type 0 where
-  pub answer : Answer
-  pub is_answer : Is answer
-  pub replied : reply ≡ answer.reply
-  pub told : option_map told_as edit ≡ answer.made
-  pub sound : IsSound c answer.made
-  pub goes_on : next ≡ content_after_answer c answer.made
+-- Where this is held, a request is answered by this reply, this change is told, if one was made, and then this is held.
+pub record Does (root : List ℕ) (c : Content) (request : Request) (reply : Sent) (next : Content) (edit : Option Edit) : Type 0 where
+  pub answers : IsAnswer root c request (answer_as reply edit)
+  pub goes_on : next ≡ content_after_answer c (option_map told_as edit)

@@ -1,21 +1,20 @@
--- Requests that read. RFC 4825, section 8.1 (GET) with the conditions of RFC 9110, section 13. The tag of a node is its document's.
-use Rattle.std.specs.Prelude.{ℕ, Bool, true, List, Option, None, Some, encode_utf8_all}
+-- Requests that read. RFC 4825, section 8.3 (GET) with the conditions of RFC 9110, section 13. The tag of a node is its document's
+-- (RFC 4825, sections 7.11 and 8.5).
+use Rattle.std.specs.Prelude.{ℕ, true, List, Option, None, Some, unwrap_or, encode_utf8_all}
 use Rattle.tree_text.specs.Printing.{document_print}
 use Rattle.node_select.specs.declared.selector.Selector.{Selector}
 use Rattle.doc_names.specs.declared.doc_id.DocId.{DocId}
-use Rattle.reply_text.specs.Heads.{Sent}
+use Rattle.reply_text.specs.Heads.{Sent, plain}
 use Rattle.reply_text.specs.declared.media_types.Media.{Media}
 use Rattle.http_wire.specs.declared.request.Request.{Request}
+use Rattle.request_terms.specs.Conditions.{stop_of}
+use Rattle.request_terms.specs.MediaTypes.{document_media}
 use Rattle.request_terms.specs.declared.method.Method.{Method}
 use Rattle.request_terms.specs.declared.method.Method.TheVariants.{Get, Head, Put, Delete, Other}
-use Rattle.request_terms.specs.declared.conditions.Outcome.{Outcome}
-use Rattle.request_terms.specs.declared.conditions.Outcome.TheVariants.{Unreadable, Go, NotModified, Failed}
-use Rattle.request_terms.specs.Conditions.{outcome_of}
 use Rattle.node_texts.specs.Nodes.{encoded, found_text, node_media}
 use Rattle.store_core.specs.Held.{Content}
-use Rattle.machine_words.specs.Answers.{plain, tagged, found, head_only}
+use Rattle.machine_words.specs.Answers.{found, head_only}
 use Rattle.machine_words.specs.Resources.{Resource, absent, beyond_limit, there, resource}
-use Rattle.request_terms.specs.MediaTypes.{document_media}
 
 -- GET's reply, or its head
 abbrev pub as_asked : Method → Sent → Sent
@@ -25,17 +24,11 @@ as_asked Put reply = reply
 as_asked Delete reply = reply
 as_asked Other reply = reply
 
--- what was found is sent, unless a condition is against it
-abbrev pub by_outcome : Outcome → ℕ → Media → List ℕ → Method → Bool → Sent
-by_outcome Unreadable tag media text method closes = plain 400 closes
-by_outcome Go tag media text method closes = as_asked method (found tag media text closes)
-by_outcome NotModified tag media text method closes = tagged 304 tag closes
-by_outcome Failed tag media text method closes = plain 412 closes
-
+-- what is found in a document with this tag is sent, unless a condition stops the request
 abbrev pub if_found : Option (List ℕ) → ℕ → Media → Method → Request → Sent
 if_found None tag media method request = plain 404 request.closes
 if_found (Some text) tag media method request =
-    by_outcome (outcome_of request.fields (Some tag) true true) tag media text method request.closes
+    unwrap_or (stop_of request (Some tag) true true) (as_asked method (found (Some tag) media text request.closes))
 
 -- a document
 abbrev pub document_reply : Resource → Media → Method → Request → Sent

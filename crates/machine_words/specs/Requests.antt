@@ -1,26 +1,29 @@
 -- The answer to a request where documents are held: the first line that applies gives it. The target (RFC 4825, section 6), the method,
 -- the user, whether the resource is there (RFC 4825, section 8), the conditions (RFC 9110, section 13), and then reading or the change.
 -- The order of the lines is this server's own.
-use Rattle.std.specs.Prelude.{◌≡◌, ℕ, Bool, true, false, not, ◌&&◌, List, Result, Ok, Err}
+use Rattle.std.specs.Prelude.{◌≡◌, ℕ, Bool, true, false, not, List, Result, Ok, Err}
 use Rattle.std.specs.Bool.{MatchBool}
 use Rattle.node_select.specs.declared.selector.End.{End}
 use Rattle.node_select.specs.declared.selector.End.TheVariants.{Element, Attribute, Namespaces}
-use Rattle.xcap_uri.specs.Targets.{target_read}
+use Rattle.xcap_uri.specs.Targets.{TargetAnswer}
 use Rattle.doc_names.specs.declared.doc_id.Auid.{Auid}
 use Rattle.doc_names.specs.declared.doc_id.Home.{Home}
+use Rattle.doc_names.specs.Usages.{usage_of}
+use Rattle.doc_names.specs.declared.usages.Usage.{Usage}
+use Rattle.reply_text.specs.Heads.{Sent, plain}
 use Rattle.xcap_uri.specs.declared.fault.UriFault.{UriFault}
-use Rattle.xcap_uri.specs.declared.fault.UriFault.TheVariants.{OutsideRoot, UnknownAuid, BadShape, BadEscape, BadQuery, UnboundPrefix, BadSelector, NoMemory}
+use Rattle.xcap_uri.specs.declared.fault.UriFault.TheVariants.{OutsideRoot, UnknownAuid, BadShape, BadEscape, BadQuery, UnboundPrefix, BadSelector}
 use Rattle.xcap_uri.specs.declared.target.Target.{Target}
 use Rattle.xcap_uri.specs.declared.target.Target.TheVariants.{Document, Node, Deep, Feed, ElementFeed, Flat}
 use Rattle.http_wire.specs.declared.request.Request.{Request}
 use Rattle.request_terms.specs.declared.method.Method.{Method}
 use Rattle.request_terms.specs.declared.method.Method.TheVariants.{Get, Head, Put, Delete, Other}
-use Rattle.request_terms.specs.Methods.{method_of, is_reading, is_known}
+use Rattle.request_terms.specs.Methods.{method_of, is_reading}
 use Rattle.request_terms.specs.Rights.{is_allowed}
 use Rattle.store_core.specs.Held.{Content}
-use Rattle.machine_words.specs.Answers.{Answer, unchanged, plain, not_allowed}
+use Rattle.machine_words.specs.Answers.{Answer, unchanged, not_allowed}
 use Rattle.machine_words.specs.Reading.{reads_document, reads_node}
-use Rattle.machine_words.specs.Writing.{PutsDocument, PutsNode, puts_deeper, DeletesDocument, DeletesNode}
+use Rattle.machine_words.specs.Writing.{IfStored, PutsDocument, PutsNode, puts_deeper, DeletesDocument, DeletesNode}
 
 -- ---- the target
 
@@ -33,7 +36,6 @@ fault_status BadEscape = 400
 fault_status BadQuery = 400
 fault_status UnboundPrefix = 400
 fault_status BadSelector = 400
-fault_status NoMemory = 503
 
 -- bindings can't be put
 abbrev pub is_bindings : End → Bool
@@ -50,49 +52,41 @@ is_read_only (Feed mode tag id) = true
 is_read_only (ElementFeed tag id selector raw) = true
 is_read_only (Flat id service) = true
 
--- what this server answers today: documents and their nodes
-abbrev pub is_built : Target → Bool
-is_built (Document id) = true
-is_built (Node id selector) = true
-is_built (Deep auid home) = true
-is_built (Feed mode tag id) = false
-is_built (ElementFeed tag id selector raw) = false
-is_built (Flat id service) = false
+-- what a target takes of the methods
+abbrev pub takes : Target → Method → Bool
+takes target Get = true
+takes target Head = true
+takes target Put = not (is_read_only target)
+takes target Delete = not (is_read_only target)
+takes target Other = false
 
 -- ---- by method
 
 -- GET and HEAD; feeds and flat lists aren't read yet
-abbrev pub reads : Content → Target → Method → Request → Answer
-reads c (Document id) method request = unchanged (reads_document c id method request)
-reads c (Node id selector) method request = unchanged (reads_node c id selector method request)
-reads c (Deep auid home) method request = unchanged (plain 404 request.closes)
-reads c (Feed mode tag id) method request = unchanged (plain 501 request.closes)
-reads c (ElementFeed tag id selector raw) method request = unchanged (plain 501 request.closes)
-reads c (Flat id service) method request = unchanged (plain 501 request.closes)
+abbrev pub reads : List ℕ → Content → Target → Method → Request → Sent
+reads root c (Document id) method request = reads_document c id method request
+reads root c (Node id selector) method request = reads_node c id selector method request
+reads root c (Deep auid home) method request = plain 404 request.closes
+reads root c (Feed mode tag id) method request = plain 501 request.closes
+reads root c (ElementFeed tag id selector raw) method request = plain 501 request.closes
+reads root c (Flat id service) method request = plain 501 request.closes
 
 -- feeds and flat lists are read only, so they never come here
-abbrev pub Puts : List ℕ → Content → Target → Request → Answer → Type 0
-Puts root c (Document id) request a = PutsDocument c id request a
-Puts root c (Node id selector) request a = PutsNode root c id selector request a
-Puts root c (Deep auid home) request a = a ≡ puts_deeper root auid home request
-Puts root c (Feed mode tag id) request a = ⊥
-Puts root c (ElementFeed tag id selector raw) request a = ⊥
-Puts root c (Flat id service) request a = ⊥
+abbrev pub Puts : List ℕ → Content → Target → Usage → Request → Answer → Type 0
+Puts root c (Document id) usage request a = PutsDocument c id usage request a
+Puts root c (Node id selector) usage request a = PutsNode root c id usage selector request a
+Puts root c (Deep auid home) usage request a = a ≡ puts_deeper root auid home request
+Puts root c (Feed mode tag id) usage request a = ⊥
+Puts root c (ElementFeed tag id selector raw) usage request a = ⊥
+Puts root c (Flat id service) usage request a = ⊥
 
-abbrev pub Deletes : Content → Target → Request → Answer → Type 0
-Deletes c (Document id) request a = DeletesDocument c id request a
-Deletes c (Node id selector) request a = DeletesNode c id selector request a
-Deletes c (Deep auid home) request a = a ≡ unchanged (plain 404 request.closes)
-Deletes c (Feed mode tag id) request a = ⊥
-Deletes c (ElementFeed tag id selector raw) request a = ⊥
-Deletes c (Flat id service) request a = ⊥
-
-abbrev pub ByMethod : List ℕ → Content → Target → Method → Request → Answer → Type 0
-ByMethod root c target Get request a = a ≡ reads c target Get request
-ByMethod root c target Head request a = a ≡ reads c target Head request
-ByMethod root c target Put request a = Puts root c target request a
-ByMethod root c target Delete request a = Deletes c target request a
-ByMethod root c target Other request a = a ≡ unchanged (not_allowed false request.closes)
+abbrev pub Deletes : Content → Target → Usage → Request → Answer → Type 0
+Deletes c (Document id) usage request a = DeletesDocument c id request a
+Deletes c (Node id selector) usage request a = DeletesNode c id usage selector request a
+Deletes c (Deep auid home) usage request a = a ≡ unchanged (plain 404 request.closes)
+Deletes c (Feed mode tag id) usage request a = ⊥
+Deletes c (ElementFeed tag id selector raw) usage request a = ⊥
+Deletes c (Flat id service) usage request a = ⊥
 
 -- ---- all in order
 
@@ -113,25 +107,32 @@ home_of (Feed mode tag id) = id.home
 home_of (ElementFeed tag id selector raw) = id.home
 home_of (Flat id service) = id.home
 
+-- by its method, which the target takes
+abbrev pub ByMethod : List ℕ → Content → Target → Method → Request → Answer → Type 0
+ByMethod root c target Get request a = a ≡ unchanged (reads root c target Get request)
+ByMethod root c target Head request a = a ≡ unchanged (reads root c target Head request)
+ByMethod root c target Put request a = IfStored (usage_of (auid_of target)) request a (λ usage. Puts root c target usage request a)
+ByMethod root c target Delete request a = IfStored (usage_of (auid_of target)) request a (λ usage. Deletes c target usage request a)
+ByMethod root c target Other request a = ⊥
+
+-- who may read or write there
 abbrev pub ByUser : List ℕ → Content → Target → Method → Request → Answer → Type 0
 ByUser root c target method request a =
     MatchBool (is_allowed (not (is_reading method)) (auid_of target) (home_of target) request.fields)
     (ByMethod root c target method request a)
     (a ≡ unchanged (plain 403 request.closes))
 
--- the methods that the target takes, in two steps: what is read only, and then those that the server knows
+-- what the target takes
 abbrev pub ByTarget : List ℕ → Content → Target → Method → Request → Answer → Type 0
 ByTarget root c target method request a =
-    MatchBool (is_read_only target && not (is_reading method))
-    (a ≡ unchanged (not_allowed true request.closes))
-    (MatchBool (is_known method)
-    (MatchBool (is_built target) (ByUser root c target method request a) (a ≡ unchanged (plain 501 request.closes)))
-    (a ≡ unchanged (not_allowed false request.closes)))
+    MatchBool (takes target method)
+    (ByUser root c target method request a)
+    (a ≡ unchanged (not_allowed (is_read_only target) request.closes))
 
 abbrev pub IsAnswered : List ℕ → Content → Result Target UriFault → Request → Answer → Type 0
 IsAnswered root c (Err fault) request a = a ≡ unchanged (plain (fault_status fault) request.closes)
 IsAnswered root c (Ok target) request a = ByTarget root c target (method_of request.method) request a
 
--- the answer to a request, under this root, where this is held
+-- the answer to a request, under this root, where this is held, by the answer that its target has
 abbrev pub IsAnswer : List ℕ → Content → Request → Answer → Type 0
-IsAnswer root c request a = IsAnswered root c (target_read root request.target) request a
+IsAnswer root c request a = (read : Result Target UriFault) × TargetAnswer root request.target read × IsAnswered root c read request a

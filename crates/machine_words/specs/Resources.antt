@@ -1,6 +1,6 @@
 -- What an address leads to. RFC 4825, section 6: a document. Those under `global` are computed (RFC 4825, section 12, and RFC 4826,
 -- section 4.4.7).
-use Rattle.std.specs.Prelude.{ℕ, ◌-◌, Bool, true, false, Option, None, Some, nat_lt, if◌then◌else◌}
+use Rattle.std.specs.Prelude.{ℕ, ◌-◌, Bool, true, false, Option, None, Some, option_map, nat_lt, if◌then◌else◌}
 use Rattle.std.specs.Str.{bytes_eq}
 use Rattle.xml_tree.specs.Tree.{Tree}
 use Rattle.usage_docs.specs.Services.{index_of_documents, document_len, index_limit}
@@ -14,9 +14,9 @@ use Rattle.store_core.specs.Changing.{document_in, held_name}
 use Rattle.store_core.specs.Held.{Content, Held}
 use Rattle.store_core.specs.Indexes.{index, index_trees}
 
--- the document of this name, if it is held
-abbrev pub document_of : Content → DocId → Option Held
-document_of c id = document_in held_name c.documents id
+-- the tree and the tag that the document of this name has now, if it is held
+abbrev pub version_of : Content → DocId → Option (Tree × ℕ)
+version_of c id = option_map {U = Tree × ℕ} (λ (h : Held). (h.tree, h.tag)) (document_in held_name c.documents id)
 
 -- nothing; a computed document that would be longer than the limit; or a document with its tag
 pub data Resource : Type 0 where
@@ -24,9 +24,9 @@ pub data Resource : Type 0 where
   beyond_limit : Resource
   there : Tree → ℕ → Resource
 
-abbrev pub if_held : Option Held → Resource
+abbrev pub if_held : Option (Tree × ℕ) → Resource
 if_held None = absent
-if_held (Some h) = there h.tree h.tag
+if_held (Some (t, tag)) = there t tag
 
 abbrev pub if_within_limit : Tree → ℕ → Resource
 if_within_limit t tag = if nat_lt index_limit (document_len t) then beyond_limit else there t tag
@@ -41,7 +41,7 @@ global_resource c XcapCaps true = there capabilities 0
 
 abbrev pub resource_in : Content → DocId → Home → Resource
 resource_in c id Global = global_resource c id.auid (bytes_eq id.name index)
-resource_in c id (User xui) = if_held (document_of c id)
+resource_in c id (User xui) = if_held (version_of c id)
 
 abbrev pub resource : Content → DocId → Resource
 resource c id = resource_in c id id.home

@@ -1,70 +1,71 @@
--- Requests that write. RFC 4825, sections 8.2 (PUT) and 8.4 (DELETE), with the conflicts of section 11; the order of the tests is this
--- server's own. Nodes aren't written yet.
-use Rattle.std.specs.Prelude.{◌≡◌, ℕ, Bool, true, false, List, [], ◌++◌, codes, is_some, Option, None, Some, Result, Ok, Err}
+-- Requests that write. RFC 4825, sections 8.2 (PUT) and 8.4 (DELETE), with the conflicts of section 11 and the entity tags of section
+-- 8.5; the order of the tests is this server's own. Nodes aren't written yet.
+use Rattle.std.specs.Prelude.{◌≡◌, ℕ, Bool, true, false, List, [], ◌++◌, codes, is_some, Option, None, Some, Result, Ok, Err, if◌then◌else◌}
 use Rattle.std.specs.Bool.{MatchBool}
+use Rattle.xml_tree.specs.PathTexts.{path_text}
 use Rattle.xml_tree.specs.Tree.{Tree}
-use Rattle.tree_text.specs.Faults.{text_read}
+use Rattle.tree_text.specs.Faults.{TextAnswer}
 use Rattle.tree_text.specs.declared.fault.TextFault.{TextFault}
 use Rattle.tree_text.specs.declared.fault.TextFault.TheVariants as texts
-use Rattle.usage_docs.specs.Clashes.{Unique, IsFirstClash}
-use Rattle.usage_docs.specs.Forms.{Constraints}
-use Rattle.usage_docs.specs.Validity.{Schema}
+use Rattle.usage_docs.specs.Judging.{Judged}
+use Rattle.usage_docs.specs.declared.judging.Fault.{Fault}
+use Rattle.usage_docs.specs.declared.judging.Fault.TheVariants.{Invalid, Unformed, Repeated}
 use Rattle.usage_docs.specs.declared.keys.Clash.{Clash}
 use Rattle.usage_docs.specs.declared.rows.Key.{Key}
 use Rattle.usage_docs.specs.declared.rows.Key.TheVariants.{Name, Uri, Ref, Anchor}
 use Rattle.doc_names.specs.declared.usages.Usage.{Usage}
-use Rattle.xml_tree.specs.PathTexts.{path_text}
-use Rattle.node_select.specs.declared.selector.Selector.{Selector}
 use Rattle.doc_names.specs.declared.doc_id.Auid.{Auid}
 use Rattle.doc_names.specs.declared.doc_id.Home.{Home}
 use Rattle.doc_names.specs.declared.doc_id.DocId.{DocId}
+use Rattle.node_select.specs.declared.selector.Selector.{Selector}
 use Rattle.edit_ops.specs.declared.change.Change.{Change}
 use Rattle.edit_ops.specs.declared.change.Change.TheVariants.{CreateDocument, Replace, RemoveDocument}
 use Rattle.notes.specs.Notes.{Note}
 use Rattle.conflict_docs.specs.declared.conflicts.ErrorBody.{ErrorBody}
 use Rattle.conflict_docs.specs.declared.conflicts.ErrorBody.TheVariants as conflicts
+use Rattle.reply_text.specs.Heads.{Sent, plain}
+use Rattle.reply_text.specs.declared.media_types.Media.{Media}
 use Rattle.http_wire.specs.declared.request.Request.{Request}
-use Rattle.request_terms.specs.declared.conditions.Outcome.{Outcome}
-use Rattle.request_terms.specs.declared.conditions.Outcome.TheVariants.{Unreadable, Go, NotModified, Failed}
-use Rattle.request_terms.specs.Conditions.{outcome_of}
-use Rattle.request_terms.specs.MediaTypes.{has_type}
+use Rattle.request_terms.specs.Conditions.{stop_of}
+use Rattle.request_terms.specs.MediaTypes.{document_media, has_type}
 use Rattle.node_texts.specs.Nodes.{found_text}
-use Rattle.xcap_uri.specs.Ancestors.{home_uri, ancestor_uri}
 use Rattle.node_texts.specs.Places.{has_place}
+use Rattle.xcap_uri.specs.Ancestors.{home_uri, ancestor_uri}
 use Rattle.store_core.specs.Changing.{changing}
-use Rattle.store_core.specs.Held.{Content, Held}
-use Rattle.doc_names.specs.Usages.{usage_of}
+use Rattle.store_core.specs.Held.{Content}
 use Rattle.store_core.specs.declared.refusal.StoreRefusal.{StoreRefusal}
 use Rattle.store_core.specs.declared.refusal.StoreRefusal.TheVariants.{ServiceTaken, TooLarge, TooMany, StoreFull, NoNumber, NoMemory}
-use Rattle.machine_words.specs.Answers.{Answer, unchanged, plain, conflict, tagged}
-use Rattle.machine_words.specs.Resources.{document_of}
-use Rattle.request_terms.specs.MediaTypes.{document_media}
+use Rattle.machine_words.specs.Answers.{Answer, Behind, unchanged, conflict, tagged}
+use Rattle.machine_words.specs.Resources.{version_of}
 
--- ---- conditions
+-- ---- what stops a request that writes
 
--- the request is looked at further, or the reply to a condition that can't be read or doesn't hold
-abbrev pub If : Outcome → Request → Answer → Type 0 → Type 0
-If Unreadable request a goes_on = a ≡ unchanged (plain 400 request.closes)
-If Go request a goes_on = goes_on
-If NotModified request a goes_on = a ≡ unchanged (plain 412 request.closes)
-If Failed request a goes_on = a ≡ unchanged (plain 412 request.closes)
+-- the reply to its conditions: the document's tag, if it is held, and whether the resource is there
+abbrev pub write_stop : Request → Option ℕ → Bool → Option Sent
+write_stop request tag exists = stop_of request tag exists false
 
 -- the tag of a document, if it is held
-abbrev pub tag_of : Option Held → Option ℕ
+abbrev pub tag_of : Option (Tree × ℕ) → Option ℕ
 tag_of None = None
-tag_of (Some h) = Some h.tag
+tag_of (Some (t, tag)) = Some tag
 
--- ---- the text is a document of the usage
+-- in a usage that stores no documents nothing is written
+abbrev pub IfStored : Option Usage → Request → Answer → (Usage → Type 0) → Type 0
+IfStored None request a Writes = a ≡ unchanged (plain 403 request.closes)
+IfStored (Some usage) request a Writes = Writes usage
 
--- a text that is no document
-abbrev pub text_conflict : TextFault → ErrorBody
-text_conflict texts.NotUtf8 = conflicts.NotUtf8
-text_conflict (texts.NotWellFormed place) = conflicts.NotWellFormed
-text_conflict (texts.Doctype place) = conflicts.NotWellFormed
-text_conflict (texts.TooDeep place) = conflicts.NotWellFormed
-text_conflict (texts.Namespace place) = conflicts.NotWellFormed
-text_conflict (texts.RepeatedAttribute place) = conflicts.NotWellFormed
-text_conflict texts.NoMemory = conflicts.NotWellFormed
+-- ---- texts that can't be read
+
+-- a text isn't UTF-8, or has another fault, which each kind of resource has its own conflict for
+abbrev pub text_conflict : ErrorBody → TextFault → ErrorBody
+text_conflict malformed texts.NotUtf8 = conflicts.NotUtf8
+text_conflict malformed (texts.NotWellFormed place) = malformed
+text_conflict malformed (texts.Doctype place) = malformed
+text_conflict malformed (texts.TooDeep place) = malformed
+text_conflict malformed (texts.Namespace place) = malformed
+text_conflict malformed (texts.RepeatedAttribute place) = malformed
+
+-- ---- trees that are a document of the usage, or not
 
 -- the attribute that is a key
 abbrev pub key_word : Key → List ℕ
@@ -77,102 +78,134 @@ key_word Anchor = codes "anchor"
 abbrev pub clash_field : Clash → List ℕ
 clash_field clash = path_text clash.path ++ (codes "/@" ++ key_word clash.key)
 
--- the first of its faults that keeps a tree from being a document of the usage, or none
-pub data IsJudged (usage : Usage) (t : Tree) : Option ErrorBody → Type 0 where
-  invalid : (Schema usage t → ⊥) → IsJudged usage t (Some conflicts.Schema)
-  unformed : Schema usage t → (Constraints usage t → ⊥) → IsJudged usage t (Some conflicts.Constraint)
-  clashing : Schema usage t → Constraints usage t → (clash : Clash) → IsFirstClash usage t (Some clash)
-      → IsJudged usage t (Some (conflicts.Unique (clash_field clash)))
-  sound : Schema usage t → Constraints usage t → Unique usage t → IsJudged usage t None
+-- what a tree conflicts with that is no document of its usage
+abbrev pub fault_conflict : Fault → ErrorBody
+fault_conflict Invalid = conflicts.Schema
+fault_conflict Unformed = conflicts.Constraint
+fault_conflict (Repeated clash) = conflicts.Unique (clash_field clash)
+
+-- a tree with a fault is a conflict; one without is answered so
+abbrev pub by_judgement : Option Fault → Bool → Answer → Answer
+by_judgement None closes answer = answer
+by_judgement (Some fault) closes answer = unchanged (conflict (fault_conflict fault) closes)
+
+abbrev pub PutsTree : Usage → Tree → Bool → Answer → Answer → Type 0
+PutsTree usage t closes answer a =
+    (judgement : Option Fault) × Judged usage t judgement × (a ≡ by_judgement judgement closes answer)
 
 -- ---- what the store makes of a change
 
--- a service address that another document has is a conflict; the limits leave no room
-abbrev pub refused : StoreRefusal → Bool → Answer
-refused (ServiceTaken clash) closes = unchanged (conflict (conflicts.Unique (clash_field clash)) closes)
-refused (TooLarge len) closes = unchanged (plain 507 closes)
-refused TooMany closes = unchanged (plain 507 closes)
-refused (StoreFull total) closes = unchanged (plain 507 closes)
-refused NoNumber closes = unchanged (plain 507 closes)
-refused NoMemory closes = unchanged (plain 503 closes)
+-- a service address that another document has is a conflict; the limits leave no room (RFC 4918, section 11.5)
+abbrev pub refused : StoreRefusal → Bool → Sent
+refused (ServiceTaken clash) closes = conflict (conflicts.Unique (clash_field clash)) closes
+refused (TooLarge len) closes = plain 507 closes
+refused TooMany closes = plain 507 closes
+refused (StoreFull total) closes = plain 507 closes
+refused NoNumber closes = plain 507 closes
+refused NoMemory closes = plain 503 closes
 
--- a document that is put: it is new, or it takes the place of the one held
-abbrev pub put_change : Option Held → Tree → Change
-put_change None t = CreateDocument t
-put_change (Some h) t = Replace [] t
+-- a change that the store refuses, and one that it makes, whose note the reply goes by
+abbrev pub store_answer : DocId → Bool → (Note → Sent) → Result (Note × Content) StoreRefusal → Answer
+store_answer id closes reply (Err refusal) = unchanged (refused refusal closes)
+store_answer id closes reply (Ok (note, next)) = record { reply = reply note; made = Some (id, note) }
 
-abbrev pub put_status : Option Held → ℕ
-put_status None = 201
-put_status (Some h) = 200
+-- the answer to a change of a document
+abbrev pub change_answer : Content → DocId → Change → Bool → (Note → Sent) → Answer
+change_answer c id change closes reply = store_answer id closes reply (changing c id change)
 
--- the tag of what was put is its number
-abbrev pub put_answer : DocId → Option Held → Bool → Result (Note × Content) StoreRefusal → Answer
-put_answer id held closes (Err refusal) = refused refusal closes
-put_answer id held closes (Ok (note, next)) = record { reply = tagged (put_status held) note.next closes; made = Some (id, note) }
+-- what is put is new, or takes the place of what was there; the document's new tag is the number of the change
+abbrev pub put_reply : Bool → Bool → Note → Sent
+put_reply exists closes note = tagged (if exists then 200 else 201) note.next closes
 
--- a document that is deleted has no tag
-abbrev pub delete_answer : DocId → Bool → Result (Note × Content) StoreRefusal → Answer
-delete_answer id closes (Err refusal) = refused refusal closes
-delete_answer id closes (Ok (note, next)) = record { reply = plain 200 closes; made = Some (id, note) }
+-- ---- PUT of documents (RFC 4825, sections 8.2.2 to 8.2.5)
 
--- ---- PUT
+-- it takes the place of the one held, or it is new
+abbrev pub put_change : Bool → Tree → Change
+put_change true t = Replace [] t
+put_change false t = CreateDocument t
 
-abbrev pub by_judgement : Content → DocId → Option ErrorBody → Tree → Bool → Answer
-by_judgement c id (Some body) t closes = unchanged (conflict body closes)
-by_judgement c id None t closes = put_answer id (document_of c id) closes (changing c id (put_change (document_of c id) t))
+-- the answer to a tree that may be the document
+abbrev pub put_answer : Content → DocId → Bool → Tree → Answer
+put_answer c id closes t =
+    let exists = is_some (version_of c id) in
+    change_answer c id (put_change exists t) closes (put_reply exists closes)
 
 -- the answer to a text, which spells a tree or has a fault
-abbrev pub PutsText : Content → DocId → Usage → Result Tree TextFault → Bool → Answer → Type 0
-PutsText c id usage (Err fault) closes a = a ≡ unchanged (conflict (text_conflict fault) closes)
-PutsText c id usage (Ok t) closes a =
-    (judgement : Option ErrorBody) × IsJudged usage t judgement × (a ≡ by_judgement c id judgement t closes)
+abbrev pub PutsText : Usage → Result Tree TextFault → Bool → (Tree → Answer) → Answer → Type 0
+PutsText usage (Err fault) closes answer a = a ≡ unchanged (conflict (text_conflict conflicts.NotWellFormed fault) closes)
+PutsText usage (Ok t) closes answer a = PutsTree usage t closes (answer t) a
 
--- the body is of the usage's media type, and its text is read, at most 64 levels deep
-abbrev pub PutsBody : Content → DocId → Option Usage → Request → Answer → Type 0
-PutsBody c id None request a = a ≡ unchanged (plain 403 request.closes)
-PutsBody c id (Some usage) request a =
-    MatchBool (has_type (document_media id.auid) request.fields)
-    (PutsText c id usage (text_read 64 [] request.body) request.closes a)
+-- the answer to a body, by the tree of at most 64 levels that its text spells, or by the text's fault
+abbrev pub PutsSpelled : Usage → Request → (Tree → Answer) → Answer → Type 0
+PutsSpelled usage request answer a =
+    (read : Result Tree TextFault) × TextAnswer 64 [] request.body read × PutsText usage read request.closes answer a
+
+-- the body is of the usage's media type
+abbrev pub PutsBody : Usage → Media → Request → (Tree → Answer) → Answer → Type 0
+PutsBody usage media request answer a =
+    MatchBool (has_type media request.fields)
+    (PutsSpelled usage request answer a)
     (a ≡ unchanged (plain 415 request.closes))
 
-abbrev pub PutsDocument : Content → DocId → Request → Answer → Type 0
-PutsDocument c id request a =
-    If (outcome_of request.fields (tag_of (document_of c id)) (is_some (document_of c id)) false) request a
-    (PutsBody c id (usage_of id.auid) request a)
+abbrev pub PutsDocument : Content → DocId → Usage → Request → Answer → Type 0
+PutsDocument c id usage request a =
+    Behind (write_stop request (tag_of (version_of c id)) (is_some (version_of c id))) a
+    (PutsBody usage (document_media id.auid) request (put_answer c id request.closes) a)
 
--- a node of a document that is held, or not
-abbrev pub PutsNodeOf : List ℕ → DocId → Selector → Option Held → Request → Answer → Type 0
-PutsNodeOf root id selector None request a =
-    a ≡ unchanged (conflict (conflicts.NoParent (home_uri root id.auid id.home)) request.closes)
-PutsNodeOf root id selector (Some h) request a =
-    MatchBool (has_place selector h.tree)
-    (If (outcome_of request.fields (Some h.tag) (is_some (found_text h.tree selector)) false) request a
-    (a ≡ unchanged (plain 501 request.closes)))
-    (a ≡ unchanged (conflict (conflicts.NoParent (ancestor_uri root id h.tree selector.steps)) request.closes))
-
-abbrev pub PutsNode : List ℕ → Content → DocId → Selector → Request → Answer → Type 0
-PutsNode root c id selector request a = PutsNodeOf root id selector (document_of c id) request a
-
--- no document lies deeper than a home's own
+-- no document lies deeper than a home's own (RFC 4825, section 8.2.1)
 abbrev pub puts_deeper : List ℕ → Auid → Home → Request → Answer
 puts_deeper root auid home request = unchanged (conflict (conflicts.NoParent (home_uri root auid home)) request.closes)
 
--- ---- DELETE
+-- ---- PUT of nodes (RFC 4825, sections 8.2.1 to 8.2.5)
 
-abbrev pub DeletesHeld : Content → DocId → Option Held → Request → Answer → Type 0
-DeletesHeld c id None request a = a ≡ unchanged (plain 404 request.closes)
-DeletesHeld c id (Some h) request a =
-    If (outcome_of request.fields (Some h.tag) true false) request a (a ≡ delete_answer id request.closes (changing c id RemoveDocument))
+-- the body is put at the selector's place in the tree: not yet
+abbrev pub PutsFragment : Content → DocId → Usage → Selector → Tree → Request → Answer → Type 0
+PutsFragment c id usage selector t request a = a ≡ unchanged (plain 501 request.closes)
+
+-- a node of a document that is held with this tree and this tag
+abbrev pub PutsNodeOf : List ℕ → Content → DocId → Usage → Selector → Tree → ℕ → Request → Answer → Type 0
+PutsNodeOf root c id usage selector t tag request a =
+    MatchBool (has_place selector t)
+    (Behind (write_stop request (Some tag) (is_some (found_text t selector))) a (PutsFragment c id usage selector t request a))
+    (a ≡ unchanged (conflict (conflicts.NoParent (ancestor_uri root id t selector.steps)) request.closes))
+
+-- a node of a document that is held, or not
+abbrev pub PutsNodeIn : List ℕ → Content → DocId → Usage → Selector → Option (Tree × ℕ) → Request → Answer → Type 0
+PutsNodeIn root c id usage selector None request a = a ≡ puts_deeper root id.auid id.home request
+PutsNodeIn root c id usage selector (Some (t, tag)) request a = PutsNodeOf root c id usage selector t tag request a
+
+abbrev pub PutsNode : List ℕ → Content → DocId → Usage → Selector → Request → Answer → Type 0
+PutsNode root c id usage selector request a = PutsNodeIn root c id usage selector (version_of c id) request a
+
+-- ---- DELETE (RFC 4825, section 8.4)
+
+-- a document that was deleted has no tag
+abbrev pub deleted_reply : Bool → Note → Sent
+deleted_reply closes note = plain 200 closes
+
+-- a document that is held, or not
+abbrev pub DeletesDocumentIn : Content → DocId → Option (Tree × ℕ) → Request → Answer → Type 0
+DeletesDocumentIn c id None request a = a ≡ unchanged (plain 404 request.closes)
+DeletesDocumentIn c id (Some (t, tag)) request a =
+    Behind (write_stop request (Some tag) true) a (a ≡ change_answer c id RemoveDocument request.closes (deleted_reply request.closes))
 
 abbrev pub DeletesDocument : Content → DocId → Request → Answer → Type 0
-DeletesDocument c id request a = DeletesHeld c id (document_of c id) request a
+DeletesDocument c id request a = DeletesDocumentIn c id (version_of c id) request a
 
-abbrev pub DeletesNodeOf : Selector → Option Held → Request → Answer → Type 0
-DeletesNodeOf selector None request a = a ≡ unchanged (plain 404 request.closes)
-DeletesNodeOf selector (Some h) request a =
-    MatchBool (is_some (found_text h.tree selector))
-    (If (outcome_of request.fields (Some h.tag) true false) request a (a ≡ unchanged (plain 501 request.closes)))
+-- what the selector finds is taken out of the tree: not yet
+abbrev pub CutsNode : Content → DocId → Usage → Selector → Tree → Request → Answer → Type 0
+CutsNode c id usage selector t request a = a ≡ unchanged (plain 501 request.closes)
+
+-- a node of a document that is held with this tree and this tag
+abbrev pub DeletesNodeOf : Content → DocId → Usage → Selector → Tree → ℕ → Request → Answer → Type 0
+DeletesNodeOf c id usage selector t tag request a =
+    MatchBool (is_some (found_text t selector))
+    (Behind (write_stop request (Some tag) true) a (CutsNode c id usage selector t request a))
     (a ≡ unchanged (plain 404 request.closes))
 
-abbrev pub DeletesNode : Content → DocId → Selector → Request → Answer → Type 0
-DeletesNode c id selector request a = DeletesNodeOf selector (document_of c id) request a
+abbrev pub DeletesNodeIn : Content → DocId → Usage → Selector → Option (Tree × ℕ) → Request → Answer → Type 0
+DeletesNodeIn c id usage selector None request a = a ≡ unchanged (plain 404 request.closes)
+DeletesNodeIn c id usage selector (Some (t, tag)) request a = DeletesNodeOf c id usage selector t tag request a
+
+abbrev pub DeletesNode : Content → DocId → Usage → Selector → Request → Answer → Type 0
+DeletesNode c id usage selector request a = DeletesNodeIn c id usage selector (version_of c id) request a

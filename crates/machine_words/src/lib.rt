@@ -6,4 +6,7 @@
 
 mod laws;
 
-pub use laws::{each_request_has_one_answer, every_state_is_kept, what_is_refused_changes_nothing};
+pub use laws::{
+    each_reply_closes_as_its_request, each_request_has_one_answer, every_state_is_kept,
+    what_is_held_follows_the_machine, what_is_refused_changes_nothing,
+};

@@ -17,7 +17,7 @@ use Rattle.grammar_rules.proofs.Led.{led_word, led_behind, led_covers_rest, next
 use Rattle.grammar_rules.proofs.Fronts.{starts_is}
 use Rattle.grammar_rules.proofs.Shapes.{exact_behind, covers_by, covers_empty, covered_valued, covered_sequence, starts_behind}
 use Rattle.grammar_rules.proofs.Tests.{exact_either_head, exact_optional_head, failed_covers, heads_covers}
-use Rattle.grammar_rules.proofs.Whole.{ends, heads_ends, answers_whole}
+use Rattle.grammar_rules.proofs.Whole.{ends, heads_ends, answers_whole, told_alike}
 use Rattle.tree_text.specs.declared.kind.Kind.{Kind}
 use Rattle.tree_text.specs.Grammar.{qname}
 use Rattle.node_select.specs.Raw.{RawStep, AtAttribute, AtNamespaces, PatchAttribute, PatchChars}
@@ -28,7 +28,11 @@ use Rattle.xml_tree.specs.declared.names.Decl.{Decl}
 use Rattle.node_select.specs.declared.selector.Selector.{Selector}
 use Rattle.node_select.specs.declared.selector.PatchSelector.{PatchSelector}
 use Rattle.node_select.specs.declared.fault.SelectorFault.{SelectorFault}
-use Rattle.node_select.specs.Faults.{form, Answered, GrammarAnswers, IsSelectorAnswer, IsPatchSelectorAnswer, selector_read, patch_selector_read}
+use Rattle.tree_text.specs.Memory.{Answered}
+use Rattle.tree_text.specs.declared.fault.ReadError.{ReadError}
+use Rattle.tree_text.proofs.Answering.{answered_so}
+use Rattle.node_select.specs.Faults.{form, told, patch_told, IsSelectorAnswer, IsPatchSelectorAnswer}
+use Rattle.node_select.specs.readers.Whole.{selector_read, patch_selector_read}
 use Rattle.node_select.proofs.ExactParts.{Is, clash, other, exact_attribute, exact_position, lawful_attribute, lawful_position}
 use Rattle.node_select.proofs.StepFronts.{fronted_step}
 use Rattle.node_select.proofs.ExactSteps.{into_optional, and_left, exact_step, lawful_step, starts_step, read_covers}
@@ -303,10 +307,24 @@ pub patch_selector_answers : (text : List ℕ) → Answers form patch_selector t
 patch_selector_answers text = answers_whole lawful_patch_selector exact_patch_selector text
 
 -- ---- what is answered
-pub selector_answered : (bindings : List Decl) (default text : List ℕ) (r : Result Selector SelectorFault) → Answered (selector_read bindings default text) r → GrammarAnswers (IsSelectorAnswer bindings default text) r
-selector_answered bindings default text r (inl h) = inr (record { form_is = read_whole read_selector (chars text); by_grammar = selector_answers (chars text); is_told = h })
-selector_answered bindings default text r (inr h) = inl h
+pub selector_answer : (bindings : List Decl) (default text : List ℕ) → IsSelectorAnswer bindings default text (selector_read bindings default text)
+selector_answer bindings default text = record { form_is = read_whole read_selector (chars text); by_grammar = selector_answers (chars text); is_told = refl }
 
-pub patch_selector_answered : (bindings : List Decl) (default text : List ℕ) (r : Result PatchSelector SelectorFault) → Answered (patch_selector_read bindings default text) r → GrammarAnswers (IsPatchSelectorAnswer bindings default text) r
-patch_selector_answered bindings default text r (inl h) = inr (record { form_is = read_whole read_patch_selector (chars text); by_grammar = patch_selector_answers (chars text); is_told = h })
-patch_selector_answered bindings default text r (inr h) = inl h
+pub patch_selector_answer : (bindings : List Decl) (default text : List ℕ) → IsPatchSelectorAnswer bindings default text (patch_selector_read bindings default text)
+patch_selector_answer bindings default text = record { form_is = read_whole read_patch_selector (chars text); by_grammar = patch_selector_answers (chars text); is_told = refl }
+
+-- and nothing else
+pub one_selector : (bindings : List Decl) (default text : List ℕ) (a b : Result Selector SelectorFault) → IsSelectorAnswer bindings default text a → IsSelectorAnswer bindings default text b → a ≡ b
+one_selector bindings default text a b x y = x.is_told ∙ told_alike form selector (chars text) (told bindings default text) (λ kind other left k o same. refl) x.form_is y.form_is x.by_grammar y.by_grammar ∙ sym y.is_told
+
+pub one_patch_selector : (bindings : List Decl) (default text : List ℕ) (a b : Result PatchSelector SelectorFault) → IsPatchSelectorAnswer bindings default text a → IsPatchSelectorAnswer bindings default text b → a ≡ b
+one_patch_selector bindings default text a b x y = x.is_told ∙ told_alike form patch_selector (chars text) (patch_told bindings default text) (λ kind other left k o same. refl) x.form_is y.form_is x.by_grammar y.by_grammar ∙ sym y.is_told
+
+pub selector_answered : (bindings : List Decl) (default text : List ℕ) (r : Result Selector (ReadError SelectorFault)) → Answered (λ answer. answer ≡ selector_read bindings default text) r → Answered (IsSelectorAnswer bindings default text) r
+selector_answered bindings default text = answered_so (λ answer. answer ≡ selector_read bindings default text) (IsSelectorAnswer bindings default text)
+    (λ answer e. subst (IsSelectorAnswer bindings default text) (sym e) (selector_answer bindings default text))
+
+pub patch_selector_answered : (bindings : List Decl) (default text : List ℕ) (r : Result PatchSelector (ReadError SelectorFault)) → Answered (λ answer. answer ≡ patch_selector_read bindings default text) r
+    → Answered (IsPatchSelectorAnswer bindings default text) r
+patch_selector_answered bindings default text = answered_so (λ answer. answer ≡ patch_selector_read bindings default text) (IsPatchSelectorAnswer bindings default text)
+    (λ answer e. subst (IsPatchSelectorAnswer bindings default text) (sym e) (patch_selector_answer bindings default text))

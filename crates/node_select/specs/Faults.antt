@@ -1,17 +1,16 @@
 -- What reading a selector answers: the selector, or why there is none, with the byte at which that shows.
-use Rattle.std.specs.Prelude.{◌≡◌, ◌⊎◌, ℕ, ◌-◌, false, List, length, drop, Option, None, Some, Result, Ok, Err, encode_utf8_all}
+use Rattle.std.specs.Prelude.{◌≡◌, ℕ, ◌-◌, false, List, length, drop, Option, None, Some, Result, Ok, Err, encode_utf8_all}
 use Rattle.std.specs.Str.{chars}
-use Rattle.grammar_rules.specs.Reading.{Stop, Syntax, Faulty, read_whole}
+use Rattle.grammar_rules.specs.Reading.{Stop, Syntax, Faulty}
 use Rattle.grammar_rules.specs.Answers as grammar
 use Rattle.tree_text.specs.declared.kind.Kind.{Kind}
 use Rattle.xml_tree.specs.declared.names.Decl.{Decl}
 use Rattle.node_select.specs.declared.fault.SelectorFault.{SelectorFault}
-use Rattle.node_select.specs.declared.fault.SelectorFault.TheVariants.{BadSelector, UnboundPrefix, NoMemory}
+use Rattle.node_select.specs.declared.fault.SelectorFault.TheVariants.{BadSelector, UnboundPrefix}
 use Rattle.node_select.specs.declared.selector.Selector.{Selector}
 use Rattle.node_select.specs.declared.selector.PatchSelector.{PatchSelector}
 use Rattle.node_select.specs.Raw.{RawSelector, RawPatchSelector, selector_of, patch_selector_of, first_unbound, first_unbound_in_patch}
 use Rattle.node_select.specs.Grammar.{selector, patch_selector}
-use Rattle.node_select.specs.Reading as reading
 
 -- no kind of mark is a fault of the form
 abbrev pub form : grammar.Faults Kind
@@ -40,14 +39,6 @@ abbrev pub patch_told : List Decl → List ℕ → List ℕ → Result RawPatchS
 patch_told bindings default text (Ok raw) = meant text (first_unbound_in_patch bindings raw) (patch_selector_of bindings default raw)
 patch_told bindings default text (Err stop) = Err (BadSelector (stop_place text stop))
 
--- ---- computed
-
-abbrev pub selector_read : List Decl → List ℕ → List ℕ → Result Selector SelectorFault
-selector_read bindings default text = told bindings default text (read_whole reading.read_selector (chars text))
-
-abbrev pub patch_selector_read : List Decl → List ℕ → List ℕ → Result PatchSelector SelectorFault
-patch_selector_read bindings default text = patch_told bindings default text (read_whole reading.read_patch_selector (chars text))
-
 -- ---- by the grammar
 
 -- the answer that the grammar gives: the selector that the text spells and no other; behind the longest beginning `BadSelector`; else at the
@@ -61,11 +52,3 @@ pub record IsPatchSelectorAnswer (bindings : List Decl) (default text : List ℕ
   pub form_is : Result RawPatchSelector (Stop Kind)
   pub by_grammar : grammar.Answers form patch_selector (chars text) form_is
   pub is_told : answer ≡ patch_told bindings default text form_is
-
--- an answer, or want of memory
-abbrev pub Answered : {A : Type 0} → Result A SelectorFault → Result A SelectorFault → Type 0
-Answered stated r = (r ≡ stated) ⊎ (r ≡ Err NoMemory)
-
--- an answer by the grammar, or want of memory
-abbrev pub GrammarAnswers : {A : Type 0} → (Result A SelectorFault → Type 0) → Result A SelectorFault → Type 0
-GrammarAnswers by_grammar r = (r ≡ Err NoMemory) ⊎ by_grammar r

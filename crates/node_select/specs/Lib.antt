@@ -6,6 +6,7 @@ pub mod Members
 pub mod Names
 pub mod Raw
 pub mod Reading
+pub mod readers
 pub mod Selection
 pub mod Stops
 pub mod Views

@@ -1,6 +1,6 @@
 -- Reading functions, one for each rule of the grammar of selectors. A test of what comes next tells which member of a choice is read, and
 -- whether a repetition goes on.
-use Rattle.std.specs.Prelude.{ℕ, Bool, not, ◌&&◌, ◌||◌, ◌==◌, List, [], ◌∷◌, ◌++◌, Option, None, Some}
+use Rattle.std.specs.Prelude.{ℕ, Bool, not, ◌&&◌, ◌||◌, ◌==◌, codes, List, ◌++◌, Option, None, Some}
 use Rattle.xml_tree.specs.declared.names.Name.{Name}
 use Rattle.grammar_rules.specs.Digits.{is_digit}
 use Rattle.grammar_rules.specs.Reading.{Reader, head_is, starts, read_word, read_sequence, read_either, read_many, read_valued, read_sized, read_only, read_optional, read_between, read_some_of, read_before, read_behind, read_quoted}
@@ -54,7 +54,7 @@ abbrev pub slash_follows : List ℕ → Bool
 slash_follows = head_is (λ c. c == 47)
 
 abbrev pub namespace_axis : List ℕ
-namespace_axis = 110 ∷ 97 ∷ 109 ∷ 101 ∷ 115 ∷ 112 ∷ 97 ∷ 99 ∷ 101 ∷ 58 ∷ 58 ∷ []
+namespace_axis = codes "namespace::"
 
 abbrev pub step_follows : List ℕ → Bool
 step_follows t = slash_follows t && not (starts (slash ++ at_sign) t || starts (slash ++ namespace_axis) t)
@@ -78,7 +78,7 @@ read_selector = read_sequence (read_steps step_follows) (λ _. read_valued end_o
 
 -- `/`, and behind it neither an attribute nor `text(`
 abbrev pub text_call : List ℕ
-text_call = 116 ∷ 101 ∷ 120 ∷ 116 ∷ 40 ∷ []
+text_call = codes "text("
 
 abbrev pub patch_step_follows : List ℕ → Bool
 patch_step_follows t = slash_follows t && not (starts (slash ++ at_sign) t || starts (slash ++ text_call) t)

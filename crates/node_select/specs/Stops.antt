@@ -1,6 +1,8 @@
--- The faults that the code makes of why it stopped.
+-- The errors that the code makes of why it stopped.
 use Rattle.std.specs.Prelude.{◌≡◌, ℕ, ◌-◌, List, length}
 use Rattle.std.specs.Str.{chars}
+use Rattle.tree_text.specs.declared.fault.ReadError.{ReadError}
+use Rattle.tree_text.specs.declared.fault.ReadError.TheVariants.{Fault, NoMemory}
 use Rattle.tree_text.specs.declared.stop.Stop.{Stop}
 use Rattle.tree_text.specs.declared.stop.Stop.TheVariants as stops
 use Rattle.node_select.specs.declared.meaning.Unresolved.{Unresolved}
@@ -9,11 +11,11 @@ use Rattle.node_select.specs.declared.fault.SelectorFault.{SelectorFault}
 use Rattle.node_select.specs.declared.fault.SelectorFault.TheVariants as faults
 use Rattle.node_select.specs.Faults.{byte_of}
 
-abbrev pub Tells : List ℕ → Stop → SelectorFault → Type 0
-Tells text (stops.Syntax rest) fault = fault ≡ faults.BadSelector (byte_of text (length (chars text) - length rest.now))
-Tells text (stops.Faulty kind rest) fault = fault ≡ faults.BadSelector (byte_of text (length (chars text) - length rest.now))
-Tells text stops.Memory fault = fault ≡ faults.NoMemory
+abbrev pub Tells : List ℕ → Stop → ReadError SelectorFault → Type 0
+Tells text (stops.Syntax rest) error = error ≡ Fault (faults.BadSelector (byte_of text (length (chars text) - length rest.now)))
+Tells text (stops.Faulty kind rest) error = error ≡ Fault (faults.BadSelector (byte_of text (length (chars text) - length rest.now)))
+Tells text stops.Memory error = error ≡ NoMemory
 
-abbrev pub TellsUnresolved : List ℕ → Unresolved → SelectorFault → Type 0
-TellsUnresolved text (troubles.Prefix n) fault = fault ≡ faults.UnboundPrefix (byte_of text n)
-TellsUnresolved text troubles.Memory fault = fault ≡ faults.NoMemory
+abbrev pub TellsUnresolved : List ℕ → Unresolved → ReadError SelectorFault → Type 0
+TellsUnresolved text (troubles.Prefix n) error = error ≡ Fault (faults.UnboundPrefix (byte_of text n))
+TellsUnresolved text troubles.Memory error = error ≡ NoMemory

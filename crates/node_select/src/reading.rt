@@ -1,10 +1,12 @@
 //! Reading selectors.
-ghost use Rattle.std.specs.Prelude.{◌≡◌, ◌+◌, ◌-◌, ◌<◌, ◌^◌, length, map, IfOk, Err, chars, encode_utf8_all};
-ghost use Rattle.node_select.specs.Faults.{Answered, GrammarAnswers, IsPatchSelectorAnswer, IsSelectorAnswer, byte_of, patch_selector_read, selector_read};
+ghost use Rattle.std.specs.Prelude.{◌≡◌, ◌+◌, ◌-◌, ◌<◌, ◌^◌, length, map, IfOk, chars, encode_utf8_all};
+ghost use Rattle.tree_text.specs.Memory.{Answered};
+ghost use Rattle.node_select.specs.Faults.{IsPatchSelectorAnswer, IsSelectorAnswer, byte_of};
 ghost use Rattle.node_select.specs.Raw.{HasRoom, first_unbound, first_unbound_in_patch, patch_selector_of, selector_of};
 ghost use Rattle.node_select.specs.Views.{patch_selector_in, selector_in, step_in};
 ghost use Rattle.node_select.specs.Meaning.{Means};
 ghost use Rattle.node_select.specs.Stops.{Tells, TellsUnresolved};
+ghost use Rattle.node_select.specs.readers.Whole.{patch_selector_read, selector_read};
 
 use crate::bindings::Bindings;
 use crate::fault::SelectorFault;
@@ -13,7 +15,7 @@ use crate::meaning::{Unresolved, end, patch_end, steps};
 use crate::raw::{RawPatchSelector, RawSelector};
 use crate::selector::{PatchSelector, Selector};
 use std::alloc::{AllocError, Global};
-use tree_text::Stop;
+use tree_text::{ReadError, Stop};
 
 // The characters of a text.
 fn decoded(alloc: Global, text: &str) -> Result<Vec<char>, AllocError>
@@ -45,33 +47,35 @@ fn byte_of(text: &str, all: &[char], n: usize) -> usize
 }
 
 // Why a text hasn't the form of a selector.
-fn stopped(text: &str, all: &[char], stop: &Stop<'_>) -> SelectorFault
+fn stopped(text: &str, all: &[char], stop: &Stop<'_>) -> ReadError<SelectorFault>
     requires { all.now ≡ chars text.now }
     ensures { Tells text.now stop.now result }
 {
     match stop {
-        Stop::Syntax(rest) => SelectorFault::BadSelector(byte_of(
+        Stop::Syntax(rest) => ReadError::Fault(SelectorFault::BadSelector(byte_of(
             text,
             all,
             all.len().saturating_sub(rest.len()),
-        )),
-        Stop::Faulty(_, rest) => SelectorFault::BadSelector(byte_of(
+        ))),
+        Stop::Faulty(_, rest) => ReadError::Fault(SelectorFault::BadSelector(byte_of(
             text,
             all,
             all.len().saturating_sub(rest.len()),
-        )),
-        Stop::Memory => SelectorFault::NoMemory,
+        ))),
+        Stop::Memory => ReadError::NoMemory,
     }
 }
 
 // Why the names of a selector can't be resolved.
-fn unresolved(text: &str, all: &[char], why: &Unresolved) -> SelectorFault
+fn unresolved(text: &str, all: &[char], why: &Unresolved) -> ReadError<SelectorFault>
     requires { all.now ≡ chars text.now }
     ensures { TellsUnresolved text.now why.now result }
 {
     match why {
-        Unresolved::Prefix(n) => SelectorFault::UnboundPrefix(byte_of(text, all, *n)),
-        Unresolved::Memory => SelectorFault::NoMemory,
+        Unresolved::Prefix(n) => {
+            ReadError::Fault(SelectorFault::UnboundPrefix(byte_of(text, all, *n)))
+        }
+        Unresolved::Memory => ReadError::NoMemory,
     }
 }
 
@@ -111,8 +115,8 @@ fn selector_of_text(
     text: &str,
     bindings: &Bindings,
     default_uri: &str,
-) -> Result<Selector, SelectorFault>
-    ensures { Answered (selector_read bindings.now (chars default_uri.now) text.now) result }
+) -> Result<Selector, ReadError<SelectorFault>>
+    ensures { Answered (λ answer. answer ≡ selector_read bindings.now (chars default_uri.now) text.now) result }
 {
     let all = decoded(alloc, text)?;
     match raw_selector(alloc, &all) {
@@ -130,8 +134,8 @@ fn patch_selector_of_text(
     text: &str,
     bindings: &Bindings,
     default_uri: &str,
-) -> Result<PatchSelector, SelectorFault>
-    ensures { Answered (patch_selector_read bindings.now (chars default_uri.now) text.now) result }
+) -> Result<PatchSelector, ReadError<SelectorFault>>
+    ensures { Answered (λ answer. answer ≡ patch_selector_read bindings.now (chars default_uri.now) text.now) result }
 {
     let all = decoded(alloc, text)?;
     match raw_patch_selector(alloc, &all) {
@@ -154,9 +158,8 @@ pub fn read_selector(
     text: &str,
     bindings: &Bindings,
     default_uri: &str,
-) -> Result<Selector, SelectorFault>
-    ensures grammar { GrammarAnswers (IsSelectorAnswer bindings.now (chars default_uri.now) text.now) result }
-    ensures computed { Answered (selector_read bindings.now (chars default_uri.now) text.now) result }
+) -> Result<Selector, ReadError<SelectorFault>>
+    ensures answer_by_the_grammar { Answered (IsSelectorAnswer bindings.now (chars default_uri.now) text.now) result }
 {
     selector_of_text(alloc, text, bindings, default_uri)
 }
@@ -171,9 +174,8 @@ pub fn read_patch_selector(
     text: &str,
     bindings: &Bindings,
     default_uri: &str,
-) -> Result<PatchSelector, SelectorFault>
-    ensures grammar { GrammarAnswers (IsPatchSelectorAnswer bindings.now (chars default_uri.now) text.now) result }
-    ensures computed { Answered (patch_selector_read bindings.now (chars default_uri.now) text.now) result }
+) -> Result<PatchSelector, ReadError<SelectorFault>>
+    ensures answer_by_the_grammar { Answered (IsPatchSelectorAnswer bindings.now (chars default_uri.now) text.now) result }
 {
     patch_selector_of_text(alloc, text, bindings, default_uri)
 }

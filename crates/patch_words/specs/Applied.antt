@@ -13,7 +13,7 @@ use Rattle.xml_tree.specs.declared.names.Name.{Name}
 use Rattle.xml_tree.specs.declared.names.Decl.{Decl}
 use Rattle.xml_tree.specs.declared.names.Attr.{Attr}
 use Rattle.xml_tree.specs.declared.tree.Node.{Node}
-use Rattle.node_select.specs.Faults.{patch_selector_read}
+use Rattle.node_select.specs.readers.Whole.{patch_selector_read}
 use Rattle.node_select.specs.Names.{prefix_uri}
 use Rattle.node_select.specs.Selection.{is_attr, selected_in}
 use Rattle.node_select.specs.declared.fault.SelectorFault.{SelectorFault}

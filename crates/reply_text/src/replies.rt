@@ -1,7 +1,7 @@
 //! Replies (RFC 9112).
 ghost use Rattle.std.specs.Prelude.{◌≡◌, ◌≢◌, [], length, None, Some, IsTrue};
 ghost use Rattle.reply_text.specs.Statuses.{is_status};
-ghost use Rattle.reply_text.specs.Heads.{parts, head_of, sent};
+ghost use Rattle.reply_text.specs.Heads.{parts, head_of, plain, sent};
 
 use crate::heads::HeadText;
 use crate::media_types::Media;
@@ -59,7 +59,7 @@ impl Reply {
     pub fn fixed(status: u16, close: bool) -> Reply
         requires status { IsTrue (is_status status) }
         requires plain { (status ≢ 304) × (status ≢ 405) × (status ≢ 409) }
-        ensures { result ≡ sent (parts status None None None 0 close) [] }
+        ensures { result ≡ plain status close }
     {
         Reply {
             status,

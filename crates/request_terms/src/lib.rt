@@ -1,6 +1,6 @@
 //! What the head of a request asks.
-//! Promises upward: its method, whether it is allowed, whether its body is of a media type, and what its conditions make of it,
-//! each as a function of the head alone.
+//! Promises upward: its method, whether it is allowed, whether its body is of a media type, and what its conditions make of it and
+//! reply to it, each as a function of the head alone.
 //! The standards are RFC 9110, sections 8.3, 8.4, 9.3 and 13.2.2, and RFC 4825, section 8.
 #![tactic(auto)]
 
@@ -10,6 +10,7 @@ mod method;
 mod named;
 mod outcomes;
 mod rights;
+mod stops;
 
 pub use conditions::Outcome;
 pub use media_types::{document_media, has_type};
@@ -17,3 +18,4 @@ pub use method::Method;
 pub use outcomes::outcome;
 pub use rights::is_allowed;
 pub use std::alloc::AllocError as NoMemory;
+pub use stops::stop;

@@ -18,7 +18,7 @@ use Rattle.notes.specs.Notes.{Note, note_of}
 use Rattle.store_core.specs.declared.refusal.StoreRefusal.{StoreRefusal}
 use Rattle.store_core.specs.declared.refusal.StoreRefusal.TheVariants.{ServiceTaken, TooLarge, TooMany, StoreFull}
 use Rattle.store_core.specs.State.{Document, State, created, renewed}
-use Rattle.store_core.specs.Held.{Content, Held, Stands, held_of}
+use Rattle.store_core.specs.Held.{Content, Held, Stands, content_of, held_of}
 use Rattle.store_core.specs.Keeping.{AreApart, IsSoundFor, Kept, addresses, addresses_in}
 use Rattle.doc_names.specs.Usages.{usage_of}
 use Rattle.store_core.specs.Asking.{Asks, AsksAct, MayBeFor}
@@ -71,7 +71,7 @@ passes c id is_new t h =
 
 sound-of : (usage : Option Usage) (t : Tree) → MayBeFor usage t → document_len t ≤ 262144 → IsSoundFor usage t
 sound-of None t h s = absurd h
-sound-of (Some usage) t h s = record { proper = h.proper; low = h.low; valid = h.valid; formed = h.formed; unique = h.unique; short = s }
+sound-of (Some usage) t h s = record { proper = h.proper; low = h.low; faultless = h.faultless; short = s }
 
 -- ---- lists of documents
 
@@ -105,9 +105,6 @@ sum-mapped f h [] = refl
 sum-mapped f h (x ∷ xs) = omega (arith, sum-first f (h x) (map h xs), sum-first (λ e. f (h e)) x xs, sum-mapped f h xs)
 
 -- ---- what a store that stands for a state holds of the other documents
-
-abbrev pub content_of : State → Content
-content_of m = record { documents = map held_of m.documents; next = m.next }
 
 abbrev pub uris_of : Document → List (List ℕ)
 uris_of d = addresses_in d.id.auid d.now.tree
@@ -240,11 +237,7 @@ suits-of m id change k a x h =
     let s = suited m id change (act_of change) k a (not-refused (against (content_of m) id change found (act_of change)) (note_for (content_of m) id change found) (content_after (content_of m) id change) x h) in
     record { act = s.suits; services = s.services; few = s.few; room = s.room }
 
-pub stands-as : (c : Content) (m : State) → Stands c m → content_of m ≡ c
-stands-as c m s =
-    sym (ap (λ (ds : List Held). let made : Content = record { documents = ds; next = c.next } in made) s.documents ∙ ap (λ (n : ℕ). let made : Content = record { documents = map held_of m.documents; next = n } in made) s.next)
-
 pub accepted-suits : (c : Content) (m : State) (id : DocId) (change : Change) (x : Note × Content) → Stands c m → Kept m → Asks c id change → changing c id change ≡ Ok x → Suits m id change
 accepted-suits c m id change x s k a h =
-    let e = sym (stands-as c m s) in
+    let e : c ≡ content_of m = s in
     suits-of m id change k (subst (λ (d : Content). Asks d id change) e a) x (subst (λ (d : Content). changing d id change ≡ Ok x) e h)

@@ -17,7 +17,7 @@ use Rattle.notes.specs.Notes.{note_of}
 use Rattle.store_core.specs.declared.refusal.StoreRefusal.{StoreRefusal}
 use Rattle.store_core.specs.declared.refusal.StoreRefusal.TheVariants.{ServiceTaken, TooLarge, TooMany, StoreFull, NoNumber}
 use Rattle.store_core.specs.State.{Document, State, created, renewed}
-use Rattle.store_core.specs.Held.{Content, Held, Stands, held_of}
+use Rattle.store_core.specs.Held.{Content, Held, Stands, content_of, held_of}
 use Rattle.store_core.specs.Keeping.{AreApart, IsSoundFor, Kept, addresses, addresses_in}
 use Rattle.doc_names.specs.Usages.{usage_of}
 use Rattle.store_core.specs.Changing.{Act, Makes, Edits, Removes, act_of, after_act, against, against_number, against_tree, answered, changing, content_after, document_in, held_name, note_for, only_if, or_else, other_addresses, other_lengths, taken}
@@ -25,7 +25,7 @@ use Rattle.store_core.specs.Suiting.{Suits, SuitsAct}
 use Rattle.store_core.proofs.Apart.{none-filtered, one-exchanged, one-filtered}
 use Rattle.store_core.proofs.KeptAfter.{round}
 use Rattle.doc_names.proofs.SameIds.{id_exact}
-use Rattle.store_core.proofs.Accepted.{content_of, uris_of, length_of, rest, rest-addresses, rest-lengths, sum-put, sum-first, find-map, unfound, stands-as}
+use Rattle.store_core.proofs.Accepted.{uris_of, length_of, rest, rest-addresses, rest-lengths, sum-put, sum-first, find-map, unfound}
 use Rattle.store_core.proofs.Admitted.{apart-unmix, neither, no-more, not-told, not-yet, nothing-taken}
 
 admits-tree : (c : Content) (id : DocId) (is_new : Bool) (t : Tree) → AllByRecursion (λ uri. AllByRecursion (λ o. uri ≢ o) (other_addresses c id)) (addresses_in id.auid t) → document_len t ≤ 262144 → (is_new && nat_le 1000 (length c.documents)) ≡ false → other_lengths c id + document_len t ≤ 33554432 → against_tree c id is_new t ≡ None
@@ -109,5 +109,5 @@ pub suiting-made : (c : Content) (m : State) (id : DocId) (change : Change) → 
 suiting-made c m id change s k t number =
     let found = document_in held_name c.documents id in
     let h : against c id change found (act_of change) ≡ None =
-    subst (λ (d : Content). against d id change (document_in held_name d.documents id) (act_of change) ≡ None) (stands-as c m s) (admits m id change (act_of change) k t.act t.services t.few t.room number) in
+    subst (λ (d : Content). against d id change (document_in held_name d.documents id) (act_of change) ≡ None) (sym s) (admits m id change (act_of change) k t.act t.services t.few t.room number) in
     ap (λ (o : Option StoreRefusal). answered o (note_for c id change found) (content_after c id change)) h

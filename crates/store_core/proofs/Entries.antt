@@ -11,7 +11,7 @@ use Rattle.doc_names.specs.Same.{same_id}
 use Rattle.doc_names.specs.declared.doc_id.DocId.{DocId}
 use Rattle.store_core.specs.declared.entry.Entry.{Entry}
 use Rattle.store_core.specs.State.{Document, State}
-use Rattle.store_core.specs.Held.{Held, Stands, held_of}
+use Rattle.store_core.specs.Held.{Content, Held, Stands, held_of}
 use Rattle.store_core.specs.Keeping.{AreApart, IsKept, IsSoundFor, Kept, addresses, addresses_in}
 use Rattle.doc_names.specs.Usages.{usage_of}
 use Rattle.store_core.specs.Changing.{document_in, held_name}
@@ -139,7 +139,7 @@ each-tree P m es same by k =
 pub known : (es : List (DocId × Entry)) (last : ℕ) (m : State) → Stands (content_in es last) m → Kept m → Known es
 known es last m s k =
     let ds = m.documents in
-    let same : map held_in es ≡ map held_of ds = s.documents in
+    let same : map held_in es ≡ map held_of ds = ap (λ (c : Content). c.documents) s in
     let name : Held → DocId = λ h. h.id in
     let uris : Held → List (List ℕ) = λ h. addresses_in h.id.auid h.tree in
     let len : Held → ℕ = λ h. document_len h.tree in

@@ -8,8 +8,8 @@ use Rattle.std.proofs.lemmas.Slice.Eq.{bytes_eq-Decides}
 use Rattle.xml_tree.specs.Tree.{Tree, kids_of}
 use Rattle.xml_tree.specs.declared.names.Attr.{Attr}
 use Rattle.usage_docs.specs.Clashes.{Unique, mark, mark_of, inside}
-use Rattle.usage_docs.specs.Keys.{key_of, key_value, value_of}
-use Rattle.usage_docs.specs.Rows.{Scope, child_named, kind_of, own_space, root_kind, space_of}
+use Rattle.usage_docs.specs.Keys.{attribute_of, key_of, key_value, value_of}
+use Rattle.usage_docs.specs.Rows.{Scope, child_named, kind_of, model_of, own_space, root_kind, space_of, word_of}
 use Rattle.usage_docs.specs.Services.{service_uri, service_uris}
 use Rattle.usage_docs.specs.declared.keys.Clash.{Clash}
 use Rattle.usage_docs.specs.declared.rows.Kind.{Kind}
@@ -103,11 +103,11 @@ of-space true s kind h = child-of-root s kind h
 of-space false s kind h = cc
 
 kind-of-child : (c : Scope) (e : Tree) (kind : Kind) → kind_of RlsServices (inside c e) e.name ≡ Some kind → kind ≡ Service
-unfolding kind_of child_named
+unfolding kind_of child_named model_of word_of
 kind-of-child c e kind h = of-space (bytes_eq (space_of (inside c e) e.name) (own_space RlsServices)) (bytes_eq e.name.local (codes "service")) kind h
 
 key-of-service : (ats : List Attr) → key_value Service ats ≡ value_of Uri ats
-unfolding key_value key_of
+unfolding key_value key_of attribute_of
 key-of-service ats = refl
 
 marked-step : (o : Option Kind) (ats : List Attr) (u : List ℕ) → ((kind : Kind) → o ≡ Some kind → kind ≡ Service) → option_and_then (λ _. value_of Uri ats) o ≡ Some u → option_and_then (λ kind. option_map (mark kind) (key_value kind ats)) o ≡ Some (mark Service u)
@@ -124,7 +124,7 @@ mark-there c None u h = cc
 mark-there c (Some e) u h = service-mark c e u h
 
 services-apart : (t : Tree) → Unique usages.RlsServices t → AreApart (service_uris t)
-unfolding root_kind key_of
+unfolding root_kind key_of attribute_of
 services-apart t unique =
     let c : Scope = t.decls ∷ [] in
     found-apart (service_uri c) (kids_of t) (λ i j u l a b.
@@ -134,5 +134,5 @@ services-apart t unique =
 -- the addresses of a document are apart
 pub own-apart : (auid : Auid) (t : Tree) → MayBeFor (usage_of auid) t → AreApart (addresses_in auid t)
 own-apart ResourceLists t h = tt
-own-apart RlsUsage t h = services-apart t h.unique
+own-apart RlsUsage t h = services-apart t h.faultless.2
 own-apart XcapCaps t h = tt

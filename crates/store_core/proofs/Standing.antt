@@ -1,5 +1,5 @@
 -- What a store holds of a state follows a change of the state.
-use Rattle.std.proofs.Common.{◌≡◌, ℕ, ◌+◌, Bool, true, false, not, cond, List, [], ◌∷◌, ◌++◌, map, filter, refl, sym, ap, ◌∙◌}
+use Rattle.std.proofs.Common.{◌≡◌, ℕ, ◌+◌, Bool, true, false, not, cond, List, [], ◌∷◌, ◌++◌, map, filter, refl, sym, ap, ap₂, ◌∙◌}
 use Rattle.std.proofs.lemmas.List.{map-append, reverse-append}
 use Rattle.std.specs.List.{filter_map}
 use Rattle.doc_names.specs.declared.doc_id.DocId.{DocId}
@@ -9,7 +9,7 @@ use Rattle.edit_ops.specs.declared.change.Change.{Change}
 use Rattle.notes.specs.Notes.{Note, note_of}
 use Rattle.notes.specs.Operations.{weight}
 use Rattle.store_core.specs.State.{Document, State, versions, notes, retained, renewed, created}
-use Rattle.store_core.specs.Held.{Content, Held, Stands, held_of}
+use Rattle.store_core.specs.Held.{Content, Held, Stands, content_of, held_of}
 use Rattle.store_core.specs.Changing.{Act, Makes, Edits, Removes, act_of, after, after_act, content_after, content_after_act, held_after}
 use Rattle.store_core.proofs.Ends.{small_end-push}
 
@@ -48,30 +48,27 @@ held-renewed number change d =
 
 -- ---- all documents
 
-stood : (c : Content) (m : State) (id : DocId) (change : Change) (act : Act) → Stands c m → Stands (content_after_act c id change act) (after_act m id change act)
-stood c m id change (Makes root) s =
-    record {
-      documents =
-          ap (λ (n : ℕ). c.documents ++ held_of (created id n root) ∷ []) s.next
-          ∙ ap (λ (hs : List Held). hs ++ held_of (created id m.next root) ∷ []) s.documents
-          ∙ sym (map-append held_of m.documents (created id m.next root ∷ []));
-      next = ap (λ n. n + 1) s.next;
-    }
-stood c m id change Edits s =
-    record {
-      documents =
-          ap (λ (n : ℕ). map (λ (h : Held). cond (same_id id h.id) (held_after n change h) h) c.documents) s.next
-          ∙ ap (λ (hs : List Held). map (λ (h : Held). cond (same_id id h.id) (held_after m.next change h) h) hs) s.documents
-          ∙ sym (map-exchanged held_of (λ (d : Document). same_id id d.id) (λ (h : Held). same_id id h.id) (λ d. refl) (λ (d : Document). renewed m.next d (note_of d.now.tag m.next d.now.tree change)) (held_after m.next change) (held-renewed m.next change) m.documents);
-      next = ap (λ n. n + 1) s.next;
-    }
-stood c m id change Removes s =
-    record {
-      documents =
-          ap (λ (hs : List Held). filter (λ (h : Held). not (same_id id h.id)) hs) s.documents
-          ∙ sym (map-filtered held_of (λ (d : Document). not (same_id id d.id)) (λ (h : Held). not (same_id id h.id)) (λ d. refl) m.documents);
-      next = ap (λ n. n + 1) s.next;
-    }
+alike : (c d : Content) → c.documents ≡ d.documents → c.next ≡ d.next → c ≡ d
+alike c d documents next = ap₂ (λ (hs : List Held) (n : ℕ). let made : Content = record { documents = hs; next = n } in made) documents next
+
+stood : (c : Content) (m : State) (id : DocId) (change : Change) (act : Act) → c.documents ≡ map held_of m.documents → c.next ≡ m.next → Stands (content_after_act c id change act) (after_act m id change act)
+stood c m id change (Makes root) documents next =
+    alike (content_after_act c id change (Makes root)) (content_of (after_act m id change (Makes root)))
+    (ap (λ (n : ℕ). c.documents ++ held_of (created id n root) ∷ []) next
+    ∙ ap (λ (hs : List Held). hs ++ held_of (created id m.next root) ∷ []) documents
+    ∙ sym (map-append held_of m.documents (created id m.next root ∷ [])))
+    (ap (λ n. n + 1) next)
+stood c m id change Edits documents next =
+    alike (content_after_act c id change Edits) (content_of (after_act m id change Edits))
+    (ap (λ (n : ℕ). map (λ (h : Held). cond (same_id id h.id) (held_after n change h) h) c.documents) next
+    ∙ ap (λ (hs : List Held). map (λ (h : Held). cond (same_id id h.id) (held_after m.next change h) h) hs) documents
+    ∙ sym (map-exchanged held_of (λ (d : Document). same_id id d.id) (λ (h : Held). same_id id h.id) (λ d. refl) (λ (d : Document). renewed m.next d (note_of d.now.tag m.next d.now.tree change)) (held_after m.next change) (held-renewed m.next change) m.documents))
+    (ap (λ n. n + 1) next)
+stood c m id change Removes documents next =
+    alike (content_after_act c id change Removes) (content_of (after_act m id change Removes))
+    (ap (λ (hs : List Held). filter (λ (h : Held). not (same_id id h.id)) hs) documents
+    ∙ sym (map-filtered held_of (λ (d : Document). not (same_id id d.id)) (λ (h : Held). not (same_id id h.id)) (λ d. refl) m.documents))
+    (ap (λ n. n + 1) next)
 
 pub stands-after : (c : Content) (m : State) (id : DocId) (change : Change) → Stands c m → Stands (content_after c id change) (after m id change)
-stands-after c m id change s = stood c m id change (act_of change) s
+stands-after c m id change s = stood c m id change (act_of change) (ap (λ (x : Content). x.documents) s) (ap (λ (x : Content). x.next) s)

@@ -305,7 +305,7 @@ first-storing es rs first last none empty h e =
     subst (λ (ds : List Row). IsStoring ds rs last 0) (sym none)
     (subst (λ (us : List (List ℕ × ℕ)). IsStoring [] us last 0) (sym empty)
     (record {
-      kept = (first_state first, record { documents = refl; next = e }, kept-first first h);
+      kept = (first_state first, ap (λ (n : ℕ). let made : Content = record { documents = []; next = n } in made) e, kept-first first h);
       addresses = λ uri. refl;
       numbers = tt;
       given = tt;

@@ -3,9 +3,7 @@
 use Rattle.std.specs.Prelude.{◌≡◌, ◌≤◌, [], Option, None, Some, IsSome, IsSomeAnd}
 use Rattle.xml_tree.specs.Tree.{Tree, height}
 use Rattle.xml_tree.specs.Proper.{ProperIn}
-use Rattle.usage_docs.specs.Clashes.{Unique}
-use Rattle.usage_docs.specs.Forms.{Constraints}
-use Rattle.usage_docs.specs.Validity.{Schema}
+use Rattle.usage_docs.specs.Judging.{Judged}
 use Rattle.doc_names.specs.declared.usages.Usage.{Usage}
 use Rattle.doc_names.specs.Ids.{IsReadable}
 use Rattle.doc_names.specs.declared.doc_id.DocId.{DocId}
@@ -20,9 +18,7 @@ use Rattle.store_core.specs.Changing.{Act, Makes, Edits, Removes, act_of, docume
 pub record MayBe (usage : Usage) (t : Tree) : Type 0 where
   pub proper : ProperIn [] t
   pub low : height t ≤ 64
-  pub valid : Schema usage t
-  pub formed : Constraints usage t
-  pub unique : Unique usage t
+  pub faultless : Judged usage t None
 
 abbrev pub MayBeFor : Option Usage → Tree → Type 0
 MayBeFor None t = ⊥

@@ -1,5 +1,5 @@
 -- What a change of a document makes of the machine's state and of what a store holds of it, and why it may be refused.
--- RFC 4825, section 7.11 (a new entity tag for each change); RFC 4826, section 4.4.5 (service addresses are unique over all documents).
+-- RFC 4825, section 8.5 (a new entity tag for each change); RFC 4826, section 4.4.5 (service addresses are unique over all documents).
 use Rattle.std.specs.Prelude.{ℕ, ◌+◌, nat_lt, nat_le, min, Bool, true, false, not, ◌&&◌, List, [], ◌∷◌, ◌++◌, length, map, sum_by, filter, flat_map, find, position, Option, None, Some, option_map, if◌then◌else◌, Result, Ok, Err}
 use Rattle.std.specs.List.{list_any}
 use Rattle.std.specs.Str.{bytes_eq}

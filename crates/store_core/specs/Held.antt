@@ -20,7 +20,10 @@ pub record Content : Type 0 where
 abbrev pub held_of : Document → Held
 held_of d = record { id = d.id; tag = d.now.tag; tree = d.now.tree; notes = retained (notes d) }
 
--- the store stands for the state
-pub record Stands (store : Content) (state : State) : Type 0 where
-  pub documents : store.documents ≡ map held_of state.documents
-  pub next : store.next ≡ state.next
+-- what a store holds of a state
+abbrev pub content_of : State → Content
+content_of m = record { documents = map held_of m.documents; next = m.next }
+
+-- a store with this content stands for the state
+abbrev pub Stands : Content → State → Type 0
+Stands content state = content ≡ content_of state

@@ -3,10 +3,8 @@ use Rattle.std.specs.Prelude.{◌≡◌, ◌≢◌, ℕ, ◌<◌, ◌≤◌, Lis
 use Rattle.std.specs.List.{AllByRecursion}
 use Rattle.xml_tree.specs.Tree.{Tree, height}
 use Rattle.xml_tree.specs.Proper.{ProperIn}
-use Rattle.usage_docs.specs.Clashes.{Unique}
-use Rattle.usage_docs.specs.Forms.{Constraints}
+use Rattle.usage_docs.specs.Judging.{Judged}
 use Rattle.usage_docs.specs.Services.{document_len, service_uris}
-use Rattle.usage_docs.specs.Validity.{Schema}
 use Rattle.doc_names.specs.declared.usages.Usage.{Usage}
 use Rattle.doc_names.specs.Usages.{usage_of}
 use Rattle.doc_names.specs.Ids.{IsReadable}
@@ -35,9 +33,7 @@ IsUsers (User xui) = Unit {0}
 pub record IsSound (usage : Usage) (t : Tree) : Type 0 where
   pub proper : ProperIn [] t
   pub low : height t ≤ 64
-  pub valid : Schema usage t
-  pub formed : Constraints usage t
-  pub unique : Unique usage t
+  pub faultless : Judged usage t None
   pub short : document_len t ≤ 262144
 
 abbrev pub IsSoundFor : Option Usage → Tree → Type 0

@@ -5,6 +5,7 @@ use anyhow::{Context, Result, bail};
 use doc_names::{Auid, DocId, Home, print_doc_id};
 use std::alloc::Global;
 use table_cases::Field;
+use tree_text::ReadError;
 use xcap_uri::{Mode, Root, RootFault, Target, UriFault, read_root, read_target};
 
 /// The answers of the tables of addresses.
@@ -54,7 +55,8 @@ fn named(alloc: Global, root: &Root, target: &Field) -> Result<DocId> {
 fn meaning(alloc: Global, root: &Root, target: &[u8]) -> Result<String> {
     match read_target(alloc, root, target) {
         Ok(target) => shown_target(alloc, &target),
-        Err(fault) => Ok(String::from_str(alloc, fault_word(fault)?)?),
+        Err(ReadError::Fault(fault)) => Ok(String::from_str(alloc, fault_word(fault))?),
+        Err(ReadError::NoMemory) => bail!("no memory"),
     }
 }
 
@@ -119,8 +121,8 @@ fn mode_word(mode: Mode) -> &'static str {
     }
 }
 
-fn fault_word(fault: UriFault) -> Result<&'static str> {
-    Ok(match fault {
+fn fault_word(fault: UriFault) -> &'static str {
+    match fault {
         UriFault::OutsideRoot => "outside-root",
         UriFault::UnknownAuid => "unknown-auid",
         UriFault::BadShape => "bad-shape",
@@ -128,6 +130,5 @@ fn fault_word(fault: UriFault) -> Result<&'static str> {
         UriFault::BadQuery => "bad-query",
         UriFault::UnboundPrefix => "unbound-prefix",
         UriFault::BadSelector => "bad-selector",
-        UriFault::NoMemory => bail!("no memory"),
-    })
+    }
 }

@@ -9,6 +9,7 @@ use node_select::{
 };
 use std::alloc::Global;
 use table_cases::{Field, bindings, document, path};
+use tree_text::ReadError;
 use xml_tree::{Element, Scope, depth, print_path};
 
 /// The namespace of names without a prefix.
@@ -41,14 +42,16 @@ pub fn answer(alloc: Global, table: &str, inputs: &[Field]) -> Result<String> {
 fn read(alloc: Global, text: &str, bindings: &Bindings) -> Result<String> {
     match read_selector(alloc, text, bindings, LISTS) {
         Ok(selector) => shown(alloc, &selector.copy(alloc)?),
-        Err(fault) => selector_fault(alloc, &fault),
+        Err(ReadError::Fault(fault)) => selector_fault(alloc, &fault),
+        Err(ReadError::NoMemory) => bail!("no memory"),
     }
 }
 
 fn read_patch(alloc: Global, text: &str, bindings: &Bindings) -> Result<String> {
     match read_patch_selector(alloc, text, bindings, LISTS) {
         Ok(selector) => shown_patch(alloc, &selector),
-        Err(fault) => selector_fault(alloc, &fault),
+        Err(ReadError::Fault(fault)) => selector_fault(alloc, &fault),
+        Err(ReadError::NoMemory) => bail!("no memory"),
     }
 }
 
@@ -56,7 +59,6 @@ fn selector_fault(alloc: Global, fault: &SelectorFault) -> Result<String> {
     match fault {
         SelectorFault::BadSelector(place) => Ok(format!(in alloc; "bad-selector {place}")?),
         SelectorFault::UnboundPrefix(place) => Ok(format!(in alloc; "unbound-prefix {place}")?),
-        SelectorFault::NoMemory => bail!("no memory"),
     }
 }
 

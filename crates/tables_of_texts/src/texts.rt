@@ -5,8 +5,8 @@ use anyhow::{Context, Result, bail};
 use std::alloc::Global;
 use table_cases::{Field, document, path, print};
 use tree_text::{
-    TextFault, ValueFault, print_att_value, print_document, read_att_value, read_document,
-    read_fragment,
+    ReadError, TextFault, ValueFault, print_att_value, print_document, read_att_value,
+    read_document, read_fragment,
 };
 use xml_tree::{Element, Scope};
 
@@ -54,10 +54,11 @@ fn in_scope(alloc: Global, depth: usize, scope: &Scope<'_>, text: &[u8]) -> Resu
 }
 
 // The print of what was read, or the fault.
-fn spelled(alloc: Global, read: Result<Element, TextFault>) -> Result<String> {
+fn spelled(alloc: Global, read: Result<Element, ReadError<TextFault>>) -> Result<String> {
     match read {
         Ok(root) => print(alloc, &root),
-        Err(fault) => text_fault(alloc, &fault),
+        Err(ReadError::Fault(fault)) => text_fault(alloc, &fault),
+        Err(ReadError::NoMemory) => bail!("no memory"),
     }
 }
 
@@ -69,7 +70,6 @@ fn text_fault(alloc: Global, fault: &TextFault) -> Result<String> {
         TextFault::RepeatedAttribute(place) => format!(in alloc; "repeated-attribute {place}")?,
         TextFault::TooDeep(place) => format!(in alloc; "too-deep {place}")?,
         TextFault::Doctype(place) => format!(in alloc; "doctype {place}")?,
-        TextFault::NoMemory => bail!("no memory"),
     })
 }
 
@@ -82,9 +82,11 @@ fn of_body(alloc: Global, body: &[u8]) -> Result<String> {
             let value = value.as_str();
             Ok(format!(in alloc; "spells {value} printed {print}")?)
         }
-        Err(ValueFault::NotUtf8) => Ok(String::from_str(alloc, "not-utf-8")?),
-        Err(ValueFault::NotValue(place)) => Ok(format!(in alloc; "not-value {place}")?),
-        Err(ValueFault::NoMemory) => bail!("no memory"),
+        Err(ReadError::Fault(ValueFault::NotUtf8)) => Ok(String::from_str(alloc, "not-utf-8")?),
+        Err(ReadError::Fault(ValueFault::NotValue(place))) => {
+            Ok(format!(in alloc; "not-value {place}")?)
+        }
+        Err(ReadError::NoMemory) => bail!("no memory"),
     }
 }
 

@@ -171,7 +171,7 @@ fn on_pair(alloc: Global, bytes: &[u8], calls: &str) -> Result<String> {
         let mut pair = Pair::new(&mut input, &mut output);
         for given in calls.lines() {
             let (word, piece) = first_word(given);
-            call_port(alloc, &mut pair, word, piece, &mut text)?;
+            call(alloc, &mut pair, word, piece, &mut text)?;
         }
     }
     push_sent(alloc, Some(&output), &mut text)?;

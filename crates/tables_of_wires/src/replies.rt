@@ -1,7 +1,7 @@
 //! Replies and conflict documents, byte for byte, and how replies are written (RFC 9112; RFC 4825,
 //! section 11).
-ghost use Rattle.std.specs.Prelude.{[], None};
-ghost use Rattle.xcap_io.specs.Causes.{no_port, no_peer};
+ghost use Rattle.std.specs.Prelude.{[]};
+ghost use Rattle.xcap_io.specs.Causes.{no_inward, no_port, no_peer};
 
 use anyhow::{Result, bail};
 use conflict_docs::{ErrorBody, error_document};
@@ -9,7 +9,7 @@ use http_wire::write_reply_through;
 use reply_text::{Media, Reply};
 use std::alloc::Global;
 use table_cases::Field;
-use xcap_io::{Bytes, Failed, Gatherer, Line, Sink};
+use xcap_io::{Bytes, Failed, Gatherer, Line, MemLine, Sink};
 use xml_tree::Text;
 
 // ---- replies
@@ -65,6 +65,7 @@ fn conflict(alloc: Global, why: &str, what: &str) -> Result<String> {
 // A sink that takes as many bytes as it is told, in pieces of any size, and counts the writes.
 #[derive(Drop)]
 struct Counter {
+    line: MemLine,
     room: usize,
     writes: usize,
     faults: u64,
@@ -72,8 +73,8 @@ struct Counter {
 
 impl Line for Counter {
     ghost state = { λ c. record {
-      left = None;
-      taken = None;
+      inward = no_inward;
+      taken = c.line.taken;
       read_faults = 0;
       write_faults = c.faults;
       holds = [];
@@ -91,7 +92,13 @@ impl Sink for Counter {
             return Err(Failed);
         }
         self.room -= piece.len();
-        Ok(piece.len())
+        match self.line.write(piece) {
+            Ok(count) => Ok(count),
+            Err(Failed) => {
+                self.faults = self.faults.saturating_add(1);
+                Err(Failed)
+            }
+        }
     }
 }
 
@@ -101,6 +108,7 @@ fn writes(alloc: Global, body: &[u8], room: usize) -> Result<String> {
     let reply = reply(alloc, "found", Some(1), body, false)?;
     let mut gatherer = Gatherer::new();
     let mut sink = Counter {
+        line: MemLine::new(alloc, b"", 1, None, room)?,
         room,
         writes: 0,
         faults: 0,

@@ -1,5 +1,5 @@
 -- The names of a tag are judged exactly: the reading function finds the first one that is wrong.
-use Rattle.std.proofs.Common.{◌≡◌, ℕ, ◌+◌, ◌-◌, ◌<◌, ◌≤◌, Bool, true, false, cond, List, [], ◌∷◌, ◌++◌, length, ◌⊎◌, inl, inr, ⊎_elim, refl, sym, ap, subst, ◌∙◌, append_assoc, arith}
+use Rattle.std.proofs.Common.{◌≡◌, ℕ, zero, suc, ◌+◌, ◌-◌, ◌<◌, ◌≤◌, Bool, true, false, cond, List, [], ◌∷◌, ◌++◌, length, ◌⊎◌, inl, inr, ⊎_elim, refl, sym, ap, subst, ◌∙◌, append_assoc, arith}
 use Rattle.std.specs.Prelude.{Option, None, Some}
 use Rattle.std.proofs.lemmas.List.{length-append, append-nil}
 use Rattle.xml_tree.specs.Characters.{is_name_start, is_name_char, is_space}
@@ -138,9 +138,17 @@ abbrev Judged : (Kind → ℕ → Type 0) → Option (Kind × ℕ) → Type 0
 Judged W None = (k : Kind) (p : ℕ) → W k p → ⊥
 Judged W (Some x) = W x.0 x.1 × ((k : Kind) (p : ℕ) → W k p → (x.1 < p) ⊎ ((p ≡ x.1) × (rank x.0 ≤ rank k)))
 
+-- an unbound prefix comes before what else may be wrong with one of them
+unbound_least : (here : List (List Decl)) (earlier : List Said) (s : Said) (k : Kind) → IsWrongSaid here earlier s k → rank Unbound ≤ rank k
+unbound_least here earlier s Unbound m = omega arith
+unbound_least here earlier s Repeated m = omega arith
+unbound_least here earlier s Encoded m = absurd m
+unbound_least here earlier s Doctyped m = absurd m
+unbound_least here earlier s (Depth d) m = absurd m
+
 module _ (here : List (List Decl)) where
   by_tests : (earlier : List Said) (s : Said) (a b : Bool) → is_misnamed here s ≡ a → is_repeated here earlier s ≡ b → JudgedSaid here earlier s (cond a (Some Unbound) (cond b (Some Repeated) None))
-  by_tests earlier s true b e f = (e, λ k m. omega arith)
+  by_tests earlier s true b e f = (e, unbound_least here earlier s)
   by_tests earlier s false true e f = (f, least)
     where
       least : (k : Kind) → IsWrongSaid here earlier s k → rank Repeated ≤ rank k
@@ -214,15 +222,17 @@ module _ (here : List (List Decl)) where
 abbrev WrongIn : List (List Decl) → Tag → Kind → ℕ → Type 0
 WrongIn here t k p = ((is_unbound here t.name ≡ true) × (k ≡ Unbound) × (p ≡ 1)) ⊎ Wrong here [] (opening t) t.said k p
 
-no_less : (p r : ℕ) → 1 ≤ p → (1 < p) ⊎ ((p ≡ 1) × (0 ≤ r))
-no_less p r h = grind (arith)
+no_less : (p : ℕ) (Q : Type 0) → 1 ≤ p → Q → (1 < p) ⊎ ((p ≡ 1) × Q)
+no_less zero Q h q = absurd (omega (arith, h))
+no_less (suc zero) Q h q = inr (refl, q)
+no_less (suc (suc p)) Q h q = inl (omega arith)
 
 name_first : (here : List (List Decl)) (t : Tag) → is_unbound here t.name ≡ true → Judged (WrongIn here t) (Some (Unbound, 1))
 name_first here t e = (inl (e, refl, refl), first)
   where
     first : (k : Kind) (p : ℕ) → WrongIn here t k p → (1 < p) ⊎ ((p ≡ 1) × (rank Unbound ≤ rank k))
-    first k p (inl m) = inr (m.2, omega arith)
-    first k p (inr m) = no_less p (rank k) (omega (arith, m.place_is))
+    first k p (inl m) = inr (m.2, omega (arith, ap rank m.1))
+    first k p (inr m) = no_less p (rank Unbound ≤ rank k) (omega (arith, m.place_is)) (unbound_least here m.front m.said k m.wrong)
 
 name_right : (here : List (List Decl)) (t : Tag) (o : Option (Kind × ℕ)) → is_unbound here t.name ≡ false → Judged (Wrong here [] (opening t) t.said) o → Judged (WrongIn here t) o
 name_right here t None e h = none

@@ -11,6 +11,7 @@ pub mod MeaningLemmas
 pub mod CommentLemmas
 pub mod ElementLemmas
 pub mod Told
+pub mod Answering
 pub mod RawLetters
 pub mod PlainRuns
 pub mod PlainFronts
@@ -22,6 +23,7 @@ pub mod ReadElements
 pub mod ReadDocuments
 pub mod ReadBodies
 pub mod ReadAnswers
+pub mod OneAnswer
 pub mod ProperTags
 pub mod ProperComments
 pub mod ProperTrees

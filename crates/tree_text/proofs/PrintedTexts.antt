@@ -16,11 +16,12 @@ use Rattle.xml_tree.specs.declared.names.Decl.{Decl}
 use Rattle.tree_text.specs.declared.fault.TextFault.{TextFault}
 use Rattle.tree_text.specs.declared.fault.ValueFault.{ValueFault}
 use Rattle.tree_text.specs.declared.kind.Kind.{Kind}
-use Rattle.tree_text.specs.Faults.{told, text_read, body_told, body_read, in_quotes, spelling_of, TextAnswer, BodyAnswer}
+use Rattle.tree_text.specs.Faults.{told, body_told, in_quotes, spelling_of, TextAnswer, BodyAnswer}
 use Rattle.tree_text.specs.Grammar.{document, spelling}
 use Rattle.tree_text.specs.Kinds.{faults}
 use Rattle.tree_text.specs.Printing.{header, document_print, body_escape, body_print}
 use Rattle.tree_text.specs.Reading.{read_mark_if, read_declaration_if, read_spaces, read_dropped, misc_follows, read_prolog_misc, read_prolog, read_epilog, read_element, read_text, read_spelling}
+use Rattle.tree_text.specs.readers.Whole.{text_read, body_read}
 use Rattle.tree_text.proofs.ReadAnswers.{text_answer, body_answer}
 use Rattle.tree_text.proofs.ReadFronts.{Reads, reads_valued, reads_before, reads_behind, reads_none, reads_more, AreBetween, reads_between}
 use Rattle.tree_text.proofs.PrintedValues.{reads_spelling}

@@ -9,13 +9,13 @@ use Rattle.grammar_rules.specs.Answers.{Answers}
 use Rattle.grammar_rules.proofs.Fronts.{pass_append}
 use Rattle.tree_text.specs.declared.kind.Kind.{Kind}
 use Rattle.tree_text.specs.declared.fault.ValueFault.{ValueFault}
-use Rattle.tree_text.specs.declared.fault.ValueFault.TheVariants as bodies
+use Rattle.tree_text.specs.declared.fault.ReadError.{ReadError}
 use Rattle.tree_text.specs.Kinds.{faults}
 use Rattle.tree_text.specs.Pieces.{line_ends, raw, more_value}
 use Rattle.tree_text.specs.Grammar.{is_raw, reference, spelling}
-use Rattle.tree_text.specs.Faults.{Unless, spelling_of, body_told, body_read, BodyAnswer}
+use Rattle.tree_text.specs.Faults.{spelling_of, body_told, BodyAnswer}
+use Rattle.tree_text.specs.Memory.{Answered}
 use Rattle.tree_text.proofs.ProperTags.{weaker, pass_all, raw_char, lines_chars, blanks_chars, reference_char}
-use Rattle.tree_text.proofs.ReadAnswers.{body_answer}
 
 raw_chars : (cs : List ℕ) → AllPass is_raw cs → AllPass is_char (raw cs)
 raw_chars cs h = blanks_chars (line_ends cs) (lines_chars cs (weaker is_raw is_char raw_char cs h))
@@ -39,11 +39,6 @@ answer_chars bytes value (inl a) = stated_chars bytes value a.1.stated a.1.by_gr
 answer_chars bytes value (inr a) = let e = a.1 in absurd cc
 
 -- A value that is read consists of Chars.
-pub body_chars : (bytes value : List ℕ) → Unless bodies.NoMemory (body_read bytes) (Ok value) → all_chars value ≡ true
-body_chars bytes value (inl e) = answer_chars bytes value (subst (BodyAnswer bytes) (sym e) (body_answer bytes))
-body_chars bytes value (inr e) = absurd cc
-
--- The same of an answer that may be a fault.
-pub body_good : (bytes : List ℕ) (answer : Result (List ℕ) ValueFault) → Unless bodies.NoMemory (body_read bytes) answer → IfOk answer (λ value. IsTrue (all_chars value))
-body_good bytes (Ok value) h = body_chars bytes value h
+pub body_good : (bytes : List ℕ) (r : Result (List ℕ) (ReadError ValueFault)) → Answered (BodyAnswer bytes) r → IfOk r (λ value. IsTrue (all_chars value))
+body_good bytes (Ok value) h = answer_chars bytes value h
 body_good bytes (Err e) h = tt

@@ -1,5 +1,5 @@
 -- What reading answers, in the form in which contracts state it.
-use Rattle.std.proofs.Common.{◌≡◌, ℕ, suc, ◌+◌, ◌≤◌, List, Result, Ok, Err, ◌⊎◌, inl, inr, sym, subst, arith}
+use Rattle.std.proofs.Common.{◌≡◌, ℕ, suc, ◌+◌, ◌≤◌, List, Result, Ok, Err, inl, inr, sym, subst, arith}
 use Rattle.std.specs.Prelude.{IfOk}
 use Rattle.std.specs.Str.{chars}
 use Rattle.grammar_rules.specs.Reading.{Stop}
@@ -9,24 +9,24 @@ use Rattle.xml_tree.specs.Proper.{ProperIn}
 use Rattle.xml_tree.specs.declared.names.Decl.{Decl}
 use Rattle.tree_text.specs.declared.kind.Kind.{Kind}
 use Rattle.tree_text.specs.declared.fault.TextFault.{TextFault}
-use Rattle.tree_text.specs.declared.fault.TextFault.TheVariants as texts
 use Rattle.tree_text.specs.declared.fault.ValueFault.{ValueFault}
-use Rattle.tree_text.specs.declared.fault.ValueFault.TheVariants as bodies
+use Rattle.tree_text.specs.declared.fault.ReadError.{ReadError}
 use Rattle.tree_text.specs.Kinds.{faults}
 use Rattle.tree_text.specs.Grammar.{document}
-use Rattle.tree_text.specs.Faults.{Unless, told, text_read, TextAnswer, body_read, BodyAnswer}
+use Rattle.tree_text.specs.Faults.{told, TextAnswer, BodyAnswer}
+use Rattle.tree_text.specs.Memory.{Answered}
+use Rattle.tree_text.specs.readers.Whole.{text_read, body_read}
+use Rattle.tree_text.proofs.Answering.{answered_so}
 use Rattle.tree_text.proofs.ReadAnswers.{text_answer, body_answer}
 use Rattle.tree_text.proofs.ProperTrees.{document_proper}
 
 -- A document or a fragment is read as the grammar says, unless memory ran out.
-pub text_answers : (limit : ℕ) (scope : List (List Decl)) (bytes : List ℕ) (answer : Result Tree TextFault) → Unless texts.NoMemory (text_read limit scope bytes) answer → TextAnswer limit scope bytes answer ⊎ (answer ≡ Err texts.NoMemory)
-text_answers limit scope bytes answer (inl e) = inl (subst (TextAnswer limit scope bytes) (sym e) (text_answer limit scope bytes))
-text_answers limit scope bytes answer (inr e) = inr e
+pub text_answers : (limit : ℕ) (scope : List (List Decl)) (bytes : List ℕ) (r : Result Tree (ReadError TextFault)) → Answered (λ answer. answer ≡ text_read limit scope bytes) r → Answered (TextAnswer limit scope bytes) r
+text_answers limit scope bytes = answered_so (λ answer. answer ≡ text_read limit scope bytes) (TextAnswer limit scope bytes) (λ answer e. subst (TextAnswer limit scope bytes) (sym e) (text_answer limit scope bytes))
 
 -- So is a body.
-pub body_answers : (bytes : List ℕ) (answer : Result (List ℕ) ValueFault) → Unless bodies.NoMemory (body_read bytes) answer → BodyAnswer bytes answer ⊎ (answer ≡ Err bodies.NoMemory)
-body_answers bytes answer (inl e) = inl (subst (BodyAnswer bytes) (sym e) (body_answer bytes))
-body_answers bytes answer (inr e) = inr e
+pub body_answers : (bytes : List ℕ) (r : Result (List ℕ) (ReadError ValueFault)) → Answered (λ answer. answer ≡ body_read bytes) r → Answered (BodyAnswer bytes) r
+body_answers bytes = answered_so (λ answer. answer ≡ body_read bytes) (BodyAnswer bytes) (λ answer e. subst (BodyAnswer bytes) (sym e) (body_answer bytes))
 
 stated_proper : (limit : ℕ) (scope : List (List Decl)) (bytes : List ℕ) (tree : Tree) (stated : Result Tree (Stop Kind)) → Answers (faults limit) (document (suc (limit + 1)) scope) (chars bytes) stated → (let answer : Result Tree TextFault = Ok tree in answer ≡ told bytes stated) → ProperIn scope tree × (height tree ≤ limit)
 stated_proper limit scope bytes tree (Ok t) h e =
@@ -34,16 +34,12 @@ stated_proper limit scope bytes tree (Ok t) h e =
     subst (λ (z : Tree). ProperIn scope z × (height z ≤ limit)) (sym i) (document_proper limit (limit + 1) scope (chars bytes) t (omega arith) h)
 stated_proper limit scope bytes tree (Err stop) h e = absurd cc
 
-answer_proper : (limit : ℕ) (scope : List (List Decl)) (bytes : List ℕ) (tree : Tree) → TextAnswer limit scope bytes (Ok tree) → ProperIn scope tree × (height tree ≤ limit)
+-- A tree that is spelled is proper in its scope, and within the depth.
+pub answer_proper : (limit : ℕ) (scope : List (List Decl)) (bytes : List ℕ) (tree : Tree) → TextAnswer limit scope bytes (Ok tree) → ProperIn scope tree × (height tree ≤ limit)
 answer_proper limit scope bytes tree (inl a) = stated_proper limit scope bytes tree a.1.stated (a.1.by_grammar (suc (limit + 1)) (omega arith)) a.1.is_told
 answer_proper limit scope bytes tree (inr a) = let e = a.1 in absurd cc
 
--- A tree that is read is proper in its scope, and within the depth.
-pub text_proper : (limit : ℕ) (scope : List (List Decl)) (bytes : List ℕ) (tree : Tree) → Unless texts.NoMemory (text_read limit scope bytes) (Ok tree) → ProperIn scope tree × (height tree ≤ limit)
-text_proper limit scope bytes tree (inl e) = answer_proper limit scope bytes tree (subst (TextAnswer limit scope bytes) (sym e) (text_answer limit scope bytes))
-text_proper limit scope bytes tree (inr e) = absurd cc
-
 -- The same of an answer that may be a fault.
-pub text_good : (limit : ℕ) (scope : List (List Decl)) (bytes : List ℕ) (answer : Result Tree TextFault) → Unless texts.NoMemory (text_read limit scope bytes) answer → IfOk answer (λ tree. ProperIn scope tree × (height tree ≤ limit))
-text_good limit scope bytes (Ok tree) h = text_proper limit scope bytes tree h
+pub text_good : (limit : ℕ) (scope : List (List Decl)) (bytes : List ℕ) (r : Result Tree (ReadError TextFault)) → Answered (TextAnswer limit scope bytes) r → IfOk r (λ tree. ProperIn scope tree × (height tree ≤ limit))
+text_good limit scope bytes (Ok tree) h = answer_proper limit scope bytes tree h
 text_good limit scope bytes (Err e) h = tt

@@ -1,5 +1,5 @@
 -- What is told of bytes: that they are no UTF-8, or what reading their characters gives.
-use Rattle.std.proofs.Common.{◌≡◌, ℕ, ◌-◌, Bool, true, false, List, Result, Ok, Err, inl, inr, refl, sym, ap, ◌∙◌}
+use Rattle.std.proofs.Common.{◌≡◌, ℕ, ◌-◌, Bool, true, false, List, Result, Ok, Err, refl, sym, ap, subst, ◌∙◌}
 use Rattle.std.specs.Prelude.{IsUtf8}
 use Rattle.std.specs.Str.{chars, is_utf8}
 use Rattle.std.proofs.lemmas.Str.{IsUtf8-from_is_utf8, is_utf8-from_IsUtf8}
@@ -11,11 +11,15 @@ use Rattle.tree_text.specs.declared.fault.TextFault.{TextFault}
 use Rattle.tree_text.specs.declared.fault.TextFault.TheVariants as texts
 use Rattle.tree_text.specs.declared.stop.Stop.{Stop as CodeStop}
 use Rattle.tree_text.specs.declared.stop.Stop.TheVariants as stops
-use Rattle.tree_text.specs.Faults.{Unless, FaultOf, told, text_read, BodyFaultOf, body_read, body_told, body_place, place, closing, in_quotes, spelling_of}
+use Rattle.tree_text.specs.Faults.{told, body_told, body_place, place, closing, in_quotes, spelling_of}
 use Rattle.tree_text.specs.declared.fault.ValueFault.{ValueFault}
 use Rattle.tree_text.specs.declared.fault.ValueFault.TheVariants as bodies
+use Rattle.tree_text.specs.declared.fault.ReadError.{ReadError}
+use Rattle.tree_text.specs.declared.fault.ReadError.TheVariants as errors
 use Rattle.tree_text.specs.Gives.{Fails}
+use Rattle.tree_text.specs.Memory.{Answered}
 use Rattle.tree_text.specs.Reading.{read_text, read_spelling}
+use Rattle.tree_text.specs.readers.Whole.{FaultOf, text_read, BodyFaultOf, body_read}
 
 not_by : (bytes : List ℕ) (b : Bool) → is_utf8 bytes ≡ b → (IsUtf8 bytes → ⊥) → is_utf8 bytes ≡ false
 not_by bytes true e n = absurd (n (IsUtf8-from_is_utf8 bytes e))
@@ -31,13 +35,17 @@ module _ (limit : ℕ) (scope : List (List Decl)) (bytes text all : List ℕ) (s
       let read : read_whole (read_text limit scope) (chars bytes) ≡ out = ap (read_whole (read_text limit scope)) (sym (decoded ∙ ap chars same)) ∙ h in
       rw yes (ap (told bytes) read)
 
-  pub ok_told : (tree : Tree) → read_whole (read_text limit scope) all ≡ Ok tree → Unless texts.NoMemory (text_read limit scope bytes) (Ok tree)
-  ok_told tree h = inl (sym (is_read (Ok tree) h))
+  pub ok_told : (tree : Tree) → read_whole (read_text limit scope) all ≡ Ok tree → (let answer : Result Tree TextFault = Ok tree in answer ≡ text_read limit scope bytes)
+  ok_told tree h = sym (is_read (Ok tree) h)
 
-  pub fault_told : (stop : CodeStop) (fault : TextFault) → Fails stop (read_whole (read_text limit scope) all) → FaultOf bytes stop fault → Unless texts.NoMemory (text_read limit scope bytes) (Err fault)
-  fault_told (stops.Syntax rest) fault h f = inl (ap (λ (z : TextFault). let w : Result Tree TextFault = Err z in w) f ∙ sym (is_read (Err (Syntax rest.now)) h))
-  fault_told (stops.Faulty kind rest) fault h f = inl (ap (λ (z : TextFault). let w : Result Tree TextFault = Err z in w) f ∙ sym (is_read (Err (Faulty kind rest.now)) h))
-  fault_told stops.Memory fault h f = inr (ap (λ (z : TextFault). let w : Result Tree TextFault = Err z in w) f)
+  -- the call answers a fault of the text, or that memory ran out
+  abbrev Tells : ReadError TextFault → Type 0
+  Tells error = let answer : Result Tree (ReadError TextFault) = Err error in Answered (λ answer. answer ≡ text_read limit scope bytes) answer
+
+  pub fault_told : (stop : CodeStop) (error : ReadError TextFault) → Fails stop (read_whole (read_text limit scope) all) → FaultOf bytes stop error → Tells error
+  fault_told (stops.Syntax rest) error h f = subst Tells (sym f) (sym (is_read (Err (Syntax rest.now)) h))
+  fault_told (stops.Faulty kind rest) error h f = subst Tells (sym f) (sym (is_read (Err (Faulty kind rest.now)) h))
+  fault_told stops.Memory error h f = subst Tells (sym f) tt
 
 -- ---- bodies
 
@@ -54,16 +62,19 @@ module _ (bytes text all part : List ℕ) (behind : ℕ) (same : text ≡ bytes)
       let read : read_whole read_spelling (spelling_of (chars bytes)) ≡ out = ap (read_whole read_spelling) (sym (spelling ∙ ap spelling_of body_is)) ∙ h in
       rw yes (ap (body_told (chars bytes) bytes) read)
 
-  pub body_ok_told : (value : List ℕ) → read_whole read_spelling part ≡ Ok value → Unless bodies.NoMemory (body_read bytes) (Ok value)
-  body_ok_told value h = inl (sym (body_is_read (Ok value) h))
+  pub body_ok_told : (value : List ℕ) → read_whole read_spelling part ≡ Ok value → (let answer : Result (List ℕ) ValueFault = Ok value in answer ≡ body_read bytes)
+  body_ok_told value h = sym (body_is_read (Ok value) h)
 
   at_place : (left : List ℕ) → place bytes left - behind ≡ body_place (chars bytes) bytes left
   at_place left = ap (λ (z : ℕ). place bytes left - z) (rest ∙ ap (λ (z : List ℕ). closing (in_quotes z)) body_is)
 
-  abbrev faulted : ValueFault → Result (List ℕ) ValueFault
-  faulted z = Err z
+  abbrev BodyTells : ReadError ValueFault → Type 0
+  BodyTells error = let answer : Result (List ℕ) (ReadError ValueFault) = Err error in Answered (λ answer. answer ≡ body_read bytes) answer
 
-  pub body_fault_told : (stop : CodeStop) (fault : ValueFault) → Fails stop (read_whole read_spelling part) → BodyFaultOf bytes behind stop fault → Unless bodies.NoMemory (body_read bytes) (Err fault)
-  body_fault_told (stops.Syntax left) fault h f = inl (ap faulted (f ∙ ap bodies.NotValue (at_place left.now)) ∙ sym (body_is_read (Err (Syntax left.now)) h))
-  body_fault_told (stops.Faulty kind left) fault h f = inl (ap faulted (f ∙ ap bodies.NotValue (at_place left.now)) ∙ sym (body_is_read (Err (Faulty kind left.now)) h))
-  body_fault_told stops.Memory fault h f = inr (ap faulted f)
+  no_value : (left : List ℕ) (error : ReadError ValueFault) → error ≡ errors.Fault (bodies.NotValue (place bytes left - behind)) → error ≡ errors.Fault (bodies.NotValue (body_place (chars bytes) bytes left))
+  no_value left error f = f ∙ ap (λ (n : ℕ). let z : ReadError ValueFault = errors.Fault (bodies.NotValue n) in z) (at_place left)
+
+  pub body_fault_told : (stop : CodeStop) (error : ReadError ValueFault) → Fails stop (read_whole read_spelling part) → BodyFaultOf bytes behind stop error → BodyTells error
+  body_fault_told (stops.Syntax left) error h f = subst BodyTells (sym (no_value left.now error f)) (sym (body_is_read (Err (Syntax left.now)) h))
+  body_fault_told (stops.Faulty kind left) error h f = subst BodyTells (sym (no_value left.now error f)) (sym (body_is_read (Err (Faulty kind left.now)) h))
+  body_fault_told stops.Memory error h f = subst BodyTells (sym f) tt

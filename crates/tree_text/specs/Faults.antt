@@ -1,7 +1,8 @@
--- Which fault a text or a body has, and at which byte.
+-- What bytes are by the grammar: the tree or the value that they spell, or their fault and the byte at which it stands. Want of memory is none
+-- of these faults.
 use Rattle.std.specs.Prelude.{◌≡◌, ◌⊎◌, ℕ, ◌+◌, ◌-◌, ◌<◌, Bool, ◌==◌, not, List, [], ◌∷◌, length, Option, None, Some, unwrap_or, Result, Ok, Err, IsUtf8, encode_utf8_all, if◌then◌else◌}
-use Rattle.std.specs.Str.{chars, is_utf8}
-use Rattle.grammar_rules.specs.Reading.{Stop, Syntax, Faulty, front_of, after_front, read_whole}
+use Rattle.std.specs.Str.{chars}
+use Rattle.grammar_rules.specs.Reading.{Stop, Syntax, Faulty, front_of, after_front}
 use Rattle.grammar_rules.specs.Answers.{Answers}
 use Rattle.xml_tree.specs.Tree.{Tree}
 use Rattle.xml_tree.specs.declared.names.Decl.{Decl}
@@ -11,19 +12,12 @@ use Rattle.tree_text.specs.declared.fault.TextFault.{TextFault}
 use Rattle.tree_text.specs.declared.fault.TextFault.TheVariants as texts
 use Rattle.tree_text.specs.declared.fault.ValueFault.{ValueFault}
 use Rattle.tree_text.specs.declared.fault.ValueFault.TheVariants as bodies
-use Rattle.tree_text.specs.declared.stop.Stop.{Stop as CodeStop}
-use Rattle.tree_text.specs.declared.stop.Stop.TheVariants as stops
 use Rattle.tree_text.specs.Kinds.{faults}
 use Rattle.tree_text.specs.Grammar.{is_quote, document, spelling}
-use Rattle.tree_text.specs.Reading.{read_text, read_spelling}
 
 -- the byte at which this rest of the text begins
 abbrev pub place : List ℕ → List ℕ → ℕ
 place bytes left = length bytes - length (encode_utf8_all left)
-
--- what is stated, unless memory ran out
-abbrev pub Unless : {A E : Type 0} → E → Result A E → Result A E → Type 0
-Unless memory stated answer = (answer ≡ stated) ⊎ (answer ≡ Err memory)
 
 -- ---- documents and fragments
 
@@ -36,19 +30,10 @@ fault_of bytes (Faulty (Depth depth) left) = texts.TooDeep (place bytes left)
 fault_of bytes (Faulty Unbound left) = texts.Namespace (place bytes left)
 fault_of bytes (Faulty Repeated left) = texts.RepeatedAttribute (place bytes left)
 
--- the same of a stop of the code
-abbrev pub FaultOf : List ℕ → CodeStop → TextFault → Type 0
-FaultOf bytes (stops.Syntax rest) fault = fault ≡ fault_of bytes (Syntax rest.now)
-FaultOf bytes (stops.Faulty kind rest) fault = fault ≡ fault_of bytes (Faulty kind rest.now)
-FaultOf bytes stops.Memory fault = fault ≡ texts.NoMemory
-
+-- the tree, or the fault
 abbrev pub told : List ℕ → Result Tree (Stop Kind) → Result Tree TextFault
 told bytes (Ok tree) = Ok tree
 told bytes (Err stop) = Err (fault_of bytes stop)
-
--- what reading answers, with so many levels at most and in this scope
-abbrev pub text_read : ℕ → List (List Decl) → List ℕ → Result Tree TextFault
-text_read limit scope bytes = if is_utf8 bytes then told bytes (read_whole (read_text limit scope) (chars bytes)) else Err texts.NotUtf8
 
 -- The answer for bytes by the grammar: the tree that they spell and no other, or the first fault. How many more levels than the limit
 -- the grammar is given makes no difference.
@@ -90,20 +75,11 @@ closing (Some inside) = 1
 abbrev pub body_place : List ℕ → List ℕ → List ℕ → ℕ
 body_place body bytes left = place bytes left - closing (in_quotes body)
 
--- the same of a stop of the code, of a body behind whose spelling so many bytes stand
-abbrev pub BodyFaultOf : List ℕ → ℕ → CodeStop → ValueFault → Type 0
-BodyFaultOf bytes behind (stops.Syntax rest) fault = fault ≡ bodies.NotValue (place bytes rest.now - behind)
-BodyFaultOf bytes behind (stops.Faulty kind rest) fault = fault ≡ bodies.NotValue (place bytes rest.now - behind)
-BodyFaultOf bytes behind stops.Memory fault = fault ≡ bodies.NoMemory
-
+-- the value, or the fault
 abbrev pub body_told : List ℕ → List ℕ → Result (List ℕ) (Stop Kind) → Result (List ℕ) ValueFault
 body_told body bytes (Ok value) = Ok value
 body_told body bytes (Err (Syntax left)) = Err (bodies.NotValue (body_place body bytes left))
 body_told body bytes (Err (Faulty kind left)) = Err (bodies.NotValue (body_place body bytes left))
-
--- what reading answers
-abbrev pub body_read : List ℕ → Result (List ℕ) ValueFault
-body_read bytes = if is_utf8 bytes then body_told (chars bytes) bytes (read_whole read_spelling (spelling_of (chars bytes))) else Err bodies.NotUtf8
 
 -- the answer for a body by the grammar
 pub record IsBodyAnswer (bytes : List ℕ) (answer : Result (List ℕ) ValueFault) : Type 0 where

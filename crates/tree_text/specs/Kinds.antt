@@ -12,13 +12,14 @@ is_fault limit (Depth depth) = nat_lt limit depth
 is_fault limit Unbound = true
 is_fault limit Repeated = true
 
--- of two at one place the one with the lesser rank counts: a declaration that may not stand and repeats a prefix may not stand
+-- Of two at one place the one with the lesser rank counts: a declaration that may not stand and repeats a prefix may not stand. No two
+-- kinds have one rank, so there is one answer.
 abbrev pub rank : Kind → ℕ
-rank Encoded = 0
-rank Doctyped = 0
 rank (Depth depth) = 0
-rank Unbound = 0
-rank Repeated = 1
+rank Unbound = 1
+rank Repeated = 2
+rank Encoded = 3
+rank Doctyped = 4
 
 abbrev pub faults : ℕ → Faults Kind
 faults limit = record { is_fault = is_fault limit; rank = rank }

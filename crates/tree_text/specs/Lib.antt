@@ -5,10 +5,12 @@ pub mod Grammar
 pub mod Kinds
 pub mod Meanings
 pub mod Members
+pub mod Memory
 pub mod Names
 pub mod Printing
 pub mod Pieces
 pub mod Reading
+pub mod readers
 pub mod Runs
 pub mod Views
 pub mod Words

@@ -1,16 +1,17 @@
 //! Bodies that spell the value of an attribute (application/xcap-att+xml; RFC 4825, section 15.2.2).
-ghost use Rattle.std.specs.Prelude.{◌≡◌, ◌⊎◌, option_map, IfOk, IsTrue, Err, Ok};
+ghost use Rattle.std.specs.Prelude.{◌≡◌, option_map, IfOk, IsTrue, Ok};
 ghost use Rattle.std.specs.Str.{chars};
 ghost use Rattle.grammar_rules.specs.Reading.{front_of, after_front, read_whole};
 ghost use Rattle.xml_tree.specs.Characters.{all_chars};
-ghost use Rattle.tree_text.specs.Faults.{Unless, BodyAnswer, BodyFaultOf, body_read, closing, in_quotes, is_other, spelling_of};
+ghost use Rattle.tree_text.specs.Faults.{BodyAnswer, closing, in_quotes, is_other, spelling_of};
 ghost use Rattle.tree_text.specs.Gives.{Gives, GivesAll};
 ghost use Rattle.tree_text.specs.Grammar.{is_quote, is_raw};
+ghost use Rattle.tree_text.specs.Memory.{Answered};
 ghost use Rattle.tree_text.specs.Reading.{read_spelling, read_plain, read_whole_reference};
 ghost use Rattle.tree_text.specs.Runs.{run_len};
-ghost use Rattle.tree_text.specs.declared.fault.ValueFault.TheVariants as bodies;
+ghost use Rattle.tree_text.specs.readers.Whole.{BodyFaultOf, body_read};
 
-use crate::fault::ValueFault;
+use crate::fault::{ReadError, ValueFault};
 use crate::places::place;
 use crate::reading::decoded;
 use crate::stop::Stop;
@@ -136,14 +137,18 @@ fn spelling_of(body: &[char]) -> (&[char], usize)
     }
 }
 
-/// The fault that a stop is, in a body of these bytes, behind which so many follow.
-fn fault(bytes: &[u8], stop: Stop<'_>, behind: usize) -> ValueFault
+/// The error that a stop is, in a body of these bytes, behind which so many follow.
+fn error(bytes: &[u8], stop: Stop<'_>, behind: usize) -> ReadError<ValueFault>
     ensures { BodyFaultOf bytes.now behind stop.entry result }
 {
     match stop {
-        Stop::Syntax(rest) => ValueFault::NotValue(place(bytes, rest).saturating_sub(behind)),
-        Stop::Faulty(_, rest) => ValueFault::NotValue(place(bytes, rest).saturating_sub(behind)),
-        Stop::Memory => ValueFault::NoMemory,
+        Stop::Syntax(rest) => {
+            ReadError::Fault(ValueFault::NotValue(place(bytes, rest).saturating_sub(behind)))
+        }
+        Stop::Faulty(_, rest) => {
+            ReadError::Fault(ValueFault::NotValue(place(bytes, rest).saturating_sub(behind)))
+        }
+        Stop::Memory => ReadError::NoMemory,
     }
 }
 
@@ -152,25 +157,24 @@ fn fault(bytes: &[u8], stop: Stop<'_>, behind: usize) -> ValueFault
 /// # Errors
 /// `NotUtf8` where the bytes aren't UTF-8; else `NotValue` at the first `<`, `&` that begins no reference, or character that is no
 /// Char; `NoMemory` for want of memory.
-pub fn read_att_value(alloc: Global, bytes: &[u8]) -> Result<Text, ValueFault>
-    ensures grammar { BodyAnswer bytes.now result ⊎ (result ≡ Err bodies.NoMemory) }
+pub fn read_att_value(alloc: Global, bytes: &[u8]) -> Result<Text, ReadError<ValueFault>>
+    ensures answer_by_the_grammar { Answered (BodyAnswer bytes.now) result }
     ensures chars { IfOk result (λ value. IsTrue (all_chars value)) }
-    ensures computed { Unless bodies.NoMemory (body_read bytes.now) result }
 {
     read_body(alloc, bytes)
 }
 
 /// The value that the bytes of a body spell.
-fn read_body(alloc: Global, bytes: &[u8]) -> Result<Text, ValueFault>
-    ensures { Unless bodies.NoMemory (body_read bytes.now) result }
+fn read_body(alloc: Global, bytes: &[u8]) -> Result<Text, ReadError<ValueFault>>
+    ensures { Answered (λ answer. answer ≡ body_read bytes.now) result }
 {
     let Ok(text) = str::from_utf8(bytes) else {
-        return Err(ValueFault::NotUtf8);
+        return Err(ReadError::Fault(ValueFault::NotUtf8));
     };
     let all = decoded(alloc, text)?;
     let (part, behind) = spelling_of(&all);
     match all_spelled(alloc, part) {
         Ok(value) => Ok(value),
-        Err(stop) => Err(fault(bytes, stop, behind)),
+        Err(stop) => Err(error(bytes, stop, behind)),
     }
 }

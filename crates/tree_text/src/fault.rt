@@ -1,9 +1,9 @@
 //! Why a text or a body can't be read.
 ghost use Rattle.std.specs.Prelude.{◌≡◌};
-ghost use Rattle.tree_text.specs.declared.fault.TextFault.TheVariants as text_faults;
-ghost use Rattle.tree_text.specs.declared.fault.ValueFault.TheVariants as value_faults;
+ghost use Rattle.tree_text.specs.declared.fault.ReadError.TheVariants as errors;
 
-use std::alloc::AllocError;
+use std::alloc::{AllocError, AllocFailed};
+use std::fmt::Display;
 use thiserror::Error;
 
 /// Why bytes are no document or fragment. Places are byte offsets. Where several hold, the one with the least place is told;
@@ -28,9 +28,6 @@ pub enum TextFault {
     /// A document type declaration begins here.
     #[error("document type at byte {0}")]
     Doctype(usize),
-    /// Want of memory.
-    #[error("out of memory")]
-    NoMemory,
 }
 
 /// Why bytes are no body that spells a value. The place is a byte offset.
@@ -42,23 +39,31 @@ pub enum ValueFault {
     /// Here stands a `<`, a `&` that begins no reference, or a character that is no Char: the first of them.
     #[error("not a value at byte {0}")]
     NotValue(usize),
+}
+
+/// Why something isn't read: it has a fault, or memory ran out.
+#[derive(Debug, PartialEq, Eq, Drop, Error)]
+pub enum ReadError<F: Display> {
+    /// It has this fault.
+    #[error("{0}")]
+    Fault(F),
     /// Want of memory.
     #[error("out of memory")]
     NoMemory,
 }
 
-impl From<AllocError> for TextFault {
-    ghost from_gives = { λ _ e. e ≡ text_faults.NoMemory };
+impl<F: Drop + Display> From<AllocError> for ReadError<F> {
+    ghost from_gives = { λ _ e. e ≡ errors.NoMemory };
 
     fn from(_error: AllocError) -> Self {
-        TextFault::NoMemory
+        ReadError::NoMemory
     }
 }
 
-impl From<AllocError> for ValueFault {
-    ghost from_gives = { λ _ e. e ≡ value_faults.NoMemory };
+impl<T: Drop, F: Drop + Display> From<AllocFailed<T>> for ReadError<F> {
+    ghost from_gives = { λ _ e. e ≡ errors.NoMemory };
 
-    fn from(_error: AllocError) -> Self {
-        ValueFault::NoMemory
+    fn from(_error: AllocFailed<T>) -> Self {
+        ReadError::NoMemory
     }
 }

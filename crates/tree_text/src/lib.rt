@@ -20,6 +20,7 @@ mod places;
 mod print_laws;
 mod printing;
 mod reading;
+mod reading_laws;
 mod runs;
 mod said;
 mod stop;
@@ -29,12 +30,13 @@ mod values;
 mod written;
 
 pub use bodies::read_att_value;
-pub use fault::{TextFault, ValueFault};
+pub use fault::{ReadError, TextFault, ValueFault};
 pub use print_laws::{
     prints_are_read_back, prints_spell_what_was_printed, scopes_leave_xmlns_unbound,
 };
 pub use printing::{print_att_value, print_document, print_element};
 pub use reading::{read_document, read_fragment};
+pub use reading_laws::{bodies_have_one_answer, texts_have_one_answer};
 
 // The parts that the grammar of selectors shares: words, digits, names, references and the raw characters of values.
 pub use digit_runs::digits;

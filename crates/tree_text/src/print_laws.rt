@@ -7,7 +7,7 @@ ghost use Rattle.xml_tree.specs.Proper.{ProperIn};
 ghost use Rattle.xml_tree.specs.Scopes.{bound, scope_at, xmlns_prefix};
 ghost use Rattle.xml_tree.specs.Tree.{Tree, height};
 ghost use Rattle.xml_tree.specs.declared.names.Decl.{Decl};
-ghost use Rattle.tree_text.specs.Faults.{text_read, body_read};
+ghost use Rattle.tree_text.specs.Faults.{BodyAnswer, TextAnswer};
 ghost use Rattle.tree_text.specs.Grammar.{document, spelling};
 ghost use Rattle.tree_text.specs.Kinds.{faults};
 ghost use Rattle.tree_text.specs.Printing.{document_print, body_print};
@@ -17,10 +17,10 @@ ghost use Rattle.tree_text.specs.Printing.{document_print, body_print};
 /// Chars as the value. The scope may bind any prefix but `xmlns`.
 pub fn prints_are_read_back()
     ensures document { (depth : ℕ) (scope : List (List Decl)) (root : Tree) → bound scope xmlns_prefix ≡ None → ProperIn scope root → height root ≤ depth
-        → text_read depth scope (encode_utf8_all (document_print root)) ≡ Ok root }
+        → TextAnswer depth scope (encode_utf8_all (document_print root)) (Ok root) }
     ensures element { (depth : ℕ) (scope : List (List Decl)) (root : Tree) → bound scope xmlns_prefix ≡ None → ProperIn scope root → height root ≤ depth
-        → text_read depth scope (encode_utf8_all (print root)) ≡ Ok root }
-    ensures value { (value : List ℕ) → IsTrue (all_chars value) → body_read (encode_utf8_all (body_print value)) ≡ Ok value }
+        → TextAnswer depth scope (encode_utf8_all (print root)) (Ok root) }
+    ensures value { (value : List ℕ) → IsTrue (all_chars value) → BodyAnswer (encode_utf8_all (body_print value)) (Ok value) }
 {}
 
 /// By the grammar a print spells what was printed, nothing else, and no fault is said of it (XML 1.0; Namespaces in XML 1.0).

@@ -1,18 +1,19 @@
 //! Reading documents, fragments and bodies.
-ghost use Rattle.std.specs.Prelude.{◌≡◌, ◌⊎◌, ◌+◌, ◌≤◌, length, [], Err, IfOk};
+ghost use Rattle.std.specs.Prelude.{◌≡◌, ◌+◌, ◌≤◌, length, [], IfOk};
 ghost use Rattle.std.specs.Str.{chars};
 ghost use Rattle.grammar_rules.specs.Reading.{read_whole};
 ghost use Rattle.xml_tree.specs.Proper.{ProperIn};
 ghost use Rattle.xml_tree.specs.Tree.{height};
-ghost use Rattle.tree_text.specs.Faults.{Unless, FaultOf, TextAnswer, text_read};
+ghost use Rattle.tree_text.specs.Faults.{TextAnswer};
 ghost use Rattle.tree_text.specs.Gives.{GivesAll};
+ghost use Rattle.tree_text.specs.Memory.{Answered};
 ghost use Rattle.tree_text.specs.Reading.{read_text};
-ghost use Rattle.tree_text.specs.declared.fault.TextFault.TheVariants as texts;
+ghost use Rattle.tree_text.specs.readers.Whole.{FaultOf, text_read};
 
 use crate::bindings::Bindings;
 use crate::declaration::{declaration_if, mark_if};
 use crate::elements::element;
-use crate::fault::TextFault;
+use crate::fault::{ReadError, TextFault};
 use crate::kind::Kind;
 use crate::pieces::{epilog, prolog};
 use crate::places::place;
@@ -59,35 +60,40 @@ pub fn decoded(alloc: Global, text: &str) -> Result<Vec<char>, AllocError>
     text.chars().collect(alloc)
 }
 
-/// The fault that a stop is, in the text of these bytes.
-fn fault(bytes: &[u8], stop: Stop<'_>) -> TextFault
+/// The error that a stop is, in the text of these bytes.
+fn error(bytes: &[u8], stop: Stop<'_>) -> ReadError<TextFault>
     ensures { FaultOf bytes.now stop.entry result }
 {
     match stop {
-        Stop::Syntax(rest) => TextFault::NotWellFormed(place(bytes, rest)),
-        Stop::Faulty(kind, rest) => match kind {
+        Stop::Syntax(rest) => ReadError::Fault(TextFault::NotWellFormed(place(bytes, rest))),
+        Stop::Faulty(kind, rest) => ReadError::Fault(match kind {
             Kind::Encoded => TextFault::NotUtf8,
             Kind::Doctyped => TextFault::Doctype(place(bytes, rest)),
             Kind::Depth(_) => TextFault::TooDeep(place(bytes, rest)),
             Kind::Unbound => TextFault::Namespace(place(bytes, rest)),
             Kind::Repeated => TextFault::RepeatedAttribute(place(bytes, rest)),
-        },
-        Stop::Memory => TextFault::NoMemory,
+        }),
+        Stop::Memory => ReadError::NoMemory,
     }
 }
 
 /// The tree that bytes spell in a scope.
-fn read(alloc: Global, bytes: &[u8], scope: &Scope<'_>, depth: usize) -> Result<Element, TextFault>
+fn read(
+    alloc: Global,
+    bytes: &[u8],
+    scope: &Scope<'_>,
+    depth: usize,
+) -> Result<Element, ReadError<TextFault>>
     requires { length scope.now + depth ≤ 67 }
-    ensures { Unless texts.NoMemory (text_read depth scope.now bytes.now) result }
+    ensures { Answered (λ answer. answer ≡ text_read depth scope.now bytes.now) result }
 {
     let Ok(text) = str::from_utf8(bytes) else {
-        return Err(TextFault::NotUtf8);
+        return Err(ReadError::Fault(TextFault::NotUtf8));
     };
     let all = decoded(alloc, text)?;
     match root(alloc, &all, scope, depth) {
         Ok(root) => Ok(root),
-        Err(stop) => Err(fault(bytes, stop)),
+        Err(stop) => Err(error(bytes, stop)),
     }
 }
 
@@ -95,12 +101,15 @@ fn read(alloc: Global, bytes: &[u8], scope: &Scope<'_>, depth: usize) -> Result<
 ///
 /// # Errors
 /// The fault with the least place; `NoMemory` for want of memory.
-pub fn read_document(alloc: Global, bytes: &[u8], depth: usize) -> Result<Element, TextFault>
+pub fn read_document(
+    alloc: Global,
+    bytes: &[u8],
+    depth: usize,
+) -> Result<Element, ReadError<TextFault>>
     requires least { 1 ≤ depth }
     requires most { depth ≤ 67 }
-    ensures grammar { TextAnswer depth [] bytes.now result ⊎ (result ≡ Err texts.NoMemory) }
+    ensures answer_by_the_grammar { Answered (TextAnswer depth [] bytes.now) result }
     ensures proper { IfOk result (λ tree. ProperIn [] tree × (height tree ≤ depth)) }
-    ensures computed { Unless texts.NoMemory (text_read depth [] bytes.now) result }
 {
     read(alloc, bytes, &Scope::empty(), depth)
 }
@@ -115,11 +124,10 @@ pub fn read_fragment(
     bytes: &[u8],
     scope: &Scope<'_>,
     depth: usize,
-) -> Result<Element, TextFault>
+) -> Result<Element, ReadError<TextFault>>
     requires { length scope.now + depth ≤ 67 }
-    ensures grammar { TextAnswer depth scope.now bytes.now result ⊎ (result ≡ Err texts.NoMemory) }
+    ensures answer_by_the_grammar { Answered (TextAnswer depth scope.now bytes.now) result }
     ensures proper { IfOk result (λ tree. ProperIn scope.now tree × (height tree ≤ depth)) }
-    ensures computed { Unless texts.NoMemory (text_read depth scope.now bytes.now) result }
 {
     read(alloc, bytes, scope, depth)
 }

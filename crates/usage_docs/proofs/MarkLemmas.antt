@@ -21,7 +21,7 @@ use Rattle.usage_docs.specs.declared.keys.Keyed.{Keyed}
 use Rattle.usage_docs.specs.Keys.{key_of, value_of, key_value}
 use Rattle.usage_docs.specs.Rows.{Scope, kind_of}
 use Rattle.usage_docs.specs.Clashes.{inside, Mark, mark, mark_of}
-use Rattle.usage_docs.specs.Siblings.{marks_of, own_marks, IsAmong, Holds}
+use Rattle.usage_docs.specs.Reading.Siblings.{marks_of, own_marks, IsAmong, Holds}
 use Rattle.usage_docs.proofs.ClashLemmas.{value_in}
 
 -- kinds compare as equal exactly where they are the same

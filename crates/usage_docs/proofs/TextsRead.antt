@@ -6,7 +6,7 @@ use Rattle.xml_tree.specs.Nodes.{content_of}
 use Rattle.xml_tree.specs.declared.tree.Node.{Node}
 use Rattle.xml_tree.specs.declared.tree.Node.TheVariants.{Elem, Chars, Comment}
 use Rattle.usage_docs.specs.declared.letters.Address.{Address}
-use Rattle.usage_docs.specs.Forms.{text_of}
+use Rattle.usage_docs.specs.Texts.{text_of}
 
 abbrev pub after_nodes : (Address → ℕ → Address) → Address → List Node → Address
 after_nodes f a [] = a

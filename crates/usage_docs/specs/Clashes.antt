@@ -1,5 +1,5 @@
--- Keys are distinct among siblings of one kind. RFC 4826, sections 3.2 and 4.2 (xs:unique and the uniqueness constraints of the
--- two usages).
+-- Keys are distinct among siblings of one kind. RFC 4826, sections 3.4.5 and 4.4.5 (additional constraints: what has to be unique is
+-- said there in prose; the schemas don't say it).
 use Rattle.std.specs.Prelude.{◌≡◌, ℕ, ◌<◌, ◌⊎◌, List, [], ◌∷◌, ◌++◌, Option, None, Some, option_map, option_and_then, slice_get}
 use Rattle.xml_tree.specs.Tree.{Tree, kids_of}
 use Rattle.doc_names.specs.declared.usages.Usage.{Usage}

@@ -1,4 +1,4 @@
--- The form of references. RFC 4826, section 3.4.3 and 4.4.3 (data semantics of ref, anchor and resource-list); RFC 3986, 4.2.
+-- The form of references. RFC 4826, sections 3.4.5 and 4.4.5 (additional constraints: ref, anchor, resource-list); RFC 3986, 4.2.
 use Rattle.std.specs.Prelude.{ℕ, Bool, true, false, List, [], ◌∷◌, ◌++◌, codes, if◌then◌else◌, ◌&&◌, ◌||◌, ◌==◌, not, IsTrue}
 use Rattle.std.specs.Str.{bytes_eq}
 use Rattle.std.specs.List.{list_all}
@@ -14,6 +14,7 @@ use Rattle.usage_docs.specs.declared.rows.Kind.TheVariants.{ResourceLists, Entry
 use Rattle.usage_docs.specs.declared.rows.Key.TheVariants.{Ref, Anchor}
 use Rattle.usage_docs.specs.Rows.{Scope, kind_of, root_kind}
 use Rattle.usage_docs.specs.Keys.{value_of}
+use Rattle.usage_docs.specs.Texts.{text_of}
 
 -- what stands before the first `/`, or the whole where there is none
 abbrev pub first_segment : List ℕ → List ℕ
@@ -48,12 +49,6 @@ trim_back white (c ∷ cs) = if white c && bytes_eq (trim_back white cs) [] then
 -- a text without the white space at its ends
 unfoldable pub trimmed : List ℕ → List ℕ
 trimmed s = trim_back is_space (trim_front is_space s)
-
--- the text of an element: its texts, joined
-abbrev pub text_of : Content → List ℕ
-text_of (last t) = t
-text_of (note t inside rest) = t ++ text_of rest
-text_of (more t n ds ats k rest) = t ++ text_of rest
 
 -- the references of an element of some kind have their form
 unfoldable pub is_formed : Kind → List Attr → Content → Bool

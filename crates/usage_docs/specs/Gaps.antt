@@ -1,36 +1,40 @@
 -- Where a new element may be put in a valid document: between two neighbours, whatever else the document has.
-use Rattle.std.specs.Prelude.{◌≡◌, ◌≤◌, ℕ, zero, suc, List, [], ◌∷◌, ◌++◌, length, Some, slice_get, IsTrue}
+use Rattle.std.specs.Prelude.{◌≡◌, ◌≤◌, ℕ, zero, suc, List, [], ◌∷◌, ◌++◌, length, Option, None, Some, slice_get}
 use Rattle.std.specs.Option.{ForSome}
-use Rattle.xml_tree.specs.Tree.{Content, last, more, note, Tree, kids_of}
+use Rattle.xml_tree.specs.Tree.{Content, Tree, kids_of}
 use Rattle.usage_docs.specs.declared.rows.Kind.{Kind}
-use Rattle.usage_docs.specs.Rows.{Scope, kind_of, part_of, follows, end}
-use Rattle.usage_docs.specs.Validity.{ValidChild}
+use Rattle.usage_docs.specs.Rows.{Scope, Child, Matches, items_in, model_of, kind_of, child_of}
+use Rattle.usage_docs.specs.Validity.{ValidChild, children_of}
 use Rattle.usage_docs.specs.Clashes.{inside}
 
--- the part of a child
-abbrev pub part_of_kid : Kind → Scope → Tree → ℕ
-part_of_kid row c e = part_of row (inside c e) e.name
+-- the last of some children, if there are any
+abbrev pub last_of : List Child → Option Child
+last_of [] = None
+last_of (x ∷ []) = Some x
+last_of (x ∷ y ∷ xs) = last_of (y ∷ xs)
 
--- the part of the child before a gap, `b` being the part before the content
-abbrev pub part_before : Kind → Scope → ℕ → ℕ → Content → ℕ
-part_before row c b zero content = b
-part_before row c b (suc j) (last t) = b
-part_before row c b (suc j) (more t n ds ats k rest) = part_before row c (part_of row (c ++ ds ∷ []) n) j rest
-part_before row c b (suc j) (note t x rest) = part_before row c b (suc j) rest
+-- By the model of a row a child may stand between two others: some children that match it have the three in a row. Where none is named
+-- before it, it is the first of them; where none is named behind it, the last.
+pub record MayStand (row : Kind) (before : Option Child) (x : Child) (behind : Option Child) : Type 0 where
+  pub front : List Child
+  pub back : List Child
+  pub ends : last_of front ≡ before
+  pub begins : slice_get back 0 ≡ behind
+  pub fits : Matches (items_in (model_of row)) (front ++ x ∷ back)
 
--- that of the child behind it, or the end
-abbrev pub part_after : Kind → Scope → ℕ → Content → ℕ
-part_after row c j (last t) = end
-part_after row c zero (more t n ds ats k rest) = part_of row (c ++ ds ∷ []) n
-part_after row c (suc j) (more t n ds ats k rest) = part_after row c j rest
-part_after row c j (note t x rest) = part_after row c j rest
+-- the child before a gap, and the one behind it, if they are there; gap 0 stands before the first child
+abbrev pub child_before : ℕ → List Child → Option Child
+child_before zero xs = None
+child_before (suc j) xs = slice_get xs j
 
--- the new element is valid by itself, and may stand between the two children
+abbrev pub child_behind : ℕ → List Child → Option Child
+child_behind j xs = slice_get xs j
+
+-- the new element is valid by itself, and may stand between the two children beside the gap
 abbrev pub FitsGap : Kind → Scope → Content → Tree → ℕ → Type 0
 FitsGap row c content new j =
     ValidChild row c new
-    × IsTrue (follows row (part_before row c 0 j content) (part_of_kid row c new))
-    × IsTrue (follows row (part_of_kid row c new) (part_after row c j content))
+    × MayStand row (child_before j (children_of row c content)) (child_of row (inside c new) new.name) (child_behind j (children_of row c content))
 
 -- the same in the element at a path below one of this row; what stands in a foreign element is not looked at
 abbrev pub FitsBelow : Kind → Scope → Tree → List ℕ → Tree → ℕ → Type 0

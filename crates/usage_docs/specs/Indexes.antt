@@ -3,7 +3,7 @@ use Rattle.std.specs.Prelude.{◌≡◌, ℕ, map, if◌then◌else◌, ◌==◌
 use Rattle.xml_tree.specs.Tree.{Tree, kids_of}
 use Rattle.xml_tree.specs.declared.tree.Node.TheVariants.{Elem}
 use Rattle.usage_docs.specs.Services.{index_of}
-use Rattle.usage_docs.specs.Listing.{elems_len}
+use Rattle.usage_docs.specs.Reading.Listing.{elems_len}
 
 -- the element is the index of its children, and their printed length is this
 pub record IsIndex (root : Tree) (inner : ℕ) : Type 0 where

@@ -1,5 +1,5 @@
 -- The attributes without a namespace, which are also the keys of elements. RFC 4826, sections 3.2 and 4.2.
-use Rattle.std.specs.Prelude.{ℕ, Bool, true, false, List, [], Option, None, Some, codes, if◌then◌else◌, ◌&&◌, ◌||◌, not, find, is_some, unwrap_or, option_map, option_and_then}
+use Rattle.std.specs.Prelude.{ℕ, Bool, true, false, List, [], Option, None, Some, codes, if◌then◌else◌, ◌&&◌, not, find, is_some, unwrap_or, option_map, option_and_then}
 use Rattle.std.specs.Str.{bytes_eq}
 use Rattle.std.specs.List.{list_all}
 use Rattle.std.specs.Option.{option_map_or}
@@ -7,6 +7,8 @@ use Rattle.xml_tree.specs.Scopes.{bound}
 use Rattle.xml_tree.specs.declared.names.Attr.{Attr}
 use Rattle.usage_docs.specs.declared.rows.Kind.{Kind}
 use Rattle.usage_docs.specs.declared.rows.Kind.TheVariants.{ResourceLists, EntryList, Entry, EntryRef, External, DisplayName, RlsServices, Service, ResourceList, Packages, Package}
+use Rattle.usage_docs.specs.declared.rows.Attribute.{Attribute}
+use Rattle.usage_docs.specs.declared.rows.Attribute.TheVariants.{Nothing, May, Must}
 use Rattle.usage_docs.specs.declared.rows.Key.{Key}
 use Rattle.usage_docs.specs.declared.rows.Key.TheVariants.{Name, Uri, Ref, Anchor}
 use Rattle.usage_docs.specs.Rows.{Scope, lists_space, services_space}
@@ -18,26 +20,29 @@ word Uri = codes "uri"
 word Ref = codes "ref"
 word Anchor = codes "anchor"
 
--- the one attribute without a namespace that a row takes, which is its key
-unfoldable pub key_of : Kind → Option Key
-key_of EntryList = Some Name
-key_of Entry = Some Uri
-key_of EntryRef = Some Ref
-key_of External = Some Anchor
-key_of Service = Some Uri
-key_of ResourceLists = None
-key_of DisplayName = None
-key_of RlsServices = None
-key_of ResourceList = None
-key_of Packages = None
-key_of Package = None
+-- the attributes without a namespace that an element of a kind may have: none; or one, which may be there (`use="optional"`) or has to be
+-- (`use="required"`)
+unfoldable pub attribute_of : Kind → Attribute
+attribute_of ResourceLists = Nothing
+attribute_of EntryList = May Name
+attribute_of Entry = Must Uri
+attribute_of EntryRef = Must Ref
+attribute_of External = Must Anchor
+attribute_of DisplayName = Nothing
+attribute_of RlsServices = Nothing
+attribute_of Service = Must Uri
+attribute_of ResourceList = Nothing
+attribute_of Packages = Nothing
+attribute_of Package = Nothing
 
--- `name` may be left out, the others not
-unfoldable pub is_optional : Key → Bool
-is_optional Name = true
-is_optional Uri = false
-is_optional Ref = false
-is_optional Anchor = false
+abbrev pub key_in : Attribute → Option Key
+key_in Nothing = None
+key_in (May key) = Some key
+key_in (Must key) = Some key
+
+-- it is the key of the element
+unfoldable pub key_of : Kind → Option Key
+key_of kind = key_in (attribute_of kind)
 
 -- an unprefixed attribute with this name
 abbrev pub is_key : Key → Attr → Bool
@@ -67,9 +72,14 @@ is_own_word row local = option_map_or (λ key. bytes_eq local (word key)) (key_o
 unfoldable pub attr_passes : Kind → Scope → Attr → Bool
 attr_passes row c a = if bytes_eq a.name.prefix [] then is_own_word row a.name.local else is_other_space (space_of_attr c a)
 
--- the row's own attribute is there, unless it may be left out
+-- an attribute that has to be there is
+abbrev pub is_met : Attribute → List Attr → Bool
+is_met Nothing ats = true
+is_met (May key) ats = true
+is_met (Must key) ats = is_some (value_of key ats)
+
 unfoldable pub has_needed : Kind → List Attr → Bool
-has_needed row ats = option_map_or (λ key. is_optional key || is_some (value_of key ats)) (key_of row) true
+has_needed row ats = is_met (attribute_of row) ats
 
 -- the attributes of an element of this row, in the scope that ends with its own declarations
 unfoldable pub attrs_pass : Kind → Scope → List Attr → Bool

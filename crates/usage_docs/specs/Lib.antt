@@ -3,13 +3,11 @@ pub mod Clashes
 pub mod Forms
 pub mod Gaps
 pub mod Indexes
+pub mod Judging
 pub mod Keys
-pub mod Lengths
-pub mod Letters
-pub mod Listing
+pub mod Reading
 pub mod Rows
 pub mod Services
-pub mod Siblings
-pub mod Uris
+pub mod Texts
 pub mod Validity
 pub mod Words

@@ -1,23 +1,12 @@
--- The two document types as one table: what an element may hold, by its kind.
+-- The two document types as tables: what an element may be, have and hold, by its kind.
 -- RFC 4826, section 3.2 (the schema of resource-lists) and section 4.2 (the schema of rls-services).
 --
---   kind            attribute   children, in order                                             text
---   ResourceLists               list*
---   EntryList       name?       display-name? (list | external | entry | entry-ref)* foreign*
---   Entry           uri         display-name? foreign*
---   EntryRef        ref         display-name? foreign*
---   External        anchor      display-name? foreign*
---   DisplayName                                                                                any
---   RlsServices                 service*
---   Service         uri         (resource-list | list) packages? foreign*
---   ResourceList                                                                               any
---   Packages                    (package | foreign)*
---   Package                                                                                    any
---
--- The children of the first six rows are in the namespace of resource-lists, those of the others in the namespace of
--- rls-services; both `list` elements are of the kind EntryList. Foreign to a row is an element of any other namespace; one
--- without a namespace is neither. Where the column says nothing of text, it is white space alone.
-use Rattle.std.specs.Prelude.{ℕ, Bool, true, false, List, [], Option, None, Some, codes, if◌then◌else◌, ◌&&◌, ◌||◌, not, nat_lt, nat_eq, unwrap_or}
+-- A content model is data, item by item as the schemas write it: an `xs:sequence` is a list of items, what an `xs:choice` lets stand
+-- is the list of one item, and its minOccurs and maxOccurs are the word before that: `one`, `opt` (0 or 1), `any` (0 or more).
+-- `foreign` is `xs:any` with `##other`: an element of any other namespace than the row's, but not without one.
+-- `text_alone` is simple content.
+use Rattle.std.specs.Prelude.{ℕ, Bool, List, [], ◌∷◌, ◌⊎◌, ◌≡◌, Option, None, Some, codes, if◌then◌else◌, ◌&&◌, not, find, unwrap_or}
+use Rattle.std.specs.List.{filter_map, flat_map}
 use Rattle.std.specs.Str.{bytes_eq}
 use Rattle.std.specs.Option.{option_map_or}
 use Rattle.xml_tree.specs.Scopes.{bound}
@@ -36,14 +25,10 @@ lists_space = codes "urn:ietf:params:xml:ns:resource-lists"
 unfoldable pub services_space : List ℕ
 services_space = codes "urn:ietf:params:xml:ns:rls-services"
 
--- the kind of a document's root, and its local name; its namespace is that of its children
+-- the kind of a document's root; its namespace is that of its children
 unfoldable pub root_kind : Usage → Kind
 root_kind usage.ResourceLists = ResourceLists
 root_kind usage.RlsServices = RlsServices
-
-unfoldable pub root_word : Usage → List ℕ
-root_word usage.ResourceLists = codes "resource-lists"
-root_word usage.RlsServices = codes "rls-services"
 
 -- the namespace of a row's children
 unfoldable pub own_space : Kind → List ℕ
@@ -59,82 +44,74 @@ own_space ResourceList = services_space
 own_space Packages = services_space
 own_space Package = services_space
 
--- what a child of the row's namespace is, by its local name
-unfoldable pub child_named : Kind → List ℕ → Option Kind
-child_named ResourceLists w = if bytes_eq w (codes "list") then Some EntryList else None
-child_named EntryList w =
-    if bytes_eq w (codes "display-name") then Some DisplayName
-    else if bytes_eq w (codes "list") then Some EntryList
-    else if bytes_eq w (codes "external") then Some External
-    else if bytes_eq w (codes "entry") then Some Entry
-    else if bytes_eq w (codes "entry-ref") then Some EntryRef
-    else None
-child_named Entry w = if bytes_eq w (codes "display-name") then Some DisplayName else None
-child_named EntryRef w = if bytes_eq w (codes "display-name") then Some DisplayName else None
-child_named External w = if bytes_eq w (codes "display-name") then Some DisplayName else None
-child_named DisplayName w = None
-child_named RlsServices w = if bytes_eq w (codes "service") then Some Service else None
-child_named Service w =
-    if bytes_eq w (codes "resource-list") then Some ResourceList
-    else if bytes_eq w (codes "list") then Some EntryList
-    else if bytes_eq w (codes "packages") then Some Packages
-    else None
-child_named ResourceList w = None
-child_named Packages w = if bytes_eq w (codes "package") then Some Package else None
-child_named Package w = None
+-- the local name of an element of a kind; both `list` elements, that of resource-lists and that of rls-services, are one kind
+unfoldable pub word_of : Kind → List ℕ
+word_of ResourceLists = codes "resource-lists"
+word_of EntryList = codes "list"
+word_of Entry = codes "entry"
+word_of EntryRef = codes "entry-ref"
+word_of External = codes "external"
+word_of DisplayName = codes "display-name"
+word_of RlsServices = codes "rls-services"
+word_of Service = codes "service"
+word_of ResourceList = codes "resource-list"
+word_of Packages = codes "packages"
+word_of Package = codes "package"
 
--- the children of a row come in parts, counted from 1: the part of a child of some kind
-unfoldable pub part_named : Kind → Kind → ℕ
-part_named EntryList DisplayName = 1
-part_named EntryList kind = 2
-part_named Service Packages = 2
-part_named row kind = 1
+-- ---- content models
 
--- the part of the foreign elements; 0 where none may stand
-unfoldable pub foreign_part : Kind → ℕ
-foreign_part ResourceLists = 0
-foreign_part EntryList = 3
-foreign_part Entry = 2
-foreign_part EntryRef = 2
-foreign_part External = 2
-foreign_part DisplayName = 0
-foreign_part RlsServices = 0
-foreign_part Service = 3
-foreign_part ResourceList = 0
-foreign_part Packages = 1
-foreign_part Package = 0
+-- what a child is in an element: of a kind that stands there, of a foreign namespace, or one that may not stand there
+pub data Child : Type 0 where
+  known : Kind → Child
+  foreign : Child
+  stray : Child
 
--- so many of the first parts are of one child at most; the others take any number
-unfoldable pub single_parts : Kind → ℕ
-single_parts ResourceLists = 0
-single_parts EntryList = 1
-single_parts Entry = 1
-single_parts EntryRef = 1
-single_parts External = 1
-single_parts DisplayName = 0
-single_parts RlsServices = 0
-single_parts Service = 2
-single_parts ResourceList = 0
-single_parts Packages = 0
-single_parts Package = 0
+-- the children that one item of a model takes: exactly one of these, at most one, or any number in any mix
+pub data Item : Type 0 where
+  one : List Child → Item
+  opt : List Child → Item
+  any : List Child → Item
 
--- the first part has to be there
-unfoldable pub needs_first : Kind → Bool
-needs_first Service = true
-needs_first kind = false
+-- text alone, or items in order with white space alone for text
+pub data Model : Type 0 where
+  text_alone : Model
+  sequence : List Item → Model
 
--- a child of the part `next` may stand directly behind one of the part `before`, where 0 is the beginning: its part comes
--- later, or is the same and takes any number; and a first part that has to be there is not passed over
-unfoldable pub follows : Kind → ℕ → ℕ → Bool
-follows row before next =
-    (nat_lt before next || (nat_eq before next && nat_lt (single_parts row) next))
-    && not (needs_first row && nat_eq before 0 && nat_lt 1 next)
+-- what an element of a kind may hold
+unfoldable pub model_of : Kind → Model
+model_of ResourceLists = sequence (any (known EntryList ∷ []) ∷ [])
+model_of EntryList = sequence (opt (known DisplayName ∷ []) ∷ any (known EntryList ∷ known External ∷ known Entry ∷ known EntryRef ∷ []) ∷ any (foreign ∷ []) ∷ [])
+model_of Entry = sequence (opt (known DisplayName ∷ []) ∷ any (foreign ∷ []) ∷ [])
+model_of EntryRef = sequence (opt (known DisplayName ∷ []) ∷ any (foreign ∷ []) ∷ [])
+model_of External = sequence (opt (known DisplayName ∷ []) ∷ any (foreign ∷ []) ∷ [])
+model_of DisplayName = text_alone
+model_of RlsServices = sequence (any (known Service ∷ []) ∷ [])
+model_of Service = sequence (one (known ResourceList ∷ known EntryList ∷ []) ∷ opt (known Packages ∷ []) ∷ any (foreign ∷ []) ∷ [])
+model_of ResourceList = text_alone
+model_of Packages = sequence (any (known Package ∷ foreign ∷ []) ∷ [])
+model_of Package = text_alone
 
--- the end of the children, behind every part
-abbrev pub end : ℕ
-end = 4
+-- its items; text alone leaves no room for children
+abbrev pub items_in : Model → List Item
+items_in text_alone = []
+items_in (sequence items) = items
 
--- ---- a child by its expanded name
+-- one of these children is this one
+abbrev pub IsIn : List Child → Child → Type 0
+IsIn [] x = ⊥
+IsIn (y ∷ ys) x = (y ≡ x) ⊎ IsIn ys x
+
+-- Children in order match the items of a model: each `one` takes a child of its list, each `opt` one or none, each `any` as many as
+-- there are, and none is left.
+pub data Matches : List Item → List Child → Type 0 where
+  ends : Matches [] []
+  takes : {ys : List Child} {items : List Item} {x : Child} {xs : List Child} → IsIn ys x → Matches items xs → Matches (one ys ∷ items) (x ∷ xs)
+  may_take : {ys : List Child} {items : List Item} {x : Child} {xs : List Child} → IsIn ys x → Matches items xs → Matches (opt ys ∷ items) (x ∷ xs)
+  takes_none : {ys : List Child} {items : List Item} {xs : List Child} → Matches items xs → Matches (opt ys ∷ items) xs
+  takes_more : {ys : List Child} {items : List Item} {x : Child} {xs : List Child} → IsIn ys x → Matches (any ys ∷ items) xs → Matches (any ys ∷ items) (x ∷ xs)
+  takes_no_more : {ys : List Child} {items : List Item} {xs : List Child} → Matches items xs → Matches (any ys ∷ items) xs
+
+-- ---- elements by their expanded names
 
 -- declarations, outermost first
 abbrev pub Scope : Type 0
@@ -144,6 +121,26 @@ Scope = List (List Decl)
 abbrev pub space_of : Scope → Name → List ℕ
 space_of c n = unwrap_or (bound c n.prefix) []
 
+-- the kind of a known child
+abbrev pub kind_in : Child → Option Kind
+kind_in (known kind) = Some kind
+kind_in foreign = None
+kind_in stray = None
+
+-- the kinds that a row's model names, in its order
+abbrev pub children_in : Item → List Child
+children_in (one ys) = ys
+children_in (opt ys) = ys
+children_in (any ys) = ys
+
+abbrev pub kinds_in : List Item → List Kind
+kinds_in items = filter_map kind_in (flat_map children_in items)
+
+-- that of them which has this local name
+unfoldable pub child_named : Kind → List ℕ → Option Kind
+child_named row local = find (λ kind. bytes_eq local (word_of kind)) (kinds_in (items_in (model_of row)))
+
+-- by namespace and local name
 abbrev pub kind_by : Kind → List ℕ → List ℕ → Option Kind
 kind_by row space local = if bytes_eq space (own_space row) then child_named row local else None
 
@@ -151,17 +148,17 @@ kind_by row space local = if bytes_eq space (own_space row) then child_named row
 abbrev pub is_foreign : Kind → List ℕ → Bool
 is_foreign row space = not (bytes_eq space (own_space row)) && not (bytes_eq space [])
 
-abbrev pub part_by : Kind → List ℕ → List ℕ → ℕ
-part_by row space local = option_map_or (part_named row) (kind_by row space local) (if is_foreign row space then foreign_part row else 0)
+abbrev pub child_by : Kind → List ℕ → List ℕ → Child
+child_by row space local = option_map_or known (kind_by row space local) (if is_foreign row space then foreign else stray)
 
 -- the kind of a child, by the row of its parent; foreign elements have none
 unfoldable pub kind_of : Kind → Scope → Name → Option Kind
 kind_of row c n = kind_by row (space_of c n) n.local
 
--- the part that a child belongs to; 0 where it may not stand
-unfoldable pub part_of : Kind → Scope → Name → ℕ
-part_of row c n = part_by row (space_of c n) n.local
+-- what it is in its parent
+unfoldable pub child_of : Kind → Scope → Name → Child
+child_of row c n = child_by row (space_of c n) n.local
 
 -- the name of a document's root
 unfoldable pub is_root : Usage → Scope → Name → Bool
-is_root u c n = bytes_eq (space_of c n) (own_space (root_kind u)) && bytes_eq n.local (root_word u)
+is_root u c n = bytes_eq (space_of c n) (own_space (root_kind u)) && bytes_eq n.local (word_of (root_kind u))

@@ -2,9 +2,9 @@
 ghost use Rattle.std.specs.Prelude.{◌≡◌, Some, None, IsTrue, chars, option_map, is_some};
 ghost use Rattle.std.specs.List.{list_all};
 ghost use Rattle.usage_docs.specs.Words.{is_ascii};
-ghost use Rattle.usage_docs.specs.Keys.{word, key_of, is_optional, is_key, value_of, key_value, is_other_space, attr_passes, has_needed, attrs_pass, space_of_attr, is_own_word};
+ghost use Rattle.usage_docs.specs.Keys.{word, attribute_of, key_of, is_key, value_of, key_value, is_other_space, attr_passes, has_needed, attrs_pass, space_of_attr, is_own_word};
 
-use crate::rows::{Key, Kind, is_word, lists_space, services_space};
+use crate::rows::{Attribute, Key, Kind, is_word, lists_space, services_space};
 use xml_tree::{Around, Attr, Text};
 
 impl Key {
@@ -21,13 +21,20 @@ impl Key {
             Key::Anchor => "anchor",
         }
     }
+}
 
-    // Whether the attribute may be left out.
-    #[tactic(auto, unfolding(crate::specs::Keys::is_optional))]
-    fn is_optional(self) -> bool
-        ensures { result ≡ is_optional self }
-    {
-        matches!(self, Key::Name)
+/// The attributes without a namespace that an element of a kind may have. Takes no memory.
+#[tactic(auto, unfolding(crate::specs::Keys::attribute_of))]
+fn attribute_of(kind: Kind) -> Attribute
+    ensures of_the_table { result ≡ attribute_of kind }
+{
+    match kind {
+        Kind::EntryList => Attribute::May(Key::Name),
+        Kind::Entry => Attribute::Must(Key::Uri),
+        Kind::EntryRef => Attribute::Must(Key::Ref),
+        Kind::External => Attribute::Must(Key::Anchor),
+        Kind::Service => Attribute::Must(Key::Uri),
+        _ => Attribute::Nothing,
     }
 }
 
@@ -36,13 +43,10 @@ impl Key {
 pub fn key_of(kind: Kind) -> Option<Key>
     ensures { result ≡ key_of kind }
 {
-    match kind {
-        Kind::EntryList => Some(Key::Name),
-        Kind::Entry => Some(Key::Uri),
-        Kind::EntryRef => Some(Key::Ref),
-        Kind::External => Some(Key::Anchor),
-        Kind::Service => Some(Key::Uri),
-        _ => None,
+    match attribute_of(kind) {
+        Attribute::May(key) => Some(key),
+        Attribute::Must(key) => Some(key),
+        Attribute::Nothing => None,
     }
 }
 
@@ -125,14 +129,15 @@ fn attr_passes(row: Kind, scope: &Around<'_>, attr: &Attr) -> bool
     is_other_space(space_of(scope, attr))
 }
 
-// Whether the row's own attribute is there, unless it may be left out.
+// Whether the attribute is there that an element of this row must have.
 #[tactic(auto, unfolding(crate::specs::Keys::has_needed))]
 fn has_needed(row: Kind, attrs: &[Attr]) -> bool
     ensures { result ≡ has_needed row attrs.now }
 {
-    match key_of(row) {
-        Some(key) => key.is_optional() || has_value(key, attrs),
-        None => true,
+    match attribute_of(row) {
+        Attribute::Must(key) => has_value(key, attrs),
+        Attribute::May(_) => true,
+        Attribute::Nothing => true,
     }
 }
 

@@ -1,8 +1,8 @@
-//! Keys that repeat those of siblings (RFC 4826, sections 3.2 and 4.2).
+//! Keys that repeat those of siblings (RFC 4826, sections 3.4.5 and 4.4.5).
 ghost use Rattle.std.specs.Prelude.{◌≡◌, ◌≤◌, ◌+◌, ◌∷◌, List, [], ◌++◌, ◌↔◌, length, IsTrue, None, IfOk, OnOk, not};
 ghost use Rattle.xml_tree.specs.Tree.{height, content_height, kids_of};
 ghost use Rattle.usage_docs.specs.Clashes.{Mark, mark, RepeatsAt, IsFirstClash};
-ghost use Rattle.usage_docs.specs.Siblings.{IsAmong, Holds, marks_of, own_marks, RepeatedKey, RepeatsHere, IsFirst};
+ghost use Rattle.usage_docs.specs.Reading.Siblings.{IsAmong, Holds, marks_of, own_marks, RepeatedKey, RepeatsHere, IsFirst};
 
 use crate::attributes::{key_of, text_of};
 use crate::rows::{Key, Kind, kind_of, root_kind};

@@ -3,7 +3,7 @@ ghost use Rattle.std.specs.Prelude.{◌≡◌, ◌≤◌, ◌+◌, ◌∷◌, []
 ghost use Rattle.xml_tree.specs.declared.tree.Node.TheVariants.{Elem};
 ghost use Rattle.usage_docs.specs.declared.listing.IndexFault.TheVariants as IndexFault;
 ghost use Rattle.usage_docs.specs.Services.{is_service, listed_as, listed, index_of};
-ghost use Rattle.usage_docs.specs.Listing.{listed_nodes};
+ghost use Rattle.usage_docs.specs.Reading.Listing.{listed_nodes};
 ghost use Rattle.usage_docs.specs.Indexes.{len_with};
 
 use crate::lengths::listed_len;

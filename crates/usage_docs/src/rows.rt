@@ -3,7 +3,7 @@ ghost use Rattle.std.specs.Prelude.{◌≡◌, Some, None, IsTrue, chars, if◌t
 ghost use Rattle.usage_docs.specs.Words.{is_ascii};
 ghost use Rattle.std.specs.Str.{bytes_eq};
 ghost use Rattle.usage_docs.specs.declared.rows.Kind.TheVariants as Kind;
-ghost use Rattle.usage_docs.specs.Rows.{lists_space, services_space, root_kind, root_word, own_space, child_named, part_named, foreign_part, single_parts, needs_first, follows, space_of, kind_by, is_foreign, kind_of, part_of, is_root};
+ghost use Rattle.usage_docs.specs.Rows.{lists_space, services_space, root_kind, word_of, own_space, child_named, space_of, kind_by, is_foreign, kind_of, is_root};
 
 use doc_names::Usage;
 use xml_tree::{Around, Name, Text};
@@ -34,6 +34,16 @@ pub enum Key {
     Uri,
     Ref,
     Anchor,
+}
+
+/// What attributes without a namespace an element may have.
+#[derive(Debug, Clone, Copy, PartialEq, Eq)]
+pub(crate) enum Attribute {
+    Nothing,
+    /// This one may be there.
+    May(Key),
+    /// This one has to be there.
+    Must(Key),
 }
 
 const LISTS: &str = "urn:ietf:params:xml:ns:resource-lists";
@@ -70,9 +80,9 @@ pub fn root_kind(usage: Usage) -> Kind
 }
 
 // The local name of a document's root.
-#[tactic(auto, unfolding(crate::specs::Rows::root_word))]
+#[tactic(auto, unfolding(crate::specs::Rows::root_kind, crate::specs::Rows::word_of))]
 fn root_word(usage: Usage) -> &'static str
-    ensures value { result.now ≡ root_word usage }
+    ensures value { result.now ≡ word_of (root_kind usage) }
     ensures ascii { IsTrue (is_ascii result.now) }
 {
     match usage {
@@ -100,7 +110,7 @@ fn own_space(row: Kind) -> &'static str
 }
 
 // What a child of the row's namespace is, by its local name.
-#[tactic(auto, unfolding(crate::specs::Rows::child_named))]
+#[tactic(auto, unfolding(crate::specs::Rows::child_named, crate::specs::Rows::model_of, crate::specs::Rows::word_of))]
 fn child_named(row: Kind, local: &Text) -> Option<Kind>
     ensures { result ≡ child_named row local.now }
 {
@@ -130,7 +140,7 @@ fn only(local: &Text, word: &str, kind: Kind) -> Option<Kind>
 }
 
 // A child of a list.
-#[tactic(auto, unfolding(crate::specs::Rows::child_named))]
+#[tactic(auto, unfolding(crate::specs::Rows::child_named, crate::specs::Rows::model_of, crate::specs::Rows::word_of))]
 fn child_of_list(local: &Text) -> Option<Kind>
     ensures { result ≡ child_named Kind.EntryList local.now }
 {
@@ -150,7 +160,7 @@ fn child_of_list(local: &Text) -> Option<Kind>
 }
 
 // A child of a service.
-#[tactic(auto, unfolding(crate::specs::Rows::child_named))]
+#[tactic(auto, unfolding(crate::specs::Rows::child_named, crate::specs::Rows::model_of, crate::specs::Rows::word_of))]
 fn child_of_service(local: &Text) -> Option<Kind>
     ensures { result ≡ child_named Kind.Service local.now }
 {
@@ -163,68 +173,8 @@ fn child_of_service(local: &Text) -> Option<Kind>
     only(local, "packages", Kind::Packages)
 }
 
-// The part of a child of some kind.
-#[tactic(auto, unfolding(crate::specs::Rows::part_named))]
-fn part_named(row: Kind, kind: Kind) -> u8
-    ensures { result ≡ part_named row kind }
-{
-    match (row, kind) {
-        (Kind::EntryList, Kind::DisplayName) => 1,
-        (Kind::EntryList, _) => 2,
-        (Kind::Service, Kind::Packages) => 2,
-        _ => 1,
-    }
-}
-
-// The part of the foreign elements.
-#[tactic(auto, unfolding(crate::specs::Rows::foreign_part))]
-fn foreign_part(row: Kind) -> u8
-    ensures { result ≡ foreign_part row }
-{
-    match row {
-        Kind::EntryList | Kind::Service => 3,
-        Kind::Entry | Kind::EntryRef | Kind::External => 2,
-        Kind::Packages => 1,
-        _ => 0,
-    }
-}
-
-// How many of the first parts are of one child at most.
-#[tactic(auto, unfolding(crate::specs::Rows::single_parts))]
-fn single_parts(row: Kind) -> u8
-    ensures { result ≡ single_parts row }
-{
-    match row {
-        Kind::Service => 2,
-        Kind::EntryList | Kind::Entry | Kind::EntryRef | Kind::External => 1,
-        _ => 0,
-    }
-}
-
-// Whether the first part has to be there.
-#[tactic(auto, unfolding(crate::specs::Rows::needs_first))]
-fn needs_first(row: Kind) -> bool
-    ensures { result ≡ needs_first row }
-{
-    matches!(row, Kind::Service)
-}
-
-/// Whether a child of the part `next` may stand directly behind one of the part `before`, in an element of this row.
-/// Parts count from 1; before the first child stands part 0, behind the last one the part `END`. Takes no memory.
-#[tactic(auto, unfolding(crate::specs::Rows::follows))]
-pub fn follows(row: Kind, before: u8, next: u8) -> bool
-    ensures { result ≡ follows row before next }
-{
-    let in_order = before < next || (before == next && single_parts(row) < next);
-    let passed_over = needs_first(row) && before == 0 && 1 < next;
-    in_order && !passed_over
-}
-
-/// The part behind the last child.
-pub const END: u8 = 4;
-
 // The namespace of an element's name, in the scope that ends with its own declarations.
-fn space_of<'a>(scope: &Around<'a>, name: &Name) -> &'a str
+pub(crate) fn space_of<'a>(scope: &Around<'a>, name: &Name) -> &'a str
     ensures { chars result.now ≡ space_of scope.now name.now }
 {
     match scope.resolve(&name.prefix) {
@@ -242,7 +192,7 @@ pub(crate) fn is_word(text: &str, word: &str) -> bool
 }
 
 // A child's kind by its expanded name.
-fn kind_by(row: Kind, space: &str, local: &Text) -> Option<Kind>
+pub(crate) fn kind_by(row: Kind, space: &str, local: &Text) -> Option<Kind>
     ensures { result ≡ kind_by row (chars space.now) local.now }
 {
     if is_word(space, own_space(row)) {
@@ -253,7 +203,7 @@ fn kind_by(row: Kind, space: &str, local: &Text) -> Option<Kind>
 }
 
 // Whether an element of this namespace is foreign to the row.
-fn is_foreign(row: Kind, space: &str) -> bool
+pub(crate) fn is_foreign(row: Kind, space: &str) -> bool
     ensures { result ≡ is_foreign row (chars space.now) }
 {
     !is_word(space, own_space(row)) && !is_word(space, "")
@@ -266,29 +216,6 @@ pub fn kind_of(row: Kind, scope: &Around<'_>, name: &Name) -> Option<Kind>
     ensures { result ≡ kind_of row scope.now name.now }
 {
     kind_by(row, space_of(scope, name), &name.local)
-}
-
-/// The part that a child belongs to, counted from 1; 0 where it may not stand. Takes no memory.
-#[tactic(auto, unfolding(crate::specs::Rows::part_of))]
-pub fn part_of(row: Kind, scope: &Around<'_>, name: &Name) -> u8
-    ensures { result ≡ part_of row scope.now name.now }
-{
-    let space = space_of(scope, name);
-    match kind_by(row, space, &name.local) {
-        Some(kind) => part_named(row, kind),
-        None => part_without_kind(row, space),
-    }
-}
-
-// The part of a child that has no kind.
-fn part_without_kind(row: Kind, space: &str) -> u8
-    ensures { result ≡ (if is_foreign row (chars space.now) then foreign_part row else 0) }
-{
-    if is_foreign(row, space) {
-        foreign_part(row)
-    } else {
-        0
-    }
 }
 
 /// Whether a name is that of a document's root, in the scope of the root's declarations. Takes no memory.

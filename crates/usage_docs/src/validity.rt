@@ -5,16 +5,18 @@ ghost use Rattle.std.specs.Option.{ForSome};
 ghost use Rattle.xml_tree.specs.Characters.{is_space};
 ghost use Rattle.xml_tree.specs.declared.tree.Node.TheVariants.{Elem};
 ghost use Rattle.usage_docs.specs.Rows.{is_root, kind_of, root_kind};
-ghost use Rattle.usage_docs.specs.Validity.{takes_text, text_passes, ValidInRow, ValidChild, Schema, IsNextPart};
+ghost use Rattle.usage_docs.specs.Validity.{takes_text, text_passes, ValidInRow, ValidChild, Schema};
+ghost use Rattle.usage_docs.specs.Reading.Walks.{HoldsRow, IsNextPart};
 
 use crate::attributes::attrs_pass;
-use crate::rows::{END, Kind, follows, is_root, kind_of, part_of, root_kind};
+use crate::parts::{END, follows, part_of};
+use crate::rows::{Kind, is_root, kind_of, root_kind};
 use doc_names::Usage;
 use std::alloc::Global;
 use xml_tree::{Around, Declared, Element, NoMemory, Node, is_space};
 
 // Whether the row is text alone.
-#[tactic(auto, unfolding(crate::specs::Validity::takes_text))]
+#[tactic(auto, unfolding(crate::specs::Validity::takes_text, crate::specs::Rows::model_of))]
 fn takes_text(row: Kind) -> bool
     ensures { result ≡ takes_text row }
 {
@@ -52,6 +54,19 @@ pub fn is_valid_in_row(
     if !attrs_pass(kind, scope, element.attrs()) {
         return Ok(false);
     }
+    holds_row(alloc, kind, scope, element)
+}
+
+// Whether it holds what its row says.
+#[cycle(validity)]
+fn holds_row(
+    alloc: Global,
+    kind: Kind,
+    scope: &Around<'_>,
+    element: &Element,
+) -> Result<bool, NoMemory>
+    ensures { IfOk result (λ valid. IsTrue valid ↔ HoldsRow kind scope.now element.now.content) }
+{
     let mut before = 0;
     for node in element.nodes() {
         match next_part(alloc, kind, scope, before, node)? {

@@ -1,11 +1,16 @@
 -- How a command ends, by what it did.
 use Rattle.std.proofs.Common.{◌≡◌, ℕ, ◌≤◌, List, [], Option, None, Some, Result, Ok, Err, length, IfOk, ◌⊎◌, inl, inr, refl, sym, subst, arith, ⊎_elim}
-use Rattle.std.proofs.KnownBytes.{Consumes-nil}
+use Rattle.xcap_io.proofs.Passing.{gave_none}
 use Rattle.std.specs.Result.{result_unwrap_or}
 use Rattle.tree_text.specs.Faults.{TextAnswer}
+use Rattle.tree_text.specs.Memory.{Answered}
+use Rattle.tree_text.specs.declared.fault.ReadError.{ReadError}
+use Rattle.tree_text.specs.declared.fault.ReadError.TheVariants as errors
 use Rattle.tree_text.specs.declared.fault.TextFault.{TextFault}
 use Rattle.tree_text.specs.declared.fault.TextFault.TheVariants as faults
 use Rattle.doc_names.specs.declared.usages.Usage.{Usage as TheUsage}
+use Rattle.usage_docs.specs.declared.judging.Fault.{Fault}
+use Rattle.usage_docs.specs.declared.judging.Fault.TheVariants.{Invalid, Unformed, Repeated}
 use Rattle.notes.specs.declared.edit.Edit.{Edit}
 use Rattle.xml_tree.specs.Tree.{Tree}
 use Rattle.xcap_io.specs.Causes.{LineState}
@@ -14,7 +19,7 @@ use Rattle.xcap_app.specs.Checks.{Examines, GaveText}
 use Rattle.xcap_app.specs.Exits.{IsRefused}
 use Rattle.xcap_app.specs.Runs.{Runs}
 use Rattle.xcap_app.specs.Telling.{IsTold}
-use Rattle.xcap_app.specs.Verdicts.{AnswerVerdict, FaultVerdict, TextVerdict, TreeVerdict}
+use Rattle.xcap_app.specs.Verdicts.{AnswerVerdict, FaultVerdict, TextVerdict, TreeVerdict, exit_of}
 use Rattle.xcap_app.specs.declared.command.Command.{Command}
 use Rattle.xcap_app.specs.declared.command.Command.TheVariants.{Replay, Serve, Check}
 use Rattle.xcap_app.specs.declared.exit.Exit.{Exit}
@@ -24,18 +29,18 @@ use Rattle.xcap_app.specs.declared.refusal.Refusal.TheVariants.{TooLarge, NotUtf
 
 -- ---- texts
 
--- the verdict on what a text is read as is that on the text
-text_judged : (usage : TheUsage) (text : List ℕ) (answer : Result Tree TextFault) (exit : Exit) → TextAnswer 64 [] text answer ⊎ (answer ≡ Err faults.NoMemory)
-    → AnswerVerdict usage answer exit → TextVerdict usage text exit ⊎ (exit ≡ OutOfMemory)
-text_judged usage text answer exit read verdict = ⊎_elim
-    (λ r. inl (record { answer = answer; by_grammar = r; verdict = verdict }))
-    (λ (none : answer ≡ Err faults.NoMemory). inr (let v : AnswerVerdict usage (Err faults.NoMemory) exit = subst (λ a. AnswerVerdict usage a exit) none verdict in v))
-    read
+-- the verdict on a fault of a text is that on the text
+pub fault_judged : (usage : TheUsage) (text : List ℕ) (read : Result Tree (ReadError TextFault)) (error : ReadError TextFault) (fault : TextFault) (exit : Exit) → read ≡ Err error → error ≡ errors.Fault fault → Answered (TextAnswer 64 [] text) read
+    → FaultVerdict fault exit → TextVerdict usage text exit ⊎ (exit ≡ OutOfMemory)
+fault_judged usage text read error fault exit is told_so answers verdict =
+    let of_error : Answered (TextAnswer 64 [] text) (Err error) = subst (λ (r : Result Tree (ReadError TextFault)). Answered (TextAnswer 64 [] text) r) is answers in
+    let of_fault : TextAnswer 64 [] text (Err fault) = subst (λ (e : ReadError TextFault). Answered (TextAnswer 64 [] text) (Err e)) told_so of_error in
+    inl (record { answer = Err fault; by_grammar = of_fault; verdict = verdict })
 
--- and of a tree that it spells, unless memory is wanted for that
-pub tree_judged : {E : Type 0} → (usage : TheUsage) (text : List ℕ) (t : Tree) (r : Result Exit E) (exit : Exit) → TextAnswer 64 [] text (Ok t) ⊎ (Ok t ≡ Err faults.NoMemory)
+-- and that on a tree that it spells, unless memory is wanted for that
+pub tree_judged : {E : Type 0} → (usage : TheUsage) (text : List ℕ) (t : Tree) (r : Result Exit E) (exit : Exit) → TextAnswer 64 [] text (Ok t)
     → IfOk r (λ e. TreeVerdict usage t e) → exit ≡ result_unwrap_or r OutOfMemory → TextVerdict usage text exit ⊎ (exit ≡ OutOfMemory)
-tree_judged usage text t (Ok e) exit read verdict is = text_judged usage text (Ok t) exit read (subst (TreeVerdict usage t) (sym is) verdict)
+tree_judged usage text t (Ok e) exit read verdict is = inl (record { answer = Ok t; by_grammar = read; verdict = subst (TreeVerdict usage t) (sym is) verdict })
 tree_judged usage text t (Err e) exit read verdict is = inr is
 
 -- how a command may end whose text was judged
@@ -60,21 +65,15 @@ fault_verdict (faults.Namespace place) exit e = subst IsVerdict (sym e) tt
 fault_verdict (faults.RepeatedAttribute place) exit e = subst IsVerdict (sym e) tt
 fault_verdict (faults.TooDeep place) exit e = subst IsVerdict (sym e) tt
 fault_verdict (faults.Doctype place) exit e = subst IsVerdict (sym e) tt
-fault_verdict faults.NoMemory exit e = subst IsVerdict (sym e) tt
+
+judged_verdict : (fault : Option Fault) → IsVerdict (exit_of fault)
+judged_verdict None = tt
+judged_verdict (Some Invalid) = tt
+judged_verdict (Some Unformed) = tt
+judged_verdict (Some (Repeated clash)) = tt
 
 tree_verdict : (usage : TheUsage) (t : Tree) (exit : Exit) → TreeVerdict usage t exit → IsVerdict exit
-tree_verdict usage t Done v = tt
-tree_verdict usage t Usage v = v
-tree_verdict usage t InputFailed v = v
-tree_verdict usage t OutputFailed v = v
-tree_verdict usage t NetworkFailed v = v
-tree_verdict usage t (Refused TooLarge) v = v
-tree_verdict usage t (Refused NotUtf8) v = tt
-tree_verdict usage t (Refused (NotWellFormed place)) v = tt
-tree_verdict usage t (Refused Schema) v = tt
-tree_verdict usage t (Refused Constraint) v = tt
-tree_verdict usage t (Refused (Unique clash)) v = tt
-tree_verdict usage t OutOfMemory v = tt
+tree_verdict usage t exit (fault, judged, is) = subst IsVerdict (sym is) (judged_verdict fault)
 
 answer_verdict : (usage : TheUsage) (answer : Result Tree TextFault) (exit : Exit) → AnswerVerdict usage answer exit → IsVerdict exit
 answer_verdict usage (Ok t) exit v = tree_verdict usage t exit v
@@ -114,7 +113,7 @@ module _ {W : Type 0} (Keeps : List Edit → W → W → Type 0) where
   ran_out (Some (Replay root)) port input output w = ((refl, refl, refl), refl)
   ran_out (Some (Serve address root count)) port input output w = ((refl, refl, refl), refl)
   ran_out (Some (Check usage)) port input output w =
-      ((([], record { consumed = Consumes-nil input.left; counts = refl; reads = reads_none input }, omega arith), refl), refl, refl)
+      ((([], record { consumed = gave_none input.inward; counts = refl; reads = reads_none input }, omega arith), refl), refl, refl)
 
   -- an input that was refused, where memory was wanted for the words about that
   refused_out : (usage : TheUsage) (refusal : Refusal) (input input' : LineState) → Examines usage (Refused refusal) input input' → Examines usage OutOfMemory input input'

@@ -1,9 +1,9 @@
 -- What a buffer holds that is filled piece by piece, and what the input gave then.
 use Rattle.std.proofs.Common.{◌≡◌, ℕ, ◌+◌, ◌<◌, ◌≤◌, List, ◌++◌, length, take, Ok, arith, length-append}
 use Rattle.std.proofs.lemmas.List.{length-take-le}
-use Rattle.std.specs.Io.KnownBytes.{Consumes, IsAtEnd}
+use Rattle.xcap_io.specs.Passing.{Gave, IsEnded}
 use Rattle.xcap_io.specs.Causes.{LineState, OnlyReads}
-use Rattle.xcap_app.specs.Checks.{Gave, GaveText}
+use Rattle.xcap_app.specs.Checks.{JustGave, GaveText}
 
 -- a piece behind the front of a buffer lies within it
 pub behind_front : (buffer piece behind : List ℕ) (held count : ℕ) → held ≤ length buffer → count ≤ length piece → held + count ≤ length (take held buffer ++ (piece ++ behind))
@@ -11,12 +11,12 @@ behind_front buffer piece behind held count inside enough =
     omega (arith, length-append (take held buffer) (piece ++ behind), length-append piece behind, length-take-le held buffer inside)
 
 -- the input gave what the buffer holds
-pub gave_front : {T E : Type 0} (n : ℕ) (x : T) (buffer : List ℕ) (old new : LineState) → Consumes old.left new.left (take n buffer) → OnlyReads {T = T} {E = E} old new (Ok x) → Gave (take n buffer) old new
+pub gave_front : {T E : Type 0} (n : ℕ) (x : T) (buffer : List ℕ) (old new : LineState) → Gave old.inward new.inward (take n buffer) → OnlyReads {T = T} {E = E} old new (Ok x) → JustGave (take n buffer) old new
 gave_front n x buffer old new consumed only = record { consumed = consumed; counts = only.counts; reads = only.reads }
 
 -- and that is all of a text, where the buffer has room for more
-pub gave_text : {T E : Type 0} (n : ℕ) (x : T) (buffer : List ℕ) (old new : LineState) → length buffer ≡ 262145 → n ≤ 262144 → Consumes old.left new.left (take n buffer)
-    → (n < length buffer → IsAtEnd new.left) → OnlyReads {T = T} {E = E} old new (Ok x) → GaveText (take n buffer) old new
+pub gave_text : {T E : Type 0} (n : ℕ) (x : T) (buffer : List ℕ) (old new : LineState) → length buffer ≡ 262145 → n ≤ 262144 → Gave old.inward new.inward (take n buffer)
+    → (n < length buffer → IsEnded new.inward) → OnlyReads {T = T} {E = E} old new (Ok x) → GaveText (take n buffer) old new
 gave_text {T = T} {E = E} n x buffer old new long few consumed ends only = record {
   gave = gave_front {T = T} {E = E} n x buffer old new consumed only;
   ended = ends (omega arith);

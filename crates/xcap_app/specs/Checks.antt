@@ -1,8 +1,8 @@
 -- What `check` does with its input and its output, by how it ends. This is the project's own.
-use Rattle.std.specs.Prelude.{◌≡◌, ℕ, ◌<◌, ◌≤◌, List, codes, length, take, Option, Result, MatchResult}
-use Rattle.std.specs.Io.KnownBytes.{Consumes, IsAtEnd}
+use Rattle.std.specs.Prelude.{◌≡◌, ℕ, ◌<◌, ◌≤◌, List, codes, length, take, Result, MatchResult}
 use Rattle.doc_names.specs.declared.usages.Usage.{Usage}
-use Rattle.xcap_io.specs.Causes.{LineState, Reads, Rose}
+use Rattle.xcap_io.specs.Causes.{Inward, LineState, Reads, Rose}
+use Rattle.xcap_io.specs.Passing.{Gave, IsEnded}
 use Rattle.xcap_app.specs.Telling.{TakesAll, TakesSome}
 use Rattle.xcap_app.specs.Verdicts.{TextVerdict}
 use Rattle.xcap_app.specs.declared.exit.Exit.{Exit}
@@ -12,27 +12,27 @@ use Rattle.xcap_app.specs.declared.refusal.Refusal.TheVariants.{TooLarge, NotUtf
 
 -- A buffer was filled from its front: so many bytes came, and where it isn't full the input ended behind them. At a failure
 -- fewer came than it has room for.
-abbrev pub Fills : {E : Type 0} → Result ℕ E → List ℕ → Option (List ℕ) → Option (List ℕ) → Type 0
-Fills result buffer left left' = MatchResult result
-    (λ n. (n ≤ length buffer) × Consumes left left' (take n buffer) × (n < length buffer → IsAtEnd left'))
-    (λ _. (n : ℕ) × (n < length buffer) × Consumes left left' (take n buffer))
+abbrev pub Fills : {E : Type 0} → Result ℕ E → List ℕ → Inward → Inward → Type 0
+Fills result buffer input input' = MatchResult result
+    (λ n. (n ≤ length buffer) × Gave input input' (take n buffer) × (n < length buffer → IsEnded input'))
+    (λ _. (n : ℕ) × (n < length buffer) × Gave input input' (take n buffer))
 
 -- The input gave these bytes, without a fault, and nothing else changed.
-pub record Gave (bytes : List ℕ) (old new : LineState) : Type 0 where
-  pub consumed : Consumes old.left new.left bytes
+pub record JustGave (bytes : List ℕ) (old new : LineState) : Type 0 where
+  pub consumed : Gave old.inward new.inward bytes
   pub counts : new.read_faults ≡ old.read_faults
   pub reads : Reads old new
 
 -- It gave these bytes, and then failed, and its count of failed reads rose.
 pub record GaveAndFailed (bytes : List ℕ) (old new : LineState) : Type 0 where
-  pub consumed : Consumes old.left new.left bytes
+  pub consumed : Gave old.inward new.inward bytes
   pub counts : Rose old.read_faults new.read_faults
   pub reads : Reads old new
 
 -- It gave a text, the whole of it, which has no more bytes than a document may have.
 pub record GaveText (text : List ℕ) (old new : LineState) : Type 0 where
-  pub gave : Gave text old new
-  pub ended : IsAtEnd new.left
+  pub gave : JustGave text old new
+  pub ended : IsEnded new.inward
   pub fits : length text ≤ 262144
 
 -- the text that the input gave is judged so
@@ -41,7 +41,7 @@ JudgedBy usage exit input input' = (text : List ℕ) × GaveText text input inpu
 
 -- why the input is refused: it has one byte more than a document may have, of which no more are read; or its text is
 abbrev pub Refuses : Usage → Refusal → LineState → LineState → Type 0
-Refuses usage TooLarge input input' = (front : List ℕ) × Gave front input input' × (length front ≡ 262145)
+Refuses usage TooLarge input input' = (front : List ℕ) × JustGave front input input' × (length front ≡ 262145)
 Refuses usage NotUtf8 input input' = JudgedBy usage (Refused NotUtf8) input input'
 Refuses usage (NotWellFormed place) input input' = JudgedBy usage (Refused (NotWellFormed place)) input input'
 Refuses usage Schema input input' = JudgedBy usage (Refused Schema) input input'
@@ -57,7 +57,7 @@ Examines usage InputFailed input input' = (front : List ℕ) × GaveAndFailed fr
 Examines usage OutputFailed input input' = ⊥
 Examines usage NetworkFailed input input' = ⊥
 Examines usage (Refused refusal) input input' = Refuses usage refusal input input'
-Examines usage OutOfMemory input input' = (front : List ℕ) × Gave front input input' × (length front ≤ 262145)
+Examines usage OutOfMemory input input' = (front : List ℕ) × JustGave front input input' × (length front ≤ 262145)
 
 -- of a valid document `valid` is written and a line end, and of none anything
 abbrev pub Checks : Usage → Exit → LineState → LineState → LineState → LineState → Type 0

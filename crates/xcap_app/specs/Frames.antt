@@ -2,7 +2,7 @@
 use Rattle.std.specs.Prelude.{◌≡◌, []}
 use Rattle.xcap_io.specs.Causes.{LineState, no_peer, no_port}
 
--- Of the input nothing changed but the bytes that it has left and its count of failed reads.
+-- Of the input nothing changed but what has come in over it and its count of failed reads.
 pub record JustRead (old new : LineState) : Type 0 where
   pub same_taken : new.taken ≡ old.taken
   pub same_write_faults : new.write_faults ≡ old.write_faults
@@ -13,7 +13,7 @@ pub record JustRead (old new : LineState) : Type 0 where
 
 -- Of the output nothing changed but the bytes that it has taken and its count of failed writes.
 pub record JustWritten (old new : LineState) : Type 0 where
-  pub same_left : new.left ≡ old.left
+  pub same_inward : new.inward ≡ old.inward
   pub same_read_faults : new.read_faults ≡ old.read_faults
   pub same_holds : new.holds ≡ old.holds
   pub same_aside : new.aside ≡ old.aside
@@ -23,7 +23,7 @@ pub record JustWritten (old new : LineState) : Type 0 where
 -- an input and an output as one line: it gives what the one gives, and takes what the other takes
 abbrev pub joined : LineState → LineState → LineState
 joined input output = record {
-  left = input.left;
+  inward = input.inward;
   taken = output.taken;
   read_faults = input.read_faults;
   write_faults = output.write_faults;

@@ -5,5 +5,6 @@ pub mod Frames
 pub mod Replays
 pub mod Runs
 pub mod Serves
+pub mod System
 pub mod Telling
 pub mod Verdicts

@@ -1,37 +1,28 @@
--- Which texts are valid documents of a usage, and why others are not: by their grammar (XML 1.0; Namespaces in XML 1.0), their
--- schema, the form of their references and their keys (RFC 4826, sections 3.2, 3.4.3, 4.2 and 4.4.3), in this order.
-use Rattle.std.specs.Prelude.{◌≡◌, ℕ, List, [], Some, Result, Ok, Err}
+-- Which texts are documents of a usage, and why others are not: by their grammar (XML 1.0; Namespaces in XML 1.0), and then by the
+-- one judgement of a tree (RFC 4826, sections 3.2, 3.4.5, 4.2 and 4.4.5).
+use Rattle.std.specs.Prelude.{◌≡◌, ℕ, List, [], Option, None, Some, Result, Ok, Err}
 use Rattle.tree_text.specs.Faults.{TextAnswer}
 use Rattle.tree_text.specs.declared.fault.TextFault.{TextFault}
 use Rattle.tree_text.specs.declared.fault.TextFault.TheVariants as faults
-use Rattle.usage_docs.specs.Clashes.{IsFirstClash, Unique}
-use Rattle.usage_docs.specs.Forms.{Constraints}
-use Rattle.usage_docs.specs.Validity.{Schema}
+use Rattle.usage_docs.specs.Judging.{Judged}
+use Rattle.usage_docs.specs.declared.judging.Fault.{Fault}
+use Rattle.usage_docs.specs.declared.judging.Fault.TheVariants.{Invalid, Unformed, Repeated}
 use Rattle.doc_names.specs.declared.usages.Usage.{Usage}
 use Rattle.xml_tree.specs.Tree.{Tree}
 use Rattle.xcap_app.specs.declared.exit.Exit.{Exit}
 use Rattle.xcap_app.specs.declared.exit.Exit.TheVariants as exits
-use Rattle.xcap_app.specs.declared.refusal.Refusal.{Refusal}
 use Rattle.xcap_app.specs.declared.refusal.Refusal.TheVariants as refusals
 
--- the tree is refused for this reason, and for none before it
-abbrev pub TreeRefused : Usage → Tree → Refusal → Type 0
-TreeRefused usage t refusals.TooLarge = ⊥
-TreeRefused usage t refusals.NotUtf8 = ⊥
-TreeRefused usage t (refusals.NotWellFormed place) = ⊥
-TreeRefused usage t refusals.Schema = ¬ (Schema usage t)
-TreeRefused usage t refusals.Constraint = Schema usage t × ¬ (Constraints usage t)
-TreeRefused usage t (refusals.Unique clash) = Schema usage t × Constraints usage t × IsFirstClash usage t (Some clash)
+-- how `check` ends by the first fault of a tree, or none
+abbrev pub exit_of : Option Fault → Exit
+exit_of None = exits.Done
+exit_of (Some Invalid) = exits.Refused refusals.Schema
+exit_of (Some Unformed) = exits.Refused refusals.Constraint
+exit_of (Some (Repeated clash)) = exits.Refused (refusals.Unique clash)
 
--- what is said of a tree: that it is a valid document of the usage, or why it isn't
+-- what is said of a tree
 abbrev pub TreeVerdict : Usage → Tree → Exit → Type 0
-TreeVerdict usage t exits.Done = Schema usage t × Constraints usage t × Unique usage t
-TreeVerdict usage t exits.Usage = ⊥
-TreeVerdict usage t exits.InputFailed = ⊥
-TreeVerdict usage t exits.OutputFailed = ⊥
-TreeVerdict usage t exits.NetworkFailed = ⊥
-TreeVerdict usage t (exits.Refused refusal) = TreeRefused usage t refusal
-TreeVerdict usage t exits.OutOfMemory = ⊥
+TreeVerdict usage t exit = (fault : Option Fault) × Judged usage t fault × (exit ≡ exit_of fault)
 
 -- what is said of a text that spells no tree
 abbrev pub FaultVerdict : TextFault → Exit → Type 0
@@ -41,7 +32,6 @@ FaultVerdict (faults.Namespace place) exit = exit ≡ exits.Refused (refusals.No
 FaultVerdict (faults.RepeatedAttribute place) exit = exit ≡ exits.Refused (refusals.NotWellFormed place)
 FaultVerdict (faults.TooDeep place) exit = exit ≡ exits.Refused (refusals.NotWellFormed place)
 FaultVerdict (faults.Doctype place) exit = exit ≡ exits.Refused (refusals.NotWellFormed place)
-FaultVerdict faults.NoMemory exit = exit ≡ exits.OutOfMemory
 
 abbrev pub AnswerVerdict : Usage → Result Tree TextFault → Exit → Type 0
 AnswerVerdict usage (Ok t) exit = TreeVerdict usage t exit

@@ -1,34 +1,38 @@
 // Whether a text is a document of a usage, and why it isn't.
 ghost use Rattle.std.specs.Prelude.{◌≡◌, ◌≤◌, ◌⊎◌, IfOk};
 ghost use Rattle.xml_tree.specs.Tree.{height};
-ghost use Rattle.xcap_app.specs.Verdicts.{FaultVerdict, TextVerdict, TreeVerdict};
+ghost use Rattle.xcap_app.specs.Verdicts.{FaultVerdict, TextVerdict, TreeVerdict, exit_of};
 
 use crate::exit::Exit;
 use crate::refusal::Refusal;
 use doc_names::Usage;
 use std::alloc::{AllocError, Global};
-use tree_text::{TextFault, read_document};
-use usage_docs::{constraints, first_clash, schema};
+use tree_text::{ReadError, TextFault, read_document};
+use usage_docs::Fault;
 use xml_tree::Element;
 
 // How deep a document may be.
 const LEVELS: usize = 64;
 
-// The same of a tree that a text spells.
+// How the command ends by the first fault of a tree, or none.
+fn exit_of(fault: Option<Fault>) -> Exit
+    ensures by_the_judgement { result ≡ exit_of fault }
+{
+    match fault {
+        None => Exit::Done,
+        Some(Fault::Invalid) => Exit::Refused(Refusal::Schema),
+        Some(Fault::Unformed) => Exit::Refused(Refusal::Constraint),
+        Some(Fault::Repeated(clash)) => Exit::Refused(Refusal::Unique(clash)),
+    }
+}
+
+// How it ends where a text spells this tree.
 fn judge_tree(alloc: Global, usage: Usage, root: &Element) -> Result<Exit, AllocError>
     requires { height root.now ≤ 64 }
     ensures { IfOk result (λ exit. TreeVerdict usage root.now exit) }
 {
-    if !schema(alloc, usage, root)? {
-        return Ok(Exit::Refused(Refusal::Schema));
-    }
-    if !constraints(alloc, usage, root)? {
-        return Ok(Exit::Refused(Refusal::Constraint));
-    }
-    match first_clash(alloc, usage, root)? {
-        Some(clash) => Ok(Exit::Refused(Refusal::Unique(clash))),
-        None => Ok(Exit::Done),
-    }
+    let fault = usage_docs::judge(alloc, usage, root)?;
+    Ok(exit_of(fault))
 }
 
 // How the command ends where a text spells no tree.
@@ -42,7 +46,6 @@ fn judge_fault(fault: TextFault) -> Exit
         | TextFault::RepeatedAttribute(place)
         | TextFault::TooDeep(place)
         | TextFault::Doctype(place) => Exit::Refused(Refusal::NotWellFormed(place)),
-        TextFault::NoMemory => Exit::OutOfMemory,
     }
 }
 
@@ -52,6 +55,7 @@ pub(crate) fn judge(alloc: Global, usage: Usage, text: &[u8]) -> Exit
 {
     match read_document(alloc, text, LEVELS) {
         Ok(root) => judge_tree(alloc, usage, &root).unwrap_or(Exit::OutOfMemory),
-        Err(fault) => judge_fault(fault),
+        Err(ReadError::Fault(fault)) => judge_fault(fault),
+        Err(ReadError::NoMemory) => Exit::OutOfMemory,
     }
 }

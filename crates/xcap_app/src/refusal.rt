@@ -17,7 +17,7 @@ pub enum Refusal {
     NotWellFormed(usize),
     /// It isn't valid for its usage (RFC 4826, sections 3.2 and 4.2).
     Schema,
-    /// A reference in it doesn't have its form (RFC 4826, sections 3.4.3 and 4.4.3).
+    /// A reference in it doesn't have its form (RFC 4826, sections 3.4.5 and 4.4.5).
     Constraint,
     /// This is the first element whose key repeats that of a sibling.
     Unique(Clash),

@@ -9,7 +9,7 @@ use crate::exit::Exit;
 use http_serve::Ended;
 use std::alloc::Global;
 use watchers::Watchers;
-use xcap_io::{Failed, Line, Pair, Port, Sink, Source};
+use xcap_io::{Line, Pair, Sink, Source};
 use xcap_server::{Server, serve_connection};
 use xcap_uri::Root;
 
@@ -35,12 +35,7 @@ fn serve_pair<I: Source, O: Sink, W: Watchers>(
         (I.state input.old) (I.state input.new) (O.state output.old) (O.state output.new) watchers.old watchers.new }
 {
     let mut pair = Pair::new(input, output);
-    match pair.next() {
-        Ok(true) => serve_connection(server, &mut pair, watchers),
-        Ok(false) => Ended::Closed,
-        // A pair never fails to begin its connection.
-        Err(Failed) => unreachable!(),
-    }
+    serve_connection(server, &mut pair, watchers)
 }
 
 // Serves the input as one connection, by this server, which is new.

@@ -1,31 +1,31 @@
 -- One piece after another, through what is gathered.
-use Rattle.std.proofs.Common.{◌≡◌, ℕ, ◌+◌, List, [], ◌++◌, length, take, Option, Result, Ok, Err, OnOk, refl, sym, ap, ◌∙◌, subst, arith, append_assoc, append-nil, length-append}
+use Rattle.std.proofs.Common.{◌≡◌, ℕ, ◌+◌, List, [], ◌++◌, length, take, Result, Ok, Err, OnOk, refl, sym, ap, ◌∙◌, subst, arith, append_assoc, append-nil, length-append}
 use Rattle.std.proofs.Math.Seq.{take-append-add}
-use Rattle.std.specs.Io.KnownBytes.{Appends}
-use Rattle.std.proofs.KnownBytes.{Appends-trans, Appends-nil}
+use Rattle.xcap_io.specs.Passing.{Took}
+use Rattle.xcap_io.proofs.Passing.{took_on, took_none}
 use Rattle.xcap_io.specs.Adds.{Gathers, Adds}
 use Rattle.xcap_io.specs.Causes.{LineState, OnlyWrites}
-use Rattle.xcap_io.specs.Streams.{AppendsProperPrefix, WritesAll}
+use Rattle.xcap_io.specs.Streams.{TookProperPrefix, WritesAll}
 use Rattle.xcap_io.proofs.Lines.{only_writes_on, writes_none}
 use Rattle.xcap_io.proofs.Steps.{stopped_first}
 
 both_parts : (h xs ys over h' : List ℕ) → h ++ xs ≡ over ++ h' → h ++ (xs ++ ys) ≡ over ++ (h' ++ ys)
 both_parts h xs ys over h' e = sym (append_assoc h xs ys) ∙ ap (λ l. l ++ ys) e ∙ append_assoc over h' ys
 
-gathers_on : (a b c : Option (List ℕ)) (h h' h'' xs ys : List ℕ) → Gathers a h b h' xs → Gathers b h' c h'' ys → Gathers a h c h'' (xs ++ ys)
+gathers_on : (a b c : List ℕ) (h h' h'' xs ys : List ℕ) → Gathers a h b h' xs → Gathers b h' c h'' ys → Gathers a h c h'' (xs ++ ys)
 gathers_on a b c h h' h'' xs ys p q = (
   p.0 ++ q.0,
-  Appends-trans a b c p.0 q.0 p.1 q.1,
+  took_on a b c p.0 q.0 p.1 q.1,
   both_parts h xs ys p.0 h' p.2 ∙ ap (λ l. p.0 ++ l) q.2 ∙ sym (append_assoc p.0 q.0 h''),
 )
 
-gathers_stop : (a b c : Option (List ℕ)) (h h' xs ys : List ℕ) → Gathers a h b h' xs → AppendsProperPrefix b c (h' ++ ys) → AppendsProperPrefix a c (h ++ (xs ++ ys))
+gathers_stop : (a b c : List ℕ) (h h' xs ys : List ℕ) → Gathers a h b h' xs → TookProperPrefix b c (h' ++ ys) → TookProperPrefix a c (h ++ (xs ++ ys))
 gathers_stop a b c h h' xs ys p q =
     let e = both_parts h xs ys p.0 h' p.2 in
-    subst (AppendsProperPrefix a c) (sym e) (
+    subst (TookProperPrefix a c) (sym e) (
       length p.0 + q.0,
       omega (arith, length-append p.0 (h' ++ ys), q.1),
-      subst (Appends a c) (sym (take-append-add p.0 (h' ++ ys) q.0)) (Appends-trans a b c p.0 (take q.0 (h' ++ ys)) p.1 q.2),
+      subst (Took a c) (sym (take-append-add p.0 (h' ++ ys) q.0)) (took_on a b c p.0 (take q.0 (h' ++ ys)) p.1 q.2),
     )
 
 -- two pieces, the first of which was added
@@ -44,21 +44,21 @@ adds_both a h b h' c h'' (Err e) xs ys p q = record {
 pub adds_stop : {E : Type 0} (a : LineState) (h : List ℕ) (b : LineState) (h' h'' : List ℕ) (e : E) (xs ys : List ℕ)
     → Adds a h b h' (Err e) xs → Adds a h b h'' (Err e) (xs ++ ys)
 adds_stop a h b h' h'' e xs ys p = record {
-  taken = subst (AppendsProperPrefix a.taken b.taken) (append_assoc h xs ys) (stopped_first a.taken b.taken (h ++ xs) ys p.taken);
+  taken = subst (TookProperPrefix a.taken b.taken) (append_assoc h xs ys) (stopped_first a.taken b.taken (h ++ xs) ys p.taken);
   only_writes = p.only_writes;
 }
 
 -- nothing was added
 pub adds_none : {E : Type 0} (a : LineState) (h : List ℕ) → Adds {E = E} a h a h (Ok tt) []
 adds_none a h = record {
-  taken = ([], Appends-nil a.taken, append-nil h);
+  taken = ([], took_none a.taken, append-nil h);
   only_writes = record { writes = writes_none a; counts = refl };
 }
 
 -- it is held
 pub adds_held : {E : Type 0} (a : LineState) (h h' xs : List ℕ) → h' ≡ h ++ xs → Adds {E = E} a h a h' (Ok tt) xs
 adds_held a h h' xs is = record {
-  taken = ([], Appends-nil a.taken, sym is);
+  taken = ([], took_none a.taken, sym is);
   only_writes = record { writes = writes_none a; counts = refl };
 }
 
@@ -72,8 +72,8 @@ adds_written a b h h' (Err e) xs none all only = record { taken = all; only_writ
 pub all_written : {E : Type 0} (a b : LineState) (h h' : List ℕ) (result : Result (Unit {0}) E) (xs : List ℕ) → h ≡ [] → OnOk result (h' ≡ [])
     → Adds a h b h' result xs → WritesAll a.taken b.taken result xs
 all_written a b h h' (Ok x) xs before after p =
-    subst (Appends a.taken b.taken) (sym (append-nil p.taken.0) ∙ ap (λ l. p.taken.0 ++ l) (sym after) ∙ sym p.taken.2 ∙ ap (λ l. l ++ xs) before) p.taken.1
-all_written a b h h' (Err e) xs before after p = subst (λ l. AppendsProperPrefix a.taken b.taken (l ++ xs)) before p.taken
+    subst (Took a.taken b.taken) (sym (append-nil p.taken.0) ∙ ap (λ l. p.taken.0 ++ l) (sym after) ∙ sym p.taken.2 ∙ ap (λ l. l ++ xs) before) p.taken.1
+all_written a b h h' (Err e) xs before after p = subst (λ l. TookProperPrefix a.taken b.taken (l ++ xs)) before p.taken
 
 -- What is left to add, so that all is added: the invariant of a loop that puts one piece after another.
 pub record Owes (E : Type 0) (old : LineState) (held all : List ℕ) (mid : LineState) (held' rest : List ℕ) : Type 0 where

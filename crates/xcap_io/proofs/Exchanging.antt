@@ -4,7 +4,7 @@ use Rattle.std.specs.Prelude.{slice_set}
 use Rattle.std.proofs.lemmas.List.{drop-set-lt}
 use Rattle.xcap_io.specs.Causes.{Exchange, Dialled, OnlyReads, OnlyWrites}
 use Rattle.xcap_io.specs.Connections.{asked_by, Comes, Connects}
-use Rattle.xcap_io.specs.Memory.{MemoryLine, MemoryLines, MemoryPeer, line_at, no_line, present_line, next_number, begin_next, lines_state, lines_to_come, LinesRead, LinesWrite, exchanges, lines_dialled, peer_state}
+use Rattle.xcap_io.specs.Memory.{MemoryLine, MemoryLines, MemoryPeer, begun_anew, line_at, line_traffic, no_line, present_line, next_number, begin_next, lines_state, lines_to_come, LinesRead, LinesWrite, exchanges, lines_dialled, peer_state}
 
 -- a line behind those of these addresses doesn't matter
 exchanges-set : (addresses : List (List ℕ)) (lines : List MemoryLine) (i : ℕ) (line : MemoryLine) → length addresses ≤ i → exchanges addresses (slice_set lines i line) ≡ exchanges addresses lines
@@ -84,7 +84,7 @@ pub peer_writes : {E : Type 0} (old new : MemoryPeer) (piece : List ℕ) (result
 peer_writes old new piece result tied addresses faults only write = record {
   writes = record {
     later = only.writes.later;
-    same_left = only.writes.same_left;
+    same_inward = only.writes.same_inward;
     same_read_faults = only.writes.same_read_faults;
     same_holds = only.writes.same_holds;
     same_aside = only.writes.same_aside;
@@ -95,15 +95,15 @@ peer_writes old new piece result tied addresses faults only write = record {
 }
 
 -- the present connection is the one at the latest address
-asked_is : (addresses : List (List ℕ)) (lines : List MemoryLine) (present : Option ℕ) → length addresses ≡ next_number present → asked_by (lines_dialled addresses lines) (Some (present_line lines present).taken) ≡ Some (exchanges addresses lines)
+asked_is : (addresses : List (List ℕ)) (lines : List MemoryLine) (present : Option ℕ) → length addresses ≡ next_number present → asked_by (lines_dialled addresses lines) (present_line lines present).taken ≡ exchanges addresses lines
 asked_is [] lines present tied = refl
 asked_is (address ∷ before) lines None tied = absurd (omega arith)
 asked_is (address ∷ before) lines (Some i) tied =
     let same : i ≡ length before = omega arith in
-    ap (λ (n : ℕ). Some (exchanges before lines ++ record { address = address; taken = (line_at lines n).taken } ∷ [])) same
+    ap (λ (n : ℕ). exchanges before lines ++ record { address = address; taken = (line_at lines n).taken } ∷ []) same
 
 -- the next line is the one that comes
-comes_next : (lines : List MemoryLine) (at : ℕ) (line : MemoryLine) → at < length lines → line.left ≡ (line_at lines at).left
+pub comes_next : (lines : List MemoryLine) (at : ℕ) (line : MemoryLine) → at < length lines → line.left ≡ (line_at lines at).left
     → Comes (Some (map (λ (m : MemoryLine). m.left) (drop at lines))) (Some (map (λ (m : MemoryLine). m.left) (drop (at + 1) (slice_set lines at line)))) (Some (line_at (slice_set lines at line) at).left)
 comes_next lines at line within same = (
   (line_at lines at).left,
@@ -118,16 +118,13 @@ begins_next : (old : MemoryPeer) (until_fault : Option ℕ) (address : List ℕ)
     → Connects (peer_state old) (peer_state (record { lines = begin_next old.lines; until_fault = until_fault; addresses = address ∷ old.addresses; faults = old.faults })) address
 begins_next old until_fault address tied within =
     let at : ℕ = next_number old.lines.present in
-    let line : MemoryLine = record (line_at old.lines.lines at) { taken = [] } in
+    let line : MemoryLine = begun_anew (line_at old.lines.lines at) in
     record {
       comes = comes_next old.lines.lines at line within refl;
       begins = (
-        ap (λ (m : MemoryLine). Some m.taken) (get_or-set_same old.lines.lines at line no_line within),
-        (
-          exchanges old.addresses old.lines.lines,
-          asked_is old.addresses old.lines.lines old.lines.present tied,
-          ap (λ (l : List Exchange). Some (record { earlier = l; present = Some address })) (exchanges-set old.addresses old.lines.lines at line (omega arith)),
-        ),
+        ap line_traffic (get_or-set_same old.lines.lines at line no_line within),
+        ap (λ (l : List Exchange). Some (record { earlier = l; present = Some address }))
+            (exchanges-set old.addresses old.lines.lines at line (omega arith) ∙ sym (asked_is old.addresses old.lines.lines old.lines.present tied)),
       );
       same_faults = refl;
       same_read_faults = refl;

@@ -1,5 +1,7 @@
 pub mod Adding
+pub mod Beginning
 pub mod Exchanging
 pub mod Lines
 pub mod Pairing
+pub mod Passing
 pub mod Steps

@@ -11,7 +11,7 @@ pub reads_none : (line : LineState) → Reads line line
 reads_none line = record { later = omega arith; same_taken = refl; same_write_faults = refl; same_holds = refl; same_aside = refl; same_port = refl; same_peer = refl }
 
 pub writes_none : (line : LineState) → Writes line line
-writes_none line = record { later = omega arith; same_left = refl; same_read_faults = refl; same_holds = refl; same_aside = refl; same_port = refl; same_peer = refl }
+writes_none line = record { later = omega arith; same_inward = refl; same_read_faults = refl; same_holds = refl; same_aside = refl; same_port = refl; same_peer = refl }
 
 pub reads_on : (old mid new : LineState) → Reads old mid → Reads mid new → Reads old new
 reads_on old mid new first next = record {
@@ -27,7 +27,7 @@ reads_on old mid new first next = record {
 pub writes_on : (old mid new : LineState) → Writes old mid → Writes mid new → Writes old new
 writes_on old mid new first next = record {
   later = omega (arith, first.later, next.later);
-  same_left = next.same_left ∙ first.same_left;
+  same_inward = next.same_inward ∙ first.same_inward;
   same_read_faults = next.same_read_faults ∙ first.same_read_faults;
   same_holds = next.same_holds ∙ first.same_holds;
   same_aside = next.same_aside ∙ first.same_aside;

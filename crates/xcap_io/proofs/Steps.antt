@@ -1,31 +1,32 @@
 -- How one call after another adds to what a line has given or taken.
-use Rattle.std.proofs.Common.{◌≡◌, ℕ, ◌+◌, ◌-◌, ◌<◌, ◌≤◌, min, List, [], ◌++◌, length, take, drop, Option, Result, Ok, Err, sym, ap, ◌∙◌, subst, arith, length-drop, length-append, take-append-drop}
+use Rattle.std.proofs.Common.{◌≡◌, ℕ, ◌+◌, ◌-◌, ◌<◌, ◌≤◌, ◌==◌, true, min, List, [], ◌++◌, length, take, drop, Result, Ok, Err, sym, ap, ◌∙◌, subst, arith, length-drop, length-append, take-append-drop}
+use Rattle.std.proofs.lemmas.Bool.Decides.{nat_tests}
 use Rattle.std.proofs.lemmas.List.{length-take-le, take_at, take-append-le, drop-drop, drop_all}
-use Rattle.std.specs.Io.KnownBytes.{Appends}
-use Rattle.std.proofs.KnownBytes.{Appends-trans}
+use Rattle.xcap_io.specs.Passing.{Took}
+use Rattle.xcap_io.proofs.Passing.{took_on}
 use Rattle.std.proofs.Math.Seq.{take-add, take-append-add}
-use Rattle.xcap_io.specs.Streams.{WritesAll, AppendsProperPrefix}
+use Rattle.xcap_io.specs.Streams.{WritesAll, TookProperPrefix}
 
 -- the next m of the bytes, after the first n of them
-pub appends_next : (a b c : Option (List ℕ)) (n m : ℕ) (bytes : List ℕ) → Appends a b (take n bytes) → Appends b c (take m (drop n bytes)) → Appends a c (take (n + m) bytes)
+pub appends_next : (a b c : List ℕ) (n m : ℕ) (bytes : List ℕ) → Took a b (take n bytes) → Took b c (take m (drop n bytes)) → Took a c (take (n + m) bytes)
 appends_next a b c n m bytes first next =
-    subst (Appends a c) (sym (take-add n m bytes)) (Appends-trans a b c (take n bytes) (take m (drop n bytes)) first next)
+    subst (Took a c) (sym (take-add n m bytes)) (took_on a b c (take n bytes) (take m (drop n bytes)) first next)
 
 -- one `write_all` after another
-pub writes_both : {E : Type 0} (a b c : Option (List ℕ)) (first next : List ℕ) (result : Result (Unit {0}) E) → Appends a b first → WritesAll b c result next → WritesAll a c result (first ++ next)
-writes_both a b c first next (Ok x) done more = Appends-trans a b c first next done more
+pub writes_both : {E : Type 0} (a b c : List ℕ) (first next : List ℕ) (result : Result (Unit {0}) E) → Took a b first → WritesAll b c result next → WritesAll a c result (first ++ next)
+writes_both a b c first next (Ok x) done more = took_on a b c first next done more
 writes_both a b c first next (Err e) done more = (
   length first + more.0,
   omega (arith, length-append first next, more.1),
-  subst (Appends a c) (sym (take-append-add first next more.0)) (Appends-trans a b c first (take more.0 next) done more.2),
+  subst (Took a c) (sym (take-append-add first next more.0)) (took_on a b c first (take more.0 next) done more.2),
 )
 
 -- a write that stopped within the first bytes stopped before the next ones too
-pub stopped_first : (a b : Option (List ℕ)) (first next : List ℕ) → AppendsProperPrefix a b first → AppendsProperPrefix a b (first ++ next)
+pub stopped_first : (a b : List ℕ) (first next : List ℕ) → TookProperPrefix a b first → TookProperPrefix a b (first ++ next)
 stopped_first a b first next stopped = (
   stopped.0,
   omega (arith, length-append first next, stopped.1),
-  subst (Appends a b) (sym (take-append-le stopped.0 first next (omega (arith, stopped.1)))) stopped.2,
+  subst (Took a b) (sym (take-append-le stopped.0 first next (omega (arith, stopped.1)))) stopped.2,
 )
 
 -- what a line has left is the bytes that it gives next, at the front of a buffer, and then the rest
@@ -37,3 +38,13 @@ gives_next input front rest given count fits is =
 -- where nothing was given although something was wanted, nothing is left
 pub none_left : (input : List ℕ) (given count most : ℕ) → count ≡ min most (length input - given) → 0 < most → count ≡ 0 → drop (given + count) input ≡ []
 none_left input given count most is some none = drop_all (given + count) input (omega arith)
+
+-- so many bytes stand at the front of the buffer then
+pub gives_count : (input front rest : List ℕ) (given count : ℕ) → given + count ≤ length input → front ≡ take count (drop given input) → length (take count (front ++ rest)) ≡ count
+gives_count input front rest given count fits is =
+    let long : length front ≡ count = ap length is ∙ length-take-le count (drop given input) (omega (arith, length-drop given input)) in
+    ap length (take_at front rest count long) ∙ long
+
+-- the number that is tested to be 0
+pub is_none : (n : ℕ) → (n == 0) ≡ true → n ≡ 0
+is_none n tested = grind (arith, nat_tests)

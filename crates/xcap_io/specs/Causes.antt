@@ -1,11 +1,25 @@
 -- What contracts see of a line, and what a call on it may change. This is the project's own model of input and output.
-use Rattle.std.specs.Prelude.{◌≡◌, ℕ, ◌+◌, ◌-◌, ◌^◌, ◌≤◌, min, List, Bool, Option, None, Result, MatchResult}
+use Rattle.std.specs.Prelude.{◌≡◌, ℕ, ◌+◌, ◌-◌, ◌^◌, ◌≤◌, min, List, [], Bool, false, Option, None, Result, MatchResult}
 use Rattle.std.specs.Borrow.{GName}
+use Rattle.xcap_io.specs.Histories.{Traffic}
 
--- The connections that have begun on a port: what was sent on each one that ended, and whether one is present.
--- What was sent on the present one is what the line has taken.
+-- What comes in over a line.
+pub record Inward : Type 0 where
+  -- the bytes that reads will give from here on: a line in memory tells them, a real stream or socket doesn't
+  pub left : Option (List ℕ)
+  -- the bytes that reads have given so far, of a port on its present connection alone
+  pub given : List ℕ
+  -- whether the last read that didn't fail found the end of the input
+  pub ended : Bool
+
+-- of a line that doesn't tell what is left, over which this passed
+abbrev pub inward_of : Traffic → Inward
+inward_of now = record { left = None; given = now.given; ended = now.ended }
+
+-- The connections that have begun on a port: what passed over each one that ended, and whether one is present. What passed
+-- over the present one is what the line has given and taken.
 pub record Begun : Type 0 where
-  pub earlier : List (List ℕ)
+  pub earlier : List Traffic
   pub is_present : Bool
 
 -- What a port is beside a source and a sink.
@@ -14,8 +28,8 @@ pub record PortState : Type 0 where
   pub listening : Option (Option (List ℕ))
   -- the bytes that each connection still to come will give, where the port tells them
   pub to_come : Option (List (List ℕ))
-  -- the connections that have begun, where the port tells what was sent on each
-  pub begun : Option Begun
+  -- the connections that have begun
+  pub begun : Begun
   -- how often `listen` and `next` have failed
   pub faults : ℕ
 
@@ -39,19 +53,28 @@ pub record PeerState : Type 0 where
   -- how often `connect` has failed
   pub faults : ℕ
 
+-- nothing has come in, and what is left isn't told
+abbrev pub no_inward : Inward
+no_inward = record { left = None; given = []; ended = false }
+
+-- none has begun
+abbrev pub none_begun : Begun
+none_begun = record { earlier = []; is_present = false }
+
 -- of a line that is no port
 abbrev pub no_port : PortState
-no_port = record { listening = None; to_come = None; begun = None; faults = 0 }
+no_port = record { listening = None; to_come = None; begun = none_begun; faults = 0 }
 
 -- of a line that is no peer
 abbrev pub no_peer : PeerState
 no_peer = record { to_come = None; begun = None; faults = 0 }
 
--- What a line that works through two others doesn't show of one of them: of an input what it has taken and its count
--- of failed writes, of an output what it has left and its count of failed reads; of both their connections, and how many
--- references and objects like this one they work through themselves.
+-- What a line that works through two others doesn't show of one of them: of an input what it has taken and its count of
+-- failed writes, of an output what has come in over it and its count of failed reads; of both their connections, and how
+-- many references and objects like this one they work through themselves.
 pub record Aside : Type 0 where
-  pub bytes : Option (List ℕ)
+  pub inward : Inward
+  pub taken : List ℕ
   pub faults : ℕ
   pub port : PortState
   pub peer : PeerState
@@ -60,10 +83,9 @@ pub record Aside : Type 0 where
 
 -- A line at one moment.
 pub record LineState : Type 0 where
-  -- the bytes that reads will give from here on, where the line tells them
-  pub left : Option (List ℕ)
-  -- the bytes that writes have handed over so far, where the line tells them
-  pub taken : Option (List ℕ)
+  pub inward : Inward
+  -- the bytes that writes have handed over so far, of a port on its present connection alone
+  pub taken : List ℕ
   -- how often a read, and a write, has failed
   pub read_faults : ℕ
   pub write_faults : ℕ
@@ -100,7 +122,7 @@ pub record OnlyReads {T E : Type 0} (old new : LineState) (result : Result T E) 
 -- Between the two there were writes alone, if any.
 pub record Writes (old new : LineState) : Type 0 where
   pub later : old.write_faults ≤ new.write_faults
-  pub same_left : new.left ≡ old.left
+  pub same_inward : new.inward ≡ old.inward
   pub same_read_faults : new.read_faults ≡ old.read_faults
   pub same_holds : new.holds ≡ old.holds
   pub same_aside : new.aside ≡ old.aside

@@ -2,7 +2,9 @@ pub mod Adds
 pub mod Causes
 pub mod Connections
 pub mod Echoes
+pub mod Histories
 pub mod Memory
 pub mod Pairs
+pub mod Passing
 pub mod Sockets
 pub mod Streams

@@ -1,6 +1,7 @@
 -- Lines in memory, and ports and peers made of them, as their callers see them. This is the project's own.
-use Rattle.std.specs.Prelude.{◌≡◌, ◌≢◌, ℕ, zero, suc, ◌+◌, ◌-◌, ◌^◌, ◌<◌, ◌≤◌, min, List, [], ◌∷◌, ◌++◌, length, map, take, drop, Bool, true, false, Option, None, Some, Result, Ok, Err, option_map, unwrap_or, IsErr, ◌⊎◌, slice_index_or, slice_set}
+use Rattle.std.specs.Prelude.{◌≡◌, ◌≢◌, ℕ, zero, suc, ◌+◌, ◌-◌, ◌^◌, ◌<◌, ◌≤◌, ◌==◌, min, List, [], ◌∷◌, ◌++◌, length, map, take, drop, Bool, true, false, Option, None, Some, Result, Ok, Err, option_map, unwrap_or, IsErr, ◌⊎◌, slice_index_or, slice_set}
 use Rattle.xcap_io.specs.Causes.{Begun, Exchange, Dialled, LineState, no_port, no_peer}
+use Rattle.xcap_io.specs.Histories.{Traffic}
 
 -- A line in memory.
 pub record MemoryLine : Type 0 where
@@ -9,6 +10,9 @@ pub record MemoryLine : Type 0 where
   pub step : ℕ
   -- how many bytes reads give before they fail, if they ever fail
   pub until_fault : Option ℕ
+  -- what reads gave, and whether the last one that didn't fail found the end
+  pub given : List ℕ
+  pub ended : Bool
   -- what writes handed over, and how many bytes they can hand over in all
   pub taken : List ℕ
   pub room : ℕ
@@ -31,7 +35,7 @@ Gives wanted given (Some place) (Some most) = (given < place) × (most ≡ min w
 
 -- the line after a read of so many bytes
 abbrev pub after_read : MemoryLine → ℕ → MemoryLine
-after_read line n = record line { left = drop n line.left; until_fault = option_map (λ place. place - n) line.until_fault }
+after_read line n = record line { left = drop n line.left; given = line.given ++ take n line.left; ended = n == 0; until_fault = option_map (λ place. place - n) line.until_fault }
 
 -- a read fails exactly where no byte may be given any more
 abbrev pub MemoryRead : {E : Type 0} → MemoryLine → MemoryLine → ℕ → Result ℕ E → Type 0
@@ -46,8 +50,8 @@ MemoryWrite old new piece (Err e) = (length old.taken ≡ old.room) × (new ≡ 
 -- a line in memory as a line
 abbrev pub line_state : MemoryLine → LineState
 line_state line = record {
-  left = Some line.left;
-  taken = Some line.taken;
+  inward = record { left = Some line.left; given = line.given; ended = line.ended };
+  taken = line.taken;
   read_faults = line.read_faults;
   write_faults = line.write_faults;
   holds = [];
@@ -66,7 +70,7 @@ pub record MemoryLines : Type 0 where
 
 -- a line that gives and takes nothing
 abbrev pub no_line : MemoryLine
-no_line = record { left = []; step = 0; until_fault = None; taken = []; room = 0; read_faults = 0; write_faults = 0 }
+no_line = record { left = []; step = 0; until_fault = None; given = []; ended = true; taken = []; room = 0; read_faults = 0; write_faults = 0 }
 
 -- the line of this number
 abbrev pub line_at : List MemoryLine → ℕ → MemoryLine
@@ -82,9 +86,13 @@ abbrev pub next_number : Option ℕ → ℕ
 next_number None = 0
 next_number (Some i) = i + 1
 
--- the first line that is to come begins, and has taken nothing
+-- the line, over which nothing has passed
+abbrev pub begun_anew : MemoryLine → MemoryLine
+begun_anew line = record line { given = []; ended = false; taken = [] }
+
+-- the first line that is to come begins
 abbrev pub begin_next : MemoryLines → MemoryLines
-begin_next m = let at = next_number m.present in record m { lines = slice_set m.lines at (record (line_at m.lines at) { taken = [] }); present = Some at }
+begin_next m = let at = next_number m.present in record m { lines = slice_set m.lines at (begun_anew (line_at m.lines at)); present = Some at }
 
 -- whether a line was to come, and so began
 abbrev pub BeginsLine : MemoryLines → MemoryLines → Bool → Type 0
@@ -111,8 +119,8 @@ LinesWrite (Some i) old new piece result = (line : MemoryLine) × MemoryWrite (l
 -- lines in memory as one line
 abbrev pub lines_state : MemoryLines → LineState
 lines_state m = record {
-  left = Some (present_line m.lines m.present).left;
-  taken = Some (present_line m.lines m.present).taken;
+  inward = let line = present_line m.lines m.present in record { left = Some line.left; given = line.given; ended = line.ended };
+  taken = (present_line m.lines m.present).taken;
   read_faults = m.read_faults;
   write_faults = m.write_faults;
   holds = [];
@@ -146,10 +154,14 @@ abbrev pub latest : List (List ℕ) → Option (List ℕ)
 latest [] = None
 latest (text ∷ before) = Some text
 
--- what was sent on the lines that have begun
+-- what passed over a line
+abbrev pub line_traffic : MemoryLine → Traffic
+line_traffic line = record { given = line.given; ended = line.ended; taken = line.taken }
+
+-- what passed over the lines that have begun
 abbrev pub lines_begun : List MemoryLine → Option ℕ → Begun
 lines_begun lines None = record { earlier = []; is_present = false }
-lines_begun lines (Some i) = record { earlier = map (λ line. line.taken) (take i lines); is_present = true }
+lines_begun lines (Some i) = record { earlier = map line_traffic (take i lines); is_present = true }
 
 -- a port in memory as a line
 abbrev pub port_state : MemoryPort → LineState
@@ -157,7 +169,7 @@ port_state m = record (lines_state m.lines) {
   port = record {
     listening = Some m.listening;
     to_come = Some (lines_to_come m.lines);
-    begun = Some (lines_begun m.lines.lines m.lines.present);
+    begun = lines_begun m.lines.lines m.lines.present;
     faults = m.faults;
   };
 }

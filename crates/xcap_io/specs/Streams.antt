@@ -1,14 +1,14 @@
 -- What a write of one or more pieces leaves. This is the project's own.
-use Rattle.std.specs.Prelude.{ℕ, ◌<◌, ◌≤◌, List, length, take, Option, Result, MatchResult, IfOk}
-use Rattle.std.specs.Io.KnownBytes.{Appends}
+use Rattle.std.specs.Prelude.{ℕ, ◌<◌, ◌≤◌, List, length, take, Result, MatchResult, IfOk}
+use Rattle.xcap_io.specs.Passing.{Took}
 
 -- some of these bytes were taken, from the first on, and not all of them
-abbrev pub AppendsProperPrefix : Option (List ℕ) → Option (List ℕ) → List ℕ → Type 0
-AppendsProperPrefix old new bytes = (n : ℕ) × (n < length bytes) × Appends old new (take n bytes)
+abbrev pub TookProperPrefix : List ℕ → List ℕ → List ℕ → Type 0
+TookProperPrefix old new bytes = (n : ℕ) × (n < length bytes) × Took old new (take n bytes)
 
 -- all bytes were taken, or at a failure a proper prefix of them
-abbrev pub WritesAll : {E : Type 0} → Option (List ℕ) → Option (List ℕ) → Result (Unit {0}) E → List ℕ → Type 0
-WritesAll old new result bytes = MatchResult result (λ _. Appends old new bytes) (λ _. AppendsProperPrefix old new bytes)
+abbrev pub WritesAll : {E : Type 0} → List ℕ → List ℕ → Result (Unit {0}) E → List ℕ → Type 0
+WritesAll old new result bytes = MatchResult result (λ _. Took old new bytes) (λ _. TookProperPrefix old new bytes)
 
 -- on `Ok(n)` the sink took at least one byte, and at most all of them
 abbrev pub WritesSome : {E : Type 0} → Result ℕ E → List ℕ → Type 0

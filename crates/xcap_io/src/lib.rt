@@ -1,5 +1,6 @@
 //! Sources and sinks of bytes, ports and peers with their connections, in memory and over real streams and sockets.
-//! Upward: bytes given are the next ones left, bytes taken are appended, and a failure comes only with a count that rose.
+//! Upward: each line tells the bytes that its reads gave and its writes handed over, a port on each connection; bytes given are
+//! the next ones left where that is known, and a failure comes only with a count that rose.
 //! The model is the project's own; no standard defines it.
 #![tactic(auto)]
 
@@ -7,6 +8,7 @@ mod bytes;
 mod echo;
 mod gatherer;
 mod line;
+mod log;
 mod mem_line;
 mod mem_lines;
 mod mem_peer;

@@ -1,10 +1,10 @@
 // What contracts see of a line, and the calls that read it, write to it and begin its connections.
 ghost use Rattle.std.specs.Prelude.{◌≡◌, ◌<◌, ◌≤◌, length};
 ghost use Rattle.std.specs.Io.{ReadsAtMost};
-ghost use Rattle.std.specs.Io.KnownBytes.{ReadConsumes, WriteAppends};
 ghost use Rattle.xcap_io.specs.Causes.{LineState, Rose, OnlyReads, OnlyWrites};
 ghost use Rattle.xcap_io.specs.Connections.{Listens, OnlyNext, OnlyConnects};
 ghost use Rattle.xcap_io.specs.Memory.{one_more};
+ghost use Rattle.xcap_io.specs.Passing.{ReadGave, WriteTook};
 ghost use Rattle.xcap_io.specs.Streams.{WritesSome};
 
 /// A call on a line failed. The line's count of such faults rose in that call, or stands at the greatest `u64`.
@@ -33,7 +33,7 @@ pub trait Source: Line {
     fn read(&mut self, buf: &mut [u8]) -> Result<usize, Failed>
         requires { 0 < length buf.old }
         ensures bound { ReadsAtMost result buf.new }
-        ensures bytes { ReadConsumes (Self.state self.old).left (Self.state self.new).left result buf.new }
+        ensures bytes { ReadGave (Self.state self.old).inward (Self.state self.new).inward result buf.new }
         ensures only_reads { OnlyReads (Self.state self.old) (Self.state self.new) result };
 }
 
@@ -44,7 +44,7 @@ pub trait Sink: Line {
     fn write(&mut self, piece: &[u8]) -> Result<usize, Failed>
         requires { 0 < length piece.now }
         ensures bound { WritesSome result piece.now }
-        ensures bytes { WriteAppends (Self.state self.old).taken (Self.state self.new).taken result piece.now }
+        ensures bytes { WriteTook (Self.state self.old).taken (Self.state self.new).taken result piece.now }
         ensures only_writes { OnlyWrites (Self.state self.old) (Self.state self.new) result };
 }
 

@@ -1,12 +1,13 @@
 // A source and a sink in memory, for tests and for programs over known bytes.
-ghost use Rattle.std.specs.Prelude.{◌≡◌, ◌<◌, ◌≤◌, [], length, IfOk, IfSome, Some, min};
+ghost use Rattle.std.specs.Prelude.{◌≡◌, ◌<◌, ◌≤◌, [], false, length, IfOk, IfSome, ◌≢◌, Some, min, unwrap_or};
 ghost use Rattle.std.specs.Io.{ReadsAtMost};
-ghost use Rattle.std.specs.Io.KnownBytes.{ReadConsumes, WriteAppends};
 ghost use Rattle.xcap_io.specs.Causes.{OnlyReads, OnlyWrites};
-ghost use Rattle.xcap_io.specs.Memory.{Gives, MemoryRead, MemoryWrite, line_state};
+ghost use Rattle.xcap_io.specs.Memory.{begun_anew, Gives, MemoryRead, MemoryWrite, line_state};
+ghost use Rattle.xcap_io.specs.Passing.{ReadGave, WriteTook};
 ghost use Rattle.xcap_io.specs.Streams.{WritesSome};
 
 use crate::line::fault;
+use crate::log::Log;
 use crate::{Failed, Line, NoMemory, Sink, Source};
 use std::alloc::Global;
 use std::marker::Model;
@@ -18,6 +19,7 @@ pub struct MemLine {
     given: usize,
     step: usize,
     read_fails_at: Option<usize>,
+    log: Log,
     output: Vec<u8>,
     held: usize,
     read_faults: u64,
@@ -34,6 +36,8 @@ impl Model for MemLine {
       left = drop m.given m.input.items;
       step = m.step;
       until_fault = option_map (λ place. place - m.given) m.read_fails_at;
+      given = m.log.history.now.given;
+      ended = m.log.history.now.ended;
       taken = take m.held m.output.items;
       room = length m.output.items;
       read_faults = m.read_faults;
@@ -58,6 +62,8 @@ impl MemLine {
           left = bytes.now;
           step = step;
           until_fault = read_fails_at;
+          given = [];
+          ended = false;
           taken = [];
           room = room;
           read_faults = 0;
@@ -69,6 +75,7 @@ impl MemLine {
             given: 0,
             step,
             read_fails_at,
+            log: Log::new(),
             output: vec![in alloc; 0; room]?,
             held: 0,
             read_faults: 0,
@@ -83,11 +90,12 @@ impl MemLine {
         &self.output[..self.held]
     }
 
-    /// Forgets what was handed over, as at the beginning of a connection.
-    pub(crate) fn forget_sent(&mut self)
-        ensures { self.new ≡ record self.old { taken = [] } }
+    /// Forgets what has passed, as a connection over this line begins.
+    pub(crate) fn begin(&mut self)
+        ensures { self.new ≡ begun_anew self.old }
     {
         self.held = 0;
+        self.log = Log::new();
     }
 }
 
@@ -112,7 +120,7 @@ impl Source for MemLine {
     fn read(&mut self, buf: &mut [u8]) -> Result<usize, Failed>
         requires { 0 < length buf.old }
         ensures bound { ReadsAtMost result buf.new }
-        ensures bytes { ReadConsumes (line_state self.old).left (line_state self.new).left result buf.new }
+        ensures bytes { ReadGave (line_state self.old).inward (line_state self.new).inward result buf.new }
         ensures only_reads { OnlyReads (line_state self.old) (line_state self.new) result }
         ensures exact { MemoryRead self.old self.new (length buf.old) result }
     {
@@ -123,6 +131,7 @@ impl Source for MemLine {
         let count = most.min(self.input.len() - self.given);
         buf[..count].copy_from_slice(&self.input[self.given..self.given + count]);
         self.given += count;
+        self.log.gave(&buf[..count]);
         Ok(count)
     }
 }
@@ -131,7 +140,7 @@ impl Sink for MemLine {
     fn write(&mut self, piece: &[u8]) -> Result<usize, Failed>
         requires { 0 < length piece.now }
         ensures bound { WritesSome result piece.now }
-        ensures bytes { WriteAppends (line_state self.old).taken (line_state self.new).taken result piece.now }
+        ensures bytes { WriteTook (line_state self.old).taken (line_state self.new).taken result piece.now }
         ensures only_writes { OnlyWrites (line_state self.old) (line_state self.new) result }
         ensures exact { MemoryWrite self.old self.new piece.now result }
     {

@@ -1,9 +1,9 @@
 // Lines in memory, of which one after the other begins: what a port and a peer in memory are made of.
 ghost use Rattle.std.specs.Prelude.{◌≡◌, ◌<◌, length, None, option_copied, slice_get};
 ghost use Rattle.std.specs.Io.{ReadsAtMost};
-ghost use Rattle.std.specs.Io.KnownBytes.{ReadConsumes, WriteAppends};
 ghost use Rattle.xcap_io.specs.Causes.{OnlyReads, OnlyWrites};
 ghost use Rattle.xcap_io.specs.Memory.{BeginsLine, LinesRead, LinesWrite, lines_state, next_number};
+ghost use Rattle.xcap_io.specs.Passing.{ReadGave, WriteTook};
 ghost use Rattle.xcap_io.specs.Streams.{WritesSome};
 
 use crate::line::fault;
@@ -67,7 +67,7 @@ impl MemLines {
             return false;
         }
         let line = &mut self.lines[at];
-        line.forget_sent();
+        line.begin();
         self.present = Some(at);
         true
     }
@@ -81,7 +81,7 @@ impl Source for MemLines {
     fn read(&mut self, buf: &mut [u8]) -> Result<usize, Failed>
         requires { 0 < length buf.old }
         ensures bound { ReadsAtMost result buf.new }
-        ensures bytes { ReadConsumes (lines_state self.old).left (lines_state self.new).left result buf.new }
+        ensures bytes { ReadGave (lines_state self.old).inward (lines_state self.new).inward result buf.new }
         ensures only_reads { OnlyReads (lines_state self.old) (lines_state self.new) result }
         ensures exact { LinesRead self.old.present self.old self.new (length buf.old) result }
     {
@@ -100,7 +100,7 @@ impl Sink for MemLines {
     fn write(&mut self, piece: &[u8]) -> Result<usize, Failed>
         requires { 0 < length piece.now }
         ensures bound { WritesSome result piece.now }
-        ensures bytes { WriteAppends (lines_state self.old).taken (lines_state self.new).taken result piece.now }
+        ensures bytes { WriteTook (lines_state self.old).taken (lines_state self.new).taken result piece.now }
         ensures only_writes { OnlyWrites (lines_state self.old) (lines_state self.new) result }
         ensures exact { LinesWrite self.old.present self.old self.new piece.now result }
     {

@@ -1,10 +1,10 @@
 // A peer in memory, for tests and for programs over known bytes.
 ghost use Rattle.std.specs.Prelude.{◌≡◌, ◌<◌, [], length, None, option_copied, slice_get};
 ghost use Rattle.std.specs.Io.{ReadsAtMost};
-ghost use Rattle.std.specs.Io.KnownBytes.{ReadConsumes, WriteAppends};
 ghost use Rattle.xcap_io.specs.Causes.{OnlyReads, OnlyWrites};
 ghost use Rattle.xcap_io.specs.Connections.{OnlyConnects};
 ghost use Rattle.xcap_io.specs.Memory.{LinesRead, LinesWrite, MemoryConnect, peer_state};
+ghost use Rattle.xcap_io.specs.Passing.{ReadGave, WriteTook};
 ghost use Rattle.xcap_io.specs.Streams.{WritesSome};
 
 use crate::line::fault;
@@ -75,7 +75,7 @@ impl Source for MemPeer {
     fn read(&mut self, buf: &mut [u8]) -> Result<usize, Failed>
         requires { 0 < length buf.old }
         ensures bound { ReadsAtMost result buf.new }
-        ensures bytes { ReadConsumes (peer_state self.old).left (peer_state self.new).left result buf.new }
+        ensures bytes { ReadGave (peer_state self.old).inward (peer_state self.new).inward result buf.new }
         ensures only_reads { OnlyReads (peer_state self.old) (peer_state self.new) result }
         ensures exact { LinesRead self.old.lines.present self.old.lines self.new.lines (length buf.old) result }
         ensures rest { self.new ≡ record self.old { lines = self.new.lines } }
@@ -88,7 +88,7 @@ impl Sink for MemPeer {
     fn write(&mut self, piece: &[u8]) -> Result<usize, Failed>
         requires { 0 < length piece.now }
         ensures bound { WritesSome result piece.now }
-        ensures bytes { WriteAppends (peer_state self.old).taken (peer_state self.new).taken result piece.now }
+        ensures bytes { WriteTook (peer_state self.old).taken (peer_state self.new).taken result piece.now }
         ensures only_writes { OnlyWrites (peer_state self.old) (peer_state self.new) result }
         ensures exact { LinesWrite self.old.lines.present self.old.lines self.new.lines piece.now result }
         ensures rest { self.new ≡ record self.old { lines = self.new.lines } }

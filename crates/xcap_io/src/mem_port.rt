@@ -1,10 +1,10 @@
 // A port in memory, for tests and for programs over known bytes.
 ghost use Rattle.std.specs.Prelude.{◌≡◌, ◌<◌, [], length, None, Some, IsTrue, ◌↔◌, option_copied, slice_get};
 ghost use Rattle.std.specs.Io.{ReadsAtMost};
-ghost use Rattle.std.specs.Io.KnownBytes.{ReadConsumes, WriteAppends};
 ghost use Rattle.xcap_io.specs.Causes.{OnlyReads, OnlyWrites};
 ghost use Rattle.xcap_io.specs.Connections.{Listens, OnlyNext};
 ghost use Rattle.xcap_io.specs.Memory.{after_call, LinesRead, LinesWrite, MemoryListen, MemoryNext, port_state};
+ghost use Rattle.xcap_io.specs.Passing.{ReadGave, WriteTook};
 ghost use Rattle.xcap_io.specs.Streams.{WritesSome};
 
 use crate::line::fault;
@@ -93,7 +93,7 @@ impl Source for MemPort {
     fn read(&mut self, buf: &mut [u8]) -> Result<usize, Failed>
         requires { 0 < length buf.old }
         ensures bound { ReadsAtMost result buf.new }
-        ensures bytes { ReadConsumes (port_state self.old).left (port_state self.new).left result buf.new }
+        ensures bytes { ReadGave (port_state self.old).inward (port_state self.new).inward result buf.new }
         ensures only_reads { OnlyReads (port_state self.old) (port_state self.new) result }
         ensures exact { LinesRead self.old.lines.present self.old.lines self.new.lines (length buf.old) result }
         ensures rest { self.new ≡ record self.old { lines = self.new.lines } }
@@ -106,7 +106,7 @@ impl Sink for MemPort {
     fn write(&mut self, piece: &[u8]) -> Result<usize, Failed>
         requires { 0 < length piece.now }
         ensures bound { WritesSome result piece.now }
-        ensures bytes { WriteAppends (port_state self.old).taken (port_state self.new).taken result piece.now }
+        ensures bytes { WriteTook (port_state self.old).taken (port_state self.new).taken result piece.now }
         ensures only_writes { OnlyWrites (port_state self.old) (port_state self.new) result }
         ensures exact { LinesWrite self.old.lines.present self.old.lines self.new.lines piece.now result }
         ensures rest { self.new ≡ record self.old { lines = self.new.lines } }

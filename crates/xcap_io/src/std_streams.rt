@@ -1,25 +1,32 @@
-// Real streams. These few lines are the trusted edge: no contract says what a real stream gives or takes.
-ghost use Rattle.std.specs.Prelude.{◌≡◌, [], None};
-ghost use Rattle.xcap_io.specs.Causes.{no_port, no_peer};
+// Real streams. These few lines are the trusted edge: no contract says that what a call of the system gives comes from the
+// stream, or that what it takes goes there. Which bytes each call gave and took is told.
+ghost use Rattle.std.specs.Prelude.{◌≡◌, ◌<◌, [], length};
+ghost use Rattle.std.specs.Io.{ReadsAtMost};
+ghost use Rattle.std.specs.Io.KnownBytes.{ReadConsumes, WriteAppends};
+ghost use Rattle.xcap_io.specs.Causes.{OnlyReads, OnlyWrites, inward_of, no_inward, no_port, no_peer};
+ghost use Rattle.xcap_io.specs.Passing.{ReadGave, WriteTook};
+ghost use Rattle.xcap_io.specs.Streams.{WritesSome};
 
 use crate::line::fault;
+use crate::log::Log;
 use crate::{Failed, Line, Sink, Source};
 use std::io::{Read, Write};
 
-/// A real stream that bytes come from, with a count of its faults. It tells the bytes left where the stream does;
-/// a terminal, a file and a pipe don't. A want of memory inside the stream is a fault like any other.
+/// A real stream that bytes come from, with a count of its faults. It tells the bytes that its reads gave, and not those left.
+/// A want of memory inside the stream is a fault like any other.
 #[derive(Drop)]
 pub struct StdSource<R: Read> {
     reader: R,
+    log: Log,
     faults: u64,
 }
 
 impl<R: Read> StdSource<R> {
     /// A source over this stream, without a fault.
     pub fn new(reader: R) -> StdSource<R>
-        ensures { ⟦<StdSource<R> as Line>⟧.state result ≡ record {
-          left = R.remaining reader;
-          taken = None;
+        ensures nothing_passed { ⟦<StdSource<R> as Line>⟧.state result ≡ record {
+          inward = no_inward;
+          taken = [];
           read_faults = 0;
           write_faults = 0;
           holds = [];
@@ -28,14 +35,18 @@ impl<R: Read> StdSource<R> {
           peer = no_peer;
         } }
     {
-        StdSource { reader, faults: 0 }
+        StdSource {
+            reader,
+            log: Log::new(),
+            faults: 0,
+        }
     }
 }
 
 impl<R: Read> Line for StdSource<R> {
     ghost state = { λ s. record {
-      left = R.remaining s.reader;
-      taken = None;
+      inward = inward_of s.log.history.now;
+      taken = [];
       read_faults = s.faults;
       write_faults = 0;
       holds = [];
@@ -46,28 +57,40 @@ impl<R: Read> Line for StdSource<R> {
 }
 
 impl<R: Read> Source for StdSource<R> {
-    fn read(&mut self, buf: &mut [u8]) -> Result<usize, Failed> {
+    fn read(&mut self, buf: &mut [u8]) -> Result<usize, Failed>
+        requires { 0 < length buf.old }
+        ensures bound { ReadsAtMost result buf.new }
+        ensures bytes { ReadGave (⟦<StdSource<R> as Line>⟧.state self.old).inward
+            (⟦<StdSource<R> as Line>⟧.state self.new).inward result buf.new }
+        ensures only_reads { OnlyReads
+            (⟦<StdSource<R> as Line>⟧.state self.old) (⟦<StdSource<R> as Line>⟧.state self.new) result }
+        ensures from_stream { ReadConsumes (R.remaining self.old.reader) (R.remaining self.new.reader) result buf.new }
+    {
         match self.reader.read(buf) {
-            Ok(count) => Ok(count),
+            Ok(count) => {
+                self.log.gave(&buf[..count]);
+                Ok(count)
+            }
             Err(_) => Err(fault(&mut self.faults)),
         }
     }
 }
 
-/// A real stream that bytes go to, with a count of its faults. It tells the bytes taken where the stream does;
-/// a terminal, a file and a pipe don't. A want of memory inside the stream is a fault like any other.
+/// A real stream that bytes go to, with a count of its faults. It tells the bytes that its writes handed over.
+/// A want of memory inside the stream is a fault like any other.
 #[derive(Drop)]
 pub struct StdSink<W: Write> {
     writer: W,
+    log: Log,
     faults: u64,
 }
 
 impl<W: Write> StdSink<W> {
     /// A sink over this stream, without a fault.
     pub fn new(writer: W) -> StdSink<W>
-        ensures { ⟦<StdSink<W> as Line>⟧.state result ≡ record {
-          left = None;
-          taken = W.contents writer;
+        ensures nothing_passed { ⟦<StdSink<W> as Line>⟧.state result ≡ record {
+          inward = no_inward;
+          taken = [];
           read_faults = 0;
           write_faults = 0;
           holds = [];
@@ -76,14 +99,18 @@ impl<W: Write> StdSink<W> {
           peer = no_peer;
         } }
     {
-        StdSink { writer, faults: 0 }
+        StdSink {
+            writer,
+            log: Log::new(),
+            faults: 0,
+        }
     }
 }
 
 impl<W: Write> Line for StdSink<W> {
     ghost state = { λ s. record {
-      left = None;
-      taken = W.contents s.writer;
+      inward = no_inward;
+      taken = s.log.history.now.taken;
       read_faults = 0;
       write_faults = s.faults;
       holds = [];
@@ -94,9 +121,20 @@ impl<W: Write> Line for StdSink<W> {
 }
 
 impl<W: Write> Sink for StdSink<W> {
-    fn write(&mut self, piece: &[u8]) -> Result<usize, Failed> {
+    fn write(&mut self, piece: &[u8]) -> Result<usize, Failed>
+        requires { 0 < length piece.now }
+        ensures bound { WritesSome result piece.now }
+        ensures bytes { WriteTook (⟦<StdSink<W> as Line>⟧.state self.old).taken
+            (⟦<StdSink<W> as Line>⟧.state self.new).taken result piece.now }
+        ensures only_writes { OnlyWrites
+            (⟦<StdSink<W> as Line>⟧.state self.old) (⟦<StdSink<W> as Line>⟧.state self.new) result }
+        ensures to_stream { WriteAppends (W.contents self.old.writer) (W.contents self.new.writer) result piece.now }
+    {
         match self.writer.write(piece) {
-            Ok(count) if count > 0 => Ok(count),
+            Ok(count) if count > 0 => {
+                self.log.took(&piece[..count]);
+                Ok(count)
+            }
             _ => Err(fault(&mut self.faults)),
         }
     }

@@ -1,25 +1,31 @@
-// Real sockets. These few lines are the trusted edge: no contract says what a socket of the system's gives or takes. What they
-// do with the sockets that they hold is said.
-ghost use Rattle.std.specs.Prelude.{◌≡◌, ◌<◌, ◌≤◌, ℕ, [], None, length, IfOk, OnOk, OnErr, IsSome, IfSome, IsTrue};
+// Real sockets. These few lines are the trusted edge: no contract says that what a call of the system gives came over the
+// network, or that what it takes goes there. Which bytes each call gave and took, and on which connection, is told.
+ghost use Rattle.std.specs.Prelude.{◌≡◌, ◌<◌, ◌≤◌, ℕ, [], None, Some, false, length, take, IfOk, OnOk, OnErr, IsSome, IfSome, IsTrue, MatchResult};
 ghost use Rattle.std.specs.Io.{ReadsAtMost};
-ghost use Rattle.std.specs.Io.KnownBytes.{ReadConsumes, WriteAppends};
-ghost use Rattle.xcap_io.specs.Causes.{Counts, OnlyReads, OnlyWrites, no_port, no_peer};
-ghost use Rattle.xcap_io.specs.Connections.{Listens, OnlyConnects, OnlyNext};
+ghost use Rattle.xcap_io.specs.Causes.{Counts, OnlyReads, OnlyWrites, inward_of, no_inward, no_port, no_peer, none_begun};
+ghost use Rattle.xcap_io.specs.Connections.{Listens, OnlyConnects, OnlyNext, carried};
+ghost use Rattle.xcap_io.specs.Histories.{with_given, with_taken};
+ghost use Rattle.xcap_io.specs.Memory.{latest};
+ghost use Rattle.xcap_io.specs.Passing.{ReadGave, WriteTook};
 ghost use Rattle.xcap_io.specs.Sockets.{ReadsStream, WritesStream};
 ghost use Rattle.xcap_io.specs.Streams.{WritesSome};
 
 use crate::line::fault;
+use crate::log::Log;
+use crate::remembered::Remembered;
 use crate::{Failed, Line, Peer, Port, Sink, Source};
 use std::io::{Read, Write};
 use std::net::{Net, OpenListener, OpenStream, TcpListener, TcpStream};
 
-/// Connections that come in over TCP. It tells no bytes, no address and no connections, only its counts of faults.
-/// A want of memory inside a call is a fault like any other.
+/// Connections that come in over TCP. It tells what passed over each, where it listens, and its counts of faults; not what is
+/// still to come. A want of memory inside a call is a fault like any other.
 #[derive(Drop)]
 pub struct TcpPort<N: Net + Drop> {
     net: N,
     listener: Option<N::Listener>,
     stream: Option<N::Stream>,
+    log: Log,
+    addresses: Remembered,
     read_faults: u64,
     write_faults: u64,
     faults: u64,
@@ -28,14 +34,14 @@ pub struct TcpPort<N: Net + Drop> {
 impl<N: Net + Drop> TcpPort<N> {
     /// A port that listens nowhere yet.
     pub fn new(net: N) -> TcpPort<N>
-        ensures { ⟦<TcpPort<N> as Line>⟧.state result ≡ record {
-          left = None;
-          taken = None;
+        ensures nothing_passed { ⟦<TcpPort<N> as Line>⟧.state result ≡ record {
+          inward = no_inward;
+          taken = [];
           read_faults = 0;
           write_faults = 0;
           holds = [];
           aside = [];
-          port = no_port;
+          port = record { listening = Some None; to_come = None; begun = none_begun; faults = 0 };
           peer = no_peer;
         } }
     {
@@ -43,6 +49,8 @@ impl<N: Net + Drop> TcpPort<N> {
             net,
             listener: None,
             stream: None,
+            log: Log::new(),
+            addresses: Remembered::new(),
             read_faults: 0,
             write_faults: 0,
             faults: 0,
@@ -52,23 +60,29 @@ impl<N: Net + Drop> TcpPort<N> {
 
 impl<N: Net + Drop> Line for TcpPort<N> {
     ghost state = { λ p. record {
-      left = None;
-      taken = None;
+      inward = inward_of p.log.history.now;
+      taken = p.log.history.now.taken;
       read_faults = p.read_faults;
       write_faults = p.write_faults;
       holds = [];
       aside = [];
-      port = record no_port { faults = p.faults };
+      port = record {
+        listening = Some (latest p.addresses.texts);
+        to_come = None;
+        begun = record { earlier = p.log.history.earlier; is_present = p.log.history.is_present };
+        faults = p.faults;
+      };
       peer = no_peer;
     } };
 }
 
-/// Connections that go out over TCP. It tells no bytes and no connections, only its counts of faults.
+/// Connections that go out over TCP. It tells what passed over all of them together, and its counts of faults.
 /// A want of memory inside a call is a fault like any other.
 #[derive(Drop)]
 pub struct TcpPeer<N: Net + Drop> {
     net: N,
     stream: Option<N::Stream>,
+    log: Log,
     read_faults: u64,
     write_faults: u64,
     faults: u64,
@@ -77,9 +91,9 @@ pub struct TcpPeer<N: Net + Drop> {
 impl<N: Net + Drop> TcpPeer<N> {
     /// A peer with no connection yet.
     pub fn new(net: N) -> TcpPeer<N>
-        ensures { ⟦<TcpPeer<N> as Line>⟧.state result ≡ record {
-          left = None;
-          taken = None;
+        ensures nothing_passed { ⟦<TcpPeer<N> as Line>⟧.state result ≡ record {
+          inward = no_inward;
+          taken = [];
           read_faults = 0;
           write_faults = 0;
           holds = [];
@@ -91,6 +105,7 @@ impl<N: Net + Drop> TcpPeer<N> {
         TcpPeer {
             net,
             stream: None,
+            log: Log::new(),
             read_faults: 0,
             write_faults: 0,
             faults: 0,
@@ -100,8 +115,8 @@ impl<N: Net + Drop> TcpPeer<N> {
 
 impl<N: Net + Drop> Line for TcpPeer<N> {
     ghost state = { λ p. record {
-      left = None;
-      taken = None;
+      inward = inward_of p.log.history.now;
+      taken = p.log.history.now.taken;
       read_faults = p.read_faults;
       write_faults = p.write_faults;
       holds = [];
@@ -114,6 +129,7 @@ impl<N: Net + Drop> Line for TcpPeer<N> {
 // One read of the present connection. Where there is none, or the read failed, that is counted.
 fn read_from<S: Read>(
     stream: &mut Option<S>,
+    log: &mut Log,
     faults: &mut u64,
     buf: &mut [u8],
 ) -> Result<usize, Failed>
@@ -121,10 +137,15 @@ fn read_from<S: Read>(
     ensures counts { Counts faults.old faults.new result }
     ensures later { faults.old ≤ faults.new }
     ensures from_stream { ReadsStream S.remaining stream.old stream.new result buf.new }
+    ensures logged { MatchResult result (λ n. log.new.history ≡ with_given log.old.history (take n buf.new))
+        (λ _. log.new.history ≡ log.old.history) }
 {
     match stream {
         Some(stream) => match stream.read(buf) {
-            Ok(count) => Ok(count),
+            Ok(count) => {
+                log.gave(&buf[..count]);
+                Ok(count)
+            }
             Err(_) => Err(fault(faults)),
         },
         None => Err(fault(faults)),
@@ -134,6 +155,7 @@ fn read_from<S: Read>(
 // One write to the present connection. Where there is none, or the write failed, or it took nothing, that is counted.
 fn write_to<S: Write>(
     stream: &mut Option<S>,
+    log: &mut Log,
     faults: &mut u64,
     piece: &[u8],
 ) -> Result<usize, Failed>
@@ -141,10 +163,15 @@ fn write_to<S: Write>(
     ensures counts { Counts faults.old faults.new result }
     ensures later { faults.old ≤ faults.new }
     ensures to_stream { WritesStream S.contents stream.old stream.new result piece.now }
+    ensures logged { MatchResult result (λ n. log.new.history ≡ with_taken log.old.history (take n piece.now))
+        (λ _. log.new.history ≡ log.old.history) }
 {
     match stream {
         Some(stream) => match stream.write(piece) {
-            Ok(count) if count > 0 => Ok(count),
+            Ok(count) if count > 0 => {
+                log.took(&piece[..count]);
+                Ok(count)
+            }
             _ => Err(fault(faults)),
         },
         None => Err(fault(faults)),
@@ -173,14 +200,14 @@ impl<N: Net + Drop> Source for TcpPort<N> {
     fn read(&mut self, buf: &mut [u8]) -> Result<usize, Failed>
         requires { 0 < length buf.old }
         ensures bound { ReadsAtMost result buf.new }
-        ensures bytes { ReadConsumes (⟦<TcpPort<N> as Line>⟧.state self.old).left
-            (⟦<TcpPort<N> as Line>⟧.state self.new).left result buf.new }
+        ensures bytes { ReadGave (⟦<TcpPort<N> as Line>⟧.state self.old).inward
+            (⟦<TcpPort<N> as Line>⟧.state self.new).inward result buf.new }
         ensures only_reads { OnlyReads
             (⟦<TcpPort<N> as Line>⟧.state self.old) (⟦<TcpPort<N> as Line>⟧.state self.new) result }
         ensures from_stream { ReadsStream N.Stream.remaining self.old.stream self.new.stream result buf.new }
         ensures same_listener { self.new.listener ≡ self.old.listener }
     {
-        read_from(&mut self.stream, &mut self.read_faults, buf)
+        read_from(&mut self.stream, &mut self.log, &mut self.read_faults, buf)
     }
 }
 
@@ -188,14 +215,19 @@ impl<N: Net + Drop> Sink for TcpPort<N> {
     fn write(&mut self, piece: &[u8]) -> Result<usize, Failed>
         requires { 0 < length piece.now }
         ensures bound { WritesSome result piece.now }
-        ensures bytes { WriteAppends (⟦<TcpPort<N> as Line>⟧.state self.old).taken
+        ensures bytes { WriteTook (⟦<TcpPort<N> as Line>⟧.state self.old).taken
             (⟦<TcpPort<N> as Line>⟧.state self.new).taken result piece.now }
         ensures only_writes { OnlyWrites
             (⟦<TcpPort<N> as Line>⟧.state self.old) (⟦<TcpPort<N> as Line>⟧.state self.new) result }
         ensures to_stream { WritesStream N.Stream.contents self.old.stream self.new.stream result piece.now }
         ensures same_listener { self.new.listener ≡ self.old.listener }
     {
-        write_to(&mut self.stream, &mut self.write_faults, piece)
+        write_to(
+            &mut self.stream,
+            &mut self.log,
+            &mut self.write_faults,
+            piece,
+        )
     }
 }
 
@@ -210,6 +242,7 @@ impl<N: Net + Drop> Port for TcpPort<N> {
         match TcpListener::bind(&self.net, address) {
             Ok(listener) => {
                 self.listener = Some(listener);
+                self.addresses.add(address.as_bytes());
                 Ok(())
             }
             Err(_) => Err(fault(&mut self.faults)),
@@ -225,13 +258,17 @@ impl<N: Net + Drop> Port for TcpPort<N> {
         ensures same_listener { self.new.listener ≡ self.old.listener }
         ensures begun { OnOk result (IsSome self.new.stream) }
         ensures ended { OnErr result (self.new.stream ≡ None) }
+        ensures none_present { OnErr result ((⟦<TcpPort<N> as Line>⟧.state self.new).port.begun
+            ≡ record { earlier = carried (⟦<TcpPort<N> as Line>⟧.state self.old); is_present = false }) }
     {
         // The peer waits for the end of the present connection, so it is closed first.
         self.stream = None;
+        self.log.end();
         match accept_next(&self.listener) {
             Some(stream) => {
                 send_at_once(&stream);
                 self.stream = Some(stream);
+                self.log.begin();
                 Ok(true)
             }
             None => Err(fault(&mut self.faults)),
@@ -243,13 +280,13 @@ impl<N: Net + Drop> Source for TcpPeer<N> {
     fn read(&mut self, buf: &mut [u8]) -> Result<usize, Failed>
         requires { 0 < length buf.old }
         ensures bound { ReadsAtMost result buf.new }
-        ensures bytes { ReadConsumes (⟦<TcpPeer<N> as Line>⟧.state self.old).left
-            (⟦<TcpPeer<N> as Line>⟧.state self.new).left result buf.new }
+        ensures bytes { ReadGave (⟦<TcpPeer<N> as Line>⟧.state self.old).inward
+            (⟦<TcpPeer<N> as Line>⟧.state self.new).inward result buf.new }
         ensures only_reads { OnlyReads
             (⟦<TcpPeer<N> as Line>⟧.state self.old) (⟦<TcpPeer<N> as Line>⟧.state self.new) result }
         ensures from_stream { ReadsStream N.Stream.remaining self.old.stream self.new.stream result buf.new }
     {
-        read_from(&mut self.stream, &mut self.read_faults, buf)
+        read_from(&mut self.stream, &mut self.log, &mut self.read_faults, buf)
     }
 }
 
@@ -257,13 +294,18 @@ impl<N: Net + Drop> Sink for TcpPeer<N> {
     fn write(&mut self, piece: &[u8]) -> Result<usize, Failed>
         requires { 0 < length piece.now }
         ensures bound { WritesSome result piece.now }
-        ensures bytes { WriteAppends (⟦<TcpPeer<N> as Line>⟧.state self.old).taken
+        ensures bytes { WriteTook (⟦<TcpPeer<N> as Line>⟧.state self.old).taken
             (⟦<TcpPeer<N> as Line>⟧.state self.new).taken result piece.now }
         ensures only_writes { OnlyWrites
             (⟦<TcpPeer<N> as Line>⟧.state self.old) (⟦<TcpPeer<N> as Line>⟧.state self.new) result }
         ensures to_stream { WritesStream N.Stream.contents self.old.stream self.new.stream result piece.now }
     {
-        write_to(&mut self.stream, &mut self.write_faults, piece)
+        write_to(
+            &mut self.stream,
+            &mut self.log,
+            &mut self.write_faults,
+            piece,
+        )
     }
 }
 

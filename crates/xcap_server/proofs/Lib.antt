@@ -1,3 +1,4 @@
-pub mod Replies
+pub mod Answering
+pub mod Counting
 pub mod Dispatch
 pub mod Standing

@@ -4,11 +4,13 @@
 //! The standard is RFC 4825, sections 6 to 8.
 #![tactic(auto)]
 
+mod laws;
 mod requests;
 mod server;
 mod service;
 mod targets;
 
 pub use http_serve::{Answered, Ended, Served, Stop};
+pub use laws::all_bytes_count;
 pub use server::{Server, answer, serve_connection, serve_port};
 pub use std::alloc::AllocError as NoMemory;

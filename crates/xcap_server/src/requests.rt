@@ -1,62 +1,41 @@
-// What a request is answered where documents are held (RFC 4825, section 8): the first line that applies gives the answer.
-// Each function is one line, or hands on to the next.
-ghost use Rattle.std.specs.Prelude.{◌≡◌, ◌≢◌, ◌&&◌, not, true, false, None, IsOk, IsTrue, IfOk, OnErr};
+// What a request comes to where documents are held (RFC 4825, section 8): the first line that applies decides.
+// Each function is one line, or hands on to the next. Nothing is changed here.
+ghost use Rattle.std.specs.Prelude.{◌≡◌, ◌≢◌, ℕ, List, not, true, false, None, Some, IsOk, IsTrue, IfOk};
+ghost use Rattle.doc_names.specs.Usages.{usage_of};
 ghost use Rattle.reply_text.specs.Statuses.{is_status};
+ghost use Rattle.reply_text.specs.Heads.{plain};
 ghost use Rattle.xcap_uri.specs.Targets.{IsReadableTarget, under_root};
 ghost use Rattle.request_terms.specs.Methods.{is_reading};
 ghost use Rattle.request_terms.specs.Rights.{is_allowed};
+ghost use Rattle.request_terms.specs.declared.method.Method.TheVariants as methods;
 ghost use Rattle.store_core.specs.Keeping.{IsUsers};
-ghost use Rattle.machine_words.specs.Answers.{not_allowed, plain, unchanged};
-ghost use Rattle.machine_words.specs.Machine.{Does};
-ghost use Rattle.machine_words.specs.Requests.{ByMethod, ByTarget, ByUser, Deletes, IsAnswer, Puts, auid_of, fault_status, home_of, is_built, is_read_only, reads};
-ghost use Rattle.xcap_server.specs.Servers.{IsReply};
+ghost use Rattle.machine_words.specs.Requests.{ByMethod, ByTarget, ByUser, Deletes, IsAnswer, Puts, auid_of, fault_status, home_of, reads, takes};
+ghost use Rattle.document_writes.specs.Deciding.{Decides};
 
-use crate::targets::{auid_of, home_of, is_built, is_read_only};
+use crate::targets::{auid_of, home_of, is_read_only, takes};
+use doc_names::Usage;
 use document_reads::{get_document, get_node};
-use document_writes::{Written, delete_document, delete_node, put_deeper, put_document, put_node};
-use http_serve::Answered;
+use document_writes::{Decision, delete_document, delete_node, put_deeper, put_document, put_node};
 use http_wire::Request;
 use reply_text::Reply;
 use request_terms::{Method, is_allowed};
 use std::alloc::{AllocError, Global};
 use store_core::Store;
+use tree_text::ReadError;
 use xcap_uri::{Root, Target, UriFault, read_target};
 
-// ---- replies that change nothing
-
-fn reply_alone(reply: Reply) -> Answered
-    ensures { IsReply reply result.reply result.edit }
-{
-    Answered { reply, edit: None }
-}
-
-fn plain(status: u16, request: &Request) -> Answered
+// A reply without tag and body, which changes nothing.
+fn plain(status: u16, request: &Request) -> Decision
     requires status { IsTrue (is_status status) }
     requires plain { (status ≢ 304) × (status ≢ 405) × (status ≢ 409) }
-    ensures { IsReply (plain status request.now.closes) result.reply result.edit }
+    ensures stays_plain { result ≡ Decision.Stays (plain status request.now.closes) }
 {
-    reply_alone(Reply::fixed(status, request.closes))
-}
-
-fn not_allowed(read_only: bool, request: &Request) -> Answered
-    ensures { IsReply (not_allowed read_only request.now.closes) result.reply result.edit }
-{
-    reply_alone(Reply::method(read_only, request.closes))
-}
-
-// What was written, and what it made.
-fn as_written(written: Written) -> Answered
-    ensures { (result.reply ≡ written.reply) × (result.edit ≡ written.edit) }
-{
-    Answered {
-        reply: written.reply,
-        edit: written.edit,
-    }
+    Decision::Stays(Reply::fixed(status, request.closes))
 }
 
 // ---- by method
 
-// What GET and HEAD are answered.
+// The reply to GET and HEAD.
 fn get_target(
     alloc: Global,
     store: &Store,
@@ -64,7 +43,7 @@ fn get_target(
     method: Method,
     request: &Request,
 ) -> Result<Reply, AllocError>
-    ensures { IfOk result (λ reply. reads store.now.content target.now method request.now ≡ unchanged reply) }
+    ensures replies_as_the_machine { IfOk result (λ reply. (root : List ℕ) → reply ≡ reads root store.now.content target.now method request.now) }
 {
     match target {
         Target::Document(doc) => get_document(alloc, store, doc, method, request),
@@ -76,200 +55,175 @@ fn get_target(
     }
 }
 
-// What PUT is answered.
+// What PUT comes to in a usage that stores documents.
 fn put_target(
     alloc: Global,
     root: &Root,
     store: &mut Store,
     target: &Target,
+    usage: Usage,
     request: &Request,
-) -> Result<Answered, AllocError>
+) -> Result<Decision, AllocError>
     requires readable { IsReadableTarget target.now }
-    requires built { is_built target.now ≡ true }
     requires users { IsUsers (home_of target.now) }
-    ensures does { IfOk result (λ answered. Does (Puts root.now store.old.content target.now request.now)
-        store.old.content answered.reply answered.edit store.new.content) }
-    ensures err { OnErr result (store.new.content ≡ store.old.content) }
+    requires usage { usage_of (auid_of target.now) ≡ Some usage }
+    requires taken { takes target.now methods.Put ≡ true }
+    ensures decides_as_the_machine { IfOk result (λ d. Decides (Puts root.now store.old.content target.now usage request.now) store.new d) }
+    ensures holds_the_same { store.new.content ≡ store.old.content }
 {
     match target {
-        Target::Document(doc) => {
-            let written = put_document(alloc, store, doc, request)?;
-            Ok(as_written(written))
-        }
-        Target::Node(doc, selector) => {
-            let reply = put_node(alloc, store, root, doc, selector, request)?;
-            Ok(reply_alone(reply))
-        }
+        Target::Document(doc) => put_document(alloc, store, doc, usage, request),
+        Target::Node(doc, selector) => put_node(alloc, store, root, doc, usage, selector, request),
         Target::Deep(auid, home) => {
             let reply = put_deeper(alloc, root, *auid, home, request)?;
-            Ok(reply_alone(reply))
+            Ok(Decision::Stays(reply))
         }
         Target::Feed { .. } | Target::ElementFeed { .. } | Target::Flat { .. } => unreachable!(),
     }
 }
 
-// What DELETE is answered.
+// What DELETE comes to in a usage that stores documents.
 fn delete_target(
     alloc: Global,
     store: &mut Store,
     target: &Target,
+    usage: Usage,
     request: &Request,
-) -> Result<Answered, AllocError>
-    requires built { is_built target.now ≡ true }
-    ensures does { IfOk result (λ answered. Does (Deletes store.old.content target.now request.now)
-        store.old.content answered.reply answered.edit store.new.content) }
-    ensures err { OnErr result (store.new.content ≡ store.old.content) }
+) -> Result<Decision, AllocError>
+    requires usage { usage_of (auid_of target.now) ≡ Some usage }
+    requires taken { takes target.now methods.Delete ≡ true }
+    ensures decides_as_the_machine { IfOk result (λ d. Decides (Deletes store.old.content target.now usage request.now) store.new d) }
+    ensures holds_the_same { store.new.content ≡ store.old.content }
 {
     match target {
-        Target::Document(doc) => {
-            let written = delete_document(alloc, store, doc, request)?;
-            Ok(as_written(written))
-        }
-        Target::Node(doc, selector) => {
-            let reply = delete_node(alloc, store, doc, selector, request)?;
-            Ok(reply_alone(reply))
-        }
+        Target::Document(doc) => delete_document(alloc, store, doc, request),
+        Target::Node(doc, selector) => delete_node(alloc, store, doc, usage, selector, request),
         Target::Deep(_, _) => Ok(plain(404, request)),
         Target::Feed { .. } | Target::ElementFeed { .. } | Target::Flat { .. } => unreachable!(),
     }
 }
 
-fn answer_change(
+// What PUT and DELETE come to.
+fn decide_write(
     alloc: Global,
     root: &Root,
     store: &mut Store,
     target: &Target,
     method: Method,
     request: &Request,
-) -> Result<Answered, AllocError>
-    requires changes { is_reading method ≡ false }
+) -> Result<Decision, AllocError>
     requires readable { IsReadableTarget target.now }
-    requires built { is_built target.now ≡ true }
     requires users { IsUsers (home_of target.now) }
-    ensures does { IfOk result (λ answered. Does (ByMethod root.now store.old.content target.now method request.now)
-        store.old.content answered.reply answered.edit store.new.content) }
-    ensures err { OnErr result (store.new.content ≡ store.old.content) }
+    requires writes { is_reading method ≡ false }
+    requires taken { takes target.now method ≡ true }
+    ensures decides_as_the_machine { IfOk result (λ d. Decides (ByMethod root.now store.old.content target.now method request.now) store.new d) }
+    ensures holds_the_same { store.new.content ≡ store.old.content }
 {
+    let Some(usage) = auid_of(target).stored() else {
+        return Ok(plain(403, request));
+    };
     match method {
-        Method::Put => put_target(alloc, root, store, target, request),
-        Method::Delete => delete_target(alloc, store, target, request),
-        _ => Ok(not_allowed(false, request)),
+        Method::Put => put_target(alloc, root, store, target, usage, request),
+        Method::Delete => delete_target(alloc, store, target, usage, request),
+        Method::Get | Method::Head | Method::Other => unreachable!(),
     }
 }
 
-fn answer_method(
+fn decide_method(
     alloc: Global,
     root: &Root,
     store: &mut Store,
     target: &Target,
     method: Method,
     request: &Request,
-) -> Result<Answered, AllocError>
+) -> Result<Decision, AllocError>
     requires readable { IsReadableTarget target.now }
-    requires built { is_built target.now ≡ true }
     requires users { is_reading method ≡ false → IsUsers (home_of target.now) }
-    ensures does { IfOk result (λ answered. Does (ByMethod root.now store.old.content target.now method request.now)
-        store.old.content answered.reply answered.edit store.new.content) }
-    ensures err { OnErr result (store.new.content ≡ store.old.content) }
+    requires taken { takes target.now method ≡ true }
+    ensures decides_as_the_machine { IfOk result (λ d. Decides (ByMethod root.now store.old.content target.now method request.now) store.new d) }
+    ensures holds_the_same { store.new.content ≡ store.old.content }
 {
     if method.reads() {
         let reply = get_target(alloc, store, target, method, request)?;
-        return Ok(reply_alone(reply));
+        return Ok(Decision::Stays(reply));
     }
-    answer_change(alloc, root, store, target, method, request)
+    decide_write(alloc, root, store, target, method, request)
 }
 
 // ---- all in order
 
 fn may_ask(target: &Target, method: Method, request: &Request) -> bool
-    ensures { result ≡ is_allowed (not (is_reading method)) (auid_of target.now) (home_of target.now) request.now.fields }
+    ensures allowed_by_right { result ≡ is_allowed (not (is_reading method)) (auid_of target.now) (home_of target.now) request.now.fields }
 {
     is_allowed(!method.reads(), auid_of(target), home_of(target), request)
 }
 
-fn answer_user(
+fn decide_user(
     alloc: Global,
     root: &Root,
     store: &mut Store,
     target: &Target,
     method: Method,
     request: &Request,
-) -> Result<Answered, AllocError>
+) -> Result<Decision, AllocError>
     requires readable { IsReadableTarget target.now }
-    requires built { is_built target.now ≡ true }
-    ensures does { IfOk result (λ answered. Does (ByUser root.now store.old.content target.now method request.now)
-        store.old.content answered.reply answered.edit store.new.content) }
-    ensures err { OnErr result (store.new.content ≡ store.old.content) }
+    requires taken { takes target.now method ≡ true }
+    ensures decides_as_the_machine { IfOk result (λ d. Decides (ByUser root.now store.old.content target.now method request.now) store.new d) }
+    ensures holds_the_same { store.new.content ≡ store.old.content }
 {
     if !may_ask(target, method, request) {
         return Ok(plain(403, request));
     }
-    answer_method(alloc, root, store, target, method, request)
+    decide_method(alloc, root, store, target, method, request)
 }
 
-// Whether the target can only be read, and the method doesn't.
-fn is_against(target: &Target, method: Method) -> bool
-    ensures { result ≡ (is_read_only target.now && not (is_reading method)) }
-{
-    is_read_only(target) && !method.reads()
-}
-
-fn answer_target(
+fn decide_target(
     alloc: Global,
     root: &Root,
     store: &mut Store,
     target: &Target,
     method: Method,
     request: &Request,
-) -> Result<Answered, AllocError>
-    requires { IsReadableTarget target.now }
-    ensures does { IfOk result (λ answered. Does (ByTarget root.now store.old.content target.now method request.now)
-        store.old.content answered.reply answered.edit store.new.content) }
-    ensures err { OnErr result (store.new.content ≡ store.old.content) }
+) -> Result<Decision, AllocError>
+    requires readable { IsReadableTarget target.now }
+    ensures decides_as_the_machine { IfOk result (λ d. Decides (ByTarget root.now store.old.content target.now method request.now) store.new d) }
+    ensures holds_the_same { store.new.content ≡ store.old.content }
 {
-    if is_against(target, method) {
-        return Ok(not_allowed(true, request));
+    if !takes(target, method) {
+        let reply = Reply::method(is_read_only(target), request.closes);
+        return Ok(Decision::Stays(reply));
     }
-    if !method.is_known() {
-        return Ok(not_allowed(false, request));
-    }
-    if !is_built(target) {
-        return Ok(plain(501, request));
-    }
-    answer_user(alloc, root, store, target, method, request)
+    decide_user(alloc, root, store, target, method, request)
 }
 
-// What a target that can't be read is answered.
-fn answer_fault(fault: UriFault, request: &Request) -> Result<Answered, AllocError>
-    ensures ok { IfOk result (λ answered. (fault ≢ UriFault.NoMemory)
-        × IsReply (plain (fault_status fault) request.now.closes) answered.reply answered.edit) }
-    ensures err { OnErr result (fault ≡ UriFault.NoMemory) }
+// What a target that can't be read comes to.
+fn decide_fault(fault: UriFault, request: &Request) -> Decision
+    ensures tells_the_fault { result ≡ Decision.Stays (plain (fault_status fault) request.now.closes) }
 {
     match fault {
-        UriFault::OutsideRoot | UriFault::UnknownAuid => Ok(plain(404, request)),
+        UriFault::OutsideRoot | UriFault::UnknownAuid => plain(404, request),
         UriFault::BadShape
         | UriFault::BadEscape
         | UriFault::BadQuery
         | UriFault::UnboundPrefix
-        | UriFault::BadSelector => Ok(plain(400, request)),
-        UriFault::NoMemory => Err(AllocError),
+        | UriFault::BadSelector => plain(400, request),
     }
 }
 
-// What a request is answered.
-pub(crate) fn answer_request(
+// What a request comes to.
+pub(crate) fn decide(
     alloc: Global,
     root: &Root,
     store: &mut Store,
     request: &Request,
-) -> Result<Answered, AllocError>
-    ensures does { IfOk result (λ answered. Does (IsAnswer root.now store.old.content request.now)
-        store.old.content answered.reply answered.edit store.new.content) }
-    ensures outside { under_root root.now request.now.target ≡ None → IsOk result }
-    ensures err { OnErr result (store.new.content ≡ store.old.content) }
+) -> Result<Decision, AllocError>
+    ensures decides_as_the_machine { IfOk result (λ d. Decides (IsAnswer root.now store.old.content request.now) store.new d) }
+    ensures outside_takes_no_memory { under_root root.now request.now.target ≡ None → IsOk result }
+    ensures holds_the_same { store.new.content ≡ store.old.content }
 {
     match read_target(alloc, root, request.target.as_slice()) {
-        Ok(target) => answer_target(alloc, root, store, &target, Method::of(request), request),
-        Err(fault) => answer_fault(fault, request),
+        Ok(target) => decide_target(alloc, root, store, &target, Method::of(request), request),
+        Err(ReadError::Fault(fault)) => Ok(decide_fault(fault, request)),
+        Err(ReadError::NoMemory) => Err(AllocError),
     }
 }

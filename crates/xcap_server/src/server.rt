@@ -1,13 +1,13 @@
 //! The server: the documents under a root, which connections read and change.
 ghost use Rattle.std.specs.Prelude.{◌≡◌, ◌≤◌, [], None, IsOk, IfOk, OnErr};
-ghost use Rattle.reply_text.specs.Heads.{bytes_of};
 ghost use Rattle.xcap_uri.specs.Targets.{under_root};
 ghost use Rattle.store_core.specs.State.{State};
 ghost use Rattle.store_core.specs.Held.{Stands};
 ghost use Rattle.store_core.specs.Keeping.{Kept};
-ghost use Rattle.machine_words.specs.Machine.{Step};
+ghost use Rattle.machine_words.specs.Machine.{KeptStep};
 ghost use Rattle.http_serve.specs.Connections.{ServesLine};
 ghost use Rattle.http_serve.specs.Ports.{ServesPort};
+ghost use Rattle.http_serve.specs.Written.{InBytes};
 
 use crate::service::Service;
 use http_serve::{Answered, Buffers, Ended, Served, serve_line, serve_lines};
@@ -48,9 +48,9 @@ impl Server {
     /// # Errors
     /// `NoMemory` for want of memory.
     pub fn new(alloc: Global, root: &Root, first: u64) -> Result<Server, AllocError>
-        requires { 1 ≤ first }
-        ensures root { IfOk result (λ server. server.root ≡ root.now) }
-        ensures content { IfOk result (λ server. server.content ≡ record { documents = []; next = first }) }
+        requires positive { 1 ≤ first }
+        ensures under_the_root { IfOk result (λ server. server.root ≡ root.now) }
+        ensures without_documents { IfOk result (λ server. server.content ≡ record { documents = []; next = first }) }
     {
         let service = Service::new(alloc, root, first)?;
         let buffers = Buffers::new(alloc)?;
@@ -59,14 +59,14 @@ impl Server {
 
     /// The root. Takes no memory.
     pub fn root(&self) -> &Root
-        ensures { result.now ≡ self.now.root }
+        ensures lends_the_root { result.now ≡ self.now.root }
     {
         self.service.root()
     }
 
     /// The documents. Takes no memory.
     pub fn store(&self) -> &Store
-        ensures { result.now.content ≡ self.now.content }
+        ensures lends_the_documents { result.now.content ≡ self.now.content }
     {
         self.service.store()
     }
@@ -77,13 +77,13 @@ impl Server {
 /// # Errors
 /// `NoMemory` for want of memory; the server is then as before.
 pub fn answer(server: &mut Server, request: &Request) -> Result<Answered, AllocError>
-    ensures step { IfOk result (λ answered. (m : State) → Kept m → Stands server.old.content m
-        → (next : State) × Step server.old.root m request.now (bytes_of answered.reply) next answered.edit
-        × Stands server.new.content next × Kept next) }
-    ensures closes { IfOk result (λ answered. answered.reply.closes ≡ request.now.closes) }
-    ensures outside { under_root server.old.root request.now.target ≡ None → IsOk result }
-    ensures root { server.new.root ≡ server.old.root }
-    ensures err { OnErr result (server.new.content ≡ server.old.content) }
+    ensures makes_a_step_of_the_machine { IfOk result (λ answered. (m : State) → Kept m → Stands server.old.content m
+        → (next : State) × KeptStep server.old.root m request.now answered.reply next answered.edit
+        × Stands server.new.content next) }
+    ensures closes_as_asked { IfOk result (λ answered. answered.reply.closes ≡ request.now.closes) }
+    ensures outside_takes_no_memory { under_root server.old.root request.now.target ≡ None → IsOk result }
+    ensures same_root { server.new.root ≡ server.old.root }
+    ensures without_memory_as_before { OnErr result (server.new.content ≡ server.old.content) }
 {
     server.service.respond(request)
 }
@@ -91,31 +91,32 @@ pub fn answer(server: &mut Server, request: &Request) -> Result<Answered, AllocE
 /// Serves a connection: each request is read, answered, told to the watchers where it made a change, and replied to, in this
 /// order, until a reply closes the connection, its bytes end, or a read or a write fails. What is no request gets its fixed
 /// reply, and for want of memory a request gets the fixed 503; both close. After a read that failed there is no further
-/// reply. Takes no memory before the first request.
+/// reply. Takes no memory before the first request. Every state on the way is kept.
 pub fn serve_connection<L: Source + Sink, W: Watchers>(
     server: &mut Server,
     line: &mut L,
     watchers: &mut W,
 ) -> Ended
-    ensures serves { (m : State) → Kept m → Stands server.old.content m
+    ensures serves_as_the_machine { (m : State) → Kept m → Stands server.old.content m
         → (next : State) × Kept next × Stands server.new.content next
-        × ServesLine (Step server.old.root) W.keeps result m next (L.state line.old) (L.state line.new) watchers.old watchers.new }
-    ensures root { server.new.root ≡ server.old.root }
+        × ServesLine (InBytes (KeptStep server.old.root)) W.keeps result m next (L.state line.old) (L.state line.new) watchers.old watchers.new }
+    ensures same_root { server.new.root ≡ server.old.root }
 {
     serve_line(&mut server.service, &mut server.buffers, line, watchers)
 }
 
-/// Serves the next connections of a port, so many at most, as `serve_connection` does, one after the other.
+/// Serves the next connections of a port, so many at most, as `serve_connection` does, one after the other. Every state on the
+/// way is kept.
 pub fn serve_port<P: Port, W: Watchers>(
     server: &mut Server,
     port: &mut P,
     count: u64,
     watchers: &mut W,
 ) -> Served
-    ensures serves { (m : State) → Kept m → Stands server.old.content m
+    ensures serves_as_the_machine { (m : State) → Kept m → Stands server.old.content m
         → (next : State) × Kept next × Stands server.new.content next
-        × ServesPort (Step server.old.root) W.keeps count result m next (P.state port.old) (P.state port.new) watchers.old watchers.new }
-    ensures root { server.new.root ≡ server.old.root }
+        × ServesPort (InBytes (KeptStep server.old.root)) W.keeps count result m next (P.state port.old) (P.state port.new) watchers.old watchers.new }
+    ensures same_root { server.new.root ≡ server.old.root }
 {
     serve_lines(
         &mut server.service,

@@ -1,12 +1,15 @@
 // The documents under a root, as what answers requests.
 ghost use Rattle.std.specs.Prelude.{◌≡◌, ◌≤◌, [], None, IsOk, IfOk, OnErr};
 ghost use Rattle.xcap_uri.specs.Targets.{under_root};
-ghost use Rattle.machine_words.specs.Machine.{Does};
-ghost use Rattle.machine_words.specs.Requests.{IsAnswer};
+ghost use Rattle.machine_words.specs.Machine.{answer_as, content_after_answer};
+ghost use Rattle.document_writes.specs.Deciding.{IsReadyFor, answer_of};
+ghost use Rattle.xcap_server.specs.Servers.{AnswersRequest, IsAsBefore};
 
-use crate::requests::answer_request;
+use crate::requests::decide;
+use document_writes::Decision;
 use http_serve::{Answered, Machine};
 use http_wire::Request;
+use notes::Edit;
 use std::alloc::{AllocError, Global};
 use std::marker::Model;
 use store_core::Store;
@@ -36,9 +39,9 @@ impl Model for Service {
 
 impl Service {
     pub(crate) fn new(alloc: Global, root: &Root, first: u64) -> Result<Service, AllocError>
-        requires { 1 ≤ first }
-        ensures root { IfOk result (λ service. service.root ≡ root.now) }
-        ensures content { IfOk result (λ service. service.content ≡ record { documents = []; next = first }) }
+        requires positive { 1 ≤ first }
+        ensures under_the_root { IfOk result (λ service. service.root ≡ root.now) }
+        ensures without_documents { IfOk result (λ service. service.content ≡ record { documents = []; next = first }) }
     {
         let root = root.copy(alloc)?;
         let store = Store::new(alloc, first)?;
@@ -46,26 +49,48 @@ impl Service {
     }
 
     pub(crate) fn root(&self) -> &Root
-        ensures { result.now ≡ self.now.root }
+        ensures lends_the_root { result.now ≡ self.now.root }
     {
         &self.root
     }
 
     pub(crate) fn store(&self) -> &Store
-        ensures { result.now.content ≡ self.now.content }
+        ensures lends_the_documents { result.now.content ≡ self.now.content }
     {
         &self.store
     }
 
-    // What a request is answered.
+    // What a request is answered: it is decided, and then the change is made, if there is one.
     pub(crate) fn respond(&mut self, request: &Request) -> Result<Answered, AllocError>
-        ensures does { IfOk result (λ answered. Does (IsAnswer self.old.root self.old.content request.now)
-            self.old.content answered.reply answered.edit self.new.content) }
-        ensures root { self.new.root ≡ self.old.root }
-        ensures outside { under_root self.old.root request.now.target ≡ None → IsOk result }
-        ensures err { OnErr result (self.new ≡ self.old) }
+        ensures answers_as_the_machine { IfOk result (λ answered. AnswersRequest self.old request.now answered.reply self.new answered.edit) }
+        ensures same_root { self.new.root ≡ self.old.root }
+        ensures outside_takes_no_memory { under_root self.old.root request.now.target ≡ None → IsOk result }
+        ensures without_memory_as_before { OnErr result (IsAsBefore self.old self.new) }
     {
-        answer_request(self.alloc, &self.root, &mut self.store, request)
+        let decision = decide(self.alloc, &self.root, &mut self.store, request)?;
+        Ok(commit(&mut self.store, decision))
+    }
+}
+
+// Makes the change that was decided, if there is one. Takes no memory.
+fn commit(store: &mut Store, decision: Decision) -> Answered
+    requires ready { IsReadyFor store.old decision }
+    ensures gives_the_answer { answer_as result.reply result.edit ≡ answer_of decision }
+    ensures makes_the_change { store.new.content ≡ content_after_answer store.old.content (answer_of decision).made }
+{
+    match decision {
+        Decision::Stays(reply) => Answered { reply, edit: None },
+        Decision::Changes {
+            reply,
+            doc,
+            prepared,
+        } => {
+            let note = store.commit(prepared);
+            Answered {
+                reply,
+                edit: Some(Edit { doc, note }),
+            }
+        }
     }
 }
 

@@ -1,13 +1,14 @@
 // What the dispatch asks of a target (RFC 4825, section 6).
 ghost use Rattle.std.specs.Prelude.{◌≡◌};
-ghost use Rattle.machine_words.specs.Requests.{is_built, is_read_only, auid_of, home_of, is_bindings};
+ghost use Rattle.machine_words.specs.Requests.{auid_of, home_of, is_bindings, is_read_only, takes};
 
 use doc_names::{Auid, Home};
 use node_select::End;
+use request_terms::Method;
 use xcap_uri::Target;
 
 fn is_bindings(end: &End) -> bool
-    ensures { result ≡ is_bindings end.now }
+    ensures are_bindings { result ≡ is_bindings end.now }
 {
     match end {
         End::Element | End::Attribute { .. } => false,
@@ -17,7 +18,7 @@ fn is_bindings(end: &End) -> bool
 
 // Whether it can be read and nothing else.
 pub(crate) fn is_read_only(target: &Target) -> bool
-    ensures { result ≡ is_read_only target.now }
+    ensures can_only_be_read { result ≡ is_read_only target.now }
 {
     match target {
         Target::Document(_) | Target::Deep(_, _) => false,
@@ -26,18 +27,19 @@ pub(crate) fn is_read_only(target: &Target) -> bool
     }
 }
 
-// Whether this server answers it today.
-pub(crate) fn is_built(target: &Target) -> bool
-    ensures { result ≡ is_built target.now }
+// Whether it takes the method.
+pub(crate) fn takes(target: &Target, method: Method) -> bool
+    ensures takes_the_method { result ≡ takes target.now method }
 {
-    match target {
-        Target::Document(_) | Target::Node(_, _) | Target::Deep(_, _) => true,
-        Target::Feed { .. } | Target::ElementFeed { .. } | Target::Flat { .. } => false,
+    match method {
+        Method::Get | Method::Head => true,
+        Method::Put | Method::Delete => !is_read_only(target),
+        Method::Other => false,
     }
 }
 
 pub(crate) fn auid_of(target: &Target) -> Auid
-    ensures { result ≡ auid_of target.now }
+    ensures usage_it_lies_in { result ≡ auid_of target.now }
 {
     match target {
         Target::Document(doc) | Target::Node(doc, _) => doc.auid,
@@ -49,7 +51,7 @@ pub(crate) fn auid_of(target: &Target) -> Auid
 }
 
 pub(crate) fn home_of(target: &Target) -> &Home
-    ensures { result.now ≡ home_of target.now }
+    ensures home_it_lies_in { result.now ≡ home_of target.now }
 {
     match target {
         Target::Document(doc) | Target::Node(doc, _) => &doc.home,

@@ -3,11 +3,11 @@ use Rattle.std.proofs.Common.{◌≡◌, ℕ, zero, suc, ◌+◌, ◌-◌, ◌<�
 use Rattle.std.proofs.lemmas.List.{append-nil}
 use Rattle.grammar_rules.specs.Reading.{after_front}
 use Rattle.xml_tree.specs.declared.names.Decl.{Decl}
-use Rattle.xcap_uri.specs.Gives.{◌>>=◌}
+use Rattle.tree_text.specs.declared.fault.ReadError.TheVariants.{Fault, NoMemory}
+use Rattle.xcap_uri.specs.Gives.{UriError, ◌>>=◌}
 use Rattle.xcap_uri.specs.Queries.{Read, with_char, item_read, items_read, is_blank}
 use Rattle.xcap_uri.specs.UriSteps.{with_chars, with_items}
-use Rattle.xcap_uri.specs.declared.fault.UriFault.{UriFault}
-use Rattle.xcap_uri.specs.declared.fault.UriFault.TheVariants.{BadQuery, NoMemory}
+use Rattle.xcap_uri.specs.declared.fault.UriFault.TheVariants.{BadQuery}
 
 -- ---- the characters of a URI
 
@@ -16,7 +16,7 @@ no_char_yet (Ok x) = refl
 no_char_yet (Err e) = refl
 
 module _ (total : Read (List ℕ)) (front : List ℕ) (read : Read (List ℕ)) (so_far : total ≡ with_chars front read) where
-  pub uri_breaks : (e : UriFault) → read ≡ Err e → total ≡ Err e
+  pub uri_breaks : (e : UriError) → read ≡ Err e → total ≡ Err e
   uri_breaks e h = so_far ∙ rw h refl
 
   pub uri_ends : (rest : List ℕ) → read ≡ Ok ([], rest) → total ≡ Ok (front, rest)
@@ -32,7 +32,7 @@ module _ (total : Read (List ℕ)) (front : List ℕ) (read : Read (List ℕ)) (
 -- ---- the items of a query
 
 abbrev Items : Type 0
-Items = Result (List Decl) UriFault
+Items = Result (List Decl) UriError
 
 pub no_item_yet : (read : Items) → read ≡ with_items [] read
 no_item_yet (Ok items) = refl
@@ -42,7 +42,7 @@ module _ (total : Items) (front : List Decl) (n : ℕ) (rest : List ℕ) (so_far
   pub no_item : rest ≡ [] → total ≡ Ok front
   no_item h = so_far ∙ rw h (ap (λ (l : List Decl). let r : Items = Ok l in r) (append-nil front))
 
-  pub item_fails : (m : ℕ) (e : UriFault) → n ≡ m + 1 → 0 < length rest → item_read rest ≡ Err e → total ≡ Err e
+  pub item_fails : (m : ℕ) (e : UriError) → n ≡ m + 1 → 0 < length rest → item_read rest ≡ Err e → total ≡ Err e
   item_fails m e count some h = so_far ∙ fails n rest count some h
     where
       fails : (n : ℕ) (rest : List ℕ) → n ≡ m + 1 → 0 < length rest → item_read rest ≡ Err e → with_items front (items_read n rest) ≡ Err e
@@ -62,19 +62,19 @@ module _ (total : Items) (front : List Decl) (n : ℕ) (rest : List ℕ) (so_far
       more (suc n) [] count some h = absurd (omega (arith, some))
       more (suc n) (c ∷ cs) count some h = let k : n ≡ m = omega (arith, count) in rw (h, k) (longer (items_read m (after_front is_blank after)))
 
-  pub no_more : n ≡ 0 → 0 < length rest → total ≡ Err BadQuery
+  pub no_more : n ≡ 0 → 0 < length rest → total ≡ Err (Fault BadQuery)
   no_more count some = so_far ∙ over n rest count some
     where
-      over : (n : ℕ) (rest : List ℕ) → n ≡ 0 → 0 < length rest → with_items front (items_read n rest) ≡ Err BadQuery
+      over : (n : ℕ) (rest : List ℕ) → n ≡ 0 → 0 < length rest → with_items front (items_read n rest) ≡ Err (Fault BadQuery)
       over n [] count some = absurd (omega (arith, some))
       over zero (c ∷ cs) count some = refl
       over (suc n) (c ∷ cs) count some = absurd (omega (arith, count))
 
 -- what the code has read of an item
 module _ (total : Items) (front : List Decl) (count i : ℕ) (rest : List ℕ) (more : i < count) (some : 0 < length rest) (so_far : total ≡ with_items front (items_read (count - i) rest)) where
-  pub fails : (e : UriFault) → (item_read rest ≡ Err e) ⊎ (e ≡ NoMemory) → (Err e ≡ total) ⊎ (let want : Items = Err NoMemory in Err e ≡ want)
+  pub fails : (e : UriError) → (item_read rest ≡ Err e) ⊎ (e ≡ NoMemory) → (Err e ≡ total) ⊎ (let want : Items = Err NoMemory in Err e ≡ want)
   fails e (inl h) = inl (sym (item_fails total front (count - i) rest so_far (count - (i + 1)) e (omega arith) some h))
-  fails e (inr h) = inr (ap (λ (f : UriFault). let r : Items = Err f in r) h)
+  fails e (inr h) = inr (ap (λ (f : UriError). let r : Items = Err f in r) h)
 
   pub goes_on : (item : Decl) (after : List ℕ) → item_read rest ≡ Ok (item, after) → total ≡ with_items (front ++ item ∷ []) (items_read (count - (i + 1)) (after_front is_blank after))
   goes_on item after h = item_more total front (count - i) rest so_far (count - (i + 1)) item after (omega arith) some h

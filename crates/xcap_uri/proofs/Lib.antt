@@ -10,3 +10,8 @@ mod Pieces
 mod ReadsBack
 mod Separated
 mod UriChars
+mod Ordering
+mod QueryAnswers
+mod SegmentAnswers
+mod ShapeAnswers
+pub mod TargetAnswers

@@ -9,33 +9,35 @@ use Rattle.doc_names.specs.declared.doc_id.Auid.{Auid}
 use Rattle.doc_names.specs.declared.doc_id.Home.{Home}
 use Rattle.doc_names.specs.declared.doc_id.Home.TheVariants.{Global, User}
 use Rattle.doc_names.specs.declared.doc_id.DocId.{DocId}
-use Rattle.xcap_uri.specs.declared.fault.UriFault.{UriFault}
-use Rattle.xcap_uri.specs.declared.fault.UriFault.TheVariants.{BadShape, NoMemory}
+use Rattle.tree_text.specs.declared.fault.ReadError.TheVariants.{Fault, NoMemory}
+use Rattle.xcap_uri.specs.declared.fault.UriFault.TheVariants.{BadShape}
 use Rattle.xcap_uri.specs.declared.shape.Shape.{Shape}
 use Rattle.xcap_uri.specs.declared.shape.Shape.TheVariants.{Whole, Part, Below, Changes, PartChanges, FlatList}
 use Rattle.xcap_uri.specs.declared.target.Mode.{Mode}
 use Rattle.xcap_uri.specs.declared.target.Target.{Target}
 use Rattle.xcap_uri.specs.Cuts.{joined, before, behind, pieces}
-use Rattle.xcap_uri.specs.Escapes.{text_read, optional_text_read}
-use Rattle.xcap_uri.specs.Gives.{◌>>=◌}
+use Rattle.xcap_uri.specs.readers.Escapes.{text_read, optional_text_read}
+use Rattle.xcap_uri.specs.Gives.{UriError, ◌>>=◌}
 use Rattle.doc_names.specs.Ids.{IsNameable, IsReadable, IsReadableHome}
 use Rattle.xcap_uri.specs.Queries.{optional_bindings_read}
 use Rattle.xcap_uri.specs.Roots.{slash}
-use Rattle.xcap_uri.specs.Shapes
-use Rattle.xcap_uri.specs.Targets.{segments_read, path_read, target_of, part_read, about_element, rest_read, raw_text, question, IsReadableTarget}
+use Rattle.xcap_uri.specs.Shapes.{doc_of, tag_of}
+use Rattle.xcap_uri.specs.readers.Shapes as Shapes
+use Rattle.xcap_uri.specs.Targets.{raw_text, question, IsReadableTarget, under_root}
+use Rattle.xcap_uri.specs.readers.Targets.{segments_read, path_read, target_of, part_read, about_element, rest_read, under_read, target_read}
 use Rattle.xcap_uri.specs.Words.{users, global, feed, flat}
 use Rattle.doc_names.specs.Ids.{separator}
 
 -- a step after another, and a choice
-bind_ok : {A B : Type 0} (r : Result A UriFault) (f : A → Result B UriFault) (P : A → Type 0) (Q : B → Type 0) → IfOk r P → ((x : A) → P x → IfOk (f x) Q) → IfOk (r >>= f) Q
+bind_ok : {A B : Type 0} (r : Result A UriError) (f : A → Result B UriError) (P : A → Type 0) (Q : B → Type 0) → IfOk r P → ((x : A) → P x → IfOk (f x) Q) → IfOk (r >>= f) Q
 bind_ok (Ok x) f P Q p g = g x p
 bind_ok (Err e) f P Q p g = tt
 
-if_ok : {A : Type 0} (b : Bool) (x y : Result A UriFault) (P : A → Type 0) → IfOk x P → IfOk y P → IfOk (if b then x else y) P
+if_ok : {A : Type 0} (b : Bool) (x y : Result A UriError) (P : A → Type 0) → IfOk x P → IfOk y P → IfOk (if b then x else y) P
 if_ok true x y P p q = p
 if_ok false x y P p q = q
 
-always : {A : Type 0} (r : Result A UriFault) → IfOk r (λ _. Unit {0})
+always : {A : Type 0} (r : Result A UriError) → IfOk r (λ _. Unit {0})
 always (Ok x) = tt
 always (Err e) = tt
 
@@ -49,7 +51,7 @@ differ : (text : List ℕ) → bytes_eq text separator ≡ false → text ≢ se
 differ text e same = true≢false (sym ((bytes_decides text separator).1 same) ∙ e)
 
 abbrev Segments : Type 0
-Segments = Result (List (List ℕ) × Option (List ℕ)) UriFault
+Segments = Result (List (List ℕ) × Option (List ℕ)) UriError
 
 separate : (text : List ℕ) (ss : List (List ℕ)) (b : Bool) → bytes_eq text separator ≡ b → IfOk (segments_read ss) (λ x. AreFree x.0) → let read : Segments = if b then Ok ([], Some (joined slash ss)) else (segments_read ss >>= λ x. Ok (text ∷ x.0, x.1)) in IfOk read (λ x. AreFree x.0)
 unfolding AreFree
@@ -93,7 +95,7 @@ document_ok doc (Some (c ∷ cs)) good = good
 home_ok : (auid : Auid) (home : Home) (ts : List (List ℕ)) (selector : Option (List ℕ)) → IsReadableHome home → AreNameable ts → IfOk (Shapes.in_home auid home ts selector) ReadableShape
 unfolding AreNameable ReadableShape
 home_ok auid home [] selector good names = tt
-home_ok auid home (name ∷ []) selector good names = document_ok (Shapes.doc_of auid home name) selector (good, names.0)
+home_ok auid home (name ∷ []) selector good names = document_ok (doc_of auid home name) selector (good, names.0)
 home_ok auid home (name ∷ next ∷ more) selector good names = good
 
 user_ok : (auid : Auid) (ts : List (List ℕ)) (selector : Option (List ℕ)) → AreNameable ts → IfOk (Shapes.of_user auid ts selector) ReadableShape
@@ -105,8 +107,8 @@ usage_ok : (auid : Auid) (ts : List (List ℕ)) (selector : Option (List ℕ)) �
 unfolding AreNameable
 usage_ok auid [] selector names = tt
 usage_ok auid (tree ∷ rest) selector names =
-    if_ok (bytes_eq tree global) (Shapes.in_home auid Global rest selector) (if bytes_eq tree users then Shapes.of_user auid rest selector else Err BadShape) ReadableShape (home_ok auid Global rest selector (tt {0}) names.1)
-    (if_ok (bytes_eq tree users) (Shapes.of_user auid rest selector) (Err BadShape) ReadableShape (user_ok auid rest selector names.1) (tt {0}))
+    if_ok (bytes_eq tree global) (Shapes.in_home auid Global rest selector) (if bytes_eq tree users then Shapes.of_user auid rest selector else Err (Fault BadShape)) ReadableShape (home_ok auid Global rest selector (tt {0}) names.1)
+    (if_ok (bytes_eq tree users) (Shapes.of_user auid rest selector) (Err (Fault BadShape)) ReadableShape (user_ok auid rest selector names.1) (tt {0}))
 
 mapped_ok : (auid : Option Auid) (f : Auid → DocId) → ((a : Auid) → IsReadable (f a)) → IfSome (option_map f auid) IsReadable
 mapped_ok None f good = tt
@@ -136,8 +138,8 @@ either_ok mode (Some tag) (Some doc) selector good = if_ok _ _ _ ReadableShape (
 feed_ok : (ts : List (List ℕ)) (selector : Option (List ℕ)) → AreNameable ts → IfOk (Shapes.feed_shape ts selector) ReadableShape
 unfolding AreNameable
 feed_ok (mode ∷ tag ∷ auid ∷ tree ∷ xui ∷ name ∷ []) selector names =
-    either_ok mode (Shapes.tag_of tag) (Shapes.stored_doc auid tree xui name) selector
-    (chosen_ok (bytes_eq tree users) _ (mapped_ok (Shapes.stored_auid_of auid) (λ a. Shapes.doc_of a (User xui) name) (λ a. (names.1.1.1.1.0, names.1.1.1.1.1.0))))
+    either_ok mode (tag_of tag) (Shapes.stored_doc auid tree xui name) selector
+    (chosen_ok (bytes_eq tree users) _ (mapped_ok (Shapes.stored_auid_of auid) (λ a. doc_of a (User xui) name) (λ a. (names.1.1.1.1.0, names.1.1.1.1.1.0))))
 feed_ok _ selector names = tt
 
 flat_ok : (ts : List (List ℕ)) (selector : Option (List ℕ)) → AreNameable ts → IfOk (Shapes.flat_shape ts selector) ReadableShape
@@ -157,7 +159,7 @@ named_ok (first ∷ rest) selector names =
     if_ok (bytes_eq first feed) (Shapes.feed_shape rest selector) others ReadableShape (feed_ok rest selector names.1)
     (if_ok (bytes_eq first flat) (Shapes.flat_shape rest selector) (Shapes.of_usage (Shapes.auid_of first) rest selector) ReadableShape (flat_ok rest selector names.1) (known_ok (Shapes.auid_of first) rest selector names.1))
 
-unless_empty : (ts : List (List ℕ)) (selector : Option (List ℕ)) (b : Bool) → list_any Shapes.is_empty ts ≡ b → AreFree ts → IfOk (if b then Err BadShape else Shapes.named ts selector) ReadableShape
+unless_empty : (ts : List (List ℕ)) (selector : Option (List ℕ)) (b : Bool) → list_any Shapes.is_empty ts ≡ b → AreFree ts → IfOk (if b then Err (Fault BadShape) else Shapes.named ts selector) ReadableShape
 unless_empty ts selector true e free = tt
 unless_empty ts selector false e free = named_ok ts selector (nameable ts free e)
 
@@ -173,7 +175,7 @@ target_ok (PartChanges tag doc text) bindings raw good = bind_ok (part_read bind
 target_ok (FlatList doc service) bindings raw good = good
 
 -- what stands under the root
-pub rest_ok : (rest : List ℕ) → IfOk (rest_read rest) IsReadableTarget
+rest_ok : (rest : List ℕ) → IfOk (rest_read rest) IsReadableTarget
 rest_ok rest =
     bind_ok (path_read (before question rest)) _ (λ x. AreFree x.0) IsReadableTarget (free (pieces slash (before question rest))) (λ path names.
     bind_ok (optional_text_read path.1) _ (λ _. Unit {0}) IsReadableTarget (always _) (λ selector _.
@@ -182,6 +184,14 @@ rest_ok rest =
     bind_ok (optional_bindings_read query) _ (λ _. Unit {0}) IsReadableTarget (always _) (λ bindings _.
     target_ok shape bindings (raw_text path.1 (behind question rest)) good)))))
 
+-- and where nothing does
+under_ok : (rest : Option (List ℕ)) → IfOk (under_read rest) IsReadableTarget
+under_ok None = tt
+under_ok (Some rest) = rest_ok rest
+
+pub target_readable : (root target : List ℕ) → IfOk (target_read root target) IsReadableTarget
+target_readable root target = under_ok (under_root root target)
+
 -- what the code answers
-pub answer_nameable : (stated r : Result Target UriFault) → IfOk stated IsReadableTarget → (r ≡ stated) ⊎ (r ≡ Err NoMemory) → IfOk r IsReadableTarget
+pub answer_nameable : (stated r : Result Target UriError) → IfOk stated IsReadableTarget → (r ≡ stated) ⊎ (r ≡ Err NoMemory) → IfOk r IsReadableTarget
 answer_nameable stated r good which = ⊎_elim (λ e. subst (λ x. IfOk x IsReadableTarget) (sym e) good) (λ e. subst (λ x. IfOk x IsReadableTarget) (sym e) tt) which

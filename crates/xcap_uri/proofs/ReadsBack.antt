@@ -15,18 +15,20 @@ use Rattle.doc_names.specs.declared.doc_id.Auid.TheVariants.{ResourceLists, RlsS
 use Rattle.doc_names.specs.declared.doc_id.Home.{Home}
 use Rattle.doc_names.specs.declared.doc_id.Home.TheVariants.{Global, User}
 use Rattle.doc_names.specs.declared.doc_id.DocId.{DocId}
-use Rattle.xcap_uri.specs.declared.fault.UriFault.{UriFault}
+use Rattle.xcap_uri.specs.Gives.{UriError}
 use Rattle.xcap_uri.specs.declared.shape.Shape.TheVariants.{Whole}
 use Rattle.xcap_uri.specs.declared.target.Target.TheVariants.{Document}
 use Rattle.xcap_uri.specs.Cuts.{after, before, behind, behind_first, pieces, with_first, is_other}
-use Rattle.xcap_uri.specs.Escapes.{has_whole_escapes, text_read}
+use Rattle.xcap_uri.specs.Escapes.{has_whole_escapes}
+use Rattle.xcap_uri.specs.readers.Escapes.{text_read}
 use Rattle.doc_names.specs.Escapes.{escaped, escaped_octet, is_plain, part_text}
 use Rattle.doc_names.specs.Ids.{IsNameable, IsReadable, IsReadableHome, home_text, id_text}
 use Rattle.doc_names.specs.Usages.{auid_text}
 use Rattle.xcap_uri.specs.Roots.{slash, is_root, has_form, behind_scheme, path_of}
-use Rattle.xcap_uri.specs.Shapes.{is_empty, shape_of}
+use Rattle.xcap_uri.specs.readers.Shapes.{is_empty, shape_of}
 use Rattle.xcap_uri.specs.Spelled.{IsOctet, IsSpelled, IsSpelledHome}
-use Rattle.xcap_uri.specs.Targets.{under, under_root, target_read, rest_read, segments_read, path_read, question}
+use Rattle.xcap_uri.specs.Targets.{under, under_root, question}
+use Rattle.xcap_uri.specs.readers.Targets.{target_read, rest_read, segments_read, path_read}
 use Rattle.doc_names.specs.Ids.{separator}
 use Rattle.xcap_uri.proofs.Escaped.{read_as_text}
 use Rattle.doc_names.proofs.Escaped.{parts_decoded}
@@ -141,8 +143,8 @@ part_read : (text : List ℕ) → IsSpelled text → text_read (part_text text) 
 part_read text spells =
     let back = decoded (encode_utf8_all text) spells.octets in
     read_as_text (part_text text) (whole (encode_utf8_all text)) (subst IsUtf8 (sym back) spells.utf8)
-    ∙ ap (λ (x : List ℕ). let r : Result (List ℕ) UriFault = Ok (chars x) in r) back
-    ∙ ap (λ (x : List ℕ). let r : Result (List ℕ) UriFault = Ok x in r) spells.letters
+    ∙ ap (λ (x : List ℕ). let r : Result (List ℕ) UriError = Ok (chars x) in r) back
+    ∙ ap (λ (x : List ℕ). let r : Result (List ℕ) UriError = Ok x in r) spells.letters
 
 -- ---- words
 
@@ -151,7 +153,7 @@ pass_word p [] h = tt
 pass_word p (c ∷ cs) h = let both = and_parts (p c) (list_all p cs) h in (both.0, pass_word p cs both.1)
 
 word_read : (w : List ℕ) → IsAscii w → has_whole_escapes w ≡ true → percent_decode w ≡ w → text_read w ≡ Ok (chars w)
-word_read w ascii whole same = read_as_text w whole (subst IsUtf8 (sym same) (IsUtf8-from_ascii w ascii)) ∙ ap (λ (x : List ℕ). let r : Result (List ℕ) UriFault = Ok (chars x) in r) same
+word_read w ascii whole same = read_as_text w whole (subst IsUtf8 (sym same) (IsUtf8-from_ascii w ascii)) ∙ ap (λ (x : List ℕ). let r : Result (List ℕ) UriError = Ok (chars x) in r) same
 
 auid_passes : (stop : ℕ) (auid : Auid) → list_all (is_other stop) (auid_text ResourceLists) ≡ true → list_all (is_other stop) (auid_text RlsServices) ≡ true → list_all (is_other stop) (auid_text XcapCaps) ≡ true → AllPass (is_other stop) (auid_text auid)
 auid_passes stop ResourceLists a b c = pass_word (is_other stop) (auid_text ResourceLists) a
@@ -175,7 +177,7 @@ global_read = word_read (codes "global") (word_letters (codes "global") refl) re
 -- ---- segments
 
 Path : Type 0
-Path = Result (List (List ℕ) × Option (List ℕ)) UriFault
+Path = Result (List (List ℕ) × Option (List ℕ)) UriError
 
 one_more : (s text : List ℕ) (ss texts : List (List ℕ)) → text_read s ≡ Ok text → bytes_eq text separator ≡ false → segments_read ss ≡ Ok (texts, None) → segments_read (s ∷ ss) ≡ Ok (text ∷ texts, None)
 one_more s text ss texts h e k = rw (h, e, k) refl

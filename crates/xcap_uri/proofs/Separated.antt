@@ -3,18 +3,17 @@ use Rattle.std.proofs.Common.{◌≡◌, ℕ, Bool, true, false, ◌==◌, List,
 use Rattle.std.proofs.lemmas.Bool.{eqb-true}
 use Rattle.std.proofs.lemmas.List.{append-nil}
 use Rattle.std.specs.Str.{bytes_eq}
+use Rattle.tree_text.specs.declared.fault.ReadError.TheVariants.{NoMemory}
 use Rattle.xcap_uri.specs.Cuts.{before, behind, pieces, joined, with_first}
-use Rattle.xcap_uri.specs.Escapes.{text_read}
-use Rattle.xcap_uri.specs.Gives.{◌>>=◌}
+use Rattle.xcap_uri.specs.readers.Escapes.{text_read}
+use Rattle.xcap_uri.specs.Gives.{UriError, ◌>>=◌}
 use Rattle.xcap_uri.specs.Roots.{slash}
-use Rattle.xcap_uri.specs.Targets.{path_read, segments_read}
+use Rattle.xcap_uri.specs.readers.Targets.{path_read, segments_read}
 use Rattle.doc_names.specs.Ids.{separator}
-use Rattle.xcap_uri.specs.declared.fault.UriFault.{UriFault}
-use Rattle.xcap_uri.specs.declared.fault.UriFault.TheVariants.{NoMemory}
 use Rattle.xcap_uri.proofs.Pieces.{pieces_cut, pieces_behind}
 
 abbrev pub Segments : Type 0
-Segments = Result (List (List ℕ) × Option (List ℕ)) UriFault
+Segments = Result (List (List ℕ) × Option (List ℕ)) UriError
 
 -- segments in front of those that are read: none at first
 abbrev pub with_segments : List (List ℕ) → Segments → Segments
@@ -53,7 +52,7 @@ cut : (rest : List ℕ) → path_read rest ≡ segments_read (before slash rest 
 cut rest = ap segments_read (pieces_cut slash rest)
 
 module _ (total : Segments) (front : List (List ℕ)) (rest : List ℕ) (so_far : total ≡ with_segments front (path_read rest)) where
-  pub segment_fails : (e : UriFault) → text_read (before slash rest) ≡ Err e → total ≡ Err e
+  pub segment_fails : (e : UriError) → text_read (before slash rest) ≡ Err e → total ≡ Err e
   segment_fails e h = so_far ∙ rw (cut rest, h) refl
 
   pub separated : (text : List ℕ) → text_read (before slash rest) ≡ Ok text → bytes_eq text separator ≡ true → total ≡ Ok (front, Some (unwrap_or (behind slash rest) []))
@@ -72,16 +71,16 @@ module _ (total : Segments) (front : List (List ℕ)) (rest : List ℕ) (so_far 
       longer text (Err e) = refl
 
 -- what the code has read of a segment
-read_ok : (text raw : List ℕ) → (Ok text ≡ text_read raw) ⊎ (Ok text ≡ Err NoMemory) → text_read raw ≡ Ok text
+read_ok : (text raw : List ℕ) → (Ok text ≡ text_read raw) ⊎ (let want : Result (List ℕ) UriError = Err NoMemory in Ok text ≡ want) → text_read raw ≡ Ok text
 read_ok text raw (inl h) = sym h
 read_ok text raw (inr h) = absurd cc
 
 module _ (total : Segments) (front : List (List ℕ)) (rest raw : List ℕ) (cut_at : raw ≡ before slash rest) (so_far : total ≡ with_segments front (path_read rest)) where
-  pub fails : (e : UriFault) → (Err e ≡ text_read raw) ⊎ (let want : Result (List ℕ) UriFault = Err NoMemory in Err e ≡ want) → (total ≡ Err e) ⊎ (e ≡ NoMemory)
+  pub fails : (e : UriError) → (Err e ≡ text_read raw) ⊎ (let want : Result (List ℕ) UriError = Err NoMemory in Err e ≡ want) → (total ≡ Err e) ⊎ (e ≡ NoMemory)
   fails e (inl h) = inl (segment_fails total front rest so_far e (ap text_read (sym cut_at) ∙ sym h))
   fails e (inr h) = inr cc
 
-  module _ (text : List ℕ) (read : (Ok text ≡ text_read raw) ⊎ (Ok text ≡ Err NoMemory)) where
+  module _ (text : List ℕ) (read : (Ok text ≡ text_read raw) ⊎ (let want : Result (List ℕ) UriError = Err NoMemory in Ok text ≡ want)) where
     is_read : text_read (before slash rest) ≡ Ok text
     is_read = ap text_read (sym cut_at) ∙ read_ok text raw read
 

@@ -2,6 +2,7 @@
 use Rattle.std.proofs.Common.{◌≡◌, ◌≢◌, ℕ, ◌+◌, ◌-◌, ◌≤◌, true, List, [], ◌∷◌, Ok, Err, length, get_or, take, drop, refl, ap, ◌∙◌, sym, arith}
 use Rattle.std.proofs.lemmas.Bool.{cond-true, ne_eqb}
 use Rattle.tree_text.proofs.RunLemmas.{rest_of_drop}
+use Rattle.tree_text.specs.declared.fault.ReadError.TheVariants.{Fault}
 use Rattle.xcap_uri.specs.Queries.{uri_chars, with_char, is_bracket_or_caret}
 use Rattle.xcap_uri.specs.declared.fault.UriFault.TheVariants.{BadQuery}
 
@@ -9,7 +10,7 @@ use Rattle.xcap_uri.specs.declared.fault.UriFault.TheVariants.{BadQuery}
 pub escapes : (open_count c : ℕ) (rest : List ℕ) → 1 ≤ length rest → c ≡ get_or rest 0 c → is_bracket_or_caret c ≡ true → uri_chars open_count (94 ∷ rest) ≡ with_char c (uri_chars open_count (take (length rest - 1) (drop 1 rest)))
 escapes open_count c [] some e h = absurd (omega arith)
 escapes open_count c (d ∷ rest) some e h =
-    cond-true (is_bracket_or_caret d) (with_char d (uri_chars open_count rest)) (Err BadQuery) (ap is_bracket_or_caret (sym e) ∙ h)
+    cond-true (is_bracket_or_caret d) (with_char d (uri_chars open_count rest)) (Err (Fault BadQuery)) (ap is_bracket_or_caret (sym e) ∙ h)
     ∙ ap (λ x. with_char x (uri_chars open_count rest)) (sym e)
     ∙ ap (λ (l : List ℕ). with_char c (uri_chars open_count l)) (sym (rest_of_drop 1 (d ∷ rest)))
 

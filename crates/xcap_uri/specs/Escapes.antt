@@ -1,11 +1,8 @@
 -- Escapes of octets in addresses. RFC 3986, section 2.1.
-use Rattle.std.specs.Prelude.{ℕ, Bool, true, not, ◌&&◌, ◌==◌, List, [], ◌∷◌, Option, None, Some, Result, Ok, Err, if◌then◌else◌}
+use Rattle.std.specs.Prelude.{◌≡◌, ℕ, Bool, true, not, ◌&&◌, ◌==◌, List, [], ◌∷◌, Option, None, Some, if◌then◌else◌}
 use Rattle.std.specs.Char.{is_ascii_hexdigit}
 use Rattle.std.specs.Str.{is_utf8, chars}
 use Rattle.percent_encoding.specs.Percent.{percent_decode}
-use Rattle.xcap_uri.specs.Gives.{◌>>=◌}
-use Rattle.xcap_uri.specs.declared.fault.UriFault.{UriFault}
-use Rattle.xcap_uri.specs.declared.fault.UriFault.TheVariants.{BadEscape}
 
 -- two hexadecimal digits follow each `%`
 abbrev pub has_whole_escapes : List ℕ → Bool
@@ -19,11 +16,13 @@ has_whole_escapes (b ∷ high ∷ low ∷ rest) =
 abbrev pub stands_for_text : List ℕ → Bool
 stands_for_text part = has_whole_escapes part && is_utf8 (percent_decode part)
 
--- the text that a part of an address stands for
-abbrev pub text_read : List ℕ → Result (List ℕ) UriFault
-text_read part = if stands_for_text part then Ok (chars (percent_decode part)) else Err BadEscape
+-- a part of an address stands for this text
+pub record StandsFor (part text : List ℕ) : Type 0 where
+  pub stands : stands_for_text part ≡ true
+  pub decoded : text ≡ chars (percent_decode part)
 
 -- the same of a part that may be absent
-abbrev pub optional_text_read : Option (List ℕ) → Result (Option (List ℕ)) UriFault
-optional_text_read None = Ok None
-optional_text_read (Some part) = text_read part >>= λ text. Ok (Some text)
+abbrev pub StandForOptional : Option (List ℕ) → Option (List ℕ) → Type 0
+StandForOptional None text = text ≡ None
+StandForOptional (Some part) None = ⊥
+StandForOptional (Some part) (Some text) = StandsFor part text

@@ -3,7 +3,9 @@ pub mod Cuts
 pub mod Escapes
 pub mod Gives
 pub mod Numerals
+pub mod Order
 pub mod Queries
+pub mod readers
 pub mod Roots
 pub mod Shapes
 pub mod Spelled

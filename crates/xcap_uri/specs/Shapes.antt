@@ -1,17 +1,16 @@
 -- What the segments of an address name. The document selectors are those of RFC 4825, section 6.2; what stands under `~feed` and `~flat` is
 -- this server's own. The segments are those before the separator, decoded; the selector is the text behind it, where there is a separator.
-use Rattle.std.specs.Prelude.{ℕ, Bool, true, false, List, [], ◌∷◌, encode_utf8_all, Option, None, Some, option_map, Result, Ok, Err, if◌then◌else◌}
-use Rattle.std.specs.List.{list_any}
-use Rattle.std.specs.Str.{bytes_eq}
-use Rattle.xcap_uri.specs.Numerals.{numeral_of}
-use Rattle.xcap_uri.specs.Words.{resource_lists, rls_services, xcap_caps, global, users, feed, flat, element, no_patching, xcap_patching, aggregate}
+use Rattle.std.specs.Prelude.{◌≡◌, ◌≢◌, ◌⊎◌, ℕ, List, [], ◌∷◌, ◌++◌, encode_utf8_all, Option, None, Some}
+use Rattle.std.specs.Str.{chars}
 use Rattle.doc_names.specs.declared.doc_id.Auid.{Auid}
-use Rattle.doc_names.specs.declared.doc_id.Auid.TheVariants.{ResourceLists, RlsServices, XcapCaps}
+use Rattle.doc_names.specs.declared.doc_id.Auid.TheVariants.{RlsServices}
 use Rattle.doc_names.specs.declared.doc_id.Home.{Home}
 use Rattle.doc_names.specs.declared.doc_id.Home.TheVariants.{Global, User}
 use Rattle.doc_names.specs.declared.doc_id.DocId.{DocId}
-use Rattle.xcap_uri.specs.declared.fault.UriFault.{UriFault}
-use Rattle.xcap_uri.specs.declared.fault.UriFault.TheVariants.{BadShape, UnknownAuid}
+use Rattle.doc_names.specs.declared.usages.Usage.{Usage}
+use Rattle.doc_names.specs.Usages.{auid_text, usage_of}
+use Rattle.xcap_uri.specs.Numerals.{numeral_of}
+use Rattle.xcap_uri.specs.Words.{global, users, feed, flat, element, no_patching, xcap_patching, aggregate}
 use Rattle.xcap_uri.specs.declared.target.Mode.{Mode}
 use Rattle.xcap_uri.specs.declared.target.Mode.TheVariants.{NoPatching, XcapPatching, Aggregate}
 use Rattle.xcap_uri.specs.declared.shape.Shape.{Shape}
@@ -19,114 +18,63 @@ use Rattle.xcap_uri.specs.declared.shape.Shape.TheVariants.{Whole, Part, Below, 
 
 -- ---- the words
 
--- the usage of this name
-abbrev pub auid_of : List ℕ → Option Auid
-auid_of name =
-    if bytes_eq name resource_lists then Some ResourceLists
-    else if bytes_eq name rls_services then Some RlsServices
-    else if bytes_eq name xcap_caps then Some XcapCaps
-    else None
+-- the name of a usage
+abbrev pub auid_word : Auid → List ℕ
+auid_word auid = chars (auid_text auid)
 
--- the usage of this name, where its documents are stored
-abbrev pub stored_auid_of : List ℕ → Option Auid
-stored_auid_of name =
-    if bytes_eq name resource_lists then Some ResourceLists
-    else if bytes_eq name rls_services then Some RlsServices
-    else None
+-- the segments of a home: `global`, or `users` and a user
+abbrev pub home_words : Home → List (List ℕ)
+home_words Global = global ∷ []
+home_words (User xui) = users ∷ xui ∷ []
 
--- the mode of this name
-abbrev pub mode_of : List ℕ → Option Mode
-mode_of name =
-    if bytes_eq name no_patching then Some NoPatching
-    else if bytes_eq name xcap_patching then Some XcapPatching
-    else if bytes_eq name aggregate then Some Aggregate
-    else None
+-- the name of a mode
+abbrev pub mode_word : Mode → List ℕ
+mode_word NoPatching = no_patching
+mode_word XcapPatching = xcap_patching
+mode_word Aggregate = aggregate
 
 -- the number of a tag, which is a numeral
 abbrev pub tag_of : List ℕ → Option ℕ
 tag_of text = numeral_of (encode_utf8_all text)
 
--- ---- documents
+-- ---- what they name
 
 abbrev pub doc_of : Auid → Home → List ℕ → DocId
 doc_of auid home name = record { auid = auid; home = home; name = name }
 
--- a document, or with a selector a part of it; an empty selector is none
-abbrev pub document : DocId → Option (List ℕ) → Result Shape UriFault
-document doc None = Ok (Whole doc)
-document doc (Some []) = Err BadShape
-document doc (Some (c ∷ cs)) = Ok (Part doc (c ∷ cs))
+-- the segments of what stands in a home: the usage, the home and these
+abbrev pub in_home : Auid → Home → List (List ℕ) → List (List ℕ)
+in_home auid home rest = auid_word auid ∷ (home_words home ++ rest)
 
--- in a home: a name, or more, which lies below a document; then the selector isn't looked at
-abbrev pub in_home : Auid → Home → List (List ℕ) → Option (List ℕ) → Result Shape UriFault
-in_home auid home [] selector = Err BadShape
-in_home auid home (name ∷ []) selector = document (doc_of auid home name) selector
-in_home auid home (name ∷ next ∷ more) selector = Ok (Below auid home)
+-- those of a notice about a user's document: `~feed`, the mode, the tag, the usage, `users`, the user and the name
+abbrev pub in_feed : List ℕ → List ℕ → Auid → List ℕ → List ℕ → List (List ℕ)
+in_feed mode digits auid xui name = feed ∷ mode ∷ digits ∷ auid_word auid ∷ users ∷ xui ∷ name ∷ []
 
--- behind `users`: a user
-abbrev pub of_user : Auid → List (List ℕ) → Option (List ℕ) → Result Shape UriFault
-of_user auid [] selector = Err BadShape
-of_user auid (xui ∷ rest) selector = in_home auid (User xui) rest selector
+-- segments, and the text of a selector, name a shape
+pub data Names (segments : List (List ℕ)) (selector : Option (List ℕ)) : Shape → Type 0 where
+  -- a usage, a home and a name: a document
+  whole : (auid : Auid) (home : Home) (name : List ℕ) → segments ≡ in_home auid home (name ∷ []) → selector ≡ None → Names segments selector (Whole (doc_of auid home name))
+  -- the same with a selector, which isn't empty: a part of the document
+  part : (auid : Auid) (home : Home) (name text : List ℕ) → segments ≡ in_home auid home (name ∷ []) → selector ≡ Some text → text ≢ [] → Names segments selector (Part (doc_of auid home name) text)
+  -- with further segments: what would lie below a document, where the selector isn't looked at
+  below : (auid : Auid) (home : Home) (name next : List ℕ) (more : List (List ℕ)) → segments ≡ in_home auid home (name ∷ next ∷ more) → Names segments selector (Below auid home)
+  -- the notice about a document of a stored usage has a mode, and no selector
+  changes : (mode : Mode) (tag : ℕ) (digits : List ℕ) (auid : Auid) (usage : Usage) (xui name : List ℕ) → segments ≡ in_feed (mode_word mode) digits auid xui name
+      → tag_of digits ≡ Some tag → usage_of auid ≡ Some usage → selector ≡ None → Names segments selector (Changes mode tag (doc_of auid (User xui) name))
+  -- the notice about an element has `element` in place of the mode, and a selector, which isn't empty
+  part_changes : (tag : ℕ) (digits : List ℕ) (auid : Auid) (usage : Usage) (xui name text : List ℕ) → segments ≡ in_feed element digits auid xui name
+      → tag_of digits ≡ Some tag → usage_of auid ≡ Some usage → selector ≡ Some text → text ≢ [] → Names segments selector (PartChanges tag (doc_of auid (User xui) name) text)
+  -- `~flat`, a user, a name and the address of a service, without selector: the flat list of that service
+  flat_list : (xui name service : List ℕ) → segments ≡ flat ∷ xui ∷ name ∷ service ∷ [] → selector ≡ None → Names segments selector (FlatList (doc_of RlsServices (User xui) name) service)
 
--- behind a usage: `global` or `users`
-abbrev pub in_usage : Auid → List (List ℕ) → Option (List ℕ) → Result Shape UriFault
-in_usage auid [] selector = Err BadShape
-in_usage auid (tree ∷ rest) selector =
-    if bytes_eq tree global then in_home auid Global rest selector
-    else if bytes_eq tree users then of_user auid rest selector
-    else Err BadShape
+-- ---- how they begin
 
--- ---- notices and flat lists
+-- the first of them is `~feed`, `~flat` or the name of a usage
+abbrev pub BeginRightly : List (List ℕ) → Type 0
+BeginRightly [] = ⊥
+BeginRightly (first ∷ rest) = (first ≡ feed) ⊎ ((first ≡ flat) ⊎ ((auid : Auid) × (first ≡ auid_word auid)))
 
--- the document of a stored usage and a user
-abbrev pub stored_doc : List ℕ → List ℕ → List ℕ → List ℕ → Option DocId
-stored_doc auid tree xui name = if bytes_eq tree users then option_map (λ a. doc_of a (User xui) name) (stored_auid_of auid) else None
-
--- the notice about an element has a selector, which isn't empty
-abbrev pub part_changes : ℕ → DocId → Option (List ℕ) → Result Shape UriFault
-part_changes tag doc None = Err BadShape
-part_changes tag doc (Some []) = Err BadShape
-part_changes tag doc (Some (c ∷ cs)) = Ok (PartChanges tag doc (c ∷ cs))
-
--- the notice about a document has a mode, and no selector
-abbrev pub changes : Option Mode → ℕ → DocId → Option (List ℕ) → Result Shape UriFault
-changes None tag doc selector = Err BadShape
-changes (Some mode) tag doc None = Ok (Changes mode tag doc)
-changes (Some mode) tag doc (Some text) = Err BadShape
-
-abbrev pub changes_or_part : List ℕ → Option ℕ → Option DocId → Option (List ℕ) → Result Shape UriFault
-changes_or_part mode None doc selector = Err BadShape
-changes_or_part mode (Some tag) None selector = Err BadShape
-changes_or_part mode (Some tag) (Some doc) selector =
-    if bytes_eq mode element then part_changes tag doc selector else changes (mode_of mode) tag doc selector
-
--- behind `~feed`: a mode or `element`, a tag, a stored usage, `users`, a user and a name
-abbrev pub feed_shape : List (List ℕ) → Option (List ℕ) → Result Shape UriFault
-feed_shape (mode ∷ tag ∷ auid ∷ tree ∷ xui ∷ name ∷ []) selector = changes_or_part mode (tag_of tag) (stored_doc auid tree xui name) selector
-feed_shape _ selector = Err BadShape
-
--- behind `~flat`: a user, a name and the address of a service, without separator
-abbrev pub flat_shape : List (List ℕ) → Option (List ℕ) → Result Shape UriFault
-flat_shape (xui ∷ name ∷ service ∷ []) None = Ok (FlatList (doc_of RlsServices (User xui) name) service)
-flat_shape _ selector = Err BadShape
-
--- ---- all shapes
-
-abbrev pub of_usage : Option Auid → List (List ℕ) → Option (List ℕ) → Result Shape UriFault
-of_usage None rest selector = Err UnknownAuid
-of_usage (Some auid) rest selector = in_usage auid rest selector
-
-abbrev pub named : List (List ℕ) → Option (List ℕ) → Result Shape UriFault
-named [] selector = Err UnknownAuid
-named (first ∷ rest) selector =
-    if bytes_eq first feed then feed_shape rest selector
-    else if bytes_eq first flat then flat_shape rest selector
-    else of_usage (auid_of first) rest selector
-
-abbrev pub is_empty : List ℕ → Bool
-is_empty [] = true
-is_empty (c ∷ cs) = false
-
--- what the segments name, none of which is empty
-abbrev pub shape_of : List (List ℕ) → Option (List ℕ) → Result Shape UriFault
-shape_of segments selector = if list_any is_empty segments then Err BadShape else named segments selector
+-- none of them is empty
+abbrev pub AreNamed : List (List ℕ) → Type 0
+AreNamed [] = Unit {0}
+AreNamed (segment ∷ segments) = (segment ≢ []) × AreNamed segments

@@ -1,11 +1,13 @@
 //! Escapes in parts of addresses (RFC 3986, section 2.1).
 ghost use Rattle.std.specs.Prelude.{◌≡◌, option_map};
-ghost use Rattle.xcap_uri.specs.Escapes.{has_whole_escapes, optional_text_read, text_read};
+ghost use Rattle.xcap_uri.specs.Escapes.{has_whole_escapes};
 ghost use Rattle.xcap_uri.specs.Gives.{Answers};
+ghost use Rattle.xcap_uri.specs.readers.Escapes.{optional_text_read, text_read};
 
 use crate::fault::UriFault;
 use percent_encoding::{DecodeError, percent_decode};
 use std::alloc::Global;
+use tree_text::ReadError;
 use xml_tree::Text;
 
 // Whether two hexadecimal digits follow each `%`.
@@ -33,19 +35,19 @@ fn has_whole_escapes(part: &[u8]) -> bool
 /// # Errors
 /// `BadEscape` exactly where a `%` isn't followed by two hexadecimal digits, or the octets aren't UTF-8; `NoMemory` for want of memory.
 #[tactic(auto, using(crate::proofs::Escaped::read_as_text, crate::proofs::Escaped::read_as_no_text, crate::proofs::Escaped::read_as_no_escapes))]
-pub fn read_part(alloc: Global, part: &[u8]) -> Result<Text, UriFault>
-    ensures { Answers UriFault.NoMemory (text_read part.now) result }
+pub fn read_part(alloc: Global, part: &[u8]) -> Result<Text, ReadError<UriFault>>
+    ensures { Answers ReadError.NoMemory (text_read part.now) result }
 {
     if !has_whole_escapes(part) {
-        return Err(UriFault::BadEscape);
+        return Err(ReadError::Fault(UriFault::BadEscape));
     }
     match percent_decode(part).decode_utf8(alloc) {
         Ok(text) => {
             let text = text.into_owned(alloc)?;
             Ok(Text::own(text))
         }
-        Err(DecodeError::Utf8(_)) => Err(UriFault::BadEscape),
-        Err(DecodeError::OutOfMemory) => Err(UriFault::NoMemory),
+        Err(DecodeError::Utf8(_)) => Err(ReadError::Fault(UriFault::BadEscape)),
+        Err(DecodeError::OutOfMemory) => Err(ReadError::NoMemory),
     }
 }
 
@@ -53,8 +55,11 @@ pub fn read_part(alloc: Global, part: &[u8]) -> Result<Text, UriFault>
 ///
 /// # Errors
 /// As for `read_part`.
-pub fn read_optional_part(alloc: Global, part: Option<&[u8]>) -> Result<Option<Text>, UriFault>
-    ensures { Answers UriFault.NoMemory (optional_text_read (option_map (λ x. x.now) part.entry)) result }
+pub fn read_optional_part(
+    alloc: Global,
+    part: Option<&[u8]>,
+) -> Result<Option<Text>, ReadError<UriFault>>
+    ensures { Answers ReadError.NoMemory (optional_text_read (option_map (λ x. x.now) part.entry)) result }
 {
     match part {
         None => Ok(None),

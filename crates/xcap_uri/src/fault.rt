@@ -1,12 +1,12 @@
 //! Why a text is no root, and why a target is refused.
 ghost use Rattle.std.specs.Prelude.{◌≡◌};
-ghost use Rattle.xcap_uri.specs.declared.fault.UriFault.TheVariants as faults;
 ghost use Rattle.xcap_uri.specs.declared.fault.RootFault.TheVariants as roots;
-ghost use Rattle.xcap_uri.specs.Targets.{fault_of};
+ghost use Rattle.xcap_uri.specs.readers.Targets.{error_of};
 
 use node_select::SelectorFault;
 use std::alloc::{AllocError, AllocFailed};
 use thiserror::Error;
+use tree_text::ReadError;
 
 /// Why a text is no root.
 #[derive(Clone, Copy, Debug, Drop, PartialEq, Eq, Error)]
@@ -44,9 +44,6 @@ pub enum UriFault {
     /// The text behind the separator is no selector.
     #[error("bad selector")]
     BadSelector,
-    /// Want of memory.
-    #[error("out of memory")]
-    NoMemory,
 }
 
 impl From<AllocError> for RootFault {
@@ -65,29 +62,15 @@ impl<T: Drop> From<AllocFailed<T>> for RootFault {
     }
 }
 
-impl From<AllocError> for UriFault {
-    ghost from_gives = { λ _ e. e ≡ faults.NoMemory };
-
-    fn from(_error: AllocError) -> Self {
-        UriFault::NoMemory
-    }
-}
-
-impl<T: Drop> From<AllocFailed<T>> for UriFault {
-    ghost from_gives = { λ _ e. e ≡ faults.NoMemory };
-
-    fn from(_error: AllocFailed<T>) -> Self {
-        UriFault::NoMemory
-    }
-}
-
-/// What a fault of the selector says of the target.
-pub fn selector_fault(fault: &SelectorFault) -> UriFault
-    ensures { result ≡ fault_of fault.now }
+/// What an error of the selector says of the target.
+pub fn uri_error(error: ReadError<SelectorFault>) -> ReadError<UriFault>
+    ensures { result ≡ error_of error }
 {
-    match fault {
-        SelectorFault::BadSelector(_) => UriFault::BadSelector,
-        SelectorFault::UnboundPrefix(_) => UriFault::UnboundPrefix,
-        SelectorFault::NoMemory => UriFault::NoMemory,
+    match error {
+        ReadError::Fault(SelectorFault::BadSelector(_)) => ReadError::Fault(UriFault::BadSelector),
+        ReadError::Fault(SelectorFault::UnboundPrefix(_)) => {
+            ReadError::Fault(UriFault::UnboundPrefix)
+        }
+        ReadError::NoMemory => ReadError::NoMemory,
     }
 }

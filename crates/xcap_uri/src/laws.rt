@@ -1,10 +1,14 @@
-//! The law of printed ids; nothing here runs.
-ghost use Rattle.std.specs.Prelude.{◌≡◌, ◌++◌, ◌∷◌, All, Ok};
+//! Laws of targets; nothing here runs.
+ghost use Rattle.std.specs.Prelude.{◌≡◌, ◌++◌, ◌∷◌, ℕ, List, Result, All, Ok};
+ghost use Rattle.tree_text.specs.Memory.{Answered};
 ghost use Rattle.doc_names.specs.Ids.{IsReadable, id_text};
 ghost use Rattle.xcap_uri.specs.Roots.{path_of, slash};
 ghost use Rattle.xcap_uri.specs.Spelled.{IsOctet, IsSpelled, IsSpelledHome};
-ghost use Rattle.xcap_uri.specs.Targets.{target_read};
+ghost use Rattle.xcap_uri.specs.Targets.{IsReadableTarget, TargetAnswer};
+ghost use Rattle.xcap_uri.specs.declared.fault.UriFault.{UriFault};
+ghost use Rattle.xcap_uri.specs.declared.target.Target.{Target};
 ghost use Rattle.xcap_uri.specs.declared.target.Target.TheVariants as targets;
+ghost use Rattle.xcap_uri.specs.readers.Targets.{target_read};
 
 use crate::root::Root;
 use doc_names::{DocId, Home};
@@ -35,10 +39,19 @@ fn is_spelled_home(home: &Home)
 /// The printed id of a document that an address can name reads back as that document, behind the path of a root and a slash and behind the
 /// whole root and a slash (RFC 4825, section 6.2).
 pub fn printed_id_reads_back(root: &Root, doc: &DocId)
-    ensures path { IsReadable doc.now → target_read root.now (path_of root.now ++ (slash ∷ id_text doc.now)) ≡ Ok (targets.Document doc.now) }
-    ensures whole { IsReadable doc.now → target_read root.now (root.now ++ (slash ∷ id_text doc.now)) ≡ Ok (targets.Document doc.now) }
+    ensures path { IsReadable doc.now → TargetAnswer root.now (path_of root.now ++ (slash ∷ id_text doc.now)) (Ok (targets.Document doc.now)) }
+    ensures whole { IsReadable doc.now → TargetAnswer root.now (root.now ++ (slash ∷ id_text doc.now)) (Ok (targets.Document doc.now)) }
 {
     let _text = root.text();
     is_spelled_home(&doc.home);
     is_spelled(&doc.name);
 }
+
+/// By the rules each target has one answer under a root: what it means, or the first of its faults (RFC 4825, section 6). It is what reading
+/// from left to right gives, and an address can name each id in it.
+pub fn targets_have_one_answer()
+    ensures there_is_one { (root target : List ℕ) → (answer : Result Target UriFault) × TargetAnswer root target answer }
+    ensures there_is_no_other { (root target : List ℕ) (a b : Result Target UriFault) → TargetAnswer root target a → TargetAnswer root target b → a ≡ b }
+    ensures what_is_read_is_the_answer { (root target : List ℕ) → Answered (TargetAnswer root target) (target_read root target) }
+    ensures ids_are_readable { (root target : List ℕ) (t : Target) → TargetAnswer root target (Ok t) → IsReadableTarget t }
+{}

@@ -12,7 +12,7 @@ ghost use Rattle.xcap_uri.specs.UriSteps.{IsShorter, StepsTo, item_in};
 use crate::fault::UriFault;
 use node_select::Bindings;
 use std::alloc::{AllocError, Global};
-use tree_text::{no_text, text_of};
+use tree_text::{ReadError, no_text, text_of};
 use xml_tree::{Text, is_name_char, is_name_start, is_space};
 
 // What comes next in the URI of an item.
@@ -107,11 +107,11 @@ fn after<'a>(text: &'a [char], word: &[char]) -> Option<&'a [char]>
 }
 
 // What follows `=`, with white space round it.
-fn past_equals(text: &[char]) -> Result<&[char], UriFault>
+fn past_equals(text: &[char]) -> Result<&[char], ReadError<UriFault>>
     ensures { Gives (λ x. x.now) result (equals_past text.now) }
 {
     match after(past_space(text), &['=']) {
-        None => Err(UriFault::BadQuery),
+        None => Err(ReadError::Fault(UriFault::BadQuery)),
         Some(rest) => Ok(past_space(rest)),
     }
 }
@@ -127,11 +127,11 @@ fn begins_name(text: &[char]) -> bool
 }
 
 // A name, and what follows it.
-fn name(text: &[char]) -> Result<(&[char], &[char]), UriFault>
+fn name(text: &[char]) -> Result<(&[char], &[char]), ReadError<UriFault>>
     ensures { Gives (λ x. (x.0.now, x.1.now)) result (prefix_read text.now) }
 {
     if !begins_name(text) {
-        return Err(UriFault::BadQuery);
+        return Err(ReadError::Fault(UriFault::BadQuery));
     }
     Ok(text.split_at(name_len(text)))
 }
@@ -209,7 +209,7 @@ fn uri_step(depth: usize, text: &[char]) -> UriStep<'_>
 }
 
 // The URI up to the `)` that ends its item, and what follows.
-fn uri_chars(alloc: Global, text: &[char]) -> Result<(Text, &[char]), UriFault>
+fn uri_chars(alloc: Global, text: &[char]) -> Result<(Text, &[char]), ReadError<UriFault>>
     ensures { Gives (λ x. (x.0, x.1.now)) result (uri_chars 0 text.now) }
 {
     let mut uri = no_text(alloc);
@@ -217,7 +217,7 @@ fn uri_chars(alloc: Global, text: &[char]) -> Result<(Text, &[char]), UriFault>
     let mut rest = text;
     'chars: loop {
         match uri_step(depth, rest) {
-            UriStep::Breaks => return Err(UriFault::BadQuery),
+            UriStep::Breaks => return Err(ReadError::Fault(UriFault::BadQuery)),
             UriStep::Ends(behind) => return Ok((uri, behind)),
             UriStep::Goes(c, still_deep, behind) => {
                 uri.push(c)?;
@@ -229,33 +229,33 @@ fn uri_chars(alloc: Global, text: &[char]) -> Result<(Text, &[char]), UriFault>
 }
 
 // The same, where the URI isn't empty.
-fn uri(alloc: Global, text: &[char]) -> Result<(Text, &[char]), UriFault>
+fn uri(alloc: Global, text: &[char]) -> Result<(Text, &[char]), ReadError<UriFault>>
     ensures { Gives (λ x. (x.0, x.1.now)) result (uri_read text.now) }
 {
     let (uri, rest) = uri_chars(alloc, text)?;
     if uri.is_empty() {
-        return Err(UriFault::BadQuery);
+        return Err(ReadError::Fault(UriFault::BadQuery));
     }
     Ok((uri, rest))
 }
 
 // A prefix that an item may bind, and what follows it.
-fn prefix(text: &[char]) -> Result<(&[char], &[char]), UriFault>
+fn prefix(text: &[char]) -> Result<(&[char], &[char]), ReadError<UriFault>>
     ensures { Gives (λ x. (x.0.now, x.1.now)) result (free_prefix_read text.now) }
 {
     let (prefix, rest) = name(text)?;
     if is_reserved(prefix) {
-        return Err(UriFault::BadQuery);
+        return Err(ReadError::Fault(UriFault::BadQuery));
     }
     Ok((prefix, rest))
 }
 
 // An item, and what follows it.
-fn read_item(alloc: Global, text: &[char]) -> Result<Item<'_>, UriFault>
+fn read_item(alloc: Global, text: &[char]) -> Result<Item<'_>, ReadError<UriFault>>
     ensures { Gives item_in result (item_read text.now) }
 {
     let Some(inner) = after(text, &['x', 'm', 'l', 'n', 's', '(']) else {
-        return Err(UriFault::BadQuery);
+        return Err(ReadError::Fault(UriFault::BadQuery));
     };
     let (prefix, rest) = prefix(inner)?;
     let rest = past_equals(rest)?;
@@ -265,8 +265,8 @@ fn read_item(alloc: Global, text: &[char]) -> Result<Item<'_>, UriFault>
 }
 
 // The bindings of a query.
-fn read_items(alloc: Global, text: &[char]) -> Result<Bindings, UriFault>
-    ensures { Answers UriFault.NoMemory (bindings_read text.now) result }
+fn read_items(alloc: Global, text: &[char]) -> Result<Bindings, ReadError<UriFault>>
+    ensures { Answers ReadError.NoMemory (bindings_read text.now) result }
 {
     let mut bindings = Bindings::none(alloc);
     let mut rest = past_blanks(text);
@@ -281,15 +281,15 @@ fn read_items(alloc: Global, text: &[char]) -> Result<Bindings, UriFault>
     if rest.is_empty() {
         return Ok(bindings);
     }
-    Err(UriFault::BadQuery)
+    Err(ReadError::Fault(UriFault::BadQuery))
 }
 
 /// The bindings of a query, none where there is no query.
 ///
 /// # Errors
 /// `BadQuery` exactly where the query isn't a row of items, `NoMemory` for want of memory.
-pub fn read_query(alloc: Global, query: &Option<Text>) -> Result<Bindings, UriFault>
-    ensures { Answers UriFault.NoMemory (optional_bindings_read query.now) result }
+pub fn read_query(alloc: Global, query: &Option<Text>) -> Result<Bindings, ReadError<UriFault>>
+    ensures { Answers ReadError.NoMemory (optional_bindings_read query.now) result }
 {
     match query {
         None => Ok(Bindings::none(alloc)),

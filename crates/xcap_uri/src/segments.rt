@@ -2,13 +2,14 @@
 ghost use Rattle.std.specs.Prelude.{◌≡◌, [], option_map, unwrap_or};
 ghost use Rattle.std.specs.Str.{bytes_eq};
 ghost use Rattle.xcap_uri.specs.Gives.{Gives};
-ghost use Rattle.xcap_uri.specs.Targets.{path_read};
+ghost use Rattle.xcap_uri.specs.readers.Targets.{path_read};
 ghost use Rattle.doc_names.specs.Ids.{separator};
 
 use crate::cutting::cut;
 use crate::escapes::read_part;
 use crate::fault::UriFault;
 use std::alloc::Global;
+use tree_text::ReadError;
 use xml_tree::Text;
 
 // Whether it is the segment behind which a selector stands.
@@ -32,7 +33,10 @@ fn or_nothing(behind: Option<&[u8]>) -> &[u8]
 ///
 /// # Errors
 /// `BadEscape` exactly where a segment up to the separator stands for no text, `NoMemory` for want of memory.
-pub fn read_path(alloc: Global, path: &[u8]) -> Result<(Vec<Text>, Option<&[u8]>), UriFault>
+pub fn read_path(
+    alloc: Global,
+    path: &[u8],
+) -> Result<(Vec<Text>, Option<&[u8]>), ReadError<UriFault>>
     ensures { Gives (λ x. (x.0.items, option_map (λ y. y.now) x.1)) result (path_read path.now) }
 {
     let mut segments = Vec::new(alloc);

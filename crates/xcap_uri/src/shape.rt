@@ -3,13 +3,15 @@
 ghost use Rattle.std.specs.Prelude.{◌≡◌, IfOk};
 ghost use Rattle.std.specs.List.{list_any};
 ghost use Rattle.xcap_uri.specs.Gives.{Answers};
-ghost use Rattle.xcap_uri.specs.Shapes.{auid_of, changes, changes_or_part, document, doc_of, feed_shape, flat_shape, in_home, in_usage, is_empty, mode_of, named, of_usage, of_user, part_changes, shape_of, stored_auid_of, stored_doc, tag_of};
+ghost use Rattle.xcap_uri.specs.Shapes.{doc_of, tag_of};
+ghost use Rattle.xcap_uri.specs.readers.Shapes.{auid_of, changes, changes_or_part, document, feed_shape, flat_shape, in_home, in_usage, is_empty, mode_of, named, of_usage, of_user, part_changes, shape_of, stored_auid_of, stored_doc};
 
 use crate::fault::UriFault;
 use crate::numerals::numeral;
 use crate::target::Mode;
 use doc_names::{Auid, DocId, Home};
 use std::alloc::{AllocError, Global};
+use tree_text::ReadError;
 use xml_tree::Text;
 
 /// What the segments of an address name, with the text of the selector, which isn't read yet.
@@ -82,14 +84,14 @@ fn tag_of(text: &Text) -> Option<u64>
 }
 
 // A document, or with a selector a part of it.
-fn document(doc: DocId, selector: Option<Text>) -> Result<Shape, UriFault>
+fn document(doc: DocId, selector: Option<Text>) -> Result<Shape, ReadError<UriFault>>
     ensures { result ≡ document doc selector }
 {
     match selector {
         None => Ok(Shape::Whole(doc)),
         Some(text) => {
             if text.is_empty() {
-                return Err(UriFault::BadShape);
+                return Err(ReadError::Fault(UriFault::BadShape));
             }
             Ok(Shape::Part(doc, text))
         }
@@ -103,11 +105,11 @@ fn in_home(
     home: Home,
     rest: &[Text],
     selector: Option<Text>,
-) -> Result<Shape, UriFault>
-    ensures { Answers UriFault.NoMemory (in_home auid home rest.now selector) result }
+) -> Result<Shape, ReadError<UriFault>>
+    ensures { Answers ReadError.NoMemory (in_home auid home rest.now selector) result }
 {
     match rest {
-        [] => Err(UriFault::BadShape),
+        [] => Err(ReadError::Fault(UriFault::BadShape)),
         [name] => {
             let name = name.copy(alloc)?;
             document(DocId { auid, home, name }, selector)
@@ -122,11 +124,11 @@ fn of_user(
     auid: Auid,
     rest: &[Text],
     selector: Option<Text>,
-) -> Result<Shape, UriFault>
-    ensures { Answers UriFault.NoMemory (of_user auid rest.now selector) result }
+) -> Result<Shape, ReadError<UriFault>>
+    ensures { Answers ReadError.NoMemory (of_user auid rest.now selector) result }
 {
     match rest {
-        [] => Err(UriFault::BadShape),
+        [] => Err(ReadError::Fault(UriFault::BadShape)),
         [xui, rest @ ..] => {
             let xui = xui.copy(alloc)?;
             in_home(alloc, auid, Home::User(xui), rest, selector)
@@ -140,11 +142,11 @@ fn in_usage(
     auid: Auid,
     rest: &[Text],
     selector: Option<Text>,
-) -> Result<Shape, UriFault>
-    ensures { Answers UriFault.NoMemory (in_usage auid rest.now selector) result }
+) -> Result<Shape, ReadError<UriFault>>
+    ensures { Answers ReadError.NoMemory (in_usage auid rest.now selector) result }
 {
     match rest {
-        [] => Err(UriFault::BadShape),
+        [] => Err(ReadError::Fault(UriFault::BadShape)),
         [tree, rest @ ..] => {
             if tree.is("global") {
                 return in_home(alloc, auid, Home::Global, rest, selector);
@@ -152,7 +154,7 @@ fn in_usage(
             if tree.is("users") {
                 return of_user(alloc, auid, rest, selector);
             }
-            Err(UriFault::BadShape)
+            Err(ReadError::Fault(UriFault::BadShape))
         }
     }
 }
@@ -182,14 +184,14 @@ fn stored_doc(
 }
 
 // The changes of a part, which has a selector.
-fn part_changes(tag: u64, doc: DocId, selector: Option<Text>) -> Result<Shape, UriFault>
+fn part_changes(tag: u64, doc: DocId, selector: Option<Text>) -> Result<Shape, ReadError<UriFault>>
     ensures { result ≡ part_changes tag doc selector }
 {
     match selector {
-        None => Err(UriFault::BadShape),
+        None => Err(ReadError::Fault(UriFault::BadShape)),
         Some(text) => {
             if text.is_empty() {
-                return Err(UriFault::BadShape);
+                return Err(ReadError::Fault(UriFault::BadShape));
             }
             Ok(Shape::PartChanges(tag, doc, text))
         }
@@ -202,12 +204,12 @@ fn changes(
     tag: u64,
     doc: DocId,
     selector: Option<Text>,
-) -> Result<Shape, UriFault>
+) -> Result<Shape, ReadError<UriFault>>
     ensures { result ≡ changes mode tag doc selector }
 {
     match (mode, selector) {
         (Some(mode), None) => Ok(Shape::Changes(mode, tag, doc)),
-        _ => Err(UriFault::BadShape),
+        _ => Err(ReadError::Fault(UriFault::BadShape)),
     }
 }
 
@@ -217,14 +219,14 @@ fn changes_or_part(
     tag: Option<u64>,
     doc: Option<DocId>,
     selector: Option<Text>,
-) -> Result<Shape, UriFault>
+) -> Result<Shape, ReadError<UriFault>>
     ensures { result ≡ changes_or_part mode.now tag doc selector }
 {
     let Some(tag) = tag else {
-        return Err(UriFault::BadShape);
+        return Err(ReadError::Fault(UriFault::BadShape));
     };
     let Some(doc) = doc else {
-        return Err(UriFault::BadShape);
+        return Err(ReadError::Fault(UriFault::BadShape));
     };
     if mode.is("element") {
         return part_changes(tag, doc, selector);
@@ -233,15 +235,19 @@ fn changes_or_part(
 }
 
 // What is named behind `~feed`.
-fn feed_shape(alloc: Global, rest: &[Text], selector: Option<Text>) -> Result<Shape, UriFault>
-    ensures { Answers UriFault.NoMemory (feed_shape rest.now selector) result }
+fn feed_shape(
+    alloc: Global,
+    rest: &[Text],
+    selector: Option<Text>,
+) -> Result<Shape, ReadError<UriFault>>
+    ensures { Answers ReadError.NoMemory (feed_shape rest.now selector) result }
 {
     match rest {
         [mode, tag, auid, tree, xui, name] => {
             let doc = stored_doc(alloc, auid, tree, xui, name)?;
             changes_or_part(mode, tag_of(tag), doc, selector)
         }
-        _ => Err(UriFault::BadShape),
+        _ => Err(ReadError::Fault(UriFault::BadShape)),
     }
 }
 
@@ -261,15 +267,19 @@ fn flat_list(alloc: Global, xui: &Text, name: &Text, service: &Text) -> Result<S
 }
 
 // What is named behind `~flat`.
-fn flat_shape(alloc: Global, rest: &[Text], selector: Option<Text>) -> Result<Shape, UriFault>
-    ensures { Answers UriFault.NoMemory (flat_shape rest.now selector) result }
+fn flat_shape(
+    alloc: Global,
+    rest: &[Text],
+    selector: Option<Text>,
+) -> Result<Shape, ReadError<UriFault>>
+    ensures { Answers ReadError.NoMemory (flat_shape rest.now selector) result }
 {
     match (rest, selector) {
         ([xui, name, service], None) => {
             let shape = flat_list(alloc, xui, name, service)?;
             Ok(shape)
         }
-        _ => Err(UriFault::BadShape),
+        _ => Err(ReadError::Fault(UriFault::BadShape)),
     }
 }
 
@@ -279,21 +289,25 @@ fn of_usage(
     auid: Option<Auid>,
     rest: &[Text],
     selector: Option<Text>,
-) -> Result<Shape, UriFault>
-    ensures { Answers UriFault.NoMemory (of_usage auid rest.now selector) result }
+) -> Result<Shape, ReadError<UriFault>>
+    ensures { Answers ReadError.NoMemory (of_usage auid rest.now selector) result }
 {
     match auid {
-        None => Err(UriFault::UnknownAuid),
+        None => Err(ReadError::Fault(UriFault::UnknownAuid)),
         Some(auid) => in_usage(alloc, auid, rest, selector),
     }
 }
 
 // What segments name that aren't empty.
-fn named(alloc: Global, segments: &[Text], selector: Option<Text>) -> Result<Shape, UriFault>
-    ensures { Answers UriFault.NoMemory (named segments.now selector) result }
+fn named(
+    alloc: Global,
+    segments: &[Text],
+    selector: Option<Text>,
+) -> Result<Shape, ReadError<UriFault>>
+    ensures { Answers ReadError.NoMemory (named segments.now selector) result }
 {
     match segments {
-        [] => Err(UriFault::UnknownAuid),
+        [] => Err(ReadError::Fault(UriFault::UnknownAuid)),
         [first, rest @ ..] => {
             if first.is("~feed") {
                 return feed_shape(alloc, rest, selector);
@@ -324,11 +338,15 @@ fn has_empty(segments: &[Text]) -> bool
 ///
 /// # Errors
 /// `BadShape` or `UnknownAuid`, the first that applies; `NoMemory` for want of memory.
-pub fn shape_of(alloc: Global, segments: &[Text], selector: Option<Text>) -> Result<Shape, UriFault>
-    ensures { Answers UriFault.NoMemory (shape_of segments.now selector) result }
+pub fn shape_of(
+    alloc: Global,
+    segments: &[Text],
+    selector: Option<Text>,
+) -> Result<Shape, ReadError<UriFault>>
+    ensures { Answers ReadError.NoMemory (shape_of segments.now selector) result }
 {
     if has_empty(segments) {
-        return Err(UriFault::BadShape);
+        return Err(ReadError::Fault(UriFault::BadShape));
     }
     named(alloc, segments, selector)
 }

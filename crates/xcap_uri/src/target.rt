@@ -3,11 +3,13 @@ ghost use Rattle.std.specs.Prelude.{◌≡◌, ◌++◌, None, Err, option_map, 
 ghost use Rattle.doc_names.specs.Escapes.{escaped, is_visible};
 ghost use Rattle.xcap_uri.specs.Roots.{path_of};
 ghost use Rattle.xcap_uri.specs.Gives.{Answers};
-ghost use Rattle.xcap_uri.specs.Targets.{IsReadableTarget, about_element, part_read, raw_text, rest_read, target_of, target_read, under, under_root, with_query};
+ghost use Rattle.tree_text.specs.Memory.{Answered};
+ghost use Rattle.xcap_uri.specs.Targets.{IsReadableTarget, TargetAnswer, raw_text, under, under_root, with_query};
+ghost use Rattle.xcap_uri.specs.readers.Targets.{about_element, part_read, rest_read, target_of, target_read};
 
 use crate::cutting::{after, cut};
 use crate::escapes::read_optional_part;
-use crate::fault::{UriFault, selector_fault};
+use crate::fault::{UriFault, uri_error};
 use crate::query::read_query;
 use crate::root::Root;
 use crate::segments::read_path;
@@ -15,7 +17,7 @@ use crate::shape::{Shape, shape_of};
 use doc_names::{Auid, DocId, Home, push_visible};
 use node_select::{Bindings, End, Selector, read_selector};
 use std::alloc::{AllocError, Global};
-use tree_text::no_text;
+use tree_text::{ReadError, no_text};
 use xml_tree::Text;
 
 /// How the changes of a document are told (RFC 5875, section 4.3).
@@ -88,22 +90,27 @@ fn under_root<'a>(root: &Root, target: &'a [u8]) -> Option<&'a [u8]>
 }
 
 // The selector of a part of a document.
-fn part(alloc: Global, bindings: &Bindings, auid: Auid, text: &Text) -> Result<Selector, UriFault>
-    ensures { Answers UriFault.NoMemory (part_read bindings.now auid text.now) result }
+fn part(
+    alloc: Global,
+    bindings: &Bindings,
+    auid: Auid,
+    text: &Text,
+) -> Result<Selector, ReadError<UriFault>>
+    ensures { Answers ReadError.NoMemory (part_read bindings.now auid text.now) result }
 {
     match read_selector(alloc, text.as_str(), bindings, auid.namespace()) {
         Ok(selector) => Ok(selector),
-        Err(fault) => Err(selector_fault(&fault)),
+        Err(error) => Err(uri_error(error)),
     }
 }
 
 // The selector, if it ends in an element.
-fn about_element(selector: Selector) -> Result<Selector, UriFault>
+fn about_element(selector: Selector) -> Result<Selector, ReadError<UriFault>>
     ensures { result ≡ about_element selector }
 {
     match &selector.end {
         End::Element => Ok(selector),
-        _ => Err(UriFault::BadSelector),
+        _ => Err(ReadError::Fault(UriFault::BadSelector)),
     }
 }
 
@@ -145,8 +152,8 @@ fn target_of(
     shape: Shape,
     bindings: &Bindings,
     raw: Text,
-) -> Result<Target, UriFault>
-    ensures { Answers UriFault.NoMemory (target_of shape bindings.now raw) result }
+) -> Result<Target, ReadError<UriFault>>
+    ensures { Answers ReadError.NoMemory (target_of shape bindings.now raw) result }
 {
     match shape {
         Shape::Whole(doc) => Ok(Target::Document(doc)),
@@ -171,8 +178,8 @@ fn target_of(
 }
 
 // What stands under the root.
-fn read_rest(alloc: Global, rest: &[u8]) -> Result<Target, UriFault>
-    ensures { Answers UriFault.NoMemory (rest_read rest.now) result }
+fn read_rest(alloc: Global, rest: &[u8]) -> Result<Target, ReadError<UriFault>>
+    ensures { Answers ReadError.NoMemory (rest_read rest.now) result }
 {
     let (path, raw_query) = cut(rest, b'?');
     let (segments, raw_selector) = read_path(alloc, path)?;
@@ -184,18 +191,26 @@ fn read_rest(alloc: Global, rest: &[u8]) -> Result<Target, UriFault>
     target_of(alloc, shape, &bindings, raw)
 }
 
+// What stands under the root, or that nothing does.
+fn read(alloc: Global, root: &Root, target: &[u8]) -> Result<Target, ReadError<UriFault>>
+    ensures answer { Answers ReadError.NoMemory (target_read root.now target.now) result }
+    ensures outside { under_root root.now target.now ≡ None → result ≡ Err (ReadError.Fault UriFault.OutsideRoot) }
+{
+    match under_root(root, target) {
+        None => Err(ReadError::Fault(UriFault::OutsideRoot)),
+        Some(rest) => read_rest(alloc, rest),
+    }
+}
+
 /// What a target means under a root. It begins with the whole root or with its path, and then a slash.
 ///
 /// # Errors
 /// The first fault in the order that `UriFault` states, exactly where there is one; `NoMemory` for want of memory, which is never answered
 /// where the target is outside the root.
-pub fn read_target(alloc: Global, root: &Root, target: &[u8]) -> Result<Target, UriFault>
-    ensures answer { Answers UriFault.NoMemory (target_read root.now target.now) result }
-    ensures outside { under_root root.now target.now ≡ None → result ≡ Err UriFault.OutsideRoot }
-    ensures readable { IfOk result IsReadableTarget }
+pub fn read_target(alloc: Global, root: &Root, target: &[u8]) -> Result<Target, ReadError<UriFault>>
+    ensures answer_by_the_rules { Answered (TargetAnswer root.now target.now) result }
+    ensures outside_without_memory { under_root root.now target.now ≡ None → result ≡ Err (ReadError.Fault UriFault.OutsideRoot) }
+    ensures readable_ids { IfOk result IsReadableTarget }
 {
-    match under_root(root, target) {
-        None => Err(UriFault::OutsideRoot),
-        Some(rest) => read_rest(alloc, rest),
-    }
+    read(alloc, root, target)
 }

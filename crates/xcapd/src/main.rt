@@ -1,6 +1,6 @@
 //! The program `xcapd`: it makes the real streams and sockets and an audit of changes on the stream for errors, runs the
-//! command that its words spell, and ends with the status of that run. What it promises is what `run` promises; it adds
-//! nothing of its own.
+//! command that its words spell, and ends with the status of that run. What it promises is what `run_on_system` promises; it
+//! adds nothing of its own.
 //! RFC 4825 is the standard that its commands follow.
 #![tactic(auto)]
 
@@ -8,7 +8,7 @@ use std::process::ExitCode;
 use std::rt::Env;
 use std::{env, io};
 use watchers::{Audit, Watcher};
-use xcap_app::run;
+use xcap_app::run_on_system;
 use xcap_io::{StdSink, StdSource, TcpPeer, TcpPort};
 
 // The words of the command line, without the program's name. A word that is no text spells no command, so there are
@@ -38,7 +38,7 @@ fn main(rt: HostRuntime) -> io::Result<ExitCode> {
     let mut watchers: Vec<Box<dyn Watcher>> = Vec::new(alloc);
     let audit = Audit::new(alloc, StdSink::new(rt.stderr()));
     watchers.push(Box::new(alloc, audit)?)?;
-    let status = run(
+    let status = run_on_system(
         alloc,
         &words,
         &mut port,

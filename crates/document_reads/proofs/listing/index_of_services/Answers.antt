@@ -18,8 +18,8 @@ loop-root-preserved c =
     let before = subst (λ (rs : List (Bor Tree)). Gathered trees (shown rs) c.loop-root.maker) c.in-Some.ensures.steps.0 c.loop-root.invariant in
     gathered_more trees (shown c.next.new.self.rest.items) c.loop-root.maker c.in-Some.root.now c.add.new.self before c.in_ok-add.ensures.ok c.in_ok-add.ensures.fits
 
-pub returns-in_err-add-clause-beyond : goal.returns-in_err-add-clause-beyond
-returns-in_err-add-clause-beyond c =
+pub returns-in_err-add-clause-refused_beyond_limit : goal.returns-in_err-add-clause-refused_beyond_limit
+returns-in_err-add-clause-refused_beyond_limit c =
     let trees = index_trees c.args.store.now.content in
     let before = subst (λ (rs : List (Bor Tree)). Gathered trees (shown rs) c.loop-root.maker) c.in-Some.ensures.steps.0 c.loop-root.invariant in
     let p = err_from_is_err_and c.from_residual-in_err-add.result c.from_residual-in_err-add.ensures.1 in

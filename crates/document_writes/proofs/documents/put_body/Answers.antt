@@ -1,15 +1,22 @@
-use Rattle.std.proofs.Common.{None, refl, subst}
-use Rattle.doc_names.specs.Usages.{usage_of}
+use Rattle.std.proofs.Common.{◌≡◌, sym, subst}
 use Rattle.machine_words.specs.Answers.{Answer}
-use Rattle.machine_words.specs.Writing.{PutsBody}
-use Rattle.document_writes.specs.Bodies.{IsBodyOf}
-use Rattle.document_writes.specs.declared.bodies.Body.{Body}
-use Rattle.document_writes.proofs.Doing.{as_written, does_nothing}
+use Rattle.machine_words.specs.Writing.{PutsBody, put_answer}
+use Rattle.request_terms.specs.MediaTypes.{document_media}
+use Rattle.document_writes.proofs.Coming.{body_comes}
+use Rattle.document_writes.proofs.Doing.{all_so, stays}
 use Rattle.document_writes.proofs.documents.put_body.Goals as goal
 
-pub returns-in-Refused-clause-does : goal.returns-in-Refused-clause-does
-returns-in-Refused-clause-does c =
-    let Is : Answer → Type 0 = λ a. PutsBody c.args.store.now.content c.args.doc.now (usage_of c.args.doc.now.auid) c.args.request.now a in
-    as_written Is c.args.store.now.content c.unchanged.result c.in-Refused.reply None c.args.store.now.content c.unchanged.ensures
-    (does_nothing Is c.args.store.now.content c.in-Refused.reply c.args.store.now.content refl
-    ((subst (λ (body : Body). IsBodyOf c.args.doc.now c.args.request.now body) c.in-Refused.is c.in_ok-reply.ensures) c.args.store.now.content))
+pub returns-in-Refused-clause-decides_by_the_body : goal.returns-in-Refused-clause-decides_by_the_body
+returns-in-Refused-clause-decides_by_the_body c =
+    let media = document_media c.args.doc.now.auid in
+    let answer = put_answer c.args.store.now.content c.args.doc.now c.args.request.now.closes in
+    let came = body_comes c.args.usage c.document_media-media.result media c.args.request.now _ _ c.document_media-media.ensures c.in-Refused.is c.in_ok-reply.ensures.comes_of_the_body in
+    stays (PutsBody c.args.usage media c.args.request.now answer) c.args.store.now c.in-Refused.reply (came answer)
+
+pub returns-in-Document-clause-decides_by_the_body : goal.returns-in-Document-clause-decides_by_the_body
+returns-in-Document-clause-decides_by_the_body c =
+    let media = document_media c.args.doc.now.auid in
+    let answer = put_answer c.args.store.now.content c.args.doc.now c.args.request.now.closes in
+    let came = body_comes c.args.usage c.document_media-media.result media c.args.request.now _ _ c.document_media-media.ensures c.in-Document.is c.in_ok-reply.ensures.comes_of_the_body in
+    all_so (λ a. a ≡ answer c.in-Document.root) c.put_tree.new.store (PutsBody c.args.usage media c.args.request.now answer)
+    (λ a is. subst (λ (x : Answer). PutsBody c.args.usage media c.args.request.now answer x) (sym is) (came.1 answer)) c.put_tree.result c.put_tree.ensures.decides_the_put

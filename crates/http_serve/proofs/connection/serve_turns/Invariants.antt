@@ -1,10 +1,11 @@
 use Rattle.std.proofs.Common.{◌≡◌, ◌<◌, ◌-◌, false}
+use Rattle.http_serve.specs.Written.{InBytes}
 use Rattle.http_serve.proofs.Turning.{SoFar}
 use Rattle.http_serve.proofs.connection.serve_turns.Given as goal
 
 abbrev pub invariant-turns : goal.invariant-turns
 invariant-turns g l = record {
-  so_far : SoFar g.M.Machine.steps g.W.Watchers.keeps l.fn.machine l.machine l.buffers.wire (g.L.Line.state l.fn.line) (g.L.Line.state l.line) l.fn.watchers l.watchers;
+  so_far : SoFar (InBytes g.M.Machine.steps) g.W.Watchers.keeps l.fn.machine l.machine l.buffers.wire (g.L.Line.state l.fn.line) (g.L.Line.state l.line) l.fn.watchers l.watchers;
   open_still : l.buffers.wire.spent ≡ false;
   below : l.buffers.wire.requests < 1000;
 }

@@ -1,10 +1,11 @@
 use Rattle.std.proofs.Common.{◌≤◌, ◌-◌}
+use Rattle.http_serve.specs.Written.{InBytes}
 use Rattle.http_serve.proofs.Ports.{PortSoFar}
 use Rattle.http_serve.proofs.port.serve_lines.Given as goal
 
 abbrev pub invariant-connections : goal.invariant-connections
 invariant-connections g l = record {
-  so_far : PortSoFar g.M.Machine.steps g.W.Watchers.keeps l.connections l.last l.fn.machine l.machine (g.P.Line.state l.fn.port) (g.P.Line.state l.port) l.fn.watchers l.watchers;
+  so_far : PortSoFar (InBytes g.M.Machine.steps) g.W.Watchers.keeps l.connections l.last l.fn.machine l.machine (g.P.Line.state l.fn.port) (g.P.Line.state l.port) l.fn.watchers l.watchers;
   within : l.connections ≤ l.count;
 }
 

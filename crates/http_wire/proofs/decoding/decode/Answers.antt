@@ -15,7 +15,7 @@ pub decoding-init : goal.decoding-init
 decoding-init g c =
     let rest : List ℕ = take (length c.bytes.result.now - c.args.head) (drop c.args.head c.bytes.result.now) in
     record {
-      decodes = so_far_first c.args.head c.args.inflow.now rest (g.S.Line.state c.args.source.now).left c.feed-used.new.self c.feed-used.result c.requires.inside
+      decodes = so_far_first c.args.head c.args.inflow.now rest (g.S.Line.state c.args.source.now).inward c.feed-used.new.self c.feed-used.result c.requires.inside
           (lent c.args.head c.bytes.result.now c.args.inflow.now c.bytes.ensures.value) c.feed-used.ensures.count
           (subst (λ (d : Decoding). ReadsOn d (take c.feed-used.result rest) c.feed-used.new.self) c.restart.ensures c.feed-used.ensures.reads)
           c.feed-used.ensures.all c.bytes.ensures.limit;

@@ -6,7 +6,7 @@ use Rattle.http_wire.proofs.decoding.decode.Given as goal
 
 abbrev pub invariant-decoding : goal.invariant-decoding
 invariant-decoding g l = record {
-  decodes : DecodesSoFar l.fn.head l.fn.inflow (g.S.Line.state l.fn.source).left l.decoder l.inflow (g.S.Line.state l.source).left l.used;
+  decodes : DecodesSoFar l.fn.head l.fn.inflow (g.S.Line.state l.fn.source).inward l.decoder l.inflow (g.S.Line.state l.source).inward l.used;
   reads : Reads (g.S.Line.state l.fn.source) (g.S.Line.state l.source);
   no_fault : (g.S.Line.state l.source).read_faults ≡ (g.S.Line.state l.fn.source).read_faults;
 }

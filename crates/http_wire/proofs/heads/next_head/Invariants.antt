@@ -6,7 +6,7 @@ use Rattle.http_wire.proofs.heads.next_head.Given as goal
 
 abbrev pub invariant-looking : goal.invariant-looking
 invariant-looking g l = record {
-  gains : Gains l.fn.inflow l.inflow (g.S.Line.state l.fn.source).left (g.S.Line.state l.source).left;
+  gains : Gains l.fn.inflow l.inflow (g.S.Line.state l.fn.source).inward (g.S.Line.state l.source).inward;
   reads : Reads (g.S.Line.state l.fn.source) (g.S.Line.state l.source);
   no_fault : (g.S.Line.state l.source).read_faults ≡ (g.S.Line.state l.fn.source).read_faults;
   inside : l.seen ≤ length l.inflow;

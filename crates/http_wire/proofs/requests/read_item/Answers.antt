@@ -6,15 +6,17 @@ use Rattle.http_wire.proofs.requests.read_item.Goals as goal
 
 pub returns-in-Bad-clause-asks : goal.returns-in-Bad-clause-asks
 returns-in-Bad-clause-asks g c =
-    let o = open_by c.next_head.new.inflow c.bytes.result.now (g.S.Line.state c.next_head.new.source).left c.next_head.new.headers c.in-Some.spans BadFields c.read_framing.result (rw c.in-Some.is at c.in_ok-spans.ensures.ok) c.bytes.ensures.value c.read_framing.ensures.value c.in-Bad.is in
-    asks_after c.args.before c.args.inflow.now c.next_head.new.inflow _ _ (Ok Bad) c.next_head.new.inflow _ c.in_ok-spans.ensures.gains
-    (asks_now c.args.before c.next_head.new.inflow _ Bad c.next_head.new.inflow (next_bad c.args.before c.next_head.new.inflow _ c.next_head.new.inflow c.next_head.new.headers c.in-Some.spans o))
+    let now = (g.S.Line.state c.next_head.new.source).inward in
+    let o = open_by c.next_head.new.inflow c.bytes.result.now (g.S.Line.state c.next_head.new.source).inward c.next_head.new.headers c.in-Some.spans BadFields c.read_framing.result (rw c.in-Some.is at c.in_ok-spans.ensures.ok) c.bytes.ensures.value c.read_framing.ensures.value c.in-Bad.is in
+    asks_after c.args.before c.args.inflow.now c.next_head.new.inflow _ now (Ok Bad) c.next_head.new.inflow now c.in_ok-spans.ensures.gains
+    (asks_now c.args.before c.next_head.new.inflow now Bad c.next_head.new.inflow (next_bad c.args.before c.next_head.new.inflow now c.next_head.new.inflow c.next_head.new.headers c.in-Some.spans o))
 
 pub returns-in-Coded-clause-asks : goal.returns-in-Coded-clause-asks
 returns-in-Coded-clause-asks g c =
-    let o = open_by c.next_head.new.inflow c.bytes.result.now (g.S.Line.state c.next_head.new.source).left c.next_head.new.headers c.in-Some.spans OtherCoding c.read_framing.result (rw c.in-Some.is at c.in_ok-spans.ensures.ok) c.bytes.ensures.value c.read_framing.ensures.value c.in-Coded.is in
-    asks_after c.args.before c.args.inflow.now c.next_head.new.inflow _ _ (Ok Coded) c.next_head.new.inflow _ c.in_ok-spans.ensures.gains
-    (asks_now c.args.before c.next_head.new.inflow _ Coded c.next_head.new.inflow (next_coded c.args.before c.next_head.new.inflow _ c.next_head.new.inflow c.next_head.new.headers c.in-Some.spans o))
+    let now = (g.S.Line.state c.next_head.new.source).inward in
+    let o = open_by c.next_head.new.inflow c.bytes.result.now (g.S.Line.state c.next_head.new.source).inward c.next_head.new.headers c.in-Some.spans OtherCoding c.read_framing.result (rw c.in-Some.is at c.in_ok-spans.ensures.ok) c.bytes.ensures.value c.read_framing.ensures.value c.in-Coded.is in
+    asks_after c.args.before c.args.inflow.now c.next_head.new.inflow _ now (Ok Coded) c.next_head.new.inflow now c.in_ok-spans.ensures.gains
+    (asks_now c.args.before c.next_head.new.inflow now Coded c.next_head.new.inflow (next_coded c.args.before c.next_head.new.inflow now c.next_head.new.inflow c.next_head.new.headers c.in-Some.spans o))
 
 pub returns-in-Length-clause-asks : goal.returns-in-Length-clause-asks
 returns-in-Length-clause-asks g c = asks_after c.args.before c.args.inflow.now c.next_head.new.inflow _ _ c.read_plain.result c.read_plain.new.inflow _ c.in_ok-spans.ensures.gains c.read_plain.ensures.asks

@@ -2,5 +2,5 @@ use Rattle.std.proofs.Common.{chars}
 use Rattle.node_select.proofs.ExactSelectors.{selector_answered}
 use Rattle.node_select.proofs.reading.read_selector.Goals as goal
 
-pub returns-clause-grammar : goal.returns-clause-grammar
-returns-clause-grammar c = selector_answered c.args.bindings.now (chars c.args.default_uri.now) c.args.text.now c.selector_of_text.result c.selector_of_text.ensures
+pub returns : goal.returns
+returns c = record { answer_by_the_grammar = selector_answered c.args.bindings.now (chars c.args.default_uri.now) c.args.text.now c.selector_of_text.result c.selector_of_text.ensures }

@@ -3,8 +3,9 @@ use Rattle.tree_text.proofs.ProperBodies.{body_good}
 use Rattle.tree_text.proofs.bodies.read_att_value.Goals as goal
 
 pub returns : goal.returns
-returns c = record {
-  grammar = body_answers c.args.bytes.now c.read_body.result c.read_body.ensures;
-  chars = body_good c.args.bytes.now c.read_body.result c.read_body.ensures;
-  computed = c.read_body.ensures;
-}
+returns c =
+    let answer = body_answers c.args.bytes.now c.read_body.result c.read_body.ensures in
+    record {
+      answer_by_the_grammar = answer;
+      chars = body_good c.args.bytes.now c.read_body.result answer;
+    }

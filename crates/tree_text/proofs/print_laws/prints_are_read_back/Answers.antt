@@ -1,9 +1,20 @@
+use Rattle.std.proofs.Common.{encode_utf8_all, subst}
+use Rattle.xml_tree.specs.Print.{print}
+use Rattle.tree_text.specs.Faults.{TextAnswer, BodyAnswer}
+use Rattle.tree_text.specs.Printing.{document_print, body_print}
 use Rattle.tree_text.proofs.PrintedTexts.{document_is_read, element_is_read, body_is_read}
+use Rattle.tree_text.proofs.ReadAnswers.{text_answer, body_answer}
 use Rattle.tree_text.proofs.print_laws.prints_are_read_back.Goals as goal
 
 pub returns : goal.returns
 returns c = record {
-  document = λ depth scope root unbound proper fits. (document_is_read depth scope root unbound proper fits).read;
-  element = λ depth scope root unbound proper fits. (element_is_read depth scope root unbound proper fits).read;
-  value = body_is_read;
+  document = λ depth scope root unbound proper fits.
+      let bytes = encode_utf8_all (document_print root) in
+      subst (TextAnswer depth scope bytes) (document_is_read depth scope root unbound proper fits).read (text_answer depth scope bytes);
+  element = λ depth scope root unbound proper fits.
+      let bytes = encode_utf8_all (print root) in
+      subst (TextAnswer depth scope bytes) (element_is_read depth scope root unbound proper fits).read (text_answer depth scope bytes);
+  value = λ value chars.
+      let bytes = encode_utf8_all (body_print value) in
+      subst (BodyAnswer bytes) (body_is_read value chars) (body_answer bytes);
 }

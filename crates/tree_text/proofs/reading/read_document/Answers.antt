@@ -1,15 +1,15 @@
-use Rattle.std.proofs.Common.{List, [], subst}
+use Rattle.std.proofs.Common.{◌≡◌, List, [], subst}
 use Rattle.xml_tree.specs.declared.names.Decl.{Decl}
-use Rattle.tree_text.specs.declared.fault.TextFault.TheVariants as texts
-use Rattle.tree_text.specs.Faults.{Unless, text_read}
+use Rattle.tree_text.specs.Memory.{Answered}
+use Rattle.tree_text.specs.readers.Whole.{text_read}
 use Rattle.tree_text.proofs.ReadProper.{text_answers, text_good}
 use Rattle.tree_text.proofs.reading.read_document.Goals as goal
 
 pub returns : goal.returns
 returns c =
-    let read = subst (λ (z : List (List Decl)). Unless texts.NoMemory (text_read c.args.depth z c.args.bytes.now) c.read.result) c.empty.ensures c.read.ensures in
+    let read = subst (λ (z : List (List Decl)). Answered (λ answer. answer ≡ text_read c.args.depth z c.args.bytes.now) c.read.result) c.empty.ensures c.read.ensures in
+    let answer = text_answers c.args.depth [] c.args.bytes.now c.read.result read in
     record {
-      grammar = text_answers c.args.depth [] c.args.bytes.now c.read.result read;
-      proper = text_good c.args.depth [] c.args.bytes.now c.read.result read;
-      computed = read;
+      answer_by_the_grammar = answer;
+      proper = text_good c.args.depth [] c.args.bytes.now c.read.result answer;
     }

@@ -2,8 +2,9 @@ use Rattle.tree_text.proofs.ReadProper.{text_answers, text_good}
 use Rattle.tree_text.proofs.reading.read_fragment.Goals as goal
 
 pub returns : goal.returns
-returns c = record {
-  grammar = text_answers c.args.depth c.args.scope.now c.args.bytes.now c.read.result c.read.ensures;
-  proper = text_good c.args.depth c.args.scope.now c.args.bytes.now c.read.result c.read.ensures;
-  computed = c.read.ensures;
-}
+returns c =
+    let answer = text_answers c.args.depth c.args.scope.now c.args.bytes.now c.read.result c.read.ensures in
+    record {
+      answer_by_the_grammar = answer;
+      proper = text_good c.args.depth c.args.scope.now c.args.bytes.now c.read.result answer;
+    }

@@ -1,5 +1,6 @@
-use Rattle.usage_docs.proofs.GapLemmas.{insertion}
+use Rattle.usage_docs.proofs.GapLemmas.{insertion_by_parts}
+use Rattle.usage_docs.proofs.Neighbours.{insertion}
 use Rattle.usage_docs.proofs.insertions.insertion_is_local.Goals as goal
 
 pub returns : goal.returns
-returns c = insertion
+returns c = record { by_the_model = insertion; by_parts = insertion_by_parts }

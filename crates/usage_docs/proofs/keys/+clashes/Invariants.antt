@@ -1,7 +1,7 @@
 use Rattle.std.proofs.Common.{◌≡◌, ◌≤◌, ◌*◌, ◌+◌, length, take}
 use Rattle.xml_tree.specs.Tree.{height, kids_of}
 use Rattle.usage_docs.proofs.ClashLemmas.{NoneBefore}
-use Rattle.usage_docs.specs.Siblings.{node_kids, Holds, marks_of}
+use Rattle.usage_docs.specs.Reading.Siblings.{node_kids, Holds, marks_of}
 use Rattle.usage_docs.proofs.keys.+clashes.Given as goal
 
 abbrev pub decreases-clash_at : goal.decreases-clash_at

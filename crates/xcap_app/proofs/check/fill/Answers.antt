@@ -1,6 +1,6 @@
 use Rattle.std.proofs.Common.{ℕ, List, ◌-◌, ◌∙◌, length, sym, subst, take}
-use Rattle.std.specs.Io.KnownBytes.{Consumes}
-use Rattle.std.proofs.KnownBytes.{Consumes-trans}
+use Rattle.xcap_io.specs.Passing.{Gave}
+use Rattle.xcap_io.proofs.Passing.{gave_on}
 use Rattle.http_wire.proofs.Buffers.{put_behind}
 use Rattle.xcap_io.proofs.Lines.{reads_on}
 use borrow.Rule.Slice.PartMut.{post_of}
@@ -18,8 +18,8 @@ reading-preserved g c =
     let behind : List ℕ = post_of held (length buffer - held) buffer in
     record {
       within = behind_front buffer piece behind held count so_far.within call.bound.0;
-      consumed = subst (Consumes (g.I.Line.state c.args.input.now).left (g.I.Line.state c.read.new.self).left) (sym (put_behind buffer piece behind held count so_far.within call.bound.0))
-          (Consumes-trans _ _ _ (take held buffer) (take count piece) so_far.consumed call.bytes.0);
+      consumed = subst (Gave (g.I.Line.state c.args.input.now).inward (g.I.Line.state c.read.new.self).inward) (sym (put_behind buffer piece behind held count so_far.within call.bound.0))
+          (gave_on _ _ _ (take held buffer) (take count piece) so_far.consumed call.bytes.0);
       reads = reads_on _ _ _ so_far.reads call.only_reads.reads;
       stayed = call.only_reads.counts ∙ so_far.stayed;
     }

@@ -1,12 +1,12 @@
 use Rattle.std.proofs.Common.{◌≡◌, ◌-◌, ◌≤◌, length, take}
-use Rattle.std.specs.Io.KnownBytes.{Consumes}
+use Rattle.xcap_io.specs.Passing.{Gave}
 use Rattle.xcap_io.specs.Causes.{Reads}
 use Rattle.xcap_app.proofs.check.fill.Given as goal
 
 abbrev pub invariant-reading : goal.invariant-reading
 invariant-reading g l = record {
   within : l.held ≤ length l.buffer;
-  consumed : Consumes (g.I.Line.state l.fn.input).left (g.I.Line.state l.input).left (take l.held l.buffer);
+  consumed : Gave (g.I.Line.state l.fn.input).inward (g.I.Line.state l.input).inward (take l.held l.buffer);
   reads : Reads (g.I.Line.state l.fn.input) (g.I.Line.state l.input);
   stayed : (g.I.Line.state l.input).read_faults ≡ (g.I.Line.state l.fn.input).read_faults;
 }

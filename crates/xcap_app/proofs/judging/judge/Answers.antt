@@ -1,5 +1,13 @@
-use Rattle.xcap_app.proofs.Ends.{tree_judged}
+use Rattle.std.proofs.Common.{subst}
+use Rattle.tree_text.specs.declared.fault.TextFault.{TextFault}
+use Rattle.xcap_app.specs.Verdicts.{FaultVerdict}
+use Rattle.xcap_app.proofs.Ends.{fault_judged, tree_judged}
 use Rattle.xcap_app.proofs.judging.judge.Goals as goal
 
 pub returns-in-Ok : goal.returns-in-Ok
-returns-in-Ok c = tree_judged c.args.usage c.args.text.now c.in-Ok.root c.judge_tree.result c.unwrap_or.result c.in-Ok.ensures.grammar c.judge_tree.ensures c.unwrap_or.ensures
+returns-in-Ok c = tree_judged c.args.usage c.args.text.now c.in-Ok.root c.judge_tree.result c.unwrap_or.result c.in-Ok.ensures.answer_by_the_grammar c.judge_tree.ensures c.unwrap_or.ensures
+
+pub returns-in-Err-Fault : goal.returns-in-Err-Fault
+returns-in-Err-Fault c =
+    fault_judged c.args.usage c.args.text.now c.read_document.result c.in-Err-Fault.field-0 c.in-Err-Fault.fault c.judge_fault.result c.in-Err-Fault.is c.in-Err-Fault.field-0-is c.read_document.ensures.answer_by_the_grammar
+    (subst (λ (fault : TextFault). FaultVerdict fault c.judge_fault.result) c.in-Err-Fault.fault-is c.judge_fault.ensures)

@@ -1,12 +1,12 @@
 use Rattle.std.proofs.Common.{◌≡◌, length, ◌-◌, ◌≤◌, take}
-use Rattle.std.specs.Io.KnownBytes.{Appends}
 use Rattle.xcap_io.specs.Causes.{Writes}
+use Rattle.xcap_io.specs.Passing.{Took}
 use Rattle.xcap_io.proofs.writing.write_all.Given as goal
 
 abbrev pub invariant-loop-done : goal.invariant-loop-done
 invariant-loop-done g l = record {
   within : l.done ≤ length l.bytes;
-  taken : Appends (g.S.Line.state l.fn.sink).taken (g.S.Line.state l.sink).taken (take l.done l.bytes);
+  taken : Took (g.S.Line.state l.fn.sink).taken (g.S.Line.state l.sink).taken (take l.done l.bytes);
   writes : Writes (g.S.Line.state l.fn.sink) (g.S.Line.state l.sink);
   stayed : (g.S.Line.state l.sink).write_faults ≡ (g.S.Line.state l.fn.sink).write_faults;
 }

@@ -1,7 +1,7 @@
 use Rattle.std.proofs.Common.{sym, ◌∙◌}
 use Rattle.std.proofs.lemmas.Result.{err_from_is_err_and}
 use Rattle.xcap_uri.specs.Roots.{slash}
-use Rattle.xcap_uri.specs.Targets.{path_read}
+use Rattle.xcap_uri.specs.readers.Targets.{path_read}
 use Rattle.xcap_uri.proofs.Pieces.{behind_shorter}
 use Rattle.xcap_uri.proofs.Separated.{fails, at_separator, at_last, at_next}
 use Rattle.xcap_uri.proofs.segments.read_path.Goals as goal

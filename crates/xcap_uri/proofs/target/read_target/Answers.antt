@@ -1,6 +1,14 @@
-use Rattle.xcap_uri.specs.Targets.{rest_read}
-use Rattle.xcap_uri.proofs.Nameable.{answer_nameable, rest_ok}
+use Rattle.xcap_uri.specs.readers.Targets.{target_read}
+use Rattle.xcap_uri.proofs.Nameable.{answer_nameable, target_readable}
+use Rattle.xcap_uri.proofs.TargetAnswers.{target_answered}
 use Rattle.xcap_uri.proofs.target.read_target.Goals as goal
 
-pub returns-in-Some-clause-readable : goal.returns-in-Some-clause-readable
-returns-in-Some-clause-readable c = answer_nameable (rest_read c.in-Some.rest.now) c.read_rest.result (rest_ok c.in-Some.rest.now) c.read_rest.ensures
+pub returns : goal.returns
+returns c =
+    let root = c.args.root.now in
+    let target = c.args.target.now in
+    record {
+      answer_by_the_rules = target_answered root target c.read.result c.read.ensures.answer;
+      outside_without_memory = c.read.ensures.outside;
+      readable_ids = answer_nameable (target_read root target) c.read.result (target_readable root target) c.read.ensures.answer;
+    }

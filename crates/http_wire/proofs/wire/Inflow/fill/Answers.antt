@@ -1,8 +1,10 @@
-use Rattle.std.proofs.Common.{rules, ◌≡◌, ◌-◌, length, take, ℕ, List, [], slice_range, ap, sym, ◌∙◌, arith}
+use Rattle.std.proofs.Common.{rules, ◌≡◌, ◌-◌, take, ℕ, List, [], slice_range, ap, subst, sym, ◌∙◌, arith}
 use Rattle.std.specs.Vec.{with_items}
 use Rattle.std.proofs.lemmas.List.{append-nil, length-take-le, places, with_items_is}
-use Rattle.std.proofs.KnownBytes.{Consumes-nil, Consumes-kept}
-use Rattle.http_wire.proofs.Buffers.{length-between, filled, unfilled, gained}
+use Rattle.xcap_io.specs.Causes.{Inward}
+use Rattle.xcap_io.specs.Passing.{Gave}
+use Rattle.xcap_io.proofs.Passing.{found_end, gave_none}
+use Rattle.http_wire.proofs.Buffers.{filled, unfilled, gained}
 use Rattle.http_wire.proofs.wire.Inflow.fill.Goals as goal
 
 pub returns-in-Ok-clause-gains : goal.returns-in-Ok-clause-gains
@@ -24,8 +26,8 @@ pub returns-in-Ok-clause-ok : goal.returns-in-Ok-clause-ok
 unfolding returns-in-Ok-clause-gains
 returns-in-Ok-clause-ok g c =
     let read : List ℕ = take c.in-Ok.count c.read.new.buf in
-    let size : length c.args.self.now ≡ c.self.inside.end - c.self.inside.start = ap length (sym c.self.view_is) ∙ length-between c.self.inside.buffer.items c.self.inside.start c.self.inside.end (omega arith) (omega arith) in
-    gained c.in-Ok.count c.args.self.now _ read _ (returns-in-Ok-clause-gains g c).added (length-take-le c.in-Ok.count c.read.new.buf c.in-Ok.ensures.bound.0) (λ zero. c.in-Ok.ensures.bytes.1 zero (omega (arith, size, c.requires)))
+    let now = (g.S.Line.state c.read.new.self).inward in
+    gained c.in-Ok.count c.args.self.now _ read now (returns-in-Ok-clause-gains g c).added (length-take-le c.in-Ok.count c.read.new.buf c.in-Ok.ensures.bound.0) (λ zero. found_end now c.in-Ok.count zero c.in-Ok.ensures.bytes.1 (c.in-Ok.ensures.bytes.2 zero))
 
 pub returns-in-Err-clause-err : goal.returns-in-Err-clause-err
 returns-in-Err-clause-err g c =
@@ -42,5 +44,5 @@ pub returns-in-Err-clause-gains : goal.returns-in-Err-clause-gains
 returns-in-Err-clause-gains g c = record {
   read = [];
   added = returns-in-Err-clause-err g c ∙ sym (append-nil c.args.self.now);
-  given = Consumes-kept _ _ _ [] (Consumes-nil _) c.in-Err.ensures.bytes;
+  given = subst (λ (now : Inward). Gave (g.S.Line.state c.args.source.now).inward now []) (sym c.in-Err.ensures.bytes) (gave_none _);
 }

@@ -5,7 +5,7 @@ use Rattle.http_wire.proofs.wire.Inflow.hold.Given as goal
 
 abbrev pub invariant-reading : goal.invariant-reading
 invariant-reading g l = record {
-  gains : Gains l.fn.self l.self (g.S.Line.state l.fn.source).left (g.S.Line.state l.source).left;
+  gains : Gains l.fn.self l.self (g.S.Line.state l.fn.source).inward (g.S.Line.state l.source).inward;
   reads : Reads (g.S.Line.state l.fn.source) (g.S.Line.state l.source);
   no_fault : (g.S.Line.state l.source).read_faults ≡ (g.S.Line.state l.fn.source).read_faults;
 }

@@ -1,5 +1,7 @@
-use Rattle.std.proofs.Common.{◌≡◌, ◌+◌, ◌-◌, ◌<◌, List, ℕ, take, drop, length, min, ap, sym, ◌∙◌, arith}
-use Rattle.xcap_io.proofs.Steps.{gives_next, none_left}
+use Rattle.std.proofs.Common.{◌≡◌, ◌+◌, ◌-◌, ◌<◌, ◌==◌, List, [], ◌++◌, ℕ, take, drop, length, min, ap, sym, ◌∙◌, arith}
+use Rattle.xcap_io.specs.Histories.{History}
+use Rattle.xcap_io.specs.Memory.{MemoryLine}
+use Rattle.xcap_io.proofs.Steps.{gives_count, gives_next, is_none, none_left}
 use Rattle.xcap_io.proofs.mem_line.MemLineSource.read.Goals as goal
 
 pub most_given-requires : goal.most_given-requires
@@ -12,7 +14,18 @@ returns-clause-bytes c =
     let count : ℕ = c.min-count.result in
     let size : c.len.result ≡ length input = grind (arith, c.len.ensures) in
     let same : given + count - given ≡ count = omega arith in
-    let front : c.copy_from_slice.new.self ≡ take count (drop given input) = c.copy_from_slice.ensures.after ∙ ap (λ (n : ℕ). take n (drop given c.deref.result.now)) same ∙ ap (λ (l : List ℕ). take count (drop given l)) c.deref.ensures.value in (
-      ap (λ m. m.left) (sym c.self.view_is) ∙ gives_next input c.copy_from_slice.new.self _ given count (omega arith) front,
-      λ none some. none_left input given count c.in-Some.most (c.min-count.ensures ∙ ap (λ (n : ℕ). min c.in-Some.most (n - given)) size) c.in-Some.ensures.some.0 none,
+    let front : c.copy_from_slice.new.self ≡ take count (drop given input) = c.copy_from_slice.ensures.after ∙ ap (λ (n : ℕ). take n (drop given c.deref.result.now)) same ∙ ap (λ (l : List ℕ). take count (drop given l)) c.deref.ensures.value in
+    let last : c.gave.new.self.history.now.ended ≡ (count == 0) =
+    ap (λ (h : History). h.now.ended) c.gave.ensures.given ∙ ap (λ (n : ℕ). n == 0) (gives_count input c.copy_from_slice.new.self _ given count (omega arith) front) in
+    let end : count ≡ 0 → drop (given + count) input ≡ [] =
+    λ none. none_left input given count c.in-Some.most (c.min-count.ensures ∙ ap (λ (n : ℕ). min c.in-Some.most (n - given)) size) c.in-Some.ensures.some.0 none in (
+      record {
+        behind =
+            ap (λ (h : History). h.now.given) c.gave.ensures.given
+            ∙ ap (λ (m : MemoryLine). m.given ++ take count (c.copy_from_slice.new.self ++ drop count c.args.buf.now)) c.self.view_is;
+        consumed = ap (λ m. m.left) (sym c.self.view_is) ∙ gives_next input c.copy_from_slice.new.self _ given count (omega arith) front;
+        truthful = λ before ended. end (is_none count (sym last ∙ ended));
+      },
+      last,
+      end,
     )

@@ -1,0 +1,67 @@
+-- What the conditions of a request on a document make of its answer.
+use Rattle.std.proofs.Common.{◌≡◌, ℕ, Bool, true, false, is_some, Option, None, Some, refl, sym, ap, subst, ◌∙◌}
+use Rattle.xml_tree.specs.Tree.{Tree}
+use Rattle.edit_ops.specs.declared.change.Change.TheVariants.{RemoveDocument}
+use Rattle.doc_names.specs.declared.doc_id.DocId.{DocId}
+use Rattle.http_wire.specs.declared.request.Request.{Request}
+use Rattle.reply_text.specs.Heads.{Sent, plain}
+use Rattle.request_terms.specs.Conditions.{stop_of}
+use Rattle.store_core.specs.Held.{Content}
+use Rattle.machine_words.specs.Answers.{Answer, Behind, unchanged}
+use Rattle.machine_words.specs.Resources.{version_of}
+use Rattle.machine_words.specs.Writing.{DeletesDocument, DeletesDocumentIn, change_answer, deleted_reply, tag_of, write_stop}
+use Rattle.machine_words.proofs.Cases.{stopped, unstopped}
+
+-- the tag is there where the document is
+pub tagged_where_held : (v : Option (Tree × ℕ)) → is_some (tag_of v) ≡ is_some v
+tagged_where_held None = refl
+tagged_where_held (Some (t, tag)) = refl
+
+-- ---- PUT
+
+module _ (request : Request) (v : Option (Tree × ℕ)) (tag : Option ℕ) (exists : Bool) (tagged : tag ≡ tag_of v) (known : exists ≡ is_some tag) where
+  stop_told : stop_of request tag exists false ≡ write_stop request (tag_of v) (is_some v)
+  stop_told =
+      ap (λ (x : Option ℕ). stop_of request x exists false) tagged
+      ∙ ap (λ (b : Bool). stop_of request (tag_of v) b false) (known ∙ ap (λ (x : Option ℕ). is_some x) tagged ∙ tagged_where_held v)
+
+  pub put_stops : (reply : Sent) (P : Type 0) → Some reply ≡ stop_of request tag exists false → Behind (write_stop request (tag_of v) (is_some v)) (unchanged reply) P
+  put_stops reply P is = stopped (write_stop request (tag_of v) (is_some v)) reply P (sym stop_told ∙ sym is)
+
+  pub put_goes_on : (a : Answer) (P : Type 0) → None ≡ stop_of request tag exists false → P → Behind (write_stop request (tag_of v) (is_some v)) a P
+  put_goes_on a P is p = unstopped (write_stop request (tag_of v) (is_some v)) a P (sym stop_told ∙ sym is) p
+
+-- ---- DELETE
+
+with_tag : (v : Option (Tree × ℕ)) (tag : ℕ) → Some tag ≡ tag_of v → (t : Tree) × (v ≡ Some (t, tag))
+with_tag None tag is = cc
+with_tag (Some (t, n)) tag is =
+    let same : n ≡ tag = cc in
+    let version : ℕ → Option (Tree × ℕ) = λ m. Some (t, m) in
+    (t, ap version same)
+
+pub untagged : (v : Option (Tree × ℕ)) → None ≡ tag_of v → v ≡ None
+untagged None is = refl
+untagged (Some (t, tag)) is = cc
+
+module _ (c : Content) (id : DocId) (request : Request) where
+  pub delete_absent : (reply : Sent) → None ≡ tag_of (version_of c id) → reply ≡ plain 404 request.closes → DeletesDocument c id request (unchanged reply)
+  delete_absent reply absent is = subst (λ (v : Option (Tree × ℕ)). DeletesDocumentIn c id v request (unchanged reply)) (sym (untagged (version_of c id) absent)) (ap unchanged is)
+
+  module _ (tag : ℕ) (tagged : Some tag ≡ tag_of (version_of c id)) where
+    abbrev Removed : Answer → Type 0
+    Removed a = a ≡ change_answer c id RemoveDocument request.closes (deleted_reply request.closes)
+
+    held_so : (a : Answer) → Behind (write_stop request (Some tag) true) a (Removed a) → DeletesDocument c id request a
+    held_so a is =
+        let t = with_tag (version_of c id) tag tagged in
+        subst (λ (v : Option (Tree × ℕ)). DeletesDocumentIn c id v request a) (sym t.1) is
+
+    pub delete_stops : (reply : Sent) → Some reply ≡ stop_of request (Some tag) true false → DeletesDocument c id request (unchanged reply)
+    delete_stops reply is = held_so (unchanged reply) (stopped (write_stop request (Some tag) true) reply (Removed (unchanged reply)) (sym is))
+
+    pub delete_goes_on : None ≡ stop_of request (Some tag) true false → (a : Answer) → Removed a → DeletesDocument c id request a
+    delete_goes_on is a removed = held_so a (unstopped (write_stop request (Some tag) true) a (Removed a) (sym is) removed)
+
+    pub asked_to_delete : (Asked : Type 0) → ((t : Tree) → ◌≡◌ {A = Option (Tree × ℕ)} (version_of c id) (Some (t, tag)) → Asked) → Asked
+    asked_to_delete Asked so = let t = with_tag (version_of c id) tag tagged in so t.0 t.1

@@ -1,0 +1,12 @@
+use Rattle.edit_ops.specs.declared.change.Change.TheVariants.{RemoveDocument}
+use Rattle.machine_words.specs.Writing.{deleted_reply}
+use Rattle.document_writes.proofs.Doing.{makes, refuses}
+use Rattle.document_writes.proofs.documents.remove.Goals as goal
+
+pub returns-in-Ok-clause-decides_the_removal : goal.returns-in-Ok-clause-decides_the_removal
+returns-in-Ok-clause-decides_the_removal c =
+    makes c.args.store.now.content c.args.doc.now RemoveDocument c.args.closes (deleted_reply c.args.closes) c.prepare.new.store c.fixed.result c.in-Ok.name c.in-Ok.prepared c.in-Ok.ensures.prepared_or_refused c.fixed.ensures
+
+pub returns-in_ok-reply-in-Err-clause-decides_the_removal : goal.returns-in_ok-reply-in-Err-clause-decides_the_removal
+returns-in_ok-reply-in-Err-clause-decides_the_removal c =
+    refuses c.args.store.now.content c.args.doc.now RemoveDocument c.args.closes (deleted_reply c.args.closes) c.prepare.new.store c.in_ok-reply-in-Err.reply c.in-Err.refusal c.in-Err.ensures.prepared_or_refused c.in_ok-reply-in-Err.ensures.tells_the_refusal

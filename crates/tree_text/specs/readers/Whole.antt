@@ -1,0 +1,39 @@
+-- What reading all bytes answers, from left to right.
+use Rattle.std.specs.Prelude.{◌≡◌, ℕ, ◌-◌, List, Result, Ok, Err, if◌then◌else◌}
+use Rattle.std.specs.Str.{chars, is_utf8}
+use Rattle.grammar_rules.specs.Reading.{Syntax, Faulty, read_whole}
+use Rattle.xml_tree.specs.Tree.{Tree}
+use Rattle.xml_tree.specs.declared.names.Decl.{Decl}
+use Rattle.tree_text.specs.declared.fault.ReadError.{ReadError}
+use Rattle.tree_text.specs.declared.fault.ReadError.TheVariants as errors
+use Rattle.tree_text.specs.declared.fault.TextFault.{TextFault}
+use Rattle.tree_text.specs.declared.fault.TextFault.TheVariants as texts
+use Rattle.tree_text.specs.declared.fault.ValueFault.{ValueFault}
+use Rattle.tree_text.specs.declared.fault.ValueFault.TheVariants as bodies
+use Rattle.tree_text.specs.declared.stop.Stop.{Stop}
+use Rattle.tree_text.specs.declared.stop.Stop.TheVariants as stops
+use Rattle.tree_text.specs.Faults.{place, fault_of, told, spelling_of, body_told}
+use Rattle.tree_text.specs.Reading.{read_text, read_spelling}
+
+-- ---- documents and fragments
+
+-- with so many levels at most and in this scope
+abbrev pub text_read : ℕ → List (List Decl) → List ℕ → Result Tree TextFault
+text_read limit scope bytes = if is_utf8 bytes then told bytes (read_whole (read_text limit scope) (chars bytes)) else Err texts.NotUtf8
+
+-- the error that the code makes of why it stopped
+abbrev pub FaultOf : List ℕ → Stop → ReadError TextFault → Type 0
+FaultOf bytes (stops.Syntax rest) error = error ≡ errors.Fault (fault_of bytes (Syntax rest.now))
+FaultOf bytes (stops.Faulty kind rest) error = error ≡ errors.Fault (fault_of bytes (Faulty kind rest.now))
+FaultOf bytes stops.Memory error = error ≡ errors.NoMemory
+
+-- ---- bodies that spell a value
+
+abbrev pub body_read : List ℕ → Result (List ℕ) ValueFault
+body_read bytes = if is_utf8 bytes then body_told (chars bytes) bytes (read_whole read_spelling (spelling_of (chars bytes))) else Err bodies.NotUtf8
+
+-- the same of a body behind whose spelling so many bytes stand
+abbrev pub BodyFaultOf : List ℕ → ℕ → Stop → ReadError ValueFault → Type 0
+BodyFaultOf bytes behind (stops.Syntax rest) error = error ≡ errors.Fault (bodies.NotValue (place bytes rest.now - behind))
+BodyFaultOf bytes behind (stops.Faulty kind rest) error = error ≡ errors.Fault (bodies.NotValue (place bytes rest.now - behind))
+BodyFaultOf bytes behind stops.Memory error = error ≡ errors.NoMemory

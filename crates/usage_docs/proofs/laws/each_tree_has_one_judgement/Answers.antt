@@ -1,0 +1,5 @@
+use Rattle.usage_docs.proofs.Judgements.{judged_one, judgement}
+use Rattle.usage_docs.proofs.laws.each_tree_has_one_judgement.Goals as goal
+
+pub returns : goal.returns
+returns c = record { some = judgement; one = judged_one }

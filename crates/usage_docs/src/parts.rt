@@ -1,0 +1,101 @@
+//! Children by numbers, as they are followed from left to right (RFC 4826, sections 3.2 and 4.2).
+ghost use Rattle.std.specs.Prelude.{◌≡◌, chars, if◌then◌else◌};
+ghost use Rattle.usage_docs.specs.Rows.{foreign, stray, is_foreign};
+ghost use Rattle.usage_docs.specs.Reading.Parts.{part_named, foreign_part, single_parts, needs_first, follows, part_in, part_of};
+
+use crate::rows::{Kind, is_foreign, kind_by, space_of};
+use xml_tree::{Around, Name};
+
+// The part of a child of some kind.
+#[tactic(auto, unfolding(crate::specs::Reading::Parts::part_named))]
+fn part_named(row: Kind, kind: Kind) -> u8
+    ensures { result ≡ part_named row kind }
+{
+    match (row, kind) {
+        (Kind::ResourceLists, Kind::EntryList) => 1,
+        (Kind::EntryList, Kind::DisplayName) => 1,
+        (Kind::EntryList, Kind::EntryList) => 2,
+        (Kind::EntryList, Kind::External) => 2,
+        (Kind::EntryList, Kind::Entry) => 2,
+        (Kind::EntryList, Kind::EntryRef) => 2,
+        (Kind::Entry, Kind::DisplayName) => 1,
+        (Kind::EntryRef, Kind::DisplayName) => 1,
+        (Kind::External, Kind::DisplayName) => 1,
+        (Kind::RlsServices, Kind::Service) => 1,
+        (Kind::Service, Kind::ResourceList) => 1,
+        (Kind::Service, Kind::EntryList) => 1,
+        (Kind::Service, Kind::Packages) => 2,
+        (Kind::Packages, Kind::Package) => 1,
+        _ => 0,
+    }
+}
+
+// The part of the foreign elements.
+#[tactic(auto, unfolding(crate::specs::Reading::Parts::foreign_part))]
+fn foreign_part(row: Kind) -> u8
+    ensures { result ≡ foreign_part row }
+{
+    match row {
+        Kind::EntryList | Kind::Service => 3,
+        Kind::Entry | Kind::EntryRef | Kind::External => 2,
+        Kind::Packages => 1,
+        _ => 0,
+    }
+}
+
+// How many of the first parts are of one child at most.
+#[tactic(auto, unfolding(crate::specs::Reading::Parts::single_parts))]
+fn single_parts(row: Kind) -> u8
+    ensures { result ≡ single_parts row }
+{
+    match row {
+        Kind::Service => 2,
+        Kind::EntryList | Kind::Entry | Kind::EntryRef | Kind::External => 1,
+        _ => 0,
+    }
+}
+
+// Whether the first part has to be there.
+#[tactic(auto, unfolding(crate::specs::Reading::Parts::needs_first))]
+fn needs_first(row: Kind) -> bool
+    ensures { result ≡ needs_first row }
+{
+    matches!(row, Kind::Service)
+}
+
+/// Whether a child of the part `next` may stand directly behind one of the part `before`, in an element of this row.
+/// Parts count from 1; before the first child stands part 0, behind the last one the part `END`. Takes no memory.
+#[tactic(auto, unfolding(crate::specs::Reading::Parts::follows))]
+pub fn follows(row: Kind, before: u8, next: u8) -> bool
+    ensures { result ≡ follows row before next }
+{
+    let in_order = before < next || (before == next && single_parts(row) < next);
+    let passed_over = needs_first(row) && before == 0 && 1 < next;
+    in_order && !passed_over
+}
+
+/// The part behind the last child.
+pub const END: u8 = 4;
+
+/// The part that a child belongs to, counted from 1; 0 where it may not stand. Takes no memory.
+#[tactic(auto, unfolding(crate::specs::Reading::Parts::part_of, crate::specs::Rows::child_of))]
+pub fn part_of(row: Kind, scope: &Around<'_>, name: &Name) -> u8
+    ensures { result ≡ part_of row scope.now name.now }
+{
+    let space = space_of(scope, name);
+    match kind_by(row, space, &name.local) {
+        Some(kind) => part_named(row, kind),
+        None => part_without_kind(row, space),
+    }
+}
+
+// The part of a child that has no kind.
+fn part_without_kind(row: Kind, space: &str) -> u8
+    ensures { result ≡ part_in row (if is_foreign row (chars space.now) then foreign else stray) }
+{
+    if is_foreign(row, space) {
+        foreign_part(row)
+    } else {
+        0
+    }
+}

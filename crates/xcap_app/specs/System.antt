@@ -1,0 +1,36 @@
+-- What a run of the program that ends with 0 did, over sockets and streams over which nothing had passed. The machine is that of
+-- RFC 4825; the program is the project's own.
+use Rattle.std.specs.Prelude.{◌≡◌, ℕ, List, codes, length, Option, None, Some}
+use Rattle.notes.specs.declared.edit.Edit.{Edit}
+use Rattle.store_core.specs.State.{State, first_state}
+use Rattle.http_wire.specs.Serving.{closed, Serves, ServesAll}
+use Rattle.http_serve.specs.Fixed.{fixed}
+use Rattle.machine_words.specs.Machine.{KeptStep}
+use Rattle.http_serve.specs.Written.{InBytes}
+use Rattle.xcap_io.specs.Causes.{LineState}
+use Rattle.xcap_io.specs.Connections.{carried}
+use Rattle.xcap_app.specs.Serves.{served_line}
+use Rattle.xcap_app.specs.Verdicts.{TextVerdict}
+use Rattle.xcap_app.specs.declared.command.Command.{Command}
+use Rattle.xcap_app.specs.declared.command.Command.TheVariants.{Replay, Serve, Check}
+use Rattle.xcap_app.specs.declared.exit.Exit.TheVariants.{Done}
+
+-- On all connections of the port the machine of this root answered, from the state without documents whose next number is 1 on,
+-- over kept states alone: the bytes taken on each are its replies to the items of the bytes given on it.
+pub record AnswersAll (root : List ℕ) (port port' : LineState) : Type 0 where
+  pub state : State
+  pub edits : List Edit
+  pub serves : ServesAll (InBytes (KeptStep root)) fixed (first_state 1) (carried port') state edits port.read_faults port'.read_faults port.write_faults port'.write_faults
+
+-- Of the input and the output as one connection, which was closed, the same.
+pub record AnswersInput (root : List ℕ) (input' output' : LineState) : Type 0 where
+  pub state : State
+  pub edits : List Edit
+  pub serves : Serves (InBytes (KeptStep root)) fixed closed (first_state 1) (record { given = input'.inward.given; ended = input'.inward.ended; taken = output'.taken }) state edits
+
+-- what was done, by the command that the words spell
+abbrev pub IsDone : Option Command → LineState → LineState → LineState → LineState → Type 0
+IsDone None port port' input' output' = ⊥
+IsDone (Some (Replay root)) port port' input' output' = AnswersInput root input' output'
+IsDone (Some (Serve address root count)) port port' input' output' = AnswersAll root port port' × (output'.taken ≡ served_line (length (carried port')))
+IsDone (Some (Check usage)) port port' input' output' = TextVerdict usage input'.inward.given Done × (output'.taken ≡ codes "valid\n")

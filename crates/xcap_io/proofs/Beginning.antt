@@ -1,0 +1,50 @@
+-- The connections of a port in memory, when the next one begins.
+use Rattle.std.proofs.Common.{◌≡◌, ℕ, ◌+◌, ◌<◌, ◌≤◌, List, [], ◌∷◌, ◌++◌, length, map, take, Option, None, Some, Bool, true, false, Ok, refl, sym, ap, subst, ◌∙◌, arith, get_or-set_same, add-one}
+use Rattle.std.proofs.Math.Seq.{take-suc}
+use Rattle.std.proofs.lemmas.List.{map-append, take-set, drop_all}
+use Rattle.xcap_io.specs.Connections.{Next, OnlyNext}
+use Rattle.xcap_io.specs.Histories.{Traffic, carried_by}
+use Rattle.xcap_io.specs.Memory.{MemoryLine, MemoryLines, MemoryPort, begun_anew, begin_next, BeginsLine, line_at, line_traffic, lines_begun, next_number, no_line, port_state, present_line}
+use Rattle.xcap_io.proofs.Exchanging.{comes_next}
+
+-- the traffic of all lines that have begun, of which the present one is the last
+carried_is : (lines : List MemoryLine) (present : Option ℕ) → next_number present ≤ length lines
+    → carried_by (lines_begun lines present).earlier (lines_begun lines present).is_present (line_traffic (present_line lines present)) ≡ map line_traffic (take (next_number present) lines)
+carried_is lines None within = refl
+carried_is lines (Some i) within =
+    let one_more : take (i + 1) lines ≡ take i lines ++ line_at lines i ∷ [] = ap (λ n. take n lines) (add-one i) ∙ take-suc lines i no_line (omega arith) in
+    sym (ap (map line_traffic) one_more ∙ map-append line_traffic (take i lines) (line_at lines i ∷ []))
+
+-- a line that begins is a connection that begins
+line_begins : (old : MemoryPort) (until_fault : Option ℕ) → next_number old.lines.present < length old.lines.lines
+    → Next (port_state old) (port_state (record old { lines = begin_next old.lines; until_fault = until_fault }))
+line_begins old until_fault within =
+    let at : ℕ = next_number old.lines.present in
+    let line : MemoryLine = begun_anew (line_at old.lines.lines at) in
+    record {
+      comes = comes_next old.lines.lines at line within refl;
+      begins = ap (λ (l : List Traffic). record { earlier = l; is_present = true })
+          (ap (map line_traffic) (take-set old.lines.lines at line) ∙ sym (carried_is old.lines.lines old.lines.present (omega arith)));
+      nothing_passed = ap line_traffic (get_or-set_same old.lines.lines at line no_line within);
+      same_listening = refl;
+      same_faults = refl;
+      same_read_faults = refl;
+      same_write_faults = refl;
+      same_holds = refl;
+      same_aside = refl;
+      same_peer = refl;
+    }
+
+-- what `next` answers where it doesn't fail
+pub next_of : (E : Type 0) (old new : MemoryPort) (begins : Bool) → BeginsLine old.lines new.lines begins → new.listening ≡ old.listening → new.faults ≡ old.faults
+    → OnlyNext {E = E} (port_state old) (port_state new) (Ok begins)
+next_of E old new true b listening faults =
+    let is : record old { lines = begin_next old.lines; until_fault = new.until_fault; listen_fails = new.listen_fails } ≡ new =
+    λ i. record { lines = sym b.1 i; listen_fails = new.listen_fails; until_fault = new.until_fault; listening = sym listening i; faults = sym faults i } in
+    subst (λ (m : MemoryPort). Next (port_state old) (port_state m)) is (line_begins (record old { listen_fails = new.listen_fails }) new.until_fault b.0)
+next_of E old new false b listening faults =
+    let is : record old { lines = new.lines; until_fault = new.until_fault; listen_fails = new.listen_fails } ≡ new =
+    λ i. record { lines = new.lines; listen_fails = new.listen_fails; until_fault = new.until_fault; listening = sym listening i; faults = sym faults i } in (
+      sym (ap port_state is) ∙ ap (λ (l : MemoryLines). port_state (record old { lines = l })) b.1,
+      ap (map (λ (m : MemoryLine). m.left)) (drop_all (next_number old.lines.present) old.lines.lines (omega (arith, b.0))),
+    )

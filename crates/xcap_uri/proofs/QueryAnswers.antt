@@ -1,0 +1,102 @@
+-- Reading a query finds bindings, or tells `BadQuery`.
+use Rattle.std.proofs.Common.{◌≡◌, ℕ, zero, suc, ◌+◌, ◌-◌, Bool, true, false, cond, List, [], ◌∷◌, ◌&&◌, ◌==◌, codes, length, Option, None, Some, Result, Ok, Err, refl, subst}
+use Rattle.grammar_rules.specs.Reading.{head_is, front_of, after_front}
+use Rattle.xml_tree.specs.Characters.{is_name_start, is_name_char, is_space}
+use Rattle.xml_tree.specs.declared.names.Decl.{Decl}
+use Rattle.tree_text.specs.declared.fault.ReadError.TheVariants.{Fault}
+use Rattle.xcap_uri.specs.Cuts.{after}
+use Rattle.xcap_uri.specs.Gives.{UriError, ◌>>=◌}
+use Rattle.xcap_uri.specs.Queries
+use Rattle.xcap_uri.specs.declared.fault.UriFault.TheVariants.{BadQuery}
+use Rattle.xcap_uri.proofs.Ordering.{Decides}
+
+-- if it is a fault, it is this one
+OnlyBad : {A : Type 0} → Result A UriError → Type 0
+OnlyBad (Ok value) = Unit {0}
+OnlyBad (Err e) = e ≡ Fault BadQuery
+
+bind_bad : {A B : Type 0} (r : Result A UriError) (f : A → Result B UriError) → OnlyBad r → ((x : A) → OnlyBad (f x)) → OnlyBad (r >>= f)
+unfolding OnlyBad
+bind_bad (Ok x) f p h = h x
+bind_bad (Err e) f p h = p
+
+if_bad : {A : Type 0} (b : Bool) (x y : Result A UriError) → OnlyBad x → OnlyBad y → OnlyBad (cond b x y)
+if_bad true x y p q = p
+if_bad false x y p q = q
+
+bad : (A : Type 0) → (let r : Result A UriError = Err (Fault BadQuery) in OnlyBad r)
+unfolding OnlyBad
+bad A = refl
+
+good : {A : Type 0} (x : A) → (let r : Result A UriError = Ok x in OnlyBad r)
+unfolding OnlyBad
+good x = tt
+
+with_char_bad : (c : ℕ) (read : Queries.Read (List ℕ)) → OnlyBad read → OnlyBad (Queries.with_char c read)
+with_char_bad c read p = bind_bad read (λ x. let r : Queries.Read (List ℕ) = Ok (c ∷ x.0, x.1) in r) p (λ x. good (c ∷ x.0, x.1))
+
+uri_chars_bad : (n : ℕ) (text : List ℕ) → OnlyBad (Queries.uri_chars n text)
+uri_chars_bad n [] = bad _
+uri_chars_bad n (c ∷ []) = if_bad (c == 41 && n == 0) _ _ (good _) (bad _)
+uri_chars_bad n (c ∷ d ∷ rest) =
+    if_bad (c == 94) _ _ (if_bad (Queries.is_bracket_or_caret d) _ _ (with_char_bad d _ (uri_chars_bad n rest)) (bad _))
+    (if_bad (c == 40) _ _ (with_char_bad c _ (uri_chars_bad (n + 1) (d ∷ rest)))
+    (if_bad (c == 41) _ _ (if_bad (n == 0) _ _ (good _) (with_char_bad c _ (uri_chars_bad (n - 1) (d ∷ rest))))
+    (with_char_bad c _ (uri_chars_bad n (d ∷ rest)))))
+
+some_uri_bad : (x : List ℕ × List ℕ) → OnlyBad (Queries.some_uri x)
+some_uri_bad ([], rest) = bad _
+some_uri_bad (c ∷ cs, rest) = good _
+
+uri_bad : (text : List ℕ) → OnlyBad (Queries.uri_read text)
+uri_bad text = bind_bad (Queries.uri_chars 0 text) Queries.some_uri (uri_chars_bad 0 text) some_uri_bad
+
+past_bad : (rest : Option (List ℕ)) → OnlyBad (Queries.past rest)
+past_bad None = bad _
+past_bad (Some rest) = good rest
+
+equals_bad : (text : List ℕ) → OnlyBad (Queries.equals_past text)
+equals_bad text = bind_bad (Queries.past (after (codes "=") (after_front is_space text))) (λ rest. Ok (after_front is_space rest)) (past_bad _) (λ rest. good _)
+
+prefix_bad : (text : List ℕ) → OnlyBad (Queries.prefix_read text)
+prefix_bad text = if_bad (head_is is_name_start text) _ _ (good _) (bad _)
+
+unreserved_bad : (x : List ℕ × List ℕ) → OnlyBad (Queries.unreserved x)
+unreserved_bad x = if_bad (Queries.is_reserved x.0) _ _ (bad _) (good x)
+
+free_prefix_bad : (text : List ℕ) → OnlyBad (Queries.free_prefix_read text)
+free_prefix_bad text = bind_bad (Queries.prefix_read text) Queries.unreserved (prefix_bad text) unreserved_bad
+
+item_of : (List ℕ × List ℕ) → (List ℕ × List ℕ) → Queries.Read Decl
+item_of p u = Ok (record { prefix = p.0; uri = u.0 }, u.1)
+
+item_bad : (text : List ℕ) → OnlyBad (Queries.item_read text)
+unfolding item_of
+item_bad text =
+    bind_bad (Queries.past (after (codes "xmlns(") text)) _ (past_bad _)
+    (λ inner. bind_bad (Queries.free_prefix_read inner) _ (free_prefix_bad inner)
+    (λ p. bind_bad (Queries.equals_past p.1 >>= Queries.uri_read) (item_of p) (bind_bad (Queries.equals_past p.1) Queries.uri_read (equals_bad p.1) uri_bad)
+    (λ u. good _)))
+
+items_bad : (n : ℕ) (text : List ℕ) → OnlyBad (Queries.items_read n text)
+items_bad n [] = good _
+items_bad zero (c ∷ text) = bad _
+items_bad (suc n) (c ∷ text) =
+    bind_bad (Queries.item_read (c ∷ text)) _ (item_bad (c ∷ text))
+    (λ x. bind_bad (Queries.items_read n (after_front Queries.is_blank x.1)) (λ items. Ok (x.0 ∷ items)) (items_bad n (after_front Queries.is_blank x.1)) (λ items. good _))
+
+optional_bad : (query : Option (List ℕ)) → OnlyBad (Queries.optional_bindings_read query)
+optional_bad None = good _
+optional_bad (Some text) = items_bad (length text) (after_front Queries.is_blank text)
+
+refused : (r : Result (List Decl) UriError) (e : UriError) → OnlyBad r → r ≡ Err e → e ≡ Fault BadQuery
+unfolding OnlyBad
+refused (Ok x) e p h = absurd cc
+refused (Err x) e p h = subst (λ (z : UriError). z ≡ Fault BadQuery) (let i : x ≡ e = cc in i) p
+
+pub query_decided : (query : Option (List ℕ)) → Decides (Queries.IsQuery query) BadQuery (Queries.optional_bindings_read query)
+query_decided query = record {
+  sound = λ bindings h. h;
+  complete = λ bindings h. h;
+  refused = λ e h. refused (Queries.optional_bindings_read query) e (optional_bad query) h;
+}

@@ -1,0 +1,9 @@
+use Rattle.xcap_uri.proofs.TargetAnswers.{part_ok, part_err}
+use Rattle.xcap_uri.proofs.target.part.Goals as goal
+
+pub returns-in-Ok : goal.returns-in-Ok
+returns-in-Ok c = part_ok c.args.bindings.now c.args.auid c.args.text.now c.namespace.result.now c.as_str.result.now c.in-Ok.selector c.namespace.ensures c.as_str.ensures.bytes c.in-Ok.ensures.answer_by_the_grammar
+
+pub returns-in-Err : goal.returns-in-Err
+returns-in-Err c =
+    part_err c.args.bindings.now c.args.auid c.args.text.now c.namespace.result.now c.as_str.result.now c.in-Err.error c.uri_error.result c.namespace.ensures c.as_str.ensures.bytes c.in-Err.ensures.answer_by_the_grammar c.uri_error.ensures

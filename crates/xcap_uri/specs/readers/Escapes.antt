@@ -1,0 +1,17 @@
+-- The texts that parts of addresses stand for, found from left to right.
+use Rattle.std.specs.Prelude.{ℕ, List, Option, None, Some, Result, Ok, Err, if◌then◌else◌}
+use Rattle.std.specs.Str.{chars}
+use Rattle.percent_encoding.specs.Percent.{percent_decode}
+use Rattle.tree_text.specs.declared.fault.ReadError.TheVariants.{Fault}
+use Rattle.xcap_uri.specs.Escapes.{stands_for_text}
+use Rattle.xcap_uri.specs.Gives.{UriError, ◌>>=◌}
+use Rattle.xcap_uri.specs.declared.fault.UriFault.TheVariants.{BadEscape}
+
+-- the text that a part of an address stands for
+abbrev pub text_read : List ℕ → Result (List ℕ) UriError
+text_read part = if stands_for_text part then Ok (chars (percent_decode part)) else Err (Fault BadEscape)
+
+-- the same of a part that may be absent
+abbrev pub optional_text_read : Option (List ℕ) → Result (Option (List ℕ)) UriError
+optional_text_read None = Ok None
+optional_text_read (Some part) = text_read part >>= λ text. Ok (Some text)

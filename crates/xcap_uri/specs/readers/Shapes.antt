@@ -1,0 +1,125 @@
+-- What the segments of an address name, found from left to right.
+use Rattle.std.specs.Prelude.{ℕ, Bool, true, false, List, [], ◌∷◌, Option, None, Some, option_map, Result, Ok, Err, if◌then◌else◌}
+use Rattle.std.specs.List.{list_any}
+use Rattle.std.specs.Str.{bytes_eq}
+use Rattle.tree_text.specs.declared.fault.ReadError.TheVariants.{Fault}
+use Rattle.xcap_uri.specs.Gives.{UriError}
+use Rattle.xcap_uri.specs.Shapes.{doc_of, tag_of}
+use Rattle.xcap_uri.specs.Words.{resource_lists, rls_services, xcap_caps, global, users, feed, flat, element, no_patching, xcap_patching, aggregate}
+use Rattle.doc_names.specs.declared.doc_id.Auid.{Auid}
+use Rattle.doc_names.specs.declared.doc_id.Auid.TheVariants.{ResourceLists, RlsServices, XcapCaps}
+use Rattle.doc_names.specs.declared.doc_id.Home.{Home}
+use Rattle.doc_names.specs.declared.doc_id.Home.TheVariants.{Global, User}
+use Rattle.doc_names.specs.declared.doc_id.DocId.{DocId}
+use Rattle.xcap_uri.specs.declared.fault.UriFault.TheVariants.{BadShape, UnknownAuid}
+use Rattle.xcap_uri.specs.declared.target.Mode.{Mode}
+use Rattle.xcap_uri.specs.declared.target.Mode.TheVariants.{NoPatching, XcapPatching, Aggregate}
+use Rattle.xcap_uri.specs.declared.shape.Shape.{Shape}
+use Rattle.xcap_uri.specs.declared.shape.Shape.TheVariants.{Whole, Part, Below, Changes, PartChanges, FlatList}
+
+-- ---- the words
+
+-- the usage of this name
+abbrev pub auid_of : List ℕ → Option Auid
+auid_of name =
+    if bytes_eq name resource_lists then Some ResourceLists
+    else if bytes_eq name rls_services then Some RlsServices
+    else if bytes_eq name xcap_caps then Some XcapCaps
+    else None
+
+-- the usage of this name, where its documents are stored
+abbrev pub stored_auid_of : List ℕ → Option Auid
+stored_auid_of name =
+    if bytes_eq name resource_lists then Some ResourceLists
+    else if bytes_eq name rls_services then Some RlsServices
+    else None
+
+-- the mode of this name
+abbrev pub mode_of : List ℕ → Option Mode
+mode_of name =
+    if bytes_eq name no_patching then Some NoPatching
+    else if bytes_eq name xcap_patching then Some XcapPatching
+    else if bytes_eq name aggregate then Some Aggregate
+    else None
+
+-- ---- documents
+
+-- a document, or with a selector a part of it; an empty selector is none
+abbrev pub document : DocId → Option (List ℕ) → Result Shape UriError
+document doc None = Ok (Whole doc)
+document doc (Some []) = Err (Fault BadShape)
+document doc (Some (c ∷ cs)) = Ok (Part doc (c ∷ cs))
+
+-- in a home: a name, or more, which lies below a document; then the selector isn't looked at
+abbrev pub in_home : Auid → Home → List (List ℕ) → Option (List ℕ) → Result Shape UriError
+in_home auid home [] selector = Err (Fault BadShape)
+in_home auid home (name ∷ []) selector = document (doc_of auid home name) selector
+in_home auid home (name ∷ next ∷ more) selector = Ok (Below auid home)
+
+-- behind `users`: a user
+abbrev pub of_user : Auid → List (List ℕ) → Option (List ℕ) → Result Shape UriError
+of_user auid [] selector = Err (Fault BadShape)
+of_user auid (xui ∷ rest) selector = in_home auid (User xui) rest selector
+
+-- behind a usage: `global` or `users`
+abbrev pub in_usage : Auid → List (List ℕ) → Option (List ℕ) → Result Shape UriError
+in_usage auid [] selector = Err (Fault BadShape)
+in_usage auid (tree ∷ rest) selector =
+    if bytes_eq tree global then in_home auid Global rest selector
+    else if bytes_eq tree users then of_user auid rest selector
+    else Err (Fault BadShape)
+
+-- ---- notices and flat lists
+
+-- the document of a stored usage and a user
+abbrev pub stored_doc : List ℕ → List ℕ → List ℕ → List ℕ → Option DocId
+stored_doc auid tree xui name = if bytes_eq tree users then option_map (λ a. doc_of a (User xui) name) (stored_auid_of auid) else None
+
+-- the notice about an element has a selector, which isn't empty
+abbrev pub part_changes : ℕ → DocId → Option (List ℕ) → Result Shape UriError
+part_changes tag doc None = Err (Fault BadShape)
+part_changes tag doc (Some []) = Err (Fault BadShape)
+part_changes tag doc (Some (c ∷ cs)) = Ok (PartChanges tag doc (c ∷ cs))
+
+-- the notice about a document has a mode, and no selector
+abbrev pub changes : Option Mode → ℕ → DocId → Option (List ℕ) → Result Shape UriError
+changes None tag doc selector = Err (Fault BadShape)
+changes (Some mode) tag doc None = Ok (Changes mode tag doc)
+changes (Some mode) tag doc (Some text) = Err (Fault BadShape)
+
+abbrev pub changes_or_part : List ℕ → Option ℕ → Option DocId → Option (List ℕ) → Result Shape UriError
+changes_or_part mode None doc selector = Err (Fault BadShape)
+changes_or_part mode (Some tag) None selector = Err (Fault BadShape)
+changes_or_part mode (Some tag) (Some doc) selector =
+    if bytes_eq mode element then part_changes tag doc selector else changes (mode_of mode) tag doc selector
+
+-- behind `~feed`: a mode or `element`, a tag, a stored usage, `users`, a user and a name
+abbrev pub feed_shape : List (List ℕ) → Option (List ℕ) → Result Shape UriError
+feed_shape (mode ∷ tag ∷ auid ∷ tree ∷ xui ∷ name ∷ []) selector = changes_or_part mode (tag_of tag) (stored_doc auid tree xui name) selector
+feed_shape _ selector = Err (Fault BadShape)
+
+-- behind `~flat`: a user, a name and the address of a service, without separator
+abbrev pub flat_shape : List (List ℕ) → Option (List ℕ) → Result Shape UriError
+flat_shape (xui ∷ name ∷ service ∷ []) None = Ok (FlatList (doc_of RlsServices (User xui) name) service)
+flat_shape _ selector = Err (Fault BadShape)
+
+-- ---- all shapes
+
+abbrev pub of_usage : Option Auid → List (List ℕ) → Option (List ℕ) → Result Shape UriError
+of_usage None rest selector = Err (Fault UnknownAuid)
+of_usage (Some auid) rest selector = in_usage auid rest selector
+
+abbrev pub named : List (List ℕ) → Option (List ℕ) → Result Shape UriError
+named [] selector = Err (Fault UnknownAuid)
+named (first ∷ rest) selector =
+    if bytes_eq first feed then feed_shape rest selector
+    else if bytes_eq first flat then flat_shape rest selector
+    else of_usage (auid_of first) rest selector
+
+abbrev pub is_empty : List ℕ → Bool
+is_empty [] = true
+is_empty (c ∷ cs) = false
+
+-- what the segments name, none of which is empty
+abbrev pub shape_of : List (List ℕ) → Option (List ℕ) → Result Shape UriError
+shape_of segments selector = if list_any is_empty segments then Err (Fault BadShape) else named segments selector

@@ -1,0 +1,89 @@
+-- Targets, read from left to right.
+use Rattle.std.specs.Prelude.{ℕ, List, [], ◌∷◌, encode_utf8_all, Option, None, Some, Result, Ok, Err, if◌then◌else◌}
+use Rattle.std.specs.Str.{bytes_eq, chars}
+use Rattle.xml_tree.specs.declared.names.Decl.{Decl}
+use Rattle.node_select.specs.readers.Whole.{selector_read}
+use Rattle.node_select.specs.declared.fault.SelectorFault.{SelectorFault}
+use Rattle.node_select.specs.declared.selector.Selector.{Selector}
+use Rattle.node_select.specs.declared.selector.End.{End}
+use Rattle.node_select.specs.declared.selector.End.TheVariants as ends
+use Rattle.tree_text.specs.declared.fault.ReadError.{ReadError}
+use Rattle.tree_text.specs.declared.fault.ReadError.TheVariants.{Fault, NoMemory}
+use Rattle.doc_names.specs.Ids.{separator}
+use Rattle.doc_names.specs.Usages.{namespace_of}
+use Rattle.doc_names.specs.declared.doc_id.Auid.{Auid}
+use Rattle.xcap_uri.specs.Cuts.{before, behind, pieces, joined}
+use Rattle.xcap_uri.specs.Gives.{UriError, ◌>>=◌}
+use Rattle.xcap_uri.specs.Queries.{optional_bindings_read}
+use Rattle.xcap_uri.specs.Roots.{slash}
+use Rattle.xcap_uri.specs.Targets.{question, under_root, fault_of, raw_text}
+use Rattle.xcap_uri.specs.readers.Escapes.{text_read, optional_text_read}
+use Rattle.xcap_uri.specs.readers.Shapes.{shape_of}
+use Rattle.xcap_uri.specs.declared.fault.UriFault.TheVariants.{OutsideRoot, BadSelector}
+use Rattle.xcap_uri.specs.declared.shape.Shape.{Shape}
+use Rattle.xcap_uri.specs.declared.shape.Shape.TheVariants.{Whole, Part, Below, Changes, PartChanges, FlatList}
+use Rattle.xcap_uri.specs.declared.target.Target.{Target}
+use Rattle.xcap_uri.specs.declared.target.Target.TheVariants.{Document, Node, Deep, Feed, ElementFeed, Flat}
+
+-- the segments before the first one that stands for the separator, each decoded; and where there is that one, what stands behind it
+abbrev pub segments_read : List (List ℕ) → Result (List (List ℕ) × Option (List ℕ)) UriError
+segments_read [] = Ok ([], None)
+segments_read (segment ∷ segments) =
+    text_read segment >>= λ text.
+    if bytes_eq text separator
+    then Ok ([], Some (joined slash segments))
+    else (segments_read segments >>= λ x. Ok (text ∷ x.0, x.1))
+
+-- a raw path cut into its segments
+abbrev pub path_read : List ℕ → Result (List (List ℕ) × Option (List ℕ)) UriError
+path_read path = segments_read (pieces slash path)
+
+-- ---- the selector
+
+abbrev pub error_of : ReadError SelectorFault → UriError
+error_of (Fault fault) = Fault (fault_of fault)
+error_of NoMemory = NoMemory
+
+abbrev pub as_target_part : Result Selector SelectorFault → Result Selector UriError
+as_target_part (Ok selector) = Ok selector
+as_target_part (Err fault) = Err (Fault (fault_of fault))
+
+-- the selector of a part of a document
+abbrev pub part_read : List Decl → Auid → List ℕ → Result Selector UriError
+part_read bindings auid text = as_target_part (selector_read bindings (chars (namespace_of auid)) (encode_utf8_all text))
+
+-- a notice is about an element, and about nothing else
+abbrev pub ends_in_element : End → Selector → Result Selector UriError
+ends_in_element ends.Element selector = Ok selector
+ends_in_element (ends.Attribute uri local) selector = Err (Fault BadSelector)
+ends_in_element ends.Namespaces selector = Err (Fault BadSelector)
+
+abbrev pub about_element : Selector → Result Selector UriError
+about_element selector = ends_in_element selector.end selector
+
+-- the target of a shape
+abbrev pub target_of : Shape → List Decl → List ℕ → Result Target UriError
+target_of (Whole doc) bindings raw = Ok (Document doc)
+target_of (Part doc text) bindings raw = part_read bindings doc.auid text >>= λ selector. Ok (Node doc selector)
+target_of (Below auid home) bindings raw = Ok (Deep auid home)
+target_of (Changes mode tag doc) bindings raw = Ok (Feed mode tag doc)
+target_of (PartChanges tag doc text) bindings raw = part_read bindings doc.auid text >>= about_element >>= λ selector. Ok (ElementFeed tag doc selector raw)
+target_of (FlatList doc service) bindings raw = Ok (Flat doc service)
+
+-- escapes, then the shape, then the query, then the selector
+abbrev pub rest_read : List ℕ → Result Target UriError
+rest_read rest =
+    path_read (before question rest) >>= λ path.
+    optional_text_read path.1 >>= λ selector.
+    optional_text_read (behind question rest) >>= λ query.
+    shape_of path.0 selector >>= λ shape.
+    optional_bindings_read query >>= λ bindings.
+    target_of shape bindings (raw_text path.1 (behind question rest))
+
+abbrev pub under_read : Option (List ℕ) → Result Target UriError
+under_read None = Err (Fault OutsideRoot)
+under_read (Some rest) = rest_read rest
+
+-- what a target means under a root, or its first fault
+abbrev pub target_read : List ℕ → List ℕ → Result Target UriError
+target_read root target = under_read (under_root root target)
