@@ -1,4 +1,4 @@
--- What the code finds at an address. RFC 4825, section 6; RFC 4826, section 4.4.7.
+-- What the code finds at an address. RFC 4825, section 6; RFC 4826, sections 4.4.7 and 4.4.8.
 use Rattle.std.specs.Prelude.{◌<◌, ◌≤◌}
 use Rattle.xml_tree.specs.Tree.{Tree, height}
 use Rattle.usage_docs.specs.Services.{document_len, index_limit}

@@ -1,4 +1,4 @@
-//! What an address leads to (RFC 4825, section 6; RFC 4826, section 4.4.7).
+//! What an address leads to (RFC 4825, section 6; RFC 4826, sections 4.4.7 and 4.4.8).
 ghost use Rattle.std.specs.Prelude.{◌≡◌, ◌-◌, true, IfOk};
 ghost use Rattle.std.specs.Str.{bytes_eq};
 ghost use Rattle.usage_docs.specs.Services.{index_of_documents};

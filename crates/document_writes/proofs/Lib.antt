@@ -1,6 +1,10 @@
 pub mod Coming
 pub mod Conditions
+pub mod Decided
 pub mod Doing
 pub mod Fields
 pub mod Held
+pub mod Planning
 pub mod Putting
+pub mod Spelled
+pub mod Spotted

@@ -1,28 +1,22 @@
 -- A tree that is put is a change that may be asked for, and its answer is that of a document that is new or of one that is held.
-use Rattle.std.proofs.Common.{◌≡◌, ◌≢◌, ℕ, Bool, cond, is_some, Option, Some, sym, ap, subst, ◌∙◌}
+use Rattle.std.proofs.Common.{◌≡◌, ℕ, Bool, is_some, Option, Some, Result, IfOk, sym, ap, subst, ◌∙◌}
 use Rattle.edit_ops.specs.declared.change.Change.{Change}
 use Rattle.doc_names.specs.Ids.{IsReadable}
 use Rattle.doc_names.specs.Usages.{usage_of}
 use Rattle.doc_names.specs.declared.doc_id.DocId.{DocId}
 use Rattle.doc_names.specs.declared.usages.Usage.{Usage}
-use Rattle.reply_text.specs.Heads.{Sent}
 use Rattle.xml_tree.specs.Tree.{Tree}
 use Rattle.store_core.specs.Asking.{Asks, MayBe, MayBeFor}
 use Rattle.store_core.specs.Held.{Content}
 use Rattle.store_core.specs.Keeping.{IsUsers}
-use Rattle.store_core.specs.Preparing.{Readied}
 use Rattle.store_core.specs.Storing.{Stored}
-use Rattle.store_core.specs.declared.refusal.StoreRefusal.{StoreRefusal}
-use Rattle.store_core.specs.declared.refusal.StoreRefusal.TheVariants.{NoMemory}
-use Rattle.machine_words.specs.Answers.{tagged}
 use Rattle.machine_words.specs.Resources.{version_of}
-use Rattle.machine_words.specs.Writing.{put_answer, put_change, put_reply, refused, tag_of}
+use Rattle.machine_words.specs.Writing.{change_answer, put_answer, put_change, put_reply, tag_of}
 use Rattle.machine_words.proofs.Asked.{asks_to_put}
 use Rattle.document_writes.specs.Deciding.{Decides}
-use Rattle.document_writes.specs.Making.{IsPrepared, IsRefused}
-use Rattle.document_writes.specs.declared.decision.Decision.TheVariants.{Stays, Changes}
+use Rattle.document_writes.specs.declared.decision.Decision.{Decision}
 use Rattle.document_writes.proofs.Conditions.{tagged_where_held}
-use Rattle.document_writes.proofs.Doing.{makes, refuses}
+use Rattle.document_writes.proofs.Doing.{all_so}
 
 module _ (c : Content) (id : DocId) (t : Tree) (closes : Bool) (tag : Option ℕ) (exists : Bool) (tag_is : tag ≡ tag_of (version_of c id)) (known : exists ≡ is_some tag) where
   abbrev there : Bool
@@ -39,13 +33,9 @@ module _ (c : Content) (id : DocId) (t : Tree) (closes : Bool) (tag : Option ℕ
     asks_put readable users usage of_usage may =
         subst (λ (x : Change). Asks c id x) (sym is_put) (asks_to_put c id t readable users (subst (λ (u : Option Usage). MayBeFor u t) (sym of_usage) may))
 
-    pub decides_put : (s : Stored) (reply : Sent) (name : DocId) (p : Readied) (number : ℕ) → IsPrepared c id change s name p → number ≡ p.note.next → reply ≡ tagged (cond exists 200 201) number closes
-        → Decides (λ a. a ≡ put_answer c id closes t) s (Changes reply name p)
-    decides_put s reply name p number m numbered replied =
-        makes c id (put_change there t) closes (put_reply there closes) s reply name p (subst (λ (x : Change). IsPrepared c id x s name p) is_put m)
-        (replied ∙ ap (λ (b : Bool). tagged (cond b 200 201) number closes) is_there ∙ ap (λ (n : ℕ). tagged (cond there 200 201) n closes) numbered)
-
-    pub decides_refusal : (s : Stored) (reply : Sent) (refusal : StoreRefusal) → IsRefused c id change refusal → (reply ≡ refused refusal closes) × (refusal ≢ NoMemory)
-        → Decides (λ a. a ≡ put_answer c id closes t) s (Stays reply)
-    decides_refusal s reply refusal u told =
-        refuses c id (put_change there t) closes (put_reply there closes) s reply refusal (subst (λ (x : Change). IsRefused c id x refusal) is_put u) told
+    -- a change that is answered so is the answer to what was put
+    pub put_so : {E : Type 0} (s : Stored) (r : Result Decision E) → IfOk r (λ d. Decides (λ a. a ≡ change_answer c id change closes (put_reply exists closes)) s d) → IfOk r (λ d. Decides (λ a. a ≡ put_answer c id closes t) s d)
+    put_so s r decides =
+        let same : change_answer c id change closes (put_reply exists closes) ≡ put_answer c id closes t =
+        ap (λ (x : Change). change_answer c id x closes (put_reply exists closes)) is_put ∙ ap (λ (b : Bool). change_answer c id (put_change there t) closes (put_reply b closes)) is_there in
+        all_so (λ a. a ≡ change_answer c id change closes (put_reply exists closes)) s (λ a. a ≡ put_answer c id closes t) (λ a is_so. is_so ∙ same) r decides

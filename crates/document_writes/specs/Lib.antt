@@ -1,3 +1,4 @@
 pub mod Bodies
 pub mod Deciding
 pub mod Making
+pub mod Planning

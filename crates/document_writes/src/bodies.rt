@@ -19,8 +19,8 @@ use tree_text::{ReadError, TextFault, read_document};
 use usage_docs::judge;
 use xml_tree::Element;
 
-// How many levels a document has at most.
-const DEPTH: usize = 64;
+/// How many levels a document has at most.
+pub(crate) const DEPTH: usize = 64;
 
 /// What comes of the body of a PUT.
 #[derive(Drop)]
@@ -31,8 +31,8 @@ pub(crate) enum Body {
     Document(Element),
 }
 
-// What a text that can't be read conflicts with, where it is malformed unless it isn't UTF-8.
-fn text_conflict(malformed: ErrorBody, fault: TextFault) -> ErrorBody
+/// What a text that can't be read conflicts with, where it is malformed unless it isn't UTF-8.
+pub(crate) fn text_conflict(malformed: ErrorBody, fault: TextFault) -> ErrorBody
     ensures tells_the_fault { result ≡ text_conflict malformed fault }
 {
     match fault {

@@ -1,18 +1,17 @@
 //! Documents that are put and removed (RFC 4825, sections 8.2 and 8.4).
-ghost use Rattle.std.specs.Prelude.{◌≡◌, false, IfOk, Some, if◌then◌else◌};
+ghost use Rattle.std.specs.Prelude.{◌≡◌, false, IfOk, Some};
 ghost use Rattle.doc_names.specs.Ids.{IsReadable};
 ghost use Rattle.doc_names.specs.Usages.{usage_of};
 ghost use Rattle.edit_ops.specs.declared.change.Change.TheVariants as changes;
 ghost use Rattle.store_core.specs.Asking.{Asks, MayBe};
 ghost use Rattle.store_core.specs.Keeping.{IsUsers};
 ghost use Rattle.request_terms.specs.MediaTypes.{document_media};
-ghost use Rattle.machine_words.specs.Answers.{tagged};
 ghost use Rattle.machine_words.specs.Resources.{version_of};
 ghost use Rattle.machine_words.specs.Writing.{DeletesDocument, PutsBody, PutsDocument, change_answer, deleted_reply, put_answer, put_change, tag_of};
 ghost use Rattle.document_writes.specs.Deciding.{Decides};
 
 use crate::bodies::{Body, body_of};
-use crate::making::prepare;
+use crate::making::{prepare, write};
 use crate::refusals::refused;
 use crate::{Decision, NoMemory};
 use doc_names::{DocId, Usage};
@@ -22,7 +21,6 @@ use reply_text::Reply;
 use request_terms::{document_media, stop};
 use std::alloc::Global;
 use store_core::Store;
-use xcap_io::Bytes;
 use xml_tree::{Element, Path};
 
 // The tag of a document, if it is held.
@@ -48,16 +46,6 @@ fn put_change(exists: bool, root: Element) -> Change
     Change::CreateDocument { root }
 }
 
-// The reply to what was put.
-fn put_reply(alloc: Global, exists: bool, tag: u64, closes: bool) -> Reply
-    ensures tells_the_tag { result ≡ tagged (if exists then 200 else 201) tag closes }
-{
-    if exists {
-        return Reply::with(200, Some(tag), None, Bytes::new(alloc), closes);
-    }
-    Reply::with(201, Some(tag), None, Bytes::new(alloc), closes)
-}
-
 // Puts a tree that may be a document.
 fn put_tree(
     alloc: Global,
@@ -75,17 +63,7 @@ fn put_tree(
     ensures holds_the_same { store.new.content ≡ store.old.content }
 {
     let exists = tag_of(store, doc).is_some();
-    match prepare(alloc, store, doc, put_change(exists, root)) {
-        Ok((name, prepared)) => Ok(Decision::Changes {
-            reply: put_reply(alloc, exists, prepared.note().next, closes),
-            doc: name,
-            prepared,
-        }),
-        Err(refusal) => {
-            let reply = refused(alloc, refusal, closes)?;
-            Ok(Decision::Stays(reply))
-        }
-    }
+    write(alloc, store, doc, put_change(exists, root), exists, closes)
 }
 
 // Puts a document, where no condition is against it.

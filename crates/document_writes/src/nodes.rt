@@ -1,20 +1,27 @@
-//! PUT and DELETE of nodes (RFC 4825, sections 8.2 and 8.4). What is missing and what the conditions say is answered; no node is written yet.
-ghost use Rattle.std.specs.Prelude.{◌≡◌, IfOk, IfSome, Some, option_map};
+//! PUT and DELETE of nodes (RFC 4825, sections 8.2 and 8.4).
+ghost use Rattle.std.specs.Prelude.{◌≡◌, IfOk, IfSome, Some, option_map, true};
 ghost use Rattle.doc_names.specs.Usages.{usage_of};
 ghost use Rattle.doc_names.specs.declared.doc_id.DocId.{DocId as TheDocId};
-ghost use Rattle.store_core.specs.Held.{Content};
+ghost use Rattle.node_select.specs.declared.selector.End.TheVariants as ends;
+ghost use Rattle.plan_words.specs.Spots.{IsSpotOf};
 ghost use Rattle.store_core.specs.Keeping.{IsSound};
-ghost use Rattle.machine_words.specs.Answers.{unchanged};
+ghost use Rattle.machine_words.specs.Answers.{Behind, unchanged};
+ghost use Rattle.machine_words.specs.Fragments.{CutsNode, DeletesNode, DeletesNodeOf, PutsFragment, PutsNode, PutsNodeOf, MayBeWritten, is_there};
 ghost use Rattle.machine_words.specs.Resources.{version_of};
-ghost use Rattle.machine_words.specs.Writing.{DeletesNode, DeletesNodeOf, PutsNode, PutsNodeOf, puts_deeper};
+ghost use Rattle.machine_words.specs.Writing.{puts_deeper, write_stop};
 ghost use Rattle.document_writes.specs.Deciding.{Decides};
+ghost use Rattle.document_writes.specs.Planning.{IsPlanFor};
 
 use crate::conflicts::no_parent;
+use crate::fragments::put_fragment;
+use crate::making::make;
+use crate::plan::{Plan, plan_of};
 use crate::{Decision, NoMemory};
 use doc_names::{Auid, DocId, Home, Usage};
+use edit_plans::{Spot, plan_delete, put_spot};
 use http_wire::Request;
 use node_select::Selector;
-use node_texts::{has_place, is_found};
+use node_texts::{has_node_at, is_found};
 use reply_text::Reply;
 use request_terms::stop;
 use std::alloc::Global;
@@ -34,8 +41,44 @@ fn version_of<'a>(store: &'a Store, doc: &DocId, usage: Usage) -> Option<(&'a El
 
 // ---- PUT
 
-// The reply to a PUT of a node of a document that is held with this tree and this tag.
-fn put_node_of(
+// Whether the node at a spot is there before.
+fn is_there(alloc: Global, tree: &Element, selector: &Selector, spot: &Spot) -> bool
+    requires spot { IsSpotOf tree.now selector.now spot.now }
+    ensures there_before { result ≡ is_there tree.now selector.now }
+{
+    match spot {
+        Spot::Over(_) => true,
+        Spot::Under(_) => false,
+        Spot::Beside => false,
+        Spot::Value(path) => has_node_at(alloc, tree, path, &selector.end),
+    }
+}
+
+// The plan of a PUT of a node that has this spot in a document with this tree and this tag.
+fn plan_at(
+    alloc: Global,
+    usage: Usage,
+    tree: &Element,
+    tag: u64,
+    selector: &Selector,
+    spot: &Spot,
+    request: &Request,
+) -> Result<Plan, NoMemory>
+    requires sound { IsSound usage tree.now }
+    requires writable { MayBeWritten selector.now }
+    requires spot { IsSpotOf tree.now selector.now spot.now }
+    ensures plans_the_put { IfOk result (λ plan. (id : TheDocId) → IsPlanFor usage tree.now id request.now.closes
+        (λ c a. Behind (write_stop request.now (Some tag) (is_there tree.now selector.now)) a (PutsFragment c id usage selector.now tree.now spot.now request.now a)) plan) }
+{
+    let exists = is_there(alloc, tree, selector, spot);
+    match stop(alloc, request, Some(tag), exists, false)? {
+        Some(reply) => Ok(Plan::Stops(reply)),
+        None => put_fragment(alloc, usage, tree, selector, spot, exists, request),
+    }
+}
+
+// The plan of a PUT of a node of a document that is held with this tree and this tag.
+fn plan_put_in(
     alloc: Global,
     root: &Root,
     doc: &DocId,
@@ -43,25 +86,31 @@ fn put_node_of(
     held: (&Element, u64),
     selector: &Selector,
     request: &Request,
-) -> Result<Reply, NoMemory>
+) -> Result<Plan, NoMemory>
     requires sound { IsSound usage held.0.now }
-    ensures replies_to_the_put { IfOk result (λ reply. (c : Content) →
-        PutsNodeOf root.now c doc.now usage selector.now held.entry.0.now held.entry.1 request.now (unchanged reply)) }
+    requires node { selector.now.end ≡ ends.Namespaces → ⊥ }
+    requires writable { MayBeWritten selector.now }
+    ensures plans_the_put { IfOk result (λ plan. IsPlanFor usage held.entry.0.now doc.now request.now.closes
+        (λ c a. PutsNodeOf c doc.now usage selector.now held.entry.0.now root.now held.entry.1 request.now a) plan) }
 {
     let (tree, tag) = held;
-    if !has_place(alloc, tree, selector) {
-        let uri = ancestor_uri(alloc, root, doc, tree, selector)?;
-        return no_parent(alloc, uri, request.closes);
-    }
-    let exists = is_found(alloc, tree, selector);
-    match stop(alloc, request, Some(tag), exists, false)? {
-        Some(reply) => Ok(reply),
-        None => Ok(Reply::fixed(501, request.closes)),
+    match put_spot(alloc, tree, selector) {
+        Ok(spot) => plan_at(alloc, usage, tree, tag, selector, &spot, request),
+        Err(_) => {
+            let uri = ancestor_uri(alloc, root, doc, tree, selector)?;
+            let reply = no_parent(alloc, uri, request.closes)?;
+            Ok(Plan::Stops(reply))
+        }
     }
 }
 
-/// Decides a PUT of a node of a document of this usage: 409 `no-parent` where the document isn't held, with the home as ancestor, or where the
-/// node has no place, with the closest ancestor; 400 or 412 for the conditions; else 501, since nodes aren't written yet.
+/// Decides a PUT of a node, which isn't read only, of a document of this usage: 201 where the node
+/// is new and 200 where it takes the place of what was there, both with the document's new tag. What
+/// changes nothing is replied: 409 `no-parent` where the document isn't held, with the home as
+/// ancestor, or where the node has no parent, with the closest ancestor; 400 or 412 for the
+/// conditions; 415 for the media type; 409 where the body spells no such node, the address wouldn't
+/// select it afterwards, the document wouldn't be one of the usage, or a service address in it is
+/// another document's; 507 beyond a limit.
 ///
 /// # Errors
 /// `NoMemory` for want of memory.
@@ -75,13 +124,15 @@ pub fn put_node(
     request: &Request,
 ) -> Result<Decision, NoMemory>
     requires usage { usage_of doc.now.auid ≡ Some usage }
+    requires node { selector.now.end ≡ ends.Namespaces → ⊥ }
+    requires writable { MayBeWritten selector.now }
     ensures decides_the_put { IfOk result (λ d. Decides (PutsNode root.now store.old.content doc.now usage selector.now request.now) store.new d) }
     ensures holds_the_same { store.new.content ≡ store.old.content }
 {
     match version_of(store, doc, usage) {
         Some(held) => {
-            let reply = put_node_of(alloc, root, doc, usage, held, selector, request)?;
-            Ok(Decision::Stays(reply))
+            let plan = plan_put_in(alloc, root, doc, usage, held, selector, request)?;
+            make(alloc, store, doc, plan, request.closes)
         }
         None => {
             let reply = put_deeper(alloc, root, doc.auid, &doc.home, request)?;
@@ -110,30 +161,50 @@ pub fn put_deeper(
 
 // ---- DELETE
 
-// The reply to a DELETE of a node of a document that is held with this tree and this tag.
-fn delete_node_of(
+// The plan of a DELETE of a node that is there.
+fn plan_cut(
+    alloc: Global,
+    usage: Usage,
+    tree: &Element,
+    selector: &Selector,
+    request: &Request,
+) -> Result<Plan, NoMemory>
+    requires sound { IsSound usage tree.now }
+    requires node { selector.now.end ≡ ends.Namespaces → ⊥ }
+    ensures plans_the_removal { IfOk result (λ plan. (id : TheDocId) → IsPlanFor usage tree.now id request.now.closes
+        (λ c a. CutsNode c id usage selector.now tree.now request.now a) plan) }
+{
+    let planned = plan_delete(alloc, usage, tree, selector);
+    plan_of(alloc, planned, true, request.closes)
+}
+
+// The plan of a DELETE of a node of a document that is held with this tree and this tag.
+fn plan_delete_in(
     alloc: Global,
     usage: Usage,
     held: (&Element, u64),
     selector: &Selector,
     request: &Request,
-) -> Result<Reply, NoMemory>
+) -> Result<Plan, NoMemory>
     requires sound { IsSound usage held.0.now }
-    ensures replies_to_the_removal { IfOk result (λ reply. (c : Content) (id : TheDocId) →
-        DeletesNodeOf c id usage selector.now held.entry.0.now held.entry.1 request.now (unchanged reply)) }
+    requires node { selector.now.end ≡ ends.Namespaces → ⊥ }
+    ensures plans_the_removal { IfOk result (λ plan. (id : TheDocId) → IsPlanFor usage held.entry.0.now id request.now.closes
+        (λ c a. DeletesNodeOf c id usage selector.now held.entry.0.now held.entry.1 request.now a) plan) }
 {
     let (tree, tag) = held;
     if !is_found(alloc, tree, selector) {
-        return Ok(Reply::fixed(404, request.closes));
+        return Ok(Plan::Stops(Reply::fixed(404, request.closes)));
     }
     match stop(alloc, request, Some(tag), true, false)? {
-        Some(reply) => Ok(reply),
-        None => Ok(Reply::fixed(501, request.closes)),
+        Some(reply) => Ok(Plan::Stops(reply)),
+        None => plan_cut(alloc, usage, tree, selector, request),
     }
 }
 
-/// Decides a DELETE of a node of a document of this usage: 404 where the document isn't held or nothing is selected; 400 or 412 for the
-/// conditions; else 501, since nodes aren't written yet.
+/// Decides a DELETE of a node, which isn't read only, of a document of this usage: 200, with the
+/// document's new tag. What changes nothing is replied: 404 where the document isn't held or nothing
+/// is selected; 400 or 412 for the conditions; 409 where the address would still select something,
+/// or the document wouldn't be one of the usage; 507 where the greatest number has been given.
 ///
 /// # Errors
 /// `NoMemory` for want of memory.
@@ -146,13 +217,14 @@ pub fn delete_node(
     request: &Request,
 ) -> Result<Decision, NoMemory>
     requires usage { usage_of doc.now.auid ≡ Some usage }
+    requires node { selector.now.end ≡ ends.Namespaces → ⊥ }
     ensures decides_the_removal { IfOk result (λ d. Decides (DeletesNode store.old.content doc.now usage selector.now request.now) store.new d) }
     ensures holds_the_same { store.new.content ≡ store.old.content }
 {
     match version_of(store, doc, usage) {
         Some(held) => {
-            let reply = delete_node_of(alloc, usage, held, selector, request)?;
-            Ok(Decision::Stays(reply))
+            let plan = plan_delete_in(alloc, usage, held, selector, request)?;
+            make(alloc, store, doc, plan, request.closes)
         }
         None => Ok(Decision::Stays(Reply::fixed(404, request.closes))),
     }

@@ -1,18 +1,22 @@
-//! Replies to changes that the store refuses (RFC 4825, section 11; RFC 4918, section 11.5).
+//! Replies to changes that aren't made (RFC 4825, section 11; RFC 4918, section 11.5).
 ghost use Rattle.std.specs.Prelude.{◌≡◌, ◌≢◌, IfOk};
 ghost use Rattle.store_core.specs.declared.refusal.StoreRefusal.TheVariants as refusals;
 ghost use Rattle.machine_words.specs.Answers.{conflict};
+ghost use Rattle.machine_words.specs.Fragments.{plan_refused};
 ghost use Rattle.machine_words.specs.Writing.{clash_field, refused};
+ghost use Rattle.plan_words.specs.declared.refusal.EditRefusal.TheVariants as unplanned;
 ghost use Rattle.conflict_docs.specs.declared.conflicts.ErrorBody.TheVariants as conflicts;
 
 use crate::NoMemory;
 use crate::conflicts::{conflict, uniqueness};
+use conflict_docs::ErrorBody;
+use edit_plans::EditRefusal;
 use reply_text::Reply;
 use std::alloc::Global;
 use store_core::StoreRefusal;
 use usage_docs::Clash;
 
-// The reply to a service address that another document has.
+// The reply to a key that is there already: a sibling's, or a service address of another document.
 fn taken(alloc: Global, clash: Clash, closes: bool) -> Result<Reply, NoMemory>
     ensures tells_the_clash { IfOk result (λ reply. reply ≡ conflict (conflicts.Unique (clash_field clash)) closes) }
 {
@@ -31,5 +35,20 @@ pub(crate) fn refused(alloc: Global, refusal: StoreRefusal, closes: bool) -> Res
         StoreRefusal::StoreFull(_) => Ok(Reply::fixed(507, closes)),
         StoreRefusal::NoNumber => Ok(Reply::fixed(507, closes)),
         StoreRefusal::NoMemory => Err(NoMemory),
+    }
+}
+
+/// The reply to a change of a node for which there is no plan.
+pub(crate) fn unplanned(alloc: Global, why: EditRefusal, closes: bool) -> Result<Reply, NoMemory>
+    ensures tells_the_refusal { IfOk result (λ reply. (reply ≡ plan_refused why closes) × (why ≢ unplanned.NoMemory)) }
+{
+    match why {
+        EditRefusal::NotFound => Ok(Reply::fixed(404, closes)),
+        EditRefusal::CannotInsert => conflict(alloc, &ErrorBody::CannotInsert, closes),
+        EditRefusal::CannotDelete => conflict(alloc, &ErrorBody::CannotDelete, closes),
+        EditRefusal::Schema => conflict(alloc, &ErrorBody::Schema, closes),
+        EditRefusal::Constraint => conflict(alloc, &ErrorBody::Constraint, closes),
+        EditRefusal::Unique(clash) => taken(alloc, clash, closes),
+        EditRefusal::NoMemory => Err(NoMemory),
     }
 }

@@ -1,4 +1,4 @@
--- What a change makes of a document's tree. The places are those of RFC 4825, sections 8.2.3 and 8.2.5, as paths of numbers.
+-- What a change makes of a document's tree. The places are those of RFC 4825, sections 8.2.3, 8.2.4 and 8.4, as paths of numbers.
 use Rattle.std.specs.Prelude.{ℕ, ◌<◌, ◌≤◌, List, [], length, IsSome, IsSomeAnd}
 use Rattle.xml_tree.specs.Tree.{Tree, at, kids_of}
 use Rattle.xml_tree.specs.Edits.{put_in, put_over, cut_out, set_at, drop_at, attr_at, TextsMeetAt}

@@ -1,6 +1,6 @@
 //! Changes of a document's tree, made in place or as a new tree, and where each element stands after one.
 //! Promises upward that a change makes exactly the edited tree, and that every element beside it is found unchanged where it is said to be.
-//! The standard is RFC 4825, sections 8.2.3 to 8.2.6.
+//! The standard is RFC 4825, sections 8.2.3, 8.2.4 and 8.4.
 #![tactic(auto)]
 
 mod apply;
@@ -13,5 +13,5 @@ pub use apply::apply_change;
 pub use change::Change;
 pub use laws::elements_beside_a_change_stay;
 pub use moves::moved;
-pub use rebuilding::rebuilt;
+pub use rebuilding::{rebuilt, tag_of};
 pub use std::alloc::AllocError as NoMemory;

@@ -282,3 +282,14 @@ pub fn rebuilt(alloc: Global, root: &Element, change: &Change) -> Result<Element
 {
     rebuilt_below(alloc, root, site_of(change).numbers(), change)
 }
+
+/// An element with the tag of another, its name, declarations and attributes, and nothing in it.
+///
+/// # Errors
+/// `NoMemory` for want of memory.
+pub fn tag_of(alloc: Global, element: &Element) -> Result<Element, AllocError>
+    ensures tag_alone { IfOk result (λ tag. tag ≡ tree_of element.now.name element.now.decls element.now.attrs (last [])) }
+{
+    let opened = opened(alloc, element)?;
+    with_attrs(alloc, opened, element.attrs())
+}

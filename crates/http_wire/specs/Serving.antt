@@ -88,10 +88,6 @@ module _ {M E : Type 0} (Step : M → Request → List ℕ → M → Option E �
       × Serves ending machine passed mid first
       × ServesEach mid connections others next later
 
--- a step that ends in a state with the property
-abbrev pub Into : {M R E : Type 0} → (M → Type 0) → (M → Request → R → M → Option E → Type 0) → M → Request → R → M → Option E → Type 0
-Into Holds Step machine request reply next edit = Step machine request reply next edit × Holds next
-
 -- These are all bytes of a connection over which this passed: those given, and those left, of which there are none where a
 -- read found the end.
 abbrev pub HasBytes : List ℕ → Traffic → Type 0

@@ -3,3 +3,8 @@ pub mod Cases
 pub mod OneAnswer
 pub mod Steps
 pub mod Ways
+pub mod Named
+pub mod Accepted
+pub mod After
+pub mod Twice
+pub mod Effects

@@ -1,17 +1,20 @@
 -- A request has exactly one answer where this is held.
-use Rattle.std.proofs.Common.{◌≡◌, ℕ, Bool, true, false, not, List, [], is_some, Option, None, Some, Result, Ok, Err, refl, sym, subst, ◌∙◌}
+use Rattle.std.proofs.Common.{◌≡◌, ℕ, Bool, true, false, not, List, [], is_some, Option, None, Some, Result, Ok, Err, refl, sym, ap, subst, ◌∙◌}
 use Rattle.std.specs.Bool.{MatchBool}
 use Rattle.xml_tree.specs.Tree.{Tree}
-use Rattle.tree_text.specs.Faults.{TextAnswer}
-use Rattle.tree_text.specs.readers.Whole.{text_read}
-use Rattle.tree_text.proofs.ReadAnswers.{text_answer}
-use Rattle.tree_text.proofs.OneAnswer.{one_text as one_reading}
+use Rattle.tree_text.specs.Faults.{BodyAnswer, TextAnswer}
+use Rattle.tree_text.specs.readers.Whole.{body_read, text_read}
+use Rattle.tree_text.proofs.ReadAnswers.{body_answer, text_answer}
+use Rattle.tree_text.proofs.OneAnswer.{one_body as one_value_reading, one_text as one_reading}
 use Rattle.tree_text.specs.declared.fault.TextFault.{TextFault}
+use Rattle.tree_text.specs.declared.fault.ValueFault.{ValueFault}
 use Rattle.usage_docs.specs.Judging.{Judged}
 use Rattle.usage_docs.proofs.Judgements.{judged_one, judgement}
 use Rattle.doc_names.specs.Usages.{usage_of}
 use Rattle.doc_names.specs.declared.usages.Usage.{Usage}
 use Rattle.doc_names.specs.declared.doc_id.DocId.{DocId}
+use Rattle.node_select.specs.declared.selector.End.{End}
+use Rattle.node_select.specs.declared.selector.End.TheVariants as ends
 use Rattle.node_select.specs.declared.selector.Selector.{Selector}
 use Rattle.xcap_uri.specs.Ancestors.{ancestor_uri}
 use Rattle.xcap_uri.specs.Targets.{TargetAnswer}
@@ -19,7 +22,18 @@ use Rattle.xcap_uri.proofs.TargetAnswers.{one_target, some_target}
 use Rattle.xcap_uri.specs.declared.fault.UriFault.{UriFault}
 use Rattle.xcap_uri.specs.declared.target.Target.{Target}
 use Rattle.xcap_uri.specs.declared.target.Target.TheVariants.{Document, Node, Deep, Feed, ElementFeed, Flat}
+use Rattle.edit_ops.specs.declared.change.Change.{Change}
 use Rattle.edit_ops.specs.declared.change.Change.TheVariants.{RemoveDocument}
+use Rattle.plan_words.specs.Attributes.{IsAttrPlan}
+use Rattle.plan_words.specs.Deletions.{IsDeletePlan}
+use Rattle.plan_words.specs.Puts.{IsPutPlan}
+use Rattle.plan_words.specs.Spots.{IsSpot, IsSpotOf}
+use Rattle.plan_words.specs.declared.refusal.EditRefusal.{EditRefusal}
+use Rattle.plan_words.specs.declared.spot.NoParent.{NoParent}
+use Rattle.plan_words.specs.declared.spot.Spot.{Spot}
+use Rattle.plan_words.specs.declared.spot.Spot.TheVariants.{Over, Under, Beside, Value}
+use Rattle.plan_words.proofs.OneAnswer as plans
+use Rattle.plan_words.proofs.SomeAnswer.{some_attr, some_delete, some_put, some_spot}
 use Rattle.conflict_docs.specs.declared.conflicts.ErrorBody.TheVariants as conflicts
 use Rattle.reply_text.specs.Heads.{Sent, plain}
 use Rattle.reply_text.specs.declared.media_types.Media.{Media}
@@ -29,13 +43,13 @@ use Rattle.request_terms.specs.Methods.{method_of, is_reading}
 use Rattle.request_terms.specs.Rights.{is_allowed}
 use Rattle.request_terms.specs.declared.method.Method.{Method}
 use Rattle.request_terms.specs.declared.method.Method.TheVariants.{Get, Head, Put, Delete, Other}
-use Rattle.node_texts.specs.Nodes.{found_text}
-use Rattle.node_texts.specs.Places.{has_place}
+use Rattle.node_texts.specs.Nodes.{node_media}
 use Rattle.store_core.specs.Held.{Content}
 use Rattle.machine_words.specs.Answers.{Answer, Behind, conflict, not_allowed, unchanged}
-use Rattle.machine_words.specs.Requests.{ByMethod, ByTarget, ByUser, Deletes, IsAnswer, IsAnswered, Puts, auid_of, fault_status, home_of, is_read_only, reads, takes}
+use Rattle.machine_words.specs.Requests.{ByMethod, ByTarget, ByUser, Deletes, IsAnswer, IsAnswered, Puts, auid_of, fault_status, home_of, is_bindings, is_read_only, reads, takes}
 use Rattle.machine_words.specs.Resources.{version_of}
-use Rattle.machine_words.specs.Writing.{CutsNode, DeletesDocumentIn, DeletesNodeIn, IfStored, PutsBody, PutsDocument, PutsFragment, PutsNodeIn, PutsSpelled, PutsText, by_judgement, change_answer, deleted_reply, puts_deeper, put_answer, tag_of, text_conflict, write_stop}
+use Rattle.machine_words.specs.Fragments.{CutsNode, DeletesNodeIn, PutsAt, PutsElement, PutsElementText, PutsFragment, PutsFrom, PutsNodeIn, PutsNodeOf, PutsValue, PutsValueText, cut_reply, is_there, levels_for, plan_answer, put_planned, scope_for, value_conflict}
+use Rattle.machine_words.specs.Writing.{DeletesDocumentIn, IfStored, PutsBody, PutsDocument, PutsSpelled, PutsText, by_judgement, change_answer, deleted_reply, puts_deeper, put_answer, tag_of, text_conflict, write_stop}
 
 -- there is an answer of this kind, and each one of it is that
 record IsOne (Is : Answer → Type 0) : Type 0 where
@@ -89,13 +103,59 @@ module _ (c : Content) (id : DocId) (request : Request) where
 
   -- ---- PUT of nodes
 
+  module _ (usage : Usage) (selector : Selector) (t : Tree) where
+    one_element_text : (spot : Spot) → selector.end ≡ ends.Element → IsSpotOf t selector spot → (read : Result Tree TextFault) → IsOne (λ a. PutsElementText c id usage selector t spot read request a)
+    one_element_text spot ends_so is (Err fault) = one_equal (unchanged (conflict (text_conflict conflicts.NotXmlFrag fault) request.closes))
+    one_element_text spot ends_so is (Ok e) =
+        let plan = some_put usage t selector spot e ends_so is in
+        one_by (IsPutPlan usage t selector.steps spot e) (λ p a. a ≡ put_planned c id usage selector t request p) plan.0 plan.1
+        (λ p h. plans.one_put usage t selector.steps spot e p plan.0 h plan.1) (one_equal (put_planned c id usage selector t request plan.0))
+
+    one_element : (spot : Spot) → selector.end ≡ ends.Element → IsSpotOf t selector spot → IsOne (λ a. PutsElement c id usage selector t spot request a)
+    one_element spot ends_so is =
+        let levels = levels_for spot in
+        let scope = scope_for t spot in
+        let read = text_read levels scope request.body in
+        let spelled = text_answer levels scope request.body in
+        one_by (TextAnswer levels scope request.body) (λ r a. PutsElementText c id usage selector t spot r request a) read spelled
+        (λ r h. one_reading levels scope request.body r read h spelled) (one_element_text spot ends_so is read)
+
+    one_value_text : (p : List ℕ) → IsSpotOf t selector (Value p) → (read : Result (List ℕ) ValueFault) → IsOne (λ a. PutsValueText c id usage selector t p read request a)
+    one_value_text p is (Err fault) = one_equal (unchanged (conflict (value_conflict fault) request.closes))
+    one_value_text p is (Ok value) =
+        let plan = some_attr usage t selector p value is in
+        one_by (IsAttrPlan usage t selector.steps selector.end p value) (λ x a. a ≡ put_planned c id usage selector t request x) plan.0 plan.1
+        (λ x h. plans.one_attr usage t selector.steps selector.end p value x plan.0 h plan.1) (one_equal (put_planned c id usage selector t request plan.0))
+
+    one_value : (p : List ℕ) → IsSpotOf t selector (Value p) → IsOne (λ a. PutsValue c id usage selector t p request a)
+    one_value p is =
+        let read = body_read request.body in
+        let spelled = body_answer request.body in
+        one_by (BodyAnswer request.body) (λ r a. PutsValueText c id usage selector t p r request a) read spelled (λ r h. one_value_reading request.body r read h spelled) (one_value_text p is read)
+
+    one_at : (spot : Spot) → IsSpotOf t selector spot → IsOne (λ a. PutsAt c id usage selector t spot request a)
+    one_at (Over p) is = one_element (Over p) is.0 is
+    one_at (Under q) is = one_element (Under q) is.0 is
+    one_at Beside is = one_element Beside is.0 is
+    one_at (Value p) is = one_value p is
+
+    one_fragment : (spot : Spot) → IsSpotOf t selector spot → IsOne (λ a. PutsFragment c id usage selector t spot request a)
+    one_fragment spot is =
+        one_either (has_type (node_media selector.end) request.fields) (λ a. PutsAt c id usage selector t spot request a) (λ a. a ≡ unchanged (plain 415 request.closes))
+        (λ _. one_at spot is) (λ _. one_equal (unchanged (plain 415 request.closes)))
+
+    one_from : (root : List ℕ) (tag : ℕ) (spot : Result Spot NoParent) → IsSpot t selector spot → IsOne (λ a. PutsFrom c id usage selector t root tag spot request a)
+    one_from root tag (Err none) is = one_equal (unchanged (conflict (conflicts.NoParent (ancestor_uri root id t selector.steps)) request.closes))
+    one_from root tag (Ok spot) is = one_behind (write_stop request (Some tag) (is_there t selector)) (λ a. PutsFragment c id usage selector t spot request a) (one_fragment spot is)
+
+    one_node_of : (root : List ℕ) (tag : ℕ) → IsOne (λ a. PutsNodeOf c id usage selector t root tag request a)
+    one_node_of root tag =
+        let spot = some_spot t selector in
+        one_by (IsSpot t selector) (λ s a. PutsFrom c id usage selector t root tag s request a) spot.0 spot.1 (λ s is. plans.one_spot t selector s spot.0 is spot.1) (one_from root tag spot.0 spot.1)
+
   one_node_put : (root : List ℕ) (usage : Usage) (selector : Selector) (version : Option (Tree × ℕ)) → IsOne (λ a. PutsNodeIn root c id usage selector version request a)
   one_node_put root usage selector None = one_equal (puts_deeper root id.auid id.home request)
-  one_node_put root usage selector (Some (t, tag)) =
-      let stop = write_stop request (Some tag) (is_some (found_text t selector)) in
-      let Last : Answer → Type 0 = λ a. PutsFragment c id usage selector t request a in
-      let no_parent : Answer = unchanged (conflict (conflicts.NoParent (ancestor_uri root id t selector.steps)) request.closes) in
-      one_either (has_place selector t) (λ a. Behind stop a (Last a)) (λ a. a ≡ no_parent) (λ _. one_behind stop Last (one_equal (unchanged (plain 501 request.closes)))) (λ _. one_equal no_parent)
+  one_node_put root usage selector (Some (t, tag)) = one_node_of usage selector t root tag
 
   -- ---- DELETE
 
@@ -105,15 +165,25 @@ module _ (c : Content) (id : DocId) (request : Request) where
       let last : Answer = change_answer c id RemoveDocument request.closes (deleted_reply request.closes) in
       one_behind (write_stop request (Some tag) true) (λ a. a ≡ last) (one_equal last)
 
-  one_node_deleted : (usage : Usage) (selector : Selector) (version : Option (Tree × ℕ)) → IsOne (λ a. DeletesNodeIn c id usage selector version request a)
-  one_node_deleted usage selector None = one_equal (unchanged (plain 404 request.closes))
-  one_node_deleted usage selector (Some (t, tag)) =
+  one_cut : (usage : Usage) (selector : Selector) (t : Tree) → (selector.end ≡ ends.Namespaces → ⊥) → IsOne (λ a. CutsNode c id usage selector t request a)
+  one_cut usage selector t node =
+      let plan = some_delete usage t selector node in
+      let answer : Result Change EditRefusal → Answer = λ p. plan_answer c id request.closes (cut_reply request.closes) p in
+      one_by (IsDeletePlan usage t selector) (λ p a. a ≡ answer p) plan.0 plan.1 (λ p h. plans.one_delete usage t selector p plan.0 h plan.1) (one_equal (answer plan.0))
+
+  one_node_deleted : (usage : Usage) (selector : Selector) → (selector.end ≡ ends.Namespaces → ⊥) → (version : Option (Tree × ℕ)) → IsOne (λ a. DeletesNodeIn c id usage selector version request a)
+  one_node_deleted usage selector node None = one_equal (unchanged (plain 404 request.closes))
+  one_node_deleted usage selector node (Some (t, tag)) =
       let stop = write_stop request (Some tag) true in
       let Last : Answer → Type 0 = λ a. CutsNode c id usage selector t request a in
       let missing : Answer = unchanged (plain 404 request.closes) in
-      one_either (is_some (found_text t selector)) (λ a. Behind stop a (Last a)) (λ a. a ≡ missing) (λ _. one_behind stop Last (one_equal (unchanged (plain 501 request.closes)))) (λ _. one_equal missing)
+      one_either (is_there t selector) (λ a. Behind stop a (Last a)) (λ a. a ≡ missing) (λ _. one_behind stop Last (one_cut usage selector t node)) (λ _. one_equal missing)
 
 -- ---- all in order
+
+-- bindings aren't written
+not_bindings : (selector : Selector) → not (is_bindings selector.end) ≡ true → selector.end ≡ ends.Namespaces → ⊥
+not_bindings selector written is = let z : false ≡ true = sym (ap (λ (end : End). not (is_bindings end)) is) ∙ written in cc
 
 module _ (root : List ℕ) (c : Content) (request : Request) where
   -- what can only be read isn't written
@@ -127,7 +197,7 @@ module _ (root : List ℕ) (c : Content) (request : Request) where
 
   one_deleted : (target : Target) (usage : Usage) → takes target Delete ≡ true → IsOne (λ a. Deletes c target usage request a)
   one_deleted (Document id) usage written = one_document_deleted c id request (version_of c id)
-  one_deleted (Node id selector) usage written = one_node_deleted c id request usage selector (version_of c id)
+  one_deleted (Node id selector) usage written = one_node_deleted c id request usage selector (not_bindings selector written) (version_of c id)
   one_deleted (Deep auid home) usage written = one_equal (unchanged (plain 404 request.closes))
   one_deleted (Feed mode tag id) usage written = let none : ⊥ = cc in absurd none
   one_deleted (ElementFeed tag id selector raw) usage written = let none : ⊥ = cc in absurd none

@@ -20,6 +20,7 @@ use Rattle.machine_words.specs.Answers.{Answer, Made}
 use Rattle.machine_words.specs.Machine.{Does, KeptStep, Step, after_answer, answer_as, content_after_answer, told_as}
 use Rattle.machine_words.specs.Requests.{IsAnswer}
 use Rattle.machine_words.specs.Laws.{AllowsOne, ChangesNothing, HasStep, tells_change}
+use Rattle.machine_words.proofs.Asked.{all_sound}
 use Rattle.machine_words.proofs.OneAnswer.{one_answer, some_answer}
 use Rattle.machine_words.proofs.Ways.{Way, changes, stays, tells_none, way_of}
 
@@ -97,12 +98,12 @@ answered_content : (refusal : Option StoreRefusal) (note told : Note) (c next : 
 answered_content None note told c next h = let both : ◌≡◌ {A = Note × Content} (note, c) (told, next) = cc in ap (λ (x : Note × Content). x.1) both
 answered_content (Some refusal) note told c next h = cc
 
-made_change : (c : Content) (id : DocId) (change : Change) (note : Note) (next : Content) → changing c id change ≡ Ok (note, next) → note.change ≡ change
+pub made_change : (c : Content) (id : DocId) (change : Change) (note : Note) (next : Content) → changing c id change ≡ Ok (note, next) → note.change ≡ change
 made_change c id change note next h =
     let held = document_in held_name c.documents id in
     ap (λ (n : Note). n.change) (answered_note (against c id change held (act_of change)) (note_for c id change held) note (content_after c id change) next h) ∙ note_change c id change held
 
-made_content : (c : Content) (id : DocId) (change : Change) (note : Note) (next : Content) → changing c id change ≡ Ok (note, next) → next ≡ content_after c id note.change
+pub made_content : (c : Content) (id : DocId) (change : Change) (note : Note) (next : Content) → changing c id change ≡ Ok (note, next) → next ≡ content_after c id note.change
 made_content c id change note next h =
     let held = document_in held_name c.documents id in
     sym (answered_content (against c id change held (act_of change)) (note_for c id change held) note (content_after c id change) next h)
@@ -115,7 +116,7 @@ stands_by method closes c m a (stays reply tells same is) stands kept =
 stands_by method closes c m a (changes reply tells same id change note next asks made is) stands kept =
     let by_change = sym (made_change c id change note next made) in
     let both : Stands next (after m id note.change) × Kept (after m id note.change) =
-    subst (λ (x : Change). Stands next (after m id x) × Kept (after m id x)) by_change (keeps c m id change note next stands kept asks made) in
+    subst (λ (x : Change). Stands next (after m id x) × Kept (after m id x)) by_change (keeps c m id change note next stands kept (asks (all_sound c m stands kept)) made) in
     subst (λ (x : Answer). Stands (content_after_answer c x.made) (after_answer m x.made) × Kept (after_answer m x.made)) (sym is)
     (subst (λ (d : Content). Stands d (after m id note.change)) (made_content c id change note next made) both.0, both.1)
 

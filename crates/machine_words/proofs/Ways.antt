@@ -1,10 +1,14 @@
 -- The two ways to answer a request, each with a reply that closes where the request does: with one that tells no change, and nothing is
--- changed; or with one that tells a change which may be asked for and which the store makes.
-use Rattle.std.proofs.Common.{◌≡◌, ℕ, Bool, true, false, not, ◌||◌, ◌==◌, List, [], is_some, Option, None, Some, Result, Ok, Err, IfOk, unwrap_or, refl, sym, subst, encode_utf8_all}
-use Rattle.xml_tree.specs.Tree.{Tree}
-use Rattle.tree_text.specs.Faults.{TextAnswer}
+-- changed; or with one that tells a change which the store makes, and which may be asked for where each document held is sound.
+use Rattle.std.proofs.Common.{◌≡◌, ◌≤◌, ℕ, Bool, true, false, not, ◌||◌, ◌==◌, List, [], is_some, Option, None, Some, Result, Ok, Err, IfOk, unwrap_or, refl, sym, subst, arith, encode_utf8_all}
+use Rattle.xml_tree.specs.Tree.{Tree, height}
+use Rattle.xml_tree.specs.Proper.{ProperIn}
+use Rattle.tree_text.specs.Faults.{BodyAnswer, TextAnswer}
 use Rattle.tree_text.specs.Printing.{document_print}
 use Rattle.tree_text.specs.declared.fault.TextFault.{TextFault}
+use Rattle.tree_text.specs.declared.fault.ValueFault.{ValueFault}
+use Rattle.tree_text.specs.declared.fault.ValueFault.TheVariants as values
+use Rattle.tree_text.proofs.ProperBodies.{body_good}
 use Rattle.tree_text.proofs.ReadProper.{answer_proper}
 use Rattle.usage_docs.specs.Judging.{Judged}
 use Rattle.usage_docs.specs.declared.judging.Fault.{Fault}
@@ -12,6 +16,8 @@ use Rattle.doc_names.specs.Ids.{IsReadable}
 use Rattle.doc_names.specs.Usages.{usage_of}
 use Rattle.doc_names.specs.declared.usages.Usage.{Usage}
 use Rattle.doc_names.specs.declared.doc_id.DocId.{DocId}
+use Rattle.node_select.specs.declared.selector.End.{End}
+use Rattle.node_select.specs.declared.selector.End.TheVariants as ends
 use Rattle.node_select.specs.declared.selector.Selector.{Selector}
 use Rattle.xcap_uri.specs.Ancestors.{ancestor_uri, home_uri}
 use Rattle.xcap_uri.specs.Targets.{IsReadableTarget, TargetAnswer}
@@ -22,6 +28,17 @@ use Rattle.xcap_uri.specs.declared.target.Target.TheVariants.{Document, Node, De
 use Rattle.xcap_uri.proofs.TargetAnswers.{readable_target}
 use Rattle.edit_ops.specs.declared.change.Change.{Change}
 use Rattle.edit_ops.specs.declared.change.Change.TheVariants.{RemoveDocument}
+use Rattle.plan_words.specs.Attributes.{IsAttrPlan, IsValuePlan, IsWritable}
+use Rattle.plan_words.specs.Deletions.{IsDeletePlan}
+use Rattle.plan_words.specs.Puts.{HasRoomAt, IsProperAt, IsPutPlan}
+use Rattle.plan_words.specs.Spots.{IsSpot, IsSpotOf}
+use Rattle.plan_words.specs.declared.refusal.EditRefusal.{EditRefusal}
+use Rattle.plan_words.specs.declared.refusal.EditRefusal.TheVariants as plans
+use Rattle.plan_words.specs.declared.spot.NoParent.{NoParent}
+use Rattle.plan_words.specs.declared.spot.Spot.{Spot}
+use Rattle.plan_words.specs.declared.spot.Spot.TheVariants.{Over, Under, Beside, Value}
+use Rattle.plan_words.proofs.StaysProper.{delete_leaves, put_leaves, written_leaves}
+use Rattle.plan_words.proofs.Twice.{deleted_is, put_is, written_change, written_is}
 use Rattle.notes.specs.Notes.{Note}
 use Rattle.reply_text.specs.Heads.{Sent, plain}
 use Rattle.reply_text.specs.declared.media_types.Media.{Media}
@@ -37,7 +54,6 @@ use Rattle.request_terms.specs.declared.conditions.Outcome.TheVariants.{Unreadab
 use Rattle.request_terms.specs.declared.method.Method.{Method}
 use Rattle.request_terms.specs.declared.method.Method.TheVariants.{Get, Head, Put, Delete, Other}
 use Rattle.node_texts.specs.Nodes.{encoded, found_text, node_media}
-use Rattle.node_texts.specs.Places.{has_place}
 use Rattle.store_core.specs.Asking.{Asks, MayBeFor}
 use Rattle.store_core.specs.Changing.{changing}
 use Rattle.store_core.specs.Held.{Content}
@@ -47,16 +63,18 @@ use Rattle.store_core.specs.declared.refusal.StoreRefusal.TheVariants as refusal
 use Rattle.machine_words.specs.Answers.{Answer, Behind, conflict, found, not_allowed, unchanged}
 use Rattle.machine_words.specs.Laws.{tells_change}
 use Rattle.machine_words.specs.Reading.{as_asked, document_reply, if_found, node_reply}
-use Rattle.machine_words.specs.Requests.{ByMethod, ByTarget, ByUser, Deletes, IsAnswer, IsAnswered, Puts, auid_of, fault_status, home_of, is_read_only, reads, takes}
+use Rattle.machine_words.specs.Requests.{ByMethod, ByTarget, ByUser, Deletes, IsAnswer, IsAnswered, IsWritableTarget, Puts, auid_of, fault_status, home_of, is_read_only, reads, takes}
 use Rattle.machine_words.specs.Resources.{Resource, absent, beyond_limit, there, resource, version_of}
-use Rattle.machine_words.specs.Writing.{CutsNode, DeletesDocumentIn, DeletesNodeIn, IfStored, PutsBody, PutsDocument, PutsFragment, PutsNodeIn, PutsSpelled, PutsText, by_judgement, change_answer, deleted_reply, fault_conflict, put_answer, put_change, put_reply, refused, store_answer, tag_of, text_conflict}
-use Rattle.machine_words.proofs.Asked.{asks_to_delete, asks_to_put, users_write}
+use Rattle.machine_words.specs.Fragments.{CutsNode, DeletesNodeIn, PutsAt, PutsElementText, PutsFragment, PutsFrom, PutsNodeIn, PutsValueText, cut_reply, is_there, levels_for, plan_answer, plan_refused, put_planned, scope_for}
+use Rattle.machine_words.specs.Writing.{DeletesDocumentIn, IfStored, PutsBody, PutsDocument, PutsSpelled, PutsText, by_judgement, change_answer, deleted_reply, fault_conflict, put_answer, put_change, put_reply, refused, store_answer, tag_of, text_conflict}
+use Rattle.machine_words.proofs.Asked.{AllSound, asks_to_delete, asks_to_edit, asks_to_put, sound_at, users_write}
+use Rattle.machine_words.proofs.Named.{writable_target}
 use Rattle.machine_words.proofs.Cases.{either}
 
 pub data Way (method : Method) (closes : Bool) (c : Content) (a : Answer) : Type 0 where
   stays : (reply : Sent) → tells_change method reply.status ≡ false → reply.closes ≡ closes → a ≡ unchanged reply → Way method closes c a
   changes : (reply : Sent) → tells_change method reply.status ≡ true → reply.closes ≡ closes → (id : DocId) (change : Change) (note : Note) (next : Content)
-      → Asks c id change → changing c id change ≡ Ok (note, next) → a ≡ record { reply = reply; made = Some (id, note) } → Way method closes c a
+      → (AllSound c → Asks c id change) → changing c id change ≡ Ok (note, next) → a ≡ record { reply = reply; made = Some (id, note) } → Way method closes c a
 
 -- ---- statuses that tell no change
 
@@ -99,10 +117,25 @@ module _ (method : Method) (c : Content) (request : Request) (a : Answer) where
   store_refuses refusals.NoMemory is = refuses _ refl refl refl is
 
   -- a change that may be asked for, where each reply to one that is made tells it
-  by_store : (id : DocId) (change : Change) (reply : Note → Sent) → Asks c id change → ((note : Note) → tells_change method (reply note).status ≡ true) → ((note : Note) → (reply note).closes ≡ request.closes)
+  by_store : (id : DocId) (change : Change) (reply : Note → Sent) → (AllSound c → Asks c id change) → ((note : Note) → tells_change method (reply note).status ≡ true) → ((note : Note) → (reply note).closes ≡ request.closes)
       → (made : Result (Note × Content) StoreRefusal) → changing c id change ≡ made → a ≡ store_answer id request.closes reply made → Way method request.closes c a
   by_store id change reply asks tells closes (Err refusal) e is = store_refuses refusal is
   by_store id change reply asks tells closes (Ok (note, next)) e is = changes (reply note) (tells note) (closes note) id change note next asks e is
+
+  plan_refuses : (why : EditRefusal) → a ≡ unchanged (plan_refused why request.closes) → Way method request.closes c a
+  plan_refuses plans.NotFound is = refuses _ refl refl refl is
+  plan_refuses plans.CannotInsert is = refuses _ refl refl refl is
+  plan_refuses plans.CannotDelete is = refuses _ refl refl refl is
+  plan_refuses plans.Schema is = refuses _ refl refl refl is
+  plan_refuses plans.Constraint is = refuses _ refl refl refl is
+  plan_refuses (plans.Unique clash) is = refuses _ refl refl refl is
+  plan_refuses plans.NoMemory is = refuses _ refl refl refl is
+
+  -- a plan, whose change may be asked for, where each reply to one that is made tells it
+  by_plan : (id : DocId) (reply : Note → Sent) (plan : Result Change EditRefusal) → ((change : Change) → plan ≡ Ok change → AllSound c → Asks c id change)
+      → ((note : Note) → tells_change method (reply note).status ≡ true) → ((note : Note) → (reply note).closes ≡ request.closes) → a ≡ plan_answer c id request.closes reply plan → Way method request.closes c a
+  by_plan id reply (Err why) asks tells closes is = plan_refuses why is
+  by_plan id reply (Ok change) asks tells closes is = by_store id change reply (asks change refl) tells closes (changing c id change) refl is
 
   no_usage : (u : Option Usage) (P : Usage → Type 0) → ((usage : Usage) → u ≡ Some usage → P usage → Way method request.closes c a) → IfStored u request a P → Way method request.closes c a
   no_usage None P so is = only 403 refl refl is
@@ -156,6 +189,19 @@ put_closes : (exists closes : Bool) (note : Note) → (put_reply exists closes n
 put_closes true closes note = refl
 put_closes false closes note = refl
 
+-- what a fragment is at its spot
+pub proper_there : (t : Tree) (spot : Spot) (e : Tree) → ProperIn (scope_for t spot) e → IsProperAt t spot e
+proper_there t (Over p) e h = h
+proper_there t (Under q) e h = h
+proper_there t Beside e h = tt
+proper_there t (Value p) e h = tt
+
+pub room_there : (spot : Spot) (e : Tree) → height e ≤ levels_for spot → HasRoomAt spot e
+room_there (Over p) e h = omega (arith, h)
+room_there (Under q) e h = omega (arith, h)
+room_there Beside e h = tt
+room_there (Value p) e h = tt
+
 module _ (c : Content) (id : DocId) (request : Request) (a : Answer) where
   module _ (readable : IsReadable id) (users : IsUsers id.home) (usage : Usage) (known : usage_of id.auid ≡ Some usage) where
     judged : (t : Tree) → TextAnswer 64 [] request.body (Ok t) → (judgement : Option Fault) → Judged usage t judgement → a ≡ by_judgement judgement request.closes (put_answer c id request.closes t) → Way Put request.closes c a
@@ -165,7 +211,7 @@ module _ (c : Content) (id : DocId) (request : Request) (a : Answer) where
         let good = answer_proper 64 [] request.body t e in
         let may : MayBeFor (Some usage) t = record { proper = good.0; low = good.1; faultless = j } in
         let asks = asks_to_put c id t readable users (subst (λ (x : Option Usage). MayBeFor x t) (sym known) may) in
-        by_store Put c request a id (put_change exists t) (put_reply exists request.closes) asks (put_tells exists request.closes) (put_closes exists request.closes) (changing c id (put_change exists t)) refl is
+        by_store Put c request a id (put_change exists t) (put_reply exists request.closes) (λ _. asks) (put_tells exists request.closes) (put_closes exists request.closes) (changing c id (put_change exists t)) refl is
 
     text_put : (read : Result Tree TextFault) → TextAnswer 64 [] request.body read → PutsText usage read request.closes (put_answer c id request.closes) a → Way Put request.closes c a
     text_put (Err fault) e is = conflicts_so Put c request a (text_conflict conflicts.NotWellFormed fault) is
@@ -180,14 +226,66 @@ module _ (c : Content) (id : DocId) (request : Request) (a : Answer) where
     document_put is =
         behind Put c request a (outcome_of request.fields (tag_of (version_of c id)) (is_some (version_of c id)) false) (tag_of (version_of c id)) (PutsBody usage (document_media id.auid) request (put_answer c id request.closes) a) body_put is
 
-  node_put : (root : List ℕ) (usage : Usage) (selector : Selector) (version : Option (Tree × ℕ)) → PutsNodeIn root c id usage selector version request a → Way Put request.closes c a
-  node_put root usage selector None is = conflicts_so Put c request a (conflicts.NoParent (home_uri root id.auid id.home)) is
-  node_put root usage selector (Some (t, tag)) is =
-      let Last : Type 0 = PutsFragment c id usage selector t request a in
-      let outcome = outcome_of request.fields (Some tag) (is_some (found_text t selector)) false in
-      let no_parent : ErrorBody = conflicts.NoParent (ancestor_uri root id t selector.steps) in
-      either (has_place selector t) (Behind (stopped_by outcome (Some tag) request.closes) a Last) (a ≡ unchanged (conflict no_parent request.closes))
-      (λ _. behind Put c request a outcome (Some tag) Last (only Put c request a 501 refl refl)) (λ _. conflicts_so Put c request a no_parent) is
+  -- ---- PUT of nodes
+
+  module _ (usage : Usage) (selector : Selector) (t : Tree) (tag : ℕ) (known : usage_of id.auid ≡ Some usage) (held : ◌≡◌ {A = Option (Tree × ℕ)} (version_of c id) (Some (t, tag))) where
+    abbrev reply : Note → Sent
+    reply = put_reply (is_there t selector) request.closes
+
+    element_planned : (spot : Spot) → IsSpotOf t selector spot → (e : Tree) → TextAnswer (levels_for spot) (scope_for t spot) request.body (Ok e)
+        → (plan : Result Change EditRefusal) → IsPutPlan usage t selector.steps spot e plan → a ≡ put_planned c id usage selector t request plan → Way Put request.closes c a
+    element_planned spot is e read plan planned answer =
+        let good = answer_proper (levels_for spot) (scope_for t spot) request.body e read in
+        by_plan Put c request a id reply plan (λ change made all.
+        let sound = sound_at c id usage t tag known held all in
+        let here : IsPutPlan usage t selector.steps spot e (Ok change) = subst (λ (r : Result Change EditRefusal). IsPutPlan usage t selector.steps spot e r) made planned in
+        let leaves = put_leaves usage t selector spot e change here is sound.proper sound.low (proper_there t spot e good.0) (room_there spot e good.1) in
+        asks_to_edit c id usage t tag change known held leaves (put_is usage t selector.steps spot e change here).faultless)
+        (put_tells (is_there t selector) request.closes) (put_closes (is_there t selector) request.closes) answer
+
+    element_text : (spot : Spot) → IsSpotOf t selector spot → (read : Result Tree TextFault) → TextAnswer (levels_for spot) (scope_for t spot) request.body read
+        → PutsElementText c id usage selector t spot read request a → Way Put request.closes c a
+    element_text spot is (Err fault) read answer = conflicts_so Put c request a (text_conflict conflicts.NotXmlFrag fault) answer
+    element_text spot is (Ok e) read answer = element_planned spot is e read answer.0 answer.1 answer.2
+
+    value_planned : (p : List ℕ) (uri local value : List ℕ) → selector.end ≡ ends.Attribute uri local → IsWritable uri local → BodyAnswer request.body (Ok value)
+        → (plan : Result Change EditRefusal) → IsAttrPlan usage t selector.steps selector.end p value plan → a ≡ put_planned c id usage selector t request plan → Way Put request.closes c a
+    value_planned p uri local value ends_so may read plan planned answer =
+        by_plan Put c request a id reply plan (λ change made all.
+        let sound = sound_at c id usage t tag known held all in
+        let by_end : IsValuePlan usage t selector.steps uri local p value plan = subst (λ (end : End). IsAttrPlan usage t selector.steps end p value plan) ends_so planned in
+        let here : IsValuePlan usage t selector.steps uri local p value (Ok change) = subst (λ (r : Result Change EditRefusal). IsValuePlan usage t selector.steps uri local p value r) made by_end in
+        let written = written_is usage t selector.steps uri local p value change here in
+        let leaves = written_leaves usage t selector.steps uri local p value change written sound.proper sound.low may (body_good request.body (Ok value) read) in
+        asks_to_edit c id usage t tag change known held leaves (written_change usage t selector.steps uri local p value change written))
+        (put_tells (is_there t selector) request.closes) (put_closes (is_there t selector) request.closes) answer
+
+    value_text : (p : List ℕ) (uri local : List ℕ) → selector.end ≡ ends.Attribute uri local → IsWritable uri local → (read : Result (List ℕ) ValueFault) → BodyAnswer request.body read
+        → PutsValueText c id usage selector t p read request a → Way Put request.closes c a
+    value_text p uri local ends_so may (Err values.NotUtf8) read answer = conflicts_so Put c request a conflicts.NotUtf8 answer
+    value_text p uri local ends_so may (Err (values.NotValue place)) read answer = conflicts_so Put c request a conflicts.NotXmlAttValue answer
+    value_text p uri local ends_so may (Ok value) read answer = value_planned p uri local value ends_so may read answer.0 answer.1 answer.2
+
+    put_at : (spot : Spot) → IsSpotOf t selector spot → IsWritableTarget (Node id selector) → PutsAt c id usage selector t spot request a → Way Put request.closes c a
+    put_at (Over p) is may answer = element_text (Over p) is answer.0 answer.1 answer.2
+    put_at (Under q) is may answer = element_text (Under q) is answer.0 answer.1 answer.2
+    put_at Beside is may answer = element_text Beside is answer.0 answer.1 answer.2
+    put_at (Value p) is may answer = value_text p is.0.0 is.0.1.0 is.0.1.1 (may is.0.0 is.0.1.0 is.0.1.1) answer.0 answer.1 answer.2
+
+    fragment_put : (spot : Spot) → IsSpotOf t selector spot → IsWritableTarget (Node id selector) → PutsFragment c id usage selector t spot request a → Way Put request.closes c a
+    fragment_put spot is may answer =
+        either (has_type (node_media selector.end) request.fields) (PutsAt c id usage selector t spot request a) (a ≡ unchanged (plain 415 request.closes))
+        (λ _. put_at spot is may) (λ _. only Put c request a 415 refl refl) answer
+
+    put_from : (root : List ℕ) (spot : Result Spot NoParent) → IsSpot t selector spot → IsWritableTarget (Node id selector) → PutsFrom c id usage selector t root tag spot request a → Way Put request.closes c a
+    put_from root (Err none) is may answer = conflicts_so Put c request a (conflicts.NoParent (ancestor_uri root id t selector.steps)) answer
+    put_from root (Ok spot) is may answer =
+        behind Put c request a (outcome_of request.fields (Some tag) (is_there t selector) false) (Some tag) (PutsFragment c id usage selector t spot request a) (fragment_put spot is may) answer
+
+  node_put : (root : List ℕ) (usage : Usage) (selector : Selector) (version : Option (Tree × ℕ)) → version_of c id ≡ version → usage_of id.auid ≡ Some usage → IsWritableTarget (Node id selector)
+      → PutsNodeIn root c id usage selector version request a → Way Put request.closes c a
+  node_put root usage selector None held known may is = conflicts_so Put c request a (conflicts.NoParent (home_uri root id.auid id.home)) is
+  node_put root usage selector (Some (t, tag)) held known may is = put_from usage selector t tag known held root is.0 is.1 may is.2
 
   -- ---- DELETE
 
@@ -195,55 +293,63 @@ module _ (c : Content) (id : DocId) (request : Request) (a : Answer) where
   document_deleted None e is = only Delete c request a 404 refl refl is
   document_deleted (Some (t, tag)) e is =
       behind Delete c request a (outcome_of request.fields (Some tag) true false) (Some tag) (a ≡ change_answer c id RemoveDocument request.closes (deleted_reply request.closes))
-      (by_store Delete c request a id RemoveDocument (deleted_reply request.closes) (asks_to_delete c id t tag e) (λ note. refl) (λ note. refl) (changing c id RemoveDocument) refl) is
+      (by_store Delete c request a id RemoveDocument (deleted_reply request.closes) (λ _. asks_to_delete c id t tag e) (λ note. refl) (λ note. refl) (changing c id RemoveDocument) refl) is
 
-  node_deleted : (usage : Usage) (selector : Selector) (version : Option (Tree × ℕ)) → DeletesNodeIn c id usage selector version request a → Way Delete request.closes c a
-  node_deleted usage selector None is = only Delete c request a 404 refl refl is
-  node_deleted usage selector (Some (t, tag)) is =
+  node_cut : (usage : Usage) (selector : Selector) (t : Tree) (tag : ℕ) → ◌≡◌ {A = Option (Tree × ℕ)} (version_of c id) (Some (t, tag)) → usage_of id.auid ≡ Some usage → CutsNode c id usage selector t request a → Way Delete request.closes c a
+  node_cut usage selector t tag held known is =
+      by_plan Delete c request a id (cut_reply request.closes) is.0 (λ change made all.
+      let sound = sound_at c id usage t tag known held all in
+      let here : IsDeletePlan usage t selector (Ok change) = subst (λ (r : Result Change EditRefusal). IsDeletePlan usage t selector r) made is.1 in
+      asks_to_edit c id usage t tag change known held (delete_leaves usage t selector change here sound.proper sound.low) (deleted_is usage t selector change here).faultless)
+      (λ note. refl) (λ note. refl) is.2
+
+  node_deleted : (usage : Usage) (selector : Selector) (version : Option (Tree × ℕ)) → version_of c id ≡ version → usage_of id.auid ≡ Some usage → DeletesNodeIn c id usage selector version request a → Way Delete request.closes c a
+  node_deleted usage selector None held known is = only Delete c request a 404 refl refl is
+  node_deleted usage selector (Some (t, tag)) held known is =
       let Last : Type 0 = CutsNode c id usage selector t request a in
       let outcome = outcome_of request.fields (Some tag) true false in
-      either (is_some (found_text t selector)) (Behind (stopped_by outcome (Some tag) request.closes) a Last) (a ≡ unchanged (plain 404 request.closes))
-      (λ _. behind Delete c request a outcome (Some tag) Last (only Delete c request a 501 refl refl)) (λ _. only Delete c request a 404 refl refl) is
+      either (is_there t selector) (Behind (stopped_by outcome (Some tag) request.closes) a Last) (a ≡ unchanged (plain 404 request.closes))
+      (λ _. behind Delete c request a outcome (Some tag) Last (node_cut usage selector t tag held known)) (λ _. only Delete c request a 404 refl refl) is
 
 -- ---- all in order
 
 module _ (root : List ℕ) (c : Content) (request : Request) (a : Answer) where
-  target_put : (target : Target) → IsReadableTarget target → IsUsers (home_of target) → (usage : Usage) → usage_of (auid_of target) ≡ Some usage → Puts root c target usage request a → Way Put request.closes c a
-  target_put (Document id) readable users usage known is = document_put c id request a readable users usage known is
-  target_put (Node id selector) readable users usage known is = node_put c id request a root usage selector (version_of c id) is
-  target_put (Deep auid home) readable users usage known is = conflicts_so Put c request a (conflicts.NoParent (home_uri root auid home)) is
-  target_put (Feed mode tag id) readable users usage known is = absurd is
-  target_put (ElementFeed tag id selector raw) readable users usage known is = absurd is
-  target_put (Flat id service) readable users usage known is = absurd is
+  target_put : (target : Target) → IsReadableTarget target → IsWritableTarget target → IsUsers (home_of target) → (usage : Usage) → usage_of (auid_of target) ≡ Some usage → Puts root c target usage request a → Way Put request.closes c a
+  target_put (Document id) readable may users usage known is = document_put c id request a readable users usage known is
+  target_put (Node id selector) readable may users usage known is = node_put c id request a root usage selector (version_of c id) refl known may is
+  target_put (Deep auid home) readable may users usage known is = conflicts_so Put c request a (conflicts.NoParent (home_uri root auid home)) is
+  target_put (Feed mode tag id) readable may users usage known is = absurd is
+  target_put (ElementFeed tag id selector raw) readable may users usage known is = absurd is
+  target_put (Flat id service) readable may users usage known is = absurd is
 
-  target_deleted : (target : Target) (usage : Usage) → Deletes c target usage request a → Way Delete request.closes c a
-  target_deleted (Document id) usage is = document_deleted c id request a (version_of c id) refl is
-  target_deleted (Node id selector) usage is = node_deleted c id request a usage selector (version_of c id) is
-  target_deleted (Deep auid home) usage is = only Delete c request a 404 refl refl is
-  target_deleted (Feed mode tag id) usage is = absurd is
-  target_deleted (ElementFeed tag id selector raw) usage is = absurd is
-  target_deleted (Flat id service) usage is = absurd is
+  target_deleted : (target : Target) (usage : Usage) → usage_of (auid_of target) ≡ Some usage → Deletes c target usage request a → Way Delete request.closes c a
+  target_deleted (Document id) usage known is = document_deleted c id request a (version_of c id) refl is
+  target_deleted (Node id selector) usage known is = node_deleted c id request a usage selector (version_of c id) refl known is
+  target_deleted (Deep auid home) usage known is = only Delete c request a 404 refl refl is
+  target_deleted (Feed mode tag id) usage known is = absurd is
+  target_deleted (ElementFeed tag id selector raw) usage known is = absurd is
+  target_deleted (Flat id service) usage known is = absurd is
 
-  method_way : (target : Target) (method : Method) → IsReadableTarget target → is_allowed (not (is_reading method)) (auid_of target) (home_of target) request.fields ≡ true
+  method_way : (target : Target) (method : Method) → IsReadableTarget target → IsWritableTarget target → is_allowed (not (is_reading method)) (auid_of target) (home_of target) request.fields ≡ true
       → ByMethod root c target method request a → Way method request.closes c a
-  method_way target Get readable allowed is = stays (reads root c target Get request) refl (reads_closes root c target Get request) is
-  method_way target Head readable allowed is = stays (reads root c target Head request) refl (reads_closes root c target Head request) is
-  method_way target Put readable allowed is =
+  method_way target Get readable may allowed is = stays (reads root c target Get request) refl (reads_closes root c target Get request) is
+  method_way target Head readable may allowed is = stays (reads root c target Head request) refl (reads_closes root c target Head request) is
+  method_way target Put readable may allowed is =
       no_usage Put c request a (usage_of (auid_of target)) (λ usage. Puts root c target usage request a)
-      (target_put target readable (users_write (auid_of target) (home_of target) request.fields allowed)) is
-  method_way target Delete readable allowed is =
-      no_usage Delete c request a (usage_of (auid_of target)) (λ usage. Deletes c target usage request a) (λ usage known. target_deleted target usage) is
-  method_way target Other readable allowed is = absurd is
+      (target_put target readable may (users_write (auid_of target) (home_of target) request.fields allowed)) is
+  method_way target Delete readable may allowed is =
+      no_usage Delete c request a (usage_of (auid_of target)) (λ usage. Deletes c target usage request a) (λ usage known. target_deleted target usage known) is
+  method_way target Other readable may allowed is = absurd is
 
-  user_way : (target : Target) (method : Method) → IsReadableTarget target → ByUser root c target method request a → Way method request.closes c a
-  user_way target method readable is =
+  user_way : (target : Target) (method : Method) → IsReadableTarget target → IsWritableTarget target → ByUser root c target method request a → Way method request.closes c a
+  user_way target method readable may is =
       either (is_allowed (not (is_reading method)) (auid_of target) (home_of target) request.fields) (ByMethod root c target method request a) (a ≡ unchanged (plain 403 request.closes))
-      (method_way target method readable) (λ _. only method c request a 403 refl refl) is
+      (method_way target method readable may) (λ _. only method c request a 403 refl refl) is
 
-  target_way : (target : Target) (method : Method) → IsReadableTarget target → ByTarget root c target method request a → Way method request.closes c a
-  target_way target method readable is =
+  target_way : (target : Target) (method : Method) → IsReadableTarget target → IsWritableTarget target → ByTarget root c target method request a → Way method request.closes c a
+  target_way target method readable may is =
       either (takes target method) (ByUser root c target method request a) (a ≡ unchanged (not_allowed (is_read_only target) request.closes))
-      (λ _. user_way target method readable) (λ _. refuses method c request a (not_allowed (is_read_only target) request.closes) refl refl refl) is
+      (λ _. user_way target method readable may) (λ _. refuses method c request a (not_allowed (is_read_only target) request.closes) refl refl refl) is
 
   fault_way : (fault : UriFault) (method : Method) → a ≡ unchanged (plain (fault_status fault) request.closes) → Way method request.closes c a
   fault_way OutsideRoot method is = only method c request a 404 refl refl is
@@ -254,9 +360,9 @@ module _ (root : List ℕ) (c : Content) (request : Request) (a : Answer) where
   fault_way UnboundPrefix method is = only method c request a 400 refl refl is
   fault_way BadSelector method is = only method c request a 400 refl refl is
 
-  read_way : (read : Result Target UriFault) → IfOk read IsReadableTarget → IsAnswered root c read request a → Way (method_of request.method) request.closes c a
-  read_way (Err fault) readable is = fault_way fault (method_of request.method) is
-  read_way (Ok target) readable is = target_way target (method_of request.method) readable is
+  read_way : (read : Result Target UriFault) → IfOk read IsReadableTarget → IfOk read IsWritableTarget → IsAnswered root c read request a → Way (method_of request.method) request.closes c a
+  read_way (Err fault) readable may is = fault_way fault (method_of request.method) is
+  read_way (Ok target) readable may is = target_way target (method_of request.method) readable may is
 
 -- the ids in a target can be named by an address
 readable : (root target : List ℕ) (read : Result Target UriFault) → TargetAnswer root target read → IfOk read IsReadableTarget
@@ -264,4 +370,4 @@ readable root target (Ok t) is = readable_target root target t is
 readable root target (Err fault) is = tt
 
 pub way_of : (root : List ℕ) (c : Content) (request : Request) (a : Answer) → IsAnswer root c request a → Way (method_of request.method) request.closes c a
-way_of root c request a is = read_way root c request a is.0 (readable root request.target is.0 is.1) is.2
+way_of root c request a is = read_way root c request a is.0 (readable root request.target is.0 is.1) (writable_target root request.target is.0 is.1) is.2

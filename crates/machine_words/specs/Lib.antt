@@ -4,4 +4,6 @@ pub mod Reading
 pub mod Writing
 pub mod Requests
 pub mod Machine
+pub mod Fragments
+pub mod Effects
 pub mod Laws

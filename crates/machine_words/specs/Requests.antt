@@ -23,7 +23,8 @@ use Rattle.request_terms.specs.Rights.{is_allowed}
 use Rattle.store_core.specs.Held.{Content}
 use Rattle.machine_words.specs.Answers.{Answer, unchanged, not_allowed}
 use Rattle.machine_words.specs.Reading.{reads_document, reads_node}
-use Rattle.machine_words.specs.Writing.{IfStored, PutsDocument, PutsNode, puts_deeper, DeletesDocument, DeletesNode}
+use Rattle.machine_words.specs.Writing.{IfStored, PutsDocument, puts_deeper, DeletesDocument}
+use Rattle.machine_words.specs.Fragments.{PutsNode, DeletesNode, MayBeWritten}
 
 -- ---- the target
 
@@ -59,6 +60,15 @@ takes target Head = true
 takes target Put = not (is_read_only target)
 takes target Delete = not (is_read_only target)
 takes target Other = false
+
+-- where it is an attribute, it may be written
+abbrev pub IsWritableTarget : Target → Type 0
+IsWritableTarget (Document id) = Unit {0}
+IsWritableTarget (Node id selector) = MayBeWritten selector
+IsWritableTarget (Deep auid home) = Unit {0}
+IsWritableTarget (Feed mode tag id) = Unit {0}
+IsWritableTarget (ElementFeed tag id selector raw) = Unit {0}
+IsWritableTarget (Flat id service) = Unit {0}
 
 -- ---- by method
 

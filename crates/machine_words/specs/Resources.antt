@@ -1,5 +1,5 @@
 -- What an address leads to. RFC 4825, section 6: a document. Those under `global` are computed (RFC 4825, section 12, and RFC 4826,
--- section 4.4.7).
+-- sections 4.4.7 and 4.4.8).
 use Rattle.std.specs.Prelude.{ℕ, ◌-◌, Bool, true, false, Option, None, Some, option_map, nat_lt, if◌then◌else◌}
 use Rattle.std.specs.Str.{bytes_eq}
 use Rattle.xml_tree.specs.Tree.{Tree}

@@ -1,5 +1,5 @@
--- Requests that write. RFC 4825, sections 8.2 (PUT) and 8.4 (DELETE), with the conflicts of section 11 and the entity tags of section
--- 8.5; the order of the tests is this server's own. Nodes aren't written yet.
+-- Requests that write documents, and what they share with those that write nodes. RFC 4825, sections 8.2 (PUT) and 8.4 (DELETE), with the
+-- conflicts of section 11 and the entity tags of section 8.5; the order of the tests is this server's own.
 use Rattle.std.specs.Prelude.{◌≡◌, ℕ, Bool, true, false, List, [], ◌++◌, codes, is_some, Option, None, Some, Result, Ok, Err, if◌then◌else◌}
 use Rattle.std.specs.Bool.{MatchBool}
 use Rattle.xml_tree.specs.PathTexts.{path_text}
@@ -17,7 +17,6 @@ use Rattle.doc_names.specs.declared.usages.Usage.{Usage}
 use Rattle.doc_names.specs.declared.doc_id.Auid.{Auid}
 use Rattle.doc_names.specs.declared.doc_id.Home.{Home}
 use Rattle.doc_names.specs.declared.doc_id.DocId.{DocId}
-use Rattle.node_select.specs.declared.selector.Selector.{Selector}
 use Rattle.edit_ops.specs.declared.change.Change.{Change}
 use Rattle.edit_ops.specs.declared.change.Change.TheVariants.{CreateDocument, Replace, RemoveDocument}
 use Rattle.notes.specs.Notes.{Note}
@@ -28,9 +27,7 @@ use Rattle.reply_text.specs.declared.media_types.Media.{Media}
 use Rattle.http_wire.specs.declared.request.Request.{Request}
 use Rattle.request_terms.specs.Conditions.{stop_of}
 use Rattle.request_terms.specs.MediaTypes.{document_media, has_type}
-use Rattle.node_texts.specs.Nodes.{found_text}
-use Rattle.node_texts.specs.Places.{has_place}
-use Rattle.xcap_uri.specs.Ancestors.{home_uri, ancestor_uri}
+use Rattle.xcap_uri.specs.Ancestors.{home_uri}
 use Rattle.store_core.specs.Changing.{changing}
 use Rattle.store_core.specs.Held.{Content}
 use Rattle.store_core.specs.declared.refusal.StoreRefusal.{StoreRefusal}
@@ -156,28 +153,7 @@ PutsDocument c id usage request a =
 abbrev pub puts_deeper : List ℕ → Auid → Home → Request → Answer
 puts_deeper root auid home request = unchanged (conflict (conflicts.NoParent (home_uri root auid home)) request.closes)
 
--- ---- PUT of nodes (RFC 4825, sections 8.2.1 to 8.2.5)
-
--- the body is put at the selector's place in the tree: not yet
-abbrev pub PutsFragment : Content → DocId → Usage → Selector → Tree → Request → Answer → Type 0
-PutsFragment c id usage selector t request a = a ≡ unchanged (plain 501 request.closes)
-
--- a node of a document that is held with this tree and this tag
-abbrev pub PutsNodeOf : List ℕ → Content → DocId → Usage → Selector → Tree → ℕ → Request → Answer → Type 0
-PutsNodeOf root c id usage selector t tag request a =
-    MatchBool (has_place selector t)
-    (Behind (write_stop request (Some tag) (is_some (found_text t selector))) a (PutsFragment c id usage selector t request a))
-    (a ≡ unchanged (conflict (conflicts.NoParent (ancestor_uri root id t selector.steps)) request.closes))
-
--- a node of a document that is held, or not
-abbrev pub PutsNodeIn : List ℕ → Content → DocId → Usage → Selector → Option (Tree × ℕ) → Request → Answer → Type 0
-PutsNodeIn root c id usage selector None request a = a ≡ puts_deeper root id.auid id.home request
-PutsNodeIn root c id usage selector (Some (t, tag)) request a = PutsNodeOf root c id usage selector t tag request a
-
-abbrev pub PutsNode : List ℕ → Content → DocId → Usage → Selector → Request → Answer → Type 0
-PutsNode root c id usage selector request a = PutsNodeIn root c id usage selector (version_of c id) request a
-
--- ---- DELETE (RFC 4825, section 8.4)
+-- ---- DELETE of documents (RFC 4825, section 8.4)
 
 -- a document that was deleted has no tag
 abbrev pub deleted_reply : Bool → Note → Sent
@@ -191,21 +167,3 @@ DeletesDocumentIn c id (Some (t, tag)) request a =
 
 abbrev pub DeletesDocument : Content → DocId → Request → Answer → Type 0
 DeletesDocument c id request a = DeletesDocumentIn c id (version_of c id) request a
-
--- what the selector finds is taken out of the tree: not yet
-abbrev pub CutsNode : Content → DocId → Usage → Selector → Tree → Request → Answer → Type 0
-CutsNode c id usage selector t request a = a ≡ unchanged (plain 501 request.closes)
-
--- a node of a document that is held with this tree and this tag
-abbrev pub DeletesNodeOf : Content → DocId → Usage → Selector → Tree → ℕ → Request → Answer → Type 0
-DeletesNodeOf c id usage selector t tag request a =
-    MatchBool (is_some (found_text t selector))
-    (Behind (write_stop request (Some tag) true) a (CutsNode c id usage selector t request a))
-    (a ≡ unchanged (plain 404 request.closes))
-
-abbrev pub DeletesNodeIn : Content → DocId → Usage → Selector → Option (Tree × ℕ) → Request → Answer → Type 0
-DeletesNodeIn c id usage selector None request a = a ≡ unchanged (plain 404 request.closes)
-DeletesNodeIn c id usage selector (Some (t, tag)) request a = DeletesNodeOf c id usage selector t tag request a
-
-abbrev pub DeletesNode : Content → DocId → Usage → Selector → Request → Answer → Type 0
-DeletesNode c id usage selector request a = DeletesNodeIn c id usage selector (version_of c id) request a

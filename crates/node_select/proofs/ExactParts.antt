@@ -1,30 +1,35 @@
 -- The parts of selectors are read exactly: names, references and values, whatever stands behind them, as far as it doesn't go on with them.
 use Rattle.std.proofs.Common.{◌≡◌, ℕ, Bool, true, false, List, [], ◌∷◌, inl, refl, sym, ap, ◌∙◌, arith}
-use Rattle.std.specs.Prelude.{◌||◌, ◌&&◌, not, ◌==◌, None, Some}
+use Rattle.std.specs.Prelude.{◌||◌, ◌&&◌, not, ◌==◌}
 use Rattle.std.proofs.lemmas.Bool.{eqb-true, eq-eqb}
 use Rattle.xml_tree.specs.Characters.{is_char, is_name_start, is_name_char}
 use Rattle.grammar_rules.specs.Digits.{within, is_digit, is_hex_digit, decimal, hexadecimal}
 use Rattle.grammar_rules.specs.Rules.{word, either, optional, before, behind, number}
 use Rattle.grammar_rules.specs.Reading.{starts, read_word, read_either, read_valued}
+use Rattle.grammar_rules.specs.Answers.{Faults}
 use Rattle.grammar_rules.proofs.Exact.{Rest, ahead, Exact, exact_sequence}
 use Rattle.grammar_rules.proofs.Leaves.{exact_word}
 use Rattle.grammar_rules.proofs.Greedy.{exact_number}
 use Rattle.grammar_rules.proofs.Carry.{exact_valued}
 use Rattle.grammar_rules.proofs.Closed.{exact_only, heads_unless}
-use Rattle.grammar_rules.proofs.Heads.{Heads, Starts, Not, heads_starts, heads_weaker, heads_optional, starts_word, starts_weaker, starts_valued, starts_either, starts_sequence, starts_number}
-use Rattle.grammar_rules.proofs.Laws.{Lawful, lawful_valued, lawful_sequence, lawful_optional, lawful_behind, lawful_before, lawful_word, lawful_name_of, lawful_either, lawful_number, lawful_between, lawful_run, lawful_quoted, lawful_only, lawful_some_of}
+use Rattle.grammar_rules.proofs.Heads.{Heads, Starts, Not, heads_starts, heads_weaker, heads_optional, starts_word, starts_weaker, starts_valued, starts_either, starts_sequence, starts_number, starts_judged}
+use Rattle.grammar_rules.proofs.Laws.{Lawful, Quiet, Inside, inside_ahead, quiet_valued, quiet_sequence, quiet_optional, quiet_behind, quiet_word, quiet_name_of, quiet_only, lawful_valued, lawful_sequence, lawful_optional, lawful_behind, lawful_before, lawful_word, lawful_name_of, lawful_either, lawful_number, lawful_between, lawful_run, lawful_quoted, lawful_only, lawful_some_of}
 use Rattle.grammar_rules.proofs.Led.{led_valued, led_word}
 use Rattle.grammar_rules.proofs.Shapes.{exact_before, exact_behind, exact_name_of, exact_some_of, exact_quoted, starts_name_of, starts_behind}
 use Rattle.grammar_rules.proofs.Tests.{exact_either_head, exact_optional_head, exact_between_run_head, exact_either_next}
+use Rattle.xml_tree.specs.declared.names.Decl.{Decl}
 use Rattle.tree_text.specs.declared.kind.Kind.{Kind}
-use Rattle.tree_text.specs.Words.{colon, ampersand, semicolon, hash, small_x, amp, lt, gt, quot, apos}
+use Rattle.tree_text.specs.readers.Words.{colon, ampersand, semicolon, hash, small_x, amp, lt, gt, quot, apos}
 use Rattle.tree_text.specs.Pieces.{qname_of}
 use Rattle.tree_text.specs.Grammar.{name, qname, stands_for, entity, numbered, reference, last_char, is_quote, is_raw, is_raw_in}
-use Rattle.tree_text.specs.Reading.{read_qname, read_stands_for, read_entity, read_numbered, read_reference}
-use Rattle.node_select.specs.Raw.{position_of}
-use Rattle.node_select.specs.Grammar.{star, at_sign, open_bracket, close_bracket, equals_sign, node_name, position, names_attribute, attribute, plain_value, inside_quotes, value, test}
-use Rattle.node_select.specs.Reading.{read_node_name, read_position, read_attribute, read_inside_quotes, read_value, read_test}
-use Rattle.node_select.specs.Faults.{form}
+use Rattle.tree_text.specs.readers.Texts.{read_qname, read_stands_for, read_entity, read_numbered, read_reference}
+use Rattle.node_select.specs.declared.selector.NameTest.TheVariants.{Any}
+use Rattle.node_select.specs.Grammar.{position_of, node_name, position, IsUnbound, names_attribute, attribute, plain_value, inside_quotes, value, test, attr_test, element_test}
+use Rattle.node_select.specs.readers.Words.{star, at_sign, open_bracket, close_bracket, equals_sign}
+use Rattle.node_select.specs.readers.Selectors.{read_position, read_inside_quotes, read_value}
+use Rattle.node_select.specs.Faults.{marks}
+use Rattle.node_select.proofs.Judging.{judged_attribute, judged_node_name, judged_test}
+use Rattle.node_select.proofs.JudgedNames.{lawful_named, exact_name, prefixed, prefixed_attribute}
 
 -- this character
 abbrev pub Is : ℕ → ℕ → Type 0
@@ -63,7 +68,8 @@ module _ {K : Rest Kind} where
   colon_heads : Heads (Not in_qname) K → (cs : List ℕ) → Heads (Not is_name_char) (ahead (optional (behind (word colon) name)) (λ _. K))
   colon_heads h cs = heads_optional (starts_behind name (starts_word refl)) (heads_weaker (λ c m. left_false (is_name_char c) (c == 58) m) h)
 
-  pub exact_qname : Heads (Not in_qname) K → Exact form qname (λ _. K) read_qname
+module _ {faults : Faults Kind} {K : Rest Kind} where
+  pub exact_qname : Heads (Not in_qname) K → Exact faults qname (λ _. K) read_qname
   exact_qname h =
       exact_valued qname_of (exact_sequence (exact_name_of (colon_heads h)) (λ _.
       exact_optional_head (λ c. c == 58) (starts_behind name (starts_word refl)) (λ c m. m) h
@@ -89,16 +95,16 @@ starts_a p h = starts_either (starts_stands 39 97 (112 ∷ 111 ∷ 115 ∷ []) h
 starts_entity : (p : ℕ → Bool) → p 108 ≡ false → p 103 ≡ false → p 113 ≡ false → p 97 ≡ false → Starts (Not p) entity
 starts_entity p l g q a = starts_either (starts_stands 60 108 (116 ∷ []) l) (starts_either (starts_stands 62 103 (116 ∷ []) g) (starts_either (starts_stands 34 113 (117 ∷ 111 ∷ 116 ∷ []) q) (starts_a p a)))
 
-module _ {K : ℕ → Rest Kind} where
-  exact_stands : (c : ℕ) (w : List ℕ) → Exact form (stands_for c w) K (read_valued (λ _. c) (read_word w))
+module _ {faults : Faults Kind} {K : ℕ → Rest Kind} where
+  exact_stands : (c : ℕ) (w : List ℕ) → Exact faults (stands_for c w) K (read_valued (λ _. c) (read_word w))
   exact_stands c w = exact_valued (λ _. c) exact_word
 
-  exact_a : Exact form (either (stands_for 39 apos) (stands_for 38 amp)) K (read_either (starts (97 ∷ 112 ∷ [])) (read_stands_for 39 apos) (read_stands_for 38 amp))
+  exact_a : Exact faults (either (stands_for 39 apos) (stands_for 38 amp)) K (read_either (starts (97 ∷ 112 ∷ [])) (read_stands_for 39 apos) (read_stands_for 38 amp))
   exact_a =
       exact_either_next (97 ∷ []) 112 (led_valued (λ _. 39) (led_word (97 ∷ []) 112 (111 ∷ 115 ∷ []) refl)) (led_valued (λ _. 38) (led_word {Q = Is 109} (97 ∷ []) 109 (112 ∷ []) refl)) m_not_p
       (exact_stands 39 apos) (exact_stands 38 amp)
 
-  exact_entity : Exact form entity K read_entity
+  exact_entity : Exact faults entity K read_entity
   exact_entity =
       exact_either_head (λ c. c == 108) (starts_stands 60 108 (116 ∷ []) refl) (λ c m. m)
       (heads_starts (starts_either (starts_stands 62 103 (116 ∷ []) refl) (starts_either (starts_stands 34 113 (117 ∷ 111 ∷ 116 ∷ []) refl) (starts_a (λ c. c == 108) refl)))) (λ c t m. clash (c == 108) t m)
@@ -110,7 +116,7 @@ module _ {K : ℕ → Rest Kind} where
       (heads_starts (starts_a (λ c. c == 113) refl)) (λ c t m. clash (c == 113) t m)
       (exact_stands 34 quot) exact_a))
 
-  exact_numbered : ((n : ℕ) → Heads (Not is_hex_digit) (K n)) → Exact form numbered K read_numbered
+  exact_numbered : ((n : ℕ) → Heads (Not is_hex_digit) (K n)) → Exact faults numbered K read_numbered
   exact_numbered h =
       exact_behind exact_word
       (exact_either_head (λ c. c == 120) (starts_behind (number hexadecimal last_char is_char) (starts_word refl)) (λ c m. m)
@@ -118,8 +124,8 @@ module _ {K : ℕ → Rest Kind} where
       (exact_behind exact_word (exact_number hexadecimal last_char is_char h))
       (exact_number decimal last_char is_char (λ n. heads_weaker (λ c m. left_false (within 48 57 c) (within 65 70 c) (left_false (within 48 57 c || within 65 70 c) (within 97 102 c) m)) (h n))))
 
-module _ {K : ℕ → Rest Kind} where
-  pub exact_reference : Exact form reference K read_reference
+module _ {faults : Faults Kind} {K : ℕ → Rest Kind} where
+  pub exact_reference : Exact faults reference K read_reference
   exact_reference =
       exact_behind exact_word
       (exact_before
@@ -141,34 +147,19 @@ raw_not_quote q c e = and_not (is_raw c) (c == q) (eq-eqb c q e)
 quote_not_ampersand : (q c : ℕ) → is_quote q ≡ true → (c == 38) ≡ true → c ≡ q → ⊥
 quote_not_ampersand q c is t e = let same : q ≡ 38 = sym e ∙ eqb-true c 38 t in let z : true ≡ false = sym is ∙ ap is_quote same in cc
 
-module _ {K : Rest Kind} where
-  exact_inside : (q : ℕ) → is_quote q ≡ true → Exact form (inside_quotes q) (λ _. ahead (word (q ∷ [])) (λ _. K)) (read_inside_quotes q)
+module _ {faults : Faults Kind} {K : Rest Kind} where
+  exact_inside : (q : ℕ) → is_quote q ≡ true → Exact faults (inside_quotes q) (λ _. ahead (word (q ∷ [])) (λ _. K)) (read_inside_quotes q)
   exact_inside q is =
       exact_valued plain_value
       (exact_between_run_head (λ c. c == 38) starts_reference (λ c m. (m, raw_not_ampersand q c m)) (heads_starts (starts_word {P = Is q} refl)) (raw_not_quote q) (λ c t e. quote_not_ampersand q c is t e)
       exact_reference)
 
-  pub exact_value : Exact form value (λ _. K) read_value
+  pub exact_value : Exact faults value (λ _. K) read_value
   exact_value = exact_quoted (λ q is. exact_inside q is)
 
   -- ---- the parts of a step
-  pub exact_position : Exact form position (λ _. K) read_position
+  pub exact_position : Exact faults position (λ _. K) read_position
   exact_position = exact_behind exact_word (exact_before (exact_valued position_of (exact_some_of (λ _. heads_starts (starts_word refl)))) (λ _. exact_word))
-
-  pub exact_attribute : Heads (Not in_qname) K → Exact form attribute (λ _. K) read_attribute
-  exact_attribute h = exact_behind exact_word (exact_only names_attribute in_qname lawful_qname (λ _. h) (exact_qname heads_unless) (exact_qname h))
-
-module _ {K : Rest Kind} where
-  pub exact_test : Exact form test (λ _. K) read_test
-  exact_test =
-      exact_behind exact_word
-      (exact_before (exact_sequence (exact_attribute (heads_starts (starts_behind value (starts_word refl)))) (λ _. exact_behind exact_word exact_value)) (λ _. exact_word))
-
-  pub exact_node_name : Heads (Not in_qname) K → Exact form node_name (λ _. K) read_node_name
-  exact_node_name h =
-      exact_either_head (λ c. c == 42) (starts_valued (λ _. None) (starts_word refl)) (λ c m. m)
-      (heads_starts (starts_valued Some (starts_weaker (λ c m. other is_name_start c 42 refl m) starts_qname))) (λ c t m. clash (c == 42) t m)
-      (exact_valued (λ _. None) exact_word) (exact_valued Some (exact_qname h))
 
 -- ---- what they keep to
 pub lawful_reference : Lawful reference
@@ -188,11 +179,41 @@ lawful_value = lawful_quoted (λ q. lawful_valued plain_value (lawful_between la
 pub lawful_position : Lawful position
 lawful_position = lawful_behind (lawful_word open_bracket) (lawful_before (lawful_valued position_of lawful_some_of) (lawful_word close_bracket))
 
-pub lawful_attribute : Lawful attribute
-lawful_attribute = lawful_behind (lawful_word at_sign) (lawful_only names_attribute lawful_qname)
+pub quiet_qname : Quiet qname
+quiet_qname = quiet_valued qname_of (quiet_sequence quiet_name_of (λ _. quiet_optional (quiet_behind (quiet_word colon) quiet_name_of)))
 
-pub lawful_test : Lawful test
-lawful_test = lawful_behind (lawful_word open_bracket) (lawful_before (lawful_sequence lawful_attribute (λ _. lawful_behind (lawful_word equals_sign) lawful_value)) (lawful_word close_bracket))
+module _ (bindings : List Decl) (default : List ℕ) where
+  pub lawful_attribute : Lawful (attribute bindings default)
+  lawful_attribute = lawful_behind (lawful_word at_sign) (lawful_named bindings (lawful_only names_attribute lawful_qname) (λ u n m. m.0))
 
-pub lawful_node_name : Lawful node_name
-lawful_node_name = lawful_either (lawful_valued (λ _. None) (lawful_word star)) (lawful_valued Some lawful_qname)
+  pub lawful_test : Lawful (test bindings default)
+  lawful_test =
+      lawful_behind (lawful_word open_bracket)
+      (lawful_before (lawful_valued (attr_test bindings default) (lawful_sequence lawful_attribute (λ _. lawful_behind (lawful_word equals_sign) lawful_value))) (lawful_word close_bracket))
+
+  pub lawful_node_name : Lawful (node_name bindings default)
+  lawful_node_name = lawful_either (lawful_valued (λ _. Any) (lawful_word star)) (lawful_valued (element_test bindings default) (lawful_named bindings lawful_qname (λ u n m. m)))
+
+module _ (bindings : List Decl) (default : List ℕ) (on : Bool) {K : Rest Kind} (inside : Inside K) where
+  pub exact_attribute : Heads (Not in_qname) K → Exact (marks on) (attribute bindings default) (λ _. K) (judged_attribute bindings default on)
+  exact_attribute h =
+      exact_behind exact_word
+      (exact_name bindings on (lawful_only names_attribute lawful_qname) (quiet_only names_attribute quiet_qname) (λ u n m. m.0) prefixed_attribute inside
+      (exact_only names_attribute in_qname lawful_qname (λ _. h) (exact_qname heads_unless) (exact_qname h)))
+
+  pub exact_node_name : Heads (Not in_qname) K → Exact (marks on) (node_name bindings default) (λ _. K) (judged_node_name bindings default on)
+  exact_node_name h =
+      exact_either_head (λ c. c == 42) (starts_valued (λ _. Any) (starts_word refl)) (λ c m. m)
+      (heads_starts (starts_valued (element_test bindings default) (starts_judged (IsUnbound bindings) (starts_weaker (λ c m. other is_name_start c 42 refl m) starts_qname)))) (λ c t m. clash (c == 42) t m)
+      (exact_valued (λ _. Any) exact_word)
+      (exact_valued (element_test bindings default) (exact_name bindings on lawful_qname quiet_qname (λ u n m. m) prefixed inside (exact_qname h)))
+
+module _ (bindings : List Decl) (default : List ℕ) (on : Bool) {K : Rest Kind} (inside : Inside K) where
+  pub exact_test : Exact (marks on) (test bindings default) (λ _. K) (judged_test bindings default on)
+  exact_test =
+      exact_behind exact_word
+      (exact_before
+      (exact_valued (attr_test bindings default) (exact_sequence
+      (exact_attribute bindings default on (inside_ahead (lawful_behind (lawful_word equals_sign) lawful_value) (λ _. inside_ahead (lawful_word close_bracket) (λ _. inside))) (heads_starts (starts_behind value (starts_word refl))))
+      (λ _. exact_behind exact_word exact_value)))
+      (λ _. exact_word))

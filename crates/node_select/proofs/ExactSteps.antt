@@ -1,24 +1,29 @@
 -- Steps are read exactly, before what begins with a slash.
 use Rattle.std.proofs.Common.{◌≡◌, ℕ, ◌≤◌, Bool, true, false, List, [], ◌∷◌, ◌++◌, length, ◌⊎◌, inl, inr, ⊎_elim, refl, sym, ap, ◌∙◌, subst, arith, append_assoc}
-use Rattle.std.specs.Prelude.{◌&&◌, not, ◌==◌, None, Some}
+use Rattle.std.specs.Prelude.{◌&&◌, not, ◌==◌, Some}
 use Rattle.std.proofs.lemmas.List.{append_cancel_left, append-nil, length-append}
 use Rattle.xml_tree.specs.Characters.{is_name_start}
+use Rattle.xml_tree.specs.declared.names.Decl.{Decl}
 use Rattle.grammar_rules.specs.Digits.{is_digit}
 use Rattle.grammar_rules.specs.Rules.{Event, Begin, Mark, Rule, word, sequence, optional, before, behind, valued, some_of}
 use Rattle.grammar_rules.specs.Reading.{head_is, starts, read_optional}
+use Rattle.grammar_rules.specs.Answers.{Faults}
 use Rattle.grammar_rules.proofs.Exact.{Rest, ahead, Exact, IsRead, Passed, exact_sequence}
-use Rattle.grammar_rules.proofs.Carry.{Idle, Covers, exact_valued, exact_sized, covers_either, covers_valued}
+use Rattle.grammar_rules.proofs.Carry.{Idle, Covers, exact_valued, covers_either, covers_valued}
 use Rattle.grammar_rules.proofs.Fronts.{GoesOn, compare}
-use Rattle.grammar_rules.proofs.Heads.{Heads, Starts, Not, heads_weaker, heads_optional, starts_word, starts_weaker, starts_valued, starts_either, starts_sequence, starts_sized}
-use Rattle.grammar_rules.proofs.Laws.{Lawful, lawful_valued, lawful_sequence, lawful_optional, lawful_sized}
+use Rattle.grammar_rules.proofs.Heads.{Heads, Starts, Not, heads_weaker, heads_optional, starts_word, starts_weaker, starts_valued, starts_either, starts_sequence, starts_judged}
+use Rattle.grammar_rules.proofs.Laws.{Lawful, Inside, inside_ahead, lawful_valued, lawful_sequence, lawful_optional}
 use Rattle.grammar_rules.proofs.Led.{Led, led_valued, led_then}
 use Rattle.grammar_rules.proofs.Shapes.{exact_optional, covers_by, covers_empty, starts_behind, starts_before, starts_some_of}
 use Rattle.grammar_rules.proofs.Tests.{exact_optional_head, passed_covers, failed_covers, next_covers, other_covers}
 use Rattle.tree_text.specs.declared.kind.Kind.{Kind}
-use Rattle.node_select.specs.Raw.{position_of}
-use Rattle.node_select.specs.Grammar.{at_sign, open_bracket, close_bracket, equals_sign, node_name, position, attribute, value, test, step, raw_step_of}
-use Rattle.node_select.specs.Reading.{position_follows, test_follows, read_position, read_test, read_step}
-use Rattle.node_select.specs.Faults.{form}
+use Rattle.node_select.specs.declared.selector.NameTest.TheVariants.{Any}
+use Rattle.node_select.specs.declared.selector.AttrTest.{AttrTest}
+use Rattle.node_select.specs.Grammar.{IsUnbound, node_name, element_test, position_of, position, attribute, attr_test, value, test, step, step_of}
+use Rattle.node_select.specs.readers.Words.{at_sign, open_bracket, close_bracket, equals_sign}
+use Rattle.node_select.specs.readers.Selectors.{position_follows, test_follows, read_position}
+use Rattle.node_select.specs.Faults.{marks}
+use Rattle.node_select.proofs.Judging.{judged_test, judged_step}
 use Rattle.node_select.proofs.ExactParts.{Is, clash, in_qname, starts_qname, exact_position, exact_test, exact_node_name, lawful_position, lawful_test, lawful_node_name}
 
 -- what a member begins, the optional member begins
@@ -42,66 +47,74 @@ not_true true h = cc
 led_position : Led open_bracket (λ c. is_digit c ≡ true) position
 led_position = led_valued (λ x. x.1) (led_then open_bracket (starts_before (word close_bracket) (starts_valued position_of (starts_some_of (λ c m. m)))))
 
-led_test : Led open_bracket (Is 64) test
-led_test =
-    led_valued (λ x. x.1)
-    (led_then open_bracket (starts_before (word close_bracket) (starts_sequence (λ _. behind (word equals_sign) value) (starts_behind _ (starts_word refl)))))
-
 starts_position : {P : ℕ → Type 0} → P 91 → Starts P position
 starts_position h = starts_behind (before (valued position_of (some_of is_digit)) (word close_bracket)) (starts_word h)
 
-starts_test : {P : ℕ → Type 0} → P 91 → Starts P test
-starts_test h = starts_behind (before (sequence attribute (λ _. behind (word equals_sign) value)) (word close_bracket)) (starts_word h)
+module _ (bindings : List Decl) (default : List ℕ) where
+  abbrev tested : Rule Kind AttrTest
+  tested = test bindings default
 
-module _ {K : Rest Kind} (h : Heads (Is 47) K) where
-  abbrev rest_test : Rest Kind
-  rest_test = ahead (optional test) (λ _. K)
+  led_test : Led open_bracket (Is 64) tested
+  led_test =
+      led_valued (λ x. x.1)
+      (led_then open_bracket (starts_before (word close_bracket) (starts_valued (attr_test bindings default) (starts_sequence (λ _. behind (word equals_sign) value) (starts_behind _ (starts_word refl))))))
 
-  slash_not : (p : ℕ → Bool) → p 47 ≡ false → Heads (Not p) K
-  slash_not p f = heads_weaker (λ c e. ap p e ∙ f) h
+  starts_test : {P : ℕ → Type 0} → P 91 → Starts P tested
+  starts_test h = starts_behind (before (valued (attr_test bindings default) (sequence (attribute bindings default) (λ _. behind (word equals_sign) value))) (word close_bracket)) (starts_word h)
 
-  heads_test : (p : ℕ → Bool) → p 91 ≡ false → p 47 ≡ false → Heads (Not p) rest_test
-  heads_test p f g = heads_optional (starts_test f) (slash_not p g)
+  pub lawful_step : Lawful (step bindings default)
+  lawful_step =
+      lawful_valued step_of
+      (lawful_sequence (lawful_sequence (lawful_node_name bindings default) (λ _. lawful_optional lawful_position)) (λ _. lawful_optional (lawful_test bindings default)))
 
-  heads_position : (p : ℕ → Bool) → p 91 ≡ false → p 47 ≡ false → Heads (Not p) (ahead (optional position) (λ _. rest_test))
-  heads_position p f g = heads_optional (starts_position f) (heads_test p f g)
+  pub starts_step : {P : ℕ → Type 0} → P 42 → ((c : ℕ) → is_name_start c ≡ true → P c) → Starts P (step bindings default)
+  starts_step {P} a b = starts_valued step_of (starts_sequence (λ _. optional tested) (starts_sequence (λ _. optional position) names))
+    where
+      names : Starts P (node_name bindings default)
+      names = starts_either (starts_valued (λ _. Any) (starts_word a)) (starts_valued (element_test bindings default) (starts_judged (IsUnbound bindings) (starts_weaker b starts_qname)))
 
-  exact_optional_test : Exact form (optional test) (λ _. K) (read_optional test_follows read_test)
-  exact_optional_test = exact_optional_head (λ c. c == 91) (starts_test refl) (λ c m. m) (slash_not (λ c. c == 91) refl) (λ c t m. clash (c == 91) t m) exact_test
+  module _ (on : Bool) {K : Rest Kind} (h : Heads (Is 47) K) (inside : Inside K) where
+    abbrev rest_test : Rest Kind
+    rest_test = ahead (optional tested) (λ _. K)
 
-  goes : (text : List ℕ) → head_is (λ c. c == 91) text ≡ true → starts (open_bracket ++ at_sign) text ≡ false → Covers form text rest_test (ahead position (λ _. rest_test))
-  goes text t f =
-      covers_either (covers_valued Some (other_covers open_bracket 64 led_test led_position f))
-      (covers_empty (passed_covers (λ c. c == 91) (slash_not (λ c. c == 91) refl) (λ c t m. clash (c == 91) t m) t))
+    slash_not : (p : ℕ → Bool) → p 47 ≡ false → Heads (Not p) K
+    slash_not p f = heads_weaker (λ c e. ap p e ∙ f) h
 
-  stops : (text : List ℕ) (a b : Bool) → head_is (λ c. c == 91) text ≡ a → starts (open_bracket ++ at_sign) text ≡ b → (a && not b) ≡ false → Covers form text (ahead position (λ _. rest_test)) rest_test
-  stops text false b e f n = failed_covers (λ c. c == 91) (starts_position refl) (λ c m. m) e
-  stops text true true e f n = covers_by (into_optional test K) (next_covers {K = λ _. K} open_bracket 64 led_position led_test (λ d. cc) f)
-  stops text true false e f n = absurd cc
+    heads_test : (p : ℕ → Bool) → p 91 ≡ false → p 47 ≡ false → Heads (Not p) rest_test
+    heads_test p f g = heads_optional (starts_test f) (slash_not p g)
 
-  exact_optional_position : Exact form (optional position) (λ _. rest_test) (read_optional position_follows read_position)
-  exact_optional_position = exact_optional position_follows exact_position
-      (λ text t. goes text (and_left (head_is (λ c. c == 91) text) _ t) (not_true _ (and_right (head_is (λ c. c == 91) text) _ t)))
-      (λ text f. stops text (head_is (λ c. c == 91) text) (starts (open_bracket ++ at_sign) text) refl refl f)
+    heads_position : (p : ℕ → Bool) → p 91 ≡ false → p 47 ≡ false → Heads (Not p) (ahead (optional position) (λ _. rest_test))
+    heads_position p f g = heads_optional (starts_position f) (heads_test p f g)
 
-  pub exact_step : Exact form step (λ _. K) read_step
-  exact_step =
-      exact_valued raw_step_of
-      (exact_sized (exact_sequence (exact_sized (exact_sequence (exact_node_name (heads_position in_qname refl refl)) (λ _. exact_optional_position))) (λ _. exact_optional_test)))
+    inside_position : Inside (ahead (optional position) (λ _. rest_test))
+    inside_position = inside_ahead (lawful_optional lawful_position) (λ _. inside_ahead (lawful_optional (lawful_test bindings default)) (λ _. inside))
 
-pub lawful_step : Lawful step
-lawful_step = lawful_valued raw_step_of (lawful_sized (lawful_sequence (lawful_sized (lawful_sequence lawful_node_name (λ _. lawful_optional lawful_position))) (λ _. lawful_optional lawful_test)))
+    exact_optional_test : Exact (marks on) (optional tested) (λ _. K) (read_optional test_follows (judged_test bindings default on))
+    exact_optional_test = exact_optional_head (λ c. c == 91) (starts_test refl) (λ c m. m) (slash_not (λ c. c == 91) refl) (λ c t m. clash (c == 91) t m) (exact_test bindings default on inside)
 
-pub starts_step : {P : ℕ → Type 0} → P 42 → ((c : ℕ) → is_name_start c ≡ true → P c) → Starts P step
-starts_step {P} a b =
-    starts_valued raw_step_of (starts_sized (starts_sequence (λ _. optional test) (starts_sized (starts_sequence (λ _. optional position) names))))
-  where
-    names : Starts P node_name
-    names = starts_either (starts_valued (λ _. None) (starts_word a)) (starts_valued Some (starts_weaker b starts_qname))
+    goes : (text : List ℕ) → head_is (λ c. c == 91) text ≡ true → starts (open_bracket ++ at_sign) text ≡ false → Covers (marks on) text rest_test (ahead position (λ _. rest_test))
+    goes text t f =
+        covers_either (covers_valued Some (other_covers open_bracket 64 led_test led_position f))
+        (covers_empty (passed_covers (λ c. c == 91) (slash_not (λ c. c == 91) refl) (λ c t m. clash (c == 91) t m) t))
+
+    stops : (text : List ℕ) (a b : Bool) → head_is (λ c. c == 91) text ≡ a → starts (open_bracket ++ at_sign) text ≡ b → (a && not b) ≡ false → Covers (marks on) text (ahead position (λ _. rest_test)) rest_test
+    stops text false b e f n = failed_covers (λ c. c == 91) (starts_position refl) (λ c m. m) e
+    stops text true true e f n = covers_by (into_optional tested K) (next_covers {K = λ _. K} open_bracket 64 led_position led_test (λ d. cc) f)
+    stops text true false e f n = absurd cc
+
+    exact_optional_position : Exact (marks on) (optional position) (λ _. rest_test) (read_optional position_follows read_position)
+    exact_optional_position = exact_optional position_follows exact_position
+        (λ text t. goes text (and_left (head_is (λ c. c == 91) text) _ t) (not_true _ (and_right (head_is (λ c. c == 91) text) _ t)))
+        (λ text f. stops text (head_is (λ c. c == 91) text) (starts (open_bracket ++ at_sign) text) refl refl f)
+
+    pub exact_step : Exact (marks on) (step bindings default) (λ _. K) (judged_step bindings default on)
+    exact_step =
+        exact_valued step_of
+        (exact_sequence (exact_sequence (exact_node_name bindings default on inside_position (heads_position in_qname refl refl)) (λ _. exact_optional_position)) (λ _. exact_optional_test))
 
 -- ---- a step that was read, or broke off, and nothing that can follow it: that is all that is there
-pub read_covers : {A : Type 0} {r : Rule Kind A} {M X : Rest Kind} {text : List ℕ} {a : A} (c : ℕ) (x : List ℕ) → (i : IsRead form r (λ _. M) text a (c ∷ x)) → Heads (Is 47) M → (c ≡ 47 → ⊥) → ((u y : List ℕ) → i.used ≡ u ++ y → X.Meets Begin u ⊎ (u ≡ [])) → Covers form text (ahead r (λ _. M)) X
-read_covers {A} {r} {M} {X} {text} {a} c x i h no_slash fronts = record {
+pub read_covers : {faults : Faults Kind} {A : Type 0} {r : Rule Kind A} {M X : Rest Kind} {text : List ℕ} {a : A} (c : ℕ) (x : List ℕ) → (i : IsRead faults r (λ _. M) text a (c ∷ x)) → Heads (Is 47) M → (c ≡ 47 → ⊥) → ((u y : List ℕ) → i.used ≡ u ++ y → X.Meets Begin u ⊎ (u ≡ [])) → Covers faults text (ahead r (λ _. M)) X
+read_covers {faults} {A} {r} {M} {X} {text} {a} c x i h no_slash fronts = record {
   events = λ e v w j m. ⊎_elim (λ p. by_front e v w j p) (λ l. by_rest e v w j l.0 l.1 l.2) (i.settled e v w j m);
   whole = λ m. by_whole m.0 m.1.front m.1.back m.1.joined m.1.front_is m.1.back_is;
 }
@@ -110,13 +123,13 @@ read_covers {A} {r} {M} {X} {text} {a} c x i h no_slash fronts = record {
     front_of_used v w j n (inl k) = fronts v k.0 k.1
     front_of_used v w j n (inr k) = absurd (omega (arith, n, ap length k.front, length-append i.used (k.c ∷ k.rest)))
 
-    by_front : (e : Event Kind) (v w : List ℕ) → text ≡ v ++ w → Passed form e v i.used → X.Meets e v ⊎ Idle form e v
+    by_front : (e : Event Kind) (v w : List ℕ) → text ≡ v ++ w → Passed faults e v i.used → X.Meets e v ⊎ Idle faults e v
     by_front Begin v w j p = front_of_used v w j p (compare v w i.used (c ∷ x) (sym j ∙ i.joined))
     by_front (Mark k b) v w j p = inr p
 
-    by_rest : (e : Event Kind) (v w : List ℕ) → text ≡ v ++ w → (y : List ℕ) → v ≡ i.used ++ y → M.Meets e y → X.Meets e v ⊎ Idle form e v
+    by_rest : (e : Event Kind) (v w : List ℕ) → text ≡ v ++ w → (y : List ℕ) → v ≡ i.used ++ y → M.Meets e y → X.Meets e v ⊎ Idle faults e v
     by_rest Begin v w j [] k m = let same : v ≡ i.used = k ∙ append-nil i.used in fronts v [] (sym same ∙ sym (append-nil v))
-    by_rest (Mark q b) v w j [] k m = inr refl
+    by_rest (Mark q b) v w j [] k m = absurd (h.none q b m)
     by_rest e v w j (d ∷ y) k m =
         let slash : d ≡ 47 = h.meets e d y m in
         let rest : c ∷ x ≡ (d ∷ y) ++ w = append_cancel_left i.used (c ∷ x) ((d ∷ y) ++ w) (sym i.joined ∙ j ∙ ap (λ (z : List ℕ). z ++ w) k ∙ append_assoc i.used (d ∷ y) w) in

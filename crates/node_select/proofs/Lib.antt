@@ -1,12 +1,17 @@
 pub mod Along
 pub mod Bytes
+pub mod Judging
+pub mod JudgedNames
 pub mod ExactParts
 pub mod StepFronts
 pub mod ExactSelectors
 pub mod ExactSteps
+pub mod Agreeing
+pub mod Resolved
 pub mod Lists
 pub mod Positions
 pub mod Reaching
+pub mod LongestWays
 pub mod Resolving
 pub mod Walked
 pub mod Widths

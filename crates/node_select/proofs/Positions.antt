@@ -4,7 +4,7 @@ use Rattle.std.specs.Prelude.{nat_le}
 use Rattle.std.proofs.Math.Seq.{drop-cons}
 use Rattle.grammar_rules.specs.Digits.{decimal}
 use Rattle.grammar_rules.specs.Rules.{number_from}
-use Rattle.node_select.specs.Raw.{greatest_position, position_of}
+use Rattle.node_select.specs.Grammar.{greatest_position, position_of}
 
 not_less : (cs : List ℕ) (n : ℕ) → n ≤ number_from decimal n cs
 not_less [] n = omega arith

@@ -6,8 +6,8 @@ use Rattle.std.specs.Str.{chars, IsUtf8}
 use Rattle.xml_tree.specs.declared.names.Decl.{Decl}
 use Rattle.node_select.specs.declared.meaning.Unresolved.{Unresolved}
 use Rattle.node_select.specs.declared.meaning.Unresolved.TheVariants.{Prefix, Memory}
-use Rattle.node_select.specs.Meaning.{Fails}
-use Rattle.node_select.specs.Raw.{RawStep, widths, first_of, unbound_in, unbound_from, no_end}
+use Rattle.node_select.specs.readers.Resolving.{Fails}
+use Rattle.node_select.specs.readers.Raw.{RawStep, widths, first_of, unbound_in, unbound_from, no_end}
 use Rattle.node_select.proofs.Bytes.{behind_fits}
 
 first_of-assoc : (a b c : Option ℕ) → first_of a (first_of b c) ≡ first_of (first_of a b) c

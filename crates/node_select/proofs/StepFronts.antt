@@ -1,15 +1,16 @@
 -- Each front of a beginning of a step is a beginning of it too.
 use Rattle.std.proofs.Common.{ℕ, List, inl, refl}
-use Rattle.std.specs.Prelude.{None, Some}
 use Rattle.xml_tree.specs.Characters.{is_char}
+use Rattle.xml_tree.specs.declared.names.Decl.{Decl}
 use Rattle.grammar_rules.specs.Digits.{decimal, hexadecimal}
-use Rattle.grammar_rules.proofs.Laws.{Lawful, lawful_valued, lawful_sequence, lawful_optional, lawful_behind, lawful_word, lawful_name_of, lawful_either, lawful_number, lawful_between, lawful_run, lawful_some_of, lawful_sized}
-use Rattle.grammar_rules.proofs.Beginnings.{Fronted, fronted_word, fronted_run, fronted_number, fronted_sequence, fronted_either, fronted_valued, fronted_sized, fronted_only, fronted_optional, fronted_before, fronted_behind, fronted_name_of, fronted_some_of, fronted_quoted, fronted_between}
-use Rattle.tree_text.specs.Words.{colon, ampersand, semicolon, hash, small_x, amp, lt, gt, quot, apos}
+use Rattle.grammar_rules.proofs.Laws.{Lawful, lawful_valued, lawful_sequence, lawful_optional, lawful_behind, lawful_word, lawful_name_of, lawful_either, lawful_number, lawful_between, lawful_run, lawful_some_of}
+use Rattle.grammar_rules.proofs.Beginnings.{Fronted, fronted_word, fronted_run, fronted_number, fronted_sequence, fronted_either, fronted_valued, fronted_only, fronted_judged, fronted_optional, fronted_before, fronted_behind, fronted_name_of, fronted_some_of, fronted_quoted, fronted_between}
+use Rattle.tree_text.specs.readers.Words.{colon, ampersand, semicolon, hash, small_x, amp, lt, gt, quot, apos}
 use Rattle.tree_text.specs.Grammar.{qname, reference, last_char, stands_for, numbered, entity}
 use Rattle.tree_text.specs.Pieces.{qname_of}
-use Rattle.node_select.specs.Grammar.{star, open_bracket, close_bracket, at_sign, equals_sign, names_attribute, plain_value, raw_step_of, node_name, position, attribute, value, test, step}
-use Rattle.node_select.specs.Raw.{position_of}
+use Rattle.node_select.specs.declared.selector.NameTest.TheVariants.{Any}
+use Rattle.node_select.specs.Grammar.{IsUnbound, names_attribute, plain_value, step_of, node_name, element_test, position_of, position, attribute, attr_test, value, test, step}
+use Rattle.node_select.specs.readers.Words.{star, open_bracket, close_bracket, at_sign, equals_sign}
 use Rattle.node_select.proofs.ExactParts.{lawful_reference, lawful_value, lawful_position, lawful_attribute, lawful_node_name}
 
 fronted_qname : Fronted qname
@@ -44,24 +45,24 @@ fronted_value =
 fronted_position : Fronted position
 fronted_position = fronted_behind (lawful_word open_bracket) (fronted_word open_bracket) (fronted_before (lawful_valued position_of lawful_some_of) (fronted_valued position_of fronted_some_of) (fronted_word close_bracket))
 
-fronted_attribute : Fronted attribute
-fronted_attribute = fronted_behind (lawful_word at_sign) (fronted_word at_sign) (fronted_only names_attribute fronted_qname)
-
-fronted_test : Fronted test
-fronted_test =
-    fronted_behind (lawful_word open_bracket) (fronted_word open_bracket)
-    (fronted_before (lawful_sequence lawful_attribute (λ _. lawful_behind (lawful_word equals_sign) lawful_value))
-    (fronted_sequence lawful_attribute fronted_attribute (λ _. fronted_behind (lawful_word equals_sign) (fronted_word equals_sign) fronted_value))
-    (fronted_word close_bracket))
-
-fronted_node_name : Fronted node_name
-fronted_node_name = fronted_either (fronted_valued (λ _. None) (fronted_word star)) (fronted_valued Some fronted_qname)
-
 -- the step
-pub fronted_step : Fronted step
-fronted_step =
-    fronted_valued raw_step_of
-    (fronted_sized
-    (fronted_sequence (lawful_sized (lawful_sequence lawful_node_name (λ _. lawful_optional lawful_position)))
-    (fronted_sized (fronted_sequence lawful_node_name fronted_node_name (λ _. fronted_optional fronted_position)))
-    (λ _. fronted_optional fronted_test)))
+module _ (bindings : List Decl) (default : List ℕ) where
+  fronted_attribute : Fronted (attribute bindings default)
+  fronted_attribute = fronted_behind (lawful_word at_sign) (fronted_word at_sign) (fronted_judged (IsUnbound bindings) (fronted_only names_attribute fronted_qname))
+
+  fronted_test : Fronted (test bindings default)
+  fronted_test =
+      fronted_behind (lawful_word open_bracket) (fronted_word open_bracket)
+      (fronted_before (lawful_valued (attr_test bindings default) (lawful_sequence (lawful_attribute bindings default) (λ _. lawful_behind (lawful_word equals_sign) lawful_value)))
+      (fronted_valued (attr_test bindings default) (fronted_sequence (lawful_attribute bindings default) fronted_attribute (λ _. fronted_behind (lawful_word equals_sign) (fronted_word equals_sign) fronted_value)))
+      (fronted_word close_bracket))
+
+  fronted_node_name : Fronted (node_name bindings default)
+  fronted_node_name = fronted_either (fronted_valued (λ _. Any) (fronted_word star)) (fronted_valued (element_test bindings default) (fronted_judged (IsUnbound bindings) fronted_qname))
+
+  pub fronted_step : Fronted (step bindings default)
+  fronted_step =
+      fronted_valued step_of
+      (fronted_sequence (lawful_sequence (lawful_node_name bindings default) (λ _. lawful_optional lawful_position))
+      (fronted_sequence (lawful_node_name bindings default) fronted_node_name (λ _. fronted_optional fronted_position))
+      (λ _. fronted_optional fronted_test))

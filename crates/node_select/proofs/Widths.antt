@@ -6,12 +6,13 @@ use Rattle.grammar_rules.specs.Digits.{is_digit}
 use Rattle.grammar_rules.specs.Reading.{Stop, Syntax, Reader, ◌>>=◌, read_word, read_sequence, read_at_most, read_many, read_valued, read_sized, read_only, read_optional, read_name_of, read_before, read_behind, read_whole, all_of}
 use Rattle.tree_text.specs.declared.kind.Kind.{Kind}
 use Rattle.tree_text.specs.Grammar.{is_quote, is_raw_in}
-use Rattle.tree_text.specs.Reading.{reference_follows}
+use Rattle.tree_text.specs.readers.Texts.{reference_follows}
 use Rattle.tree_text.proofs.TagLemmas.{shrinks_qname, shrinks_reference}
 use Rattle.tree_text.proofs.Shrinks.{Small, Shrinks, ok_small, shrinks_one, shrinks_word, shrinks_run, shrinks_empty, shrinks_sequence, shrinks_valued, shrinks_either, shrinks_many}
-use Rattle.node_select.specs.Raw.{RawStep, RawPatchEnd, widths, position_of, AreWhole, HasRoom, RawSelector, RawPatchSelector}
-use Rattle.node_select.specs.Grammar.{star, at_sign, open_bracket, close_bracket, equals_sign, names_attribute, plain_value, raw_step_of, first_step_of, end_or_element, patch_end_or_element, slash, slash_width}
-use Rattle.node_select.specs.Reading.{star_follows, position_follows, test_follows, slash_follows, read_node_name, read_position, read_attribute, read_inside_quotes, read_value, read_test, read_step, read_next_step, read_steps, read_end, read_selector, read_patch_end, read_patch_selector, step_follows, patch_step_follows}
+use Rattle.node_select.specs.Grammar.{position_of, names_attribute, plain_value, first_step_of}
+use Rattle.node_select.specs.readers.Words.{star, at_sign, open_bracket, close_bracket, equals_sign, slash}
+use Rattle.node_select.specs.readers.Raw.{RawStep, RawPatchEnd, widths, AreWhole, HasRoom, RawSelector, RawPatchSelector, raw_step_of, end_or_element, patch_end_or_element, slash_width}
+use Rattle.node_select.specs.readers.Selectors.{star_follows, position_follows, test_follows, slash_follows, read_node_name, read_position, read_attribute, read_inside_quotes, read_value, read_test, read_step, read_next_step, read_steps, read_end, read_selector, read_patch_end, read_patch_selector, step_follows, patch_step_follows}
 
 -- ---- shapes
 shrinks_behind : {A B : Type 0} {p : Reader Kind A} {q : Reader Kind B} → Shrinks p → Shrinks q → Shrinks (read_behind p q)
@@ -142,7 +143,7 @@ slash_width_is : (text : List ℕ) (x : Unit {0} × List ℕ) → read_word {Kin
 slash_width_is [] x h = cc
 slash_width_is (c ∷ cs) x h = let e = slash_ok (nat_eq 47 c) cs x (Syntax (c ∷ cs)) h in omega (arith, ap length e)
 
-next_fills : (text : List ℕ) (s : RawStep) (rest : List ℕ) → read_next_step text ≡ Ok (s, rest) → (s.size + 1 + length rest ≡ length text) × (s.front ≤ s.size)
+pub next_fills : (text : List ℕ) (s : RawStep) (rest : List ℕ) → read_next_step text ≡ Ok (s, rest) → (s.size + 1 + length rest ≡ length text) × (s.front ≤ s.size)
 next_fills text s rest h =
     let v = valued_ok (λ (x : Unit {0} × RawStep). x.1) (read_sequence (read_word slash) (λ _. read_step)) text (s, rest) h in
     let q = sequence_ok (read_word slash) (λ _. read_step) text v.0 v.1 in
@@ -189,6 +190,19 @@ steps_fill test text z h =
     let P : List RawStep → Type 0 = λ ss. (widths ss ≤ length text + 1) × AreWhole ss in
     let made : (q.first.0 ∷ q.second.0) ≡ z.0 = ap (λ (w : (RawStep × List RawStep) × List ℕ). first_step_of w.0) q.made ∙ ap (λ (w : List RawStep × List ℕ). w.0) v.2 in
     subst P made (omega (arith, f.sizes, g.sizes), (f.front, g.whole))
+
+-- how wide all of them are, with a slash behind each
+pub steps_wide : (test : List ℕ → Bool) (text : List ℕ) (z : List RawStep × List ℕ) → read_steps test text ≡ Ok z → widths z.0 + length z.1 ≡ length text + 1
+steps_wide test text z h =
+    let many = read_many test read_next_step in
+    let v = valued_ok first_step_of (read_sequence read_step (λ _. many)) text z h in
+    let q = sequence_ok read_step (λ _. many) text v.0 v.1 in
+    let f = step_fills text q.first.0 q.first.1 q.first_is in
+    let g = at_most_fills test (length q.first.1) q.first.1 q.second q.second_is in
+    let made : (q.first.0 ∷ q.second.0) ≡ z.0 = ap (λ (w : (RawStep × List RawStep) × List ℕ). first_step_of w.0) q.made ∙ ap (λ (w : List RawStep × List ℕ). w.0) v.2 in
+    let left : length q.second.1 ≡ length z.1 = ap (λ (w : (RawStep × List RawStep) × List ℕ). length w.1) q.made ∙ ap (λ (w : List RawStep × List ℕ). length w.1) v.2 in
+    let wide : widths (q.first.0 ∷ q.second.0) ≡ widths z.0 = ap widths made in
+    omega (arith, f.sizes, g.sizes)
 
 nothing_left : {A : Type 0} (x a : A) (left : List ℕ) → all_of {Kind = Kind} x left ≡ Ok a → x ≡ a
 nothing_left x a [] h = cc

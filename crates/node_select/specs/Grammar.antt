@@ -6,58 +6,32 @@
 --     step     = ( QName / "*" ) [ "[" 1*DIGIT "]" ] [ "[" "@" QName "=" value "]" ]
 --     value    = what stands in an attribute's value in a text, in a pair of quotes, with its references resolved
 --     patch    = [ "/" ] step *( "/" step ) [ "/" ( "@" QName / "text()" [ "[" 1*DIGIT "]" ] ) ]
-use Rattle.std.specs.Prelude.{ℕ, Bool, not, ◌&&◌, codes, List, [], ◌∷◌, ◌++◌, Option, None, Some}
+--
+-- A rule spells what its texts mean by the bindings of their prefixes. Where a prefix isn't bound, the name says so.
+use Rattle.std.specs.Prelude.{◌≡◌, ℕ, Bool, true, not, ◌&&◌, nat_le, codes, List, [], ◌∷◌, ◌++◌, length, Option, None, Some, if◌then◌else◌}
 use Rattle.std.specs.Str.{bytes_eq}
 use Rattle.xml_tree.specs.Scopes.{xmlns_prefix}
 use Rattle.xml_tree.specs.declared.names.Name.{Name}
-use Rattle.grammar_rules.specs.Digits.{is_digit}
-use Rattle.grammar_rules.specs.Rules.{Rule, word, run, sequence, either, many, valued, sized, only, optional, between, some_of, before, behind, quoted}
+use Rattle.xml_tree.specs.declared.names.Decl.{Decl}
+use Rattle.grammar_rules.specs.Digits.{is_digit, decimal}
+use Rattle.grammar_rules.specs.Rules.{Rule, word, run, number_from, sequence, either, many, valued, only, judged, optional, between, some_of, before, behind, quoted}
 use Rattle.tree_text.specs.declared.kind.Kind.{Kind}
+use Rattle.tree_text.specs.declared.kind.Kind.TheVariants.{Unbound}
+use Rattle.tree_text.specs.Pieces.{written}
 use Rattle.tree_text.specs.Grammar.{qname, reference, is_quote, is_raw_in}
-use Rattle.node_select.specs.Raw.{RawStep, RawEnd, AtElement, AtAttribute, AtNamespaces, RawPatchEnd, PatchElement, PatchAttribute, PatchChars, RawSelector, RawPatchSelector, position_of}
+use Rattle.node_select.specs.declared.selector.NameTest.{NameTest}
+use Rattle.node_select.specs.declared.selector.NameTest.TheVariants.{Any, Named}
+use Rattle.node_select.specs.declared.selector.AttrTest.{AttrTest}
+use Rattle.node_select.specs.declared.selector.Step.{Step}
+use Rattle.node_select.specs.declared.selector.End.{End}
+use Rattle.node_select.specs.declared.selector.End.TheVariants.{Element, Attribute, Namespaces}
+use Rattle.node_select.specs.declared.selector.Selector.{Selector}
+use Rattle.node_select.specs.declared.selector.PatchEnd.{PatchEnd}
+use Rattle.node_select.specs.declared.selector.PatchEnd.TheVariants as patch_ends
+use Rattle.node_select.specs.declared.selector.PatchSelector.{PatchSelector}
+use Rattle.node_select.specs.Names.{is_unbound, element_uri, attr_uri}
 
--- ---- the words
-
-abbrev pub slash : List ℕ
-slash = codes "/"
-
-abbrev pub star : List ℕ
-star = codes "*"
-
-abbrev pub at_sign : List ℕ
-at_sign = codes "@"
-
-abbrev pub open_bracket : List ℕ
-open_bracket = codes "["
-
-abbrev pub close_bracket : List ℕ
-close_bracket = codes "]"
-
-abbrev pub equals_sign : List ℕ
-equals_sign = codes "="
-
-abbrev pub namespaces : List ℕ
-namespaces = codes "namespace::*"
-
-abbrev pub text_test : List ℕ
-text_test = codes "text()"
-
--- ---- steps
-
--- QName / "*"
-abbrev pub node_name : Rule Kind (Option Name)
-node_name = either (valued (λ _. None) (word star)) (valued Some qname)
-
--- "[" 1*DIGIT "]"
-abbrev pub position : Rule Kind ℕ
-position = behind (word open_bracket) (before (valued position_of (some_of is_digit)) (word close_bracket))
-
--- "@" QName, where `xmlns`, which declares, is no name of an attribute
-abbrev pub names_attribute : Name → Bool
-names_attribute n = not (bytes_eq n.prefix [] && bytes_eq n.local xmlns_prefix)
-
-abbrev pub attribute : Rule Kind Name
-attribute = behind (word at_sign) (only names_attribute qname)
+-- ---- values and positions
 
 -- the value of raw characters and references as they stand
 abbrev pub more_plain : List (ℕ × List ℕ) → List ℕ
@@ -73,56 +47,101 @@ inside_quotes quote = valued plain_value (between (run (is_raw_in quote)) refere
 abbrev pub value : Rule Kind (List ℕ)
 value = quoted is_quote inside_quotes
 
--- "[" "@" QName "=" value "]"
-abbrev pub test : Rule Kind (Name × List ℕ)
-test = behind (word open_bracket) (before (sequence attribute (λ _. behind (word equals_sign) value)) (word close_bracket))
+-- a position above the greatest one is read as 0, which no child has
+abbrev pub greatest_position : ℕ
+greatest_position = 4294967295
 
--- a step, with the widths of its name and position, and of all of it
-abbrev pub raw_step_of : (((Option Name × Option ℕ) × ℕ) × Option (Name × List ℕ)) × ℕ → RawStep
-raw_step_of x = record { name = x.0.0.0.0; position = x.0.0.0.1; front = x.0.0.1; test = x.0.1; size = x.1 }
+abbrev pub position_of : List ℕ → ℕ
+position_of digits = if nat_le (number_from decimal 0 digits) greatest_position then number_from decimal 0 digits else 0
 
-abbrev pub step : Rule Kind RawStep
-step = valued raw_step_of (sized (sequence (sized (sequence node_name (λ _. optional position))) (λ _. optional test)))
+-- "[" 1*DIGIT "]"
+abbrev pub position : Rule Kind ℕ
+position = behind (word (codes "[")) (before (valued position_of (some_of is_digit)) (word (codes "]")))
 
--- step *( "/" step )
-abbrev pub next_step : Rule Kind RawStep
-next_step = behind (word slash) step
+-- `xmlns`, which declares, is no name of an attribute
+abbrev pub names_attribute : Name → Bool
+names_attribute n = not (bytes_eq n.prefix [] && bytes_eq n.local xmlns_prefix)
 
-abbrev pub first_step_of : RawStep × List RawStep → List RawStep
+-- A name with an unbound prefix says so, at its first character.
+abbrev pub IsUnbound : List Decl → Name → Kind → ℕ → Type 0
+IsUnbound bindings name kind back = (is_unbound bindings name ≡ true) × (kind ≡ Unbound) × (back ≡ length (written name))
+
+-- ---- what is made of the parts
+
+abbrev pub step_of : (NameTest × Option ℕ) × Option AttrTest → Step
+step_of x = record { name = x.0.0; position = x.0.1; test = x.1 }
+
+abbrev pub first_step_of : {A : Type 0} → A × List A → List A
 first_step_of x = x.0 ∷ x.1
 
-abbrev pub steps : Rule Kind (List RawStep)
-steps = valued first_step_of (sequence step (λ _. many next_step))
-
--- ---- selectors
-
--- "@" QName / "namespace::*"
-abbrev pub end : Rule Kind RawEnd
-end = either (valued AtAttribute attribute) (valued (λ _. AtNamespaces) (word namespaces))
-
-abbrev pub end_or_element : Option RawEnd → RawEnd
-end_or_element None = AtElement
+abbrev pub end_or_element : Option End → End
+end_or_element None = Element
 end_or_element (Some end) = end
 
-abbrev pub selector : Rule Kind RawSelector
-selector = sequence steps (λ _. valued end_or_element (optional (behind (word slash) end)))
+abbrev pub selector_of : List Step × End → Selector
+selector_of x = record { steps = x.0; end = x.1 }
 
--- ---- selectors of patches
-
--- "@" QName / "text()" [ "[" 1*DIGIT "]" ]
-abbrev pub patch_end : Rule Kind RawPatchEnd
-patch_end = either (valued PatchAttribute attribute) (valued PatchChars (behind (word text_test) (optional position)))
-
-abbrev pub patch_end_or_element : Option RawPatchEnd → RawPatchEnd
-patch_end_or_element None = PatchElement
+abbrev pub patch_end_or_element : Option PatchEnd → PatchEnd
+patch_end_or_element None = patch_ends.Element
 patch_end_or_element (Some end) = end
 
--- how many characters a slash in front has
-abbrev pub slash_width : Option (Unit {0}) → ℕ
-slash_width None = 0
-slash_width (Some _) = 1
+abbrev pub patch_selector_of : List Step × PatchEnd → PatchSelector
+patch_selector_of x = record { steps = x.0; end = x.1 }
 
-abbrev pub patch_selector : Rule Kind RawPatchSelector
-patch_selector =
-    sequence (valued slash_width (optional (word slash)))
-    (λ _. sequence steps (λ _. valued patch_end_or_element (optional (behind (word slash) patch_end))))
+-- prefixes mean what these bindings say, and an element's name without prefix is in this namespace
+module _ (bindings : List Decl) (default : List ℕ) where
+  -- ---- steps
+
+  abbrev pub element_test : Name → NameTest
+  element_test name = Named (element_uri bindings default name) name.local
+
+  -- QName / "*"
+  abbrev pub node_name : Rule Kind NameTest
+  node_name = either (valued (λ _. Any) (word (codes "*"))) (valued element_test (judged (IsUnbound bindings) qname))
+
+  -- "@" QName
+  abbrev pub attribute : Rule Kind Name
+  attribute = behind (word (codes "@")) (judged (IsUnbound bindings) (only names_attribute qname))
+
+  abbrev pub attr_test : Name × List ℕ → AttrTest
+  attr_test x = record { uri = attr_uri bindings x.0; local = x.0.local; value = x.1 }
+
+  -- "[" "@" QName "=" value "]"
+  abbrev pub test : Rule Kind AttrTest
+  test = behind (word (codes "[")) (before (valued attr_test (sequence attribute (λ _. behind (word (codes "=")) value))) (word (codes "]")))
+
+  abbrev pub step : Rule Kind Step
+  step = valued step_of (sequence (sequence node_name (λ _. optional position)) (λ _. optional test))
+
+  -- step *( "/" step )
+  abbrev pub next_step : Rule Kind Step
+  next_step = behind (word (codes "/")) step
+
+  abbrev pub steps : Rule Kind (List Step)
+  steps = valued first_step_of (sequence step (λ _. many next_step))
+
+  -- ---- selectors
+
+  abbrev pub attribute_end : Name → End
+  attribute_end name = Attribute (attr_uri bindings name) name.local
+
+  -- "@" QName / "namespace::*"
+  abbrev pub end : Rule Kind End
+  end = either (valued attribute_end attribute) (valued (λ _. Namespaces) (word (codes "namespace::*")))
+
+  abbrev pub selector : Rule Kind Selector
+  selector = valued selector_of (sequence steps (λ _. valued end_or_element (optional (behind (word (codes "/")) end))))
+
+  -- ---- selectors of patches
+
+  abbrev pub patch_attribute_end : Name → PatchEnd
+  patch_attribute_end name = patch_ends.Attribute (attr_uri bindings name) name.local
+
+  -- "@" QName / "text()" [ "[" 1*DIGIT "]" ]
+  abbrev pub patch_end : Rule Kind PatchEnd
+  patch_end = either (valued patch_attribute_end attribute) (valued (λ n. patch_ends.Chars n) (behind (word (codes "text()")) (optional position)))
+
+  abbrev pub patch_selector : Rule Kind PatchSelector
+  patch_selector =
+      behind (optional (word (codes "/")))
+      (valued patch_selector_of (sequence steps (λ _. valued patch_end_or_element (optional (behind (word (codes "/")) patch_end)))))

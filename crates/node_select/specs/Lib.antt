@@ -1,12 +1,7 @@
 pub mod Faults
 pub mod Grammar
 pub mod LastStep
-pub mod Meaning
-pub mod Members
 pub mod Names
-pub mod Raw
-pub mod Reading
+pub mod LongestWays
 pub mod readers
 pub mod Selection
-pub mod Stops
-pub mod Views

@@ -1,9 +1,10 @@
 -- What the names in selectors mean. RFC 4825, sections 6.3 and 6.4; Namespaces in XML 1.0, sections 3 and 6.2.
-use Rattle.std.specs.Prelude.{ℕ, Bool, ◌&&◌, List, [], ◌∷◌, Option, None, unwrap_or, if◌then◌else◌}
+use Rattle.std.specs.Prelude.{ℕ, Bool, not, ◌&&◌, List, [], ◌∷◌, Option, None, is_none, unwrap_or, if◌then◌else◌}
 use Rattle.std.specs.Str.{bytes_eq}
 use Rattle.xml_tree.specs.Scopes.{bound, xmlns_prefix}
 use Rattle.xml_tree.specs.Expanded.{Expanded}
 use Rattle.xml_tree.specs.declared.names.Decl.{Decl}
+use Rattle.xml_tree.specs.declared.names.Name.{Name}
 
 -- the URI that a prefix is bound to, where the bindings are read as the declarations of one element; `xmlns` is never bound
 abbrev pub prefix_uri : List Decl → List ℕ → Option (List ℕ)
@@ -16,3 +17,24 @@ uri_of name = unwrap_or name.uri []
 -- whether a name is that of this URI and this local name
 abbrev pub is_named_so : List ℕ → List ℕ → Expanded → Bool
 is_named_so uri local name = bytes_eq name.local local && bytes_eq (uri_of name) uri
+
+-- ---- names as they are written
+
+-- whether a name has a prefix that isn't bound
+abbrev pub is_unbound : List Decl → Name → Bool
+is_unbound bindings name = not (bytes_eq name.prefix []) && is_none (prefix_uri bindings name.prefix)
+
+-- the URI of a prefix that is bound
+abbrev pub uri_at : List Decl → List ℕ → List ℕ
+uri_at bindings p = unwrap_or (prefix_uri bindings p) []
+
+-- that of a name, where a name without prefix has this one
+abbrev pub name_uri : List Decl → List ℕ → Name → List ℕ
+name_uri bindings none name = if bytes_eq name.prefix [] then none else uri_at bindings name.prefix
+
+-- an element's name without prefix is in the default namespace, an attribute's is in none
+abbrev pub element_uri : List Decl → List ℕ → Name → List ℕ
+element_uri bindings default = name_uri bindings default
+
+abbrev pub attr_uri : List Decl → Name → List ℕ
+attr_uri bindings = name_uri bindings []

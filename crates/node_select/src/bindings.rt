@@ -1,12 +1,10 @@
 //! Bindings of prefixes, as the query of an address or the scope of a patch operation gives them.
 ghost use Rattle.std.specs.Prelude.{◌≡◌, ◌++◌, ◌∷◌, [], OnOk, OnErr, chars, option_map};
 ghost use Rattle.node_select.specs.Names.{prefix_uri};
-ghost use Rattle.std.specs.Str.{bytes_eq};
-ghost use Rattle.xml_tree.specs.Scopes.{xmlns_prefix};
 
 use std::alloc::{AllocError, Global};
 use std::marker::Model;
-use xml_tree::{Decl, Scope, Text};
+use xml_tree::{Decl, Scope, Text, is_xmlns};
 
 /// Prefixes with their URIs, as declarations: the last one of a prefix counts, and an empty URI binds nothing. `xml` is always bound to
 /// its own namespace, and `xmlns` never.
@@ -62,11 +60,4 @@ impl Bindings {
         }
         Scope::empty().with(&self.decls).resolve(prefix)
     }
-}
-
-// Whether a prefix is `xmlns`, which is never bound.
-fn is_xmlns(prefix: &str) -> bool
-    ensures { result ≡ bytes_eq (chars prefix.now) xmlns_prefix }
-{
-    prefix == "xmlns"
 }

@@ -1,5 +1,7 @@
 //! Which child of an element a step selects, and which attribute a name means.
 ghost use Rattle.std.specs.Prelude.{◌≡◌, ◌<◌, ◌+◌, ◌++◌, ◌^◌, [], map, chars, position, cond, Some};
+ghost use Rattle.std.specs.List.{find};
+ghost use Rattle.std.specs.Option.{option_copied};
 ghost use Rattle.std.specs.Str.{bytes_eq};
 ghost use Rattle.xml_tree.specs.Tree.{kids_of};
 ghost use Rattle.xml_tree.specs.Expanded.{element_name, attr_name};
@@ -236,4 +238,37 @@ pub(crate) fn select_child(
         }
     }
     found
+}
+
+impl Step {
+    /// Whether a child has the name that the step asks for, in the scope around it. Takes no memory.
+    pub fn names(&self, alloc: Global, scope: &Around<'_>, kid: &Element) -> bool
+        ensures passes_name_test { result ≡ is_named scope.now self.now kid.now }
+    {
+        is_named(alloc, scope, self, kid)
+    }
+
+    /// Whether a child has the attribute that the step asks for, in the scope around it. Memory as for `find_attr`.
+    pub fn tests(&self, alloc: Global, scope: &Around<'_>, kid: &Element) -> bool
+        ensures passes_attribute_test { result ≡ is_tested scope.now self.now kid.now }
+    {
+        is_tested(alloc, scope, self, kid)
+    }
+}
+
+/// The first attribute of this namespace and local name, in the scope that ends with the declarations of their element. Takes no memory.
+pub fn attr_in<'a>(
+    scope: &Around<'_>,
+    attrs: &'a [Attr],
+    uri: &str,
+    local: &str,
+) -> Option<&'a Attr>
+    ensures first_of_the_name { option_copied result ≡ find (is_attr scope.now (chars uri.now) (chars local.now)) attrs.now }
+{
+    for attr in attrs {
+        if is_attr(scope, uri, local, attr) {
+            return Some(attr);
+        }
+    }
+    None
 }

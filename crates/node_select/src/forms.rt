@@ -1,11 +1,11 @@
 //! The form of selectors, read from left to right.
 ghost use Rattle.std.specs.Prelude.{◌<◌, ◌^◌, length, map, IfOk, Ok};
 ghost use Rattle.grammar_rules.specs.Reading.{read_behind, read_optional, read_valued, read_whole, read_word};
-ghost use Rattle.tree_text.specs.Gives.{Gives};
-ghost use Rattle.node_select.specs.Raw.{HasRoom};
-ghost use Rattle.node_select.specs.Grammar.{end_or_element, patch_end_or_element, slash, slash_width};
-ghost use Rattle.node_select.specs.Reading.{read_end, read_patch_end, read_patch_selector, read_position, read_selector, slash_follows, test_follows};
-ghost use Rattle.node_select.specs.Views.{end_in, patch_end_in, patch_selector_in, selector_in, step_in};
+ghost use Rattle.tree_text.specs.readers.Gives.{Gives};
+ghost use Rattle.node_select.specs.readers.Words.{slash};
+ghost use Rattle.node_select.specs.readers.Raw.{HasRoom, end_or_element, patch_end_or_element, slash_width};
+ghost use Rattle.node_select.specs.readers.Selectors.{read_end, read_patch_end, read_patch_selector, read_position, read_selector, slash_follows, test_follows};
+ghost use Rattle.node_select.specs.readers.Views.{end_in, patch_end_in, patch_selector_in, selector_in, step_in};
 
 use crate::raw::{Form, RawEnd, RawPatchEnd, RawPatchSelector, RawSelector};
 use crate::steps::{attribute, position, slash_follows, steps, test_follows};

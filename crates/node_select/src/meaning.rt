@@ -1,11 +1,11 @@
 //! What the names of a selector mean, by the bindings of their prefixes.
 ghost use Rattle.std.specs.Prelude.{◌≡◌, ◌+◌, ◌<◌, ◌^◌, IfOk, chars, map, Option, option_map};
-ghost use Rattle.tree_text.specs.Views.{name_in};
+ghost use Rattle.tree_text.specs.readers.Views.{name_in};
 ghost use Rattle.node_select.specs.declared.meaning.Unresolved.TheVariants as troubles;
-ghost use Rattle.node_select.specs.Meaning.{Means};
-ghost use Rattle.node_select.specs.Names.{prefix_uri};
-ghost use Rattle.node_select.specs.Raw.{HasRoom, attr_test, attr_uri, end_of, name_test, name_uri, patch_end_of, step_of, steps_of, unbound_at, unbound_end, unbound_from, unbound_in, unbound_name, unbound_patch_end, unbound_test, no_end, widths};
-ghost use Rattle.node_select.specs.Views.{end_in, patch_end_in, step_in, test_in};
+ghost use Rattle.node_select.specs.readers.Resolving.{Means};
+ghost use Rattle.node_select.specs.Names.{prefix_uri, attr_uri, name_uri};
+ghost use Rattle.node_select.specs.readers.Raw.{HasRoom, attr_test, end_of, name_test, patch_end_of, step_of, steps_of, unbound_at, unbound_end, unbound_from, unbound_in, unbound_name, unbound_patch_end, unbound_test, no_end, widths};
+ghost use Rattle.node_select.specs.readers.Views.{end_in, patch_end_in, step_in, test_in};
 
 use crate::bindings::Bindings;
 use crate::choice::no_uri;

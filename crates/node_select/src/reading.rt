@@ -2,10 +2,10 @@
 ghost use Rattle.std.specs.Prelude.{◌≡◌, ◌+◌, ◌-◌, ◌<◌, ◌^◌, length, map, IfOk, chars, encode_utf8_all};
 ghost use Rattle.tree_text.specs.Memory.{Answered};
 ghost use Rattle.node_select.specs.Faults.{IsPatchSelectorAnswer, IsSelectorAnswer, byte_of};
-ghost use Rattle.node_select.specs.Raw.{HasRoom, first_unbound, first_unbound_in_patch, patch_selector_of, selector_of};
-ghost use Rattle.node_select.specs.Views.{patch_selector_in, selector_in, step_in};
-ghost use Rattle.node_select.specs.Meaning.{Means};
-ghost use Rattle.node_select.specs.Stops.{Tells, TellsUnresolved};
+ghost use Rattle.node_select.specs.readers.Raw.{HasRoom, first_unbound, first_unbound_in_patch, patch_selector_of, selector_of};
+ghost use Rattle.node_select.specs.readers.Views.{patch_selector_in, selector_in, step_in};
+ghost use Rattle.node_select.specs.readers.Resolving.{Means};
+ghost use Rattle.node_select.specs.readers.Stops.{Tells, TellsUnresolved};
 ghost use Rattle.node_select.specs.readers.Whole.{patch_selector_read, selector_read};
 
 use crate::bindings::Bindings;

@@ -3,12 +3,11 @@ ghost use Rattle.std.specs.Prelude.{◌≡◌, ◌+◌, ◌-◌, ◌<◌, ◌^�
 ghost use Rattle.grammar_rules.specs.Digits.{decimal};
 ghost use Rattle.std.specs.Str.{bytes_eq};
 ghost use Rattle.grammar_rules.specs.Reading.{starts, read_optional, read_sequence};
-ghost use Rattle.tree_text.specs.Gives.{Gives};
-ghost use Rattle.tree_text.specs.Views.{name_in};
-ghost use Rattle.node_select.specs.Raw.{position_of};
-ghost use Rattle.node_select.specs.Grammar.{names_attribute};
-ghost use Rattle.node_select.specs.Reading.{position_follows, read_attribute, read_inside_quotes, read_next_step, read_node_name, read_position, read_step, read_steps, read_test, read_value, slash_follows, test_follows};
-ghost use Rattle.node_select.specs.Views.{follows_in, step_in, test_in};
+ghost use Rattle.tree_text.specs.readers.Gives.{Gives};
+ghost use Rattle.tree_text.specs.readers.Views.{name_in};
+ghost use Rattle.node_select.specs.Grammar.{position_of, names_attribute};
+ghost use Rattle.node_select.specs.readers.Selectors.{position_follows, read_attribute, read_inside_quotes, read_next_step, read_node_name, read_position, read_step, read_steps, read_test, read_value, slash_follows, test_follows};
+ghost use Rattle.node_select.specs.readers.Views.{follows_in, step_in, test_in};
 
 use crate::raw::{Form, RawStep, RawTest};
 use std::alloc::{AllocError, Global};

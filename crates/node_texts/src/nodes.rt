@@ -114,8 +114,10 @@ fn text_at(alloc: Global, root: &Element, path: &Path, end: &End) -> Result<Opti
     node_text(alloc, element, &scope, end)
 }
 
-// Whether an end finds something there.
-fn has_node_at(alloc: Global, root: &Element, path: &Path, end: &End) -> bool
+/// Whether an end finds something there: of an element that is selected already, so that no second
+/// descent is wanted. Memory is taken for indexes of declarations alone, and the answer is the same
+/// without it.
+pub fn has_node_at(alloc: Global, root: &Element, path: &Path, end: &End) -> bool
     ensures { result ≡ is_some (text_at end.now path.now root.now) }
 {
     let Some(element) = element_at(root, path) else {

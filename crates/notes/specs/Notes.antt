@@ -1,4 +1,4 @@
--- What is kept of a change, so that a notice of it can be written later. RFC 5261, section 4.2.2, on namespaces in patch operations.
+-- What is kept of a change, so that a notice of it can be written later. RFC 5261, section 4.2.3, on namespaces in what an operation adds.
 use Rattle.std.specs.Prelude.{◌≡◌, ℕ, Bool, false, List, [], ◌∷◌, is_none}
 use Rattle.xml_tree.specs.Tree.{Tree}
 use Rattle.xml_tree.specs.Edits.{attr_at}

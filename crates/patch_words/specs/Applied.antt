@@ -20,8 +20,8 @@ use Rattle.node_select.specs.declared.fault.SelectorFault.{SelectorFault}
 use Rattle.node_select.specs.declared.selector.PatchEnd.{PatchEnd}
 use Rattle.node_select.specs.declared.selector.PatchEnd.TheVariants.{Element, Attribute, Chars}
 use Rattle.node_select.specs.declared.selector.PatchSelector.{PatchSelector}
-use Rattle.node_select.specs.Raw.{RawPatchSelector, RawPatchEnd, PatchElement, PatchAttribute, PatchChars}
-use Rattle.node_select.specs.Reading.{read_patch_selector}
+use Rattle.node_select.specs.readers.Raw.{RawPatchSelector, RawPatchEnd, PatchElement, PatchAttribute, PatchChars}
+use Rattle.node_select.specs.readers.Selectors.{read_patch_selector}
 use Rattle.grammar_rules.specs.Reading.{Stop, read_whole}
 use Rattle.tree_text.specs.declared.kind.Kind.{Kind}
 

@@ -1,4 +1,4 @@
--- A notice of notes, as a tree. RFC 5874, section 3; RFC 5875, sections 4.3 to 4.5, on what each mode of patching sends.
+-- A notice of notes, as a tree. RFC 5874, section 3; RFC 5875, sections 4.3 and 4.7, on what each mode of patching sends.
 use Rattle.std.specs.Prelude.{◌≡◌, ℕ, zero, suc, ◌+◌, ◌<◌, Bool, true, false, ◌||◌, codes, decimal, List, [], ◌∷◌, ◌++◌, map, length, if◌then◌else◌}
 use Rattle.std.specs.List.{list_any}
 use Rattle.std.specs.Str.{bytes_eq}

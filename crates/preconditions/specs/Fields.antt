@@ -1,4 +1,4 @@
--- What the fields `If-Match` and `If-None-Match` of a request say. RFC 9110, sections 5.3 (lines of one field), 13.1.1 and 13.1.2.
+-- What the fields `If-Match` and `If-None-Match` of a request say. RFC 9110, sections 5.2 (lines of one field), 13.1.1 and 13.1.2.
 use Rattle.std.specs.Prelude.{◌≡◌, ◌≢◌, ℕ, List, [], ◌∷◌}
 use Rattle.preconditions.specs.declared.tags.EntityTag.{EntityTag}
 use Rattle.preconditions.specs.Tags.{comma_joined, SpellsTags}

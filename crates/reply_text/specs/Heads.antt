@@ -22,7 +22,7 @@ tag_line n = codes "ETag: " ++ (34 ∷ []) ++ decimal n ++ (34 ∷ []) ++ line_e
 unfoldable pub allow_line : Bool → List ℕ
 allow_line read_only = codes "Allow: " ++ (if read_only then codes "GET, HEAD" else codes "GET, HEAD, PUT, DELETE") ++ line_end
 
--- the names of the media types (RFC 4825, section 15.2; RFC 4826, section 7; RFC 5874, section 8)
+-- the names of the media types (RFC 4825, section 15.2; RFC 4826, section 8.2; RFC 5874, section 7.1)
 unfoldable pub media_type : Media → List ℕ
 media_type ResourceLists = codes "application/resource-lists+xml"
 media_type RlsServices = codes "application/rls-services+xml"

@@ -1,4 +1,4 @@
-//! The media types of bodies (RFC 4825, section 15.2; RFC 4826, section 7; RFC 5874, section 8).
+//! The media types of bodies (RFC 4825, section 15.2; RFC 4826, section 8.2; RFC 5874, section 7.1).
 ghost use Rattle.std.specs.Prelude.{◌≡◌, ◌≤◌, length};
 ghost use Rattle.reply_text.specs.Heads.{media_type};
 

@@ -1,5 +1,6 @@
--- Who may do what. RFC 4825, section 8 leaves it to the server; this one takes the user's name from the field X-XCAP-User, which a
--- front proxy asserts: a user has the home of that name, everyone reads what is global, and nobody writes there or in xcap-caps.
+-- Who may do what, by the default policy of RFC 4825, section 5.7. How a user is known is the server's own; this one takes the name from
+-- the field X-XCAP-User, which a front proxy asserts: a user has the home of that name, everyone reads what is global, and nobody writes
+-- there or in xcap-caps.
 use Rattle.std.specs.Prelude.{ℕ, Bool, true, false, not, ◌&&◌, List, [], ◌∷◌, map, codes, encode_utf8_all}
 use Rattle.std.specs.Str.{bytes_eq}
 use Rattle.doc_names.specs.declared.doc_id.Auid.{Auid}

@@ -1,7 +1,7 @@
 //! What the head of a request asks.
 //! Promises upward: its method, whether it is allowed, whether its body is of a media type, and what its conditions make of it and
 //! reply to it, each as a function of the head alone.
-//! The standards are RFC 9110, sections 8.3, 8.4, 9.3 and 13.2.2, and RFC 4825, section 8.
+//! The standards are RFC 9110, sections 8.3, 8.4, 9.3 and 13.2.2, and RFC 4825, sections 5.7 and 8.
 #![tactic(auto)]
 
 mod conditions;

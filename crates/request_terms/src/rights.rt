@@ -1,4 +1,4 @@
-//! Who may do what (RFC 4825, section 8).
+//! Who may do what (RFC 4825, section 5.7).
 ghost use Rattle.std.specs.Prelude.{◌≡◌};
 ghost use Rattle.request_terms.specs.Rights.{is_allowed, is_fixed_usage, is_user};
 

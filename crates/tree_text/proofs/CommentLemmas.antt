@@ -8,7 +8,7 @@ use Rattle.xml_tree.specs.Characters.{is_char}
 use Rattle.xml_tree.specs.Comments.{is_kept_char, hyphens_apart, is_comment}
 use Rattle.tree_text.specs.declared.kind.Kind.{Kind}
 use Rattle.tree_text.specs.Pieces.{with_char, line_ends}
-use Rattle.tree_text.specs.Words.{dashes}
+use Rattle.tree_text.specs.readers.Words.{dashes}
 
 -- the first character is there, and no hyphen
 other_head : List ℕ → Bool

@@ -6,16 +6,17 @@ use Rattle.xml_tree.specs.Edits.{with_text}
 use Rattle.xml_tree.specs.Tree.{Content, last, Tree, tree_of}
 use Rattle.xml_tree.specs.declared.names.Name.{Name}
 use Rattle.xml_tree.specs.declared.names.Decl.{Decl}
-use Rattle.tree_text.specs.Bindings.{AreBack, AreKept, lists}
+use Rattle.tree_text.specs.readers.Bindings.{AreBack, AreKept, lists}
 use Rattle.tree_text.specs.declared.bindings.Bindings.{Bindings}
 use Rattle.tree_text.specs.declared.kind.Kind.{Kind}
 use Rattle.tree_text.specs.declared.stop.Stop.{Stop as CodeStop}
 use Rattle.tree_text.specs.declared.stop.Stop.TheVariants as stops
-use Rattle.tree_text.specs.Gives.{Fails}
-use Rattle.tree_text.specs.Members.{filled, tree_with, with_chars, with_one, read_chars_onto, read_member, read_child, read_onto, read_filled, read_filled_behind}
-use Rattle.tree_text.specs.Names.{decls_of, attrs_of, counted_back, first_of_tag, tag_fault, element_of}
+use Rattle.tree_text.specs.readers.Gives.{Fails}
+use Rattle.tree_text.specs.readers.Members.{filled, tree_with, with_chars, with_one, read_chars_onto, read_member, read_child, read_onto, read_filled, read_filled_behind}
+use Rattle.tree_text.specs.Names.{decls_of, attrs_of, element_of}
+use Rattle.tree_text.specs.readers.Judging.{counted_back, first_of_tag, tag_fault}
 use Rattle.tree_text.specs.Pieces.{Markup, Inner, Tag, with_pieces}
-use Rattle.tree_text.specs.Reading.{markup_follows, read_chars, read_markup, read_tag, read_behind_tag, read_element}
+use Rattle.tree_text.specs.readers.Texts.{markup_follows, read_chars, read_markup, read_tag, read_behind_tag, read_element}
 use Rattle.tree_text.proofs.Loops.{finish, start, valued_ok, valued_err, valued_stops}
 
 abbrev dressed_read : Tag → Result (Content × List ℕ) (Stop Kind) → Result (Tree × List ℕ) (Stop Kind)

@@ -4,8 +4,8 @@ use Rattle.grammar_rules.specs.Reading.{Stop, Syntax, Faulty, Reader, ◌>>=◌,
 use Rattle.tree_text.specs.declared.kind.Kind.{Kind}
 use Rattle.tree_text.specs.declared.stop.Stop.{Stop as CodeStop}
 use Rattle.tree_text.specs.declared.stop.Stop.TheVariants as stops
-use Rattle.tree_text.specs.Gives.{Fails}
-use Rattle.tree_text.specs.Reading.{read_dropped}
+use Rattle.tree_text.specs.readers.Gives.{Fails}
+use Rattle.tree_text.specs.readers.Texts.{read_dropped}
 
 -- what members that are read make of what there is
 abbrev pub finish : {A S B : Type 0} → (S → List A → B) → S → Result (List A × List ℕ) (Stop Kind) → Result (B × List ℕ) (Stop Kind)

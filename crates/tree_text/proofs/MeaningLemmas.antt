@@ -15,8 +15,8 @@ use Rattle.tree_text.specs.declared.bindings.Bindings.{Bindings}
 use Rattle.tree_text.specs.declared.meanings.Meaning.{Meaning}
 use Rattle.tree_text.specs.declared.meanings.Meaning.TheVariants.{Declared, Named}
 use Rattle.tree_text.specs.declared.said.Said.{Said}
-use Rattle.tree_text.specs.Bindings.{AreKept, lists, number}
-use Rattle.tree_text.specs.Meanings.{Means, Holds, says, attr_number, same_number}
+use Rattle.tree_text.specs.readers.Bindings.{AreKept, lists, number}
+use Rattle.tree_text.specs.readers.Meanings.{Means, Holds, says, attr_number, same_number}
 use Rattle.tree_text.specs.Names.{declares, decl_of, says_again, is_repeated}
 use Rattle.tree_text.proofs.NamespaceLemmas.{number_of, attrs_same}
 

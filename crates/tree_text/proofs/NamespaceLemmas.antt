@@ -10,8 +10,8 @@ use Rattle.xml_tree.specs.Expanded.{attr_name, same_uri}
 use Rattle.xml_tree.specs.Scopes.{bound, declared, joined, some_text, xml_prefix, xml_uri}
 use Rattle.xml_tree.specs.declared.names.Decl.{Decl}
 use Rattle.xml_tree.specs.declared.names.Name.{Name}
-use Rattle.tree_text.specs.Bindings.{AreKept, lists, number, stack, uris}
-use Rattle.tree_text.specs.Meanings.{attr_number, same_number}
+use Rattle.tree_text.specs.readers.Bindings.{AreKept, lists, number, stack, uris}
+use Rattle.tree_text.specs.readers.Meanings.{attr_number, same_number}
 use Rattle.tree_text.specs.declared.bindings.Bindings.{Bindings}
 
 module _ (num : List ℕ → Option ℕ) where

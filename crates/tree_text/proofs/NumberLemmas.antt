@@ -10,7 +10,7 @@ use Rattle.std.specs.Option.{is_some}
 use Rattle.std.specs.Prelude.{if◌then◌else◌}
 use Rattle.xml_tree.specs.Scopes.{xml_uri}
 use Rattle.xml_tree.specs.declared.names.Decl.{Decl}
-use Rattle.tree_text.specs.Bindings.{AreNumbers, AreOf, at_text, number, numbers_at, stack, uris}
+use Rattle.tree_text.specs.readers.Bindings.{AreNumbers, AreOf, at_text, number, numbers_at, stack, uris}
 use Rattle.tree_text.specs.declared.namespaces.Namespaces.{Namespaces}
 use Rattle.tree_text.proofs.StackLemmas.{uris-append}
 

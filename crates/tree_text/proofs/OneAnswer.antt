@@ -1,8 +1,8 @@
 -- Bytes have one answer by the grammar.
-use Rattle.std.proofs.Common.{◌≡◌, ℕ, suc, ◌+◌, true, List, Result, Ok, Err, inl, inr, refl, sym, ap, ◌∙◌, arith}
+use Rattle.std.proofs.Common.{◌≡◌, ℕ, suc, ◌+◌, List, Result, Err, inl, inr, refl, sym, ap, ◌∙◌, arith}
 use Rattle.std.specs.Prelude.{◌==◌, if◌then◌else◌}
 use Rattle.std.specs.Str.{chars}
-use Rattle.grammar_rules.specs.Reading.{Stop, Syntax, Faulty}
+use Rattle.grammar_rules.specs.Reading.{Faulty}
 use Rattle.grammar_rules.proofs.Whole.{told_alike}
 use Rattle.xml_tree.specs.Tree.{Tree}
 use Rattle.xml_tree.specs.declared.names.Decl.{Decl}

@@ -9,11 +9,11 @@ use Rattle.xml_tree.specs.Tree.{Content, Tree}
 use Rattle.xml_tree.proofs.Places.{with_text-nil}
 use Rattle.tree_text.specs.declared.kind.Kind.{Kind}
 use Rattle.tree_text.specs.Grammar.{is_raw, is_raw_in}
-use Rattle.tree_text.specs.Members.{with_chars, read_chars_onto, read_blanked}
+use Rattle.tree_text.specs.readers.Members.{with_chars, read_chars_onto, read_blanked}
 use Rattle.tree_text.specs.Pieces.{line_ends, raw}
-use Rattle.tree_text.specs.Reading.{read_chars, read_raw}
-use Rattle.tree_text.specs.Runs.{is_no_return, is_smooth, is_plain_in_content, is_plain_in_value, ends_run}
-use Rattle.tree_text.specs.Words.{section_end}
+use Rattle.tree_text.specs.readers.Texts.{read_chars, read_raw}
+use Rattle.tree_text.specs.readers.Runs.{is_no_return, is_smooth, is_plain_in_content, is_plain_in_value, ends_run}
+use Rattle.tree_text.specs.readers.Words.{section_end}
 use Rattle.tree_text.proofs.PlainRuns.{plain_lines, smooth_raw}
 use Rattle.tree_text.proofs.RawLetters.{bounds}
 

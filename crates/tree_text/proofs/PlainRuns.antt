@@ -6,7 +6,7 @@ use Rattle.std.specs.Prelude.{nat_eq, nat_le, not}
 use Rattle.tree_text.specs.Pieces.{line_ends, raw}
 use Rattle.std.specs.Str.{IsAscii}
 use Rattle.std.proofs.lemmas.Str.Ascii.{IsAscii-nil, IsAscii-cons}
-use Rattle.tree_text.specs.Runs.{is_no_return, is_smooth, is_ascii}
+use Rattle.tree_text.specs.readers.Runs.{is_no_return, is_smooth, is_ascii}
 
 pub plain_lines : (run : List ℕ) → list_all is_no_return run ≡ true → line_ends run ≡ run
 plain_lines [] h = refl

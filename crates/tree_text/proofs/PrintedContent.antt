@@ -8,11 +8,11 @@ use Rattle.xml_tree.specs.Comments.{is_kept_char, hyphens_apart, is_comment}
 use Rattle.xml_tree.specs.Edits.{before, with_text, with_elem, with_comment}
 use Rattle.xml_tree.specs.Print.{print_comment, print_text, text_escape}
 use Rattle.xml_tree.specs.Tree.{Content, last, more, note, more_of, Tree}
-use Rattle.tree_text.specs.Words.{comment_start, dashes, section_end, greater}
+use Rattle.tree_text.specs.readers.Words.{comment_start, dashes, section_end, greater}
 use Rattle.tree_text.specs.declared.kind.Kind.{Kind}
 use Rattle.tree_text.specs.Grammar.{is_raw}
 use Rattle.tree_text.specs.Pieces.{Markup, Reference, Section, Comment, Instruction, Inner, line_ends, with_markup, with_pieces}
-use Rattle.tree_text.specs.Reading.{read_reference, read_section, read_comment, read_instruction, read_chars, read_markup, markup_follows, read_content}
+use Rattle.tree_text.specs.readers.Texts.{read_reference, read_section, read_comment, read_instruction, read_chars, read_markup, markup_follows, read_content}
 use Rattle.tree_text.proofs.ReadFronts.{Reads, reads_valued, reads_before, reads_behind, reads_left, reads_right, reads_word, AreBetween, between_none, between_more, reads_between}
 use Rattle.tree_text.proofs.PrintedValues.{both, not_true, longer, Stands, as_it_is, as_reference, plain_text, text_stands}
 

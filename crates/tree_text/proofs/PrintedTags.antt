@@ -16,13 +16,14 @@ use Rattle.xml_tree.specs.declared.names.Decl.{Decl}
 use Rattle.xml_tree.specs.declared.names.Attr.{Attr}
 use Rattle.xml_tree.proofs.ScopesAlike.{bound-inner}
 use Rattle.grammar_rules.specs.Reading.{Reader, read_judged}
-use Rattle.tree_text.specs.Words.{less}
+use Rattle.tree_text.specs.readers.Words.{less}
 use Rattle.tree_text.specs.declared.kind.Kind.{Kind}
 use Rattle.tree_text.specs.declared.said.Said.{Said}
-use Rattle.tree_text.specs.Names.{declares, decl_of, decls_of, attrs_of, is_unbound, is_misnamed, says_again, is_repeated, wrong_said, first_wrong, first_of_tag, counted_back, tag_fault}
+use Rattle.tree_text.specs.Names.{declares, decl_of, decls_of, attrs_of, is_unbound, is_misnamed, says_again, is_repeated}
+use Rattle.tree_text.specs.readers.Judging.{wrong_said, first_wrong, first_of_tag, counted_back, tag_fault}
 use Rattle.tree_text.specs.Names as names
 use Rattle.tree_text.specs.Pieces.{Tag, tag_of}
-use Rattle.tree_text.specs.Reading.{read_spaces, read_said, said_follows, read_tag_end, read_tag}
+use Rattle.tree_text.specs.readers.Texts.{read_spaces, read_said, said_follows, read_tag_end, read_tag}
 use Rattle.tree_text.proofs.ReadFronts.{Reads, reads_sequence, reads_valued, reads_before, reads_behind, reads_judged, sized_by, reads_word, reads_none, reads_many}
 use Rattle.tree_text.proofs.PrintedValues.{not_true}
 use Rattle.tree_text.proofs.PrintedNames.{EndsName, reads_qname, said_from, ArePrinted, reads_attrs, declared_name, attr_for, as_attrs, decl_printed}

@@ -20,7 +20,7 @@ use Rattle.tree_text.specs.Faults.{told, body_told, in_quotes, spelling_of, Text
 use Rattle.tree_text.specs.Grammar.{document, spelling}
 use Rattle.tree_text.specs.Kinds.{faults}
 use Rattle.tree_text.specs.Printing.{header, document_print, body_escape, body_print}
-use Rattle.tree_text.specs.Reading.{read_mark_if, read_declaration_if, read_spaces, read_dropped, misc_follows, read_prolog_misc, read_prolog, read_epilog, read_element, read_text, read_spelling}
+use Rattle.tree_text.specs.readers.Texts.{read_mark_if, read_declaration_if, read_spaces, read_dropped, misc_follows, read_prolog_misc, read_prolog, read_epilog, read_element, read_text, read_spelling}
 use Rattle.tree_text.specs.readers.Whole.{text_read, body_read}
 use Rattle.tree_text.proofs.ReadAnswers.{text_answer, body_answer}
 use Rattle.tree_text.proofs.ReadFronts.{Reads, reads_valued, reads_before, reads_behind, reads_none, reads_more, AreBetween, reads_between}

@@ -9,7 +9,7 @@ use Rattle.tree_text.specs.declared.kind.Kind.{Kind}
 use Rattle.tree_text.specs.Printing.{body_escape}
 use Rattle.tree_text.specs.Grammar.{is_raw, is_raw_in}
 use Rattle.tree_text.specs.Pieces.{value_of}
-use Rattle.tree_text.specs.Reading.{read_reference, reference_follows, read_value, read_whole_reference, read_spelling}
+use Rattle.tree_text.specs.readers.Texts.{read_reference, reference_follows, read_value, read_whole_reference, read_spelling}
 use Rattle.tree_text.proofs.ReadFronts.{Reads, reads_none, reads_more, reads_valued, reads_atomic, AreBetween, between_none, between_more, reads_between}
 
 pub both : (a b : Bool) → a && b ≡ true → (a ≡ true) × (b ≡ true)

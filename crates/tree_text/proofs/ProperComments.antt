@@ -8,7 +8,7 @@ use Rattle.grammar_rules.specs.Reading.{Stop, Syntax, Faulty, read_up_to}
 use Rattle.grammar_rules.proofs.Exact.{Outcome, Exact}
 use Rattle.grammar_rules.proofs.Closed.{anything}
 use Rattle.grammar_rules.proofs.UpTo.{exact_up_to}
-use Rattle.tree_text.specs.Words.{dashes}
+use Rattle.tree_text.specs.readers.Words.{dashes}
 use Rattle.tree_text.specs.declared.kind.Kind.{Kind}
 use Rattle.tree_text.specs.Kinds.{faults}
 use Rattle.tree_text.specs.Pieces.{line_ends}

@@ -12,7 +12,7 @@ use Rattle.xml_tree.specs.declared.names.Decl.{Decl}
 use Rattle.grammar_rules.specs.Digits.{decimal, hexadecimal}
 use Rattle.grammar_rules.specs.Rules.{AllPass, Each, word, run, number, sequence, either, optional, behind}
 use Rattle.grammar_rules.proofs.Fronts.{pass_append}
-use Rattle.tree_text.specs.Words.{colon, small_x}
+use Rattle.tree_text.specs.readers.Words.{colon, small_x}
 use Rattle.tree_text.specs.declared.kind.Kind.{Kind}
 use Rattle.tree_text.specs.declared.kind.Kind.TheVariants.{Unbound, Repeated}
 use Rattle.tree_text.specs.declared.said.Said.{Said}

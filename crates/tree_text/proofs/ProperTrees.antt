@@ -14,7 +14,7 @@ use Rattle.xml_tree.proofs.EverywhereLaws.{Letters-append}
 use Rattle.grammar_rules.specs.Rules.{Mark, Rule, Split, AllPass, Each, word, sequence, many, judged, optional, before, behind}
 use Rattle.grammar_rules.specs.Answers.{IsCalm, IsSpelled}
 use Rattle.grammar_rules.proofs.Laws.{Lawful}
-use Rattle.tree_text.specs.Words.{byte_order_mark}
+use Rattle.tree_text.specs.readers.Words.{byte_order_mark}
 use Rattle.tree_text.specs.declared.kind.Kind.{Kind}
 use Rattle.tree_text.specs.declared.kind.Kind.TheVariants.{Depth}
 use Rattle.tree_text.specs.Pieces.{Markup, Reference, Section, Comment, Instruction, Inner, with_markup, with_pieces}

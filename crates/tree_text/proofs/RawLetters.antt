@@ -4,7 +4,7 @@ use Rattle.std.specs.Prelude.{nat_eq, nat_le, not}
 use Rattle.std.proofs.lemmas.Bool.{and_parts, eqb-true, leb-true, le-leb, ne_eqb, or_left, true≢false}
 use Rattle.xml_tree.specs.Characters.{within, is_name_start, is_joining, is_name_char}
 use Rattle.tree_text.specs.Grammar.{is_raw}
-use Rattle.tree_text.specs.Runs.{is_frequent, is_usual}
+use Rattle.tree_text.specs.readers.Runs.{is_frequent, is_usual}
 
 raw_between : (c : ℕ) → c ≢ 60 → 39 ≤ c → c ≤ 55295 → is_raw c ≡ true
 raw_between c other low high =

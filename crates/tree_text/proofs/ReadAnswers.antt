@@ -9,7 +9,7 @@ use Rattle.tree_text.specs.declared.fault.TextFault.TheVariants as texts
 use Rattle.tree_text.specs.declared.fault.ValueFault.TheVariants as bodies
 use Rattle.tree_text.specs.Kinds.{faults}
 use Rattle.tree_text.specs.Grammar.{document}
-use Rattle.tree_text.specs.Reading.{read_text, read_spelling}
+use Rattle.tree_text.specs.readers.Texts.{read_text, read_spelling}
 use Rattle.tree_text.specs.Faults.{told, TextAnswer, spelling_of, body_told, BodyAnswer}
 use Rattle.tree_text.specs.readers.Whole.{text_read, body_read}
 use Rattle.tree_text.proofs.ReadDocuments.{answers_document}

@@ -14,7 +14,7 @@ use Rattle.grammar_rules.proofs.Whole.{ends, heads_ends, answers_whole}
 use Rattle.tree_text.specs.declared.kind.Kind.{Kind}
 use Rattle.tree_text.specs.Pieces.{value_of}
 use Rattle.tree_text.specs.Grammar.{reference, spelling}
-use Rattle.tree_text.specs.Reading.{read_spelling}
+use Rattle.tree_text.specs.readers.Texts.{read_spelling}
 use Rattle.tree_text.proofs.ReadParts.{closed_reference, starts_reference, quiet_reference, same}
 
 module _ (faults : Faults Kind) where

@@ -25,12 +25,12 @@ use Rattle.grammar_rules.proofs.Led.{Led, led_then, led_valued, led_before, led_
 use Rattle.grammar_rules.proofs.Tests.{passed_covers, failed_covers, exact_either_head, exact_optional_head, exact_either_next}
 use Rattle.grammar_rules.proofs.Spaced.{blank_some_of, Leads, leads_weaker, leads_behind, Spaced, spaced_run, spaced_behind, spaced_optional, exact_spaced_optional}
 use Rattle.grammar_rules.proofs.Whole.{ends, heads_ends, inside_ends, answers_whole}
-use Rattle.tree_text.specs.Words.{instruction_start, instruction_end, declaration_start, one_dot, encoding, standalone, yes, not_alone, bang, doctype, byte_order_mark}
+use Rattle.tree_text.specs.readers.Words.{instruction_start, instruction_end, declaration_start, one_dot, encoding, standalone, yes, not_alone, bang, doctype, byte_order_mark}
 use Rattle.tree_text.specs.declared.kind.Kind.{Kind}
 use Rattle.tree_text.specs.declared.kind.Kind.TheVariants.{Encoded, Doctyped}
 use Rattle.tree_text.specs.Kinds.{is_fault, rank, faults}
 use Rattle.tree_text.specs.Grammar.{spaces, is_quote, comment, is_target, instructed, instruction, dropped, element, version_number, is_encoding_char, encoding_name, yes_or_no, declared, xml_declaration, is_our_encoding, IsForeign, misc, prolog, epilog, document}
-use Rattle.tree_text.specs.Reading.{read_spaces, read_dropped, read_element, read_version_number, read_encoding_name, read_yes_or_no, read_declared, read_xml_declaration, encoding_fault, declaration_follows, read_misc, misc_follows, read_prolog_misc, read_prolog, less_follows, read_epilog, read_text}
+use Rattle.tree_text.specs.readers.Texts.{read_spaces, read_dropped, read_element, read_version_number, read_encoding_name, read_yes_or_no, read_declared, read_xml_declaration, encoding_fault, declaration_follows, read_misc, misc_follows, read_prolog_misc, read_prolog, less_follows, read_epilog, read_text}
 use Rattle.tree_text.proofs.ReadParts.{NoSpace, quote_no_space, exact_spaces, exact_equals, lawful_equals, quiet_equals, same, apart}
 use Rattle.tree_text.proofs.ReadTexts.{closed_comment, lawful_comment, led_comment, led_bang_comment, closed_instruction, lawful_instruction, led_instruction}
 use Rattle.tree_text.proofs.ReadElements.{both_true, led_element, lawful_element, exact_element}

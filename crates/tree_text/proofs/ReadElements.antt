@@ -22,14 +22,14 @@ use Rattle.grammar_rules.proofs.Marks.{exact_judged, Marks, exact_marked, exact_
 use Rattle.grammar_rules.proofs.Shapes.{exact_before, exact_behind, exact_between, past_member, inside_past_member}
 use Rattle.grammar_rules.proofs.Led.{Past, Led, led_word, led_sequence, led_valued, led_behind, led_judged, led_marked, starts_led, led_covers, led_covers_rest, led_stopped, next_true, next_false, next_is}
 use Rattle.grammar_rules.proofs.Tests.{failed_covers}
-use Rattle.tree_text.specs.Words.{less, greater, end_start, ampersand, section_end}
+use Rattle.tree_text.specs.readers.Words.{less, greater, end_start, ampersand, section_end}
 use Rattle.tree_text.specs.declared.kind.Kind.{Kind}
 use Rattle.tree_text.specs.declared.kind.Kind.TheVariants.{Depth}
 use Rattle.tree_text.specs.Pieces.{Reference, Section, Comment, Inner, line_ends, written, with_pieces}
 use Rattle.tree_text.specs.Kinds.{is_fault, faults}
 use Rattle.tree_text.specs.Names.{IsWrong, inside, element_of}
 use Rattle.tree_text.specs.Grammar.{is_raw, chars, markup, content, end_tag, tag, behind_tag, StartsTag, element}
-use Rattle.tree_text.specs.Reading.{read_name, read_chars, markup_follows, read_content, read_end_tag, read_behind_tag, starts_tag, read_element}
+use Rattle.tree_text.specs.readers.Texts.{read_name, read_chars, markup_follows, read_content, read_end_tag, read_behind_tag, starts_tag, read_element}
 use Rattle.tree_text.proofs.ReadParts.{exact_spaces, starts_reference, lawful_reference, closed_tag, lawful_tag, quiet_tag, led_tag}
 use Rattle.tree_text.proofs.JudgeTags.{tag_judges}
 use Rattle.tree_text.proofs.ReadTexts.{some_section_end, section_raw, lawful_comment, lawful_section, lawful_instruction, led_markup, closed_markup}

@@ -18,11 +18,11 @@ use Rattle.grammar_rules.proofs.Shapes.{exact_before, exact_behind, exact_name_o
 use Rattle.grammar_rules.proofs.Led.{Led, led_word, led_then, led_valued, led_sized}
 use Rattle.grammar_rules.proofs.Tests.{exact_either_head, exact_optional_head, exact_between_run_head, exact_either_next}
 use Rattle.grammar_rules.proofs.Spaced.{blank_some_of, Leads, leads_sequence, leads_valued, spaced_run, exact_spaced_many}
-use Rattle.tree_text.specs.Words.{less, greater, empty_end, colon, ampersand, semicolon, hash, small_x, amp, lt, gt, quot, apos, equals_sign}
+use Rattle.tree_text.specs.readers.Words.{less, greater, empty_end, colon, ampersand, semicolon, hash, small_x, amp, lt, gt, quot, apos, equals_sign}
 use Rattle.tree_text.specs.declared.kind.Kind.{Kind}
 use Rattle.tree_text.specs.Pieces.{value_of, qname_of, said_of, tag_of}
 use Rattle.tree_text.specs.Grammar.{name, qname, spaces, equals, stands_for, entity, last_char, numbered, reference, is_quote, is_raw_in, value, attribute, said, tag_end, tag}
-use Rattle.tree_text.specs.Reading.{read_name, read_qname, read_spaces, read_equals, read_stands_for, read_entity, read_numbered, read_reference, read_value, read_attribute, read_said, read_tag_end, read_tag}
+use Rattle.tree_text.specs.readers.Texts.{read_name, read_qname, read_spaces, read_equals, read_stands_for, read_entity, read_numbered, read_reference, read_value, read_attribute, read_said, read_tag_end, read_tag}
 
 -- # Classes that don't meet
 

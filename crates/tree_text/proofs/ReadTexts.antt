@@ -17,11 +17,11 @@ use Rattle.grammar_rules.proofs.Closed.{anything, heads_unless, exact_only}
 use Rattle.grammar_rules.proofs.Shapes.{exact_before, exact_behind, exact_name_of, covered_first, starts_behind}
 use Rattle.grammar_rules.proofs.Led.{Led, led_word, led_valued, led_behind, led_either, led_weaker, led_shorter, starts_led, led_covers, next_true, next_is}
 use Rattle.grammar_rules.proofs.Tests.{exact_either_head, exact_either_next, next_covers, other_covers}
-use Rattle.tree_text.specs.Words.{greater, comment_start, dashes, section_start, section_end, instruction_start, instruction_end, bang_bracket}
+use Rattle.tree_text.specs.readers.Words.{greater, comment_start, dashes, section_start, section_end, instruction_start, instruction_end, bang_bracket}
 use Rattle.tree_text.specs.declared.kind.Kind.{Kind}
 use Rattle.tree_text.specs.Pieces.{Markup, Reference, Section, Comment, Instruction, Inner, line_ends}
 use Rattle.tree_text.specs.Grammar.{is_raw, comment, section, is_target, instructed, instruction, markup}
-use Rattle.tree_text.specs.Reading.{read_comment, read_section, read_instructed, read_instruction, read_markup}
+use Rattle.tree_text.specs.readers.Texts.{read_comment, read_section, read_instructed, read_instruction, read_markup}
 use Rattle.tree_text.proofs.ReadParts.{NoName, NoSpace, space_no_name, exact_name, closed_reference, starts_reference, same, apart}
 
 pub some_dashes : 0 < length dashes

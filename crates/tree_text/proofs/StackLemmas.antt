@@ -11,7 +11,7 @@ use Rattle.std.proofs.Math.Seq.{take-append_seam}
 use Rattle.xml_tree.specs.declared.names.Decl.{Decl}
 use Rattle.xml_tree.specs.Scopes.{bound, declared, joined, some_text, xml_prefix}
 use Rattle.xml_tree.proofs.ScopeLemmas.{option_or-none}
-use Rattle.tree_text.specs.Bindings.{AreOf, at_text, number, numbers_at, stack, uris}
+use Rattle.tree_text.specs.readers.Bindings.{AreOf, at_text, number, numbers_at, stack, uris}
 use Rattle.tree_text.specs.declared.namespaces.Namespaces.{Namespaces}
 
 -- the numbers of a prefix, as the map has them

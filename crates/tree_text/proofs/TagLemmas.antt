@@ -2,7 +2,7 @@
 use Rattle.std.proofs.Common.{◌≡◌, ℕ, ◌+◌, ◌≤◌, List, [], ◌∷◌, ◌++◌, length, Ok, arith}
 use Rattle.std.specs.Prelude.{◌==◌}
 use Rattle.grammar_rules.specs.Reading.{head_is, starts}
-use Rattle.tree_text.specs.Words.{ampersand, semicolon, hash, small_x, amp, lt, gt, quot, apos}
+use Rattle.tree_text.specs.readers.Words.{ampersand, semicolon, hash, small_x, amp, lt, gt, quot, apos}
 use Rattle.grammar_rules.specs.Digits.{decimal, hexadecimal}
 use Rattle.xml_tree.specs.Characters.{is_char, is_space, is_name_start, is_name_char}
 use Rattle.xml_tree.specs.declared.names.Name.{Name}
@@ -10,7 +10,7 @@ use Rattle.tree_text.specs.declared.said.Said.{Said}
 use Rattle.tree_text.specs.Grammar.{last_char, is_quote, is_raw_in}
 use Rattle.tree_text.specs.Names.{widths}
 use Rattle.tree_text.specs.Pieces.{qname_of, value_of}
-use Rattle.tree_text.specs.Reading.{colon_follows, reference_follows, read_name, read_qname, read_equals, read_stands_for, read_entity, read_numbered, read_reference, read_value, read_attribute}
+use Rattle.tree_text.specs.readers.Texts.{colon_follows, reference_follows, read_name, read_qname, read_equals, read_stands_for, read_entity, read_numbered, read_reference, read_value, read_attribute}
 use Rattle.tree_text.proofs.Shrinks.{Shrinks, ok_small, shrinks_one, shrinks_word, shrinks_run, shrinks_number, shrinks_empty, shrinks_sequence, shrinks_valued, shrinks_either, shrinks_many}
 
 shrinks_name : Shrinks read_name

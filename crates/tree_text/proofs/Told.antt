@@ -16,9 +16,9 @@ use Rattle.tree_text.specs.declared.fault.ValueFault.{ValueFault}
 use Rattle.tree_text.specs.declared.fault.ValueFault.TheVariants as bodies
 use Rattle.tree_text.specs.declared.fault.ReadError.{ReadError}
 use Rattle.tree_text.specs.declared.fault.ReadError.TheVariants as errors
-use Rattle.tree_text.specs.Gives.{Fails}
+use Rattle.tree_text.specs.readers.Gives.{Fails}
 use Rattle.tree_text.specs.Memory.{Answered}
-use Rattle.tree_text.specs.Reading.{read_text, read_spelling}
+use Rattle.tree_text.specs.readers.Texts.{read_text, read_spelling}
 use Rattle.tree_text.specs.readers.Whole.{FaultOf, text_read, BodyFaultOf, body_read}
 
 not_by : (bytes : List ℕ) (b : Bool) → is_utf8 bytes ≡ b → (IsUtf8 bytes → ⊥) → is_utf8 bytes ≡ false

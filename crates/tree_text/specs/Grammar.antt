@@ -1,14 +1,13 @@
 -- The texts that documents and fragments are read from, rule by rule: XML 1.0, fifth edition, and Namespaces in XML 1.0, without
--- document types. The numbers in brackets are those of their productions. A rule says which texts it spells, as which values, and
--- what may be met where a text breaks off in it.
-use Rattle.std.specs.Prelude.{◌≡◌, ℕ, zero, suc, ◌+◌, Bool, true, false, ◌&&◌, ◌||◌, ◌==◌, not, List, [], ◌∷◌, Option, Some}
+-- document types. The numbers in brackets are those of the productions of XML, and with an N those of Namespaces in XML. A rule says which
+-- texts it spells, as which values, and what may be met where a text breaks off in it.
+use Rattle.std.specs.Prelude.{◌≡◌, ℕ, zero, suc, ◌+◌, Bool, true, false, ◌&&◌, ◌||◌, ◌==◌, not, List, [], ◌∷◌, codes, Option, Some}
 use Rattle.xml_tree.specs.Characters.{is_char, is_space, is_name_start, is_name_char, within}
 use Rattle.xml_tree.specs.Tree.{Content, last, Tree}
 use Rattle.xml_tree.specs.declared.names.Name.{Name}
 use Rattle.xml_tree.specs.declared.names.Decl.{Decl}
 use Rattle.grammar_rules.specs.Digits.{is_digit, decimal, hexadecimal}
 use Rattle.grammar_rules.specs.Rules.{Rule, never, empty, one, word, run, run_without, up_to, number, sequence, either, many, valued, sized, only, atomic, marked, judged, trap, optional, between, some_of, name_of, before, behind, quoted}
-use Rattle.tree_text.specs.Words.{less, greater, empty_end, end_start, equals_sign, colon, ampersand, semicolon, hash, small_x, amp, lt, gt, quot, apos, comment_start, dashes, section_start, section_end, instruction_start, instruction_end, declaration_start, version, one_dot, encoding, standalone, yes, not_alone, bang, doctype, byte_order_mark, xml, utf_8, us_ascii}
 use Rattle.tree_text.specs.declared.kind.Kind.{Kind}
 use Rattle.tree_text.specs.declared.kind.Kind.TheVariants.{Encoded, Doctyped, Depth}
 use Rattle.tree_text.specs.declared.said.Said.{Said}
@@ -17,13 +16,13 @@ use Rattle.tree_text.specs.Names.{IsWrong, inside, element_of}
 
 -- ---- names and white space
 
--- [4] NCName: a name start and name characters, without colons
+-- [N4] NCName: a name start and name characters, without colons
 abbrev pub name : Rule Kind (List ℕ)
 name = name_of is_name_start is_name_char
 
--- [7] QName: an NCName, or two with `:` between
+-- [N7] QName: an NCName, or two with `:` between
 abbrev pub qname : Rule Kind Name
-qname = valued qname_of (sequence name (λ _. optional (behind (word colon) name)))
+qname = valued qname_of (sequence name (λ _. optional (behind (word (codes ":")) name)))
 
 -- [3] S, where it may be absent, and where it may not
 abbrev pub spaces : Rule Kind (List ℕ)
@@ -34,7 +33,7 @@ some_spaces = some_of is_space
 
 -- [25] Eq: S? `=` S?
 abbrev pub equals : Rule Kind (List ℕ)
-equals = behind spaces (behind (word equals_sign) spaces)
+equals = behind spaces (behind (word (codes "=")) spaces)
 
 -- ---- references and values
 
@@ -44,7 +43,7 @@ stands_for c w = valued (λ _. c) (word w)
 
 -- [68] one of the five entities that there are
 abbrev pub entity : Rule Kind ℕ
-entity = either (stands_for 60 lt) (either (stands_for 62 gt) (either (stands_for 34 quot) (either (stands_for 39 apos) (stands_for 38 amp))))
+entity = either (stands_for 60 (codes "lt")) (either (stands_for 62 (codes "gt")) (either (stands_for 34 (codes "quot")) (either (stands_for 39 (codes "apos")) (stands_for 38 (codes "amp")))))
 
 -- the last Char
 abbrev pub last_char : ℕ
@@ -52,11 +51,11 @@ last_char = 0x10FFFF
 
 -- [66] `#` and digits, or `#x` and hexadecimal digits: the number so far is at most that of the last Char, the whole one is that of a Char
 abbrev pub numbered : Rule Kind ℕ
-numbered = behind (word hash) (either (behind (word small_x) (number hexadecimal last_char is_char)) (number decimal last_char is_char))
+numbered = behind (word (codes "#")) (either (behind (word (codes "x")) (number hexadecimal last_char is_char)) (number decimal last_char is_char))
 
 -- [67] Reference: `&`, a number or an entity, `;`
 abbrev pub reference : Rule Kind ℕ
-reference = behind (word ampersand) (before (either numbered entity) (word semicolon))
+reference = behind (word (codes "&")) (before (either numbered entity) (word (codes ";")))
 
 -- either quote
 abbrev pub is_quote : ℕ → Bool
@@ -85,29 +84,29 @@ said = valued said_of (sequence some_spaces (λ _. sized attribute))
 
 -- `/>` ends an empty element, `>` a start tag
 abbrev pub tag_end : Rule Kind Bool
-tag_end = either (valued (λ _. true) (word empty_end)) (valued (λ _. false) (word greater))
+tag_end = either (valued (λ _. true) (word (codes "/>"))) (valued (λ _. false) (word (codes ">")))
 
 -- [40] STag and [44] EmptyElemTag: `<`, a name, attributes each after S, S?, and `>` or `/>`
 abbrev pub tag : Rule Kind Tag
-tag = valued tag_of (sized (behind (word less) (sequence qname (λ _. sequence (before (many said) spaces) (λ _. tag_end)))))
+tag = valued tag_of (sized (behind (word (codes "<")) (sequence qname (λ _. sequence (before (many said) spaces) (λ _. tag_end)))))
 
 -- [42] ETag: `</`, the name of the start tag, S?, `>`
 abbrev pub end_tag : Name → Rule Kind (Unit {0})
-end_tag n = behind (word end_start) (behind (word (written n)) (behind spaces (word greater)))
+end_tag n = behind (word (codes "</")) (behind (word (written n)) (behind spaces (word (codes ">"))))
 
 -- ---- content
 
 -- [15] Comment: `<!--`, Chars without `--` that don't end in `-`, `-->`; so its first `--` stands before the `>`
 abbrev pub comment : Rule Kind (List ℕ)
-comment = valued line_ends (behind (word comment_start) (before (up_to is_char dashes) (word greater)))
+comment = valued line_ends (behind (word (codes "<!--")) (before (up_to is_char (codes "--")) (word (codes ">"))))
 
 -- [18] CDSect: `<![CDATA[`, Chars up to the first `]]>`
 abbrev pub section : Rule Kind (List ℕ)
-section = valued line_ends (behind (word section_start) (up_to is_char section_end))
+section = valued line_ends (behind (word (codes "<![CDATA[")) (up_to is_char (codes "]]>")))
 
 -- [17] PITarget: an NCName that isn't `xml`, without regard to ASCII case
 abbrev pub is_target : List ℕ → Bool
-is_target n = not (same_letters n xml)
+is_target n = not (same_letters n (codes "xml"))
 
 -- the same texts, which spell nothing
 abbrev pub dropped : {A : Type 0} → Rule Kind A → Rule Kind (Unit {0})
@@ -115,15 +114,15 @@ dropped r = valued (λ _. tt) r
 
 -- what stands behind a target: nothing, or white space and Chars, up to the first `?>`
 abbrev pub instructed : Rule Kind (Unit {0})
-instructed = either (dropped (behind (one is_space) (up_to is_char instruction_end))) (word instruction_end)
+instructed = either (dropped (behind (one is_space) (up_to is_char (codes "?>")))) (word (codes "?>"))
 
 -- [16] PI: `<?`, a target and what stands behind it
 abbrev pub instruction : Rule Kind (Unit {0})
-instruction = behind (word instruction_start) (behind (only is_target name) instructed)
+instruction = behind (word (codes "<?")) (behind (only is_target name) instructed)
 
 -- [14] CharData: raw characters without `]]>`
 abbrev pub chars : Rule Kind (List ℕ)
-chars = valued line_ends (run_without is_raw section_end)
+chars = valued line_ends (run_without is_raw (codes "]]>"))
 
 -- what stands between runs of characters: a reference, a CDATA section, a comment, an instruction or an element
 abbrev pub markup : Rule Kind Tree → Rule Kind Markup
@@ -157,7 +156,7 @@ element (suc n) scope depth =
 
 -- [26] VersionNum: `1.` and digits
 abbrev pub version_number : Rule Kind (Unit {0})
-version_number = dropped (behind (word one_dot) (some_of is_digit))
+version_number = dropped (behind (word (codes "1.")) (some_of is_digit))
 
 -- [81] EncName: a letter, and letters, digits, `.`, `_` and `-`
 abbrev pub is_letter : ℕ → Bool
@@ -171,7 +170,7 @@ encoding_name = name_of is_letter is_encoding_char
 
 -- [32] `yes` or `no`
 abbrev pub yes_or_no : Rule Kind (Unit {0})
-yes_or_no = either (word yes) (word not_alone)
+yes_or_no = either (word (codes "yes")) (word (codes "no"))
 
 -- S, a word, Eq and something in quotes
 abbrev pub declared : {A : Type 0} → List ℕ → Rule Kind A → Rule Kind A
@@ -180,12 +179,12 @@ declared w r = behind some_spaces (behind (word w) (behind equals (quoted is_quo
 -- [23] XMLDecl: `<?xml`, the version, perhaps the encoding, perhaps whether it stands alone, S?, `?>`. Its value is the encoding.
 abbrev pub xml_declaration : Rule Kind (Option (List ℕ))
 xml_declaration =
-    behind (word declaration_start) (behind (declared version version_number) (before (optional (declared encoding encoding_name))
-    (behind (optional (declared standalone yes_or_no)) (behind spaces (word instruction_end)))))
+    behind (word (codes "<?xml")) (behind (declared (codes "version") version_number) (before (optional (declared (codes "encoding") encoding_name))
+    (behind (optional (declared (codes "standalone") yes_or_no)) (behind spaces (word (codes "?>"))))))
 
 -- an encoding that is read, without regard to ASCII case
 abbrev pub is_our_encoding : List ℕ → Bool
-is_our_encoding e = same_letters e utf_8 || same_letters e us_ascii
+is_our_encoding e = same_letters e (codes "utf-8") || same_letters e (codes "us-ascii")
 
 -- A whole XML declaration of another encoding says so, at its `?>`.
 abbrev pub IsForeign : Option (List ℕ) → Kind → ℕ → Type 0
@@ -200,15 +199,15 @@ miscs one_more = dropped (between (dropped spaces) one_more)
 
 -- [22] prolog, without the XML declaration: `<!` before the root element, where `DOCTYPE` follows, says so
 abbrev pub prolog : Rule Kind (Unit {0})
-prolog = miscs (either (trap Doctyped bang doctype) misc)
+prolog = miscs (either (trap Doctyped (codes "<!") (codes "DOCTYPE")) misc)
 
 abbrev pub epilog : Rule Kind (Unit {0})
 epilog = miscs misc
 
--- [1] document: perhaps a byte order mark, perhaps an XML declaration, Misc, one element, Misc. A fragment is the same, in a scope.
+-- [1] document: perhaps a byte order mark (U+FEFF), perhaps an XML declaration, Misc, one element, Misc. A fragment is the same, in a scope.
 abbrev pub document : ℕ → List (List Decl) → Rule Kind Tree
 document n scope =
-    behind (dropped (optional (word byte_order_mark))) (behind (dropped (optional (judged IsForeign xml_declaration)))
+    behind (dropped (optional (word (0xFEFF ∷ [])))) (behind (dropped (optional (judged IsForeign xml_declaration)))
     (behind prolog (before (element n scope 1) epilog)))
 
 -- ---- bodies that spell a value

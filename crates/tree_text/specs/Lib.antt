@@ -1,16 +1,8 @@
-pub mod Bindings
 pub mod Faults
-pub mod Gives
 pub mod Grammar
 pub mod Kinds
-pub mod Meanings
-pub mod Members
 pub mod Memory
 pub mod Names
 pub mod Printing
 pub mod Pieces
-pub mod Reading
 pub mod readers
-pub mod Runs
-pub mod Views
-pub mod Words

@@ -1,12 +1,11 @@
 -- What the pieces of a text say: values, the parts of a tag, and content put together from left to right.
-use Rattle.std.specs.Prelude.{ℕ, Bool, true, false, length, List, [], ◌∷◌, ◌++◌, ◌==◌, if◌then◌else◌, ◌||◌, Option, None, Some}
+use Rattle.std.specs.Prelude.{ℕ, Bool, true, false, length, codes, List, [], ◌∷◌, ◌++◌, ◌==◌, if◌then◌else◌, ◌||◌, Option, None, Some}
 use Rattle.xml_tree.specs.Tree.{Content, Tree}
 use Rattle.xml_tree.specs.Edits.{with_text, with_elem, with_comment}
 use Rattle.xml_tree.specs.declared.names.Name.{Name}
 use Rattle.std.specs.Char.{to_ascii_lowercase}
 use Rattle.grammar_rules.specs.Reading.{head_is}
 use Rattle.tree_text.specs.declared.said.Said.{Said}
-use Rattle.tree_text.specs.Words.{colon}
 
 -- Line ends (XML 1.0, 2.11): CR LF, and a CR that no LF follows, are read as LF. So a CR before an LF is read as nothing.
 abbrev pub line_char : ℕ → List ℕ → Option ℕ
@@ -52,7 +51,7 @@ qname_of x = qname_by x.0 x.1
 -- a name as it is written
 abbrev pub written_by : List ℕ → List ℕ → List ℕ
 written_by [] l = l
-written_by (c ∷ cs) l = (c ∷ cs) ++ (colon ++ l)
+written_by (c ∷ cs) l = (c ∷ cs) ++ (codes ":" ++ l)
 
 abbrev pub written : Name → List ℕ
 written n = written_by n.prefix n.local

@@ -2,7 +2,7 @@
 ghost use Rattle.std.specs.Prelude.{◌≡◌, ◌++◌, ◌<◌, ◌∷◌, [], option_map, Some, IfOk, OnOk, length};
 ghost use Rattle.xml_tree.specs.Scopes.{bound};
 ghost use Rattle.xml_tree.specs.declared.names.Decl.{Decl};
-ghost use Rattle.tree_text.specs.Bindings.{AreKept, lists, number};
+ghost use Rattle.tree_text.specs.readers.Bindings.{AreKept, lists, number};
 
 use crate::namespaces::Namespaces;
 use std::alloc::{AllocError, Global};

@@ -4,11 +4,11 @@ ghost use Rattle.std.specs.Str.{chars};
 ghost use Rattle.grammar_rules.specs.Reading.{front_of, after_front, read_whole};
 ghost use Rattle.xml_tree.specs.Characters.{all_chars};
 ghost use Rattle.tree_text.specs.Faults.{BodyAnswer, closing, in_quotes, is_other, spelling_of};
-ghost use Rattle.tree_text.specs.Gives.{Gives, GivesAll};
+ghost use Rattle.tree_text.specs.readers.Gives.{Gives, GivesAll};
 ghost use Rattle.tree_text.specs.Grammar.{is_quote, is_raw};
 ghost use Rattle.tree_text.specs.Memory.{Answered};
-ghost use Rattle.tree_text.specs.Reading.{read_spelling, read_plain, read_whole_reference};
-ghost use Rattle.tree_text.specs.Runs.{run_len};
+ghost use Rattle.tree_text.specs.readers.Texts.{read_spelling, read_plain, read_whole_reference};
+ghost use Rattle.tree_text.specs.readers.Runs.{run_len};
 ghost use Rattle.tree_text.specs.readers.Whole.{BodyFaultOf, body_read};
 
 use crate::fault::{ReadError, ValueFault};

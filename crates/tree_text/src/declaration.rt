@@ -1,10 +1,10 @@
 //! The XML declaration and the byte order mark, which may stand before everything else.
 ghost use Rattle.std.specs.Prelude.{◌≡◌, true, false, option_map, Ok};
 ghost use Rattle.grammar_rules.specs.Digits.{is_digit};
-ghost use Rattle.tree_text.specs.Gives.{Gives};
+ghost use Rattle.tree_text.specs.readers.Gives.{Gives};
 ghost use Rattle.tree_text.specs.Grammar.{is_letter, is_encoding_char, is_our_encoding};
-ghost use Rattle.tree_text.specs.Reading.{letter_follows, read_version_number, read_encoding_name, read_yes_or_no, read_version, read_encoding, read_standalone, read_encoding_if, read_standalone_if, read_xml_declaration, declaration_follows, read_declaration, read_declaration_if, read_mark_if};
-ghost use Rattle.tree_text.specs.Runs.{run_len};
+ghost use Rattle.tree_text.specs.readers.Texts.{letter_follows, read_version_number, read_encoding_name, read_yes_or_no, read_version, read_encoding, read_standalone, read_encoding_if, read_standalone_if, read_xml_declaration, declaration_follows, read_declaration, read_declaration_if, read_mark_if};
+ghost use Rattle.tree_text.specs.readers.Runs.{run_len};
 
 use crate::digit_runs::{digits, is_digit};
 use crate::kind::Kind;

@@ -2,8 +2,8 @@
 ghost use Rattle.std.specs.Prelude.{◌≡◌};
 ghost use Rattle.grammar_rules.specs.Digits.{is_digit};
 ghost use Rattle.grammar_rules.specs.Reading.{read_some_of};
-ghost use Rattle.tree_text.specs.Gives.{Gives};
-ghost use Rattle.tree_text.specs.Runs.{run_len};
+ghost use Rattle.tree_text.specs.readers.Gives.{Gives};
+ghost use Rattle.tree_text.specs.readers.Runs.{run_len};
 
 use crate::stop::Stop;
 

@@ -3,12 +3,13 @@ ghost use Rattle.std.specs.Prelude.{◌≡◌, ◌+◌, ◌-◌, ◌≤◌, ◌<
 ghost use Rattle.grammar_rules.specs.Reading.{starts, judgement};
 ghost use Rattle.xml_tree.specs.Edits.{with_text};
 ghost use Rattle.xml_tree.specs.Tree.{last, tree_of};
-ghost use Rattle.tree_text.specs.Bindings.{AreBack, AreKept, lists};
-ghost use Rattle.tree_text.specs.Gives.{Gives, Fails};
-ghost use Rattle.tree_text.specs.Members.{read_chars_onto, read_onto, read_child, read_filled, read_filled_behind};
-ghost use Rattle.tree_text.specs.Names.{attrs_of, counted_back, first_of_tag, opening, widths};
-ghost use Rattle.tree_text.specs.Reading.{markup_follows, read_tag, read_element};
-ghost use Rattle.tree_text.specs.Views.{name_in, tag_in};
+ghost use Rattle.tree_text.specs.readers.Bindings.{AreBack, AreKept, lists};
+ghost use Rattle.tree_text.specs.readers.Gives.{Gives, Fails};
+ghost use Rattle.tree_text.specs.readers.Members.{read_chars_onto, read_onto, read_child, read_filled, read_filled_behind};
+ghost use Rattle.tree_text.specs.Names.{attrs_of, opening, widths};
+ghost use Rattle.tree_text.specs.readers.Judging.{counted_back, first_of_tag};
+ghost use Rattle.tree_text.specs.readers.Texts.{markup_follows, read_tag, read_element};
+ghost use Rattle.tree_text.specs.readers.Views.{name_in, tag_in};
 
 use crate::bindings::Bindings;
 use crate::fronts::plain_in_content;

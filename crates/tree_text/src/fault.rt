@@ -6,8 +6,9 @@ use std::alloc::{AllocError, AllocFailed};
 use std::fmt::Display;
 use thiserror::Error;
 
-/// Why bytes are no document or fragment. Places are byte offsets. Where several hold, the one with the least place is told;
-/// of two at one place `Namespace`.
+/// Why bytes are no document or fragment. Places are byte offsets. Where several hold, the one with
+/// the least place is told; of those at one place the first in this order: `TooDeep`, `Namespace`,
+/// `RepeatedAttribute`, `NotUtf8`, `Doctype`.
 #[derive(Debug, PartialEq, Eq, Drop, Error)]
 pub enum TextFault {
     /// The bytes aren't UTF-8, or a whole XML declaration names another encoding than UTF-8 and US-ASCII.

@@ -1,7 +1,7 @@
 //! The plain characters in front of a text: ASCII ones that are read as they stand. One pass finds their end and makes them bytes.
 ghost use Rattle.std.specs.Prelude.{◌≡◌, ◌≤◌, ◌++◌, take, chars, length, IsTrue};
 ghost use Rattle.std.specs.List.{list_all};
-ghost use Rattle.tree_text.specs.Runs.{is_plain_in_content, is_plain_in_value, run_len};
+ghost use Rattle.tree_text.specs.readers.Runs.{is_plain_in_content, is_plain_in_value, run_len};
 
 use crate::texts::ascii;
 

@@ -1,8 +1,8 @@
 //! What the names of a tag say, which none behind them may say again.
 ghost use Rattle.std.specs.Prelude.{◌≡◌, option_map, Some};
 ghost use Rattle.xml_tree.specs.Expanded.{attr_name};
-ghost use Rattle.tree_text.specs.Bindings.{AreKept, lists, number};
-ghost use Rattle.tree_text.specs.Meanings.{Means};
+ghost use Rattle.tree_text.specs.readers.Bindings.{AreKept, lists, number};
+ghost use Rattle.tree_text.specs.readers.Meanings.{Means};
 
 use crate::bindings::Bindings;
 use crate::names::{declared_prefix, declares, is_nothing};

@@ -1,12 +1,13 @@
 //! Names in tags: declarations and attributes, and the first of a tag's names that is wrong.
 ghost use Rattle.std.specs.Prelude.{◌≡◌, ◌+◌, ◌<◌, ◌^◌, List, [], ◌++◌, ◌∷◌, None, IfOk, OnOk, not, if◌then◌else◌};
 ghost use Rattle.std.specs.Str.{bytes_eq};
-ghost use Rattle.xml_tree.specs.Scopes.{xml_prefix, xmlns_prefix, xml_uri, xmlns_uri};
+ghost use Rattle.xml_tree.specs.Scopes.{xml_prefix, xml_uri, xmlns_uri};
 ghost use Rattle.xml_tree.specs.Proper.{may_stand};
-ghost use Rattle.tree_text.specs.Names.{declares, decl_of, decls_of, is_unbound, is_misnamed, is_repeated, wrong_said, widths, opening, first_wrong, first_of_tag};
-ghost use Rattle.tree_text.specs.Bindings.{AreKept, lists};
-ghost use Rattle.tree_text.specs.Meanings.{Holds};
-ghost use Rattle.tree_text.specs.Views.{name_in, tag_in};
+ghost use Rattle.tree_text.specs.Names.{declares, decl_of, decls_of, is_unbound, is_misnamed, is_repeated, widths, opening};
+ghost use Rattle.tree_text.specs.readers.Judging.{wrong_said, first_wrong, first_of_tag};
+ghost use Rattle.tree_text.specs.readers.Bindings.{AreKept, lists};
+ghost use Rattle.tree_text.specs.readers.Meanings.{Holds};
+ghost use Rattle.tree_text.specs.readers.Views.{name_in, tag_in};
 ghost use Rattle.tree_text.specs.declared.said.Said.{Said};
 
 use crate::bindings::Bindings;
@@ -16,19 +17,13 @@ use crate::said::Said;
 use crate::tags::Tag;
 use std::alloc::{AllocError, Global};
 use std::collections::BTreeSet;
-use xml_tree::{Decl, Name, Text, is_xml};
+use xml_tree::{Decl, Name, Text, is_xml, is_xmlns};
 
 /// Whether a text is empty.
 pub fn is_nothing(text: &Text) -> bool
     ensures { result ≡ bytes_eq text.now [] }
 {
     text.is("")
-}
-
-fn is_xmlns(text: &Text) -> bool
-    ensures { result ≡ bytes_eq text.now xmlns_prefix }
-{
-    text.is("xmlns")
 }
 
 fn is_xml_uri(text: &Text) -> bool
@@ -47,13 +42,13 @@ fn is_xmlns_uri(text: &Text) -> bool
 pub fn declares(name: &Name) -> bool
     ensures { result ≡ declares name.now }
 {
-    if is_xmlns(&name.prefix) {
+    if is_xmlns(name.prefix.as_str()) {
         return true;
     }
     if !is_nothing(&name.prefix) {
         return false;
     }
-    is_xmlns(&name.local)
+    is_xmlns(name.local.as_str())
 }
 
 /// The prefix that a declaration declares.
@@ -111,7 +106,7 @@ fn fits_xml(prefix: &Text, uri: &Text) -> bool
 fn may_stand(prefix: &Text, uri: &Text) -> bool
     ensures { result ≡ may_stand (record { prefix = prefix.now; uri = uri.now }) }
 {
-    if is_xmlns(prefix) {
+    if is_xmlns(prefix.as_str()) {
         return false;
     }
     if is_xmlns_uri(uri) {

@@ -3,7 +3,7 @@ ghost use Rattle.std.specs.Prelude.{◌≡◌, ◌-◌, ◌++◌, List, ℕ, [],
 ghost use Rattle.std.specs.Str.{bytes_eq};
 ghost use Rattle.xml_tree.specs.Scopes.{bound, joined};
 ghost use Rattle.xml_tree.specs.declared.names.Decl.{Decl};
-ghost use Rattle.tree_text.specs.Bindings.{AreNumbers, AreOf, at_text, number, numbers_at};
+ghost use Rattle.tree_text.specs.readers.Bindings.{AreNumbers, AreOf, at_text, number, numbers_at};
 
 use std::alloc::{AllocError, Global};
 use std::collections::BTreeMap;

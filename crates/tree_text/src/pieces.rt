@@ -3,10 +3,10 @@ ghost use Rattle.std.specs.Prelude.{◌≡◌, true, IfOk, Ok};
 ghost use Rattle.grammar_rules.specs.Reading.{starts};
 ghost use Rattle.xml_tree.specs.Characters.{is_space};
 ghost use Rattle.xml_tree.specs.Comments.{is_comment};
-ghost use Rattle.tree_text.specs.Gives.{Gives};
+ghost use Rattle.tree_text.specs.readers.Gives.{Gives};
 ghost use Rattle.tree_text.specs.Grammar.{is_target};
 ghost use Rattle.tree_text.specs.Pieces.{line_ends};
-ghost use Rattle.tree_text.specs.Reading.{misc_follows, less_follows, read_comment_inside, read_comment, read_section, read_instructed, read_instruction, read_misc, read_prolog_misc, read_prolog, read_epilog};
+ghost use Rattle.tree_text.specs.readers.Texts.{misc_follows, less_follows, read_comment_inside, read_comment, read_section, read_instructed, read_instruction, read_misc, read_prolog_misc, read_prolog, read_epilog};
 
 use crate::kind::Kind;
 use crate::parts::{name, spaces, word};

@@ -5,9 +5,9 @@ ghost use Rattle.grammar_rules.specs.Reading.{read_whole};
 ghost use Rattle.xml_tree.specs.Proper.{ProperIn};
 ghost use Rattle.xml_tree.specs.Tree.{height};
 ghost use Rattle.tree_text.specs.Faults.{TextAnswer};
-ghost use Rattle.tree_text.specs.Gives.{GivesAll};
+ghost use Rattle.tree_text.specs.readers.Gives.{GivesAll};
 ghost use Rattle.tree_text.specs.Memory.{Answered};
-ghost use Rattle.tree_text.specs.Reading.{read_text};
+ghost use Rattle.tree_text.specs.readers.Texts.{read_text};
 ghost use Rattle.tree_text.specs.readers.Whole.{FaultOf, text_read};
 
 use crate::bindings::Bindings;

@@ -2,13 +2,13 @@
 ghost use Rattle.std.specs.Prelude.{◌≡◌, ◌==◌, ◌+◌, ◌<◌, ◌≤◌, ◌++◌, true, false, [], length, OnOk, IfOk, IsTrue, Ok};
 ghost use Rattle.grammar_rules.specs.Reading.{starts, read_up_to};
 ghost use Rattle.xml_tree.specs.Characters.{is_char};
-ghost use Rattle.tree_text.specs.Gives.{Gives};
+ghost use Rattle.tree_text.specs.readers.Gives.{Gives};
 ghost use Rattle.tree_text.specs.Grammar.{is_raw};
 ghost use Rattle.tree_text.specs.Pieces.{line_char, with_char, line_ends, same_letters};
-ghost use Rattle.tree_text.specs.Reading.{read_raw_run};
+ghost use Rattle.tree_text.specs.readers.Texts.{read_raw_run};
 ghost use Rattle.std.specs.List.{list_all};
-ghost use Rattle.tree_text.specs.Runs.{is_no_return, is_usual, without_len};
-ghost use Rattle.tree_text.specs.Words.{section_end};
+ghost use Rattle.tree_text.specs.readers.Runs.{is_no_return, is_usual, without_len};
+ghost use Rattle.tree_text.specs.readers.Words.{section_end};
 
 use crate::stop::Stop;
 use crate::texts::text_of;

@@ -1,11 +1,11 @@
 //! Start tags and the tags of empty elements.
 ghost use Rattle.std.specs.Prelude.{◌≡◌, ◌+◌, ◌≤◌, ◌++◌, ◌∷◌, [], length, IfOk, Ok};
 ghost use Rattle.grammar_rules.specs.Reading.{read_quoted, read_valued};
-ghost use Rattle.tree_text.specs.Gives.{Gives};
+ghost use Rattle.tree_text.specs.readers.Gives.{Gives};
 ghost use Rattle.tree_text.specs.Grammar.{is_quote};
 ghost use Rattle.tree_text.specs.Names.{widths, opening};
-ghost use Rattle.tree_text.specs.Reading.{read_value, read_attribute, read_said, read_all_said, said_follows, read_tag_end, read_tag};
-ghost use Rattle.tree_text.specs.Views.{name_in, tag_in};
+ghost use Rattle.tree_text.specs.readers.Texts.{read_value, read_attribute, read_said, read_all_said, said_follows, read_tag_end, read_tag};
+ghost use Rattle.tree_text.specs.readers.Views.{name_in, tag_in};
 
 use crate::parts::{equals, some_spaces, spaces, starts_with_name, starts_with_space, word};
 use crate::said::Said;

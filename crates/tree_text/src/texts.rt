@@ -2,7 +2,7 @@
 ghost use Rattle.std.specs.Prelude.{◌≡◌, ◌≤◌, ◌++◌, [], take, chars, length, IsTrue, IfSome, IfOk, OnOk};
 ghost use Rattle.std.specs.List.{list_all};
 ghost use Rattle.std.specs.Str.{IsAscii};
-ghost use Rattle.tree_text.specs.Runs.{is_ascii, Spells};
+ghost use Rattle.tree_text.specs.readers.Runs.{is_ascii, Spells};
 
 use std::alloc::{AllocError, Global};
 use xml_tree::Text;

@@ -2,14 +2,14 @@
 ghost use Rattle.std.specs.Prelude.{◌≡◌, ◌+◌, ◌≤◌, ◌<◌, ◌++◌, true, false, [], ◌∷◌, MatchOption, IfOk, OnOk, Ok, option_map};
 ghost use Rattle.grammar_rules.specs.Reading.{read_one, read_number};
 ghost use Rattle.xml_tree.specs.Characters.{is_char};
-ghost use Rattle.tree_text.specs.Gives.{Gives};
+ghost use Rattle.tree_text.specs.readers.Gives.{Gives};
 ghost use Rattle.std.specs.List.{list_all};
-ghost use Rattle.tree_text.specs.Runs.{is_frequent, is_smooth, run_len, ends_run};
+ghost use Rattle.tree_text.specs.readers.Runs.{is_frequent, is_smooth, run_len, ends_run};
 ghost use Rattle.tree_text.specs.Pieces.{line_char, with_char, blank, raw};
-ghost use Rattle.tree_text.specs.Members.{read_blanked};
-ghost use Rattle.tree_text.specs.Views.{digits_of};
+ghost use Rattle.tree_text.specs.readers.Members.{read_blanked};
+ghost use Rattle.tree_text.specs.readers.Views.{digits_of};
 ghost use Rattle.tree_text.specs.Grammar.{last_char, is_quote, is_raw, is_raw_in};
-ghost use Rattle.tree_text.specs.Reading.{read_stands_for, read_entity, read_numbered, read_named, read_reference, read_raw, reference_follows, read_value};
+ghost use Rattle.tree_text.specs.readers.Texts.{read_stands_for, read_entity, read_numbered, read_named, read_reference, read_raw, reference_follows, read_value};
 
 use crate::fronts::plain_in_value;
 use crate::parts::word;

@@ -1,11 +1,11 @@
 //! Names as they stand in a text.
 ghost use Rattle.std.specs.Prelude.{◌≡◌, ◌+◌, ◌<◌, length, IfOk};
 ghost use Rattle.grammar_rules.specs.Reading.{read_word};
-ghost use Rattle.tree_text.specs.Gives.{Gives};
+ghost use Rattle.tree_text.specs.readers.Gives.{Gives};
 ghost use Rattle.tree_text.specs.Pieces.{written};
-ghost use Rattle.tree_text.specs.Reading.{colon_follows, read_qname, read_end_tag};
-ghost use Rattle.tree_text.specs.Views.{name_in};
-ghost use Rattle.tree_text.specs.Words.{end_start};
+ghost use Rattle.tree_text.specs.readers.Texts.{colon_follows, read_qname, read_end_tag};
+ghost use Rattle.tree_text.specs.readers.Views.{name_in};
+ghost use Rattle.tree_text.specs.readers.Words.{end_start};
 
 use crate::parts::{letter, name, spaces, word};
 use crate::stop::Stop;

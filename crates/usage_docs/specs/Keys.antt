@@ -1,4 +1,4 @@
--- The attributes without a namespace, which are also the keys of elements. RFC 4826, sections 3.2 and 4.2.
+-- The attributes without a namespace (RFC 4826, sections 3.2 and 4.2), which are also the keys of elements (sections 3.4.5 and 4.4.5).
 use Rattle.std.specs.Prelude.{ℕ, Bool, true, false, List, [], Option, None, Some, codes, if◌then◌else◌, ◌&&◌, not, find, is_some, unwrap_or, option_map, option_and_then}
 use Rattle.std.specs.Str.{bytes_eq}
 use Rattle.std.specs.List.{list_all}

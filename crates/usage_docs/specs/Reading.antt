@@ -1,4 +1,4 @@
--- Words that private functions and proofs use: how a document is gone through. No public contract but that of an iterator has them.
+-- Words of private functions, of functions that look at the neighbours of a change alone, and of proofs: how a document is gone through.
 pub mod Gaps
 pub mod Lengths
 pub mod Letters

@@ -1,4 +1,4 @@
-//! The attributes of the table's elements, and the keys among them (RFC 4826, sections 3.2 and 4.2).
+//! The attributes of the table's elements, and the keys among them (RFC 4826, sections 3.2, 3.4.5, 4.2 and 4.4.5).
 ghost use Rattle.std.specs.Prelude.{◌≡◌, Some, None, IsTrue, chars, option_map, is_some};
 ghost use Rattle.std.specs.List.{list_all};
 ghost use Rattle.usage_docs.specs.Words.{is_ascii};

@@ -121,3 +121,18 @@ pub fn constraints(alloc: Global, usage: Usage, root: &Element) -> Result<bool, 
         root,
     )
 }
+
+/// Whether the references of a child, and of those in it, have their form, in the scope around it and by the row of its parent.
+///
+/// # Errors
+/// `NoMemory` for want of memory.
+pub fn is_formed_child(
+    alloc: Global,
+    row: Kind,
+    scope: &Around<'_>,
+    kid: &Element,
+) -> Result<bool, NoMemory>
+    ensures { IfOk result (λ formed. IsTrue formed ↔ IsNodeFormed row scope.now (Elem kid.now)) }
+{
+    is_kid_formed(alloc, row, scope, kid)
+}

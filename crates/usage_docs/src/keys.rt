@@ -131,3 +131,21 @@ pub fn first_clash(alloc: Global, usage: Usage, root: &Element) -> Result<Option
         &Path::root(),
     )
 }
+
+/// The first clash below an element of this row, which stands at a path, in the scope inside it: the first element in document
+/// order whose key equals the key of an earlier sibling of its kind.
+///
+/// # Errors
+/// `NoMemory` for want of memory.
+pub fn clash_below(
+    alloc: Global,
+    row: Kind,
+    scope: &Around<'_>,
+    element: &Element,
+    path: &Path,
+) -> Result<Option<Clash>, NoMemory>
+    requires low { length path.now + content_height element.now.content ≤ 64 }
+    ensures first { IfOk result (λ found. IsFirst (RepeatsAt row scope.now (kids_of element.now)) path.now found) }
+{
+    clash_inside(alloc, row, scope, element, path)
+}

@@ -21,10 +21,10 @@ mod validity;
 
 pub use attributes::{attrs_pass, key_of, key_value, value_of};
 pub use capabilities::caps;
-pub use forms::{all_formed, constraints, is_formed};
+pub use forms::{all_formed, constraints, is_formed, is_formed_child};
 pub use insertions::insertion_is_local;
 pub use judging::{Fault, judge};
-pub use keys::{Clash, first_clash};
+pub use keys::{Clash, clash_below, first_clash};
 pub use laws::each_tree_has_one_judgement;
 pub use listing::{INDEX_LIMIT, IndexFault, IndexMaker};
 pub use parts::{END, follows, part_of};

@@ -1,10 +1,10 @@
-// Texts that only contracts see. They take no memory, and do nothing at run time.
+// Addresses that only contracts see. They take no memory, and do nothing at run time.
 ghost use Rattle.std.specs.Prelude.{◌≡◌, ℕ, List, [], ◌∷◌};
 ghost use Rattle.std.specs.Borrow.{ftrue};
 
 use std::marker::Model;
 
-/// Texts that a value in memory was given, the latest first, as a contract sees them.
+/// The addresses that a peer or a port in memory was given, the latest first, as a contract sees them.
 #[derive(Drop)]
 pub(crate) struct Remembered {
     pub(crate) ghost texts: { List (List ℕ) },
@@ -22,7 +22,7 @@ impl Remembered {
         Remembered {}
     }
 
-    /// One text more.
+    /// One address more.
     pub(crate) fn add(&mut self, _text: &[u8])
         ensures { self.new.texts ≡ _text.now ∷ self.old.texts }
     {}

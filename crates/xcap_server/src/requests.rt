@@ -9,7 +9,7 @@ ghost use Rattle.request_terms.specs.Methods.{is_reading};
 ghost use Rattle.request_terms.specs.Rights.{is_allowed};
 ghost use Rattle.request_terms.specs.declared.method.Method.TheVariants as methods;
 ghost use Rattle.store_core.specs.Keeping.{IsUsers};
-ghost use Rattle.machine_words.specs.Requests.{ByMethod, ByTarget, ByUser, Deletes, IsAnswer, Puts, auid_of, fault_status, home_of, reads, takes};
+ghost use Rattle.machine_words.specs.Requests.{ByMethod, ByTarget, ByUser, Deletes, IsAnswer, IsWritableTarget, Puts, auid_of, fault_status, home_of, reads, takes};
 ghost use Rattle.document_writes.specs.Deciding.{Decides};
 
 use crate::targets::{auid_of, home_of, is_read_only, takes};
@@ -65,6 +65,7 @@ fn put_target(
     request: &Request,
 ) -> Result<Decision, AllocError>
     requires readable { IsReadableTarget target.now }
+    requires writable { IsWritableTarget target.now }
     requires users { IsUsers (home_of target.now) }
     requires usage { usage_of (auid_of target.now) ≡ Some usage }
     requires taken { takes target.now methods.Put ≡ true }
@@ -113,6 +114,7 @@ fn decide_write(
     request: &Request,
 ) -> Result<Decision, AllocError>
     requires readable { IsReadableTarget target.now }
+    requires writable { IsWritableTarget target.now }
     requires users { IsUsers (home_of target.now) }
     requires writes { is_reading method ≡ false }
     requires taken { takes target.now method ≡ true }
@@ -138,6 +140,7 @@ fn decide_method(
     request: &Request,
 ) -> Result<Decision, AllocError>
     requires readable { IsReadableTarget target.now }
+    requires writable { IsWritableTarget target.now }
     requires users { is_reading method ≡ false → IsUsers (home_of target.now) }
     requires taken { takes target.now method ≡ true }
     ensures decides_as_the_machine { IfOk result (λ d. Decides (ByMethod root.now store.old.content target.now method request.now) store.new d) }
@@ -167,6 +170,7 @@ fn decide_user(
     request: &Request,
 ) -> Result<Decision, AllocError>
     requires readable { IsReadableTarget target.now }
+    requires writable { IsWritableTarget target.now }
     requires taken { takes target.now method ≡ true }
     ensures decides_as_the_machine { IfOk result (λ d. Decides (ByUser root.now store.old.content target.now method request.now) store.new d) }
     ensures holds_the_same { store.new.content ≡ store.old.content }
@@ -186,6 +190,7 @@ fn decide_target(
     request: &Request,
 ) -> Result<Decision, AllocError>
     requires readable { IsReadableTarget target.now }
+    requires writable { IsWritableTarget target.now }
     ensures decides_as_the_machine { IfOk result (λ d. Decides (ByTarget root.now store.old.content target.now method request.now) store.new d) }
     ensures holds_the_same { store.new.content ≡ store.old.content }
 {

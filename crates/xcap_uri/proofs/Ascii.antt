@@ -1,17 +1,16 @@
 -- Texts of ASCII: words, and roots with their paths.
-use Rattle.std.proofs.Common.{◌≡◌, ℕ, Bool, true, false, ◌==◌, nat_eq, nat_le, List, [], ◌∷◌, Option, None, Some, unwrap_or, codes, length, refl, ap, ◌∙◌, sym, arith}
-use Rattle.std.proofs.lemmas.Bool.{and_parts, and_from, eqb-true, true≢false}
+use Rattle.std.proofs.Common.{◌≡◌, ◌⊎◌, inl, inr, ℕ, Bool, true, false, ◌==◌, List, [], ◌∷◌, ◌++◌, codes, drop, refl, ap, ◌∙◌, sym, arith}
+use Rattle.std.proofs.lemmas.Bool.{and_parts, and_from, eqb-true}
 use Rattle.std.proofs.lemmas.Bool.Decides.{nat_tests}
 use Rattle.std.proofs.lemmas.Str.{encodes-chars, encodes-IsAscii}
 use Rattle.std.specs.Char.{is_ascii}
 use Rattle.std.specs.List.{list_all}
-use Rattle.std.specs.Option.{option_or}
 use Rattle.std.specs.Str.{IsAscii, IsUtf8, chars}
 use lib.Utf8.{encodes}
-use Rattle.grammar_rules.specs.Reading.{after_front}
 use Rattle.doc_names.proofs.Words.{word_letters}
-use Rattle.xcap_uri.specs.Cuts.{after, pieces, with_first, is_other}
-use Rattle.xcap_uri.specs.Roots.{slash, is_authority_char, is_segment_char, is_some_of, are_authority_and_segments, has_form, behind_scheme, is_root, path_of}
+use Rattle.xcap_uri.specs.Cuts.{pieces, with_first}
+use Rattle.xcap_uri.specs.Roots.{slash, is_authority_char, is_segment_char, is_some_of, path_in, is_root, path_of}
+use Rattle.xcap_uri.proofs.RootAnswers.{Parts, root_parts}
 
 -- the octets of a text of ASCII
 pub octets_are : (octets text : List ℕ) → IsUtf8 octets → chars octets ≡ text → IsAscii text → octets ≡ text
@@ -39,11 +38,15 @@ segments_letters (p ∷ ps) h =
     let both = and_parts (is_some_of is_segment_char p) (list_all (is_some_of is_segment_char) ps) h in
     and_from _ _ (some_letters is_segment_char segment_char p both.0) (segments_letters ps both.1)
 
-pieces_letters : (ps : List (List ℕ)) → are_authority_and_segments ps ≡ true → list_all (list_all is_ascii) ps ≡ true
-pieces_letters [] h = refl
-pieces_letters (p ∷ ps) h =
-    let both = and_parts (is_some_of is_authority_char p) (list_all (is_some_of is_segment_char) ps) h in
-    and_from _ _ (some_letters is_authority_char authority_char p both.0) (segments_letters ps both.1)
+-- the scheme of a root
+scheme_letters : (s : List ℕ) → (s ≡ codes "http:") ⊎ (s ≡ codes "https:") → list_all is_ascii s ≡ true
+scheme_letters s (inl e) = ap (list_all is_ascii) e
+scheme_letters s (inr e) = ap (list_all is_ascii) e
+
+pieces_letters : (ps : List (List ℕ)) → Parts ps → list_all (list_all is_ascii) ps ≡ true
+pieces_letters ps h =
+    ap (list_all (list_all is_ascii)) h.parts_are
+    ∙ and_from _ _ (scheme_letters h.scheme h.scheme_is) (and_from _ _ (some_letters is_authority_char authority_char h.authority h.authority_is) (segments_letters h.segments h.segments_are))
 
 -- ---- pieces, and what they are cut from
 
@@ -64,40 +67,18 @@ joined_letters (b ∷ bs) h = one_more b bs (b == slash) refl (joined_letters bs
 
 -- ---- the whole, and the path
 
-one_after : (c d : ℕ) (cs text rest : List ℕ) (t : Bool) → nat_eq c d ≡ t → is_ascii c ≡ true → (after cs text ≡ Some rest → list_all is_ascii text ≡ true) → after (c ∷ cs) (d ∷ text) ≡ Some rest → list_all is_ascii (d ∷ text) ≡ true
-one_after c d cs text rest true f small more e = and_from _ _ (ap is_ascii (sym (eqb-true c d f)) ∙ small) (more (rw f at e))
-one_after c d cs text rest false f small more e = let never : None ≡ Some rest = rw f at e in absurd cc
-
-after_letters : (front text rest : List ℕ) → list_all is_ascii front ≡ true → after front text ≡ Some rest → list_all is_ascii rest ≡ true → list_all is_ascii text ≡ true
-after_letters [] text rest small e h = let same : text ≡ rest = cc in ap (list_all is_ascii) same ∙ h
-after_letters (c ∷ cs) [] rest small e h = absurd cc
-after_letters (c ∷ cs) (d ∷ text) rest small e h =
-    let both = and_parts (is_ascii c) (list_all is_ascii cs) small in
-    one_after c d cs text rest (nat_eq c d) refl both.0 (λ f. after_letters cs text rest both.1 f h) e
-
-one_tail : (c : ℕ) (cs : List ℕ) (t : Bool) → is_other slash c ≡ t → list_all is_ascii (c ∷ cs) ≡ true → list_all is_ascii (after_front (is_other slash) cs) ≡ true → list_all is_ascii (after_front (is_other slash) (c ∷ cs)) ≡ true
-one_tail c cs true e h more = rw e more
-one_tail c cs false e h more = rw e h
-
-tail_letters : (text : List ℕ) → list_all is_ascii text ≡ true → list_all is_ascii (after_front (is_other slash) text) ≡ true
-tail_letters [] h = refl
-tail_letters (c ∷ cs) h = one_tail c cs (is_other slash c) refl h (tail_letters cs (and_parts (is_ascii c) (list_all is_ascii cs) h).1)
-
--- what stands behind the scheme
-behind_letters : (rest : Option (List ℕ)) → has_form rest ≡ true → list_all is_ascii (unwrap_or rest []) ≡ true
-behind_letters None h = refl
-behind_letters (Some rest) h = joined_letters rest (pieces_letters (pieces slash rest) h)
-
-by_scheme : (text : List ℕ) (first second : Option (List ℕ)) → after (codes "http://") text ≡ first → after (codes "https://") text ≡ second → has_form (option_or first second) ≡ true → list_all is_ascii text ≡ true
-by_scheme text (Some rest) second e f h = after_letters (codes "http://") text rest refl e (behind_letters (Some rest) h)
-by_scheme text None (Some rest) e f h = after_letters (codes "https://") text rest refl f (behind_letters (Some rest) h)
-by_scheme text None None e f h = absurd (true≢false (sym h))
-
-has_root_form : (text : List ℕ) → is_root text ≡ true → has_form (behind_scheme text) ≡ true
-has_root_form text is = (and_parts (nat_le (length text) 256) (has_form (behind_scheme text)) is).1
-
 pub root_letters : (text : List ℕ) → is_root text ≡ true → IsAscii text
-root_letters text is = word_letters text (by_scheme text (after (codes "http://") text) (after (codes "https://") text) refl refl (has_root_form text is))
+root_letters text is = word_letters text (joined_letters text (pieces_letters (pieces slash text) (root_parts text is)))
+
+append_letters : (xs ys : List ℕ) → list_all is_ascii xs ≡ true → list_all is_ascii ys ≡ true → list_all is_ascii (xs ++ ys) ≡ true
+append_letters [] ys h k = k
+append_letters (c ∷ cs) ys h k = let both = and_parts (is_ascii c) (list_all is_ascii cs) h in and_from _ _ both.0 (append_letters cs ys both.1 k)
+
+in_path_letters : (ps : List (List ℕ)) → list_all (list_all is_ascii) ps ≡ true → list_all is_ascii (path_in ps) ≡ true
+in_path_letters [] h = refl
+in_path_letters (p ∷ ps) h = let both = and_parts (list_all is_ascii p) (list_all (list_all is_ascii) ps) h in append_letters p (path_in ps) both.0 (in_path_letters ps both.1)
 
 pub path_letters : (text : List ℕ) → is_root text ≡ true → IsAscii (path_of text)
-path_letters text is = word_letters (path_of text) (tail_letters (unwrap_or (behind_scheme text) []) (behind_letters (behind_scheme text) (has_root_form text is)))
+path_letters text is =
+    let h = root_parts text is in
+    word_letters (path_of text) (ap (λ (ps : List (List ℕ)). list_all is_ascii (path_in (drop 3 ps))) h.parts_are ∙ in_path_letters h.segments (segments_letters h.segments h.segments_are))

@@ -5,8 +5,9 @@ use Rattle.grammar_rules.specs.Reading.{after_front}
 use Rattle.xml_tree.specs.declared.names.Decl.{Decl}
 use Rattle.tree_text.specs.declared.fault.ReadError.TheVariants.{Fault, NoMemory}
 use Rattle.xcap_uri.specs.Gives.{UriError, ◌>>=◌}
-use Rattle.xcap_uri.specs.Queries.{Read, with_char, item_read, items_read, is_blank}
-use Rattle.xcap_uri.specs.UriSteps.{with_chars, with_items}
+use Rattle.xcap_uri.specs.Queries.{is_blank}
+use Rattle.xcap_uri.specs.readers.Queries.{Read, with_char, item_read, items_read}
+use Rattle.xcap_uri.specs.readers.UriSteps.{with_chars, with_items}
 use Rattle.xcap_uri.specs.declared.fault.UriFault.TheVariants.{BadQuery}
 
 -- ---- the characters of a URI

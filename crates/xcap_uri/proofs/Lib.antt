@@ -8,9 +8,12 @@ mod Letters
 pub mod Nameable
 mod Pieces
 mod ReadsBack
+mod RootAnswers
 mod Separated
 mod UriChars
 mod Ordering
+mod QueryUris
+mod QueryItems
 mod QueryAnswers
 mod SegmentAnswers
 mod ShapeAnswers

@@ -19,7 +19,7 @@ use Rattle.xcap_uri.specs.Cuts.{joined, before, behind, pieces}
 use Rattle.xcap_uri.specs.readers.Escapes.{text_read, optional_text_read}
 use Rattle.xcap_uri.specs.Gives.{UriError, ◌>>=◌}
 use Rattle.doc_names.specs.Ids.{IsNameable, IsReadable, IsReadableHome}
-use Rattle.xcap_uri.specs.Queries.{optional_bindings_read}
+use Rattle.xcap_uri.specs.readers.Queries.{optional_bindings_read}
 use Rattle.xcap_uri.specs.Roots.{slash}
 use Rattle.xcap_uri.specs.Shapes.{doc_of, tag_of}
 use Rattle.xcap_uri.specs.readers.Shapes as Shapes

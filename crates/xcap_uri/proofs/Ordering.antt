@@ -1,5 +1,5 @@
 -- Steps that find a value or a fault, and the order of faults that they follow.
-use Rattle.std.proofs.Common.{◌≡◌, List, Result, Ok, Err, ◌⊎◌, inl, inr, refl, sym, ap, subst, ◌∙◌}
+use Rattle.std.proofs.Common.{◌≡◌, Result, Ok, Err, inl, inr, refl, sym, subst, ◌∙◌}
 use Rattle.tree_text.specs.declared.fault.ReadError.TheVariants.{Fault, NoMemory}
 use Rattle.tree_text.specs.Memory.{Answered}
 use Rattle.xcap_uri.specs.Gives.{UriError, ◌>>=◌}

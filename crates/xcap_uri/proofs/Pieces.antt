@@ -1,9 +1,18 @@
 -- Texts cut into pieces, one cut at a time.
-use Rattle.std.proofs.Common.{◌≡◌, ℕ, Bool, true, false, ◌==◌, List, [], ◌∷◌, Option, None, Some, unwrap_or, length, suc, ◌<◌, ◌≤◌, refl, ap, ◌∙◌, arith}
-use Rattle.grammar_rules.specs.Reading.{after_front}
+use Rattle.std.proofs.Common.{◌≡◌, ℕ, Bool, true, false, not, ◌==◌, nat_eq, List, [], ◌∷◌, ◌++◌, Option, None, Some, unwrap_or, length, suc, ◌<◌, ◌≤◌, refl, sym, ap, ◌∙◌, arith}
+use Rattle.std.proofs.lemmas.Bool.{eqb-true, eq-eqb}
 use Rattle.std.specs.List.{list_all}
-use Rattle.xcap_uri.specs.Cuts.{is_other, before, behind, behind_first, pieces, with_first}
+use Rattle.grammar_rules.specs.Reading.{after_front}
+use Rattle.grammar_rules.specs.Rules.{AllPass}
+use Rattle.xcap_uri.specs.Cuts.{after, is_other, before, behind, behind_first, pieces, with_first}
 use Rattle.xcap_uri.specs.Roots.{is_some_of}
+
+-- a test, either way
+pub on_test : {P : Type 0} (b : Bool) → (b ≡ true → P) → (b ≡ false → P) → P
+on_test true f g = f refl
+on_test false f g = g refl
+
+-- ---- cut at a stop
 
 -- the pieces of what is behind a cut
 abbrev pub pieces_behind : ℕ → Option (List ℕ) → List (List ℕ)
@@ -50,3 +59,44 @@ module _ (p : List ℕ → Bool) (stop : ℕ) (rest : List ℕ) where
 
   pub first_passes : (tail : List ℕ) → p (before stop rest) ≡ true → behind stop rest ≡ Some tail → list_all p (pieces stop rest) ≡ list_all p (pieces stop tail)
   first_passes tail h some = ap (list_all p) (pieces_cut stop rest) ∙ rw (h, some) refl
+
+-- ---- cuts where nothing is cut, and behind a front
+
+not_true : (t : Bool) → not t ≡ true → t ≡ false
+not_true true h = sym h
+not_true false h = refl
+
+pub before_all : (stop : ℕ) (xs : List ℕ) → AllPass (is_other stop) xs → before stop xs ≡ xs
+before_all stop [] all = refl
+before_all stop (b ∷ bs) all = rw (not_true (b == stop) all.0) (ap (λ (l : List ℕ). b ∷ l) (before_all stop bs all.1))
+
+after_all : (stop : ℕ) (xs : List ℕ) → AllPass (is_other stop) xs → after_front (is_other stop) xs ≡ []
+after_all stop [] all = refl
+after_all stop (b ∷ bs) all = rw (not_true (b == stop) all.0) (after_all stop bs all.1)
+
+pub behind_all : (stop : ℕ) (xs : List ℕ) → AllPass (is_other stop) xs → behind stop xs ≡ None
+behind_all stop xs all = ap behind_first (after_all stop xs all)
+
+pub pieces_one : (stop : ℕ) (xs : List ℕ) → AllPass (is_other stop) xs → pieces stop xs ≡ xs ∷ []
+pieces_one stop [] all = refl
+pieces_one stop (b ∷ bs) all = rw (not_true (b == stop) all.0) (ap (with_first b) (pieces_one stop bs all.1))
+
+self_eq : (n : ℕ) → (n == n) ≡ true
+self_eq n = eq-eqb n n refl
+
+pub pieces_more : (stop : ℕ) (xs ys : List ℕ) → AllPass (is_other stop) xs → pieces stop (xs ++ (stop ∷ ys)) ≡ xs ∷ pieces stop ys
+pieces_more stop [] ys all = rw (self_eq stop) refl
+pieces_more stop (b ∷ bs) ys all = rw (not_true (b == stop) all.0) (ap (with_first b) (pieces_more stop bs ys all.1))
+
+-- a front that is there
+pub after_append : (xs ys : List ℕ) → after xs (xs ++ ys) ≡ Some ys
+after_append [] ys = refl
+after_append (x ∷ xs) ys = rw (self_eq x) (after_append xs ys)
+
+pub front_there : (front text rest : List ℕ) → after front text ≡ Some rest → text ≡ front ++ rest
+front_there [] text rest e = cc
+front_there (c ∷ cs) [] rest e = absurd cc
+front_there (c ∷ cs) (d ∷ text) rest e =
+    on_test (nat_eq c d)
+    (λ t. ap (λ (x : ℕ). x ∷ text) (sym (eqb-true c d t)) ∙ ap (λ (l : List ℕ). c ∷ l) (front_there cs text rest (rw t at e)))
+    (λ f. let never : None ≡ Some rest = rw f at e in absurd cc)

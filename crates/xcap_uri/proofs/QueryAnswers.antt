@@ -1,14 +1,16 @@
 -- Reading a query finds bindings, or tells `BadQuery`.
-use Rattle.std.proofs.Common.{◌≡◌, ℕ, zero, suc, ◌+◌, ◌-◌, Bool, true, false, cond, List, [], ◌∷◌, ◌&&◌, ◌==◌, codes, length, Option, None, Some, Result, Ok, Err, refl, subst}
-use Rattle.grammar_rules.specs.Reading.{head_is, front_of, after_front}
-use Rattle.xml_tree.specs.Characters.{is_name_start, is_name_char, is_space}
+use Rattle.std.proofs.Common.{◌≡◌, ℕ, zero, suc, ◌+◌, ◌-◌, Bool, true, false, cond, List, [], ◌∷◌, ◌&&◌, ◌==◌, codes, length, Option, None, Some, Result, Ok, Err, refl, subst, ◌↔◌}
+use Rattle.grammar_rules.specs.Reading.{head_is, after_front}
+use Rattle.xml_tree.specs.Characters.{is_name_start, is_space}
 use Rattle.xml_tree.specs.declared.names.Decl.{Decl}
 use Rattle.tree_text.specs.declared.fault.ReadError.TheVariants.{Fault}
 use Rattle.xcap_uri.specs.Cuts.{after}
 use Rattle.xcap_uri.specs.Gives.{UriError, ◌>>=◌}
-use Rattle.xcap_uri.specs.Queries
+use Rattle.xcap_uri.specs.Queries.{is_bracket_or_caret, is_blank, IsQuery}
+use Rattle.xcap_uri.specs.readers.Queries
 use Rattle.xcap_uri.specs.declared.fault.UriFault.TheVariants.{BadQuery}
-use Rattle.xcap_uri.proofs.Ordering.{Decides}
+use Rattle.xcap_uri.proofs.Ordering.{Decides, same_ok}
+use Rattle.xcap_uri.proofs.QueryItems.{query_found, query_read}
 
 -- if it is a fault, it is this one
 OnlyBad : {A : Type 0} → Result A UriError → Type 0
@@ -39,7 +41,7 @@ uri_chars_bad : (n : ℕ) (text : List ℕ) → OnlyBad (Queries.uri_chars n tex
 uri_chars_bad n [] = bad _
 uri_chars_bad n (c ∷ []) = if_bad (c == 41 && n == 0) _ _ (good _) (bad _)
 uri_chars_bad n (c ∷ d ∷ rest) =
-    if_bad (c == 94) _ _ (if_bad (Queries.is_bracket_or_caret d) _ _ (with_char_bad d _ (uri_chars_bad n rest)) (bad _))
+    if_bad (c == 94) _ _ (if_bad (is_bracket_or_caret d) _ _ (with_char_bad d _ (uri_chars_bad n rest)) (bad _))
     (if_bad (c == 40) _ _ (with_char_bad c _ (uri_chars_bad (n + 1) (d ∷ rest)))
     (if_bad (c == 41) _ _ (if_bad (n == 0) _ _ (good _) (with_char_bad c _ (uri_chars_bad (n - 1) (d ∷ rest))))
     (with_char_bad c _ (uri_chars_bad n (d ∷ rest)))))
@@ -83,20 +85,27 @@ items_bad n [] = good _
 items_bad zero (c ∷ text) = bad _
 items_bad (suc n) (c ∷ text) =
     bind_bad (Queries.item_read (c ∷ text)) _ (item_bad (c ∷ text))
-    (λ x. bind_bad (Queries.items_read n (after_front Queries.is_blank x.1)) (λ items. Ok (x.0 ∷ items)) (items_bad n (after_front Queries.is_blank x.1)) (λ items. good _))
+    (λ x. bind_bad (Queries.items_read n (after_front is_blank x.1)) (λ items. Ok (x.0 ∷ items)) (items_bad n (after_front is_blank x.1)) (λ items. good _))
 
 optional_bad : (query : Option (List ℕ)) → OnlyBad (Queries.optional_bindings_read query)
 optional_bad None = good _
-optional_bad (Some text) = items_bad (length text) (after_front Queries.is_blank text)
+optional_bad (Some text) = items_bad (length text) (after_front is_blank text)
 
 refused : (r : Result (List Decl) UriError) (e : UriError) → OnlyBad r → r ≡ Err e → e ≡ Fault BadQuery
 unfolding OnlyBad
 refused (Ok x) e p h = absurd cc
 refused (Err x) e p h = subst (λ (z : UriError). z ≡ Fault BadQuery) (let i : x ≡ e = cc in i) p
 
-pub query_decided : (query : Option (List ℕ)) → Decides (Queries.IsQuery query) BadQuery (Queries.optional_bindings_read query)
+pub query_decided : (query : Option (List ℕ)) → Decides (IsQuery query) BadQuery (Queries.optional_bindings_read query)
 query_decided query = record {
-  sound = λ bindings h. h;
-  complete = λ bindings h. h;
+  sound = query_found query;
+  complete = query_read query;
   refused = λ e h. refused (Queries.optional_bindings_read query) e (optional_bad query) h;
 }
+
+-- the bindings that are found are those of the rules, and there are no others
+pub query_is_read : (query : Option (List ℕ)) (bindings : List Decl) → IsQuery query bindings ↔ (Queries.optional_bindings_read query ≡ Ok bindings)
+query_is_read query bindings = (query_read query bindings, query_found query bindings)
+
+pub one_query : (query : Option (List ℕ)) (a b : List Decl) → IsQuery query a → IsQuery query b → a ≡ b
+one_query query a b p q = same_ok (Queries.optional_bindings_read query) a b (query_read query a p) (query_read query b q)

@@ -1,13 +1,12 @@
 -- A printed id reads back as itself.
-use Rattle.std.proofs.Common.{◌≡◌, ◌≢◌, ℕ, ◌<◌, ◌/◌, ◌%◌, Bool, true, false, not, ◌&&◌, ◌==◌, nat_eq, nat_le, List, [], ◌∷◌, ◌++◌, Option, None, Some, Result, Ok, All, codes, encode_utf8_all, length, unwrap_or, refl, ap, ◌∙◌, sym, subst, append_assoc, arith}
-use Rattle.std.proofs.lemmas.Bool.{and_parts, agree_below, agree_below_at, ltb-true, eqb-true, eq-eqb, true≢false}
+use Rattle.std.proofs.Common.{◌≡◌, ◌≢◌, ℕ, ◌<◌, ◌/◌, ◌%◌, Bool, true, false, not, ◌&&◌, ◌==◌, List, [], ◌∷◌, ◌++◌, Option, None, Some, Result, Ok, All, codes, encode_utf8_all, drop, refl, ap, ◌∙◌, sym, subst, append_assoc, arith}
+use Rattle.std.proofs.lemmas.Bool.{and_parts, agree_below, agree_below_at, ltb-true}
 use Rattle.std.proofs.lemmas.Str.{IsUtf8-from_ascii}
 use Rattle.std.specs.Char.{is_ascii, is_ascii_hexdigit}
 use Rattle.std.specs.Cmp.Lexicographic.{bytes_decides}
 use Rattle.std.specs.Fmt.{digit_glyph}
 use Rattle.std.specs.List.{list_all}
 use Rattle.std.specs.Str.{bytes_eq, chars, IsUtf8, IsAscii}
-use Rattle.grammar_rules.specs.Reading.{after_front}
 use Rattle.grammar_rules.specs.Rules.{AllPass}
 use Rattle.percent_encoding.specs.Percent.{percent_decode, percent_encode_byte}
 use Rattle.doc_names.specs.declared.doc_id.Auid.{Auid}
@@ -18,54 +17,24 @@ use Rattle.doc_names.specs.declared.doc_id.DocId.{DocId}
 use Rattle.xcap_uri.specs.Gives.{UriError}
 use Rattle.xcap_uri.specs.declared.shape.Shape.TheVariants.{Whole}
 use Rattle.xcap_uri.specs.declared.target.Target.TheVariants.{Document}
-use Rattle.xcap_uri.specs.Cuts.{after, before, behind, behind_first, pieces, with_first, is_other}
+use Rattle.xcap_uri.specs.Cuts.{pieces, is_other}
 use Rattle.xcap_uri.specs.Escapes.{has_whole_escapes}
 use Rattle.xcap_uri.specs.readers.Escapes.{text_read}
 use Rattle.doc_names.specs.Escapes.{escaped, escaped_octet, is_plain, part_text}
 use Rattle.doc_names.specs.Ids.{IsNameable, IsReadable, IsReadableHome, home_text, id_text}
 use Rattle.doc_names.specs.Usages.{auid_text}
-use Rattle.xcap_uri.specs.Roots.{slash, is_root, has_form, behind_scheme, path_of}
+use Rattle.xcap_uri.specs.Roots.{slash, path_in, is_root, path_of}
 use Rattle.xcap_uri.specs.readers.Shapes.{is_empty, shape_of}
 use Rattle.xcap_uri.specs.Spelled.{IsOctet, IsSpelled, IsSpelledHome}
 use Rattle.xcap_uri.specs.Targets.{under, under_root, question}
 use Rattle.xcap_uri.specs.readers.Targets.{target_read, rest_read, segments_read, path_read}
 use Rattle.doc_names.specs.Ids.{separator}
 use Rattle.xcap_uri.proofs.Escaped.{read_as_text}
+use Rattle.xcap_uri.proofs.Pieces.{before_all, behind_all, pieces_one, pieces_more, after_append}
+use Rattle.xcap_uri.proofs.RootAnswers.{root_begins}
 use Rattle.doc_names.proofs.Escaped.{parts_decoded}
 use Rattle.doc_names.proofs.Words.{word_letters}
 use Rattle.doc_names.proofs.Printed.{auid_letters}
-
--- ---- cuts where nothing is cut, and behind a front
-
-not_true : (t : Bool) → not t ≡ true → t ≡ false
-not_true true h = sym h
-not_true false h = refl
-
-before_all : (stop : ℕ) (xs : List ℕ) → AllPass (is_other stop) xs → before stop xs ≡ xs
-before_all stop [] all = refl
-before_all stop (b ∷ bs) all = rw (not_true (b == stop) all.0) (ap (λ (l : List ℕ). b ∷ l) (before_all stop bs all.1))
-
-after_all : (stop : ℕ) (xs : List ℕ) → AllPass (is_other stop) xs → after_front (is_other stop) xs ≡ []
-after_all stop [] all = refl
-after_all stop (b ∷ bs) all = rw (not_true (b == stop) all.0) (after_all stop bs all.1)
-
-behind_all : (stop : ℕ) (xs : List ℕ) → AllPass (is_other stop) xs → behind stop xs ≡ None
-behind_all stop xs all = ap behind_first (after_all stop xs all)
-
-pieces_one : (stop : ℕ) (xs : List ℕ) → AllPass (is_other stop) xs → pieces stop xs ≡ xs ∷ []
-pieces_one stop [] all = refl
-pieces_one stop (b ∷ bs) all = rw (not_true (b == stop) all.0) (ap (with_first b) (pieces_one stop bs all.1))
-
-self_eq : (n : ℕ) → (n == n) ≡ true
-self_eq n = eq-eqb n n refl
-
-pieces_more : (stop : ℕ) (xs ys : List ℕ) → AllPass (is_other stop) xs → pieces stop (xs ++ (stop ∷ ys)) ≡ xs ∷ pieces stop ys
-pieces_more stop [] ys all = rw (self_eq stop) refl
-pieces_more stop (b ∷ bs) ys all = rw (not_true (b == stop) all.0) (ap (with_first b) (pieces_more stop bs ys all.1))
-
-after_append : (xs ys : List ℕ) → after xs (xs ++ ys) ≡ Some ys
-after_append [] ys = refl
-after_append (x ∷ xs) ys = rw (self_eq x) (after_append xs ys)
 
 -- ---- parts
 
@@ -266,21 +235,9 @@ id_passes doc =
 rest_is : (doc : DocId) (texts : List (List ℕ)) → path_read (id_text doc) ≡ Ok (texts, None) → shape_of texts None ≡ Ok (Whole doc) → rest_read (id_text doc) ≡ Ok (Document doc)
 rest_is doc texts path shape = rw (before_all question (id_text doc) (id_passes doc), behind_all question (id_text doc) (id_passes doc), path, shape) refl
 
-starts_with_h : (root : List ℕ) → has_form (behind_scheme root) ≡ true → (cs : List ℕ) × (root ≡ 104 ∷ cs)
-starts_with_h [] h = absurd (true≢false (sym h))
-starts_with_h (c ∷ cs) h = by_test (nat_eq 104 c) refl
-  where
-    by_test : (t : Bool) → nat_eq 104 c ≡ t → (ds : List ℕ) × (c ∷ cs ≡ 104 ∷ ds)
-    by_test true e = (cs, ap (λ x. x ∷ cs) (sym (eqb-true 104 c e)))
-    by_test false e = absurd (true≢false (sym (rw e at h)))
-
-one_begins : (c : ℕ) (cs ys : List ℕ) (t : Bool) → (c == slash) ≡ t → (zs : List ℕ) × (after_front (is_other slash) cs ++ (slash ∷ ys) ≡ slash ∷ zs) → (zs : List ℕ) × (after_front (is_other slash) (c ∷ cs) ++ (slash ∷ ys) ≡ slash ∷ zs)
-one_begins c cs ys true e more = (cs ++ (slash ∷ ys), rw e (ap (λ x. x ∷ (cs ++ (slash ∷ ys))) (eqb-true c slash e)))
-one_begins c cs ys false e more = (more.0, rw e more.1)
-
-path_begins : (xs ys : List ℕ) → (zs : List ℕ) × (after_front (is_other slash) xs ++ (slash ∷ ys) ≡ slash ∷ zs)
+path_begins : (segments : List (List ℕ)) (ys : List ℕ) → (zs : List ℕ) × (path_in segments ++ (slash ∷ ys) ≡ slash ∷ zs)
 path_begins [] ys = (ys, refl)
-path_begins (c ∷ cs) ys = one_begins c cs ys (c == slash) refl (path_begins cs ys)
+path_begins (s ∷ ss) ys = ((s ++ path_in ss) ++ (slash ∷ ys), refl)
 
 outside : (root target cs zs : List ℕ) → root ≡ 104 ∷ cs → target ≡ slash ∷ zs → under root target ≡ None
 outside root target cs zs e h = rw (e, h) refl
@@ -290,9 +247,8 @@ inside path rest = rw (after_append path (slash ∷ rest)) refl
 
 stands_under : (root rest : List ℕ) → is_root root ≡ true → under_root root (path_of root ++ (slash ∷ rest)) ≡ Some rest
 stands_under root rest is =
-    let form = (and_parts (nat_le (length root) 256) (has_form (behind_scheme root)) is).1 in
-    let first = starts_with_h root form in
-    let begins = path_begins (unwrap_or (behind_scheme root) []) rest in
+    let first = root_begins root is in
+    let begins = path_begins (drop 3 (pieces slash root)) rest in
     rw (outside root (path_of root ++ (slash ∷ rest)) first.0 begins.0 first.1 begins.1, inside (path_of root) rest) refl
 
 stands_behind : (root rest : List ℕ) → under_root root (root ++ (slash ∷ rest)) ≡ Some rest

@@ -20,9 +20,10 @@ use Rattle.xcap_uri.specs.Cuts.{before, behind}
 use Rattle.xcap_uri.specs.Escapes.{StandForOptional}
 use Rattle.xcap_uri.specs.Gives.{UriError, ◌>>=◌}
 use Rattle.xcap_uri.specs.Order.{Where, Given}
-use Rattle.xcap_uri.specs.Queries.{IsQuery, optional_bindings_read}
+use Rattle.xcap_uri.specs.Queries.{IsQuery}
+use Rattle.xcap_uri.specs.readers.Queries.{optional_bindings_read}
 use Rattle.xcap_uri.specs.Shapes.{Names, BeginRightly, AreNamed}
-use Rattle.xcap_uri.specs.Targets.{question, under_root, fault_of, raw_text, IsPath, IsPartAnswer, node_of, is_element, element_feed_of, Means, NamedAnswer, RestAnswer, TargetAnswer, IsReadableTarget}
+use Rattle.xcap_uri.specs.Targets.{question, under_root, raw_text, IsPath, IsPartAnswer, node_of, is_element, element_feed_of, Means, NamedAnswer, RestAnswer, TargetAnswer, IsReadableTarget}
 use Rattle.xcap_uri.specs.readers.Escapes.{optional_text_read}
 use Rattle.xcap_uri.specs.readers.Shapes as reader
 use Rattle.xcap_uri.specs.readers.Targets.{error_of, as_target_part, part_read, ends_in_element, about_element, target_of, path_read, rest_read, under_read, target_read}
@@ -33,7 +34,7 @@ use Rattle.xcap_uri.specs.declared.shape.Shape.TheVariants.{Whole, Part, Below, 
 use Rattle.xcap_uri.specs.declared.target.Target.{Target}
 use Rattle.xcap_uri.specs.declared.target.Target.TheVariants.{Node, ElementFeed}
 use Rattle.xcap_uri.proofs.Nameable.{target_readable}
-use Rattle.xcap_uri.proofs.Ordering.{Meets, inside, met, some_met, Decides, step, one_step, given_next, given_fault, one_given}
+use Rattle.xcap_uri.proofs.Ordering.{Meets, inside, met, some_met, step, one_step, given_next, given_fault, one_given}
 use Rattle.xcap_uri.proofs.QueryAnswers.{query_decided}
 use Rattle.xcap_uri.proofs.SegmentAnswers.{optional_decided, path_decided}
 use Rattle.xcap_uri.proofs.ShapeAnswers.{Good, judged, good_decided, all_named, one_empty}

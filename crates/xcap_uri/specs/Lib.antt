@@ -10,5 +10,4 @@ pub mod Roots
 pub mod Shapes
 pub mod Spelled
 pub mod Targets
-pub mod UriSteps
 pub mod Words

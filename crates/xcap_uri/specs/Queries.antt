@@ -1,20 +1,16 @@
 -- The query of an address: bindings of prefixes. RFC 4825, section 6.4: a row of pointer parts of the xmlns() scheme (W3C XPointer xmlns()
 -- Scheme, section 3; parentheses and `^` are those of the W3C XPointer Framework, section 3.1):
 --
---     query = *SP *( item *SP )
---     item  = "xmlns(" NCName [ S ] "=" [ S ] uri ")"
+--     query    = *SP *( item *SP )
+--     item     = "xmlns(" NCName [ S ] "=" [ S ] spelling ")"
+--     spelling = *( char / "^(" / "^)" / "^^" / "(" spelling ")" )
 --
--- where the NCName is neither `xml` nor `xmlns`, and a URI is one or more characters: `^` escapes a `(`, a `)` or a `^` behind it and stands
--- before nothing else, and the parentheses that aren't escaped are balanced.
-use Rattle.std.specs.Prelude.{◌≡◌, ℕ, zero, suc, ◌+◌, ◌-◌, Bool, ◌&&◌, ◌||◌, ◌==◌, List, [], ◌∷◌, codes, length, Option, None, Some, Result, Ok, Err, if◌then◌else◌}
-use Rattle.std.specs.Str.{bytes_eq}
-use Rattle.grammar_rules.specs.Reading.{front_of, after_front, head_is}
-use Rattle.xml_tree.specs.Characters.{is_name_start, is_name_char, is_space}
+-- where the NCName is neither `xml` nor `xmlns`, a char is any but `(`, `)` and `^`, and the URI of an item isn't empty. White space behind
+-- the `=` is all of it that of the S: no URI begins with it.
+use Rattle.std.specs.Prelude.{◌≡◌, ◌≢◌, ℕ, Bool, true, false, ◌||◌, ◌==◌, List, [], ◌∷◌, ◌++◌, codes, Option, None, Some}
+use Rattle.grammar_rules.specs.Rules.{AllPass}
+use Rattle.xml_tree.specs.Characters.{is_name, is_space}
 use Rattle.xml_tree.specs.declared.names.Decl.{Decl}
-use Rattle.tree_text.specs.declared.fault.ReadError.TheVariants.{Fault}
-use Rattle.xcap_uri.specs.Cuts.{after}
-use Rattle.xcap_uri.specs.Gives.{UriError, ◌>>=◌}
-use Rattle.xcap_uri.specs.declared.fault.UriFault.TheVariants.{BadQuery}
 
 -- `(`, `)` and `^`
 abbrev pub is_bracket_or_caret : ℕ → Bool
@@ -24,78 +20,38 @@ is_bracket_or_caret c = c == 40 || c == 41 || c == 94
 abbrev pub is_blank : ℕ → Bool
 is_blank c = c == 32
 
--- a value, and what follows it in the text
-abbrev pub Read : Type 0 → Type 0
-Read A = Result (A × List ℕ) UriError
+-- a spelling, and the URI that it stands for
+pub data SpellsUri : List ℕ → List ℕ → Type 0 where
+  -- nothing
+  ends : SpellsUri [] []
+  -- a char stands for itself
+  plain : (c : ℕ) (text uri : List ℕ) → is_bracket_or_caret c ≡ false → SpellsUri text uri → SpellsUri (c ∷ text) (c ∷ uri)
+  -- `^` and a `(`, a `)` or a `^` stand for the latter
+  escaped : (c : ℕ) (text uri : List ℕ) → is_bracket_or_caret c ≡ true → SpellsUri text uri → SpellsUri (94 ∷ c ∷ text) (c ∷ uri)
+  -- a spelling in parentheses, which stand for themselves
+  nested : (inner inside text uri : List ℕ) → SpellsUri inner inside → SpellsUri text uri → SpellsUri (40 ∷ (inner ++ (41 ∷ text))) (40 ∷ (inside ++ (41 ∷ uri)))
 
--- a character in front of those that are read
-abbrev pub with_char : ℕ → Read (List ℕ) → Read (List ℕ)
-with_char c read = read >>= λ x. Ok (c ∷ x.0, x.1)
+-- an item, and what it binds
+pub record IsItem (text : List ℕ) (binding : Decl) : Type 0 where
+  pub before : List ℕ
+  pub behind : List ℕ
+  pub spelling : List ℕ
+  pub joined : text ≡ codes "xmlns(" ++ (binding.prefix ++ (before ++ (codes "=" ++ (behind ++ (spelling ++ codes ")")))))
+  pub named : is_name binding.prefix ≡ true
+  pub free : (binding.prefix ≢ codes "xml") × (binding.prefix ≢ codes "xmlns")
+  pub before_is : AllPass is_space before
+  pub behind_is : AllPass is_space behind
+  pub spelled : SpellsUri spelling binding.uri
+  pub begins : (first : ℕ) × (rest : List ℕ) × (binding.uri ≡ first ∷ rest) × (is_space first ≡ false)
 
--- the characters up to the `)` that ends the item, where so many `(` before them are open
-abbrev pub uri_chars : ℕ → List ℕ → Read (List ℕ)
-uri_chars open_count [] = Err (Fault BadQuery)
-uri_chars open_count (c ∷ []) = if c == 41 && open_count == 0 then Ok ([], []) else Err (Fault BadQuery)
-uri_chars open_count (c ∷ d ∷ rest) =
-    if c == 94 then (if is_bracket_or_caret d then with_char d (uri_chars open_count rest) else Err (Fault BadQuery))
-    else if c == 40 then with_char c (uri_chars (open_count + 1) (d ∷ rest))
-    else if c == 41 then (if open_count == 0 then Ok ([], d ∷ rest) else with_char c (uri_chars (open_count - 1) (d ∷ rest)))
-    else with_char c (uri_chars open_count (d ∷ rest))
+-- items, each with the spaces behind it
+abbrev pub AreItems : List ℕ → List Decl → Type 0
+AreItems text [] = text ≡ []
+AreItems text (binding ∷ bindings) =
+    (item : List ℕ) × (spaces : List ℕ) × (rest : List ℕ) × (text ≡ item ++ (spaces ++ rest)) × IsItem item binding × AllPass is_blank spaces
+    × AreItems rest bindings
 
--- one or more of them, and the `)` that ends the item
-abbrev pub some_uri : List ℕ × List ℕ → Read (List ℕ)
-some_uri ([], rest) = Err (Fault BadQuery)
-some_uri (c ∷ cs, rest) = Ok (c ∷ cs, rest)
-
-abbrev pub uri_read : List ℕ → Read (List ℕ)
-uri_read text = uri_chars 0 text >>= some_uri
-
--- a word in front, and what follows it
-abbrev pub past : Option (List ℕ) → Result (List ℕ) UriError
-past None = Err (Fault BadQuery)
-past (Some rest) = Ok rest
-
--- white space and `=` and white space, which may be absent
-abbrev pub equals_past : List ℕ → Result (List ℕ) UriError
-equals_past text = past (after (codes "=") (after_front is_space text)) >>= λ rest. Ok (after_front is_space rest)
-
--- an NCName
-abbrev pub prefix_read : List ℕ → Read (List ℕ)
-prefix_read text = if head_is is_name_start text then Ok (front_of is_name_char text, after_front is_name_char text) else Err (Fault BadQuery)
-
--- a prefix that a query may not bind
-abbrev pub is_reserved : List ℕ → Bool
-is_reserved p = bytes_eq p (codes "xml") || bytes_eq p (codes "xmlns")
-
-abbrev pub unreserved : List ℕ × List ℕ → Read (List ℕ)
-unreserved x = if is_reserved x.0 then Err (Fault BadQuery) else Ok x
-
-abbrev pub free_prefix_read : List ℕ → Read (List ℕ)
-free_prefix_read text = prefix_read text >>= unreserved
-
--- an item, and what follows it
-abbrev pub item_read : List ℕ → Read Decl
-item_read text =
-    past (after (codes "xmlns(") text) >>= λ inner.
-    free_prefix_read inner >>= λ p.
-    equals_past p.1 >>= uri_read >>= λ u.
-    Ok (record { prefix = p.0; uri = u.0 }, u.1)
-
--- at most n items, each with the spaces behind it, and nothing else
-abbrev pub items_read : ℕ → List ℕ → Result (List Decl) UriError
-items_read n [] = Ok []
-items_read zero (c ∷ text) = Err (Fault BadQuery)
-items_read (suc n) (c ∷ text) = item_read (c ∷ text) >>= λ x. items_read n (after_front is_blank x.1) >>= λ items. Ok (x.0 ∷ items)
-
--- the bindings of a query: an item has more than one character, so there are fewer items than characters
-abbrev pub bindings_read : List ℕ → Result (List Decl) UriError
-bindings_read text = items_read (length text) (after_front is_blank text)
-
--- none where there is no query
-abbrev pub optional_bindings_read : Option (List ℕ) → Result (List Decl) UriError
-optional_bindings_read None = Ok []
-optional_bindings_read (Some text) = bindings_read text
-
--- the bindings of a query, none where there is none
+-- a query has these bindings; where there is none, there are none
 abbrev pub IsQuery : Option (List ℕ) → List Decl → Type 0
-IsQuery query bindings = optional_bindings_read query ≡ Ok bindings
+IsQuery None bindings = bindings ≡ []
+IsQuery (Some text) bindings = (spaces : List ℕ) × (rest : List ℕ) × (text ≡ spaces ++ rest) × AllPass is_blank spaces × AreItems rest bindings

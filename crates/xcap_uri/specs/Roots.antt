@@ -4,13 +4,12 @@
 --     authority = 1*( ALPHA / DIGIT / "." / "-" / ":" / "[" / "]" )
 --     segment   = 1*( ALPHA / DIGIT / "-" / "." / "_" / "~" )
 --
--- with at most 256 octets. Neither an authority nor a segment has a `/`, so they are the pieces between the slashes behind the scheme.
-use Rattle.std.specs.Prelude.{ℕ, Bool, false, ◌&&◌, ◌||◌, ◌==◌, nat_le, List, [], ◌∷◌, codes, length, Option, None, Some, Result, Ok, Err, unwrap_or, if◌then◌else◌}
+-- with at most 256 octets. Neither an authority nor a segment has a `/`, so a text is a root by its pieces between the slashes.
+use Rattle.std.specs.Prelude.{◌≡◌, ◌⊎◌, ◌≤◌, ℕ, Bool, true, false, ◌&&◌, ◌||◌, ◌==◌, nat_le, List, [], ◌∷◌, ◌++◌, codes, length, drop, flat_map, Result, Ok, Err, if◌then◌else◌}
 use Rattle.std.specs.List.{list_any, list_all}
-use Rattle.std.specs.Option.{option_or}
 use Rattle.std.specs.Char.{is_ascii_alphanumeric}
-use Rattle.grammar_rules.specs.Reading.{after_front}
-use Rattle.xcap_uri.specs.Cuts.{after, before, pieces, is_other}
+use Rattle.std.specs.Str.{bytes_eq}
+use Rattle.xcap_uri.specs.Cuts.{pieces}
 use Rattle.xcap_uri.specs.declared.fault.RootFault.{RootFault}
 use Rattle.xcap_uri.specs.declared.fault.RootFault.TheVariants.{NotRoot}
 
@@ -29,29 +28,49 @@ abbrev pub is_some_of : (ℕ → Bool) → List ℕ → Bool
 is_some_of p [] = false
 is_some_of p (c ∷ cs) = p c && list_all p cs
 
--- what follows the scheme
-abbrev pub behind_scheme : List ℕ → Option (List ℕ)
-behind_scheme text = option_or (after (codes "http://") text) (after (codes "https://") text)
+-- ---- by the grammar
 
--- an authority, and then segments
-abbrev pub are_authority_and_segments : List (List ℕ) → Bool
-are_authority_and_segments [] = false
-are_authority_and_segments (authority ∷ segments) = is_some_of is_authority_char authority && list_all (is_some_of is_segment_char) segments
+-- segments, with a slash in front of each
+abbrev pub path_in : List (List ℕ) → List ℕ
+path_in segments = flat_map (λ segment. slash ∷ segment) segments
 
-abbrev pub has_form : Option (List ℕ) → Bool
-has_form None = false
-has_form (Some rest) = are_authority_and_segments (pieces slash rest)
+-- the text is a root with this authority and this path
+pub record IsRoot (text authority path : List ℕ) : Type 0 where
+  pub scheme : List ℕ
+  pub segments : List (List ℕ)
+  pub joined : text ≡ scheme ++ (authority ++ path)
+  pub scheme_is : (scheme ≡ codes "http://") ⊎ (scheme ≡ codes "https://")
+  pub authority_is : is_some_of is_authority_char authority ≡ true
+  pub path_is : path ≡ path_in segments
+  pub segments_are : list_all (is_some_of is_segment_char) segments ≡ true
+  pub short : length text ≤ 256
+
+-- ---- the same by the pieces between the slashes (`roots_are_spelled_by_the_grammar`)
+
+-- the first piece of a root
+abbrev pub is_scheme : List ℕ → Bool
+is_scheme piece = bytes_eq piece (codes "http:") || bytes_eq piece (codes "https:")
+
+-- the scheme, nothing between the two slashes behind it, the authority, and the segments
+abbrev pub are_parts : List (List ℕ) → Bool
+are_parts (scheme ∷ [] ∷ authority ∷ segments) = is_scheme scheme && is_some_of is_authority_char authority && list_all (is_some_of is_segment_char) segments
+are_parts _ = false
 
 -- the text is a root
 abbrev pub is_root : List ℕ → Bool
-is_root text = nat_le (length text) 256 && has_form (behind_scheme text)
+is_root text = nat_le (length text) 256 && are_parts (pieces slash text)
 
--- the authority of a root, and its path: what follows the authority, with its slashes
+-- the third piece
+abbrev pub third : List (List ℕ) → List ℕ
+third (first ∷ second ∷ piece ∷ others) = piece
+third _ = []
+
+-- the authority of a root, and its path
 abbrev pub authority_of : List ℕ → List ℕ
-authority_of root = before slash (unwrap_or (behind_scheme root) [])
+authority_of root = third (pieces slash root)
 
 abbrev pub path_of : List ℕ → List ℕ
-path_of root = after_front (is_other slash) (unwrap_or (behind_scheme root) [])
+path_of root = path_in (drop 3 (pieces slash root))
 
 -- what reading a root answers
 abbrev pub root_read : List ℕ → Result (List ℕ) RootFault

@@ -1,7 +1,7 @@
 //! Octets cut at the characters that delimit the parts of an address (RFC 3986, section 3).
 ghost use Rattle.std.specs.Prelude.{◌≡◌, option_map};
 ghost use Rattle.xcap_uri.specs.Cuts.{after, before, behind, is_other};
-ghost use Rattle.tree_text.specs.Runs.{run_len};
+ghost use Rattle.tree_text.specs.readers.Runs.{run_len};
 ghost use Rattle.grammar_rules.specs.Reading.{after_front};
 
 // How many octets stand before the first `stop`.

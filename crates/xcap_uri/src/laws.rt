@@ -1,13 +1,16 @@
 //! Laws of targets; nothing here runs.
-ghost use Rattle.std.specs.Prelude.{◌≡◌, ◌++◌, ◌∷◌, ℕ, List, Result, All, Ok};
+ghost use Rattle.std.specs.Prelude.{◌≡◌, ◌↔◌, ◌++◌, ◌∷◌, ℕ, true, List, Option, Result, All, Ok};
+ghost use Rattle.xml_tree.specs.declared.names.Decl.{Decl};
 ghost use Rattle.tree_text.specs.Memory.{Answered};
 ghost use Rattle.doc_names.specs.Ids.{IsReadable, id_text};
-ghost use Rattle.xcap_uri.specs.Roots.{path_of, slash};
+ghost use Rattle.xcap_uri.specs.Queries.{IsQuery};
+ghost use Rattle.xcap_uri.specs.Roots.{IsRoot, authority_of, is_root, path_of, slash};
 ghost use Rattle.xcap_uri.specs.Spelled.{IsOctet, IsSpelled, IsSpelledHome};
 ghost use Rattle.xcap_uri.specs.Targets.{IsReadableTarget, TargetAnswer};
 ghost use Rattle.xcap_uri.specs.declared.fault.UriFault.{UriFault};
 ghost use Rattle.xcap_uri.specs.declared.target.Target.{Target};
 ghost use Rattle.xcap_uri.specs.declared.target.Target.TheVariants as targets;
+ghost use Rattle.xcap_uri.specs.readers.Queries.{optional_bindings_read};
 ghost use Rattle.xcap_uri.specs.readers.Targets.{target_read};
 
 use crate::root::Root;
@@ -54,4 +57,17 @@ pub fn targets_have_one_answer()
     ensures there_is_no_other { (root target : List ℕ) (a b : Result Target UriFault) → TargetAnswer root target a → TargetAnswer root target b → a ≡ b }
     ensures what_is_read_is_the_answer { (root target : List ℕ) → Answered (TargetAnswer root target) (target_read root target) }
     ensures ids_are_readable { (root target : List ℕ) (t : Target) → TargetAnswer root target (Ok t) → IsReadableTarget t }
+{}
+
+/// By the rules a query has at most one list of bindings, and it is what reading from left to right gives; where that gives none, there is
+/// none (RFC 4825, section 6.4).
+pub fn queries_have_one_reading()
+    ensures what_is_read { (query : Option (List ℕ)) (bindings : List Decl) → IsQuery query bindings ↔ (optional_bindings_read query ≡ Ok bindings) }
+    ensures there_is_no_other { (query : Option (List ℕ)) (a b : List Decl) → IsQuery query a → IsQuery query b → a ≡ b }
+{}
+
+/// A text is a root by its pieces between the slashes exactly where the grammar spells it as one, with this authority and this path and no
+/// others (RFC 4825, section 6.1).
+pub fn roots_are_spelled_by_the_grammar()
+    ensures { (text authority path : List ℕ) → IsRoot text authority path ↔ ((is_root text ≡ true) × (authority ≡ authority_of text) × (path ≡ path_of text)) }
 {}

@@ -17,7 +17,10 @@ mod target;
 
 pub use ancestors::{ancestor_uri, home_uri};
 pub use fault::{RootFault, UriFault};
-pub use laws::{printed_id_reads_back, targets_have_one_answer};
+pub use laws::{
+    printed_id_reads_back, queries_have_one_reading, roots_are_spelled_by_the_grammar,
+    targets_have_one_answer,
+};
 pub use numerals::numeral;
 pub use root::{Root, read_root};
 pub use target::{Mode, Target, read_target};

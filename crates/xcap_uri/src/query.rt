@@ -3,11 +3,12 @@ ghost use Rattle.std.specs.Prelude.{◌≡◌, ◌<◌, ◌+◌, ◌^◌, ◌∷
 ghost use Rattle.std.specs.Str.{bytes_eq};
 ghost use Rattle.grammar_rules.specs.Reading.{after_front, head_is};
 ghost use Rattle.xml_tree.specs.Characters.{is_name_char, is_name_start, is_space};
-ghost use Rattle.tree_text.specs.Runs.{run_len};
+ghost use Rattle.tree_text.specs.readers.Runs.{run_len};
 ghost use Rattle.xcap_uri.specs.Cuts.{after};
 ghost use Rattle.xcap_uri.specs.Gives.{Answers, Gives};
-ghost use Rattle.xcap_uri.specs.Queries.{bindings_read, equals_past, is_blank, is_bracket_or_caret, is_reserved, item_read, optional_bindings_read, prefix_read, free_prefix_read, uri_chars, uri_read};
-ghost use Rattle.xcap_uri.specs.UriSteps.{IsShorter, StepsTo, item_in};
+ghost use Rattle.xcap_uri.specs.Queries.{is_blank, is_bracket_or_caret};
+ghost use Rattle.xcap_uri.specs.readers.Queries.{bindings_read, equals_past, is_reserved, item_read, optional_bindings_read, prefix_read, free_prefix_read, uri_chars, uri_read};
+ghost use Rattle.xcap_uri.specs.readers.UriSteps.{IsShorter, StepsTo, item_in};
 
 use crate::fault::UriFault;
 use node_select::Bindings;

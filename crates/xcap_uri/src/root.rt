@@ -1,9 +1,10 @@
 //! Roots (RFC 4825, section 6.1): the URI under which all addresses of a server stand.
-ghost use Rattle.std.specs.Prelude.{◌≡◌, true, IfOk, chars, unwrap_or, option_map, []};
+ghost use Rattle.std.specs.Prelude.{◌≡◌, true, IfOk, chars, option_map, Some};
 ghost use Rattle.std.specs.List.{list_all};
 ghost use Rattle.xcap_uri.specs.Cuts.{pieces};
 ghost use Rattle.xcap_uri.specs.Gives.{Answers};
-ghost use Rattle.xcap_uri.specs.Roots.{are_authority_and_segments, authority_of, behind_scheme, is_authority_char, is_root, is_segment_char, is_some_of, path_of, root_read, slash};
+ghost use Rattle.xcap_uri.specs.Roots.{authority_of, is_authority_char, is_root, is_segment_char, is_some_of, path_of, root_read, slash};
+ghost use Rattle.xcap_uri.specs.readers.Roots.{are_authority_and_segments, behind_scheme};
 
 use crate::cutting::{after, cut, cut_before};
 use crate::fault::RootFault;
@@ -181,9 +182,10 @@ fn letters(alloc: Global, octets: &[u8]) -> Result<Text, AllocError>
 }
 
 // The root of a text that is one, with what follows its scheme.
+#[tactic(auto, using(crate::proofs::RootAnswers::authority_behind, crate::proofs::RootAnswers::path_behind))]
 fn make_root(alloc: Global, text: &[u8], rest: &[u8]) -> Result<Root, AllocError>
     requires root { is_root text.now ≡ true }
-    requires rest { unwrap_or (behind_scheme text.now) [] ≡ rest.now }
+    requires rest { behind_scheme text.now ≡ Some rest.now }
     ensures { IfOk result (λ made. made ≡ text.now) }
 {
     let (authority, path) = cut_before(rest, b'/');
@@ -201,6 +203,7 @@ fn make_root(alloc: Global, text: &[u8], rest: &[u8]) -> Result<Root, AllocError
 ///
 /// # Errors
 /// `NotRoot` exactly where the text isn't a root, `NoMemory` for want of memory.
+#[tactic(auto, using(crate::proofs::RootAnswers::read_as_root))]
 pub fn read_root(alloc: Global, text: &str) -> Result<Root, RootFault>
     ensures { Answers RootFault.NoMemory (root_read text.now) result }
 {

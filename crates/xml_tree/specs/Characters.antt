@@ -32,7 +32,7 @@ is_joining c = c == 45 || c == 46 || within 48 57 c || c == 0xB7 || within 0x300
 abbrev pub is_name_char : ℕ → Bool
 is_name_char c = is_name_start c || is_joining c
 
--- NCName ::= a NameStartChar and any NameChars, none of them a colon
+-- [4] of Namespaces, NCName: a NameStartChar and any NameChars, none of them a colon
 abbrev pub is_name : List ℕ → Bool
 is_name [] = false
 is_name (c ∷ cs) = is_name_start c && list_all is_name_char cs

@@ -44,7 +44,7 @@ pub use proper_laws::{
     proper_after_an_edit, proper_at_each_place, proper_in_scopes_that_bind_alike, proper_when_put,
 };
 pub use references::{text_reference, value_reference};
-pub use scope::{Scope, is_xml};
+pub use scope::{Scope, is_xml, is_xmlns};
 pub use scope_laws::bindings_are_those_of_the_scope;
 pub use std::alloc::AllocError as NoMemory;
 pub use text::Text;

@@ -3,7 +3,7 @@ ghost use Rattle.std.specs.Prelude.{◌≡◌, ◌<◌, ◌++◌, [], ◌∷◌,
 ghost use Rattle.std.specs.Option.{option_copied};
 ghost use Rattle.std.specs.Str.{bytes_eq};
 ghost use Rattle.xml_tree.specs.Tree.{at};
-ghost use Rattle.xml_tree.specs.Scopes.{bindings_in, bound, declared, joined, scope_at, some_text, xml_prefix, xml_uri};
+ghost use Rattle.xml_tree.specs.Scopes.{bindings_in, bound, declared, joined, scope_at, some_text, xml_prefix, xml_uri, xmlns_prefix};
 
 use crate::bindings::bindings;
 use crate::names::Decl;
@@ -133,6 +133,13 @@ pub fn is_xml(prefix: &str) -> bool
     ensures { result ≡ bytes_eq (chars prefix.now) xml_prefix }
 {
     prefix == "xml"
+}
+
+/// Whether a prefix is `xmlns`, which is never bound.
+pub fn is_xmlns(prefix: &str) -> bool
+    ensures { result ≡ bytes_eq (chars prefix.now) xmlns_prefix }
+{
+    prefix == "xmlns"
 }
 
 // The namespace of `xml`.

@@ -1,13 +1,30 @@
 -- What reading a whole text answers, from left to right.
-use Rattle.std.specs.Prelude.{ℕ, List, Result}
+use Rattle.std.specs.Prelude.{ℕ, List, Option, None, Some, Result, Ok, Err}
 use Rattle.std.specs.Str.{chars}
-use Rattle.grammar_rules.specs.Reading.{read_whole}
+use Rattle.grammar_rules.specs.Reading.{Stop, read_whole}
+use Rattle.tree_text.specs.declared.kind.Kind.{Kind}
 use Rattle.xml_tree.specs.declared.names.Decl.{Decl}
 use Rattle.node_select.specs.declared.fault.SelectorFault.{SelectorFault}
+use Rattle.node_select.specs.declared.fault.SelectorFault.TheVariants.{BadSelector, UnboundPrefix}
 use Rattle.node_select.specs.declared.selector.Selector.{Selector}
 use Rattle.node_select.specs.declared.selector.PatchSelector.{PatchSelector}
-use Rattle.node_select.specs.Faults.{told, patch_told}
-use Rattle.node_select.specs.Reading.{read_selector, read_patch_selector}
+use Rattle.node_select.specs.Faults.{byte_of, stop_place}
+use Rattle.node_select.specs.readers.Raw.{RawSelector, RawPatchSelector, selector_of, patch_selector_of, first_unbound, first_unbound_in_patch}
+use Rattle.node_select.specs.readers.Selectors.{read_selector, read_patch_selector}
+
+-- the first unbound prefix, or the selector that the names mean
+abbrev pub meant : {A : Type 0} → List ℕ → Option ℕ → A → Result A SelectorFault
+meant text None value = Ok value
+meant text (Some n) value = Err (UnboundPrefix (byte_of text n))
+
+-- what the form of a text says, where reading answers this: it is no selector, or names decide
+abbrev pub told : List Decl → List ℕ → List ℕ → Result RawSelector (Stop Kind) → Result Selector SelectorFault
+told bindings default text (Ok raw) = meant text (first_unbound bindings raw) (selector_of bindings default raw)
+told bindings default text (Err stop) = Err (BadSelector (stop_place text stop))
+
+abbrev pub patch_told : List Decl → List ℕ → List ℕ → Result RawPatchSelector (Stop Kind) → Result PatchSelector SelectorFault
+patch_told bindings default text (Ok raw) = meant text (first_unbound_in_patch bindings raw) (patch_selector_of bindings default raw)
+patch_told bindings default text (Err stop) = Err (BadSelector (stop_place text stop))
 
 -- a selector, with these bindings and this namespace of unprefixed elements
 abbrev pub selector_read : List Decl → List ℕ → List ℕ → Result Selector SelectorFault

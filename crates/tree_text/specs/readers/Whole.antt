@@ -1,5 +1,5 @@
 -- What reading all bytes answers, from left to right.
-use Rattle.std.specs.Prelude.{◌≡◌, ℕ, ◌-◌, List, Result, Ok, Err, if◌then◌else◌}
+use Rattle.std.specs.Prelude.{◌≡◌, ℕ, ◌-◌, List, Result, Err, if◌then◌else◌}
 use Rattle.std.specs.Str.{chars, is_utf8}
 use Rattle.grammar_rules.specs.Reading.{Syntax, Faulty, read_whole}
 use Rattle.xml_tree.specs.Tree.{Tree}
@@ -13,7 +13,7 @@ use Rattle.tree_text.specs.declared.fault.ValueFault.TheVariants as bodies
 use Rattle.tree_text.specs.declared.stop.Stop.{Stop}
 use Rattle.tree_text.specs.declared.stop.Stop.TheVariants as stops
 use Rattle.tree_text.specs.Faults.{place, fault_of, told, spelling_of, body_told}
-use Rattle.tree_text.specs.Reading.{read_text, read_spelling}
+use Rattle.tree_text.specs.readers.Texts.{read_text, read_spelling}
 
 -- ---- documents and fragments
 

@@ -14,7 +14,7 @@ use Rattle.doc_names.specs.Usages.{namespace_of}
 use Rattle.doc_names.specs.declared.doc_id.Auid.{Auid}
 use Rattle.xcap_uri.specs.Cuts.{before, behind, pieces, joined}
 use Rattle.xcap_uri.specs.Gives.{UriError, ◌>>=◌}
-use Rattle.xcap_uri.specs.Queries.{optional_bindings_read}
+use Rattle.xcap_uri.specs.readers.Queries.{optional_bindings_read}
 use Rattle.xcap_uri.specs.Roots.{slash}
 use Rattle.xcap_uri.specs.Targets.{question, under_root, fault_of, raw_text}
 use Rattle.xcap_uri.specs.readers.Escapes.{text_read, optional_text_read}

@@ -1,18 +1,29 @@
-use Rattle.std.proofs.Common.{ℕ, Option, None, Some, ap}
+use Rattle.std.proofs.Common.{ℕ, Option, None, Some, sym, ap}
 use Rattle.xml_tree.specs.Tree.{Tree}
-use Rattle.machine_words.specs.Answers.{unchanged}
-use Rattle.machine_words.specs.Writing.{DeletesNode, DeletesNodeIn}
+use Rattle.machine_words.specs.Answers.{Answer, unchanged}
+use Rattle.machine_words.specs.Fragments.{DeletesNode, DeletesNodeIn, DeletesNodeOf}
+use Rattle.document_writes.proofs.Decided.{decides_planned}
 use Rattle.document_writes.proofs.Doing.{stays}
 use Rattle.document_writes.proofs.Held.{of_version}
+use Rattle.document_writes.proofs.Planning.{asks_for}
 use Rattle.document_writes.proofs.nodes.delete_node.Goals as goal
 
-pub returns-in_ok-reply-in-Some-clause-decides_the_removal : goal.returns-in_ok-reply-in-Some-clause-decides_the_removal
-returns-in_ok-reply-in-Some-clause-decides_the_removal c =
+pub make-requires : goal.make-requires
+make-requires c = record {
+  asked =
+      let t = c.in-Some.held.0.now in
+      let tag = c.in-Some.held.1 in
+      asks_for c.args.store.now.content c.args.doc.now c.args.usage t tag c.args.request.now.closes
+      (λ d a. DeletesNodeOf d c.args.doc.now c.args.usage c.args.selector.now t tag c.args.request.now a) c.in_ok-plan-in-Some.plan c.requires.usage (sym c.in-Some.ensures.version_now)
+      (c.in_ok-plan-in-Some.ensures.plans_the_removal c.args.doc.now);
+}
+
+pub returns-in_ok-plan-in-Some-clause-decides_the_removal : goal.returns-in_ok-plan-in-Some-clause-decides_the_removal
+returns-in_ok-plan-in-Some-clause-decides_the_removal c =
     let content = c.args.store.now.content in
-    let reply = c.in_ok-reply-in-Some.reply in
-    let P : Option (Tree × ℕ) → Type 0 = λ v. DeletesNodeIn content c.args.doc.now c.args.usage c.args.selector.now v c.args.request.now (unchanged reply) in
-    stays (DeletesNode content c.args.doc.now c.args.usage c.args.selector.now c.args.request.now) c.args.store.now reply
-    (of_version content c.args.doc.now (Some (c.in-Some.held.0.now, c.in-Some.held.1)) P c.in-Some.ensures.version_now (c.in_ok-reply-in-Some.ensures.replies_to_the_removal content c.args.doc.now))
+    let P : Option (Tree × ℕ) → Answer → Type 0 = λ v a. DeletesNodeIn content c.args.doc.now c.args.usage c.args.selector.now v c.args.request.now a in
+    decides_planned content c.args.doc.now c.args.request.now.closes (Some (c.in-Some.held.0.now, c.in-Some.held.1)) P c.in-Some.ensures.version_now c.in_ok-plan-in-Some.plan
+    ((c.in_ok-plan-in-Some.ensures.plans_the_removal c.args.doc.now).answers content) c.make.new.store c.make.result c.make.ensures.decides_by_the_plan
 
 pub returns-in-None-clause-decides_the_removal : goal.returns-in-None-clause-decides_the_removal
 returns-in-None-clause-decides_the_removal c =

@@ -1,6 +1,6 @@
 use Rattle.std.proofs.Common.{sym, ◌∙◌}
-use Rattle.node_select.specs.Reading.{read_patch_selector}
-use Rattle.node_select.specs.Views.{patch_selector_in}
+use Rattle.node_select.specs.readers.Selectors.{read_patch_selector}
+use Rattle.node_select.specs.readers.Views.{patch_selector_in}
 use Rattle.node_select.proofs.Widths.{patch_selector_room, whole_read}
 use Rattle.node_select.proofs.forms.raw_patch_selector.Goals as goal
 

@@ -1,6 +1,6 @@
 use Rattle.std.proofs.Common.{sym, ◌∙◌}
-use Rattle.node_select.specs.Reading.{read_selector}
-use Rattle.node_select.specs.Views.{selector_in}
+use Rattle.node_select.specs.readers.Selectors.{read_selector}
+use Rattle.node_select.specs.readers.Views.{selector_in}
 use Rattle.node_select.proofs.Widths.{selector_room, whole_read}
 use Rattle.node_select.proofs.forms.raw_selector.Goals as goal
 

@@ -1,6 +1,6 @@
 use Rattle.std.proofs.Common.{◌≡◌, ◌+◌, ◌++◌, map, drop, chars}
-use Rattle.node_select.specs.Raw.{AreWhole, steps_of, unbound_from, no_end, widths}
-use Rattle.node_select.specs.Views.{step_in}
+use Rattle.node_select.specs.readers.Raw.{AreWhole, steps_of, unbound_from, no_end, widths}
+use Rattle.node_select.specs.readers.Views.{step_in}
 use Rattle.node_select.proofs.meaning.steps.Given as goal
 
 abbrev pub invariant-loop-raw : goal.invariant-loop-raw

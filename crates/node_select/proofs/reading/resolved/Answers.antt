@@ -2,9 +2,9 @@ use Rattle.std.proofs.Common.{ℕ, List, subst, ap, map}
 use Rattle.std.proofs.lemmas.Result.{err_from_is_err_and}
 use Rattle.node_select.specs.declared.selector.Step.{Step}
 use Rattle.node_select.specs.declared.meaning.Unresolved.{Unresolved}
-use Rattle.node_select.specs.Meaning.{Fails}
-use Rattle.node_select.specs.Raw.{RawStep, unbound_end, unbound_from}
-use Rattle.node_select.specs.Views.{end_in, step_in}
+use Rattle.node_select.specs.readers.Resolving.{Fails}
+use Rattle.node_select.specs.readers.Raw.{RawStep, unbound_end, unbound_from}
+use Rattle.node_select.specs.readers.Views.{end_in, step_in}
 use Rattle.node_select.proofs.Resolving.{steps_fail, end_fails}
 use Rattle.node_select.proofs.reading.resolved.Goals as goal
 

@@ -1,9 +1,9 @@
 use Rattle.std.proofs.Common.{◌≡◌, ◌-◌}
 use Rattle.grammar_rules.specs.Reading.{read_at_most}
-use Rattle.tree_text.specs.Reading.{reference_follows}
+use Rattle.tree_text.specs.readers.Texts.{reference_follows}
 use Rattle.tree_text.proofs.Loops.{finish}
-use Rattle.node_select.specs.Members.{read_piece, value_with}
-use Rattle.node_select.specs.Reading.{read_inside_quotes}
+use Rattle.node_select.specs.readers.Members.{read_piece, value_with}
+use Rattle.node_select.specs.readers.Selectors.{read_inside_quotes}
 use Rattle.node_select.proofs.steps.inside_quotes.Given as goal
 
 abbrev pub invariant-loop : goal.invariant-loop

@@ -1,7 +1,7 @@
 use Rattle.std.proofs.Common.{◌≡◌, ◌≤◌, drop}
 use Rattle.grammar_rules.specs.Digits.{decimal}
 use Rattle.grammar_rules.specs.Rules.{number_from}
-use Rattle.node_select.specs.Raw.{greatest_position}
+use Rattle.node_select.specs.Grammar.{greatest_position}
 use Rattle.node_select.proofs.steps.position_value.Given as goal
 
 abbrev pub invariant-loop-c : goal.invariant-loop-c

@@ -2,10 +2,10 @@ use Rattle.std.proofs.Common.{◌≡◌, List, [], ◌∷◌, ◌++◌, map, sym
 use Rattle.std.proofs.lemmas.List.{append-nil, map_push}
 use Rattle.std.proofs.lemmas.Result.{err_from_is_err_and}
 use Rattle.tree_text.proofs.Loops.{goes_on, ends, is_done, is_stopped}
-use Rattle.node_select.specs.Raw.{RawStep}
-use Rattle.node_select.specs.Members.{steps_with}
-use Rattle.node_select.specs.Reading.{read_next_step, read_steps}
-use Rattle.node_select.specs.Views.{follows_in, step_in}
+use Rattle.node_select.specs.readers.Raw.{RawStep}
+use Rattle.node_select.specs.readers.Members.{steps_with}
+use Rattle.node_select.specs.readers.Selectors.{read_next_step, read_steps}
+use Rattle.node_select.specs.readers.Views.{follows_in, step_in}
 use Rattle.node_select.proofs.steps.steps.Goals as goal
 use Rattle.node_select.proofs.steps.steps.Goals.{else-loop-test, then-loop-test+then-not-step_follows}
 

@@ -1,9 +1,9 @@
 use Rattle.std.proofs.Common.{◌≡◌, ◌-◌, map}
 use Rattle.grammar_rules.specs.Reading.{read_at_most}
 use Rattle.tree_text.proofs.Loops.{finish}
-use Rattle.node_select.specs.Members.{steps_with}
-use Rattle.node_select.specs.Reading.{read_steps, read_next_step}
-use Rattle.node_select.specs.Views.{follows_in, step_in}
+use Rattle.node_select.specs.readers.Members.{steps_with}
+use Rattle.node_select.specs.readers.Selectors.{read_steps, read_next_step}
+use Rattle.node_select.specs.readers.Views.{follows_in, step_in}
 use Rattle.node_select.proofs.steps.steps.Given as goal
 
 abbrev pub invariant-loop : goal.invariant-loop

@@ -1,6 +1,6 @@
 use Rattle.std.proofs.Common.{◌≡◌, ◌+◌, drop}
 use Rattle.tree_text.specs.Grammar.{is_raw}
-use Rattle.tree_text.specs.Runs.{run_len}
+use Rattle.tree_text.specs.readers.Runs.{run_len}
 use Rattle.tree_text.proofs.bodies.plain_len.Given as goal
 
 abbrev pub invariant-loop-c : goal.invariant-loop-c

@@ -2,8 +2,8 @@ use Rattle.std.proofs.Common.{◌≡◌, ℕ, ◌-◌, List, [], ◌∷◌, ◌+
 use Rattle.std.proofs.lemmas.List.{append-nil}
 use Rattle.std.proofs.lemmas.Result.{err_from_is_err_and}
 use Rattle.tree_text.specs.Pieces.{value_of, raw, more_value}
-use Rattle.tree_text.specs.Members.{read_spelled_piece, value_with}
-use Rattle.tree_text.specs.Reading.{read_whole_reference, read_plain, reference_follows, read_spelling}
+use Rattle.tree_text.specs.readers.Members.{read_spelled_piece, value_with}
+use Rattle.tree_text.specs.readers.Texts.{read_whole_reference, read_plain, reference_follows, read_spelling}
 use Rattle.tree_text.proofs.Loops.{start, both_ok, first_stops, goes_on, ends, is_done, is_stopped}
 use Rattle.tree_text.proofs.bodies.spelled.Goals as goal
 use Rattle.tree_text.proofs.bodies.spelled.Goals.{else-loop-test, then-loop-test+then-not-reference_follows}

@@ -1,7 +1,7 @@
 use Rattle.std.proofs.Common.{◌≡◌, ◌-◌}
 use Rattle.grammar_rules.specs.Reading.{read_at_most}
-use Rattle.tree_text.specs.Members.{read_spelled_piece, value_with}
-use Rattle.tree_text.specs.Reading.{reference_follows, read_spelling}
+use Rattle.tree_text.specs.readers.Members.{read_spelled_piece, value_with}
+use Rattle.tree_text.specs.readers.Texts.{reference_follows, read_spelling}
 use Rattle.tree_text.proofs.Loops.{finish}
 use Rattle.tree_text.proofs.bodies.spelled.Given as goal
 

@@ -1,6 +1,6 @@
 use Rattle.std.proofs.Common.{◌≡◌, ◌+◌, drop}
 use Rattle.grammar_rules.specs.Digits.{is_digit}
-use Rattle.tree_text.specs.Runs.{run_len}
+use Rattle.tree_text.specs.readers.Runs.{run_len}
 use Rattle.tree_text.proofs.digit_runs.digits_len.Given as goal
 
 abbrev pub invariant-loop-c : goal.invariant-loop-c

@@ -1,11 +1,11 @@
 use Rattle.std.proofs.Common.{◌+◌, refl, sym, ap, ◌∙◌, arith}
 use Rattle.std.proofs.lemmas.Result.{err_from_is_err_and}
 use Rattle.xml_tree.specs.Tree.{Tree}
-use Rattle.tree_text.specs.Bindings.{lists}
-use Rattle.tree_text.specs.Members.{tree_with, with_chars, with_one, read_member, read_filled}
+use Rattle.tree_text.specs.readers.Bindings.{lists}
+use Rattle.tree_text.specs.readers.Members.{tree_with, with_chars, with_one, read_member, read_filled}
 use Rattle.tree_text.specs.Names.{decls_of}
-use Rattle.tree_text.specs.Reading.{markup_follows, read_markup, read_chars, read_element}
-use Rattle.tree_text.specs.Views.{tag_in}
+use Rattle.tree_text.specs.readers.Texts.{markup_follows, read_markup, read_chars, read_element}
+use Rattle.tree_text.specs.readers.Views.{tag_in}
 use Rattle.tree_text.proofs.Loops.{both_ok, first_stops, goes_on, ends, is_done, is_stopped, valued_ok, valued_fails}
 use Rattle.tree_text.proofs.ElementLemmas.{begins, piece_more, judged_is, misjudged, element_ok, element_err, tag_err, untagged, child_ok, child_stops, level_ok, level_stops, onto_ok, onto_stops, still, back_again, closed}
 use Rattle.tree_text.proofs.elements.+nested.Goals as goal

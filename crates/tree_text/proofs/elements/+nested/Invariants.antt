@@ -1,8 +1,8 @@
 use Rattle.std.proofs.Common.{◌≡◌, ◌+◌, ◌*◌, ◌-◌}
 use Rattle.grammar_rules.specs.Reading.{read_at_most}
-use Rattle.tree_text.specs.Bindings.{AreBack, lists}
-use Rattle.tree_text.specs.Members.{tree_with, read_member, read_filled}
-use Rattle.tree_text.specs.Reading.{markup_follows, read_element}
+use Rattle.tree_text.specs.readers.Bindings.{AreBack, lists}
+use Rattle.tree_text.specs.readers.Members.{tree_with, read_member, read_filled}
+use Rattle.tree_text.specs.readers.Texts.{markup_follows, read_element}
 use Rattle.tree_text.proofs.Loops.{finish}
 use Rattle.tree_text.proofs.elements.+nested.Given as goal
 

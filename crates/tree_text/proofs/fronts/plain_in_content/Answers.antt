@@ -1,6 +1,6 @@
 use Rattle.std.proofs.Common.{length, take, ap, ◌∙◌}
 use Rattle.std.proofs.lemmas.List.{length-take-le}
-use Rattle.tree_text.specs.Runs.{is_plain_in_content, run_len}
+use Rattle.tree_text.specs.readers.Runs.{is_plain_in_content, run_len}
 use Rattle.tree_text.proofs.RunLemmas.{take_least}
 use Rattle.tree_text.proofs.fronts.plain_in_content.Goals as goal
 

@@ -1,6 +1,6 @@
 use Rattle.std.proofs.Common.{◌≡◌, ◌+◌, true, take, drop}
 use Rattle.std.specs.List.{list_all}
-use Rattle.tree_text.specs.Runs.{is_plain_in_value, run_len}
+use Rattle.tree_text.specs.readers.Runs.{is_plain_in_value, run_len}
 use Rattle.tree_text.proofs.fronts.value_len.Given as goal
 
 abbrev pub invariant-loop-i : goal.invariant-loop-i

@@ -1,7 +1,8 @@
 use Rattle.std.proofs.Common.{◌≡◌, ◌+◌, [], take, drop}
-use Rattle.tree_text.specs.Bindings.{lists}
-use Rattle.tree_text.specs.Meanings.{Holds}
-use Rattle.tree_text.specs.Names.{widths, first_wrong}
+use Rattle.tree_text.specs.readers.Bindings.{lists}
+use Rattle.tree_text.specs.readers.Meanings.{Holds}
+use Rattle.tree_text.specs.Names.{widths}
+use Rattle.tree_text.specs.readers.Judging.{first_wrong}
 use Rattle.tree_text.proofs.names.first_of_several.Given as goal
 
 abbrev pub invariant-loop-said : goal.invariant-loop-said

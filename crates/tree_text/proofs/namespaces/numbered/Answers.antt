@@ -1,5 +1,5 @@
 use Rattle.std.proofs.Common.{◌≡◌, None, sym, ap, ◌∙◌}
-use Rattle.tree_text.specs.Bindings.{at_text}
+use Rattle.tree_text.specs.readers.Bindings.{at_text}
 use Rattle.tree_text.proofs.NumberLemmas.{AreNumbers-insert, numbers-insert-grown}
 use Rattle.tree_text.proofs.namespaces.numbered.Goals as goal
 

@@ -1,6 +1,6 @@
 use Rattle.std.proofs.Common.{◌≡◌, ◌+◌, drop}
 use Rattle.xml_tree.specs.Characters.{is_name_char}
-use Rattle.tree_text.specs.Runs.{run_len}
+use Rattle.tree_text.specs.readers.Runs.{run_len}
 use Rattle.tree_text.proofs.parts.name_len.Given as goal
 
 abbrev pub invariant-loop-i : goal.invariant-loop-i

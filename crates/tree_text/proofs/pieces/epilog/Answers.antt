@@ -1,8 +1,8 @@
 use Rattle.std.proofs.Common.{◌≡◌, ◌-◌, length, refl, sym, ◌∙◌, arith}
 use Rattle.std.proofs.lemmas.Result.{err_from_is_err_and}
 use Rattle.grammar_rules.specs.Reading.{read_sequence}
-use Rattle.tree_text.specs.Members.{nothing_with}
-use Rattle.tree_text.specs.Reading.{less_follows, read_dropped, read_spaces, read_misc, read_epilog}
+use Rattle.tree_text.specs.readers.Members.{nothing_with}
+use Rattle.tree_text.specs.readers.Texts.{less_follows, read_dropped, read_spaces, read_misc, read_epilog}
 use Rattle.tree_text.proofs.Loops.{start, both_ok, first_stops, goes_on, ends, is_done, is_stopped, dropped_ok}
 use Rattle.tree_text.proofs.pieces.epilog.Goals as goal
 use Rattle.tree_text.proofs.pieces.epilog.Goals.{else-loop-test, then-loop-test+then-not-less_follows}

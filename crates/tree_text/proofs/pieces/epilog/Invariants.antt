@@ -1,7 +1,7 @@
 use Rattle.std.proofs.Common.{◌≡◌, ◌-◌}
 use Rattle.grammar_rules.specs.Reading.{read_sequence, read_at_most}
-use Rattle.tree_text.specs.Members.{nothing_with}
-use Rattle.tree_text.specs.Reading.{less_follows, read_dropped, read_spaces, read_misc, read_epilog}
+use Rattle.tree_text.specs.readers.Members.{nothing_with}
+use Rattle.tree_text.specs.readers.Texts.{less_follows, read_dropped, read_spaces, read_misc, read_epilog}
 use Rattle.tree_text.proofs.Loops.{finish}
 use Rattle.tree_text.proofs.pieces.epilog.Given as goal
 

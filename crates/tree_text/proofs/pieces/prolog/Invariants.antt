@@ -1,7 +1,7 @@
 use Rattle.std.proofs.Common.{◌≡◌, ◌-◌}
 use Rattle.grammar_rules.specs.Reading.{read_sequence, read_at_most}
-use Rattle.tree_text.specs.Members.{nothing_with}
-use Rattle.tree_text.specs.Reading.{misc_follows, read_dropped, read_spaces, read_prolog_misc, read_prolog}
+use Rattle.tree_text.specs.readers.Members.{nothing_with}
+use Rattle.tree_text.specs.readers.Texts.{misc_follows, read_dropped, read_spaces, read_prolog_misc, read_prolog}
 use Rattle.tree_text.proofs.Loops.{finish}
 use Rattle.tree_text.proofs.pieces.prolog.Given as goal
 

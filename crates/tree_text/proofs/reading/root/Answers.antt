@@ -2,7 +2,7 @@ use Rattle.std.proofs.Common.{◌≡◌, ℕ, ◌==◌, false, List, [], ◌∷�
 use Rattle.grammar_rules.specs.Reading.{Reader, Syntax, read_whole}
 use Rattle.xml_tree.specs.declared.names.Decl.{Decl}
 use Rattle.tree_text.specs.declared.kind.Kind.{Kind}
-use Rattle.tree_text.specs.Reading.{read_mark_if, read_declaration_if, read_prolog, read_element, read_epilog, read_text}
+use Rattle.tree_text.specs.readers.Texts.{read_mark_if, read_declaration_if, read_prolog, read_element, read_epilog, read_text}
 use Rattle.tree_text.proofs.ReadFronts.{Reads, reads_before, reads_behind}
 use Rattle.tree_text.proofs.reading.root.Goals as goal
 

@@ -2,7 +2,7 @@ use Rattle.std.proofs.Common.{◌≡◌, List, [], ◌∷◌, ◌++◌, sym, ap,
 use Rattle.std.proofs.lemmas.List.{append-nil}
 use Rattle.std.proofs.lemmas.Result.{err_from_is_err_and}
 use Rattle.tree_text.specs.declared.said.Said.{Said}
-use Rattle.tree_text.specs.Reading.{said_follows, read_said, read_all_said}
+use Rattle.tree_text.specs.readers.Texts.{said_follows, read_said, read_all_said}
 use Rattle.tree_text.proofs.Loops.{goes_on, ends, is_done, is_stopped, valued_ok, valued_fails}
 use Rattle.tree_text.proofs.tags.all_said.Goals as goal
 use Rattle.tree_text.proofs.tags.all_said.Goals.{else-loop-test, then-loop-test+then-not-said_follows}

@@ -1,7 +1,7 @@
 use Rattle.std.proofs.Common.{◌≡◌, ◌+◌, ◌-◌, ◌++◌, length}
 use Rattle.grammar_rules.specs.Reading.{read_at_most}
 use Rattle.tree_text.specs.Names.{widths}
-use Rattle.tree_text.specs.Reading.{said_follows, read_said, read_all_said}
+use Rattle.tree_text.specs.readers.Texts.{said_follows, read_said, read_all_said}
 use Rattle.tree_text.proofs.Loops.{finish}
 use Rattle.tree_text.proofs.tags.all_said.Given as goal
 

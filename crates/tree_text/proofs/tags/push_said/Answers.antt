@@ -1,5 +1,5 @@
 use Rattle.std.proofs.Common.{arith}
-use Rattle.tree_text.specs.Views.{name_in}
+use Rattle.tree_text.specs.readers.Views.{name_in}
 use Rattle.tree_text.proofs.TagLemmas.{attribute_small, widths-append}
 use Rattle.tree_text.proofs.tags.push_said.Goals as goal
 

@@ -1,6 +1,6 @@
 use Rattle.std.proofs.Common.{◌≡◌, true, take}
 use Rattle.std.specs.List.{list_all}
-use Rattle.tree_text.specs.Runs.{is_ascii}
+use Rattle.tree_text.specs.readers.Runs.{is_ascii}
 use Rattle.tree_text.proofs.texts.narrowed.Given as goal
 
 abbrev pub invariant-loop-i : goal.invariant-loop-i

@@ -4,7 +4,7 @@ use Rattle.grammar_rules.specs.Reading.{read_digits}
 use Rattle.xml_tree.specs.Characters.{is_char}
 use Rattle.tree_text.specs.declared.kind.Kind.{Kind}
 use Rattle.tree_text.specs.Grammar.{last_char}
-use Rattle.tree_text.specs.Views.{digits_of}
+use Rattle.tree_text.specs.readers.Views.{digits_of}
 use Rattle.tree_text.proofs.values.number.Given as goal
 
 abbrev pub invariant-loop-rest : goal.invariant-loop-rest

@@ -3,8 +3,8 @@ use Rattle.std.proofs.lemmas.List.{append-nil}
 use Rattle.std.proofs.lemmas.Result.{err_from_is_err_and}
 use Rattle.grammar_rules.specs.Reading.{read_many}
 use Rattle.tree_text.specs.Pieces.{value_of, raw, more_value}
-use Rattle.tree_text.specs.Members.{read_piece, value_with}
-use Rattle.tree_text.specs.Reading.{read_reference, read_raw, reference_follows, read_value}
+use Rattle.tree_text.specs.readers.Members.{read_piece, value_with}
+use Rattle.tree_text.specs.readers.Texts.{read_reference, read_raw, reference_follows, read_value}
 use Rattle.tree_text.proofs.Loops.{finish, start, valued_ok, both_ok, first_stops, goes_on, ends, is_done, is_stopped}
 use Rattle.tree_text.proofs.values.value.Goals as goal
 use Rattle.tree_text.proofs.values.value.Goals.{else-loop-test, then-loop-test+then-not-reference_follows}

@@ -3,6 +3,7 @@ use Rattle.reply_text.specs.Heads.{plain}
 use Rattle.xcap_uri.specs.declared.fault.UriFault.{UriFault}
 use Rattle.machine_words.specs.Requests.{fault_status}
 use Rattle.document_writes.specs.declared.decision.Decision.TheVariants.{Stays}
+use Rattle.machine_words.proofs.Named.{writable}
 use Rattle.xcap_server.proofs.Dispatch.{fault_decided, target_decided}
 use Rattle.xcap_server.proofs.requests.decide.Goals as goal
 
@@ -16,3 +17,6 @@ pub returns-in-Ok-clause-decides_as_the_machine : goal.returns-in-Ok-clause-deci
 returns-in-Ok-clause-decides_as_the_machine c =
     target_decided c.args.root.now c.args.store.now.content c.args.request.now c.decide_target.new.store c.in-Ok.target c.of.result c.decide_target.result (rw c.as_slice.ensures at c.in-Ok.ensures.answer_by_the_rules) c.of.ensures
     c.decide_target.ensures.decides_as_the_machine
+
+pub decide_target-requires-clause-writable : goal.decide_target-requires-clause-writable
+decide_target-requires-clause-writable c = writable c.args.root.now c.args.request.now.target c.in-Ok.target (rw c.as_slice.ensures at c.in-Ok.ensures.answer_by_the_rules)

@@ -1,5 +1,5 @@
 use Rattle.std.proofs.Common.{◌≡◌, ◌+◌, drop}
-use Rattle.tree_text.specs.Runs.{run_len}
+use Rattle.tree_text.specs.readers.Runs.{run_len}
 use Rattle.xcap_uri.specs.Cuts.{is_other}
 use Rattle.xcap_uri.proofs.cutting.len_before.Given as goal
 

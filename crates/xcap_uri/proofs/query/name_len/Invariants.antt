@@ -1,5 +1,5 @@
 use Rattle.std.proofs.Common.{◌≡◌, ◌+◌, drop}
-use Rattle.tree_text.specs.Runs.{run_len}
+use Rattle.tree_text.specs.readers.Runs.{run_len}
 use Rattle.xml_tree.specs.Characters.{is_name_char}
 use Rattle.xcap_uri.proofs.query.name_len.Given as goal
 

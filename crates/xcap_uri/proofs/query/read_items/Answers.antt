@@ -1,6 +1,6 @@
 use Rattle.std.proofs.Common.{length, arith}
 use Rattle.std.proofs.lemmas.Result.{err_from_is_err_and}
-use Rattle.xcap_uri.specs.Queries.{bindings_read}
+use Rattle.xcap_uri.specs.readers.Queries.{bindings_read}
 use Rattle.xcap_uri.proofs.Bindings.{fails, goes_on}
 use Rattle.xcap_uri.proofs.query.read_items.Goals as goal
 

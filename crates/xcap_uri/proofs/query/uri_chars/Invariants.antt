@@ -1,6 +1,6 @@
 use Rattle.std.proofs.Common.{◌≡◌, ◌+◌, ◌≤◌, length}
-use Rattle.xcap_uri.specs.Queries.{uri_chars}
-use Rattle.xcap_uri.specs.UriSteps.{with_chars}
+use Rattle.xcap_uri.specs.readers.Queries.{uri_chars}
+use Rattle.xcap_uri.specs.readers.UriSteps.{with_chars}
 use Rattle.xcap_uri.proofs.query.uri_chars.Given as goal
 
 abbrev pub invariant-chars : goal.invariant-chars

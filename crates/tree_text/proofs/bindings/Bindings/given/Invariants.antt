@@ -1,5 +1,5 @@
 use Rattle.std.proofs.Common.{◌≡◌, take, map}
-use Rattle.tree_text.specs.Bindings.{AreKept, lists}
+use Rattle.tree_text.specs.readers.Bindings.{AreKept, lists}
 use Rattle.tree_text.proofs.bindings.Bindings.given.Given as goal
 
 abbrev pub invariant-loop-decls : goal.invariant-loop-decls

@@ -1,7 +1,7 @@
 use Rattle.std.proofs.Common.{List, [], ◌∷◌, ◌++◌, sym, ap, ◌∙◌, subst, append-nil, append_assoc}
 use Rattle.std.proofs.lemmas.List.{nil_from_length}
 use Rattle.xml_tree.specs.declared.names.Decl.{Decl}
-use Rattle.tree_text.specs.Bindings.{AreOf}
+use Rattle.tree_text.specs.readers.Bindings.{AreOf}
 use Rattle.tree_text.proofs.namespaces.Namespaces.forget_all.Goals as goal
 
 pub loop-decl-preserved : goal.loop-decl-preserved

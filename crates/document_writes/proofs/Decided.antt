@@ -1,0 +1,81 @@
+-- Requests on nodes, line by line: what is missing, what the conditions say, and what is made of a plan.
+use Rattle.std.proofs.Common.{◌≡◌, ℕ, Bool, true, false, List, Option, None, Some, Result, Ok, Err, IfOk, refl, sym, ap, subst, ◌∙◌}
+use Rattle.xml_tree.specs.Tree.{Tree}
+use Rattle.conflict_docs.specs.declared.conflicts.ErrorBody.TheVariants as conflicts
+use Rattle.doc_names.specs.declared.doc_id.DocId.{DocId}
+use Rattle.doc_names.specs.declared.usages.Usage.{Usage}
+use Rattle.node_select.specs.declared.selector.Selector.{Selector}
+use Rattle.plan_words.specs.Spots.{IsSpot}
+use Rattle.plan_words.specs.declared.spot.NoParent.{NoParent}
+use Rattle.plan_words.specs.declared.spot.Spot.{Spot}
+use Rattle.http_wire.specs.declared.request.Request.{Request}
+use Rattle.reply_text.specs.Heads.{Sent, plain}
+use Rattle.request_terms.specs.Conditions.{stop_of}
+use Rattle.xcap_uri.specs.Ancestors.{ancestor_uri}
+use Rattle.store_core.specs.Held.{Content}
+use Rattle.store_core.specs.Storing.{Stored}
+use Rattle.machine_words.specs.Answers.{Answer, Behind, conflict, unchanged}
+use Rattle.machine_words.specs.Fragments.{CutsNode, DeletesNodeOf, PutsFragment, PutsNodeOf, is_there}
+use Rattle.machine_words.specs.Resources.{version_of}
+use Rattle.machine_words.specs.Writing.{write_stop}
+use Rattle.machine_words.proofs.Cases.{at_false, at_true, stopped, unstopped}
+use Rattle.document_writes.specs.Deciding.{Decides}
+use Rattle.document_writes.specs.Planning.{IsPlanFor, answer_by}
+use Rattle.document_writes.specs.declared.decision.Decision.{Decision}
+use Rattle.document_writes.specs.declared.plan.Plan.{Plan}
+use Rattle.document_writes.specs.declared.plan.Plan.TheVariants.{Stops}
+use Rattle.document_writes.proofs.Doing.{all_so}
+use Rattle.document_writes.proofs.Planning.{Plans, plans_so, stopped_by}
+
+-- ---- conditions
+
+module _ (usage : Usage) (t : Tree) (request : Request) (tag : ℕ) (exists there : Bool) (known : exists ≡ there) (P : Content → DocId → Answer → Type 0) where
+  abbrev pub BehindIt : Content → DocId → Answer → Type 0
+  BehindIt c id a = Behind (write_stop request (Some tag) there) a (P c id a)
+
+  stop_told : (stop : Option Sent) → stop ≡ stop_of request (Some tag) exists false → write_stop request (Some tag) there ≡ stop
+  stop_told stop is = sym (is ∙ ap (λ (b : Bool). stop_of request (Some tag) b false) known)
+
+  pub plan_stopped : (reply : Sent) → Some reply ≡ stop_of request (Some tag) exists false → Plans usage t request.closes BehindIt (Stops reply)
+  plan_stopped reply is = stopped_by usage t request.closes BehindIt (Stops reply) reply refl (λ c id. stopped (write_stop request (Some tag) there) reply (P c id (unchanged reply)) (stop_told (Some reply) is))
+
+  pub plan_unstopped : {E : Type 0} (plan : Result Plan E) → None ≡ stop_of request (Some tag) exists false → IfOk plan (Plans usage t request.closes P) → IfOk plan (Plans usage t request.closes BehindIt)
+  plan_unstopped plan is plans = plans_so usage t request.closes P BehindIt (λ c id a so. unstopped (write_stop request (Some tag) there) a (P c id a) (stop_told None is) so) plan plans
+
+-- ---- PUT
+
+module _ (root : List ℕ) (id : DocId) (usage : Usage) (selector : Selector) (t : Tree) (tag : ℕ) (request : Request) where
+  abbrev PutsIt : Content → Answer → Type 0
+  PutsIt c a = PutsNodeOf c id usage selector t root tag request a
+
+  abbrev PutsThere : Spot → Content → DocId → Answer → Type 0
+  PutsThere spot c d a = Behind (write_stop request (Some tag) (is_there t selector)) a (PutsFragment c d usage selector t spot request a)
+
+  pub put_at_spot : {E : Type 0} (spot : Spot) → IsSpot t selector (Ok spot) → (plan : Result Plan E) → IfOk plan (Plans usage t request.closes (PutsThere spot)) → IfOk plan (IsPlanFor usage t id request.closes PutsIt)
+  put_at_spot spot is (Ok plan) plans = let p = plans id in record { answers = λ c. (Ok spot, is, p.answers c); may_be_made = p.may_be_made }
+  put_at_spot spot is (Err e) plans = tt
+
+  pub put_nowhere : (none : NoParent) → IsSpot t selector (Err none) → (reply : Sent) → reply ≡ conflict (conflicts.NoParent (ancestor_uri root id t selector.steps)) request.closes → IsPlanFor usage t id request.closes PutsIt (Stops reply)
+  put_nowhere none is reply so = record { answers = λ c. (Err none, is, ap unchanged so); may_be_made = tt }
+
+-- ---- DELETE
+
+module _ (usage : Usage) (selector : Selector) (t : Tree) (tag : ℕ) (request : Request) where
+  abbrev DeletesIt : Content → DocId → Answer → Type 0
+  DeletesIt c id a = DeletesNodeOf c id usage selector t tag request a
+
+  pub not_there : (reply : Sent) → is_there t selector ≡ false → reply ≡ plain 404 request.closes → Plans usage t request.closes DeletesIt (Stops reply)
+  not_there reply absent so = stopped_by usage t request.closes DeletesIt (Stops reply) reply refl (λ c id. at_false _ _ _ absent (ap unchanged so))
+
+  pub there : {E : Type 0} (plan : Result Plan E) → is_there t selector ≡ true
+      → IfOk plan (Plans usage t request.closes (λ c id a. Behind (write_stop request (Some tag) true) a (CutsNode c id usage selector t request a))) → IfOk plan (Plans usage t request.closes DeletesIt)
+  there plan is plans =
+      plans_so usage t request.closes (λ c id a. Behind (write_stop request (Some tag) true) a (CutsNode c id usage selector t request a)) DeletesIt (λ c id a so. at_true _ _ _ is so) plan plans
+
+-- ---- what is made of a plan
+
+pub decides_planned : {E : Type 0} (c : Content) (id : DocId) (closes : Bool) (v : Option (Tree × ℕ)) (P : Option (Tree × ℕ) → Answer → Type 0) → v ≡ version_of c id → (plan : Plan) → P v (answer_by c id closes plan)
+    → (s : Stored) (r : Result Decision E) → IfOk r (λ d. Decides (λ a. a ≡ answer_by c id closes plan) s d) → IfOk r (λ d. Decides (P (version_of c id)) s d)
+decides_planned c id closes v P is plan answered s r decides =
+    all_so (λ a. a ≡ answer_by c id closes plan) s (P (version_of c id))
+    (λ a so. subst (λ (x : Option (Tree × ℕ)). P x a) is (subst (λ (x : Answer). P v x) (sym so) answered)) r decides

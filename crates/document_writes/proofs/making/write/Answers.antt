@@ -1,0 +1,14 @@
+use Rattle.std.proofs.Common.{ap, ◌∙◌}
+use Rattle.notes.specs.Notes.{Note}
+use Rattle.machine_words.specs.Writing.{put_reply}
+use Rattle.document_writes.proofs.Doing.{makes, refuses}
+use Rattle.document_writes.proofs.making.write.Goals as goal
+
+pub returns-in-Ok-clause-decides_the_change : goal.returns-in-Ok-clause-decides_the_change
+returns-in-Ok-clause-decides_the_change c =
+    makes c.args.store.now.content c.args.doc.now c.args.change c.args.closes (put_reply c.args.exists c.args.closes) c.prepare.new.store c.put_reply.result c.in-Ok.name c.in-Ok.prepared c.in-Ok.ensures.prepared_or_refused
+    (c.put_reply.ensures.tells_the_tag ∙ ap (λ (n : Note). put_reply c.args.exists c.args.closes n) c.note.ensures)
+
+pub returns-in_ok-reply-in-Err-clause-decides_the_change : goal.returns-in_ok-reply-in-Err-clause-decides_the_change
+returns-in_ok-reply-in-Err-clause-decides_the_change c =
+    refuses c.args.store.now.content c.args.doc.now c.args.change c.args.closes (put_reply c.args.exists c.args.closes) c.prepare.new.store c.in_ok-reply-in-Err.reply c.in-Err.refusal c.in-Err.ensures.prepared_or_refused c.in_ok-reply-in-Err.ensures.tells_the_refusal

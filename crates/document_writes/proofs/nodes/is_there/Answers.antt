@@ -1,0 +1,15 @@
+use Rattle.std.proofs.Common.{◌∙◌}
+use Rattle.document_writes.proofs.Spotted.{new_beside, new_under, there_as_value, there_over}
+use Rattle.document_writes.proofs.nodes.is_there.Goals as goal
+
+pub returns-in-Over : goal.returns-in-Over
+returns-in-Over c = record { there_before = there_over c.args.tree.now c.args.selector.now c.args.spot.now c.requires.spot c.in-Over.field-0 c.in-Over.is }
+
+pub returns-in-Under : goal.returns-in-Under
+returns-in-Under c = record { there_before = new_under c.args.tree.now c.args.selector.now c.args.spot.now c.requires.spot c.in-Under.field-0 c.in-Under.is }
+
+pub returns-in-Beside : goal.returns-in-Beside
+returns-in-Beside c = record { there_before = new_beside c.args.tree.now c.args.selector.now c.args.spot.now c.requires.spot c.in-Beside.is }
+
+pub returns-in-Value : goal.returns-in-Value
+returns-in-Value c = record { there_before = c.has_node_at.ensures ∙ there_as_value c.args.tree.now c.args.selector.now c.args.spot.now c.requires.spot c.in-Value.path c.in-Value.is }

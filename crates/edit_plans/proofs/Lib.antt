@@ -1,0 +1,12 @@
+pub mod DropLemmas
+pub mod Judging
+pub mod PlanAt
+pub mod PlanTag
+pub mod PlanUnder
+pub mod RemovalLemmas
+pub mod SiblingLemmas
+pub mod SideLemmas
+pub mod SpotLemmas
+pub mod TagLemmas
+pub mod TwinLemmas
+pub mod Ways

@@ -1,0 +1,221 @@
+-- The plans of attributes: what is asked of a new tag is asked of the whole document.
+use Rattle.std.proofs.Common.{arith, length-append, ◌≤◌, ◌≡◌, ◌↔◌, inl, inr, ℕ, List, [], ◌∷◌, ◌++◌, Option, Some, None, IsSome, IsTrue, find, Result, Err, remove, slice_get, refl, sym, ap, ◌∙◌, subst}
+use Rattle.std.specs.Option.{option_copied}
+use Rattle.std.proofs.lemmas.Option.{same_Some}
+use Rattle.doc_names.specs.declared.usages.Usage.{Usage}
+use Rattle.xml_tree.specs.Tree.{Tree, at, height, kids_of}
+use Rattle.xml_tree.proofs.PlaceLaws.{height-at}
+use Rattle.xml_tree.specs.Attributes.{with_attr, without_attr}
+use Rattle.xml_tree.specs.Edits.{drop_at, drop_attr, put_over, set_at, write_attr}
+use Rattle.xml_tree.specs.Scopes.{scope_at}
+use Rattle.xml_tree.specs.declared.names.Attr.{Attr}
+use Rattle.xml_tree.specs.declared.names.Name.{Name}
+use Rattle.node_select.specs.declared.selector.Step.{Step}
+use Rattle.node_select.specs.declared.selector.End.TheVariants as ends
+use Rattle.node_select.specs.declared.selector.Selector.{Selector}
+use Rattle.node_select.specs.Selection.{has_end, inside, is_attr, is_tested, Found, SelectsPath}
+use Rattle.node_select.proofs.Along.{one_path, path_there}
+use Rattle.usage_docs.specs.declared.judging.Fault.TheVariants.{Invalid}
+use Rattle.usage_docs.specs.Judging.{Judged}
+use Rattle.usage_docs.specs.Rows.{Scope}
+use Rattle.edit_ops.specs.declared.change.Change.{Change}
+use Rattle.edit_ops.specs.declared.change.Change.TheVariants.{DropAttr, Replace, SetAttr}
+use Rattle.plan_words.specs.declared.refusal.EditRefusal.{EditRefusal}
+use Rattle.plan_words.specs.declared.refusal.EditRefusal.TheVariants.{CannotInsert, CannotDelete, NotFound}
+use Rattle.plan_words.specs.Attributes.{FindsValue, IsValuePlan, IsWriting, written_name}
+use Rattle.plan_words.specs.Deletions.{FindsNothingAfter, IsDeletePlan, IsPlanFor}
+use Rattle.plan_words.specs.Kinds.{kind_at}
+use Rattle.plan_words.specs.Lawful.{LawfulOver}
+use Rattle.plan_words.specs.Plans.{IsTested, OrMemory}
+use Rattle.plan_words.specs.Tags.{AttrsFormed, tag_with, value_in, with_attrs}
+use Rattle.plan_words.proofs.Places.{as_exchange}
+use Rattle.plan_words.proofs.Removed.{no_shorter}
+use Rattle.plan_words.proofs.Reselected.{any_found, found_any, finds, found_from, found_to, only_retag, only_root, scope_retag, selected_retag, selected_root, there_retag}
+use Rattle.plan_words.proofs.Retagged.{first_retag, foreign_retag, formed_retag, valid_retag, valid_root}
+use Rattle.edit_plans.specs.declared.retagging.Sought.{Sought}
+use Rattle.edit_plans.specs.Asking.{HasRoom, IsRetaggedIn, IsRootRetagged, unfound}
+use Rattle.edit_plans.specs.Tested.{AsSought, IsRetaggedAt, IsTestedAs, made}
+use Rattle.edit_plans.proofs.Judging.{judged_from, made_tested}
+use Rattle.edit_plans.proofs.PlanAt.{HasParent, child_at}
+
+-- ---- what is found as it is sought
+
+-- the steps select the element with the new tag, and it alone, if its parent's step tests it
+module _ (selector : Selector) (after new : Tree) (p : List ℕ) (c : Scope) (s : Step) (uri local : List ℕ) (selected : SelectsPath selector.steps after p ↔ IsTrue (is_tested c s new)) (only : (p' : List ℕ) → SelectsPath selector.steps after p' → p' ≡ p) (there : at p after ≡ Some new)
+    (scope : scope_at p after ≡ inside c new) (ends_so : selector.end ≡ ends.Attribute uri local) where
+  pub as_sought : (wanted : Option (List ℕ)) → AsSought selector uri local after p wanted ↔ (value_in c s uri local new ≡ wanted)
+  as_sought (Some v) = finds selector.steps after new p c s selected only there scope uri local v
+  as_sought None = (λ nothing. none nothing (value_in c s uri local new) refl, λ is f. some is (found_to selector.steps after new p c s selected only there scope selector uri local refl ends_so f))
+    where
+      none : (Found after selector → ⊥) → (o : Option (List ℕ)) → value_in c s uri local new ≡ o → value_in c s uri local new ≡ None
+      none nothing None is = is
+      none nothing (Some v) is = absurd (nothing (found_from selector.steps after new p c s selected only there scope selector uri local v refl ends_so is))
+
+      some : value_in c s uri local new ≡ None → (v : List ℕ) × (value_in c s uri local new ≡ Some v) → ⊥
+      some is (v, h) = let z = sym is ∙ h in cc
+
+-- ---- below the root
+
+module _ (u : Usage) (t e : Tree) (selector : Selector) (before : List Step) (s : Step) (q : List ℕ) (j : ℕ) (p : HasParent t selector.steps before s q j) (at_p : at (q ++ j ∷ []) t ≡ Some e) (ats : List Attr) (sought : Sought)
+    (ends_so : selector.end ≡ ends.Attribute sought.uri.now sought.local.now) (faultless : Judged u t None) (is_kid : slice_get (kids_of p.parent) j ≡ Some e) (sel : SelectsPath (p.first ∷ (p.steps ++ s ∷ [])) t (q ++ j ∷ [])) where
+  abbrev c : Scope
+  c = scope_at q t
+
+  abbrev after : Tree
+  after = put_over (q ++ j ∷ []) (with_attrs ats e) t
+
+  sought_is : (wanted : Option (List ℕ)) → AsSought selector sought.uri.now sought.local.now after (q ++ j ∷ []) wanted ↔ (value_in c s sought.uri.now sought.local.now (with_attrs ats e) ≡ wanted)
+  sought_is =
+      let selected = selected_retag p.first p.steps s t p.parent e q j ats p.there is_kid at_p sel in
+      let only = only_retag p.first p.steps s t p.parent e q j ats p.there is_kid at_p sel in
+      as_sought selector after (with_attrs ats e) (q ++ j ∷ []) c s sought.uri.now sought.local.now
+      (subst (λ (l : List Step). SelectsPath l after (q ++ j ∷ []) ↔ IsTrue (is_tested c s (with_attrs ats e))) (sym p.are) selected)
+      (subst (λ (l : List Step). (p' : List ℕ) → SelectsPath l after p' → p' ≡ q ++ j ∷ []) (sym p.are) only)
+      (there_retag p.first p.steps s t p.parent e q j ats p.there is_kid at_p sel) (scope_retag p.first p.steps s t p.parent e q j ats p.there is_kid at_p sel) ends_so
+
+  pub retag_is : (r : Result ℕ EditRefusal) → IsRetaggedIn (kind_at u t q) c s p.parent j (tag_with ats e) sought q r → IsRetaggedAt u t selector (q ++ j ∷ []) e ats sought r
+  retag_is r (inl h) = inl (h.0, λ l. h.1 ((sought_is (option_copied sought.value)).0 l))
+  retag_is r (inr (inl h)) = inr ((sought_is (option_copied sought.value)).1 h.1, (Some Invalid, ((λ v. h.2 ((valid_retag u t p.parent e q j ats p.there is_kid at_p faultless.0).0 v)), h.0)))
+  retag_is r (inr (inr h)) =
+      let row = kind_at u t q in
+      inr (
+        (sought_is (option_copied sought.value)).1 h.0,
+        judged_from (AttrsFormed row c (tag_with ats e)) row c (remove (kids_of p.parent) j) (tag_with ats e) q j u after r ((valid_retag u t p.parent e q j ats p.there is_kid at_p faultless.0).1 h.1) (formed_retag u t p.parent e q j ats p.there is_kid at_p faultless.1)
+            (λ kind is found. (first_retag u t p.parent e q j ats p.there is_kid at_p faultless.2 kind is found).0) (foreign_retag u t p.parent e q j ats p.there is_kid at_p faultless.2) h.2,
+      )
+
+-- the same by what is answered at the parent, or want of memory
+pub retag_by : (u : Usage) (t e : Tree) (selector : Selector) (before : List Step) (s : Step) (q : List ℕ) (j : ℕ) (p : HasParent t selector.steps before s q j) (ats : List Attr) (sought : Sought) → selector.end ≡ ends.Attribute sought.uri.now sought.local.now → Judged u t None → at (q ++ j ∷ []) t ≡ Some e → SelectsPath selector.steps t (q ++ j ∷ [])
+    → (found : Result ℕ EditRefusal) → OrMemory (λ r. (parent : Tree) → at q t ≡ Some parent → IsRetaggedIn (kind_at u t q) (scope_at q t) s parent j (tag_with ats e) sought q r) found → OrMemory (IsRetaggedAt u t selector (q ++ j ∷ []) e ats sought) found
+retag_by u t e selector before s q j p ats sought ends_so faultless at_p sel found (inl none) = inl none
+retag_by u t e selector before s q j p ats sought ends_so faultless at_p sel found (inr h) =
+    let kid = p.selects.this.kid in
+    let same : kid ≡ e = same_Some kid e (sym (child_at t p.parent kid q j p.there p.selects.this.there) ∙ at_p) in
+    let is_kid = p.selects.this.there ∙ ap (λ (x : Tree). Some x) same in
+    inr (retag_is u t e selector before s q j p at_p ats sought ends_so faultless is_kid (subst (λ (l : List Step). SelectsPath l t (q ++ j ∷ [])) p.are sel) found (h p.parent p.there))
+
+-- the new tag is as low as an element with no child
+pub tag_room : (t e tag : Tree) (q : List ℕ) (j : ℕ) (ats : List Attr) → height t ≤ 64 → at (q ++ j ∷ []) t ≡ Some e → tag ≡ tag_with ats e → HasRoom q tag
+tag_room t e tag q j ats low at_p is =
+    let deep = height-at (q ++ j ∷ []) e t at_p in
+    let long = length-append q (j ∷ []) in
+    subst (λ (x : Tree). HasRoom q x) (sym is) (omega arith)
+
+-- ---- the root
+
+pub root_alone : (t : Tree) (all before : List Step) (s : Step) → all ≡ before ++ s ∷ [] → SelectsPath all t [] → all ≡ s ∷ []
+root_alone t all [] s are h = are
+root_alone t all (first ∷ steps) s are h = absurd (no_shorter steps s _ _ (subst (λ (l : List Step). SelectsPath l t []) are h).1.2)
+
+-- a step that selects the root selects nothing below any
+pub only_the_root : (t new : Tree) (all before : List Step) (s : Step) → all ≡ before ++ s ∷ [] → SelectsPath all t [] → (p : List ℕ) → SelectsPath all new p → p ≡ []
+only_the_root t new all before s are h p h' = by p (subst (λ (l : List Step). SelectsPath l new p) (root_alone t all before s are h) h')
+  where
+    by : (p : List ℕ) → SelectsPath (s ∷ []) new p → p ≡ []
+    by [] x = refl
+    by (n ∷ p) x = absurd x.1.2
+
+-- another root, by what is answered of it
+pub root_over : (u : Usage) (t new : Tree) (all : List Step) (found : Result ℕ EditRefusal) (result : Result Change EditRefusal) → OrMemory (IsTestedAs CannotInsert (SelectsPath all new []) u new) found → result ≡ made (Replace [] new) found
+    → OrMemory (IsTested CannotInsert (LawfulOver all t new []) u t (Replace [] new)) result
+root_over u t new all found result (inl none) is = inl (is ∙ ap (made (Replace [] new)) none)
+root_over u t new all found result (inr h) is =
+    inr (subst (λ (r : Result Change EditRefusal). IsTested CannotInsert (LawfulOver all t new []) u t (Replace [] new) r) (sym is) (made_tested CannotInsert (LawfulOver all t new []) u t (Replace [] new) found h))
+
+pub root_retag_is : (u : Usage) (t : Tree) (selector : Selector) (s : Step) (ats : List Attr) (sought : Sought) (r : Result ℕ EditRefusal) → selector.steps ≡ s ∷ [] → SelectsPath selector.steps t [] → selector.end ≡ ends.Attribute sought.uri.now sought.local.now → Judged u t None
+    → IsRootRetagged u s (tag_with ats t) sought r → IsRetaggedAt u t selector [] t ats sought r
+root_retag_is u t selector s ats sought r are sel ends_so faultless h = by h
+  where
+    new : Tree
+    new = with_attrs ats t
+
+    sel_one : SelectsPath (s ∷ []) t []
+    sel_one = subst (λ (l : List Step). SelectsPath l t []) are sel
+
+    sought_is : AsSought selector sought.uri.now sought.local.now (with_attrs ats t) [] (option_copied sought.value) ↔ (value_in [] s sought.uri.now sought.local.now (with_attrs ats t) ≡ option_copied sought.value)
+    sought_is =
+        as_sought selector (with_attrs ats t) (with_attrs ats t) [] [] s sought.uri.now sought.local.now
+        (subst (λ (l : List Step). SelectsPath l (with_attrs ats t) [] ↔ IsTrue (is_tested [] s (with_attrs ats t))) (sym are) (selected_root s t ats sel_one))
+        (subst (λ (l : List Step). (p' : List ℕ) → SelectsPath l (with_attrs ats t) p' → p' ≡ []) (sym are) (only_root s t ats sel_one)) refl refl ends_so (option_copied sought.value)
+
+    by : IsRootRetagged u s (tag_with ats t) sought r → IsRetaggedAt u t selector [] t ats sought r
+    by (inl x) = inl (x.0, λ l. x.1 (sought_is.0 l))
+    by (inr (inl x)) = inr (sought_is.1 x.1, (Some Invalid, ((λ v. x.2 ((valid_root u t ats faultless.0).0 v)), x.0)))
+    by (inr (inr x)) = inr (sought_is.1 x.1, (None, (((valid_root u t ats faultless.0).1 x.2, faultless.1, faultless.2), (0, x.0))))
+
+-- ---- the plans
+
+-- what the steps select is there
+pub selected_there : (steps : List Step) (t : Tree) (p : List ℕ) → SelectsPath steps t p → None ≡ at p t → ⊥
+selected_there steps t p sel none = let there = subst (λ (o : Option Tree). IsSome o) (sym none) (path_there steps t p sel) in cc
+
+-- the writing of an attribute
+pub writing_is : (u : Usage) (t e : Tree) (selector : Selector) (p : List ℕ) (uri local value : List ℕ) (name : Name) (found : Result ℕ EditRefusal) → at p t ≡ Some e
+    → IsTestedAs CannotInsert (FindsValue selector.steps uri local (put_over p (with_attrs (with_attr name value e.attrs) e) t) p value) u (put_over p (with_attrs (with_attr name value e.attrs) e) t) found
+    → IsWriting u t selector.steps uri local p value (Some name) (made (SetAttr p name value) found)
+writing_is u t e selector p uri local value name found there h =
+    let same : set_at p name value t ≡ put_over p (write_attr name value e) t = as_exchange p (write_attr name value) e t there in
+    made_tested CannotInsert (FindsValue selector.steps uri local (set_at p name value t) p value) u t (SetAttr p name value) found
+    (subst (λ (x : Tree). IsTestedAs CannotInsert (FindsValue selector.steps uri local x p value) u x found) (sym same) h)
+
+-- the same by what is answered of the new tag, or want of memory
+as_value : (u : Usage) (after : Tree) (selector : Selector) (p : List ℕ) (uri uri' local local' value : List ℕ) (wanted : Option (List ℕ)) (found : Result ℕ EditRefusal) → uri' ≡ uri → local' ≡ local → wanted ≡ Some value
+    → IsTestedAs (unfound wanted) (AsSought selector uri' local' after p wanted) u after found → IsTestedAs CannotInsert (FindsValue selector.steps uri local after p value) u after found
+as_value u after selector p uri uri' local local' value wanted found same_uri same_local is h =
+    subst (λ (x : List ℕ). IsTestedAs CannotInsert (FindsValue selector.steps x local after p value) u after found) same_uri
+    (subst (λ (x : List ℕ). IsTestedAs CannotInsert (FindsValue selector.steps uri' x after p value) u after found) same_local
+    (subst (λ (o : Option (List ℕ)). IsTestedAs (unfound o) (AsSought selector uri' local' after p o) u after found) is h))
+
+module _ (u : Usage) (t e : Tree) (selector : Selector) (p : List ℕ) (uri local value : List ℕ) (there : at p t ≡ Some e) where
+  pub value_plan : (name : Name) (ats : List Attr) (sought : Sought) (found : Result ℕ EditRefusal) (result : Result Change EditRefusal) → written_name (scope_at p t) uri local e.attrs ≡ Some name → ats ≡ with_attr name value e.attrs
+      → sought.uri.now ≡ uri → sought.local.now ≡ local → option_copied sought.value ≡ Some value
+      → OrMemory (IsRetaggedAt u t selector p e ats sought) found → result ≡ made (SetAttr p name value) found → OrMemory (IsValuePlan u t selector.steps uri local p value) result
+  value_plan name ats sought found result has_name ats_are same_uri same_local wanted (inl none) is = inl (is ∙ ap (made (SetAttr p name value)) none)
+  value_plan name ats sought found result has_name ats_are same_uri same_local wanted (inr h) is =
+      let after = put_over p (with_attrs ats e) t in
+      let tested = as_value u after selector p uri sought.uri.now local sought.local.now value (option_copied sought.value) found same_uri same_local wanted h in
+      let written = subst (λ (xs : List Attr). IsTestedAs CannotInsert (FindsValue selector.steps uri local (put_over p (with_attrs xs e) t) p value) u (put_over p (with_attrs xs e) t) found) ats_are tested in
+      let plan = writing_is u t e selector p uri local value name found there written in
+      inr (record {
+        element = e;
+        there = there;
+        plan = subst (λ (o : Option Name). IsWriting u t selector.steps uri local p value o result) (sym has_name)
+            (subst (λ (r : Result Change EditRefusal). IsWriting u t selector.steps uri local p value (Some name) r) (sym is) plan);
+      })
+
+-- the dropping of one
+pub dropping_is : (u : Usage) (t e : Tree) (selector : Selector) (p : List ℕ) (name : Name) (found : Result ℕ EditRefusal) → at p t ≡ Some e
+    → IsTestedAs CannotDelete (Found (put_over p (with_attrs (without_attr name e.attrs) e) t) selector → ⊥) u (put_over p (with_attrs (without_attr name e.attrs) e) t) found
+    → IsTested CannotDelete (FindsNothingAfter selector t (DropAttr p name)) u t (DropAttr p name) (made (DropAttr p name) found)
+dropping_is u t e selector p name found there h =
+    let same : drop_at p name t ≡ put_over p (drop_attr name e) t = as_exchange p (drop_attr name) e t there in
+    made_tested CannotDelete (FindsNothingAfter selector t (DropAttr p name)) u t (DropAttr p name) found
+    (subst (λ (x : Tree). IsTestedAs CannotDelete (Found x selector → ⊥) u x found) (sym same) h)
+
+-- what is found, and its plan
+found_attr : (t e : Tree) (selector : Selector) (p : List ℕ) (uri local : List ℕ) (attr : Attr) → selector.end ≡ ends.Attribute uri local → SelectsPath selector.steps t p → at p t ≡ Some e → find (is_attr (scope_at p t) uri local) e.attrs ≡ Some attr → Found t selector
+found_attr t e selector p uri local attr ends_so sel there that = record {
+  path = p;
+  element = e;
+  selects = sel;
+  there = there;
+  has = subst (λ x. IsTrue (has_end x (scope_at p t) e)) (sym ends_so) (found_any (is_attr (scope_at p t) uri local) e.attrs attr that);
+}
+
+pub drop_plan : (u : Usage) (t e : Tree) (selector : Selector) (p : List ℕ) (uri local : List ℕ) (attr : Attr) (result : Result Change EditRefusal) → selector.end ≡ ends.Attribute uri local → SelectsPath selector.steps t p → at p t ≡ Some e → find (is_attr (scope_at p t) uri local) e.attrs ≡ Some attr
+    → IsTested CannotDelete (FindsNothingAfter selector t (DropAttr p attr.name)) u t (DropAttr p attr.name) result → IsDeletePlan u t selector result
+unfolding found_attr
+drop_plan u t e selector p uri local attr result ends_so sel there that h =
+    inr (found_attr t e selector p uri local attr ends_so sel there that, subst (λ x. IsPlanFor u t selector p e x result) (sym ends_so) (record { attr = attr; that = that; then = h }))
+
+pub drop_nothing : (u : Usage) (t e : Tree) (selector : Selector) (p : List ℕ) (uri local : List ℕ) → selector.end ≡ ends.Attribute uri local → SelectsPath selector.steps t p → at p t ≡ Some e → find (is_attr (scope_at p t) uri local) e.attrs ≡ None → IsDeletePlan u t selector (Err NotFound)
+drop_nothing u t e selector p uri local ends_so sel there none = inl (refl, by)
+  where
+    by : Found t selector → ⊥
+    by f =
+        let path : f.path ≡ p = one_path selector.steps t f.path p f.selects sel in
+        let element : f.element ≡ e = same_Some _ _ (sym f.there ∙ ap (λ (l : List ℕ). at l t) path ∙ there) in
+        let has = subst (λ x. IsTrue (has_end x (scope_at p t) e)) ends_so
+        (subst (λ (x : Tree). IsTrue (has_end selector.end (scope_at p t) x)) element (subst (λ (l : List ℕ). IsTrue (has_end selector.end (scope_at l t) f.element)) path f.has)) in
+        let a = any_found (is_attr (scope_at p t) uri local) e.attrs has in
+        let z = sym none ∙ a.1 in cc

@@ -1,0 +1,13 @@
+use Rattle.std.proofs.Common.{sym, subst}
+use Rattle.plan_words.specs.Plans.{OrMemory}
+use Rattle.edit_plans.specs.declared.asking.Asked.{Asked}
+use Rattle.edit_plans.specs.Asking.{Answers}
+use Rattle.edit_plans.proofs.asking.answer_in.Goals as goal
+
+pub returns-in-Exchange : goal.returns-in-Exchange
+returns-in-Exchange c =
+    subst (λ (a : Asked). OrMemory (Answers c.args.row c.args.scope.now c.args.step.now c.args.parent.now c.args.place.now a) c.exchanged_in.result) (sym c.in-Exchange.is) c.exchanged_in.ensures
+
+pub returns-in-Retag : goal.returns-in-Retag
+returns-in-Retag c =
+    subst (λ (a : Asked). OrMemory (Answers c.args.row c.args.scope.now c.args.step.now c.args.parent.now c.args.place.now a) c.retagged_in.result) (sym c.in-Retag.is) c.retagged_in.ensures

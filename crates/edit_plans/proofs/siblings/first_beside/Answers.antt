@@ -1,0 +1,42 @@
+use Rattle.std.proofs.Common.{◌++◌, ◌∷◌, [], ℕ, List, Option, Some, ap, ◌∙◌, subst, add-one}
+use Rattle.xml_tree.specs.Tree.{kids_of}
+use Rattle.usage_docs.specs.declared.keys.Clash.{Clash}
+use Rattle.usage_docs.specs.Reading.Siblings.{IsFirst}
+use Rattle.plan_words.specs.Beside.{ClashesInside}
+use Rattle.edit_plans.specs.Asking.{others}
+use Rattle.plan_words.proofs.FirstBeside.{first_in_new, first_behind, no_first}
+use Rattle.edit_plans.proofs.TwinLemmas.{none_before, twin_at}
+use Rattle.edit_plans.proofs.siblings.first_beside.Goals as goal
+
+pub returns-in-Some-2 : goal.returns-in-Some-2
+returns-in-Some-2 c =
+    let row = c.args.row in
+    let scope = c.args.scope.now in
+    let xs = others c.args.siblings.now.left_out (kids_of c.args.siblings.now.parent.now) in
+    let new = c.args.new.now in
+    let gap = c.args.gap in
+    let before = none_before row scope xs new gap c.requires.gap c.requires.unique c.twin_of-twin.result (twin_at row scope xs new c.twin_of-twin.result c.twin_of-twin.ensures.found) c.twin_of-twin.ensures.none (c.key_before.ensures.none c.in_default.is) in
+    let first = subst (λ (o : Option Clash). IsFirst (ClashesInside row scope new) c.below-here.result o) c.in-Some-2.is (c.in_ok-clash.ensures {u = tt}) in
+    first_in_new row scope xs new gap c.args.place.now c.in-Some-2.clash before (subst (λ (z : List ℕ). IsFirst (ClashesInside row scope new) z (Some c.in-Some-2.clash)) c.below-here.ensures first)
+
+pub returns-in-Some-twin : goal.returns-in-Some-twin
+returns-in-Some-twin c =
+    let row = c.args.row in
+    let scope = c.args.scope.now in
+    let xs = others c.args.siblings.now.left_out (kids_of c.args.siblings.now.parent.now) in
+    let new = c.args.new.now in
+    let gap = c.args.gap in
+    let twin = c.in-Some-twin.twin in
+    let clash : Clash = record { path = c.below.result; key = twin.key } in
+    let path = c.below.ensures ∙ ap (λ (n : ℕ). c.args.place.now ++ n ∷ []) (add-one twin.child) in
+    let inside = subst (λ (o : Option Clash). IsFirst (ClashesInside row scope new) c.below-here.result o) c.in_default-2.is (c.in_ok-clash.ensures {u = tt}) in
+    first_behind row scope xs new gap c.args.place.now twin.child clash c.requires.unique c.requires.gap path (c.key_before.ensures.none c.in_default.is twin c.in-Some-twin.is) (twin_at row scope xs new c.twin_of-twin.result c.twin_of-twin.ensures.found twin c.in-Some-twin.is) inside
+
+pub returns-in-None : goal.returns-in-None
+returns-in-None c =
+    let row = c.args.row in
+    let scope = c.args.scope.now in
+    let xs = others c.args.siblings.now.left_out (kids_of c.args.siblings.now.parent.now) in
+    let new = c.args.new.now in
+    let inside = subst (λ (o : Option Clash). IsFirst (ClashesInside row scope new) c.below-here.result o) c.in_default-2.is (c.in_ok-clash.ensures {u = tt}) in
+    no_first row scope xs new c.args.gap c.args.place.now (c.twin_of-twin.ensures.none c.in-None.is) inside

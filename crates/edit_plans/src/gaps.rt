@@ -1,0 +1,206 @@
+//! The last gap of an element at which a step selects a new child and the element stays valid: one
+//! pass over the children.
+ghost use Rattle.std.specs.Prelude.{◌≡◌, ◌↔◌, ◌<◌, ◌+◌, ◌^◌, ℕ, IsTrue, IfOk, None, cond, length};
+ghost use Rattle.std.specs.Option.{ForSome};
+ghost use Rattle.step_laws.specs.Selection.{Matches, is_at_position};
+ghost use Rattle.step_laws.specs.Places.{IsFree, Lawful, PlanIs, plan_with};
+ghost use Rattle.xml_tree.specs.Tree.{kids_of};
+ghost use Rattle.node_select.specs.Selection.{is_named, is_tested};
+ghost use Rattle.usage_docs.specs.Validity.{ValidChild};
+ghost use Rattle.edit_plans.specs.Sides.{FitsIn, fits_between, part_in};
+ghost use Rattle.edit_plans.specs.declared.gaps.NoGap.TheVariants.{Unlawful, Invalid};
+
+use node_select::Step;
+use std::alloc::Global;
+use usage_docs::{END, Kind, follows, is_valid_child, part_of};
+use xml_tree::{Around, Declared, Element, NoMemory, Node};
+
+/// Why no gap is taken.
+#[derive(Clone, Copy, Debug, Drop)]
+pub(crate) enum NoGap {
+    /// The step would select the new child at none.
+    Unlawful,
+    /// It would at some, and the element would be valid at none of these.
+    Invalid,
+}
+
+// The answer with one gap more.
+fn with_gap(
+    answer: Result<usize, NoGap>,
+    gap: usize,
+    lawful: bool,
+    valid: bool,
+) -> Result<usize, NoGap>
+    ensures { result ≡ plan_with Invalid answer gap lawful valid }
+{
+    if !lawful {
+        return answer;
+    }
+    if valid {
+        return Ok(gap);
+    }
+    match answer {
+        Ok(before) => Ok(before),
+        Err(_) => Err(NoGap::Invalid),
+    }
+}
+
+/// The part of a child by the row of its parent, if there is one.
+pub(crate) fn part_in(alloc: Global, row: Option<Kind>, scope: &Around<'_>, kid: &Element) -> u8
+    ensures { result ≡ part_in row scope.now kid.now }
+{
+    match row {
+        None => 0,
+        Some(row) => {
+            let declared = Declared::new(alloc, kid.decls());
+            part_of(row, &(&*scope).inside(&declared), kid.name())
+        }
+    }
+}
+
+/// Whether a child of this part may stand between two others.
+pub(crate) fn fits(row: Option<Kind>, itself: bool, before: u8, part: u8, after: u8) -> bool
+    ensures { result ≡ fits_between row itself before part after }
+{
+    match row {
+        None => true,
+        Some(row) => itself && (follows(row, before, part) && follows(row, part, after)),
+    }
+}
+
+/// Whether a new child is valid by itself, where there is a row.
+///
+/// # Errors
+/// `NoMemory` for want of memory.
+pub(crate) fn is_valid_in(
+    alloc: Global,
+    row: Option<Kind>,
+    scope: &Around<'_>,
+    new: &Element,
+) -> Result<bool, NoMemory>
+    ensures { IfOk result (λ valid. ForSome row (λ kind. IsTrue valid ↔ ValidChild kind scope.now new.now)) }
+{
+    match row {
+        None => Ok(true),
+        Some(row) => is_valid_child(alloc, row, scope, new),
+    }
+}
+
+/// Whether a child passes both tests of a step.
+pub(crate) fn passes(alloc: Global, scope: &Around<'_>, step: &Step, kid: &Element) -> bool
+    ensures { IsTrue result ↔ (IsTrue (is_named scope.now step.now kid.now) × IsTrue (is_tested scope.now step.now kid.now)) }
+{
+    step.names(alloc, scope, kid) && step.tests(alloc, scope, kid)
+}
+
+// Whether one that has so many of its name before it is at the position.
+fn is_at_position(position: Option<u64>, before: u64) -> bool
+    requires { before + 1 < 2 ^ 64 }
+    ensures { result ≡ is_at_position position before }
+{
+    match position {
+        None => true,
+        Some(n) => before + 1 == n,
+    }
+}
+
+// One more, if it is.
+fn count(before: u64, more: bool) -> u64
+    requires { before + 1 < 2 ^ 64 }
+    ensures { result ≡ before + cond more 1 0 }
+{
+    if more { before + 1 } else { before }
+}
+
+// Whether some child passes both tests of a step.
+fn some_passes(alloc: Global, scope: &Around<'_>, step: &Step, parent: &Element) -> bool
+    ensures { IsTrue result ↔ ((k : ℕ) × Matches (is_named scope.now step.now) (is_tested scope.now step.now) None (kids_of parent.now) k) }
+{
+    let mut i: usize = 0;
+    for node in parent.nodes() {
+        if let Node::Elem(kid) = node {
+            if passes(alloc, scope, step, kid) {
+                return true;
+            }
+            i += 1;
+        }
+    }
+    false
+}
+
+// Whether no child stands in a new one's way: there is a position, or none passes both tests.
+fn is_free(alloc: Global, scope: &Around<'_>, step: &Step, parent: &Element) -> bool
+    ensures { IsTrue result ↔ IsFree (is_named scope.now step.now) (is_tested scope.now step.now) step.now.position (kids_of parent.now) }
+{
+    match step.position {
+        None => !some_passes(alloc, scope, step, parent),
+        Some(_) => true,
+    }
+}
+
+// The last gap, where the new child passes both tests, and nothing stands in its way.
+fn last_gap(
+    alloc: Global,
+    row: Option<Kind>,
+    scope: &Around<'_>,
+    step: &Step,
+    parent: &Element,
+    new: &Element,
+    itself: bool,
+) -> Result<usize, NoGap>
+    requires named { IsTrue (is_named scope.now step.now new.now) }
+    requires tested { IsTrue (is_tested scope.now step.now new.now) }
+    requires free { IsFree (is_named scope.now step.now) (is_tested scope.now step.now) step.now.position (kids_of parent.now) }
+    requires itself { ForSome row (λ kind. IsTrue itself ↔ ValidChild kind scope.now new.now) }
+    ensures { PlanIs Unlawful Invalid (Lawful (is_named scope.now step.now) (is_tested scope.now step.now) step.now.position (kids_of parent.now) new.now)
+        (FitsIn row scope.now parent.now.content new.now) (length (kids_of parent.now) + 1) result }
+{
+    let part = part_in(alloc, row, scope, new);
+    let mut answer = Err(NoGap::Unlawful);
+    let mut before: u64 = 0;
+    let mut prev: u8 = 0;
+    let mut i: usize = 0;
+    for node in parent.nodes() {
+        if let Node::Elem(kid) = node {
+            let next = part_in(alloc, row, scope, kid);
+            let lawful = is_at_position(step.position, before);
+            let valid = fits(row, itself, prev, part, next);
+            answer = with_gap(answer, i, lawful, valid);
+            before = count(before, step.names(alloc, scope, kid));
+            prev = next;
+            i += 1;
+        }
+    }
+    let lawful = is_at_position(step.position, before);
+    let valid = fits(row, itself, prev, part, END);
+    with_gap(answer, i, lawful, valid)
+}
+
+/// The last gap of an element, in the scope inside it and by its row, if it has one, at which the
+/// step selects the new child and the element stays valid.
+///
+/// # Errors
+/// `NoMemory` for want of memory.
+pub(crate) fn choose_gap(
+    alloc: Global,
+    row: Option<Kind>,
+    scope: &Around<'_>,
+    step: &Step,
+    parent: &Element,
+    new: &Element,
+) -> Result<Result<usize, NoGap>, NoMemory>
+    ensures { IfOk result (λ plan. PlanIs Unlawful Invalid (Lawful (is_named scope.now step.now) (is_tested scope.now step.now) step.now.position (kids_of parent.now) new.now)
+        (FitsIn row scope.now parent.now.content new.now) (length (kids_of parent.now) + 1) plan) }
+{
+    if !step.names(alloc, scope, new) {
+        return Ok(Err(NoGap::Unlawful));
+    }
+    if !step.tests(alloc, scope, new) {
+        return Ok(Err(NoGap::Unlawful));
+    }
+    if !is_free(alloc, scope, step, parent) {
+        return Ok(Err(NoGap::Unlawful));
+    }
+    let itself = is_valid_in(alloc, row, scope, new)?;
+    Ok(last_gap(alloc, row, scope, step, parent, new, itself))
+}

@@ -1,0 +1,79 @@
+//! Whether another root may stand in the place of the root, or the root may have other attributes
+//! (RFC 4825, sections 8.2.4 and 8.4).
+ghost use Rattle.std.specs.Prelude.{◌≡◌, ◌≤◌, ◌∷◌, [], ℕ, List};
+ghost use Rattle.xml_tree.specs.Tree.{height};
+ghost use Rattle.node_select.specs.Selection.{SelectsPath};
+ghost use Rattle.plan_words.specs.Plans.{OrMemory, refusal};
+ghost use Rattle.plan_words.specs.declared.refusal.EditRefusal.TheVariants.{CannotInsert};
+ghost use Rattle.edit_plans.specs.Asking.{IsRootRetagged};
+ghost use Rattle.edit_plans.specs.Tested.{IsTestedAs};
+
+use crate::retagging::{Sought, is_found_in, unfound};
+use doc_names::Usage;
+use node_select::{Step, select_steps};
+use plan_words::EditRefusal;
+use std::alloc::Global;
+use usage_docs::{Fault, attrs_pass, judge, root_kind};
+use xml_tree::{Around, Declared, Element};
+
+// The refusal by the first fault of a document.
+fn refusal(fault: Fault) -> EditRefusal
+    ensures { result ≡ refusal fault }
+{
+    match fault {
+        Fault::Invalid => EditRefusal::Schema,
+        Fault::Unformed => EditRefusal::Constraint,
+        Fault::Repeated(clash) => EditRefusal::Unique(clash),
+    }
+}
+
+/// What is answered of another root, where the steps select the root and nothing below it.
+///
+/// # Errors
+/// `CannotInsert` where they wouldn't select the new one; then `Schema`, `Constraint` and `Unique`
+/// by what is in it. `NoMemory` for want of memory.
+pub(crate) fn root_exchanged(
+    alloc: Global,
+    usage: Usage,
+    steps: &[Step],
+    new: &Element,
+) -> Result<usize, EditRefusal>
+    requires alone { (p : List ℕ) → SelectsPath steps.now new.now p → p ≡ [] }
+    requires low { height new.now ≤ 64 }
+    ensures { OrMemory (IsTestedAs CannotInsert (SelectsPath steps.now new.now []) usage new.now) result }
+{
+    if select_steps(alloc, new, steps).is_none() {
+        return Err(EditRefusal::CannotInsert);
+    }
+    match judge(alloc, usage, new)? {
+        Some(fault) => Err(refusal(fault)),
+        None => Ok(0),
+    }
+}
+
+/// What is answered of the root, which the step selects and which is valid, within the constraints
+/// and unique, with this tag.
+///
+/// # Errors
+/// `CannotInsert` or `CannotDelete` where the attribute wouldn't be found as it should be, `Schema`
+/// where it may not stand; `NoMemory` for want of memory.
+pub(crate) fn root_retagged(
+    alloc: Global,
+    usage: Usage,
+    step: &Step,
+    tag: &Element,
+    sought: &Sought<'_>,
+) -> Result<usize, EditRefusal>
+    ensures { OrMemory (IsRootRetagged usage step.now tag.now sought.now) result }
+{
+    if !is_found_in(alloc, &Around::empty(), step, tag, sought)? {
+        return Err(unfound(sought.value));
+    }
+    let declared = Declared::indexed(alloc, tag.decls())?;
+    let empty = Around::empty();
+    let inside = empty.inside(&declared);
+    if !attrs_pass(root_kind(usage), &inside, tag.attrs()) {
+        return Err(EditRefusal::Schema);
+    }
+    Ok(0)
+}

@@ -1,0 +1,208 @@
+//! The change that a PUT of an attribute makes, or why it makes none (RFC 4825, sections 8.2.1 to
+//! 8.2.5; Namespaces in XML 1.0, section 6.2).
+ghost use Rattle.std.specs.Prelude.{◌≡◌, ◌≤◌, Some, IfOk, option_map, None};
+ghost use Rattle.std.specs.List.{find};
+ghost use Rattle.std.specs.Str.{bytes_eq};
+ghost use Rattle.xml_tree.specs.Attributes.{with_attr};
+ghost use Rattle.xml_tree.specs.Tree.{height};
+ghost use Rattle.xml_tree.specs.Scopes.{xml_uri};
+ghost use Rattle.node_select.specs.Selection.{SelectsPath};
+ghost use Rattle.plan_words.specs.Attributes.{IsAttrPlan, IsValuePlan, is_binding, new_name, new_prefix, written_name};
+ghost use Rattle.plan_words.specs.Plans.{OrMemory};
+ghost use Rattle.plan_words.specs.Spots.{IsSpotOf};
+ghost use Rattle.plan_words.specs.Tags.{tag_with};
+ghost use Rattle.plan_words.specs.declared.spot.Spot.TheVariants.{Value};
+ghost use Rattle.node_select.specs.declared.selector.End.TheVariants as ends;
+ghost use Rattle.usage_docs.specs.Judging.{Judged};
+ghost use Rattle.edit_ops.specs.declared.change.Change.TheVariants.{SetAttr};
+ghost use Rattle.edit_plans.specs.Tested.{made};
+
+use crate::attributes::retagged;
+use crate::putting::made;
+use crate::retagging::Sought;
+use doc_names::Usage;
+use edit_ops::{Change, tag_of};
+use node_select::{End, Selector, find_attr};
+use plan_words::EditRefusal;
+use std::alloc::Global;
+use xml_tree::{Decl, Element, Name, NoMemory, Path, Scope, Text, element_at};
+
+// Whether it is a binding of the namespace to a prefix, which isn't the empty one.
+fn is_binding(uri: &Text, decl: &Decl) -> bool
+    ensures { result ≡ is_binding uri.now decl.now }
+{
+    !decl.prefix.is("") && decl.uri.is(uri.as_str())
+}
+
+// The prefix of the first binding of a namespace.
+fn bound_prefix(alloc: Global, bindings: &[Decl], uri: &Text) -> Result<Option<Text>, NoMemory>
+    ensures { IfOk result (λ prefix. prefix ≡ option_map (λ d. d.prefix) (find (is_binding uri.now) bindings.now)) }
+{
+    for decl in bindings {
+        if is_binding(uri, decl) {
+            let prefix = decl.prefix.copy(alloc)?;
+            return Ok(Some(prefix));
+        }
+    }
+    Ok(None)
+}
+
+// Whether it is the namespace that `xml` is bound to everywhere.
+fn is_xml_space(scope: &Scope<'_>, uri: &Text) -> bool
+    ensures { result ≡ bytes_eq uri.now xml_uri }
+{
+    match scope.resolve("xml") {
+        Some(space) => uri.is(space),
+        None => unreachable!(),
+    }
+}
+
+// The prefix of a new attribute of this namespace, if there is one.
+fn new_prefix(alloc: Global, scope: &Scope<'_>, uri: &Text) -> Result<Option<Text>, NoMemory>
+    ensures { IfOk result (λ prefix. prefix ≡ new_prefix scope.now uri.now) }
+{
+    if uri.is("") {
+        let none = Text::from(alloc, "")?;
+        return Ok(Some(none));
+    }
+    if is_xml_space(scope, uri) {
+        let xml = Text::from(alloc, "xml")?;
+        return Ok(Some(xml));
+    }
+    let bindings = scope.bindings(alloc)?;
+    bound_prefix(alloc, &bindings, uri)
+}
+
+// The name of a new attribute, if there is a prefix for it.
+fn new_name(
+    alloc: Global,
+    scope: &Scope<'_>,
+    uri: &Text,
+    local: &Text,
+) -> Result<Option<Name>, NoMemory>
+    ensures { IfOk result (λ name. name ≡ new_name scope.now uri.now local.now) }
+{
+    match new_prefix(alloc, scope, uri)? {
+        None => Ok(None),
+        Some(prefix) => {
+            let local = local.copy(alloc)?;
+            Ok(Some(Name { prefix, local }))
+        }
+    }
+}
+
+// The name of the written attribute of an element, in the scope at it.
+fn written_name(
+    alloc: Global,
+    scope: &Scope<'_>,
+    element: &Element,
+    uri: &Text,
+    local: &Text,
+) -> Result<Option<Name>, NoMemory>
+    ensures { IfOk result (λ name. name ≡ written_name scope.now uri.now local.now element.now.attrs) }
+{
+    match find_attr(alloc, element, scope, uri.as_str(), local.as_str()) {
+        None => new_name(alloc, scope, uri, local),
+        Some(place) => {
+            let name = element.attrs()[place].name.copy(alloc)?;
+            Ok(Some(name))
+        }
+    }
+}
+
+// The writing of an attribute of the element at a path, where it may be made.
+fn written(
+    path: &Path,
+    name: Name,
+    value: Text,
+    found: Result<usize, EditRefusal>,
+) -> Result<Change, EditRefusal>
+    ensures { result ≡ made (SetAttr path.now name value) found }
+{
+    let change = Change::SetAttr {
+        at: path.copy(),
+        name,
+        value,
+    };
+    made(change, found)
+}
+
+// The tag of an element with an attribute written.
+fn tag_written(
+    alloc: Global,
+    element: &Element,
+    name: &Name,
+    value: &Text,
+) -> Result<Element, NoMemory>
+    ensures { IfOk result (λ tag. tag ≡ tag_with (with_attr name.now value.now element.now.attrs) element.now) }
+{
+    let mut tag = tag_of(alloc, element)?;
+    let name = name.copy(alloc)?;
+    let value = value.copy(alloc)?;
+    tag.set_attr(name, value)?;
+    Ok(tag)
+}
+
+// The plan of the attribute of this namespace and local name of the element at a path.
+fn plan_value(
+    alloc: Global,
+    usage: Usage,
+    root: &Element,
+    selector: &Selector,
+    path: &Path,
+    uri: &Text,
+    local: &Text,
+    value: Text,
+) -> Result<Change, EditRefusal>
+    requires low { height root.now ≤ 64 }
+    requires ends { selector.now.end ≡ ends.Attribute uri.now local.now }
+    requires selected { SelectsPath selector.now.steps root.now path.now }
+    requires faultless { Judged usage root.now None }
+    ensures { OrMemory (IsValuePlan usage root.now selector.now.steps uri.now local.now path.now value) result }
+{
+    let Some(element) = element_at(root, path) else {
+        unreachable!()
+    };
+    let Some(scope) = Scope::at(root, path) else {
+        unreachable!()
+    };
+    let Some(name) = written_name(alloc, &scope, element, uri, local)? else {
+        return Err(EditRefusal::CannotInsert);
+    };
+    let tag = tag_written(alloc, element, &name, &value)?;
+    let sought = Sought::with_value(uri, local, &value);
+    let found = retagged(alloc, usage, root, selector, path, element, &tag, &sought);
+    written(path, name, value, found)
+}
+
+/// The change that a PUT of an attribute makes: the selector ends in an attribute, and its steps
+/// select the element at this path. The document is one that its usage accepts. An attribute that
+/// is there keeps its place and its prefix; a new one stands last, with the least prefix by code
+/// point that its namespace is bound to. Of the document only the way to the element, its
+/// attributes and its siblings are looked at.
+///
+/// # Errors
+/// `CannotInsert` exactly where there is no such prefix, or the address wouldn't find the value
+/// afterwards; then `Schema`, `Constraint`, and `Unique` with the first clash. `NoMemory` for want
+/// of memory.
+pub fn plan_attr(
+    alloc: Global,
+    usage: Usage,
+    root: &Element,
+    selector: &Selector,
+    at: &Path,
+    value: Text,
+) -> Result<Change, EditRefusal>
+    requires low { height root.now ≤ 64 }
+    requires spot { IsSpotOf root.now selector.now (Value at.now) }
+    requires faultless { Judged usage root.now None }
+    ensures by_the_words { OrMemory (IsAttrPlan usage root.now selector.now.steps selector.now.end at.now value) result }
+{
+    match &selector.end {
+        End::Attribute { uri, local } => {
+            plan_value(alloc, usage, root, selector, at, uri, local, value)
+        }
+        End::Element => unreachable!(),
+        End::Namespaces => unreachable!(),
+    }
+}

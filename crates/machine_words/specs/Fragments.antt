@@ -1,0 +1,164 @@
+-- Requests that write an element or an attribute of a document. RFC 4825, sections 8.2.1 to 8.2.5 (PUT) and 8.4 (DELETE), with the conflicts of
+-- section 11 and the entity tags of section 8.5. Which change is made, or why there is none, is said by the plans. The order of the tests is
+-- this server's own: the parent, the conditions, the media type, the body, and then the plan.
+use Rattle.std.specs.Prelude.{◌≡◌, ℕ, suc, ◌-◌, Bool, true, List, [], length, is_some, Option, None, Some, Result, Ok, Err}
+use Rattle.std.specs.Bool.{MatchBool}
+use Rattle.xml_tree.specs.Tree.{Tree}
+use Rattle.xml_tree.specs.Scopes.{scope_around, scope_at}
+use Rattle.xml_tree.specs.declared.names.Decl.{Decl}
+use Rattle.tree_text.specs.Faults.{BodyAnswer, TextAnswer}
+use Rattle.tree_text.specs.declared.fault.TextFault.{TextFault}
+use Rattle.tree_text.specs.declared.fault.ValueFault.{ValueFault}
+use Rattle.tree_text.specs.declared.fault.ValueFault.TheVariants as values
+use Rattle.doc_names.specs.declared.usages.Usage.{Usage}
+use Rattle.doc_names.specs.declared.doc_id.DocId.{DocId}
+use Rattle.node_select.specs.declared.selector.End.TheVariants as ends
+use Rattle.node_select.specs.declared.selector.Selector.{Selector}
+use Rattle.node_texts.specs.Nodes.{found_text, node_media}
+use Rattle.edit_ops.specs.declared.change.Change.{Change}
+use Rattle.notes.specs.Notes.{Note}
+use Rattle.plan_words.specs.declared.spot.Spot.{Spot}
+use Rattle.plan_words.specs.declared.spot.Spot.TheVariants.{Over, Under, Beside, Value}
+use Rattle.plan_words.specs.declared.spot.NoParent.{NoParent}
+use Rattle.plan_words.specs.declared.refusal.EditRefusal.{EditRefusal}
+use Rattle.plan_words.specs.declared.refusal.EditRefusal.TheVariants.{NotFound, CannotInsert, CannotDelete, Schema, Constraint, Unique, NoMemory}
+use Rattle.plan_words.specs.Attributes.{IsAttrPlan, IsWritable}
+use Rattle.plan_words.specs.Deletions.{IsDeletePlan}
+use Rattle.plan_words.specs.Puts.{IsPutPlan}
+use Rattle.plan_words.specs.Spots.{IsSpot}
+use Rattle.conflict_docs.specs.declared.conflicts.ErrorBody.{ErrorBody}
+use Rattle.conflict_docs.specs.declared.conflicts.ErrorBody.TheVariants as conflicts
+use Rattle.reply_text.specs.Heads.{Sent, plain}
+use Rattle.http_wire.specs.declared.request.Request.{Request}
+use Rattle.request_terms.specs.MediaTypes.{has_type}
+use Rattle.xcap_uri.specs.Ancestors.{ancestor_uri}
+use Rattle.store_core.specs.Held.{Content}
+use Rattle.machine_words.specs.Answers.{Answer, Behind, unchanged, conflict, tagged}
+use Rattle.machine_words.specs.Resources.{version_of}
+use Rattle.machine_words.specs.Writing.{change_answer, clash_field, put_reply, puts_deeper, text_conflict, write_stop}
+
+-- ---- the attribute that a selector ends in
+
+-- where it ends in one, it may be written
+abbrev pub MayBeWritten : Selector → Type 0
+MayBeWritten selector = (uri local : List ℕ) → selector.end ≡ ends.Attribute uri local → IsWritable uri local
+
+-- ---- what a plan is answered
+
+-- why a node is neither put nor deleted
+abbrev pub plan_refused : EditRefusal → Bool → Sent
+plan_refused NotFound closes = plain 404 closes
+plan_refused CannotInsert closes = conflict conflicts.CannotInsert closes
+plan_refused CannotDelete closes = conflict conflicts.CannotDelete closes
+plan_refused Schema closes = conflict conflicts.Schema closes
+plan_refused Constraint closes = conflict conflicts.Constraint closes
+plan_refused (Unique clash) closes = conflict (conflicts.Unique (clash_field clash)) closes
+plan_refused NoMemory closes = plain 503 closes
+
+-- a planned change is asked of the store, whose note the reply goes by
+abbrev pub plan_answer : Content → DocId → Bool → (Note → Sent) → Result Change EditRefusal → Answer
+plan_answer c id closes reply (Err why) = unchanged (plan_refused why closes)
+plan_answer c id closes reply (Ok change) = change_answer c id change closes reply
+
+-- ---- PUT (RFC 4825, sections 8.2.1 to 8.2.5)
+
+-- the declarations in scope around an element that is put at a spot
+abbrev pub scope_for : Tree → Spot → List (List Decl)
+scope_for t (Over p) = scope_around p t
+scope_for t (Under q) = scope_at q t
+scope_for t Beside = []
+scope_for t (Value p) = []
+
+-- how many levels it may have there: a document has at most 64
+abbrev pub levels_for : Spot → ℕ
+levels_for (Over p) = 64 - length p
+levels_for (Under q) = 64 - suc (length q)
+levels_for Beside = 64
+levels_for (Value p) = 0
+
+-- whether the node is there before, so that it is exchanged
+abbrev pub is_there : Tree → Selector → Bool
+is_there t selector = is_some (found_text t selector)
+
+-- a body isn't UTF-8, or doesn't spell the value of an attribute
+abbrev pub value_conflict : ValueFault → ErrorBody
+value_conflict values.NotUtf8 = conflicts.NotUtf8
+value_conflict (values.NotValue place) = conflicts.NotXmlAttValue
+
+-- a node of a document that is held with this tree
+module _ (c : Content) (id : DocId) (usage : Usage) (selector : Selector) (t : Tree) where
+  -- the answer to a planned PUT: the node is new, or takes the place of what was there
+  abbrev pub put_planned : Request → Result Change EditRefusal → Answer
+  put_planned request plan = plan_answer c id request.closes (put_reply (is_there t selector) request.closes) plan
+
+  -- the answer to a text, which spells an element or has a fault
+  abbrev pub PutsElementText : Spot → Result Tree TextFault → Request → Answer → Type 0
+  PutsElementText spot (Err fault) request a = a ≡ unchanged (conflict (text_conflict conflicts.NotXmlFrag fault) request.closes)
+  PutsElementText spot (Ok e) request a =
+      (plan : Result Change EditRefusal) × IsPutPlan usage t selector.steps spot e plan × (a ≡ put_planned request plan)
+
+  -- the answer to a body, by the element that its text spells in the scope of the spot, with no more levels than it may have there
+  abbrev pub PutsElement : Spot → Request → Answer → Type 0
+  PutsElement spot request a =
+      (read : Result Tree TextFault) × TextAnswer (levels_for spot) (scope_for t spot) request.body read × PutsElementText spot read request a
+
+  -- the answer to a text, which spells the value of an attribute of the element at p or has a fault
+  abbrev pub PutsValueText : List ℕ → Result (List ℕ) ValueFault → Request → Answer → Type 0
+  PutsValueText p (Err fault) request a = a ≡ unchanged (conflict (value_conflict fault) request.closes)
+  PutsValueText p (Ok value) request a =
+      (plan : Result Change EditRefusal) × IsAttrPlan usage t selector.steps selector.end p value plan × (a ≡ put_planned request plan)
+
+  abbrev pub PutsValue : List ℕ → Request → Answer → Type 0
+  PutsValue p request a = (read : Result (List ℕ) ValueFault) × BodyAnswer request.body read × PutsValueText p read request a
+
+  -- by the kind of the spot
+  abbrev pub PutsAt : Spot → Request → Answer → Type 0
+  PutsAt (Over p) request a = PutsElement (Over p) request a
+  PutsAt (Under q) request a = PutsElement (Under q) request a
+  PutsAt Beside request a = PutsElement Beside request a
+  PutsAt (Value p) request a = PutsValue p request a
+
+  -- the body is of the media type of elements or attributes
+  abbrev pub PutsFragment : Spot → Request → Answer → Type 0
+  PutsFragment spot request a = MatchBool (has_type (node_media selector.end) request.fields) (PutsAt spot request a) (a ≡ unchanged (plain 415 request.closes))
+
+  -- there is a spot, or no parent, with the closest ancestor that is there; then the conditions count, by the document's tag
+  abbrev pub PutsFrom : List ℕ → ℕ → Result Spot NoParent → Request → Answer → Type 0
+  PutsFrom root tag (Err none) request a = a ≡ unchanged (conflict (conflicts.NoParent (ancestor_uri root id t selector.steps)) request.closes)
+  PutsFrom root tag (Ok spot) request a = Behind (write_stop request (Some tag) (is_there t selector)) a (PutsFragment spot request a)
+
+  abbrev pub PutsNodeOf : List ℕ → ℕ → Request → Answer → Type 0
+  PutsNodeOf root tag request a = (spot : Result Spot NoParent) × IsSpot t selector spot × PutsFrom root tag spot request a
+
+-- a node of a document that is held, or not
+abbrev pub PutsNodeIn : List ℕ → Content → DocId → Usage → Selector → Option (Tree × ℕ) → Request → Answer → Type 0
+PutsNodeIn root c id usage selector None request a = a ≡ puts_deeper root id.auid id.home request
+PutsNodeIn root c id usage selector (Some (t, tag)) request a = PutsNodeOf c id usage selector t root tag request a
+
+abbrev pub PutsNode : List ℕ → Content → DocId → Usage → Selector → Request → Answer → Type 0
+PutsNode root c id usage selector request a = PutsNodeIn root c id usage selector (version_of c id) request a
+
+-- ---- DELETE (RFC 4825, section 8.4)
+
+-- a node that was deleted leaves a document with a new tag
+abbrev pub cut_reply : Bool → Note → Sent
+cut_reply closes note = tagged 200 note.next closes
+
+-- what the selector finds is taken out
+abbrev pub CutsNode : Content → DocId → Usage → Selector → Tree → Request → Answer → Type 0
+CutsNode c id usage selector t request a =
+    (plan : Result Change EditRefusal) × IsDeletePlan usage t selector plan × (a ≡ plan_answer c id request.closes (cut_reply request.closes) plan)
+
+-- a node of a document that is held with this tree and this tag
+abbrev pub DeletesNodeOf : Content → DocId → Usage → Selector → Tree → ℕ → Request → Answer → Type 0
+DeletesNodeOf c id usage selector t tag request a =
+    MatchBool (is_there t selector)
+    (Behind (write_stop request (Some tag) true) a (CutsNode c id usage selector t request a))
+    (a ≡ unchanged (plain 404 request.closes))
+
+abbrev pub DeletesNodeIn : Content → DocId → Usage → Selector → Option (Tree × ℕ) → Request → Answer → Type 0
+DeletesNodeIn c id usage selector None request a = a ≡ unchanged (plain 404 request.closes)
+DeletesNodeIn c id usage selector (Some (t, tag)) request a = DeletesNodeOf c id usage selector t tag request a
+
+abbrev pub DeletesNode : Content → DocId → Usage → Selector → Request → Answer → Type 0
+DeletesNode c id usage selector request a = DeletesNodeIn c id usage selector (version_of c id) request a

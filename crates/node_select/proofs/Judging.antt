@@ -1,0 +1,70 @@
+-- Reading functions that resolve the names of a selector where they stand, and stop at an unbound prefix where that counts.
+use Rattle.std.proofs.Common.{ℕ, Bool, List, length}
+use Rattle.std.specs.Prelude.{◌&&◌, Option, None, Some, if◌then◌else◌}
+use Rattle.xml_tree.specs.declared.names.Name.{Name}
+use Rattle.xml_tree.specs.declared.names.Decl.{Decl}
+use Rattle.grammar_rules.specs.Reading.{Reader, read_word, read_sequence, read_either, read_many, read_valued, read_judged, read_only, read_optional, read_before, read_behind}
+use Rattle.tree_text.specs.declared.kind.Kind.{Kind}
+use Rattle.tree_text.specs.declared.kind.Kind.TheVariants.{Unbound}
+use Rattle.tree_text.specs.Pieces.{written}
+use Rattle.tree_text.specs.readers.Texts.{read_qname}
+use Rattle.node_select.specs.declared.selector.NameTest.{NameTest}
+use Rattle.node_select.specs.declared.selector.NameTest.TheVariants.{Any}
+use Rattle.node_select.specs.declared.selector.AttrTest.{AttrTest}
+use Rattle.node_select.specs.declared.selector.Step.{Step}
+use Rattle.node_select.specs.declared.selector.End.{End}
+use Rattle.node_select.specs.declared.selector.End.TheVariants.{Namespaces}
+use Rattle.node_select.specs.declared.selector.Selector.{Selector}
+use Rattle.node_select.specs.declared.selector.PatchEnd.{PatchEnd}
+use Rattle.node_select.specs.declared.selector.PatchEnd.TheVariants as patch_ends
+use Rattle.node_select.specs.declared.selector.PatchSelector.{PatchSelector}
+use Rattle.node_select.specs.Names.{is_unbound}
+use Rattle.node_select.specs.Grammar
+use Rattle.node_select.specs.readers.Words
+use Rattle.node_select.specs.readers.Selectors.{star_follows, position_follows, read_position, read_value, test_follows, slash_follows, attribute_follows, step_follows, patch_step_follows}
+
+-- the mark of a name that counts
+abbrev pub judge : List Decl → Bool → Name → Option (Kind × ℕ)
+judge bindings on name = if is_unbound bindings name && on then Some (Unbound, length (written name)) else None
+
+module _ (bindings : List Decl) (default : List ℕ) (on : Bool) where
+  abbrev pub judged_node_name : Reader Kind NameTest
+  judged_node_name = read_either star_follows (read_valued (λ _. Any) (read_word Words.star)) (read_valued (Grammar.element_test bindings default) (read_judged (judge bindings on) read_qname))
+
+  abbrev pub judged_attribute : Reader Kind Name
+  judged_attribute = read_behind (read_word Words.at_sign) (read_judged (judge bindings on) (read_only Grammar.names_attribute read_qname))
+
+  abbrev pub judged_test : Reader Kind AttrTest
+  judged_test =
+      read_behind (read_word Words.open_bracket)
+      (read_before (read_valued (Grammar.attr_test bindings default) (read_sequence judged_attribute (λ _. read_behind (read_word Words.equals_sign) read_value))) (read_word Words.close_bracket))
+
+  abbrev pub judged_step : Reader Kind Step
+  judged_step =
+      read_valued Grammar.step_of
+      (read_sequence (read_sequence judged_node_name (λ _. read_optional position_follows read_position)) (λ _. read_optional test_follows judged_test))
+
+  abbrev pub judged_next : Reader Kind Step
+  judged_next = read_behind (read_word Words.slash) judged_step
+
+  abbrev pub judged_steps : (List ℕ → Bool) → Reader Kind (List Step)
+  judged_steps follows = read_valued Grammar.first_step_of (read_sequence judged_step (λ _. read_many follows judged_next))
+
+  abbrev pub judged_end : Reader Kind End
+  judged_end = read_either attribute_follows (read_valued (Grammar.attribute_end bindings default) judged_attribute) (read_valued (λ _. Namespaces) (read_word Words.namespaces))
+
+  abbrev pub judged_selector : Reader Kind Selector
+  judged_selector =
+      read_valued Grammar.selector_of
+      (read_sequence (judged_steps step_follows) (λ _. read_valued Grammar.end_or_element (read_optional slash_follows (read_behind (read_word Words.slash) judged_end))))
+
+  abbrev pub judged_patch_end : Reader Kind PatchEnd
+  judged_patch_end =
+      read_either attribute_follows (read_valued (Grammar.patch_attribute_end bindings default) judged_attribute)
+      (read_valued (λ n. patch_ends.Chars n) (read_behind (read_word Words.text_test) (read_optional test_follows read_position)))
+
+  abbrev pub judged_patch_selector : Reader Kind PatchSelector
+  judged_patch_selector =
+      read_behind (read_optional slash_follows (read_word Words.slash))
+      (read_valued Grammar.patch_selector_of
+      (read_sequence (judged_steps patch_step_follows) (λ _. read_valued Grammar.patch_end_or_element (read_optional slash_follows (read_behind (read_word Words.slash) judged_patch_end)))))

@@ -1,0 +1,164 @@
+-- Selectors as the code reads them: with the prefixes of their names, and with the widths that tell where each name stands.
+use Rattle.std.specs.Prelude.{ℕ, suc, ◌+◌, ◌≤◌, ◌<◌, ◌^◌, List, [], ◌∷◌, Option, None, Some, option_map, if◌then◌else◌}
+use Rattle.xml_tree.specs.declared.names.Name.{Name}
+use Rattle.xml_tree.specs.declared.names.Decl.{Decl}
+use Rattle.node_select.specs.declared.selector.NameTest.{NameTest}
+use Rattle.node_select.specs.declared.selector.NameTest.TheVariants.{Any, Named}
+use Rattle.node_select.specs.declared.selector.AttrTest.{AttrTest}
+use Rattle.node_select.specs.declared.selector.Step.{Step}
+use Rattle.node_select.specs.declared.selector.End.{End}
+use Rattle.node_select.specs.declared.selector.End.TheVariants as ends
+use Rattle.node_select.specs.declared.selector.Selector.{Selector}
+use Rattle.node_select.specs.declared.selector.PatchEnd.{PatchEnd}
+use Rattle.node_select.specs.declared.selector.PatchEnd.TheVariants as patch_ends
+use Rattle.node_select.specs.declared.selector.PatchSelector.{PatchSelector}
+use Rattle.node_select.specs.Names.{is_unbound, element_uri, attr_uri}
+
+-- a step: its name, none for `*`; its position; how many characters these have; its test, an attribute's name and its value; and how many
+-- characters the whole step has
+pub record RawStep : Type 0 where
+  pub name : Option Name
+  pub position : Option ℕ
+  pub front : ℕ
+  pub test : Option (Name × List ℕ)
+  pub size : ℕ
+
+-- what a selector ends in, behind its steps and a `/`
+pub data RawEnd : Type 0 where
+  AtElement : RawEnd
+  AtAttribute : Name → RawEnd
+  AtNamespaces : RawEnd
+
+pub data RawPatchEnd : Type 0 where
+  PatchElement : RawPatchEnd
+  PatchAttribute : Name → RawPatchEnd
+  PatchChars : Option ℕ → RawPatchEnd
+
+-- how many characters steps have, each with the `/` before it or behind it
+abbrev pub widths : List RawStep → ℕ
+widths [] = 0
+widths (step ∷ steps) = step.size + 1 + widths steps
+
+-- each step is as wide as its front, at least
+abbrev pub AreWhole : List RawStep → Type 0
+AreWhole [] = Unit {0}
+AreWhole (step ∷ steps) = (step.front ≤ step.size) × AreWhole steps
+
+-- there is room for the places of all names of steps that stand so many characters behind the beginning
+pub record HasRoom (at : ℕ) (steps : List RawStep) : Type 0 where
+  pub within : at + widths steps < 2 ^ 63
+  pub whole : AreWhole steps
+
+-- ---- names, and where they stand
+
+-- the place of a name, if its prefix isn't bound
+abbrev pub unbound_at : List Decl → ℕ → Name → Option ℕ
+unbound_at bindings n name = if is_unbound bindings name then Some n else None
+
+-- the first of two places, if there is one
+abbrev pub first_of : Option ℕ → Option ℕ → Option ℕ
+first_of None later = later
+first_of (Some n) later = Some n
+
+-- of the name and the test of a step that stands so many characters behind the beginning; the test's name stands behind `[@`
+abbrev pub unbound_name : List Decl → ℕ → Option Name → Option ℕ
+unbound_name bindings n None = None
+unbound_name bindings n (Some name) = unbound_at bindings n name
+
+abbrev pub unbound_test : List Decl → ℕ → Option (Name × List ℕ) → Option ℕ
+unbound_test bindings n None = None
+unbound_test bindings n (Some test) = unbound_at bindings n test.0
+
+abbrev pub unbound_in : List Decl → ℕ → RawStep → Option ℕ
+unbound_in bindings n step = first_of (unbound_name bindings n step.name) (unbound_test bindings (n + step.front + 2) step.test)
+
+-- of steps, each behind the one before and a `/`; and then of the end, which stands where they are over
+abbrev pub unbound_from : List Decl → ℕ → List RawStep → (ℕ → Option ℕ) → Option ℕ
+unbound_from bindings n [] end = end n
+unbound_from bindings n (step ∷ steps) end = first_of (unbound_in bindings n step) (unbound_from bindings (n + step.size + 1) steps end)
+
+-- nothing stands behind the steps
+abbrev pub no_end : ℕ → Option ℕ
+no_end n = None
+
+-- of an end; its name stands behind `@`
+abbrev pub unbound_end : List Decl → RawEnd → ℕ → Option ℕ
+unbound_end bindings AtElement n = None
+unbound_end bindings (AtAttribute name) n = unbound_at bindings (suc n) name
+unbound_end bindings AtNamespaces n = None
+
+abbrev pub unbound_patch_end : List Decl → RawPatchEnd → ℕ → Option ℕ
+unbound_patch_end bindings PatchElement n = None
+unbound_patch_end bindings (PatchAttribute name) n = unbound_at bindings (suc n) name
+unbound_patch_end bindings (PatchChars position) n = None
+
+-- ---- what names mean
+
+abbrev pub name_test : List Decl → List ℕ → Option Name → NameTest
+name_test bindings default None = Any
+name_test bindings default (Some name) = Named (element_uri bindings default name) name.local
+
+abbrev pub attr_test : List Decl → Name × List ℕ → AttrTest
+attr_test bindings test = record { uri = attr_uri bindings test.0; local = test.0.local; value = test.1 }
+
+abbrev pub step_of : List Decl → List ℕ → RawStep → Step
+step_of bindings default step = record {
+  name = name_test bindings default step.name;
+  position = step.position;
+  test = option_map (attr_test bindings) step.test;
+}
+
+abbrev pub steps_of : List Decl → List ℕ → List RawStep → List Step
+steps_of bindings default [] = []
+steps_of bindings default (step ∷ steps) = step_of bindings default step ∷ steps_of bindings default steps
+
+abbrev pub end_of : List Decl → RawEnd → End
+end_of bindings AtElement = ends.Element
+end_of bindings (AtAttribute name) = ends.Attribute (attr_uri bindings name) name.local
+end_of bindings AtNamespaces = ends.Namespaces
+
+abbrev pub patch_end_of : List Decl → RawPatchEnd → PatchEnd
+patch_end_of bindings PatchElement = patch_ends.Element
+patch_end_of bindings (PatchAttribute name) = patch_ends.Attribute (attr_uri bindings name) name.local
+patch_end_of bindings (PatchChars position) = patch_ends.Chars position
+
+-- ---- whole selectors: steps and an end
+
+abbrev pub RawSelector : Type 0
+RawSelector = List RawStep × RawEnd
+
+-- a selector of a patch may begin with `/`; how many characters that has
+abbrev pub RawPatchSelector : Type 0
+RawPatchSelector = ℕ × (List RawStep × RawPatchEnd)
+
+abbrev pub selector_of : List Decl → List ℕ → RawSelector → Selector
+selector_of bindings default raw = record { steps = steps_of bindings default raw.0; end = end_of bindings raw.1 }
+
+abbrev pub patch_selector_of : List Decl → List ℕ → RawPatchSelector → PatchSelector
+patch_selector_of bindings default raw = record { steps = steps_of bindings default raw.1.0; end = patch_end_of bindings raw.1.1 }
+
+-- the first name whose prefix isn't bound: how many characters stand before it
+abbrev pub first_unbound : List Decl → RawSelector → Option ℕ
+first_unbound bindings raw = unbound_from bindings 0 raw.0 (unbound_end bindings raw.1)
+
+abbrev pub first_unbound_in_patch : List Decl → RawPatchSelector → Option ℕ
+first_unbound_in_patch bindings raw = unbound_from bindings raw.0 raw.1.0 (unbound_patch_end bindings raw.1.1)
+
+-- ---- what the parts that are read make
+
+-- a step, with the widths of its name and position, and of all of it
+abbrev pub raw_step_of : (((Option Name × Option ℕ) × ℕ) × Option (Name × List ℕ)) × ℕ → RawStep
+raw_step_of x = record { name = x.0.0.0.0; position = x.0.0.0.1; front = x.0.0.1; test = x.0.1; size = x.1 }
+
+abbrev pub end_or_element : Option RawEnd → RawEnd
+end_or_element None = AtElement
+end_or_element (Some end) = end
+
+abbrev pub patch_end_or_element : Option RawPatchEnd → RawPatchEnd
+patch_end_or_element None = PatchElement
+patch_end_or_element (Some end) = end
+
+-- how many characters a slash in front has
+abbrev pub slash_width : Option (Unit {0}) → ℕ
+slash_width None = 0
+slash_width (Some _) = 1

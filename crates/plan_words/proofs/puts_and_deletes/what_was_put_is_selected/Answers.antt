@@ -1,0 +1,8 @@
+use Rattle.plan_words.proofs.Twice.{put_is}
+use Rattle.plan_words.proofs.puts_and_deletes.what_was_put_is_selected.Goals as goal
+
+pub returns : goal.returns
+returns c = record {
+  selected = λ u t selector spot e change h. let p = put_is u t selector.steps spot e change h in (p.path, p.selects, p.there);
+  faultless = λ u t selector spot e change h. (put_is u t selector.steps spot e change h).faultless;
+}

@@ -1,0 +1,10 @@
+pub mod Attributes
+pub mod Beside
+pub mod Deletions
+pub mod Kinds
+pub mod Lawful
+pub mod Plans
+pub mod Puts
+pub mod Removals
+pub mod Spots
+pub mod Tags

@@ -1,0 +1,42 @@
+-- What is asked of a change of a document before it is made, in this order. RFC 4825, sections 8.2.3 and 8.4: the address then selects what
+-- was put, or nothing; section 8.2.5: the document is valid, and then within the constraints and uniqueness of its usage (RFC 4826).
+use Rattle.std.specs.Prelude.{◌≡◌, ◌⊎◌, ◌≤◌, [], Option, None, Some, Result, Ok, Err}
+use Rattle.doc_names.specs.declared.usages.Usage.{Usage}
+use Rattle.xml_tree.specs.Tree.{Tree, height}
+use Rattle.xml_tree.specs.Proper.{ProperIn}
+use Rattle.usage_docs.specs.Judging.{Judged}
+use Rattle.usage_docs.specs.declared.judging.Fault.{Fault}
+use Rattle.usage_docs.specs.declared.judging.Fault.TheVariants.{Invalid, Unformed, Repeated}
+use Rattle.edit_ops.specs.Changes.{Fits, edited}
+use Rattle.edit_ops.specs.declared.change.Change.{Change}
+use Rattle.plan_words.specs.declared.refusal.EditRefusal.{EditRefusal}
+use Rattle.plan_words.specs.declared.refusal.EditRefusal.TheVariants.{Schema, Constraint, Unique, NoMemory}
+
+-- want of memory may be answered in place of anything else
+abbrev pub OrMemory : {A : Type 0} → (Result A EditRefusal → Type 0) → Result A EditRefusal → Type 0
+OrMemory P result = (result ≡ Err NoMemory) ⊎ P result
+
+-- the refusal by the first fault of the document that a change would make
+abbrev pub refusal : Fault → EditRefusal
+refusal Invalid = Schema
+refusal Unformed = Constraint
+refusal (Repeated clash) = Unique clash
+
+-- the change, where the document has no fault
+abbrev pub by_fault : Change → Option Fault → Result Change EditRefusal
+by_fault change None = Ok change
+by_fault change (Some fault) = Err (refusal fault)
+
+-- what is answered of a change by the judgement of the document that it makes
+abbrev pub IsJudged : Usage → Tree → Change → Result Change EditRefusal → Type 0
+IsJudged u t change result = (fault : Option Fault) × (Judged u (edited t change) fault × (result ≡ by_fault change fault))
+
+-- what is answered of a change that is lawful, or is refused in the word of its kind
+abbrev pub IsTested : EditRefusal → Type 0 → Usage → Tree → Change → Result Change EditRefusal → Type 0
+IsTested unlawful lawful u t change result = ((result ≡ Err unlawful) × (lawful → ⊥)) ⊎ (lawful × IsJudged u t change result)
+
+-- the change is one of the document, and makes a proper one of at most 64 levels
+pub record LeavesProper (t : Tree) (change : Change) : Type 0 where
+  pub fits : Fits t change
+  pub proper : ProperIn [] (edited t change)
+  pub low : height (edited t change) ≤ 64

@@ -1,0 +1,54 @@
+-- The change that a PUT of an element makes, or why it makes none. RFC 4825, sections 8.2.1 to 8.2.5. Which of the lawful places is taken is
+-- this server's choice: the last one at which the document is valid. Every gap is tried, and the new document is selected in and tested again.
+use Rattle.std.specs.Prelude.{◌≡◌, ◌≤◌, ℕ, suc, ◌+◌, List, length, Some, Result, Ok, Err}
+use Rattle.doc_names.specs.declared.usages.Usage.{Usage}
+use Rattle.step_laws.specs.Places.{PlanIs}
+use Rattle.xml_tree.specs.Tree.{Tree, at, height, kids_of}
+use Rattle.xml_tree.specs.Edits.{put_in}
+use Rattle.xml_tree.specs.Proper.{ProperIn}
+use Rattle.xml_tree.specs.Scopes.{scope_around, scope_at}
+use Rattle.node_select.specs.declared.selector.Step.{Step}
+use Rattle.usage_docs.specs.Validity as usage
+use Rattle.edit_ops.specs.declared.change.Change.{Change}
+use Rattle.edit_ops.specs.declared.change.Change.TheVariants.{Insert, Replace}
+use Rattle.plan_words.specs.declared.spot.Spot.{Spot}
+use Rattle.plan_words.specs.declared.spot.Spot.TheVariants.{Over, Under, Beside, Value}
+use Rattle.plan_words.specs.declared.refusal.EditRefusal.{EditRefusal}
+use Rattle.plan_words.specs.declared.refusal.EditRefusal.TheVariants.{CannotInsert, Schema}
+use Rattle.plan_words.specs.Lawful.{LawfulGap, LawfulOver}
+use Rattle.plan_words.specs.Plans.{IsJudged, IsTested}
+
+-- what is answered once a gap is chosen, or none could be
+abbrev pub FromGap : Usage → Tree → List ℕ → Tree → Result ℕ EditRefusal → Result Change EditRefusal → Type 0
+FromGap u t q e (Ok gap) result = IsJudged u t (Insert q gap e) result
+FromGap u t q e (Err why) result = result ≡ Err why
+
+-- the element is put into the greatest gap of the element at q that is lawful and at which the document is valid; CannotInsert where no
+-- gap is lawful, Schema where none of the lawful ones makes a valid document
+pub record IsInsertion (u : Usage) (t : Tree) (steps : List Step) (q : List ℕ) (e : Tree) (result : Result Change EditRefusal) : Type 0 where
+  pub parent : Tree
+  pub there : at q t ≡ Some parent
+  pub gap : Result ℕ EditRefusal
+  pub is_chosen : PlanIs CannotInsert Schema (LawfulGap steps t e q) (λ j. usage.Schema u (put_in q j e t)) (length (kids_of parent) + 1) gap
+  pub then : FromGap u t q e gap result
+
+-- the plan at a spot of an element: over the one that is selected, under the selected parent, and beside the root never
+abbrev pub IsPutPlan : Usage → Tree → List Step → Spot → Tree → Result Change EditRefusal → Type 0
+IsPutPlan u t steps (Over p) e result = IsTested CannotInsert (LawfulOver steps t e p) u t (Replace p e) result
+IsPutPlan u t steps (Under q) e result = IsInsertion u t steps q e result
+IsPutPlan u t steps Beside e result = result ≡ Err CannotInsert
+IsPutPlan u t steps (Value p) e result = ⊥
+
+-- an element at this spot has no level below the 64th
+abbrev pub HasRoomAt : Spot → Tree → Type 0
+HasRoomAt (Over p) e = length p + height e ≤ 64
+HasRoomAt (Under q) e = length q + suc (height e) ≤ 64
+HasRoomAt Beside e = Unit {0}
+HasRoomAt (Value p) e = Unit {0}
+
+-- it is proper in the scope around the spot
+abbrev pub IsProperAt : Tree → Spot → Tree → Type 0
+IsProperAt t (Over p) e = ProperIn (scope_around p t) e
+IsProperAt t (Under q) e = ProperIn (scope_at q t) e
+IsProperAt t Beside e = Unit {0}
+IsProperAt t (Value p) e = Unit {0}

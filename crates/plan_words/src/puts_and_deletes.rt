@@ -1,0 +1,96 @@
+//! What planned changes make, each law the contract of a function that does nothing: an address
+//! then selects exactly what was put, finds nothing once it was deleted, and a second PUT of the
+//! same changes nothing (RFC 4825, sections 8.2.3, 8.2.4 and 8.4; RFC 9110, section 9.2.2).
+ghost use Rattle.std.specs.Prelude.{◌≡◌, ◌≤◌, ℕ, List, [], None, Some, Result, Ok, IsTrue};
+ghost use Rattle.doc_names.specs.declared.usages.Usage.{Usage};
+ghost use Rattle.xml_tree.specs.Characters.{all_chars};
+ghost use Rattle.xml_tree.specs.Proper.{ProperIn};
+ghost use Rattle.xml_tree.specs.Tree.{Tree, at, height};
+ghost use Rattle.xml_tree.specs.declared.names.Decl.{Decl};
+ghost use Rattle.node_select.specs.Faults.{IsSelectorAnswer};
+ghost use Rattle.node_select.specs.Selection.{Found, SelectsPath};
+ghost use Rattle.node_select.specs.declared.selector.End.{End};
+ghost use Rattle.node_select.specs.declared.selector.End.TheVariants as ends;
+ghost use Rattle.node_select.specs.declared.selector.Selector.{Selector};
+ghost use Rattle.usage_docs.specs.Judging.{Judged};
+ghost use Rattle.edit_ops.specs.Changes.{edited};
+ghost use Rattle.edit_ops.specs.declared.change.Change.{Change};
+ghost use Rattle.edit_ops.specs.declared.change.Change.TheVariants.{Replace};
+ghost use Rattle.plan_words.specs.declared.spot.Spot.{Spot};
+ghost use Rattle.plan_words.specs.declared.spot.Spot.TheVariants.{Over, Value};
+ghost use Rattle.plan_words.specs.declared.spot.NoParent.{NoParent};
+ghost use Rattle.plan_words.specs.declared.refusal.EditRefusal.{EditRefusal};
+ghost use Rattle.plan_words.specs.Attributes.{FindsValue, IsAttrPlan, IsWritable};
+ghost use Rattle.plan_words.specs.Deletions.{IsDeletePlan};
+ghost use Rattle.plan_words.specs.Plans.{LeavesProper};
+ghost use Rattle.plan_words.specs.Puts.{HasRoomAt, IsProperAt, IsPutPlan};
+ghost use Rattle.plan_words.specs.Spots.{IsSpot, IsSpotOf};
+
+/// After the planned PUT of an element the address selects exactly it, and the document has no
+/// fault.
+pub fn what_was_put_is_selected()
+    ensures selected { (u : Usage) (t : Tree) (selector : Selector) (spot : Spot) (e : Tree) (change : Change) → IsPutPlan u t selector.steps spot e (Ok change)
+        → (p : List ℕ) × SelectsPath selector.steps (edited t change) p × (at p (edited t change) ≡ Some e) }
+    ensures faultless { (u : Usage) (t : Tree) (selector : Selector) (spot : Spot) (e : Tree) (change : Change) → IsPutPlan u t selector.steps spot e (Ok change) → Judged u (edited t change) None }
+{}
+
+/// After the planned PUT of an attribute the address finds it with the value, and the document has
+/// no fault.
+pub fn what_was_written_is_found()
+    ensures found { (u : Usage) (t : Tree) (selector : Selector) (uri local p value : List ℕ) (change : Change) → IsAttrPlan u t selector.steps (ends.Attribute uri local) p value (Ok change)
+        → FindsValue selector.steps uri local (edited t change) p value }
+    ensures faultless { (u : Usage) (t : Tree) (selector : Selector) (uri local p value : List ℕ) (change : Change) → IsAttrPlan u t selector.steps (ends.Attribute uri local) p value (Ok change) → Judged u (edited t change) None }
+{}
+
+/// After the planned DELETE the address finds nothing, and the document has no fault.
+pub fn what_was_deleted_is_not_found()
+    ensures not_found { (u : Usage) (t : Tree) (selector : Selector) (change : Change) → IsDeletePlan u t selector (Ok change) → Found (edited t change) selector → ⊥ }
+    ensures faultless { (u : Usage) (t : Tree) (selector : Selector) (change : Change) → IsDeletePlan u t selector (Ok change) → Judged u (edited t change) None }
+{}
+
+/// Where an element was put, the address means its place, the plan of the same is to exchange it
+/// for the equal one, and this leaves the document.
+pub fn an_element_is_put_twice()
+    ensures { (u : Usage) (t : Tree) (selector : Selector) (spot : Spot) (e : Tree) (change : Change) → selector.end ≡ ends.Element → IsPutPlan u t selector.steps spot e (Ok change)
+        → (p : List ℕ) × IsSpotOf (edited t change) selector (Over p) × IsPutPlan u (edited t change) selector.steps (Over p) e (Ok (Replace p e)) × (edited (edited t change) (Replace p e) ≡ edited t change) }
+{}
+
+/// Where an attribute was written, the address means the same place, the plan of the same is the
+/// same change, and this leaves the document.
+pub fn an_attribute_is_put_twice()
+    ensures { (u : Usage) (t : Tree) (selector : Selector) (uri local p value : List ℕ) (change : Change) → selector.end ≡ ends.Attribute uri local → IsAttrPlan u t selector.steps (ends.Attribute uri local) p value (Ok change)
+        → IsSpotOf (edited t change) selector (Value p) × IsAttrPlan u (edited t change) selector.steps (ends.Attribute uri local) p value (Ok change) × (edited (edited t change) change ≡ edited t change) }
+{}
+
+/// The words allow one answer each: one spot, and one plan of a PUT and of a DELETE.
+pub fn each_plan_has_one_answer()
+    ensures spot { (t : Tree) (selector : Selector) (r s : Result Spot NoParent) → IsSpot t selector r → IsSpot t selector s → r ≡ s }
+    ensures element { (u : Usage) (t : Tree) (selector : Selector) (spot : Spot) (e : Tree) (r s : Result Change EditRefusal) → IsPutPlan u t selector.steps spot e r → IsPutPlan u t selector.steps spot e s → r ≡ s }
+    ensures attribute { (u : Usage) (t : Tree) (selector : Selector) (end : End) (p value : List ℕ) (r s : Result Change EditRefusal) → IsAttrPlan u t selector.steps end p value r → IsAttrPlan u t selector.steps end p value s → r ≡ s }
+    ensures deletion { (u : Usage) (t : Tree) (selector : Selector) (r s : Result Change EditRefusal) → IsDeletePlan u t selector r → IsDeletePlan u t selector s → r ≡ s }
+{}
+
+/// The words have an answer for each tree: each address has a spot or none, each PUT at a spot a
+/// plan, and so has each DELETE of what isn't read only.
+pub fn each_plan_has_an_answer()
+    ensures spot { (t : Tree) (selector : Selector) → (r : Result Spot NoParent) × IsSpot t selector r }
+    ensures element { (u : Usage) (t : Tree) (selector : Selector) (spot : Spot) (e : Tree) → selector.end ≡ ends.Element → IsSpotOf t selector spot → (r : Result Change EditRefusal) × IsPutPlan u t selector.steps spot e r }
+    ensures attribute { (u : Usage) (t : Tree) (selector : Selector) (p value : List ℕ) → IsSpotOf t selector (Value p) → (r : Result Change EditRefusal) × IsAttrPlan u t selector.steps selector.end p value r }
+    ensures deletion { (u : Usage) (t : Tree) (selector : Selector) → (selector.end ≡ ends.Namespaces → ⊥) → (r : Result Change EditRefusal) × IsDeletePlan u t selector r }
+{}
+
+/// A planned change is one of the document, and leaves it proper and within 64 levels, where what
+/// is put is proper in the scope of its place and has room there.
+pub fn planned_changes_leave_proper_documents()
+    ensures element { (u : Usage) (t : Tree) (selector : Selector) (spot : Spot) (e : Tree) (change : Change) → IsPutPlan u t selector.steps spot e (Ok change) → IsSpotOf t selector spot
+        → ProperIn [] t → height t ≤ 64 → IsProperAt t spot e → HasRoomAt spot e → LeavesProper t change }
+    ensures attribute { (u : Usage) (t : Tree) (selector : Selector) (uri local p value : List ℕ) (change : Change) → IsAttrPlan u t selector.steps (ends.Attribute uri local) p value (Ok change)
+        → ProperIn [] t → height t ≤ 64 → IsWritable uri local → IsTrue (all_chars value) → LeavesProper t change }
+    ensures deletion { (u : Usage) (t : Tree) (selector : Selector) (change : Change) → IsDeletePlan u t selector (Ok change) → ProperIn [] t → height t ≤ 64 → LeavesProper t change }
+{}
+
+/// The attribute that a selector ends in may be written.
+pub fn attributes_of_selectors_may_be_written()
+    ensures { (bindings : List Decl) (default text : List ℕ) (selector : Selector) (uri local : List ℕ) → IsSelectorAnswer bindings default text (Ok selector) → selector.end ≡ ends.Attribute uri local
+        → IsWritable uri local }
+{}

@@ -1,0 +1,42 @@
+//! Why a PUT or DELETE of a node makes no change (RFC 4825, sections 8.2.3 to 8.2.5 and 8.4).
+ghost use Rattle.std.specs.Prelude.{◌≡◌};
+ghost use Rattle.plan_words.specs.declared.refusal.EditRefusal.TheVariants as refusals;
+
+use std::alloc::AllocError;
+use thiserror::Error;
+use usage_docs::Clash;
+
+/// Why there is no change. The first of these that applies is answered, in this order; `NoMemory`
+/// may come in place of any other answer of a call that takes memory.
+#[derive(Debug, Drop, Error)]
+pub enum EditRefusal {
+    /// Nothing is selected.
+    #[error("nothing is selected")]
+    NotFound,
+    /// The address wouldn't select what was put there.
+    #[error("the address would not select what is put there")]
+    CannotInsert,
+    /// The address would still select something.
+    #[error("the address would still select something")]
+    CannotDelete,
+    /// The document wouldn't be valid.
+    #[error("the document would not be valid")]
+    Schema,
+    /// A value wouldn't be within the constraints of the usage.
+    #[error("a value would break a constraint of the usage")]
+    Constraint,
+    /// Two siblings of one kind would have one key; this is the first clash.
+    #[error("two siblings would have one key")]
+    Unique(Clash),
+    /// Memory was wanted.
+    #[error("out of memory")]
+    NoMemory,
+}
+
+impl From<AllocError> for EditRefusal {
+    ghost from_gives = { λ _ e. e ≡ refusals.NoMemory };
+
+    fn from(_: AllocError) -> Self {
+        EditRefusal::NoMemory
+    }
+}

@@ -1,0 +1,39 @@
+-- What the code keeps of the names of a tag: the prefix that a declaration declares, the expanded name of an attribute. Namespaces in XML 1.0, section 6.3.
+use Rattle.std.specs.Prelude.{◌≡◌, ℕ, Bool, true, false, ◌&&◌, ◌==◌, not, List, Option, Some, None, option_map, option_and_then}
+use Rattle.std.specs.Str.{bytes_eq}
+use Rattle.std.specs.List.{list_any}
+use Rattle.std.specs.BTreeSet.{BTreeSet, contains}
+use Rattle.xml_tree.specs.Expanded.{attr_name}
+use Rattle.xml_tree.specs.declared.names.Name.{Name}
+use Rattle.tree_text.specs.declared.bindings.Bindings.{Bindings}
+use Rattle.tree_text.specs.declared.meanings.Meaning.{Meaning}
+use Rattle.tree_text.specs.declared.meanings.Meaning.TheVariants.{Declared, Named}
+use Rattle.tree_text.specs.declared.said.Said.{Said}
+use Rattle.tree_text.specs.contracts.meanings.MeaningOrd.TheImpl.{cmp-value}
+use Rattle.tree_text.specs.readers.Bindings.{lists, number}
+use Rattle.tree_text.specs.Names.{declares, decl_of}
+
+-- the number of the namespace of an attribute of this name
+abbrev pub attr_number : Bindings → Name → Option ℕ
+attr_number here n = option_and_then (number here.namespaces) (attr_name (lists here) n).uri
+
+-- whether two numbers are one
+abbrev pub same_number : Option ℕ → Option ℕ → Bool
+same_number None None = true
+same_number None (Some m) = false
+same_number (Some n) None = false
+same_number (Some n) (Some m) = n == m
+
+-- this is what one says
+abbrev pub Means : Bindings → Said → Meaning → Type 0
+Means here s (Declared prefix) = (declares s.name ≡ true) × (prefix.now ≡ (decl_of s).prefix)
+Means here s (Named local n) = (declares s.name ≡ false) × (local.now ≡ s.name.local) × (option_map Some n ≡ option_map (number here.namespaces) (attr_name (lists here) s.name).uri)
+
+-- whether one says this
+abbrev pub says : Bindings → Meaning → Said → Bool
+says here (Declared prefix) s = declares s.name && bytes_eq (decl_of s).prefix prefix.now
+says here (Named local n) s = not (declares s.name) && (same_number (attr_number here s.name) n && bytes_eq s.name.local local.now)
+
+-- a set holds exactly what these say
+abbrev pub Holds : Bindings → List Said → BTreeSet Meaning → Type 0
+Holds here es seen = (m : Meaning) → contains cmp-value.it seen m ≡ list_any (says here m) es

@@ -1,0 +1,23 @@
+-- Roots as the code reads them: the scheme, then the authority, then the segments.
+use Rattle.std.specs.Prelude.{ℕ, Bool, false, ◌&&◌, nat_le, List, [], ◌∷◌, codes, length, Option, None, Some}
+use Rattle.std.specs.List.{list_all}
+use Rattle.std.specs.Option.{option_or}
+use Rattle.xcap_uri.specs.Cuts.{after, pieces}
+use Rattle.xcap_uri.specs.Roots.{slash, is_authority_char, is_segment_char, is_some_of}
+
+-- what follows the scheme
+abbrev pub behind_scheme : List ℕ → Option (List ℕ)
+behind_scheme text = option_or (after (codes "http://") text) (after (codes "https://") text)
+
+-- an authority, and then segments
+abbrev pub are_authority_and_segments : List (List ℕ) → Bool
+are_authority_and_segments [] = false
+are_authority_and_segments (authority ∷ segments) = is_some_of is_authority_char authority && list_all (is_some_of is_segment_char) segments
+
+abbrev pub has_form : Option (List ℕ) → Bool
+has_form None = false
+has_form (Some rest) = are_authority_and_segments (pieces slash rest)
+
+-- the text reads as a root
+abbrev pub reads_as_root : List ℕ → Bool
+reads_as_root text = nat_le (length text) 256 && has_form (behind_scheme text)
