@@ -1,7 +1,8 @@
 //! GET and HEAD of documents (RFC 4825, sections 7.3 and 8.3).
-ghost use Rattle.std.specs.Prelude.{◌≡◌, Some, IfOk, encode_utf8_all};
+ghost use Rattle.std.specs.Prelude.{Some, IfOk, encode_utf8_all};
 ghost use Rattle.tree_text.specs.Printing.{document_print};
-ghost use Rattle.machine_words.specs.Reading.{if_found, reads_document};
+ghost use Rattle.machine_words.specs.Answers.{unchanged};
+ghost use Rattle.machine_words.specs.Reading.{ReadsDocument, SendsFound};
 
 use crate::NoMemory;
 use crate::finding::{Found, resource};
@@ -24,7 +25,7 @@ fn document_reply(
     method: Method,
     request: &Request,
 ) -> Result<Reply, NoMemory>
-    ensures sends_what_is_there { IfOk result (λ r. r ≡ if_found (Some (encode_utf8_all (document_print root.now))) tag media method request.now) }
+    ensures sends_what_is_there { IfOk result (λ r. SendsFound (Some (encode_utf8_all (document_print root.now))) tag media method request.now (unchanged r)) }
 {
     if let Some(reply) = stop(alloc, request, Some(tag), true, true)? {
         return Ok(reply);
@@ -45,7 +46,7 @@ pub fn get_document(
     method: Method,
     request: &Request,
 ) -> Result<Reply, NoMemory>
-    ensures replies_as_the_machine { IfOk result (λ r. r ≡ reads_document store.now.content doc.now method request.now) }
+    ensures replies_as_the_machine { IfOk result (λ r. ReadsDocument store.now.content doc.now method request.now (unchanged r)) }
 {
     let media = document_media(doc.auid);
     match resource(alloc, store, doc)? {

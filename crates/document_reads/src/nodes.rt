@@ -1,8 +1,9 @@
 //! GET and HEAD of nodes of documents (RFC 4825, sections 7.6, 7.9, 7.10 and 8.3).
-ghost use Rattle.std.specs.Prelude.{◌≡◌, ◌≤◌, IfOk};
+ghost use Rattle.std.specs.Prelude.{◌≤◌, IfOk};
 ghost use Rattle.xml_tree.specs.Tree.{height};
 ghost use Rattle.node_texts.specs.Nodes.{encoded, found_text, node_media};
-ghost use Rattle.machine_words.specs.Reading.{if_found, reads_node};
+ghost use Rattle.machine_words.specs.Answers.{unchanged};
+ghost use Rattle.machine_words.specs.Reading.{ReadsNode, SendsFound};
 
 use crate::NoMemory;
 use crate::finding::{Found, resource};
@@ -27,7 +28,7 @@ fn node_reply(
     request: &Request,
 ) -> Result<Reply, NoMemory>
     requires low { height root.now ≤ 64 }
-    ensures sends_what_is_there { IfOk result (λ r. r ≡ if_found (encoded (found_text root.now selector.now)) tag (node_media selector.now.end) method request.now) }
+    ensures sends_what_is_there { IfOk result (λ r. SendsFound (encoded (found_text root.now selector.now)) tag (node_media selector.now.end) method request.now (unchanged r)) }
 {
     let Some(text) = found_text(alloc, root, selector)? else {
         return Ok(Reply::fixed(404, request.closes));
@@ -52,7 +53,7 @@ pub fn get_node(
     method: Method,
     request: &Request,
 ) -> Result<Reply, NoMemory>
-    ensures replies_as_the_machine { IfOk result (λ r. r ≡ reads_node store.now.content doc.now selector.now method request.now) }
+    ensures replies_as_the_machine { IfOk result (λ r. ReadsNode store.now.content doc.now selector.now method request.now (unchanged r)) }
 {
     match resource(alloc, store, doc)? {
         Found::Absent => Ok(Reply::fixed(404, request.closes)),

@@ -5,11 +5,11 @@ use Rattle.edit_ops.specs.declared.change.Change.TheVariants.{RemoveDocument}
 use Rattle.doc_names.specs.declared.doc_id.DocId.{DocId}
 use Rattle.http_wire.specs.declared.request.Request.{Request}
 use Rattle.reply_text.specs.Heads.{Sent, plain}
-use Rattle.request_terms.specs.Conditions.{stop_of}
+use Rattle.request_terms.specs.Conditions.{IsStop}
 use Rattle.store_core.specs.Held.{Content}
-use Rattle.machine_words.specs.Answers.{Answer, Behind, unchanged}
+use Rattle.machine_words.specs.Answers.{Answer, BehindConditions, unchanged}
 use Rattle.machine_words.specs.Resources.{version_of}
-use Rattle.machine_words.specs.Writing.{DeletesDocument, DeletesDocumentIn, change_answer, deleted_reply, tag_of, write_stop}
+use Rattle.machine_words.specs.Writing.{DeletesDocument, DeletesDocumentIn, change_answer, deleted_reply, tag_of}
 use Rattle.machine_words.proofs.Cases.{stopped, unstopped}
 
 -- the tag is there where the document is
@@ -19,17 +19,17 @@ tagged_where_held (Some (t, tag)) = refl
 
 -- ---- PUT
 
-module _ (request : Request) (v : Option (Tree × ℕ)) (tag : Option ℕ) (exists : Bool) (tagged : tag ≡ tag_of v) (known : exists ≡ is_some tag) where
-  stop_told : stop_of request tag exists false ≡ write_stop request (tag_of v) (is_some v)
-  stop_told =
-      ap (λ (x : Option ℕ). stop_of request x exists false) tagged
-      ∙ ap (λ (b : Bool). stop_of request (tag_of v) b false) (known ∙ ap (λ (x : Option ℕ). is_some x) tagged ∙ tagged_where_held v)
+module _ (request : Request) (v : Option (Tree × ℕ)) (tag : Option ℕ) (exists : Bool) (tagged : tag ≡ tag_of v) (known : exists ≡ is_some tag) (stop : Option Sent) (is : IsStop request tag exists false stop) where
+  is_its_stop : IsStop request (tag_of v) (is_some v) false stop
+  is_its_stop =
+      subst (λ (b : Bool). IsStop request (tag_of v) b false stop) (known ∙ ap (λ (x : Option ℕ). is_some x) tagged ∙ tagged_where_held v)
+      (subst (λ (x : Option ℕ). IsStop request x exists false stop) tagged is)
 
-  pub put_stops : (reply : Sent) (P : Type 0) → Some reply ≡ stop_of request tag exists false → Behind (write_stop request (tag_of v) (is_some v)) (unchanged reply) P
-  put_stops reply P is = stopped (write_stop request (tag_of v) (is_some v)) reply P (sym stop_told ∙ sym is)
+  pub put_stops : (reply : Sent) (P : Type 0) → stop ≡ Some reply → BehindConditions request (tag_of v) (is_some v) false (unchanged reply) P
+  put_stops reply P so = stopped request (tag_of v) (is_some v) false stop is_its_stop reply P so
 
-  pub put_goes_on : (a : Answer) (P : Type 0) → None ≡ stop_of request tag exists false → P → Behind (write_stop request (tag_of v) (is_some v)) a P
-  put_goes_on a P is p = unstopped (write_stop request (tag_of v) (is_some v)) a P (sym stop_told ∙ sym is) p
+  pub put_goes_on : (a : Answer) (P : Type 0) → stop ≡ None → P → BehindConditions request (tag_of v) (is_some v) false a P
+  put_goes_on a P so p = unstopped request (tag_of v) (is_some v) false stop is_its_stop a P so p
 
 -- ---- DELETE
 
@@ -52,16 +52,17 @@ module _ (c : Content) (id : DocId) (request : Request) where
     abbrev Removed : Answer → Type 0
     Removed a = a ≡ change_answer c id RemoveDocument request.closes (deleted_reply request.closes)
 
-    held_so : (a : Answer) → Behind (write_stop request (Some tag) true) a (Removed a) → DeletesDocument c id request a
+    held_so : (a : Answer) → BehindConditions request (Some tag) true false a (Removed a) → DeletesDocument c id request a
     held_so a is =
         let t = with_tag (version_of c id) tag tagged in
         subst (λ (v : Option (Tree × ℕ)). DeletesDocumentIn c id v request a) (sym t.1) is
 
-    pub delete_stops : (reply : Sent) → Some reply ≡ stop_of request (Some tag) true false → DeletesDocument c id request (unchanged reply)
-    delete_stops reply is = held_so (unchanged reply) (stopped (write_stop request (Some tag) true) reply (Removed (unchanged reply)) (sym is))
+    module _ (stop : Option Sent) (is : IsStop request (Some tag) true false stop) where
+      pub delete_stops : (reply : Sent) → stop ≡ Some reply → DeletesDocument c id request (unchanged reply)
+      delete_stops reply so = held_so (unchanged reply) (stopped request (Some tag) true false stop is reply (Removed (unchanged reply)) so)
 
-    pub delete_goes_on : None ≡ stop_of request (Some tag) true false → (a : Answer) → Removed a → DeletesDocument c id request a
-    delete_goes_on is a removed = held_so a (unstopped (write_stop request (Some tag) true) a (Removed a) (sym is) removed)
+      pub delete_goes_on : stop ≡ None → (a : Answer) → Removed a → DeletesDocument c id request a
+      delete_goes_on so a removed = held_so a (unstopped request (Some tag) true false stop is a (Removed a) so removed)
 
     pub asked_to_delete : (Asked : Type 0) → ((t : Tree) → ◌≡◌ {A = Option (Tree × ℕ)} (version_of c id) (Some (t, tag)) → Asked) → Asked
     asked_to_delete Asked so = let t = with_tag (version_of c id) tag tagged in so t.0 t.1

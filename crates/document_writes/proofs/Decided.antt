@@ -10,14 +10,13 @@ use Rattle.plan_words.specs.declared.spot.NoParent.{NoParent}
 use Rattle.plan_words.specs.declared.spot.Spot.{Spot}
 use Rattle.http_wire.specs.declared.request.Request.{Request}
 use Rattle.reply_text.specs.Heads.{Sent, plain}
-use Rattle.request_terms.specs.Conditions.{stop_of}
+use Rattle.request_terms.specs.Conditions.{IsStop}
 use Rattle.xcap_uri.specs.Ancestors.{ancestor_uri}
 use Rattle.store_core.specs.Held.{Content}
 use Rattle.store_core.specs.Storing.{Stored}
-use Rattle.machine_words.specs.Answers.{Answer, Behind, conflict, unchanged}
+use Rattle.machine_words.specs.Answers.{Answer, BehindConditions, conflict, unchanged}
 use Rattle.machine_words.specs.Fragments.{CutsNode, DeletesNodeOf, PutsFragment, PutsNodeOf, is_there}
 use Rattle.machine_words.specs.Resources.{version_of}
-use Rattle.machine_words.specs.Writing.{write_stop}
 use Rattle.machine_words.proofs.Cases.{at_false, at_true, stopped, unstopped}
 use Rattle.document_writes.specs.Deciding.{Decides}
 use Rattle.document_writes.specs.Planning.{IsPlanFor, answer_by}
@@ -31,16 +30,19 @@ use Rattle.document_writes.proofs.Planning.{Plans, plans_so, stopped_by}
 
 module _ (usage : Usage) (t : Tree) (request : Request) (tag : ℕ) (exists there : Bool) (known : exists ≡ there) (P : Content → DocId → Answer → Type 0) where
   abbrev pub BehindIt : Content → DocId → Answer → Type 0
-  BehindIt c id a = Behind (write_stop request (Some tag) there) a (P c id a)
+  BehindIt c id a = BehindConditions request (Some tag) there false a (P c id a)
 
-  stop_told : (stop : Option Sent) → stop ≡ stop_of request (Some tag) exists false → write_stop request (Some tag) there ≡ stop
-  stop_told stop is = sym (is ∙ ap (λ (b : Bool). stop_of request (Some tag) b false) known)
+  module _ (stop : Option Sent) (is : IsStop request (Some tag) exists false stop) where
+    is_its_stop : IsStop request (Some tag) there false stop
+    is_its_stop = subst (λ (b : Bool). IsStop request (Some tag) b false stop) known is
 
-  pub plan_stopped : (reply : Sent) → Some reply ≡ stop_of request (Some tag) exists false → Plans usage t request.closes BehindIt (Stops reply)
-  plan_stopped reply is = stopped_by usage t request.closes BehindIt (Stops reply) reply refl (λ c id. stopped (write_stop request (Some tag) there) reply (P c id (unchanged reply)) (stop_told (Some reply) is))
+    pub plan_stopped : (reply : Sent) → stop ≡ Some reply → Plans usage t request.closes BehindIt (Stops reply)
+    plan_stopped reply so =
+        stopped_by usage t request.closes BehindIt (Stops reply) reply refl (λ c id. stopped request (Some tag) there false stop is_its_stop reply (P c id (unchanged reply)) so)
 
-  pub plan_unstopped : {E : Type 0} (plan : Result Plan E) → None ≡ stop_of request (Some tag) exists false → IfOk plan (Plans usage t request.closes P) → IfOk plan (Plans usage t request.closes BehindIt)
-  plan_unstopped plan is plans = plans_so usage t request.closes P BehindIt (λ c id a so. unstopped (write_stop request (Some tag) there) a (P c id a) (stop_told None is) so) plan plans
+    pub plan_unstopped : {E : Type 0} (plan : Result Plan E) → stop ≡ None → IfOk plan (Plans usage t request.closes P) → IfOk plan (Plans usage t request.closes BehindIt)
+    plan_unstopped plan so plans =
+        plans_so usage t request.closes P BehindIt (λ c id a p. unstopped request (Some tag) there false stop is_its_stop a (P c id a) so p) plan plans
 
 -- ---- PUT
 
@@ -49,7 +51,7 @@ module _ (root : List ℕ) (id : DocId) (usage : Usage) (selector : Selector) (t
   PutsIt c a = PutsNodeOf c id usage selector t root tag request a
 
   abbrev PutsThere : Spot → Content → DocId → Answer → Type 0
-  PutsThere spot c d a = Behind (write_stop request (Some tag) (is_there t selector)) a (PutsFragment c d usage selector t spot request a)
+  PutsThere spot c d a = BehindConditions request (Some tag) (is_there t selector) false a (PutsFragment c d usage selector t spot request a)
 
   pub put_at_spot : {E : Type 0} (spot : Spot) → IsSpot t selector (Ok spot) → (plan : Result Plan E) → IfOk plan (Plans usage t request.closes (PutsThere spot)) → IfOk plan (IsPlanFor usage t id request.closes PutsIt)
   put_at_spot spot is (Ok plan) plans = let p = plans id in record { answers = λ c. (Ok spot, is, p.answers c); may_be_made = p.may_be_made }
@@ -68,9 +70,9 @@ module _ (usage : Usage) (selector : Selector) (t : Tree) (tag : ℕ) (request :
   not_there reply absent so = stopped_by usage t request.closes DeletesIt (Stops reply) reply refl (λ c id. at_false _ _ _ absent (ap unchanged so))
 
   pub there : {E : Type 0} (plan : Result Plan E) → is_there t selector ≡ true
-      → IfOk plan (Plans usage t request.closes (λ c id a. Behind (write_stop request (Some tag) true) a (CutsNode c id usage selector t request a))) → IfOk plan (Plans usage t request.closes DeletesIt)
+      → IfOk plan (Plans usage t request.closes (λ c id a. BehindConditions request (Some tag) true false a (CutsNode c id usage selector t request a))) → IfOk plan (Plans usage t request.closes DeletesIt)
   there plan is plans =
-      plans_so usage t request.closes (λ c id a. Behind (write_stop request (Some tag) true) a (CutsNode c id usage selector t request a)) DeletesIt (λ c id a so. at_true _ _ _ is so) plan plans
+      plans_so usage t request.closes (λ c id a. BehindConditions request (Some tag) true false a (CutsNode c id usage selector t request a)) DeletesIt (λ c id a so. at_true _ _ _ is so) plan plans
 
 -- ---- what is made of a plan
 

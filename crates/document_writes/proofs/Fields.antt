@@ -5,26 +5,17 @@ use Rattle.std.specs.Str.{chars}
 use Rattle.usage_docs.specs.Keys.{word}
 use Rattle.usage_docs.specs.Words.{is_ascii}
 use Rattle.usage_docs.specs.declared.rows.Key.{Key}
-use Rattle.usage_docs.specs.declared.rows.Key.TheVariants.{Name, Uri, Ref, Anchor}
 use Rattle.usage_docs.proofs.Words.{chars_ascii}
-use Rattle.machine_words.specs.Writing.{key_word}
 
-key_spelled : (key : Key) → word key ≡ key_word key
-unfolding word
-key_spelled Name = refl
-key_spelled Uri = refl
-key_spelled Ref = refl
-key_spelled Anchor = refl
-
-key_letters : (key : Key) (text : List ℕ) → text ≡ word key → IsTrue (is_ascii text) → chars text ≡ key_word key
-key_letters key text is ascii = chars_ascii text ascii ∙ is ∙ key_spelled key
+key_letters : (key : Key) (text : List ℕ) → text ≡ word key → IsTrue (is_ascii text) → chars text ≡ word key
+key_letters key text is ascii = chars_ascii text ascii ∙ is
 
 -- a path, `/@` and a key, written one behind the other
 pub field_is : (path field first second text : List ℕ) (key : Key) → field ≡ path → first ≡ field ++ chars (47 ∷ 64 ∷ []) → second ≡ first ++ chars text → text ≡ word key → IsTrue (is_ascii text)
-    → second ≡ path ++ (47 ∷ 64 ∷ key_word key)
+    → second ≡ path ++ (47 ∷ 64 ∷ word key)
 field_is path field first second text key begun more most is ascii =
     most
     ∙ ap (λ x. x ++ chars text) (more ∙ ap (λ x. field ++ x) (chars_ascii (47 ∷ 64 ∷ []) refl))
     ∙ ap (λ x. (field ++ 47 ∷ 64 ∷ []) ++ x) (key_letters key text is ascii)
-    ∙ append_assoc field (47 ∷ 64 ∷ []) (key_word key)
-    ∙ ap (λ x. x ++ (47 ∷ 64 ∷ key_word key)) begun
+    ∙ append_assoc field (47 ∷ 64 ∷ []) (word key)
+    ∙ ap (λ x. x ++ (47 ∷ 64 ∷ word key)) begun

@@ -1,14 +1,14 @@
 //! PUT and DELETE of nodes (RFC 4825, sections 8.2 and 8.4).
-ghost use Rattle.std.specs.Prelude.{◌≡◌, IfOk, IfSome, Some, option_map, true};
+ghost use Rattle.std.specs.Prelude.{◌≡◌, IfOk, IfSome, Some, false, option_map, true};
 ghost use Rattle.doc_names.specs.Usages.{usage_of};
 ghost use Rattle.doc_names.specs.declared.doc_id.DocId.{DocId as TheDocId};
 ghost use Rattle.node_select.specs.declared.selector.End.TheVariants as ends;
 ghost use Rattle.plan_words.specs.Spots.{IsSpotOf};
 ghost use Rattle.store_core.specs.Keeping.{IsSound};
-ghost use Rattle.machine_words.specs.Answers.{Behind, unchanged};
+ghost use Rattle.machine_words.specs.Answers.{BehindConditions, unchanged};
 ghost use Rattle.machine_words.specs.Fragments.{CutsNode, DeletesNode, DeletesNodeOf, PutsFragment, PutsNode, PutsNodeOf, MayBeWritten, is_there};
 ghost use Rattle.machine_words.specs.Resources.{version_of};
-ghost use Rattle.machine_words.specs.Writing.{puts_deeper, write_stop};
+ghost use Rattle.machine_words.specs.Writing.{puts_deeper};
 ghost use Rattle.document_writes.specs.Deciding.{Decides};
 ghost use Rattle.document_writes.specs.Planning.{IsPlanFor};
 
@@ -68,7 +68,7 @@ fn plan_at(
     requires writable { MayBeWritten selector.now }
     requires spot { IsSpotOf tree.now selector.now spot.now }
     ensures plans_the_put { IfOk result (λ plan. (id : TheDocId) → IsPlanFor usage tree.now id request.now.closes
-        (λ c a. Behind (write_stop request.now (Some tag) (is_there tree.now selector.now)) a (PutsFragment c id usage selector.now tree.now spot.now request.now a)) plan) }
+        (λ c a. BehindConditions request.now (Some tag) (is_there tree.now selector.now) false a (PutsFragment c id usage selector.now tree.now spot.now request.now a)) plan) }
 {
     let exists = is_there(alloc, tree, selector, spot);
     match stop(alloc, request, Some(tag), exists, false)? {

@@ -28,6 +28,8 @@ use Rattle.xcap_uri.specs.declared.fault.UriFault.{UriFault}
 use Rattle.notes.specs.Notes.{Note}
 use Rattle.reply_text.specs.Heads.{Sent, plain}
 use Rattle.http_wire.specs.declared.request.Request.{Request}
+use Rattle.request_terms.specs.Conditions.{IsStop}
+use Rattle.request_terms.proofs.ReadConditions.{one_stop}
 use Rattle.request_terms.specs.MediaTypes.{document_media, has_type}
 use Rattle.request_terms.specs.Methods.{method_of, is_reading}
 use Rattle.request_terms.specs.Rights.{is_allowed}
@@ -37,11 +39,11 @@ use Rattle.node_texts.specs.Nodes.{node_media}
 use Rattle.store_core.specs.Changing.{act_of, against, answered, changing, content_after, document_in, held_name, note_for}
 use Rattle.store_core.specs.Held.{Content, Held}
 use Rattle.store_core.specs.declared.refusal.StoreRefusal.{StoreRefusal}
-use Rattle.machine_words.specs.Answers.{Answer, Behind, Made, not_allowed, unchanged}
+use Rattle.machine_words.specs.Answers.{Answer, Behind, BehindConditions, Made, not_allowed, unchanged}
 use Rattle.machine_words.specs.Fragments.{CutsNode, DeletesNodeIn, PutsAt, PutsElement, PutsFragment, PutsFrom, PutsNodeIn, PutsValue, cut_reply, is_there, levels_for, plan_answer, put_planned, scope_for}
 use Rattle.machine_words.specs.Requests.{ByMethod, ByTarget, ByUser, Deletes, IsAnswer, IsAnswered, Puts, auid_of, home_of, is_read_only, takes}
 use Rattle.machine_words.specs.Resources.{version_of}
-use Rattle.machine_words.specs.Writing.{DeletesDocumentIn, IfStored, PutsDocument, PutsSpelled, PutsText, by_judgement, change_answer, deleted_reply, put_answer, put_reply, store_answer, tag_of, write_stop}
+use Rattle.machine_words.specs.Writing.{DeletesDocumentIn, IfStored, PutsDocument, PutsSpelled, PutsText, by_judgement, change_answer, deleted_reply, put_answer, put_reply, store_answer, tag_of}
 use Rattle.machine_words.proofs.Steps.{made_change}
 
 -- ---- a line that isn't stopped
@@ -53,9 +55,12 @@ either_made : (b : Bool) (P : Type 0) (a : Answer) (reply : Sent) (made : Made) 
 either_made true P a reply made is h = (refl, h)
 either_made false P a reply made is h = absurd (stopped_never a reply made is h)
 
-behind_made : (stop : Option Sent) (P : Type 0) (a : Answer) (made : Made) → a.made ≡ Some made → Behind stop a P → P
-behind_made None P a made is h = h
-behind_made (Some reply) P a made is h = absurd (stopped_never a reply made is h)
+past_made : (stop : Option Sent) (P : Type 0) (a : Answer) (made : Made) → a.made ≡ Some made → Behind stop a P → P
+past_made None P a made is h = h
+past_made (Some reply) P a made is h = absurd (stopped_never a reply made is h)
+
+behind_made : (request : Request) (tag : Option ℕ) (exists : Bool) (P : Type 0) (a : Answer) (made : Made) → a.made ≡ Some made → BehindConditions request tag exists false a P → P
+behind_made request tag exists P a made is h = past_made h.0 P a made is h.2
 
 stored_made : (u : Option Usage) (request : Request) (P : Usage → Type 0) (a : Answer) (made : Made) → a.made ≡ Some made → IfStored u request a P → (usage : Usage) × (u ≡ Some usage) × P usage
 stored_made None request P a made is h = absurd (stopped_never a (plain 403 request.closes) made is h)
@@ -65,9 +70,12 @@ pub match_true : (b : Bool) (P Q : Type 0) → b ≡ true → MatchBool b P Q �
 match_true true P Q is h = h
 match_true false P Q is h = let z : false ≡ true = is in cc
 
-pub unstopped_by : (stop : Option Sent) (P : Type 0) (a : Answer) → stop ≡ None → Behind stop a P → P
-unstopped_by None P a is h = h
-unstopped_by (Some reply) P a is h = let z : Some reply ≡ None = is in cc
+past_none : (stop : Option Sent) (P : Type 0) (a : Answer) → stop ≡ None → Behind stop a P → P
+past_none None P a is h = h
+past_none (Some reply) P a is h = let z : Some reply ≡ None = is in cc
+
+pub unstopped_by : (request : Request) (tag : Option ℕ) (exists : Bool) (P : Type 0) (a : Answer) → IsStop request tag exists false None → BehindConditions request tag exists false a P → P
+unstopped_by request tag exists P a free h = past_none h.0 P a (one_stop request tag exists false h.0 None h.1 free) h.2
 
 -- ---- up to the method
 
@@ -153,7 +161,7 @@ pub record DocumentPut (c : Content) (id : DocId) (usage : Usage) (request : Req
 pub document_put : (c : Content) (id : DocId) (usage : Usage) (request : Request) (a : Answer) (made : Made) → a.made ≡ Some made → PutsDocument c id usage request a → DocumentPut c id usage request a
 document_put c id usage request a made is h =
     let Body : Type 0 = PutsSpelled usage request (put_answer c id request.closes) a in
-    let body = behind_made (write_stop request (tag_of (version_of c id)) (is_some (version_of c id))) (MatchBool (has_type (document_media id.auid) request.fields) Body (a ≡ unchanged (plain 415 request.closes))) a made is h in
+    let body = behind_made request (tag_of (version_of c id)) (is_some (version_of c id)) (MatchBool (has_type (document_media id.auid) request.fields) Body (a ≡ unchanged (plain 415 request.closes))) a made is h in
     let typed = either_made (has_type (document_media id.auid) request.fields) Body a (plain 415 request.closes) made is body in
     by typed.0 typed.1.0 typed.1.1 typed.1.2
   where
@@ -215,7 +223,7 @@ module _ (c : Content) (id : DocId) (usage : Usage) (selector : Selector) (t : T
 
   put_from : (root : List ℕ) (tag : ℕ) (spot : Result Spot NoParent) → IsSpot t selector spot → PutsFrom c id usage selector t root tag spot request a → TypedPut c id usage selector t request a
   put_from root tag (Err none) place h = absurd (stopped_never a _ made is h)
-  put_from root tag (Ok spot) place h = fragment_put spot place (behind_made (write_stop request (Some tag) (is_there t selector)) (PutsFragment c id usage selector t spot request a) a made is h)
+  put_from root tag (Ok spot) place h = fragment_put spot place (behind_made request (Some tag) (is_there t selector) (PutsFragment c id usage selector t spot request a) a made is h)
 
 -- of a document that is held
 pub record HeldPut (c : Content) (id : DocId) (usage : Usage) (selector : Selector) (version : Option (Tree × ℕ)) (request : Request) (a : Answer) : Type 0 where
@@ -244,7 +252,7 @@ document_deleted c id (Some (t, tag)) request a made is h = record {
   tree = t;
   tag = tag;
   held = refl;
-  answers = behind_made (write_stop request (Some tag) true) (a ≡ change_answer c id RemoveDocument request.closes (deleted_reply request.closes)) a made is h;
+  answers = behind_made request (Some tag) true (a ≡ change_answer c id RemoveDocument request.closes (deleted_reply request.closes)) a made is h;
 }
 
 pub record NodeDeleted (c : Content) (id : DocId) (usage : Usage) (selector : Selector) (version : Option (Tree × ℕ)) (request : Request) (a : Answer) : Type 0 where
@@ -260,8 +268,8 @@ pub node_deleted : (c : Content) (id : DocId) (usage : Usage) (selector : Select
 node_deleted c id usage selector None request a made is h = absurd (stopped_never a _ made is h)
 node_deleted c id usage selector (Some (t, tag)) request a made is h =
     let Last : Type 0 = CutsNode c id usage selector t request a in
-    let there = either_made (is_there t selector) (Behind (write_stop request (Some tag) true) a Last) a (plain 404 request.closes) made is h in
-    let cut = behind_made (write_stop request (Some tag) true) Last a made is there.1 in
+    let there = either_made (is_there t selector) (BehindConditions request (Some tag) true false a Last) a (plain 404 request.closes) made is h in
+    let cut = behind_made request (Some tag) true Last a made is there.1 in
     by cut.0 cut.1 cut.2
   where
     by : (plan : Result Change EditRefusal) → IsDeletePlan usage t selector plan → a ≡ plan_answer c id request.closes (cut_reply request.closes) plan → NodeDeleted c id usage selector (Some (t, tag)) request a

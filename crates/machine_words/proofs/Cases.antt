@@ -1,10 +1,11 @@
 -- The cases of a test, of a reply that stops a request, and of a usage.
-use Rattle.std.proofs.Common.{◌≡◌, Bool, true, false, Option, None, Some, refl, subst, sym}
+use Rattle.std.proofs.Common.{◌≡◌, ℕ, Bool, true, false, Option, None, Some, refl, subst, sym}
 use Rattle.std.specs.Bool.{MatchBool}
 use Rattle.doc_names.specs.declared.usages.Usage.{Usage}
 use Rattle.http_wire.specs.declared.request.Request.{Request}
 use Rattle.reply_text.specs.Heads.{Sent, plain}
-use Rattle.machine_words.specs.Answers.{Answer, Behind, unchanged}
+use Rattle.request_terms.specs.Conditions.{IsStop}
+use Rattle.machine_words.specs.Answers.{Answer, Behind, BehindConditions, unchanged}
 use Rattle.machine_words.specs.Writing.{IfStored}
 
 -- either case of a test
@@ -20,11 +21,12 @@ pub at_false : (b : Bool) (P Q : Type 0) → b ≡ false → Q → MatchBool b P
 at_false b P Q is q = subst (λ (t : Bool). MatchBool t P Q) (sym is) q
 
 -- a reply that stops the request is the answer; without one, what comes behind it counts
-pub stopped : (stop : Option Sent) (reply : Sent) (P : Type 0) → stop ≡ Some reply → Behind stop (unchanged reply) P
-stopped stop reply P is = subst (λ (s : Option Sent). Behind s (unchanged reply) P) (sym is) refl
+module _ (request : Request) (tag : Option ℕ) (exists reading : Bool) (stop : Option Sent) (is : IsStop request tag exists reading stop) where
+  pub stopped : (reply : Sent) (P : Type 0) → stop ≡ Some reply → BehindConditions request tag exists reading (unchanged reply) P
+  stopped reply P so = (stop, is, subst (λ (s : Option Sent). Behind s (unchanged reply) P) (sym so) refl)
 
-pub unstopped : (stop : Option Sent) (a : Answer) (P : Type 0) → stop ≡ None → P → Behind stop a P
-unstopped stop a P is p = subst (λ (s : Option Sent). Behind s a P) (sym is) p
+  pub unstopped : (a : Answer) (P : Type 0) → stop ≡ None → P → BehindConditions request tag exists reading a P
+  unstopped a P so p = (stop, is, subst (λ (s : Option Sent). Behind s a P) (sym so) p)
 
 -- a usage that stores documents, and one that doesn't
 pub stored : (u : Option Usage) (request : Request) (a : Answer) (P : Usage → Type 0) (usage : Usage) → u ≡ Some usage → P usage → IfStored u request a P

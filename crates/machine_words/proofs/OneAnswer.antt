@@ -1,8 +1,9 @@
 -- A request has exactly one answer where this is held.
-use Rattle.std.proofs.Common.{◌≡◌, ℕ, Bool, true, false, not, List, [], is_some, Option, None, Some, Result, Ok, Err, refl, sym, ap, subst, ◌∙◌}
+use Rattle.std.proofs.Common.{◌≡◌, ℕ, Bool, true, false, not, List, [], is_some, Option, None, Some, Result, Ok, Err, encode_utf8_all, refl, sym, ap, subst, ◌∙◌}
 use Rattle.std.specs.Bool.{MatchBool}
 use Rattle.xml_tree.specs.Tree.{Tree}
 use Rattle.tree_text.specs.Faults.{BodyAnswer, TextAnswer}
+use Rattle.tree_text.specs.Printing.{document_print}
 use Rattle.tree_text.specs.readers.Whole.{body_read, text_read}
 use Rattle.tree_text.proofs.ReadAnswers.{body_answer, text_answer}
 use Rattle.tree_text.proofs.OneAnswer.{one_body as one_value_reading, one_text as one_reading}
@@ -38,18 +39,21 @@ use Rattle.conflict_docs.specs.declared.conflicts.ErrorBody.TheVariants as confl
 use Rattle.reply_text.specs.Heads.{Sent, plain}
 use Rattle.reply_text.specs.declared.media_types.Media.{Media}
 use Rattle.http_wire.specs.declared.request.Request.{Request}
+use Rattle.request_terms.specs.Conditions.{IsStop}
+use Rattle.request_terms.proofs.ReadConditions.{one_stop, some_stop}
 use Rattle.request_terms.specs.MediaTypes.{document_media, has_type}
 use Rattle.request_terms.specs.Methods.{method_of, is_reading}
 use Rattle.request_terms.specs.Rights.{is_allowed}
 use Rattle.request_terms.specs.declared.method.Method.{Method}
 use Rattle.request_terms.specs.declared.method.Method.TheVariants.{Get, Head, Put, Delete, Other}
-use Rattle.node_texts.specs.Nodes.{node_media}
+use Rattle.node_texts.specs.Nodes.{encoded, found_text, node_media}
 use Rattle.store_core.specs.Held.{Content}
-use Rattle.machine_words.specs.Answers.{Answer, Behind, conflict, not_allowed, unchanged}
-use Rattle.machine_words.specs.Requests.{ByMethod, ByTarget, ByUser, Deletes, IsAnswer, IsAnswered, Puts, auid_of, fault_status, home_of, is_bindings, is_read_only, reads, takes}
-use Rattle.machine_words.specs.Resources.{version_of}
+use Rattle.machine_words.specs.Answers.{Answer, Behind, BehindConditions, conflict, found, not_allowed, unchanged}
+use Rattle.machine_words.specs.Requests.{ByMethod, ByTarget, ByUser, Deletes, IsAnswer, IsAnswered, Puts, auid_of, fault_status, home_of, is_bindings, is_read_only, Reads, takes}
+use Rattle.machine_words.specs.Reading.{SendsDocument, SendsFound, SendsNode, as_asked}
+use Rattle.machine_words.specs.Resources.{Resource, absent, beyond_limit, there, resource, version_of}
 use Rattle.machine_words.specs.Fragments.{CutsNode, DeletesNodeIn, PutsAt, PutsElement, PutsElementText, PutsFragment, PutsFrom, PutsNodeIn, PutsNodeOf, PutsValue, PutsValueText, cut_reply, is_there, levels_for, plan_answer, put_planned, scope_for, value_conflict}
-use Rattle.machine_words.specs.Writing.{DeletesDocumentIn, IfStored, PutsBody, PutsDocument, PutsSpelled, PutsText, by_judgement, change_answer, deleted_reply, puts_deeper, put_answer, tag_of, text_conflict, write_stop}
+use Rattle.machine_words.specs.Writing.{DeletesDocumentIn, IfStored, PutsBody, PutsDocument, PutsSpelled, PutsText, by_judgement, change_answer, deleted_reply, puts_deeper, put_answer, tag_of, text_conflict}
 
 -- there is an answer of this kind, and each one of it is that
 record IsOne (Is : Answer → Type 0) : Type 0 where
@@ -64,10 +68,6 @@ one_either : (test : Bool) (P Q : Answer → Type 0) → (test ≡ true → IsOn
 one_either true P Q p q = p refl
 one_either false P Q p q = q refl
 
-one_behind : (stop : Option Sent) (P : Answer → Type 0) → IsOne P → IsOne (λ a. Behind stop a (P a))
-one_behind None P p = p
-one_behind (Some reply) P p = one_equal (unchanged reply)
-
 one_stored : (u : Option Usage) (request : Request) (P : Usage → Answer → Type 0) → ((usage : Usage) → IsOne (P usage)) → IsOne (λ a. IfStored u request a (λ usage. P usage a))
 one_stored None request P p = one_equal (unchanged (plain 403 request.closes))
 one_stored (Some usage) request P p = p usage
@@ -75,6 +75,42 @@ one_stored (Some usage) request P p = p usage
 -- the answer goes by one thing that is found so
 one_by : {R : Type 0} (IsFound : R → Type 0) (P : R → Answer → Type 0) (r : R) → IsFound r → ((x : R) → IsFound x → x ≡ r) → IsOne (P r) → IsOne (λ a. (x : R) × IsFound x × P x a)
 one_by IsFound P r found only_r one = record { answer = one.answer; is = (r, found, one.is); only = λ a h. one.only a (subst (λ x. P x a) (only_r h.0 h.1) h.2) }
+
+one_past : (stop : Option Sent) (P : Answer → Type 0) → IsOne P → IsOne (λ a. Behind stop a (P a))
+one_past None P p = p
+one_past (Some reply) P p = one_equal (unchanged reply)
+
+one_behind : (request : Request) (tag : Option ℕ) (exists reading : Bool) (P : Answer → Type 0) → IsOne P → IsOne (λ a. BehindConditions request tag exists reading a (P a))
+one_behind request tag exists reading P p =
+    let stop = some_stop request tag exists reading in
+    one_by (IsStop request tag exists reading) (λ s a. Behind s a (P a)) stop.0 stop.1 (λ s is. one_stop request tag exists reading s stop.0 is stop.1) (one_past stop.0 P p)
+
+-- ---- reading
+
+module _ (method : Method) (request : Request) where
+  one_found : (text : Option (List ℕ)) (tag : ℕ) (media : Media) → IsOne (λ a. SendsFound text tag media method request a)
+  one_found None tag media = one_equal (unchanged (plain 404 request.closes))
+  one_found (Some text) tag media =
+      let last : Answer = unchanged (as_asked method (found (Some tag) media text request.closes)) in
+      one_behind request (Some tag) true true (λ a. a ≡ last) (one_equal last)
+
+  one_document_sent : (r : Resource) (media : Media) → IsOne (λ a. SendsDocument r media method request a)
+  one_document_sent absent media = one_equal (unchanged (plain 404 request.closes))
+  one_document_sent beyond_limit media = one_equal (unchanged (plain 507 request.closes))
+  one_document_sent (there t tag) media = one_found (Some (encode_utf8_all (document_print t))) tag media
+
+  one_node_sent : (r : Resource) (selector : Selector) → IsOne (λ a. SendsNode r selector method request a)
+  one_node_sent absent selector = one_equal (unchanged (plain 404 request.closes))
+  one_node_sent beyond_limit selector = one_equal (unchanged (plain 507 request.closes))
+  one_node_sent (there t tag) selector = one_found (encoded (found_text t selector)) tag (node_media selector.end)
+
+  one_read : (root : List ℕ) (c : Content) (target : Target) → IsOne (λ a. Reads root c target method request a)
+  one_read root c (Document id) = one_document_sent (resource c id) (document_media id.auid)
+  one_read root c (Node id selector) = one_node_sent (resource c id) selector
+  one_read root c (Deep auid home) = one_equal (unchanged (plain 404 request.closes))
+  one_read root c (Feed mode tag id) = one_equal (unchanged (plain 501 request.closes))
+  one_read root c (ElementFeed tag id selector raw) = one_equal (unchanged (plain 501 request.closes))
+  one_read root c (Flat id service) = one_equal (unchanged (plain 501 request.closes))
 
 -- ---- PUT of documents
 
@@ -98,7 +134,7 @@ one_body usage media request answer =
 module _ (c : Content) (id : DocId) (request : Request) where
   one_document_put : (usage : Usage) → IsOne (λ a. PutsDocument c id usage request a)
   one_document_put usage =
-      one_behind (write_stop request (tag_of (version_of c id)) (is_some (version_of c id))) (λ a. PutsBody usage (document_media id.auid) request (put_answer c id request.closes) a)
+      one_behind request (tag_of (version_of c id)) (is_some (version_of c id)) false (λ a. PutsBody usage (document_media id.auid) request (put_answer c id request.closes) a)
       (one_body usage (document_media id.auid) request (put_answer c id request.closes))
 
   -- ---- PUT of nodes
@@ -146,7 +182,7 @@ module _ (c : Content) (id : DocId) (request : Request) where
 
     one_from : (root : List ℕ) (tag : ℕ) (spot : Result Spot NoParent) → IsSpot t selector spot → IsOne (λ a. PutsFrom c id usage selector t root tag spot request a)
     one_from root tag (Err none) is = one_equal (unchanged (conflict (conflicts.NoParent (ancestor_uri root id t selector.steps)) request.closes))
-    one_from root tag (Ok spot) is = one_behind (write_stop request (Some tag) (is_there t selector)) (λ a. PutsFragment c id usage selector t spot request a) (one_fragment spot is)
+    one_from root tag (Ok spot) is = one_behind request (Some tag) (is_there t selector) false (λ a. PutsFragment c id usage selector t spot request a) (one_fragment spot is)
 
     one_node_of : (root : List ℕ) (tag : ℕ) → IsOne (λ a. PutsNodeOf c id usage selector t root tag request a)
     one_node_of root tag =
@@ -163,7 +199,7 @@ module _ (c : Content) (id : DocId) (request : Request) where
   one_document_deleted None = one_equal (unchanged (plain 404 request.closes))
   one_document_deleted (Some (t, tag)) =
       let last : Answer = change_answer c id RemoveDocument request.closes (deleted_reply request.closes) in
-      one_behind (write_stop request (Some tag) true) (λ a. a ≡ last) (one_equal last)
+      one_behind request (Some tag) true false (λ a. a ≡ last) (one_equal last)
 
   one_cut : (usage : Usage) (selector : Selector) (t : Tree) → (selector.end ≡ ends.Namespaces → ⊥) → IsOne (λ a. CutsNode c id usage selector t request a)
   one_cut usage selector t node =
@@ -174,10 +210,9 @@ module _ (c : Content) (id : DocId) (request : Request) where
   one_node_deleted : (usage : Usage) (selector : Selector) → (selector.end ≡ ends.Namespaces → ⊥) → (version : Option (Tree × ℕ)) → IsOne (λ a. DeletesNodeIn c id usage selector version request a)
   one_node_deleted usage selector node None = one_equal (unchanged (plain 404 request.closes))
   one_node_deleted usage selector node (Some (t, tag)) =
-      let stop = write_stop request (Some tag) true in
       let Last : Answer → Type 0 = λ a. CutsNode c id usage selector t request a in
       let missing : Answer = unchanged (plain 404 request.closes) in
-      one_either (is_there t selector) (λ a. Behind stop a (Last a)) (λ a. a ≡ missing) (λ _. one_behind stop Last (one_cut usage selector t node)) (λ _. one_equal missing)
+      one_either (is_there t selector) (λ a. BehindConditions request (Some tag) true false a (Last a)) (λ a. a ≡ missing) (λ _. one_behind request (Some tag) true false Last (one_cut usage selector t node)) (λ _. one_equal missing)
 
 -- ---- all in order
 
@@ -204,8 +239,8 @@ module _ (root : List ℕ) (c : Content) (request : Request) where
   one_deleted (Flat id service) usage written = let none : ⊥ = cc in absurd none
 
   one_by_method : (target : Target) (method : Method) → takes target method ≡ true → IsOne (λ a. ByMethod root c target method request a)
-  one_by_method target Get takes_it = one_equal (unchanged (reads root c target Get request))
-  one_by_method target Head takes_it = one_equal (unchanged (reads root c target Head request))
+  one_by_method target Get takes_it = one_read Get request root c target
+  one_by_method target Head takes_it = one_read Head request root c target
   one_by_method target Put takes_it = one_stored (usage_of (auid_of target)) request (λ usage a. Puts root c target usage request a) (λ usage. one_put target usage takes_it)
   one_by_method target Delete takes_it = one_stored (usage_of (auid_of target)) request (λ usage a. Deletes c target usage request a) (λ usage. one_deleted target usage takes_it)
   one_by_method target Other takes_it = let none : ⊥ = cc in absurd none

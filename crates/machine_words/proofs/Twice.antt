@@ -46,6 +46,8 @@ use Rattle.plan_words.proofs.Twice.{judged_ok, tested_ok}
 use Rattle.notes.specs.Notes.{Note}
 use Rattle.reply_text.specs.Heads.{Sent, plain}
 use Rattle.http_wire.specs.declared.request.Request.{Request}
+use Rattle.request_terms.specs.Conditions.{IsStop}
+use Rattle.request_terms.proofs.ReadConditions.{no_stop}
 use Rattle.request_terms.specs.MediaTypes.{document_media, has_type}
 use Rattle.store_core.specs.Changing.{Act, Edits, act_of, against, against_number, against_tree, answered, changing, content_after, document_in, held_name, note_for, or_else, only_if}
 use Rattle.store_core.specs.Held.{Content, Held}
@@ -57,15 +59,15 @@ use Rattle.machine_words.specs.Effects.{IsUnconditional, LeavesTrees, trees_of}
 use Rattle.machine_words.specs.Fragments.{PutsAt, PutsElementText, PutsFragment, PutsFrom, PutsNodeOf, PutsValueText, is_there, levels_for, put_planned, scope_for}
 use Rattle.machine_words.specs.Machine.{content_after_answer}
 use Rattle.machine_words.specs.Resources.{version_of}
-use Rattle.machine_words.specs.Writing.{PutsDocument, PutsSpelled, PutsText, by_judgement, change_answer, put_answer, put_change, put_reply, store_answer, tag_of, write_stop}
+use Rattle.machine_words.specs.Writing.{PutsDocument, PutsSpelled, PutsText, by_judgement, change_answer, put_answer, put_change, put_reply, store_answer, tag_of}
 use Rattle.machine_words.proofs.Accepted.{match_true, unstopped_by}
 use Rattle.machine_words.proofs.After.{same_trees}
 use Rattle.machine_words.proofs.Steps.{made_change}
 
 -- ---- no condition stops it
 
-pub unstopped : (request : Request) (tag : Option ℕ) (exists : Bool) → IsUnconditional request → write_stop request tag exists ≡ None
-unstopped request tag exists h = rw h.no_match (rw h.no_none_match refl)
+pub unstopped : (request : Request) (tag : Option ℕ) (exists : Bool) → IsUnconditional request → IsStop request tag exists false None
+unstopped request tag exists h = no_stop request tag exists false h.no_match h.no_none_match
 
 -- ---- the change once more
 
@@ -102,7 +104,7 @@ pub document_again : (c : Content) (id : DocId) (usage : Usage) (request : Reque
     → IsUnconditional request → ◌≡◌ {A = Option (Tree × ℕ)} (version_of c id) (Some (t, tag)) → PutsDocument c id usage request b → b ≡ change_answer c id (Replace [] t) request.closes (put_reply true request.closes)
 document_again c id usage request t tag b typed spelled judged free held h =
     let Body : Type 0 = PutsSpelled usage request (put_answer c id request.closes) b in
-    let body = unstopped_by (write_stop request (tag_of (version_of c id)) (is_some (version_of c id))) (MatchBool (has_type (document_media id.auid) request.fields) Body (b ≡ unchanged (plain 415 request.closes))) b
+    let body = unstopped_by request (tag_of (version_of c id)) (is_some (version_of c id)) (MatchBool (has_type (document_media id.auid) request.fields) Body (b ≡ unchanged (plain 415 request.closes))) b
     (unstopped request (tag_of (version_of c id)) (is_some (version_of c id)) free) h in
     let read = match_true (has_type (document_media id.auid) request.fields) Body (b ≡ unchanged (plain 415 request.closes)) typed body in
     let same : read.0 ≡ Ok t = one_text 64 [] request.body read.0 (Ok t) read.1 spelled in
@@ -194,7 +196,7 @@ module _ (c : Content) (id : DocId) (usage : Usage) (selector : Selector) (t : T
   put_at root tag spot place h =
       let same : h.0 ≡ Ok spot = plans.one_spot t selector h.0 (Ok spot) h.1 place in
       let here : PutsFrom c id usage selector t root tag (Ok spot) request b = subst (λ (r : Result Spot NoParent). PutsFrom c id usage selector t root tag r request b) same h.2 in
-      let fragment = unstopped_by (write_stop request (Some tag) (is_there t selector)) (PutsFragment c id usage selector t spot request b) b (unstopped request (Some tag) (is_there t selector) free) here in
+      let fragment = unstopped_by request (Some tag) (is_there t selector) (PutsFragment c id usage selector t spot request b) b (unstopped request (Some tag) (is_there t selector) free) here in
       match_true (has_type (node_media selector.end) request.fields) (PutsAt c id usage selector t spot request b) (b ≡ unchanged (plain 415 request.closes)) typed fragment
 
   planned : (r : Result Change EditRefusal) (change : Change) → r ≡ Ok change → is_there t selector ≡ true → b ≡ put_planned c id usage selector t request r → b ≡ change_answer c id change request.closes (put_reply true request.closes)

@@ -1,6 +1,6 @@
 -- The two ways to answer a request, each with a reply that closes where the request does: with one that tells no change, and nothing is
 -- changed; or with one that tells a change which the store makes, and which may be asked for where each document held is sound.
-use Rattle.std.proofs.Common.{◌≡◌, ◌≤◌, ℕ, Bool, true, false, not, ◌||◌, ◌==◌, List, [], is_some, Option, None, Some, Result, Ok, Err, IfOk, unwrap_or, refl, sym, subst, arith, encode_utf8_all}
+use Rattle.std.proofs.Common.{◌≡◌, ◌≤◌, ℕ, Bool, true, false, not, ◌||◌, ◌==◌, List, [], is_some, Option, None, Some, Result, Ok, Err, IfOk, refl, sym, subst, arith, encode_utf8_all}
 use Rattle.xml_tree.specs.Tree.{Tree, height}
 use Rattle.xml_tree.specs.Proper.{ProperIn}
 use Rattle.tree_text.specs.Faults.{BodyAnswer, TextAnswer}
@@ -45,7 +45,7 @@ use Rattle.reply_text.specs.declared.media_types.Media.{Media}
 use Rattle.conflict_docs.specs.declared.conflicts.ErrorBody.{ErrorBody}
 use Rattle.conflict_docs.specs.declared.conflicts.ErrorBody.TheVariants as conflicts
 use Rattle.http_wire.specs.declared.request.Request.{Request}
-use Rattle.request_terms.specs.Conditions.{outcome_of, stopped_by}
+use Rattle.request_terms.specs.Conditions.{stopped_by}
 use Rattle.request_terms.specs.MediaTypes.{document_media, has_type}
 use Rattle.request_terms.specs.Methods.{method_of, is_reading}
 use Rattle.request_terms.specs.Rights.{is_allowed}
@@ -60,10 +60,10 @@ use Rattle.store_core.specs.Held.{Content}
 use Rattle.store_core.specs.Keeping.{IsUsers}
 use Rattle.store_core.specs.declared.refusal.StoreRefusal.{StoreRefusal}
 use Rattle.store_core.specs.declared.refusal.StoreRefusal.TheVariants as refusals
-use Rattle.machine_words.specs.Answers.{Answer, Behind, conflict, found, not_allowed, unchanged}
+use Rattle.machine_words.specs.Answers.{Answer, Behind, BehindConditions, conflict, found, not_allowed, unchanged}
 use Rattle.machine_words.specs.Laws.{tells_change}
-use Rattle.machine_words.specs.Reading.{as_asked, document_reply, if_found, node_reply}
-use Rattle.machine_words.specs.Requests.{ByMethod, ByTarget, ByUser, Deletes, IsAnswer, IsAnswered, IsWritableTarget, Puts, auid_of, fault_status, home_of, is_read_only, reads, takes}
+use Rattle.machine_words.specs.Reading.{SendsDocument, SendsFound, SendsNode, as_asked}
+use Rattle.machine_words.specs.Requests.{ByMethod, ByTarget, ByUser, Deletes, IsAnswer, IsAnswered, IsWritableTarget, Puts, auid_of, fault_status, home_of, is_read_only, Reads, takes}
 use Rattle.machine_words.specs.Resources.{Resource, absent, beyond_limit, there, resource, version_of}
 use Rattle.machine_words.specs.Fragments.{CutsNode, DeletesNodeIn, PutsAt, PutsElementText, PutsFragment, PutsFrom, PutsNodeIn, PutsValueText, cut_reply, is_there, levels_for, plan_answer, plan_refused, put_planned, scope_for}
 use Rattle.machine_words.specs.Writing.{DeletesDocumentIn, IfStored, PutsBody, PutsDocument, PutsSpelled, PutsText, by_judgement, change_answer, deleted_reply, fault_conflict, put_answer, put_change, put_reply, refused, store_answer, tag_of, text_conflict}
@@ -102,11 +102,14 @@ module _ (method : Method) (c : Content) (request : Request) (a : Answer) where
   conflicts_so body is = refuses (conflict body request.closes) refl refl refl is
 
   -- what a condition replies, and what comes behind it
-  behind : (o : Outcome) (tag : Option ℕ) (P : Type 0) → (P → Way method request.closes c a) → Behind (stopped_by o tag request.closes) a P → Way method request.closes c a
-  behind Unreadable tag P so is = refuses _ refl refl refl is
-  behind Go tag P so is = so is
-  behind NotModified tag P so is = refuses _ refl refl refl is
-  behind Failed tag P so is = refuses _ refl refl refl is
+  by_outcome : (o : Outcome) (tag : Option ℕ) (P : Type 0) → (P → Way method request.closes c a) → Behind (stopped_by o tag request.closes) a P → Way method request.closes c a
+  by_outcome Unreadable tag P so is = refuses _ refl refl refl is
+  by_outcome Go tag P so is = so is
+  by_outcome NotModified tag P so is = refuses _ refl refl refl is
+  by_outcome Failed tag P so is = refuses _ refl refl refl is
+
+  behind : (tag : Option ℕ) (exists reading : Bool) (P : Type 0) → (P → Way method request.closes c a) → BehindConditions request tag exists reading a P → Way method request.closes c a
+  behind tag exists reading P so is = by_outcome is.1.0 tag P so (subst (λ (stop : Option Sent). Behind stop a P) is.1.2 is.2)
 
   store_refuses : (refusal : StoreRefusal) → a ≡ unchanged (refused refusal request.closes) → Way method request.closes c a
   store_refuses (refusals.ServiceTaken clash) is = refuses _ refl refl refl is
@@ -150,34 +153,30 @@ asked_closes Put reply = refl
 asked_closes Delete reply = refl
 asked_closes Other reply = refl
 
-stop_closes : (o : Outcome) (tag : Option ℕ) (closes : Bool) (reply : Sent) → reply.closes ≡ closes → (unwrap_or (stopped_by o tag closes) reply).closes ≡ closes
-stop_closes Unreadable tag closes reply same = refl
-stop_closes Go tag closes reply same = same
-stop_closes NotModified tag closes reply same = refl
-stop_closes Failed tag closes reply same = refl
+module _ (method : Method) (request : Request) (c : Content) (a : Answer) (quiet : (status : ℕ) → tells_change method status ≡ false) where
+  found_way : (text : Option (List ℕ)) (tag : ℕ) (media : Media) → SendsFound text tag media method request a → Way method request.closes c a
+  found_way None tag media is = only method c request a 404 refl refl is
+  found_way (Some text) tag media is =
+      let reply = as_asked method (found (Some tag) media text request.closes) in
+      behind method c request a (Some tag) true true (a ≡ unchanged reply) (stays reply (quiet reply.status) (asked_closes method (found (Some tag) media text request.closes))) is
 
-found_closes : (text : Option (List ℕ)) (tag : ℕ) (media : Media) (method : Method) (request : Request) → (if_found text tag media method request).closes ≡ request.closes
-found_closes None tag media method request = refl
-found_closes (Some text) tag media method request =
-    stop_closes (outcome_of request.fields (Some tag) true true) (Some tag) request.closes (as_asked method (found (Some tag) media text request.closes)) (asked_closes method (found (Some tag) media text request.closes))
+  document_way : (r : Resource) (media : Media) → SendsDocument r media method request a → Way method request.closes c a
+  document_way absent media is = only method c request a 404 refl refl is
+  document_way beyond_limit media is = only method c request a 507 refl refl is
+  document_way (there t tag) media is = found_way (Some (encode_utf8_all (document_print t))) tag media is
 
-document_closes : (r : Resource) (media : Media) (method : Method) (request : Request) → (document_reply r media method request).closes ≡ request.closes
-document_closes absent media method request = refl
-document_closes beyond_limit media method request = refl
-document_closes (there t tag) media method request = found_closes (Some (encode_utf8_all (document_print t))) tag media method request
+  node_way : (r : Resource) (selector : Selector) → SendsNode r selector method request a → Way method request.closes c a
+  node_way absent selector is = only method c request a 404 refl refl is
+  node_way beyond_limit selector is = only method c request a 507 refl refl is
+  node_way (there t tag) selector is = found_way (encoded (found_text t selector)) tag (node_media selector.end) is
 
-node_closes : (r : Resource) (selector : Selector) (method : Method) (request : Request) → (node_reply r selector method request).closes ≡ request.closes
-node_closes absent selector method request = refl
-node_closes beyond_limit selector method request = refl
-node_closes (there t tag) selector method request = found_closes (encoded (found_text t selector)) tag (node_media selector.end) method request
-
-reads_closes : (root : List ℕ) (c : Content) (target : Target) (method : Method) (request : Request) → (reads root c target method request).closes ≡ request.closes
-reads_closes root c (Document id) method request = document_closes (resource c id) (document_media id.auid) method request
-reads_closes root c (Node id selector) method request = node_closes (resource c id) selector method request
-reads_closes root c (Deep auid home) method request = refl
-reads_closes root c (Feed mode tag id) method request = refl
-reads_closes root c (ElementFeed tag id selector raw) method request = refl
-reads_closes root c (Flat id service) method request = refl
+  reads_way : (root : List ℕ) (target : Target) → Reads root c target method request a → Way method request.closes c a
+  reads_way root (Document id) is = document_way (resource c id) (document_media id.auid) is
+  reads_way root (Node id selector) is = node_way (resource c id) selector is
+  reads_way root (Deep auid home) is = only method c request a 404 refl refl is
+  reads_way root (Feed mode tag id) is = only method c request a 501 refl refl is
+  reads_way root (ElementFeed tag id selector raw) is = only method c request a 501 refl refl is
+  reads_way root (Flat id service) is = only method c request a 501 refl refl is
 
 -- ---- PUT
 
@@ -224,7 +223,7 @@ module _ (c : Content) (id : DocId) (request : Request) (a : Answer) where
 
     document_put : PutsDocument c id usage request a → Way Put request.closes c a
     document_put is =
-        behind Put c request a (outcome_of request.fields (tag_of (version_of c id)) (is_some (version_of c id)) false) (tag_of (version_of c id)) (PutsBody usage (document_media id.auid) request (put_answer c id request.closes) a) body_put is
+        behind Put c request a (tag_of (version_of c id)) (is_some (version_of c id)) false (PutsBody usage (document_media id.auid) request (put_answer c id request.closes) a) body_put is
 
   -- ---- PUT of nodes
 
@@ -280,7 +279,7 @@ module _ (c : Content) (id : DocId) (request : Request) (a : Answer) where
     put_from : (root : List ℕ) (spot : Result Spot NoParent) → IsSpot t selector spot → IsWritableTarget (Node id selector) → PutsFrom c id usage selector t root tag spot request a → Way Put request.closes c a
     put_from root (Err none) is may answer = conflicts_so Put c request a (conflicts.NoParent (ancestor_uri root id t selector.steps)) answer
     put_from root (Ok spot) is may answer =
-        behind Put c request a (outcome_of request.fields (Some tag) (is_there t selector) false) (Some tag) (PutsFragment c id usage selector t spot request a) (fragment_put spot is may) answer
+        behind Put c request a (Some tag) (is_there t selector) false (PutsFragment c id usage selector t spot request a) (fragment_put spot is may) answer
 
   node_put : (root : List ℕ) (usage : Usage) (selector : Selector) (version : Option (Tree × ℕ)) → version_of c id ≡ version → usage_of id.auid ≡ Some usage → IsWritableTarget (Node id selector)
       → PutsNodeIn root c id usage selector version request a → Way Put request.closes c a
@@ -292,7 +291,7 @@ module _ (c : Content) (id : DocId) (request : Request) (a : Answer) where
   document_deleted : (version : Option (Tree × ℕ)) → version_of c id ≡ version → DeletesDocumentIn c id version request a → Way Delete request.closes c a
   document_deleted None e is = only Delete c request a 404 refl refl is
   document_deleted (Some (t, tag)) e is =
-      behind Delete c request a (outcome_of request.fields (Some tag) true false) (Some tag) (a ≡ change_answer c id RemoveDocument request.closes (deleted_reply request.closes))
+      behind Delete c request a (Some tag) true false (a ≡ change_answer c id RemoveDocument request.closes (deleted_reply request.closes))
       (by_store Delete c request a id RemoveDocument (deleted_reply request.closes) (λ _. asks_to_delete c id t tag e) (λ note. refl) (λ note. refl) (changing c id RemoveDocument) refl) is
 
   node_cut : (usage : Usage) (selector : Selector) (t : Tree) (tag : ℕ) → ◌≡◌ {A = Option (Tree × ℕ)} (version_of c id) (Some (t, tag)) → usage_of id.auid ≡ Some usage → CutsNode c id usage selector t request a → Way Delete request.closes c a
@@ -307,9 +306,8 @@ module _ (c : Content) (id : DocId) (request : Request) (a : Answer) where
   node_deleted usage selector None held known is = only Delete c request a 404 refl refl is
   node_deleted usage selector (Some (t, tag)) held known is =
       let Last : Type 0 = CutsNode c id usage selector t request a in
-      let outcome = outcome_of request.fields (Some tag) true false in
-      either (is_there t selector) (Behind (stopped_by outcome (Some tag) request.closes) a Last) (a ≡ unchanged (plain 404 request.closes))
-      (λ _. behind Delete c request a outcome (Some tag) Last (node_cut usage selector t tag held known)) (λ _. only Delete c request a 404 refl refl) is
+      either (is_there t selector) (BehindConditions request (Some tag) true false a Last) (a ≡ unchanged (plain 404 request.closes))
+      (λ _. behind Delete c request a (Some tag) true false Last (node_cut usage selector t tag held known)) (λ _. only Delete c request a 404 refl refl) is
 
 -- ---- all in order
 
@@ -332,8 +330,8 @@ module _ (root : List ℕ) (c : Content) (request : Request) (a : Answer) where
 
   method_way : (target : Target) (method : Method) → IsReadableTarget target → IsWritableTarget target → is_allowed (not (is_reading method)) (auid_of target) (home_of target) request.fields ≡ true
       → ByMethod root c target method request a → Way method request.closes c a
-  method_way target Get readable may allowed is = stays (reads root c target Get request) refl (reads_closes root c target Get request) is
-  method_way target Head readable may allowed is = stays (reads root c target Head request) refl (reads_closes root c target Head request) is
+  method_way target Get readable may allowed is = reads_way Get request c a (λ _. refl) root target is
+  method_way target Head readable may allowed is = reads_way Head request c a (λ _. refl) root target is
   method_way target Put readable may allowed is =
       no_usage Put c request a (usage_of (auid_of target)) (λ usage. Puts root c target usage request a)
       (target_put target readable may (users_write (auid_of target) (home_of target) request.fields allowed)) is

@@ -7,6 +7,8 @@ use Rattle.notes.specs.Notes.{Note}
 use Rattle.reply_text.specs.Heads.{Sent, sent, parts}
 use Rattle.reply_text.specs.declared.media_types.Media.{Media}
 use Rattle.reply_text.specs.declared.media_types.Media.TheVariants as media
+use Rattle.http_wire.specs.declared.request.Request.{Request}
+use Rattle.request_terms.specs.Conditions.{IsStop}
 
 -- a change that is made: the document's name, and the note of the change
 abbrev pub Made : Type 0
@@ -24,6 +26,11 @@ unchanged reply = record { reply = reply; made = None }
 abbrev pub Behind : Option Sent → Answer → Type 0 → Type 0
 Behind None a GoesOn = GoesOn
 Behind (Some reply) a GoesOn = a ≡ unchanged reply
+
+-- what the conditions of a request reply in its place, or what comes behind them: by the document's tag, if it is held, whether the resource
+-- is there, and whether the request reads (RFC 9110, section 13.2)
+abbrev pub BehindConditions : Request → Option ℕ → Bool → Bool → Answer → Type 0 → Type 0
+BehindConditions request tag exists reading a GoesOn = (stop : Option Sent) × IsStop request tag exists reading stop × Behind stop a GoesOn
 
 -- ---- replies
 

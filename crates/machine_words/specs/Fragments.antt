@@ -1,7 +1,7 @@
 -- Requests that write an element or an attribute of a document. RFC 4825, sections 8.2.1 to 8.2.5 (PUT) and 8.4 (DELETE), with the conflicts of
 -- section 11 and the entity tags of section 8.5. Which change is made, or why there is none, is said by the plans. The order of the tests is
 -- this server's own: the parent, the conditions, the media type, the body, and then the plan.
-use Rattle.std.specs.Prelude.{◌≡◌, ℕ, suc, ◌-◌, Bool, true, List, [], length, is_some, Option, None, Some, Result, Ok, Err}
+use Rattle.std.specs.Prelude.{◌≡◌, ℕ, suc, ◌-◌, Bool, true, false, List, [], length, is_some, Option, None, Some, Result, Ok, Err}
 use Rattle.std.specs.Bool.{MatchBool}
 use Rattle.xml_tree.specs.Tree.{Tree}
 use Rattle.xml_tree.specs.Scopes.{scope_around, scope_at}
@@ -33,9 +33,9 @@ use Rattle.http_wire.specs.declared.request.Request.{Request}
 use Rattle.request_terms.specs.MediaTypes.{has_type}
 use Rattle.xcap_uri.specs.Ancestors.{ancestor_uri}
 use Rattle.store_core.specs.Held.{Content}
-use Rattle.machine_words.specs.Answers.{Answer, Behind, unchanged, conflict, tagged}
+use Rattle.machine_words.specs.Answers.{Answer, BehindConditions, unchanged, conflict, tagged}
 use Rattle.machine_words.specs.Resources.{version_of}
-use Rattle.machine_words.specs.Writing.{change_answer, clash_field, put_reply, puts_deeper, text_conflict, write_stop}
+use Rattle.machine_words.specs.Writing.{change_answer, clash_field, put_reply, puts_deeper, text_conflict}
 
 -- ---- the attribute that a selector ends in
 
@@ -125,7 +125,7 @@ module _ (c : Content) (id : DocId) (usage : Usage) (selector : Selector) (t : T
   -- there is a spot, or no parent, with the closest ancestor that is there; then the conditions count, by the document's tag
   abbrev pub PutsFrom : List ℕ → ℕ → Result Spot NoParent → Request → Answer → Type 0
   PutsFrom root tag (Err none) request a = a ≡ unchanged (conflict (conflicts.NoParent (ancestor_uri root id t selector.steps)) request.closes)
-  PutsFrom root tag (Ok spot) request a = Behind (write_stop request (Some tag) (is_there t selector)) a (PutsFragment spot request a)
+  PutsFrom root tag (Ok spot) request a = BehindConditions request (Some tag) (is_there t selector) false a (PutsFragment spot request a)
 
   abbrev pub PutsNodeOf : List ℕ → ℕ → Request → Answer → Type 0
   PutsNodeOf root tag request a = (spot : Result Spot NoParent) × IsSpot t selector spot × PutsFrom root tag spot request a
@@ -153,7 +153,7 @@ CutsNode c id usage selector t request a =
 abbrev pub DeletesNodeOf : Content → DocId → Usage → Selector → Tree → ℕ → Request → Answer → Type 0
 DeletesNodeOf c id usage selector t tag request a =
     MatchBool (is_there t selector)
-    (Behind (write_stop request (Some tag) true) a (CutsNode c id usage selector t request a))
+    (BehindConditions request (Some tag) true false a (CutsNode c id usage selector t request a))
     (a ≡ unchanged (plain 404 request.closes))
 
 abbrev pub DeletesNodeIn : Content → DocId → Usage → Selector → Option (Tree × ℕ) → Request → Answer → Type 0

@@ -10,7 +10,7 @@ use Rattle.doc_names.specs.declared.doc_id.Auid.{Auid}
 use Rattle.doc_names.specs.declared.doc_id.Home.{Home}
 use Rattle.doc_names.specs.Usages.{usage_of}
 use Rattle.doc_names.specs.declared.usages.Usage.{Usage}
-use Rattle.reply_text.specs.Heads.{Sent, plain}
+use Rattle.reply_text.specs.Heads.{plain}
 use Rattle.xcap_uri.specs.declared.fault.UriFault.{UriFault}
 use Rattle.xcap_uri.specs.declared.fault.UriFault.TheVariants.{OutsideRoot, UnknownAuid, BadShape, BadEscape, BadQuery, UnboundPrefix, BadSelector}
 use Rattle.xcap_uri.specs.declared.target.Target.{Target}
@@ -22,7 +22,7 @@ use Rattle.request_terms.specs.Methods.{method_of, is_reading}
 use Rattle.request_terms.specs.Rights.{is_allowed}
 use Rattle.store_core.specs.Held.{Content}
 use Rattle.machine_words.specs.Answers.{Answer, unchanged, not_allowed}
-use Rattle.machine_words.specs.Reading.{reads_document, reads_node}
+use Rattle.machine_words.specs.Reading.{ReadsDocument, ReadsNode}
 use Rattle.machine_words.specs.Writing.{IfStored, PutsDocument, puts_deeper, DeletesDocument}
 use Rattle.machine_words.specs.Fragments.{PutsNode, DeletesNode, MayBeWritten}
 
@@ -73,13 +73,13 @@ IsWritableTarget (Flat id service) = Unit {0}
 -- ---- by method
 
 -- GET and HEAD; feeds and flat lists aren't read yet
-abbrev pub reads : List ℕ → Content → Target → Method → Request → Sent
-reads root c (Document id) method request = reads_document c id method request
-reads root c (Node id selector) method request = reads_node c id selector method request
-reads root c (Deep auid home) method request = plain 404 request.closes
-reads root c (Feed mode tag id) method request = plain 501 request.closes
-reads root c (ElementFeed tag id selector raw) method request = plain 501 request.closes
-reads root c (Flat id service) method request = plain 501 request.closes
+abbrev pub Reads : List ℕ → Content → Target → Method → Request → Answer → Type 0
+Reads root c (Document id) method request a = ReadsDocument c id method request a
+Reads root c (Node id selector) method request a = ReadsNode c id selector method request a
+Reads root c (Deep auid home) method request a = a ≡ unchanged (plain 404 request.closes)
+Reads root c (Feed mode tag id) method request a = a ≡ unchanged (plain 501 request.closes)
+Reads root c (ElementFeed tag id selector raw) method request a = a ≡ unchanged (plain 501 request.closes)
+Reads root c (Flat id service) method request a = a ≡ unchanged (plain 501 request.closes)
 
 -- feeds and flat lists are read only, so they never come here
 abbrev pub Puts : List ℕ → Content → Target → Usage → Request → Answer → Type 0
@@ -119,8 +119,8 @@ home_of (Flat id service) = id.home
 
 -- by its method, which the target takes
 abbrev pub ByMethod : List ℕ → Content → Target → Method → Request → Answer → Type 0
-ByMethod root c target Get request a = a ≡ unchanged (reads root c target Get request)
-ByMethod root c target Head request a = a ≡ unchanged (reads root c target Head request)
+ByMethod root c target Get request a = Reads root c target Get request a
+ByMethod root c target Head request a = Reads root c target Head request a
 ByMethod root c target Put request a = IfStored (usage_of (auid_of target)) request a (λ usage. Puts root c target usage request a)
 ByMethod root c target Delete request a = IfStored (usage_of (auid_of target)) request a (λ usage. Deletes c target usage request a)
 ByMethod root c target Other request a = ⊥

@@ -8,11 +8,10 @@ use Rattle.tree_text.specs.Faults.{TextAnswer}
 use Rattle.tree_text.specs.declared.fault.TextFault.{TextFault}
 use Rattle.tree_text.specs.declared.fault.TextFault.TheVariants as texts
 use Rattle.usage_docs.specs.Judging.{Judged}
+use Rattle.usage_docs.specs.Keys.{word}
 use Rattle.usage_docs.specs.declared.judging.Fault.{Fault}
 use Rattle.usage_docs.specs.declared.judging.Fault.TheVariants.{Invalid, Unformed, Repeated}
 use Rattle.usage_docs.specs.declared.keys.Clash.{Clash}
-use Rattle.usage_docs.specs.declared.rows.Key.{Key}
-use Rattle.usage_docs.specs.declared.rows.Key.TheVariants.{Name, Uri, Ref, Anchor}
 use Rattle.doc_names.specs.declared.usages.Usage.{Usage}
 use Rattle.doc_names.specs.declared.doc_id.Auid.{Auid}
 use Rattle.doc_names.specs.declared.doc_id.Home.{Home}
@@ -25,21 +24,16 @@ use Rattle.conflict_docs.specs.declared.conflicts.ErrorBody.TheVariants as confl
 use Rattle.reply_text.specs.Heads.{Sent, plain}
 use Rattle.reply_text.specs.declared.media_types.Media.{Media}
 use Rattle.http_wire.specs.declared.request.Request.{Request}
-use Rattle.request_terms.specs.Conditions.{stop_of}
 use Rattle.request_terms.specs.MediaTypes.{document_media, has_type}
 use Rattle.xcap_uri.specs.Ancestors.{home_uri}
 use Rattle.store_core.specs.Changing.{changing}
 use Rattle.store_core.specs.Held.{Content}
 use Rattle.store_core.specs.declared.refusal.StoreRefusal.{StoreRefusal}
 use Rattle.store_core.specs.declared.refusal.StoreRefusal.TheVariants.{ServiceTaken, TooLarge, TooMany, StoreFull, NoNumber, NoMemory}
-use Rattle.machine_words.specs.Answers.{Answer, Behind, unchanged, conflict, tagged}
+use Rattle.machine_words.specs.Answers.{Answer, BehindConditions, unchanged, conflict, tagged}
 use Rattle.machine_words.specs.Resources.{version_of}
 
 -- ---- what stops a request that writes
-
--- the reply to its conditions: the document's tag, if it is held, and whether the resource is there
-abbrev pub write_stop : Request → Option ℕ → Bool → Option Sent
-write_stop request tag exists = stop_of request tag exists false
 
 -- the tag of a document, if it is held
 abbrev pub tag_of : Option (Tree × ℕ) → Option ℕ
@@ -64,16 +58,9 @@ text_conflict malformed (texts.RepeatedAttribute place) = malformed
 
 -- ---- trees that are a document of the usage, or not
 
--- the attribute that is a key
-abbrev pub key_word : Key → List ℕ
-key_word Name = codes "name"
-key_word Uri = codes "uri"
-key_word Ref = codes "ref"
-key_word Anchor = codes "anchor"
-
 -- where a clash is, as the conflict document says it: the path of the element, and its key
 abbrev pub clash_field : Clash → List ℕ
-clash_field clash = path_text clash.path ++ (codes "/@" ++ key_word clash.key)
+clash_field clash = path_text clash.path ++ (codes "/@" ++ word clash.key)
 
 -- what a tree conflicts with that is no document of its usage
 abbrev pub fault_conflict : Fault → ErrorBody
@@ -146,7 +133,7 @@ PutsBody usage media request answer a =
 
 abbrev pub PutsDocument : Content → DocId → Usage → Request → Answer → Type 0
 PutsDocument c id usage request a =
-    Behind (write_stop request (tag_of (version_of c id)) (is_some (version_of c id))) a
+    BehindConditions request (tag_of (version_of c id)) (is_some (version_of c id)) false a
     (PutsBody usage (document_media id.auid) request (put_answer c id request.closes) a)
 
 -- no document lies deeper than a home's own (RFC 4825, section 8.2.1)
@@ -163,7 +150,7 @@ deleted_reply closes note = plain 200 closes
 abbrev pub DeletesDocumentIn : Content → DocId → Option (Tree × ℕ) → Request → Answer → Type 0
 DeletesDocumentIn c id None request a = a ≡ unchanged (plain 404 request.closes)
 DeletesDocumentIn c id (Some (t, tag)) request a =
-    Behind (write_stop request (Some tag) true) a (a ≡ change_answer c id RemoveDocument request.closes (deleted_reply request.closes))
+    BehindConditions request (Some tag) true false a (a ≡ change_answer c id RemoveDocument request.closes (deleted_reply request.closes))
 
 abbrev pub DeletesDocument : Content → DocId → Request → Answer → Type 0
 DeletesDocument c id request a = DeletesDocumentIn c id (version_of c id) request a

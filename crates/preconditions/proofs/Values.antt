@@ -6,7 +6,7 @@ use Rattle.preconditions.specs.declared.tags.EntityTag.{EntityTag}
 use Rattle.preconditions.specs.declared.faults.ConditionFault.{ConditionFault}
 use Rattle.preconditions.specs.declared.faults.ConditionFault.TheVariants.{BadCondition, NoMemory}
 use Rattle.preconditions.specs.Tags.{comma_joined}
-use Rattle.preconditions.specs.Fields.{FieldValue, Missing, Star, Tags, Preconditions, Says, SayBoth}
+use Rattle.preconditions.specs.Fields.{FieldValue, Missing, Star, Tags, Preconditions, Says, SayBoth, ConditionsAnswer}
 use Rattle.preconditions.specs.Reading.{Before, tags_from, listed, text_value, field_value, both, conditions_of, Answers}
 use Rattle.preconditions.proofs.Grammar.{spelled-reads, read-spells}
 
@@ -95,3 +95,21 @@ answer-said ms ns (Err f) h = tt
 pub answer-refused : (ms ns : List (List ℕ)) (r : Result Preconditions ConditionFault) → Answers NoMemory (conditions_of ms ns) r → IsErrOf r BadCondition → (c : Preconditions) → SayBoth ms ns c → ⊥
 answer-refused ms ns r (inl e) h c s = let g = said-conditions ms ns c s in cc
 answer-refused ms ns r (inr e) h c s = cc
+
+-- ---- one answer
+
+no_conditions : (ms ns : List (List ℕ)) (f : ConditionFault) → conditions_of ms ns ≡ Err f → ConditionsAnswer ms ns None
+no_conditions ms ns f is c said = let same = said-conditions ms ns c said in cc
+
+some_of : (ms ns : List (List ℕ)) (r : Result Preconditions ConditionFault) → conditions_of ms ns ≡ r → (a : Option Preconditions) × ConditionsAnswer ms ns a
+some_of ms ns (Ok c) is = (Some c, conditions-said ms ns c is)
+some_of ms ns (Err f) is = (None, no_conditions ms ns f is)
+
+pub some_conditions : (ms ns : List (List ℕ)) → (a : Option Preconditions) × ConditionsAnswer ms ns a
+some_conditions ms ns = some_of ms ns (conditions_of ms ns) refl
+
+pub one_conditions : (ms ns : List (List ℕ)) (a b : Option Preconditions) → ConditionsAnswer ms ns a → ConditionsAnswer ms ns b → a ≡ b
+one_conditions ms ns (Some c) (Some d) p q = let x = said-conditions ms ns c p in let y = said-conditions ms ns d q in cc
+one_conditions ms ns (Some c) None p q = absurd (q c p)
+one_conditions ms ns None (Some d) p q = absurd (p d q)
+one_conditions ms ns None None p q = refl

@@ -1,5 +1,5 @@
 -- What the fields `If-Match` and `If-None-Match` of a request say. RFC 9110, sections 5.2 (lines of one field), 13.1.1 and 13.1.2.
-use Rattle.std.specs.Prelude.{◌≡◌, ◌≢◌, ℕ, List, [], ◌∷◌}
+use Rattle.std.specs.Prelude.{◌≡◌, ◌≢◌, ℕ, List, [], ◌∷◌, Option, None, Some}
 use Rattle.preconditions.specs.declared.tags.EntityTag.{EntityTag}
 use Rattle.preconditions.specs.Tags.{comma_joined, SpellsTags}
 
@@ -23,3 +23,8 @@ Says lines (Tags tags) = (lines ≢ []) × SpellsTags (comma_joined lines) tags 
 -- both fields say this
 abbrev pub SayBoth : List (List ℕ) → List (List ℕ) → Preconditions → Type 0
 SayBoth if_match if_none_match c = Says if_match c.if_match × Says if_none_match c.if_none_match
+
+-- the answer to the lines of both fields: what they say, or none where there is nothing that they both say
+abbrev pub ConditionsAnswer : List (List ℕ) → List (List ℕ) → Option Preconditions → Type 0
+ConditionsAnswer if_match if_none_match (Some c) = SayBoth if_match if_none_match c
+ConditionsAnswer if_match if_none_match None = (c : Preconditions) → ¬ SayBoth if_match if_none_match c

@@ -1,6 +1,6 @@
 //! The fields `If-Match` and `If-None-Match` (RFC 9110, sections 13.1.1 and 13.1.2).
 ghost use Rattle.std.specs.Prelude.{◌≡◌, ◌++◌, ◌∷◌, [], Some, None, IfOk, IsErrOf, flat_map};
-ghost use Rattle.preconditions.specs.Fields.{Preconditions, SayBoth};
+ghost use Rattle.preconditions.specs.Fields.{ConditionsAnswer, SayBoth};
 ghost use Rattle.preconditions.specs.Reading.{text_value, field_value, conditions_of, Answers};
 ghost use Rattle.preconditions.specs.Values.{value_of};
 
@@ -84,9 +84,8 @@ pub fn read_conditions(
     if_match: &[Bytes],
     if_none_match: &[Bytes],
 ) -> Result<Conditions, ConditionFault>
-    ensures answer { Answers ConditionFault.NoMemory (conditions_of if_match.now if_none_match.now) result }
-    ensures grammar { IfOk result (λ c. SayBoth if_match.now if_none_match.now c) }
-    ensures refused { IsErrOf result ConditionFault.BadCondition → (c : Preconditions) → ¬ SayBoth if_match.now if_none_match.now c }
+    ensures said_by_the_grammar { IfOk result (λ c. SayBoth if_match.now if_none_match.now c) }
+    ensures refused_where_nothing_is_said { IsErrOf result ConditionFault.BadCondition → ConditionsAnswer if_match.now if_none_match.now None }
 {
     read_both(alloc, if_match, if_none_match)
 }

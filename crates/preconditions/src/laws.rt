@@ -1,9 +1,18 @@
-//! The computed reading of a field is the grammar's, and there is one.
-ghost use Rattle.std.specs.Prelude.{◌≡◌, ◌↔◌, ℕ, List, Some};
-ghost use Rattle.preconditions.specs.Fields.{FieldValue, Says};
+//! Fields have one reading by the grammar, which is what is computed of them.
+ghost use Rattle.std.specs.Prelude.{◌≡◌, ◌↔◌, ℕ, List, Option, Some};
+ghost use Rattle.preconditions.specs.Fields.{ConditionsAnswer, FieldValue, Preconditions, Says};
 ghost use Rattle.preconditions.specs.Reading.{field_value};
 
 /// A law: the lines of a field say exactly what is computed of them, and nothing else.
 pub fn fields_have_one_reading()
     ensures { (lines : List (List ℕ)) (value : FieldValue) → Says lines value ↔ (field_value lines ≡ Some value) }
+{}
+
+/// A law: the lines of the two fields have exactly one answer by the grammar.
+pub fn conditions_have_one_answer()
+    ensures at_least_one { (if_match if_none_match : List (List ℕ))
+        → (a : Option Preconditions) × ConditionsAnswer if_match if_none_match a }
+    ensures at_most_one { (if_match if_none_match : List (List ℕ)) (a b : Option Preconditions)
+        → ConditionsAnswer if_match if_none_match a → ConditionsAnswer if_match if_none_match b
+        → a ≡ b }
 {}

@@ -11,7 +11,7 @@ mod verdicts;
 
 pub use faults::ConditionFault;
 pub use fields::{Conditions, read_conditions};
-pub use laws::fields_have_one_reading;
+pub use laws::{conditions_have_one_answer, fields_have_one_reading};
 pub use std::alloc::AllocError as NoMemory;
 pub use tags::EntityTag;
 pub use verdicts::{Verdict, condition};

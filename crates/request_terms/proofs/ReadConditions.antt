@@ -1,19 +1,46 @@
--- What a reading of the conditions says, which is the stated one.
-use Rattle.std.proofs.Common.{◌≡◌, ℕ, Bool, List, Option, Ok, Err, inl, inr, ap}
-use Rattle.preconditions.specs.Fields.{Preconditions}
-use Rattle.preconditions.specs.Reading.{conditions_of, Answers}
+-- What the conditions of a request make of it, and that this is one outcome.
+use Rattle.std.proofs.Common.{◌≡◌, ℕ, Bool, List, [], Option, None, Some, codes, refl, sym, ap, ◌∙◌}
+use Rattle.http_wire.specs.declared.request.Field.{Field}
+use Rattle.http_wire.specs.declared.request.Request.{Request}
+use Rattle.preconditions.specs.Fields.{ConditionsAnswer, Missing, Preconditions, SayBoth}
 use Rattle.preconditions.specs.Verdicts.{verdict_of}
-use Rattle.preconditions.specs.declared.faults.ConditionFault.{ConditionFault}
-use Rattle.preconditions.specs.declared.faults.ConditionFault.TheVariants.{BadCondition, NoMemory}
-use Rattle.request_terms.specs.Conditions.{by_verdict, by_conditions}
-use Rattle.request_terms.specs.declared.conditions.Outcome.TheVariants.{Unreadable}
+use Rattle.preconditions.proofs.Values.{one_conditions, some_conditions}
+use Rattle.reply_text.specs.Heads.{Sent}
+use Rattle.request_terms.specs.Conditions.{HasOutcome, IsStop, LinesMake, by_conditions, by_verdict, stopped_by}
+use Rattle.request_terms.specs.Rights.{fields_named}
+use Rattle.request_terms.specs.declared.conditions.Outcome.{Outcome}
+use Rattle.request_terms.specs.declared.conditions.Outcome.TheVariants.{Go, Unreadable}
 
-pub read_outcome : (ms ns : List (List ℕ)) (conditions : Preconditions) (tag : Option ℕ) (exists reading : Bool) → Answers NoMemory (conditions_of ms ns) (Ok conditions)
-    → by_verdict (verdict_of conditions tag exists reading) ≡ by_conditions (conditions_of ms ns) tag exists reading
-read_outcome ms ns conditions tag exists reading (inl stated) = ap (λ r. by_conditions r tag exists reading) stated
-read_outcome ms ns conditions tag exists reading (inr memory) = cc
+pub read_outcome : (ms ns : List (List ℕ)) (conditions : Preconditions) (tag : Option ℕ) (exists reading : Bool) (o : Outcome) → SayBoth ms ns conditions → o ≡ by_verdict (verdict_of conditions tag exists reading)
+    → LinesMake ms ns tag exists reading o
+read_outcome ms ns conditions tag exists reading o said is = (Some conditions, said, is)
 
-pub bad_outcome : (ms ns : List (List ℕ)) (fault : ConditionFault) (tag : Option ℕ) (exists reading : Bool) → fault ≡ BadCondition → Answers NoMemory (conditions_of ms ns) (Err fault)
-    → Unreadable ≡ by_conditions (conditions_of ms ns) tag exists reading
-bad_outcome ms ns fault tag exists reading bad (inl stated) = ap (λ r. by_conditions r tag exists reading) stated
-bad_outcome ms ns fault tag exists reading bad (inr memory) = cc
+pub bad_outcome : (ms ns : List (List ℕ)) (tag : Option ℕ) (exists reading : Bool) → ConditionsAnswer ms ns None → LinesMake ms ns tag exists reading Unreadable
+bad_outcome ms ns tag exists reading nothing = (None, nothing, refl)
+
+-- ---- there is one
+
+pub some_outcome : (fields : List Field) (tag : Option ℕ) (exists reading : Bool) → (o : Outcome) × HasOutcome fields tag exists reading o
+some_outcome fields tag exists reading =
+    let said = some_conditions (fields_named (codes "if-match") fields) (fields_named (codes "if-none-match") fields) in
+    (by_conditions said.0 tag exists reading, (said.0, said.1, refl))
+
+pub one_outcome : (fields : List Field) (tag : Option ℕ) (exists reading : Bool) (o p : Outcome) → HasOutcome fields tag exists reading o → HasOutcome fields tag exists reading p → o ≡ p
+one_outcome fields tag exists reading o p x y =
+    let same : x.0 ≡ y.0 = one_conditions (fields_named (codes "if-match") fields) (fields_named (codes "if-none-match") fields) x.0 y.0 x.1 y.1 in
+    x.2 ∙ ap (λ (said : Option Preconditions). by_conditions said tag exists reading) same ∙ sym y.2
+
+-- ---- and one stop
+
+module _ (request : Request) (tag : Option ℕ) (exists reading : Bool) where
+  pub some_stop : (stop : Option Sent) × IsStop request tag exists reading stop
+  some_stop = let o = some_outcome request.fields tag exists reading in (stopped_by o.0 tag request.closes, (o.0, o.1, refl))
+
+  pub one_stop : (stop other : Option Sent) → IsStop request tag exists reading stop → IsStop request tag exists reading other → stop ≡ other
+  one_stop stop other x y =
+      let same : x.0 ≡ y.0 = one_outcome request.fields tag exists reading x.0 y.0 x.1 y.1 in
+      x.2 ∙ ap (λ (o : Outcome). stopped_by o tag request.closes) same ∙ sym y.2
+
+  -- without condition fields the request goes on
+  pub no_stop : fields_named (codes "if-match") request.fields ≡ [] → fields_named (codes "if-none-match") request.fields ≡ [] → IsStop request tag exists reading None
+  no_stop no_match no_none_match = (Go, (Some (record { if_match = Missing; if_none_match = Missing }), (no_match, no_none_match), refl), refl)

@@ -1,12 +1,10 @@
 -- What the conditions of a request make of it. RFC 9110, section 13.2.2: If-Match is looked at first; sections 13.1.1 and 13.1.2 have the
 -- replies to one that doesn't hold.
-use Rattle.std.specs.Prelude.{ℕ, Bool, List, [], codes, Option, None, Some, Result, Ok, Err}
+use Rattle.std.specs.Prelude.{◌≡◌, ℕ, Bool, List, [], codes, Option, None, Some}
 use Rattle.http_wire.specs.declared.request.Field.{Field}
 use Rattle.http_wire.specs.declared.request.Request.{Request}
-use Rattle.preconditions.specs.Fields.{Preconditions}
-use Rattle.preconditions.specs.Reading.{conditions_of}
+use Rattle.preconditions.specs.Fields.{ConditionsAnswer, Preconditions}
 use Rattle.preconditions.specs.Verdicts.{verdict_of}
-use Rattle.preconditions.specs.declared.faults.ConditionFault.{ConditionFault}
 use Rattle.preconditions.specs.declared.verdicts.Verdict.{Verdict}
 use Rattle.preconditions.specs.declared.verdicts.Verdict.TheVariants.{Go, Same, Failed}
 use Rattle.reply_text.specs.Heads.{Sent, sent, parts, plain}
@@ -19,14 +17,21 @@ by_verdict Go = outcomes.Go
 by_verdict Same = outcomes.NotModified
 by_verdict Failed = outcomes.Failed
 
-abbrev pub by_conditions : Result Preconditions ConditionFault → Option ℕ → Bool → Bool → Outcome
-by_conditions (Err fault) tag exists reading = outcomes.Unreadable
-by_conditions (Ok conditions) tag exists reading = by_verdict (verdict_of conditions tag exists reading)
+-- by what the two fields say; none where they can't be read
+abbrev pub by_conditions : Option Preconditions → Option ℕ → Bool → Bool → Outcome
+by_conditions None tag exists reading = outcomes.Unreadable
+by_conditions (Some conditions) tag exists reading = by_verdict (verdict_of conditions tag exists reading)
 
--- the fields, the document's tag, whether the selected resource is there, and whether the request reads
-abbrev pub outcome_of : List Field → Option ℕ → Bool → Bool → Outcome
-outcome_of fields tag exists reading =
-    by_conditions (conditions_of (fields_named (codes "if-match") fields) (fields_named (codes "if-none-match") fields)) tag exists reading
+-- what the lines of If-Match and of If-None-Match make of a request: the document's tag, whether the selected resource is there, and
+-- whether the request reads
+abbrev pub LinesMake : List (List ℕ) → List (List ℕ) → Option ℕ → Bool → Bool → Outcome → Type 0
+LinesMake if_match if_none_match tag exists reading outcome =
+    (said : Option Preconditions) × ConditionsAnswer if_match if_none_match said × (outcome ≡ by_conditions said tag exists reading)
+
+-- what the fields of a request make of it
+abbrev pub HasOutcome : List Field → Option ℕ → Bool → Bool → Outcome → Type 0
+HasOutcome fields tag exists reading outcome =
+    LinesMake (fields_named (codes "if-match") fields) (fields_named (codes "if-none-match") fields) tag exists reading outcome
 
 -- the reply of an outcome: to a condition that can't be read, that says that the client has the document with this tag already, or that
 -- doesn't hold; none where the request goes on
@@ -37,5 +42,6 @@ stopped_by outcomes.NotModified tag closes = Some (sent (parts 304 tag None None
 stopped_by outcomes.Failed tag closes = Some (plain 412 closes)
 
 -- what the conditions of a request reply in place of what it asks, if they do
-abbrev pub stop_of : Request → Option ℕ → Bool → Bool → Option Sent
-stop_of request tag exists reading = stopped_by (outcome_of request.fields tag exists reading) tag request.closes
+abbrev pub IsStop : Request → Option ℕ → Bool → Bool → Option Sent → Type 0
+IsStop request tag exists reading stop =
+    (outcome : Outcome) × HasOutcome request.fields tag exists reading outcome × (stop ≡ stopped_by outcome tag request.closes)

@@ -5,6 +5,7 @@
 #![tactic(auto)]
 
 mod conditions;
+mod laws;
 mod media_types;
 mod method;
 mod named;
@@ -13,6 +14,7 @@ mod rights;
 mod stops;
 
 pub use conditions::Outcome;
+pub use laws::conditions_have_one_outcome;
 pub use media_types::{document_media, has_type};
 pub use method::Method;
 pub use outcomes::outcome;

@@ -1,7 +1,6 @@
 //! The outcome of a request's conditions (RFC 9110, section 13.2.2).
 ghost use Rattle.std.specs.Prelude.{◌≡◌, IfOk};
-ghost use Rattle.preconditions.specs.Reading.{conditions_of};
-ghost use Rattle.request_terms.specs.Conditions.{by_conditions, by_verdict, outcome_of};
+ghost use Rattle.request_terms.specs.Conditions.{HasOutcome, LinesMake, by_verdict};
 
 use crate::named::copy_named;
 use crate::{NoMemory, Outcome};
@@ -28,7 +27,7 @@ fn outcome_by_lines(
     exists: bool,
     reading: bool,
 ) -> Result<Outcome, NoMemory>
-    ensures { IfOk result (λ o. o ≡ by_conditions (conditions_of if_match.now if_none_match.now) tag exists reading) }
+    ensures { IfOk result (λ o. LinesMake if_match.now if_none_match.now tag exists reading o) }
 {
     match read_conditions(alloc, if_match, if_none_match) {
         Ok(conditions) => Ok(by_verdict(condition(&conditions, tag, exists, reading))),
@@ -49,7 +48,7 @@ pub fn outcome(
     exists: bool,
     reading: bool,
 ) -> Result<Outcome, NoMemory>
-    ensures { IfOk result (λ o. o ≡ outcome_of request.now.fields tag exists reading) }
+    ensures made_by_the_conditions { IfOk result (λ o. HasOutcome request.now.fields tag exists reading o) }
 {
     let fields = request.fields.as_slice();
     let if_match = copy_named(alloc, fields, b"if-match")?;

@@ -1,6 +1,6 @@
 //! Replies to conditions (RFC 9110, sections 13.1.1 and 13.1.2).
 ghost use Rattle.std.specs.Prelude.{◌≡◌, IfOk};
-ghost use Rattle.request_terms.specs.Conditions.{stop_of, stopped_by};
+ghost use Rattle.request_terms.specs.Conditions.{IsStop, stopped_by};
 
 use crate::{NoMemory, Outcome, outcome};
 use http_wire::Request;
@@ -32,7 +32,7 @@ pub fn stop(
     exists: bool,
     reading: bool,
 ) -> Result<Option<Reply>, NoMemory>
-    ensures is_the_reply { IfOk result (λ reply. reply ≡ stop_of request.now tag exists reading) }
+    ensures is_the_reply { IfOk result (λ reply. IsStop request.now tag exists reading reply) }
 {
     let outcome = outcome(alloc, request, tag, exists, reading)?;
     Ok(stopped_by(alloc, outcome, tag, request.closes))

@@ -17,7 +17,7 @@ use Rattle.request_terms.specs.declared.method.Method.TheVariants.{Get, Head, Pu
 use Rattle.store_core.specs.Held.{Content}
 use Rattle.store_core.specs.Storing.{Stored}
 use Rattle.machine_words.specs.Answers.{Answer, not_allowed, unchanged}
-use Rattle.machine_words.specs.Requests.{ByMethod, ByTarget, ByUser, Deletes, IsAnswer, Puts, auid_of, fault_status, home_of, is_read_only, reads, takes}
+use Rattle.machine_words.specs.Requests.{ByMethod, ByTarget, ByUser, Deletes, IsAnswer, Puts, auid_of, fault_status, home_of, is_read_only, Reads, takes}
 use Rattle.machine_words.proofs.Cases.{at_false, at_true, not_stored, stored}
 use Rattle.document_writes.specs.Deciding.{Decides}
 use Rattle.document_writes.specs.declared.decision.Decision.{Decision}
@@ -31,14 +31,14 @@ module _ (root : List ℕ) (c : Content) (target : Target) (request : Request) (
 
   -- ---- by method
 
-  method_reads : (method : Method) (reply : Sent) → is_reading method ≡ true → reply ≡ reads root c target method request → ByMethod root c target method request (unchanged reply)
-  method_reads Get reply is so = ap unchanged so
-  method_reads Head reply is so = ap unchanged so
+  method_reads : (method : Method) (reply : Sent) → is_reading method ≡ true → Reads root c target method request (unchanged reply) → ByMethod root c target method request (unchanged reply)
+  method_reads Get reply is so = so
+  method_reads Head reply is so = so
   method_reads Put reply is so = let no : ⊥ = cc in absurd no
   method_reads Delete reply is so = let no : ⊥ = cc in absurd no
   method_reads Other reply is so = let no : ⊥ = cc in absurd no
 
-  pub decides_reading : (method : Method) (reply : Sent) → is_reading method ≡ true → reply ≡ reads root c target method request → Decides (ByMethod root c target method request) s (Stays reply)
+  pub decides_reading : (method : Method) (reply : Sent) → is_reading method ≡ true → Reads root c target method request (unchanged reply) → Decides (ByMethod root c target method request) s (Stays reply)
   decides_reading method reply is so = stays (ByMethod root c target method request) s reply (method_reads method reply is so)
 
   -- a usage that stores documents

@@ -1,4 +1,4 @@
-use Rattle.std.proofs.Common.{◌≡◌, sym, ◌∙◌}
+use Rattle.std.proofs.Common.{◌≡◌}
 use Rattle.edit_ops.specs.declared.change.Change.TheVariants.{RemoveDocument}
 use Rattle.store_core.specs.Asking.{Asks}
 use Rattle.machine_words.specs.Writing.{DeletesDocument, change_answer, deleted_reply}
@@ -11,7 +11,7 @@ pub returns-in-Some-clause-decides_the_removal : goal.returns-in-Some-clause-dec
 returns-in-Some-clause-decides_the_removal c =
     let content = c.args.store.now.content in
     stays (DeletesDocument content c.args.doc.now c.args.request.now) c.args.store.now c.in-Some.reply
-    (delete_stops content c.args.doc.now c.args.request.now c.args.tag c.requires.tagged c.in-Some.reply (sym c.in-Some.is ∙ c.in_ok-reply.ensures.is_the_reply))
+    (delete_stops content c.args.doc.now c.args.request.now c.args.tag c.requires.tagged _ c.in_ok-reply.ensures.is_the_reply c.in-Some.reply c.in-Some.is)
 
 pub remove-requires : goal.remove-requires
 remove-requires c =
@@ -23,4 +23,4 @@ returns-in-None-clause-decides_the_removal c =
     let content = c.args.store.now.content in
     let closes = c.args.request.now.closes in
     all_so (λ a. a ≡ change_answer content c.args.doc.now RemoveDocument closes (deleted_reply closes)) c.remove.new.store (DeletesDocument content c.args.doc.now c.args.request.now)
-    (delete_goes_on content c.args.doc.now c.args.request.now c.args.tag c.requires.tagged (sym c.in-None.is ∙ c.in_ok-reply.ensures.is_the_reply)) c.remove.result c.remove.ensures.decides_the_removal
+    (delete_goes_on content c.args.doc.now c.args.request.now c.args.tag c.requires.tagged _ c.in_ok-reply.ensures.is_the_reply c.in-None.is) c.remove.result c.remove.ensures.decides_the_removal

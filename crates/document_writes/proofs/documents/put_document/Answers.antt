@@ -1,4 +1,3 @@
-use Rattle.std.proofs.Common.{sym, ◌∙◌}
 use Rattle.request_terms.specs.MediaTypes.{document_media}
 use Rattle.machine_words.specs.Answers.{unchanged}
 use Rattle.machine_words.specs.Resources.{version_of}
@@ -12,8 +11,8 @@ returns-in-Some-clause-decides_the_put c =
     let content = c.args.store.now.content in
     let answer = put_answer content c.args.doc.now c.args.request.now.closes in
     stays (PutsDocument content c.args.doc.now c.args.usage c.args.request.now) c.args.store.now c.in-Some.reply
-    (put_stops c.args.request.now (version_of content c.args.doc.now) c.tag_of-tag.result c.is_some.result c.tag_of-tag.ensures.tag_now c.is_some.ensures c.in-Some.reply
-    (PutsBody c.args.usage (document_media c.args.doc.now.auid) c.args.request.now answer (unchanged c.in-Some.reply)) (sym c.in-Some.is ∙ c.in_ok-reply.ensures.is_the_reply))
+    (put_stops c.args.request.now (version_of content c.args.doc.now) c.tag_of-tag.result c.is_some.result c.tag_of-tag.ensures.tag_now c.is_some.ensures _ c.in_ok-reply.ensures.is_the_reply c.in-Some.reply
+    (PutsBody c.args.usage (document_media c.args.doc.now.auid) c.args.request.now answer (unchanged c.in-Some.reply)) c.in-Some.is)
 
 pub returns-in-None-clause-decides_the_put : goal.returns-in-None-clause-decides_the_put
 returns-in-None-clause-decides_the_put c =
@@ -21,6 +20,6 @@ returns-in-None-clause-decides_the_put c =
     let media = document_media c.args.doc.now.auid in
     let answer = put_answer content c.args.doc.now c.args.request.now.closes in
     all_so (PutsBody c.args.usage media c.args.request.now answer) c.put_body.new.store (PutsDocument content c.args.doc.now c.args.usage c.args.request.now)
-    (λ a is. put_goes_on c.args.request.now (version_of content c.args.doc.now) c.tag_of-tag.result c.is_some.result c.tag_of-tag.ensures.tag_now c.is_some.ensures a
-    (PutsBody c.args.usage media c.args.request.now answer a) (sym c.in-None.is ∙ c.in_ok-reply.ensures.is_the_reply) is)
+    (λ a is. put_goes_on c.args.request.now (version_of content c.args.doc.now) c.tag_of-tag.result c.is_some.result c.tag_of-tag.ensures.tag_now c.is_some.ensures _ c.in_ok-reply.ensures.is_the_reply a
+    (PutsBody c.args.usage media c.args.request.now answer a) c.in-None.is is)
     c.put_body.result c.put_body.ensures.decides_by_the_body
