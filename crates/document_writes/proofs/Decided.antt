@@ -1,5 +1,5 @@
 -- Requests on nodes, line by line: what is missing, what the conditions say, and what is made of a plan.
-use Rattle.std.proofs.Common.{◌≡◌, ℕ, Bool, true, false, List, Option, None, Some, Result, Ok, Err, IfOk, refl, sym, ap, subst, ◌∙◌}
+use Rattle.std.proofs.Common.{◌≡◌, ℕ, Bool, true, false, List, Option, None, Some, Result, Ok, Err, IfOk, refl, sym, ap, subst}
 use Rattle.xml_tree.specs.Tree.{Tree}
 use Rattle.conflict_docs.specs.declared.conflicts.ErrorBody.TheVariants as conflicts
 use Rattle.doc_names.specs.declared.doc_id.DocId.{DocId}

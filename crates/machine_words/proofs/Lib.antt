@@ -8,3 +8,4 @@ pub mod Accepted
 pub mod After
 pub mod Twice
 pub mod Effects
+pub mod Reasons

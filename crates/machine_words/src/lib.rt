@@ -5,9 +5,11 @@
 #![tactic(auto)]
 
 mod laws;
+mod memory;
 
 pub use laws::{
     a_second_put_leaves_every_tree, each_reply_closes_as_its_request, each_request_has_one_answer,
     every_state_is_kept, targets_may_be_written, what_is_held_follows_the_machine,
     what_is_refused_changes_nothing, what_was_deleted_is_gone, what_was_put_is_there,
 };
+pub use memory::no_answer_is_503;

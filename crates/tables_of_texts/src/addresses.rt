@@ -1,7 +1,7 @@
 //! Addresses: roots, what a target means under a root, and the names of documents.
 
 use crate::shown::shown;
-use anyhow::{Context, Result, bail};
+use anyhow::{Result, bail};
 use doc_names::{Auid, DocId, Home, print_doc_id};
 use std::alloc::Global;
 use table_cases::Field;

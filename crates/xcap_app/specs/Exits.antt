@@ -1,9 +1,8 @@
 -- How a run of the program can end. The statuses and texts are the project's own.
 use Rattle.std.specs.Prelude.{ℕ, List, [], ◌∷◌, ◌++◌, codes, decimal, encode_utf8_all, string_bytes}
 use Rattle.xml_tree.specs.PathTexts.{path_text}
+use Rattle.usage_docs.specs.Keys.{word}
 use Rattle.usage_docs.specs.declared.keys.Clash.{Clash}
-use Rattle.usage_docs.specs.declared.rows.Key.{Key}
-use Rattle.usage_docs.specs.declared.rows.Key.TheVariants.{Name, Uri, Ref, Anchor}
 use Rattle.xcap_app.specs.declared.exit.Exit.{Exit}
 use Rattle.xcap_app.specs.declared.exit.Exit.TheVariants.{Done, Usage, InputFailed, OutputFailed, NetworkFailed, Refused, OutOfMemory}
 use Rattle.xcap_app.specs.declared.exit.Words.{Words}
@@ -25,16 +24,9 @@ status_of NetworkFailed = 5
 status_of (Refused refusal) = 6
 status_of OutOfMemory = 7
 
--- the name of the key
-unfoldable pub key_word : Key → List ℕ
-key_word Name = codes "name"
-key_word Uri = codes "uri"
-key_word Ref = codes "ref"
-key_word Anchor = codes "anchor"
-
 -- of an element that repeats a sibling's key: its place as a positional selector, and the key
 abbrev pub clash_words : Clash → List ℕ
-clash_words clash = codes "uniqueness-failure " ++ (encode_utf8_all (path_text clash.path) ++ (codes "/@" ++ (key_word clash.key ++ 10 ∷ [])))
+clash_words clash = codes "uniqueness-failure " ++ (encode_utf8_all (path_text clash.path) ++ (codes "/@" ++ (word clash.key ++ 10 ∷ [])))
 
 -- why the input is no valid document, on one line
 abbrev pub refusal_words : Refusal → List ℕ

@@ -1,9 +1,9 @@
 // Why a text is refused.
 ghost use Rattle.std.specs.Prelude.{◌≡◌, IfOk, string_bytes};
-ghost use Rattle.xcap_app.specs.Exits.{clash_words, key_word, refusal_words};
+ghost use Rattle.xcap_app.specs.Exits.{clash_words, refusal_words};
 
 use std::alloc::{AllocError, Global};
-use usage_docs::{Clash, Key};
+use usage_docs::Clash;
 use xml_tree::print_path;
 
 /// Why the input of `check` is no valid document, the first reason in this order.
@@ -23,19 +23,6 @@ pub enum Refusal {
     Unique(Clash),
 }
 
-// The name of a key.
-#[tactic(auto, unfolding(crate::specs::Exits::key_word))]
-fn key_word(key: Key) -> &'static str
-    ensures { result.now ≡ key_word key }
-{
-    match key {
-        Key::Name => "name",
-        Key::Uri => "uri",
-        Key::Ref => "ref",
-        Key::Anchor => "anchor",
-    }
-}
-
 // The words about an element whose key repeats that of a sibling.
 fn clash_words(alloc: Global, clash: &Clash) -> Result<String, AllocError>
     ensures { IfOk result (λ words. string_bytes words ≡ clash_words clash.now) }
@@ -44,7 +31,7 @@ fn clash_words(alloc: Global, clash: &Clash) -> Result<String, AllocError>
     let mut words = String::from_str(alloc, "uniqueness-failure ")?;
     words.push_str(place.as_str())?;
     words.push_str("/@")?;
-    words.push_str(key_word(clash.key))?;
+    words.push_str(clash.key.word())?;
     words.push_str("\n")?;
     Ok(words)
 }

@@ -1,0 +1,410 @@
+-- No request is answered 503: neither the store nor a plan has want of memory as its reason against a change.
+use Rattle.std.proofs.Common.{◌≡◌, ℕ, ◌+◌, Bool, true, false, not, ◌==◌, List, [], ◌∷◌, length, is_some, Option, None, Some, option_map, Result, Ok, Err, inl, inr, refl, sym, ap, subst, ◌∙◌, encode_utf8_all}
+use Rattle.std.specs.Prelude.{◌&&◌, nat_le, nat_lt, min}
+use Rattle.xml_tree.specs.Tree.{Tree, kids_of}
+use Rattle.xml_tree.specs.Edits.{put_in}
+use Rattle.xml_tree.specs.Scopes.{scope_at}
+use Rattle.xml_tree.specs.declared.names.Name.{Name}
+use Rattle.tree_text.specs.Printing.{document_print}
+use Rattle.tree_text.specs.declared.fault.TextFault.{TextFault}
+use Rattle.tree_text.specs.declared.fault.ValueFault.{ValueFault}
+use Rattle.step_laws.specs.Places.{PlanIs}
+use Rattle.usage_docs.specs.Validity as validity
+use Rattle.usage_docs.specs.declared.judging.Fault.{Fault}
+use Rattle.usage_docs.specs.declared.judging.Fault.TheVariants.{Invalid, Unformed, Repeated}
+use Rattle.usage_docs.specs.declared.keys.Clash.{Clash}
+use Rattle.doc_names.specs.Usages.{usage_of}
+use Rattle.doc_names.specs.declared.usages.Usage.{Usage}
+use Rattle.doc_names.specs.declared.doc_id.DocId.{DocId}
+use Rattle.node_select.specs.declared.selector.End.{End}
+use Rattle.node_select.specs.declared.selector.End.TheVariants as ends
+use Rattle.node_select.specs.declared.selector.Selector.{Selector}
+use Rattle.node_select.specs.declared.selector.Step.{Step}
+use Rattle.xcap_uri.specs.Ancestors.{ancestor_uri, home_uri}
+use Rattle.xcap_uri.specs.declared.fault.UriFault.{UriFault}
+use Rattle.xcap_uri.specs.declared.fault.UriFault.TheVariants.{OutsideRoot, UnknownAuid, BadShape, BadEscape, BadQuery, UnboundPrefix, BadSelector}
+use Rattle.xcap_uri.specs.declared.target.Target.{Target}
+use Rattle.xcap_uri.specs.declared.target.Target.TheVariants.{Document, Node, Deep, Feed, ElementFeed, Flat}
+use Rattle.edit_ops.specs.Changes.{edited}
+use Rattle.edit_ops.specs.declared.change.Change.{Change}
+use Rattle.edit_ops.specs.declared.change.Change.TheVariants.{DropAttr, Insert, Remove, RemoveDocument, Replace, SetAttr}
+use Rattle.plan_words.specs.Attributes.{FindsValue, IsAttrPlan, IsWriting, written_name}
+use Rattle.plan_words.specs.Deletions.{FindsNothingAfter, IsDeletePlan, IsPlanFor, IsRemoval}
+use Rattle.plan_words.specs.Lawful.{LawfulGap, LawfulOver}
+use Rattle.plan_words.specs.Plans.{IsJudged, IsTested, by_fault}
+use Rattle.plan_words.specs.Puts.{FromGap, IsPutPlan}
+use Rattle.plan_words.specs.declared.refusal.EditRefusal.{EditRefusal}
+use Rattle.plan_words.specs.declared.refusal.EditRefusal.TheVariants as plans
+use Rattle.plan_words.specs.declared.spot.NoParent.{NoParent}
+use Rattle.plan_words.specs.declared.spot.Spot.{Spot}
+use Rattle.plan_words.specs.declared.spot.Spot.TheVariants.{Over, Under, Beside, Value}
+use Rattle.notes.specs.Notes.{Note}
+use Rattle.reply_text.specs.Heads.{Sent, plain}
+use Rattle.reply_text.specs.declared.media_types.Media.{Media}
+use Rattle.conflict_docs.specs.declared.conflicts.ErrorBody.{ErrorBody}
+use Rattle.conflict_docs.specs.declared.conflicts.ErrorBody.TheVariants as conflicts
+use Rattle.http_wire.specs.declared.request.Request.{Request}
+use Rattle.request_terms.specs.Conditions.{stopped_by}
+use Rattle.request_terms.specs.MediaTypes.{document_media, has_type}
+use Rattle.request_terms.specs.Methods.{method_of, is_reading}
+use Rattle.request_terms.specs.Rights.{is_allowed}
+use Rattle.request_terms.specs.declared.conditions.Outcome.{Outcome}
+use Rattle.request_terms.specs.declared.conditions.Outcome.TheVariants.{Unreadable, Go, NotModified, Failed}
+use Rattle.request_terms.specs.declared.method.Method.{Method}
+use Rattle.request_terms.specs.declared.method.Method.TheVariants.{Get, Head, Put, Delete, Other}
+use Rattle.node_texts.specs.Nodes.{encoded, found_text, node_media}
+use Rattle.store_core.specs.Changing.{Act, Makes, Edits, Removes, act_of, against, against_number, against_tree, answered, changing, content_after, document_in, held_name, note_for, only_if, or_else, other_addresses, other_lengths, taken}
+use Rattle.store_core.specs.Held.{Content, Held}
+use Rattle.store_core.specs.Keeping.{addresses_in}
+use Rattle.store_core.specs.declared.refusal.StoreRefusal.{StoreRefusal}
+use Rattle.store_core.specs.declared.refusal.StoreRefusal.TheVariants as refusals
+use Rattle.usage_docs.specs.Services.{document_len}
+use Rattle.machine_words.specs.Answers.{Answer, Behind, BehindConditions, conflict, found, not_allowed, unchanged}
+use Rattle.machine_words.specs.Fragments.{CutsNode, DeletesNodeIn, PutsAt, PutsElementText, PutsFragment, PutsFrom, PutsNodeIn, PutsValueText, cut_reply, is_there, plan_answer, value_conflict}
+use Rattle.machine_words.specs.Reading.{SendsDocument, SendsFound, SendsNode, as_asked}
+use Rattle.machine_words.specs.Requests.{ByMethod, ByTarget, ByUser, Deletes, IsAnswer, IsAnswered, Puts, Reads, auid_of, fault_status, home_of, is_read_only, takes}
+use Rattle.machine_words.specs.Resources.{Resource, absent, beyond_limit, there, resource, version_of}
+use Rattle.machine_words.specs.Writing.{DeletesDocumentIn, IfStored, PutsBody, PutsDocument, PutsSpelled, PutsText, by_judgement, change_answer, deleted_reply, fault_conflict, put_answer, put_change, put_reply, store_answer, tag_of, text_conflict}
+use Rattle.machine_words.proofs.Cases.{either}
+
+-- ---- the store
+
+abbrev IsOther : Option StoreRefusal → Type 0
+IsOther o = o ≡ Some refusals.NoMemory → ⊥
+
+or_other : (o p : Option StoreRefusal) → IsOther o → IsOther p → IsOther (or_else o p)
+or_other None p x y h = y h
+or_other (Some r) p x y h = x h
+
+if_other : (b : Bool) (r : StoreRefusal) → IsOther (Some r) → IsOther (only_if b r)
+if_other true r x h = x h
+if_other false r x h = cc
+
+taken_other : (o : Option Clash) → IsOther (option_map (λ clash. refusals.ServiceTaken clash) o)
+taken_other None h = cc
+taken_other (Some clash) h = cc
+
+large_other : (n : ℕ) → IsOther (Some (refusals.TooLarge n))
+large_other n h = cc
+
+many_other : IsOther (Some refusals.TooMany)
+many_other h = cc
+
+full_other : (n : ℕ) → IsOther (Some (refusals.StoreFull n))
+full_other n h = cc
+
+last_other : IsOther (Some refusals.NoNumber)
+last_other h = cc
+
+none_other : IsOther None
+none_other h = cc
+
+number_other : (c : Content) → IsOther (against_number c)
+number_other c = if_other (nat_le 18446744073709551616 c.next) refusals.NoNumber last_other
+
+tree_other : (c : Content) (id : DocId) (is_new : Bool) (t : Tree) → IsOther (against_tree c id is_new t)
+tree_other c id is_new t =
+    let len = min (document_len t) 18446744073709551615 in
+    let together = other_lengths c id + document_len t in
+    let first = taken (other_addresses c id) (addresses_in id.auid t) in
+    let large = only_if (nat_lt 262144 (document_len t)) (refusals.TooLarge len) in
+    let many = only_if (is_new && nat_le 1000 (length c.documents)) refusals.TooMany in
+    let full = only_if (nat_lt 33554432 together) (refusals.StoreFull together) in
+    or_other (option_map (λ clash. refusals.ServiceTaken clash) first) (or_else large (or_else many full)) (taken_other first)
+    (or_other large (or_else many full) (if_other (nat_lt 262144 (document_len t)) (refusals.TooLarge len) (large_other len))
+    (or_other many full (if_other (is_new && nat_le 1000 (length c.documents)) refusals.TooMany many_other) (if_other (nat_lt 33554432 together) (refusals.StoreFull together) (full_other together))))
+
+against_other : (c : Content) (id : DocId) (change : Change) (held : Option Held) (act : Act) → IsOther (against c id change held act)
+against_other c id change None (Makes root) = or_other (against_tree c id true root) (against_number c) (tree_other c id true root) (number_other c)
+against_other c id change (Some h) (Makes root) = or_other (against_tree c id true root) (against_number c) (tree_other c id true root) (number_other c)
+against_other c id change (Some h) Edits = or_other (against_tree c id false (edited h.tree change)) (against_number c) (tree_other c id false (edited h.tree change)) (number_other c)
+against_other c id change None Edits = none_other
+against_other c id change None Removes = number_other c
+against_other c id change (Some h) Removes = number_other c
+
+never_answered : (o : Option StoreRefusal) (note : Note) (next : Content) → IsOther o → answered o note next ≡ Err refusals.NoMemory → ⊥
+never_answered None note next other h = cc
+never_answered (Some r) note next other h = let same : r ≡ refusals.NoMemory = cc in other (ap (λ (x : StoreRefusal). Some x) same)
+
+never_stored : (c : Content) (id : DocId) (change : Change) → changing c id change ≡ Err refusals.NoMemory → ⊥
+never_stored c id change =
+    let held = document_in held_name c.documents id in
+    never_answered (against c id change held (act_of change)) (note_for c id change held) (content_after c id change) (against_other c id change held (act_of change))
+
+-- ---- plans
+
+abbrev Never : (Result Change EditRefusal → Type 0) → Type 0
+Never IsPlan = IsPlan (Err plans.NoMemory) → ⊥
+
+by_fault_never : (change : Change) (fault : Option Fault) → ◌≡◌ {A = Result Change EditRefusal} (Err plans.NoMemory) (by_fault change fault) → ⊥
+by_fault_never change None h = cc
+by_fault_never change (Some Invalid) h = cc
+by_fault_never change (Some Unformed) h = cc
+by_fault_never change (Some (Repeated clash)) h = cc
+
+module _ (u : Usage) (t : Tree) where
+  judged_never : (change : Change) → Never (IsJudged u t change)
+  judged_never change h = by_fault_never change h.0 h.1.1
+
+  tested_never : (unlawful : EditRefusal) (lawful : Type 0) (change : Change) → (unlawful ≡ plans.NoMemory → ⊥) → Never (IsTested unlawful lawful u t change)
+  tested_never unlawful lawful change other (inl h) = let is = h.0 in let same : unlawful ≡ plans.NoMemory = cc in other same
+  tested_never unlawful lawful change other (inr h) = judged_never change h.1
+
+  gap_never : (q : List ℕ) (e : Tree) (L V : ℕ → Type 0) (n : ℕ) (gap : Result ℕ EditRefusal) → PlanIs plans.CannotInsert plans.Schema L V n gap → Never (FromGap u t q e gap)
+  gap_never q e L V n (Ok gap) is h = judged_never (Insert q gap e) h
+  gap_never q e L V n (Err why) (inl is) h = let so = is.0 in cc
+  gap_never q e L V n (Err why) (inr is) h = let so = is.0 in cc
+
+  no_insert : plans.CannotInsert ≡ plans.NoMemory → ⊥
+  no_insert h = cc
+
+  no_delete : plans.CannotDelete ≡ plans.NoMemory → ⊥
+  no_delete h = cc
+
+  put_never : (steps : List Step) (spot : Spot) (e : Tree) → Never (IsPutPlan u t steps spot e)
+  put_never steps (Over p) e h = tested_never plans.CannotInsert (LawfulOver steps t e p) (Replace p e) no_insert h
+  put_never steps (Under q) e h = gap_never q e (LawfulGap steps t e q) (λ j. validity.Schema u (put_in q j e t)) (length (kids_of h.parent) + 1) h.gap h.is_chosen h.then
+  put_never steps Beside e h = cc
+  put_never steps (Value p) e h = h
+
+  writing_never : (steps : List Step) (uri local p value : List ℕ) (name : Option Name) → Never (IsWriting u t steps uri local p value name)
+  writing_never steps uri local p value None h = cc
+  writing_never steps uri local p value (Some name) h =
+      tested_never plans.CannotInsert (FindsValue steps uri local (edited t (SetAttr p name value)) p value) (SetAttr p name value) no_insert h
+
+  attr_never : (steps : List Step) (end : End) (p value : List ℕ) → Never (IsAttrPlan u t steps end p value)
+  attr_never steps (ends.Attribute uri local) p value h = writing_never steps uri local p value (written_name (scope_at p t) uri local h.element.attrs) h.plan
+  attr_never steps ends.Element p value h = h
+  attr_never steps ends.Namespaces p value h = h
+
+  removal_never : (selector : Selector) (p : List ℕ) → Never (IsRemoval u t selector p)
+  removal_never selector [] h = cc
+  removal_never selector (n ∷ p) h = tested_never plans.CannotDelete (FindsNothingAfter selector t (Remove (n ∷ p))) (Remove (n ∷ p)) no_delete h
+
+  found_never : (selector : Selector) (p : List ℕ) (element : Tree) (end : End) → Never (IsPlanFor u t selector p element end)
+  found_never selector p element ends.Element h = removal_never selector p h
+  found_never selector p element (ends.Attribute uri local) h =
+      tested_never plans.CannotDelete (FindsNothingAfter selector t (DropAttr p h.attr.name)) (DropAttr p h.attr.name) no_delete h.then
+  found_never selector p element ends.Namespaces h = h
+
+  delete_never : (selector : Selector) → Never (IsDeletePlan u t selector)
+  delete_never selector (inl h) = let is = h.0 in cc
+  delete_never selector (inr h) = found_never selector h.0.path h.0.element selector.end h.1
+
+-- ---- answers
+
+abbrev IsNot503 : ℕ → Type 0
+IsNot503 status = (status == 503) ≡ false
+
+abbrev pub Fine : Answer → Type 0
+Fine a = IsNot503 a.reply.status
+
+module _ (request : Request) (a : Answer) where
+  fine : (reply : Sent) → IsNot503 reply.status → a ≡ unchanged reply → Fine a
+  fine reply other is = subst (λ (x : Answer). Fine x) (sym is) other
+
+  only : (status : ℕ) → IsNot503 status → a ≡ unchanged (plain status request.closes) → Fine a
+  only status other is = fine (plain status request.closes) other is
+
+  conflicts_so : (body : ErrorBody) → a ≡ unchanged (conflict body request.closes) → Fine a
+  conflicts_so body is = fine (conflict body request.closes) refl is
+
+  by_outcome : (o : Outcome) (tag : Option ℕ) (P : Type 0) → (P → Fine a) → Behind (stopped_by o tag request.closes) a P → Fine a
+  by_outcome Unreadable tag P so is = fine _ refl is
+  by_outcome Go tag P so is = so is
+  by_outcome NotModified tag P so is = fine _ refl is
+  by_outcome Failed tag P so is = fine _ refl is
+
+  behind : (tag : Option ℕ) (exists reading : Bool) (P : Type 0) → (P → Fine a) → BehindConditions request tag exists reading a P → Fine a
+  behind tag exists reading P so is = by_outcome is.1.0 tag P so (subst (λ (stop : Option Sent). Behind stop a P) is.1.2 is.2)
+
+  no_usage : (u : Option Usage) (P : Usage → Type 0) → ((usage : Usage) → P usage → Fine a) → IfStored u request a P → Fine a
+  no_usage None P so is = only 403 refl is
+  no_usage (Some usage) P so is = so usage is
+
+  module _ (c : Content) (id : DocId) (reply : Note → Sent) (other : (note : Note) → IsNot503 (reply note).status) where
+    by_store : (change : Change) (made : Result (Note × Content) StoreRefusal) → changing c id change ≡ made → a ≡ store_answer id request.closes reply made → Fine a
+    by_store change (Err (refusals.ServiceTaken clash)) e is = fine _ refl is
+    by_store change (Err (refusals.TooLarge len)) e is = fine _ refl is
+    by_store change (Err refusals.TooMany) e is = fine _ refl is
+    by_store change (Err (refusals.StoreFull total)) e is = fine _ refl is
+    by_store change (Err refusals.NoNumber) e is = fine _ refl is
+    by_store change (Err refusals.NoMemory) e is = absurd (never_stored c id change e)
+    by_store change (Ok (note, next)) e is = subst (λ (x : Answer). Fine x) (sym is) (other note)
+
+    by_plan : (plan : Result Change EditRefusal) → (plan ≡ Err plans.NoMemory → ⊥) → a ≡ plan_answer c id request.closes reply plan → Fine a
+    by_plan (Err plans.NotFound) never is = fine _ refl is
+    by_plan (Err plans.CannotInsert) never is = fine _ refl is
+    by_plan (Err plans.CannotDelete) never is = fine _ refl is
+    by_plan (Err plans.Schema) never is = fine _ refl is
+    by_plan (Err plans.Constraint) never is = fine _ refl is
+    by_plan (Err (plans.Unique clash)) never is = fine _ refl is
+    by_plan (Err plans.NoMemory) never is = absurd (never refl)
+    by_plan (Ok change) never is = by_store change (changing c id change) refl is
+
+    planned : (IsPlan : Result Change EditRefusal → Type 0) → Never IsPlan → (plan : Result Change EditRefusal) → IsPlan plan → a ≡ plan_answer c id request.closes reply plan → Fine a
+    planned IsPlan never plan holds is = by_plan plan (λ (none : plan ≡ Err plans.NoMemory). never (subst IsPlan none holds)) is
+
+-- ---- reading
+
+asked_so : (method : Method) (reply : Sent) → IsNot503 reply.status → IsNot503 (as_asked method reply).status
+asked_so Get reply other = other
+asked_so Head reply other = other
+asked_so Put reply other = other
+asked_so Delete reply other = other
+asked_so Other reply other = other
+
+module _ (method : Method) (request : Request) (a : Answer) where
+  found_so : (text : Option (List ℕ)) (tag : ℕ) (media : Media) → SendsFound text tag media method request a → Fine a
+  found_so None tag media is = only request a 404 refl is
+  found_so (Some text) tag media is =
+      let reply = found (Some tag) media text request.closes in
+      behind request a (Some tag) true true (a ≡ unchanged (as_asked method reply)) (fine request a (as_asked method reply) (asked_so method reply refl)) is
+
+  document_so : (r : Resource) (media : Media) → SendsDocument r media method request a → Fine a
+  document_so absent media is = only request a 404 refl is
+  document_so beyond_limit media is = only request a 507 refl is
+  document_so (there t tag) media is = found_so (Some (encode_utf8_all (document_print t))) tag media is
+
+  node_so : (r : Resource) (selector : Selector) → SendsNode r selector method request a → Fine a
+  node_so absent selector is = only request a 404 refl is
+  node_so beyond_limit selector is = only request a 507 refl is
+  node_so (there t tag) selector is = found_so (encoded (found_text t selector)) tag (node_media selector.end) is
+
+  read_so : (root : List ℕ) (c : Content) (target : Target) → Reads root c target method request a → Fine a
+  read_so root c (Document id) is = document_so (resource c id) (document_media id.auid) is
+  read_so root c (Node id selector) is = node_so (resource c id) selector is
+  read_so root c (Deep auid home) is = only request a 404 refl is
+  read_so root c (Feed mode tag id) is = only request a 501 refl is
+  read_so root c (ElementFeed tag id selector raw) is = only request a 501 refl is
+  read_so root c (Flat id service) is = only request a 501 refl is
+
+-- ---- writing
+
+put_so : (exists closes : Bool) (note : Note) → IsNot503 (put_reply exists closes note).status
+put_so true closes note = refl
+put_so false closes note = refl
+
+module _ (c : Content) (id : DocId) (request : Request) (a : Answer) where
+  judged_so : (judgement : Option Fault) (t : Tree) → a ≡ by_judgement judgement request.closes (put_answer c id request.closes t) → Fine a
+  judged_so (Some fault) t is = conflicts_so request a (fault_conflict fault) is
+  judged_so None t is =
+      let exists = is_some (version_of c id) in
+      let change = put_change exists t in
+      by_store request a c id (put_reply exists request.closes) (put_so exists request.closes) change (changing c id change) refl is
+
+  text_so : (usage : Usage) (read : Result Tree TextFault) → PutsText usage read request.closes (put_answer c id request.closes) a → Fine a
+  text_so usage (Err fault) is = conflicts_so request a (text_conflict conflicts.NotWellFormed fault) is
+  text_so usage (Ok t) is = judged_so is.0 t is.2
+
+  body_so : (usage : Usage) → PutsBody usage (document_media id.auid) request (put_answer c id request.closes) a → Fine a
+  body_so usage is =
+      either (has_type (document_media id.auid) request.fields) (PutsSpelled usage request (put_answer c id request.closes) a) (a ≡ unchanged (plain 415 request.closes))
+      (λ _ spelled. text_so usage spelled.0 spelled.2) (λ _. only request a 415 refl) is
+
+  document_put_so : (usage : Usage) → PutsDocument c id usage request a → Fine a
+  document_put_so usage is =
+      behind request a (tag_of (version_of c id)) (is_some (version_of c id)) false (PutsBody usage (document_media id.auid) request (put_answer c id request.closes) a) (body_so usage) is
+
+  module _ (usage : Usage) (selector : Selector) (t : Tree) where
+    abbrev reply : Note → Sent
+    reply = put_reply (is_there t selector) request.closes
+
+    element_so : (spot : Spot) (read : Result Tree TextFault) → PutsElementText c id usage selector t spot read request a → Fine a
+    element_so spot (Err fault) is = conflicts_so request a (text_conflict conflicts.NotXmlFrag fault) is
+    element_so spot (Ok e) is = planned request a c id reply (put_so (is_there t selector) request.closes) (IsPutPlan usage t selector.steps spot e) (put_never usage t selector.steps spot e) is.0 is.1 is.2
+
+    value_so : (p : List ℕ) (read : Result (List ℕ) ValueFault) → PutsValueText c id usage selector t p read request a → Fine a
+    value_so p (Err fault) is = conflicts_so request a (value_conflict fault) is
+    value_so p (Ok value) is =
+        planned request a c id reply (put_so (is_there t selector) request.closes) (IsAttrPlan usage t selector.steps selector.end p value) (attr_never usage t selector.steps selector.end p value) is.0 is.1 is.2
+
+    at_so : (spot : Spot) → PutsAt c id usage selector t spot request a → Fine a
+    at_so (Over p) is = element_so (Over p) is.0 is.2
+    at_so (Under q) is = element_so (Under q) is.0 is.2
+    at_so Beside is = element_so Beside is.0 is.2
+    at_so (Value p) is = value_so p is.0 is.2
+
+    fragment_so : (spot : Spot) → PutsFragment c id usage selector t spot request a → Fine a
+    fragment_so spot is =
+        either (has_type (node_media selector.end) request.fields) (PutsAt c id usage selector t spot request a) (a ≡ unchanged (plain 415 request.closes))
+        (λ _. at_so spot) (λ _. only request a 415 refl) is
+
+    from_so : (root : List ℕ) (tag : ℕ) (spot : Result Spot NoParent) → PutsFrom c id usage selector t root tag spot request a → Fine a
+    from_so root tag (Err none) is = conflicts_so request a (conflicts.NoParent (ancestor_uri root id t selector.steps)) is
+    from_so root tag (Ok spot) is = behind request a (Some tag) (is_there t selector) false (PutsFragment c id usage selector t spot request a) (fragment_so spot) is
+
+  node_put_so : (root : List ℕ) (usage : Usage) (selector : Selector) (version : Option (Tree × ℕ)) → PutsNodeIn root c id usage selector version request a → Fine a
+  node_put_so root usage selector None is = conflicts_so request a (conflicts.NoParent (home_uri root id.auid id.home)) is
+  node_put_so root usage selector (Some (t, tag)) is = from_so usage selector t root tag is.0 is.2
+
+  document_deleted_so : (version : Option (Tree × ℕ)) → DeletesDocumentIn c id version request a → Fine a
+  document_deleted_so None is = only request a 404 refl is
+  document_deleted_so (Some (t, tag)) is =
+      behind request a (Some tag) true false (a ≡ change_answer c id RemoveDocument request.closes (deleted_reply request.closes))
+      (by_store request a c id (deleted_reply request.closes) (λ note. refl) RemoveDocument (changing c id RemoveDocument) refl) is
+
+  cut_so : (usage : Usage) (selector : Selector) (t : Tree) → CutsNode c id usage selector t request a → Fine a
+  cut_so usage selector t is = planned request a c id (cut_reply request.closes) (λ note. refl) (IsDeletePlan usage t selector) (delete_never usage t selector) is.0 is.1 is.2
+
+  node_deleted_so : (usage : Usage) (selector : Selector) (version : Option (Tree × ℕ)) → DeletesNodeIn c id usage selector version request a → Fine a
+  node_deleted_so usage selector None is = only request a 404 refl is
+  node_deleted_so usage selector (Some (t, tag)) is =
+      let Last : Type 0 = CutsNode c id usage selector t request a in
+      either (is_there t selector) (BehindConditions request (Some tag) true false a Last) (a ≡ unchanged (plain 404 request.closes))
+      (λ _. behind request a (Some tag) true false Last (cut_so usage selector t)) (λ _. only request a 404 refl) is
+
+-- ---- all in order
+
+module _ (root : List ℕ) (c : Content) (request : Request) (a : Answer) where
+  target_put_so : (target : Target) (usage : Usage) → Puts root c target usage request a → Fine a
+  target_put_so (Document id) usage is = document_put_so c id request a usage is
+  target_put_so (Node id selector) usage is = node_put_so c id request a root usage selector (version_of c id) is
+  target_put_so (Deep auid home) usage is = conflicts_so request a (conflicts.NoParent (home_uri root auid home)) is
+  target_put_so (Feed mode tag id) usage is = absurd is
+  target_put_so (ElementFeed tag id selector raw) usage is = absurd is
+  target_put_so (Flat id service) usage is = absurd is
+
+  target_deleted_so : (target : Target) (usage : Usage) → Deletes c target usage request a → Fine a
+  target_deleted_so (Document id) usage is = document_deleted_so c id request a (version_of c id) is
+  target_deleted_so (Node id selector) usage is = node_deleted_so c id request a usage selector (version_of c id) is
+  target_deleted_so (Deep auid home) usage is = only request a 404 refl is
+  target_deleted_so (Feed mode tag id) usage is = absurd is
+  target_deleted_so (ElementFeed tag id selector raw) usage is = absurd is
+  target_deleted_so (Flat id service) usage is = absurd is
+
+  method_so : (target : Target) (method : Method) → ByMethod root c target method request a → Fine a
+  method_so target Get is = read_so Get request a root c target is
+  method_so target Head is = read_so Head request a root c target is
+  method_so target Put is = no_usage request a (usage_of (auid_of target)) (λ usage. Puts root c target usage request a) (target_put_so target) is
+  method_so target Delete is = no_usage request a (usage_of (auid_of target)) (λ usage. Deletes c target usage request a) (target_deleted_so target) is
+  method_so target Other is = absurd is
+
+  user_so : (target : Target) (method : Method) → ByUser root c target method request a → Fine a
+  user_so target method is =
+      either (is_allowed (not (is_reading method)) (auid_of target) (home_of target) request.fields) (ByMethod root c target method request a) (a ≡ unchanged (plain 403 request.closes))
+      (λ _. method_so target method) (λ _. only request a 403 refl) is
+
+  target_so : (target : Target) (method : Method) → ByTarget root c target method request a → Fine a
+  target_so target method is =
+      either (takes target method) (ByUser root c target method request a) (a ≡ unchanged (not_allowed (is_read_only target) request.closes))
+      (λ _. user_so target method) (λ _. fine request a (not_allowed (is_read_only target) request.closes) refl) is
+
+  fault_so : (fault : UriFault) → a ≡ unchanged (plain (fault_status fault) request.closes) → Fine a
+  fault_so OutsideRoot is = only request a 404 refl is
+  fault_so UnknownAuid is = only request a 404 refl is
+  fault_so BadShape is = only request a 400 refl is
+  fault_so BadEscape is = only request a 400 refl is
+  fault_so BadQuery is = only request a 400 refl is
+  fault_so UnboundPrefix is = only request a 400 refl is
+  fault_so BadSelector is = only request a 400 refl is
+
+  answered_so : (read : Result Target UriFault) → IsAnswered root c read request a → Fine a
+  answered_so (Err fault) is = fault_so fault is
+  answered_so (Ok target) is = target_so target (method_of request.method) is
+
+  pub no_503 : IsAnswer root c request a → Fine a
+  no_503 is = answered_so is.0 is.2
+
+pub never_503 : (root : List ℕ) (c : Content) (request : Request) (a : Answer) → IsAnswer root c request a → a.reply.status ≡ 503 → ⊥
+never_503 root c request a is h = let z : true ≡ false = sym (ap (λ (n : ℕ). n == 503) h) ∙ no_503 root c request a is in cc
