@@ -6,5 +6,6 @@ pub mod Fields
 pub mod Held
 pub mod Planning
 pub mod Putting
+pub mod Removing
 pub mod Spelled
 pub mod Spotted

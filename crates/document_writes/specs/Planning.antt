@@ -1,5 +1,5 @@
 -- What a request on a node comes to before the store is asked. RFC 4825, sections 8.2 and 8.4.
-use Rattle.std.specs.Prelude.{◌≡◌, ◌≢◌, Bool, None, Result, Ok, Err, IsSome}
+use Rattle.std.specs.Prelude.{◌≡◌, ◌≢◌, Bool, true, false, Option, None, Some, Result, Ok, Err, IsSome}
 use Rattle.xml_tree.specs.Tree.{Tree, at}
 use Rattle.doc_names.specs.declared.doc_id.DocId.{DocId}
 use Rattle.doc_names.specs.declared.usages.Usage.{Usage}
@@ -11,10 +11,12 @@ use Rattle.plan_words.specs.declared.refusal.EditRefusal.{EditRefusal}
 use Rattle.plan_words.specs.declared.refusal.EditRefusal.TheVariants.{NoMemory}
 use Rattle.plan_words.specs.declared.spot.Spot.{Spot}
 use Rattle.plan_words.specs.declared.spot.Spot.TheVariants.{Over, Under, Beside, Value}
+use Rattle.node_select.specs.declared.selector.Selector.{Selector}
+use Rattle.http_wire.specs.declared.request.Request.{Request}
 use Rattle.store_core.specs.Asking.{Asks}
 use Rattle.store_core.specs.Held.{Content}
 use Rattle.machine_words.specs.Answers.{Answer, unchanged}
-use Rattle.machine_words.specs.Fragments.{plan_refused}
+use Rattle.machine_words.specs.Fragments.{CutsNode, is_there, plan_refused}
 use Rattle.machine_words.specs.Writing.{change_answer, put_reply}
 use Rattle.document_writes.specs.declared.plan.Plan.{Plan}
 use Rattle.document_writes.specs.declared.plan.Plan.TheVariants.{Stops, Makes}
@@ -58,3 +60,9 @@ pub record IsPlanFor (usage : Usage) (t : Tree) (id : DocId) (closes : Bool) (Is
 abbrev pub IsPlanOf : Result Change EditRefusal → Bool → Bool → Plan → Type 0
 IsPlanOf (Ok change) exists closes plan = plan ≡ Makes change exists
 IsPlanOf (Err why) exists closes plan = (plan ≡ Stops (plan_refused why closes)) × (why ≢ NoMemory)
+
+-- it is the plan of a DELETE of what the selector finds, by all but the conditions; there is none where nothing is found
+abbrev pub IsCut : Usage → Tree → Selector → Request → Option Plan → Type 0
+IsCut usage t selector request None = is_there t selector ≡ false
+IsCut usage t selector request (Some plan) =
+    (is_there t selector ≡ true) × ((id : DocId) → IsPlanFor usage t id request.closes (λ c a. CutsNode c id usage selector t request a) plan)

@@ -1,27 +1,29 @@
 //! PUT and DELETE of nodes (RFC 4825, sections 8.2 and 8.4).
-ghost use Rattle.std.specs.Prelude.{◌≡◌, IfOk, IfSome, Some, false, option_map, true};
+ghost use Rattle.std.specs.Prelude.{◌≡◌, ◌≢◌, Err, IfOk, IfSome, MatchOption, Some, false, option_map, true};
 ghost use Rattle.doc_names.specs.Usages.{usage_of};
 ghost use Rattle.doc_names.specs.declared.doc_id.DocId.{DocId as TheDocId};
 ghost use Rattle.node_select.specs.declared.selector.End.TheVariants as ends;
 ghost use Rattle.plan_words.specs.Spots.{IsSpotOf};
+ghost use Rattle.plan_words.specs.declared.refusal.EditRefusal.TheVariants as refusals;
 ghost use Rattle.store_core.specs.Keeping.{IsSound};
 ghost use Rattle.machine_words.specs.Answers.{BehindConditions, unchanged};
-ghost use Rattle.machine_words.specs.Fragments.{CutsNode, DeletesNode, DeletesNodeOf, PutsFragment, PutsNode, PutsNodeOf, MayBeWritten, is_there};
+ghost use Rattle.machine_words.specs.Fragments.{DeletesNode, DeletesNodeOf, PutsFragment, PutsNode, PutsNodeOf, MayBeWritten, is_there};
 ghost use Rattle.machine_words.specs.Resources.{version_of};
 ghost use Rattle.machine_words.specs.Writing.{puts_deeper};
 ghost use Rattle.document_writes.specs.Deciding.{Decides};
-ghost use Rattle.document_writes.specs.Planning.{IsPlanFor};
+ghost use Rattle.document_writes.specs.Planning.{IsCut, IsPlanFor, IsPlanOf};
 
 use crate::conflicts::no_parent;
 use crate::fragments::put_fragment;
 use crate::making::make;
-use crate::plan::{Plan, plan_of};
+use crate::plan::Plan;
+use crate::refusals::unplanned;
 use crate::{Decision, NoMemory};
 use doc_names::{Auid, DocId, Home, Usage};
-use edit_plans::{Spot, plan_delete, put_spot};
+use edit_plans::{EditRefusal, Spot, plan_delete, put_spot};
 use http_wire::Request;
 use node_select::Selector;
-use node_texts::{has_node_at, is_found};
+use node_texts::{has_node_at, texts_are_those_of_found_nodes};
 use reply_text::Reply;
 use request_terms::stop;
 use std::alloc::Global;
@@ -161,24 +163,44 @@ pub fn put_deeper(
 
 // ---- DELETE
 
-// The plan of a DELETE of a node that is there.
+// What comes of a DELETE for which there is no plan; None where nothing is found.
+fn uncut(alloc: Global, why: EditRefusal, closes: bool) -> Result<Option<Plan>, NoMemory>
+    ensures tells_the_reason { IfOk result (λ plan. MatchOption plan (why ≡ refusals.NotFound)
+        (λ p. (why ≢ refusals.NotFound) × IsPlanOf (Err why) true closes p)) }
+{
+    match why {
+        EditRefusal::NotFound => Ok(None),
+        why => {
+            let reply = unplanned(alloc, why, closes)?;
+            Ok(Some(Plan::Stops(reply)))
+        }
+    }
+}
+
+// The plan of a DELETE of a node, before the conditions are asked; None where nothing is found.
 fn plan_cut(
     alloc: Global,
     usage: Usage,
     tree: &Element,
     selector: &Selector,
     request: &Request,
-) -> Result<Plan, NoMemory>
+) -> Result<Option<Plan>, NoMemory>
     requires sound { IsSound usage tree.now }
     requires node { selector.now.end ≡ ends.Namespaces → ⊥ }
-    ensures plans_the_removal { IfOk result (λ plan. (id : TheDocId) → IsPlanFor usage tree.now id request.now.closes
-        (λ c a. CutsNode c id usage selector.now tree.now request.now a) plan) }
+    ensures plans_the_removal { IfOk result (λ plan. IsCut usage tree.now selector.now request.now plan) }
 {
-    let planned = plan_delete(alloc, usage, tree, selector);
-    plan_of(alloc, planned, true, request.closes)
+    texts_are_those_of_found_nodes();
+    match plan_delete(alloc, usage, tree, selector) {
+        Ok(change) => Ok(Some(Plan::Makes {
+            change,
+            exists: true,
+        })),
+        Err(why) => uncut(alloc, why, request.closes),
+    }
 }
 
-// The plan of a DELETE of a node of a document that is held with this tree and this tag.
+// The plan of a DELETE of a node of a document that is held with this tree and this tag. The
+// document is descended once: the plan tells whether the node is there.
 fn plan_delete_in(
     alloc: Global,
     usage: Usage,
@@ -192,12 +214,12 @@ fn plan_delete_in(
         (λ c a. DeletesNodeOf c id usage selector.now held.entry.0.now held.entry.1 request.now a) plan) }
 {
     let (tree, tag) = held;
-    if !is_found(alloc, tree, selector) {
+    let Some(plan) = plan_cut(alloc, usage, tree, selector, request)? else {
         return Ok(Plan::Stops(Reply::fixed(404, request.closes)));
-    }
+    };
     match stop(alloc, request, Some(tag), true, false)? {
         Some(reply) => Ok(Plan::Stops(reply)),
-        None => plan_cut(alloc, usage, tree, selector, request),
+        None => Ok(plan),
     }
 }
 

@@ -26,6 +26,7 @@ use Rattle.xcap_uri.specs.declared.target.Target.{Target}
 use Rattle.xcap_uri.proofs.TargetAnswers.{one_target}
 use Rattle.xcap_uri.specs.declared.fault.UriFault.{UriFault}
 use Rattle.notes.specs.Notes.{Note}
+use Rattle.notes.specs.declared.edit.Edit.{Edit}
 use Rattle.reply_text.specs.Heads.{Sent, plain}
 use Rattle.http_wire.specs.declared.request.Request.{Request}
 use Rattle.request_terms.specs.Conditions.{IsStop}
@@ -41,10 +42,18 @@ use Rattle.store_core.specs.Held.{Content, Held}
 use Rattle.store_core.specs.declared.refusal.StoreRefusal.{StoreRefusal}
 use Rattle.machine_words.specs.Answers.{Answer, Behind, BehindConditions, Made, not_allowed, unchanged}
 use Rattle.machine_words.specs.Fragments.{CutsNode, DeletesNodeIn, PutsAt, PutsElement, PutsFragment, PutsFrom, PutsNodeIn, PutsValue, cut_reply, is_there, levels_for, plan_answer, put_planned, scope_for}
+use Rattle.machine_words.specs.Machine.{Does, answer_as, told_as}
 use Rattle.machine_words.specs.Requests.{ByMethod, ByTarget, ByUser, Deletes, IsAnswer, IsAnswered, Puts, auid_of, home_of, is_read_only, takes}
 use Rattle.machine_words.specs.Resources.{version_of}
 use Rattle.machine_words.specs.Writing.{DeletesDocumentIn, IfStored, PutsDocument, PutsSpelled, PutsText, by_judgement, change_answer, deleted_reply, put_answer, put_reply, store_answer, tag_of}
 use Rattle.machine_words.proofs.Steps.{made_change}
+
+-- a request of this method, for this target, is accepted: it makes a change, which is told as this edit, and then this is held
+pub record Accepts (root : List ℕ) (c : Content) (request : Request) (method : Method) (target : Target) (next : Content) (edit : Edit) : Type 0 where
+  pub reply : Sent
+  pub does : Does root c request reply next (Some edit)
+  pub asks : method_of request.method ≡ method
+  pub means : TargetAnswer root request.target (Ok target)
 
 -- ---- a line that isn't stopped
 
@@ -85,6 +94,15 @@ by_target root c request a target method means asks is =
     let same : is.0 ≡ Ok target = one_target root request.target is.0 (Ok target) is.1 means in
     let here : ByTarget root c target (method_of request.method) request a = subst (λ (r : Result Target UriFault). IsAnswered root c r request a) same is.2 in
     subst (λ (m : Method). ByTarget root c target m request a) asks here
+
+-- a change is made for a target that the address means
+pub accepted : (root : List ℕ) (c next : Content) (request : Request) (reply : Sent) (edit : Edit) (method : Method) → Does root c request reply next (Some edit) → method_of request.method ≡ method
+    → (target : Target) × Accepts root c request method target next edit
+accepted root c next request reply edit method does asks = by does.answers.0 does.answers.1 does.answers.2
+  where
+    by : (read : Result Target UriFault) → TargetAnswer root request.target read → IsAnswered root c read request (answer_as reply (Some edit)) → (target : Target) × Accepts root c request method target next edit
+    by (Err fault) means is = absurd (stopped_never (answer_as reply (Some edit)) _ (told_as edit) refl is)
+    by (Ok target) means is = (target, record { reply = reply; does = does; asks = asks; means = means })
 
 -- what was asked of the target, and the usage that it lies in
 pub record Enters (target : Target) (method : Method) (request : Request) (P : Usage → Type 0) : Type 0 where
@@ -183,6 +201,11 @@ pub data NodePut (c : Content) (id : DocId) (usage : Usage) (selector : Selector
   of_value : (p uri local value : List ℕ) → selector.end ≡ ends.Attribute uri local → IsSpotOf t selector (Value p) → BodyAnswer request.body (Ok value)
       → (change : Change) → IsAttrPlan usage t selector.steps selector.end p value (Ok change) → a ≡ change_answer c id change request.closes (put_reply (is_there t selector) request.closes)
       → NodePut c id usage selector t request a
+
+-- bindings are never put
+pub no_bindings : (c : Content) (id : DocId) (usage : Usage) (selector : Selector) (t : Tree) (request : Request) (a : Answer) → NodePut c id usage selector t request a → selector.end ≡ ends.Namespaces → ⊥
+no_bindings c id usage selector t request a (of_element spot ends_in place e spelled change plan answers) is = let z : ends.Element ≡ ends.Namespaces = sym ends_in ∙ is in cc
+no_bindings c id usage selector t request a (of_value p uri local value ends_in place spelled change plan answers) is = let z : ends.Attribute uri local ≡ ends.Namespaces = sym ends_in ∙ is in cc
 
 pub record TypedPut (c : Content) (id : DocId) (usage : Usage) (selector : Selector) (t : Tree) (request : Request) (a : Answer) : Type 0 where
   pub typed : has_type (node_media selector.end) request.fields ≡ true

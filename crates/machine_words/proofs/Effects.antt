@@ -33,13 +33,13 @@ use Rattle.store_core.specs.Held.{Content, Held, Stands}
 use Rattle.store_core.specs.Keeping.{AreApart, Kept}
 use Rattle.store_core.specs.State.{State}
 use Rattle.machine_words.specs.Answers.{Answer, Made}
-use Rattle.machine_words.specs.Effects.{Accepts, DocumentIsThere, ElementIsThere, IsUnconditional, LeavesTrees, NodeIsGone, ValueIsThere}
+use Rattle.machine_words.specs.Effects.{DeletedIsGone, DocumentIsThere, ElementIsThere, IsUnconditional, LeavesTrees, NodeIsGone, NodeIsThere, PutIsThere, SecondPutLeavesTrees, TargetIsGone, TargetIsThere, ValueIsThere}
 use Rattle.machine_words.specs.Fragments.{PutsNodeIn, PutsNodeOf, cut_reply, is_there, levels_for, scope_for}
 use Rattle.machine_words.specs.Machine.{Does, answer_as, told_as}
-use Rattle.machine_words.specs.Requests.{IsAnswer, Puts}
+use Rattle.machine_words.specs.Requests.{Deletes, IsAnswer, Puts}
 use Rattle.machine_words.specs.Resources.{version_of}
 use Rattle.machine_words.specs.Writing.{change_answer, deleted_reply, put_change, put_reply}
-use Rattle.machine_words.proofs.Accepted.{DocumentPut, Enters, HeldPut, NodePut, StoreMade, by_target, delete_enters, document_deleted, document_put, node_deleted, node_put, of_element, of_value, put_again_enters, put_enters, stopped_never, store_made}
+use Rattle.machine_words.proofs.Accepted.{Accepts, DocumentPut, Enters, HeldPut, NodePut, StoreMade, accepted, by_target, delete_enters, document_deleted, document_put, no_bindings, node_deleted, node_put, of_element, of_value, put_again_enters, put_enters, stopped_never, store_made}
 use Rattle.machine_words.proofs.After.{edit_let_in, edited_there, let_in_again, made_there, make_let_in, names_apart, new_held, removed_there, same_others, same_others_more, seen_at, unseen_at}
 use Rattle.machine_words.proofs.Asked.{held_at}
 use Rattle.machine_words.proofs.Steps.{step_of}
@@ -152,7 +152,7 @@ module _ (root : List ℕ) (c next : Content) (request : Request) (edit : Edit) 
         let s = store_made c id change request.closes (put_reply (is_some (version_of c id)) request.closes) answer made refl document_made.answers in
         subst (λ (x : Content). Now x id document_made.tree edit.note.next) (sym (next_is root c next request edit id change a.reply a.does s)) (now_put c id made document_made.tree s)
 
-    pub document_is_there : DocumentIsThere next id edit.note.next request.body
+    document_is_there : DocumentIsThere next id edit.note.next request.body
     document_is_there = record { tree = document_made.tree; spelled = document_made.spelled; held = seen_now next id document_made.tree edit.note.next document_now }
 
     document_leaves : AreApart (map held_name next.documents) → IsUnconditional request → (b : Answer) → IsAnswer root next request b → LeavesTrees next request b
@@ -183,7 +183,7 @@ module _ (root : List ℕ) (c next : Content) (request : Request) (edit : Edit) 
         let s = store_made c id change request.closes (put_reply (is_there before selector) request.closes) node_answer made refl answers in
         subst (λ (x : Content). Now x id (edited before change) edit.note.next) (sym (next_is root c next request edit id change a.reply a.does s)) (now_edited c id made change before node_made.tag acts node_made.held s)
 
-    pub element_is_there : selector.end ≡ ends.Element → ElementIsThere c next id edit.note.next selector request.body
+    element_is_there : selector.end ≡ ends.Element → ElementIsThere c next id edit.note.next selector request.body
     element_is_there ends_so = by node_made.put.put
       where
         by : NodePut c id node_enters.usage selector before request node_answer → ElementIsThere c next id edit.note.next selector request.body
@@ -205,7 +205,7 @@ module _ (root : List ℕ) (c next : Content) (request : Request) (edit : Edit) 
               there = put.there;
             }
 
-    pub value_is_there : (uri local : List ℕ) → selector.end ≡ ends.Attribute uri local → ValueIsThere next id edit.note.next selector uri local request.body
+    value_is_there : (uri local : List ℕ) → selector.end ≡ ends.Attribute uri local → ValueIsThere next id edit.note.next selector uri local request.body
     value_is_there uri local ends_so = by node_made.put.put
       where
         by : NodePut c id node_enters.usage selector before request node_answer → ValueIsThere next id edit.note.next selector uri local request.body
@@ -260,36 +260,45 @@ module _ (root : List ℕ) (c next : Content) (request : Request) (edit : Edit) 
             leaves change t now acts twice.2
             (value_again next id usage selector t request b node_made.put.typed free root edit.note.next p uri local value change ends_so twice.0 twice.1 (written_finds usage before selector.steps uri local p value change written) spelled (of_version t (seen_now next id t edit.note.next now)))
 
-  -- ---- a PUT once more, of any target
+  node_is_there : (id : DocId) (selector : Selector) → Accepts root c request Put (Node id selector) next edit → NodeIsThere c next id edit.note.next selector selector.end request.body
+  node_is_there id selector a = by selector.end refl
+    where
+      by : (end : End) → selector.end ≡ end → NodeIsThere c next id edit.note.next selector end request.body
+      by ends.Element ends_so = element_is_there id selector a ends_so
+      by (ends.Attribute uri local) ends_so = value_is_there id selector a uri local ends_so
+      by ends.Namespaces ends_so = absurd (no_bindings c id (node_enters id selector a).usage selector (before id selector a) request (node_answer id selector a) (node_made id selector a).put.put ends_so)
+
+  -- ---- by target
+
+  -- what an accepted PUT passed
+  put_passed : (target : Target) (a : Accepts root c request Put target next edit) → Enters target Put request (λ usage. Puts root c target usage request (answer_as a.reply (Some edit)))
+  put_passed target a = put_enters root c request target (answer_as a.reply (Some edit)) made refl (by_target root c request (answer_as a.reply (Some edit)) target Put a.means a.asks a.does.answers)
+
+  -- it is for a document or a node
+  of_documents : (P : Target → Type 0) → ((id : DocId) → Accepts root c request Put (Document id) next edit → P (Document id))
+      → ((id : DocId) (selector : Selector) → Accepts root c request Put (Node id selector) next edit → P (Node id selector))
+      → (target : Target) → Accepts root c request Put target next edit → P target
+  of_documents P document node (Document id) a = document id a
+  of_documents P document node (Node id selector) a = node id selector a
+  of_documents P document node (Deep auid home) a = absurd (stopped_never (answer_as a.reply (Some edit)) _ made refl (put_passed (Deep auid home) a).does)
+  of_documents P document node (Feed mode tag id) a = absurd (put_passed (Feed mode tag id) a).does
+  of_documents P document node (ElementFeed tag id selector raw) a = absurd (put_passed (ElementFeed tag id selector raw) a).does
+  of_documents P document node (Flat id service) a = absurd (put_passed (Flat id service) a).does
+
+  target_is_there : (target : Target) → Accepts root c request Put target next edit → TargetIsThere c next target edit.note.next request.body
+  target_is_there = of_documents (λ (t : Target). TargetIsThere c next t edit.note.next request.body) document_is_there node_is_there
 
   leaves_by : (target : Target) → Accepts root c request Put target next edit → AreApart (map held_name next.documents) → IsUnconditional request → (b : Answer) → IsAnswer root next request b → LeavesTrees next request b
-  leaves_by (Document id) a = document_leaves id a
-  leaves_by (Node id selector) a = node_leaves id selector a
-  leaves_by (Deep auid home) a =
-      let answer = answer_as a.reply (Some edit) in
-      let e = put_enters root c request (Deep auid home) answer made refl (by_target root c request answer (Deep auid home) Put a.means a.asks a.does.answers) in
-      absurd (stopped_never answer _ made refl e.does)
-  leaves_by (Feed mode tag id) a =
-      let answer = answer_as a.reply (Some edit) in
-      let e = put_enters root c request (Feed mode tag id) answer made refl (by_target root c request answer (Feed mode tag id) Put a.means a.asks a.does.answers) in
-      absurd e.does
-  leaves_by (ElementFeed tag id selector raw) a =
-      let answer = answer_as a.reply (Some edit) in
-      let e = put_enters root c request (ElementFeed tag id selector raw) answer made refl (by_target root c request answer (ElementFeed tag id selector raw) Put a.means a.asks a.does.answers) in
-      absurd e.does
-  leaves_by (Flat id service) a =
-      let answer = answer_as a.reply (Some edit) in
-      let e = put_enters root c request (Flat id service) answer made refl (by_target root c request answer (Flat id service) Put a.means a.asks a.does.answers) in
-      absurd e.does
+  leaves_by = of_documents (λ (t : Target). AreApart (map held_name next.documents) → IsUnconditional request → (b : Answer) → IsAnswer root next request b → LeavesTrees next request b) document_leaves node_leaves
 
-  pub put_leaves_trees : (m : State) (target : Target) (b : Answer) → Kept m → Stands c m → Accepts root c request Put target next edit → IsUnconditional request → IsAnswer root next request b → LeavesTrees next request b
+  put_leaves_trees : (m : State) (target : Target) (b : Answer) → Kept m → Stands c m → Accepts root c request Put target next edit → IsUnconditional request → IsAnswer root next request b → LeavesTrees next request b
   put_leaves_trees m target b kept stands a free is =
       let step = step_of root c next m request a.reply (Some edit) a.does kept stands in
       leaves_by target a (names_apart next step.0 step.2 step.1.2) free b is
 
   -- ---- DELETE
 
-  pub document_is_gone : (id : DocId) → Accepts root c request Delete (Document id) next edit → ◌≡◌ {A = Option (Tree × ℕ)} (version_of next id) None
+  document_is_gone : (id : DocId) → Accepts root c request Delete (Document id) next edit → ◌≡◌ {A = Option (Tree × ℕ)} (version_of next id) None
   document_is_gone id a =
       let answer = answer_as a.reply (Some edit) in
       let e = delete_enters root c request (Document id) answer made refl (by_target root c request answer (Document id) Delete a.means a.asks a.does.answers) in
@@ -297,7 +306,7 @@ module _ (root : List ℕ) (c next : Content) (request : Request) (edit : Edit) 
       let s = store_made c id RemoveDocument request.closes (deleted_reply request.closes) answer made refl d.answers in
       ap (λ (x : Content). version_of x id) (next_is root c next request edit id RemoveDocument a.reply a.does s) ∙ unseen_at (content_after c id RemoveDocument) id (removed_there c id)
 
-  pub node_is_gone : (id : DocId) (selector : Selector) → Accepts root c request Delete (Node id selector) next edit → NodeIsGone next id edit.note.next selector
+  node_is_gone : (id : DocId) (selector : Selector) → Accepts root c request Delete (Node id selector) next edit → NodeIsGone next id edit.note.next selector
   node_is_gone id selector a =
       let answer = answer_as a.reply (Some edit) in
       let e = delete_enters root c request (Node id selector) answer made refl (by_target root c request answer (Node id selector) Delete a.means a.asks a.does.answers) in
@@ -307,3 +316,34 @@ module _ (root : List ℕ) (c next : Content) (request : Request) (edit : Edit) 
       let now : Now next id t edit.note.next = subst (λ (x : Content). Now x id t edit.note.next) (sym (next_is root c next request edit id d.change a.reply a.does s))
       (now_edited c id made d.change d.tree d.tag (delete_edits e.usage d.tree selector d.change d.plan) d.held s) in
       record { after = t; held = seen_now next id t edit.note.next now; finds_nothing = (deleted_is e.usage d.tree selector d.change d.plan).finds_nothing }
+
+  delete_passed : (target : Target) (a : Accepts root c request Delete target next edit) → Enters target Delete request (λ usage. Deletes c target usage request (answer_as a.reply (Some edit)))
+  delete_passed target a = delete_enters root c request target (answer_as a.reply (Some edit)) made refl (by_target root c request (answer_as a.reply (Some edit)) target Delete a.means a.asks a.does.answers)
+
+  target_is_gone : (target : Target) → Accepts root c request Delete target next edit → TargetIsGone next target edit.note.next
+  target_is_gone (Document id) a = document_is_gone id a
+  target_is_gone (Node id selector) a = node_is_gone id selector a
+  target_is_gone (Deep auid home) a = absurd (stopped_never (answer_as a.reply (Some edit)) _ made refl (delete_passed (Deep auid home) a).does)
+  target_is_gone (Feed mode tag id) a = absurd (delete_passed (Feed mode tag id) a).does
+  target_is_gone (ElementFeed tag id selector raw) a = absurd (delete_passed (ElementFeed tag id selector raw) a).does
+  target_is_gone (Flat id service) a = absurd (delete_passed (Flat id service) a).does
+
+-- ---- what is done
+
+pub put_is_there : (root : List ℕ) (c next : Content) (request : Request) (reply : Sent) (edit : Option Edit) → Does root c request reply next edit → PutIsThere root c request edit next
+put_is_there root c next request reply None does = tt
+put_is_there root c next request reply (Some edit) does = λ asks.
+    let a = accepted root c next request reply edit Put does asks in
+    (a.0, a.1.means, target_is_there root c next request edit a.0 a.1)
+
+pub deleted_is_gone : (root : List ℕ) (c next : Content) (request : Request) (reply : Sent) (edit : Option Edit) → Does root c request reply next edit → DeletedIsGone root request edit next
+deleted_is_gone root c next request reply None does = tt
+deleted_is_gone root c next request reply (Some edit) does = λ asks.
+    let a = accepted root c next request reply edit Delete does asks in
+    (a.0, a.1.means, target_is_gone root c next request edit a.0 a.1)
+
+pub second_put_leaves : (root : List ℕ) (c next : Content) (request : Request) (reply : Sent) (edit : Option Edit) (m : State) → Kept m → Stands c m → Does root c request reply next edit → SecondPutLeavesTrees root request edit next
+second_put_leaves root c next request reply None m kept stands does = tt
+second_put_leaves root c next request reply (Some edit) m kept stands does = λ asks free again is.
+    let a = accepted root c next request reply edit Put does asks in
+    put_leaves_trees root c next request edit m a.0 again kept stands a.1 free is

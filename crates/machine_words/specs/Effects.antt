@@ -1,10 +1,13 @@
--- What accepted requests leave where documents are held. RFC 4825, sections 8.2.3 and 8.2.4 (a GET of the same address gives what was put) and
--- 8.4 (and nothing once it was deleted); RFC 9110, section 9.2.2 (PUT can be repeated without harm).
-use Rattle.std.specs.Prelude.{◌≡◌, ℕ, nat_le, codes, List, [], map, Some, Ok}
+-- What accepted requests leave where documents are held: those that make a change, which is told as an edit. RFC 4825, sections 8.2.3 and 8.2.4
+-- (a GET of the same address gives what was put) and 8.4 (and nothing once it was deleted); RFC 9110, section 9.2.2 (PUT can be repeated without
+-- harm).
+use Rattle.std.specs.Prelude.{◌≡◌, ℕ, nat_le, codes, List, [], map, Option, None, Some, IfSome, Ok}
 use Rattle.std.specs.Bool.{MatchBool}
 use Rattle.xml_tree.specs.Tree.{Tree, at}
 use Rattle.tree_text.specs.Faults.{BodyAnswer, TextAnswer}
 use Rattle.node_select.specs.Selection.{Found, SelectsPath}
+use Rattle.node_select.specs.declared.selector.End.{End}
+use Rattle.node_select.specs.declared.selector.End.TheVariants.{Element, Attribute, Namespaces}
 use Rattle.node_select.specs.declared.selector.Selector.{Selector}
 use Rattle.plan_words.specs.Attributes.{FindsValue}
 use Rattle.plan_words.specs.Spots.{IsSpotOf}
@@ -12,24 +15,19 @@ use Rattle.plan_words.specs.declared.spot.Spot.{Spot}
 use Rattle.doc_names.specs.declared.doc_id.DocId.{DocId}
 use Rattle.xcap_uri.specs.Targets.{TargetAnswer}
 use Rattle.xcap_uri.specs.declared.target.Target.{Target}
+use Rattle.xcap_uri.specs.declared.target.Target.TheVariants.{Document, Node, Deep, Feed, ElementFeed, Flat}
 use Rattle.http_wire.specs.declared.request.Request.{Request}
 use Rattle.request_terms.specs.Methods.{method_of}
 use Rattle.request_terms.specs.Rights.{fields_named}
-use Rattle.request_terms.specs.declared.method.Method.{Method}
+use Rattle.request_terms.specs.declared.method.Method.TheVariants.{Put, Delete}
 use Rattle.notes.specs.declared.edit.Edit.{Edit}
-use Rattle.reply_text.specs.Heads.{Sent, plain}
+use Rattle.reply_text.specs.Heads.{plain}
 use Rattle.store_core.specs.Held.{Content, Held}
 use Rattle.machine_words.specs.Answers.{Answer, unchanged}
 use Rattle.machine_words.specs.Fragments.{levels_for, scope_for}
-use Rattle.machine_words.specs.Machine.{Does, content_after_answer}
+use Rattle.machine_words.specs.Machine.{content_after_answer}
+use Rattle.machine_words.specs.Requests.{IsAnswer}
 use Rattle.machine_words.specs.Resources.{version_of}
-
--- a request of this method, for this target, is accepted: it makes a change, which is told as this edit, and then this is held
-pub record Accepts (root : List ℕ) (c : Content) (request : Request) (method : Method) (target : Target) (next : Content) (edit : Edit) : Type 0 where
-  pub reply : Sent
-  pub does : Does root c request reply next (Some edit)
-  pub asks : method_of request.method ≡ method
-  pub means : TargetAnswer root request.target (Ok target)
 
 -- ---- what was put is there
 
@@ -64,6 +62,27 @@ pub record ValueIsThere (next : Content) (id : DocId) (tag : ℕ) (selector : Se
   pub path : List ℕ
   pub finds : FindsValue selector.steps uri local after path value
 
+-- by what the selector ends in; bindings are never put
+abbrev pub NodeIsThere : Content → Content → DocId → ℕ → Selector → End → List ℕ → Type 0
+NodeIsThere c next id tag selector Element body = ElementIsThere c next id tag selector body
+NodeIsThere c next id tag selector (Attribute uri local) body = ValueIsThere next id tag selector uri local body
+NodeIsThere c next id tag selector Namespaces body = ⊥
+
+-- by what was put; it is a document or a node of one
+abbrev pub TargetIsThere : Content → Content → Target → ℕ → List ℕ → Type 0
+TargetIsThere c next (Document id) tag body = DocumentIsThere next id tag body
+TargetIsThere c next (Node id selector) tag body = NodeIsThere c next id tag selector selector.end body
+TargetIsThere c next (Deep auid home) tag body = ⊥
+TargetIsThere c next (Feed mode known id) tag body = ⊥
+TargetIsThere c next (ElementFeed known id selector raw) tag body = ⊥
+TargetIsThere c next (Flat id service) tag body = ⊥
+
+-- where a PUT made a change, from what was held before to what is held next, its address means a target, which is there as the body spells it
+abbrev pub PutIsThere : List ℕ → Content → Request → Option Edit → Content → Type 0
+PutIsThere root c request edit next =
+    IfSome edit (λ e. method_of request.method ≡ Put
+    → (target : Target) × TargetAnswer root request.target (Ok target) × TargetIsThere c next target e.note.next request.body)
+
 -- ---- what was deleted is gone
 
 -- in the document that is held now and has this tag, the selector finds nothing
@@ -71,6 +90,21 @@ pub record NodeIsGone (next : Content) (id : DocId) (tag : ℕ) (selector : Sele
   pub after : Tree
   pub held : version_of next id ≡ Some (after, tag)
   pub finds_nothing : Found after selector → ⊥
+
+-- by what was deleted; it is a document or a node of one
+abbrev pub TargetIsGone : Content → Target → ℕ → Type 0
+TargetIsGone next (Document id) tag = version_of next id ≡ None
+TargetIsGone next (Node id selector) tag = NodeIsGone next id tag selector
+TargetIsGone next (Deep auid home) tag = ⊥
+TargetIsGone next (Feed mode known id) tag = ⊥
+TargetIsGone next (ElementFeed known id selector raw) tag = ⊥
+TargetIsGone next (Flat id service) tag = ⊥
+
+-- where a DELETE made a change, its address means a target, at which nothing is held next
+abbrev pub DeletedIsGone : List ℕ → Request → Option Edit → Content → Type 0
+DeletedIsGone root request edit next =
+    IfSome edit (λ e. method_of request.method ≡ Delete
+    → (target : Target) × TargetAnswer root request.target (Ok target) × TargetIsGone next target e.note.next)
 
 -- ---- a PUT once more
 
@@ -92,3 +126,9 @@ LeavesTrees c request a =
     MatchBool (nat_le 18446744073709551616 c.next)
     (a ≡ unchanged (plain 507 request.closes))
     ((a.reply.status ≡ 200) × (trees_of (content_after_answer c a.made) ≡ trees_of c))
+
+-- where a PUT without condition fields made a change, the answer to the same request, where that is held then, leaves every tree
+abbrev pub SecondPutLeavesTrees : List ℕ → Request → Option Edit → Content → Type 0
+SecondPutLeavesTrees root request edit next =
+    IfSome edit (λ e. method_of request.method ≡ Put → IsUnconditional request
+    → (again : Answer) → IsAnswer root next request again → LeavesTrees next request again)

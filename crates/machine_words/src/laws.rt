@@ -1,24 +1,18 @@
 //! Laws of the machine, each the contract of a function that does nothing.
-ghost use Rattle.std.specs.Prelude.{◌≡◌, ℕ, ◌+◌, ◌≤◌, true, false, List, Option, None, Ok, IsSome};
-ghost use Rattle.doc_names.specs.declared.doc_id.DocId.{DocId};
+ghost use Rattle.std.specs.Prelude.{◌≡◌, ℕ, ◌+◌, ◌≤◌, true, false, List, Option, Ok, IsSome};
 ghost use Rattle.http_wire.specs.declared.request.Request.{Request};
-ghost use Rattle.node_select.specs.declared.selector.End.TheVariants as ends;
-ghost use Rattle.node_select.specs.declared.selector.Selector.{Selector};
 ghost use Rattle.notes.specs.declared.edit.Edit.{Edit};
 ghost use Rattle.reply_text.specs.Heads.{Sent};
 ghost use Rattle.request_terms.specs.Methods.{method_of};
-ghost use Rattle.request_terms.specs.declared.method.Method.TheVariants.{Delete, Put};
 ghost use Rattle.store_core.specs.Held.{Content, Stands};
 ghost use Rattle.store_core.specs.Keeping.{Kept};
 ghost use Rattle.store_core.specs.State.{State};
 ghost use Rattle.xcap_uri.specs.Targets.{TargetAnswer};
 ghost use Rattle.xcap_uri.specs.declared.target.Target.{Target};
-ghost use Rattle.xcap_uri.specs.declared.target.Target.TheVariants.{Document, Node};
 ghost use Rattle.machine_words.specs.Answers.{Answer};
-ghost use Rattle.machine_words.specs.Effects.{Accepts, DocumentIsThere, ElementIsThere, IsUnconditional, LeavesTrees, NodeIsGone, ValueIsThere};
+ghost use Rattle.machine_words.specs.Effects.{DeletedIsGone, PutIsThere, SecondPutLeavesTrees};
 ghost use Rattle.machine_words.specs.Machine.{Does, KeptStep, Step};
 ghost use Rattle.machine_words.specs.Requests.{IsAnswer, IsWritableTarget};
-ghost use Rattle.machine_words.specs.Resources.{version_of};
 ghost use Rattle.machine_words.specs.Laws.{AllowsOne, ChangesNothing, HasStep, tells_change};
 
 /// A law: under each root, a request has exactly one answer where this is held: one reply, and one
@@ -82,39 +76,25 @@ pub fn what_is_held_follows_the_machine()
 /// A law: after an accepted PUT the address selects exactly what was put, equal to what the body
 /// spells in its place; and the document has the tag that is told.
 pub fn what_was_put_is_there()
-    ensures document { (root : List ℕ) (c next : Content) (request : Request) (id : DocId)
-        (edit : Edit) → Accepts root c request Put (Document id) next edit
-        → DocumentIsThere next id edit.note.next request.body }
-    ensures element { (root : List ℕ) (c next : Content) (request : Request) (id : DocId)
-        (selector : Selector) (edit : Edit)
-        → Accepts root c request Put (Node id selector) next edit → selector.end ≡ ends.Element
-        → ElementIsThere c next id edit.note.next selector request.body }
-    ensures attribute { (root : List ℕ) (c next : Content) (request : Request) (id : DocId)
-        (selector : Selector) (uri local : List ℕ) (edit : Edit)
-        → Accepts root c request Put (Node id selector) next edit
-        → selector.end ≡ ends.Attribute uri local
-        → ValueIsThere next id edit.note.next selector uri local request.body }
+    ensures is_there { (root : List ℕ) (c next : Content) (request : Request) (reply : Sent)
+        (edit : Option Edit) → Does root c request reply next edit
+        → PutIsThere root c request edit next }
 {}
 
 /// A law: after an accepted DELETE the address finds nothing.
 pub fn what_was_deleted_is_gone()
-    ensures document { (root : List ℕ) (c next : Content) (request : Request) (id : DocId)
-        (edit : Edit) → Accepts root c request Delete (Document id) next edit
-        → version_of next id ≡ None }
-    ensures node { (root : List ℕ) (c next : Content) (request : Request) (id : DocId)
-        (selector : Selector) (edit : Edit)
-        → Accepts root c request Delete (Node id selector) next edit
-        → NodeIsGone next id edit.note.next selector }
+    ensures is_gone { (root : List ℕ) (c next : Content) (request : Request) (reply : Sent)
+        (edit : Option Edit) → Does root c request reply next edit
+        → DeletedIsGone root request edit next }
 {}
 
 /// A law: where a PUT was accepted that has neither condition field, the same request leaves every
 /// tree and is answered 200; or 507, and nothing is changed, exactly where the greatest number has
 /// been given.
 pub fn a_second_put_leaves_every_tree()
-    ensures leaves_trees { (root : List ℕ) (c next : Content) (request : Request) (edit : Edit)
-        (m : State) (target : Target) (again : Answer) → Kept m → Stands c m
-        → Accepts root c request Put target next edit → IsUnconditional request
-        → IsAnswer root next request again → LeavesTrees next request again }
+    ensures leaves_trees { (root : List ℕ) (c next : Content) (request : Request) (reply : Sent)
+        (edit : Option Edit) (m : State) → Kept m → Stands c m
+        → Does root c request reply next edit → SecondPutLeavesTrees root request edit next }
 {}
 
 /// A law: where the address of a request is an attribute, it may be written.

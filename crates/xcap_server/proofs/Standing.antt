@@ -7,6 +7,8 @@ use Rattle.store_core.specs.State.{State}
 use Rattle.store_core.specs.Held.{Stands}
 use Rattle.store_core.specs.Keeping.{Kept}
 use Rattle.machine_words.specs.Machine.{Does, KeptStep, answer_as}
+use Rattle.machine_words.specs.Effects.{DeletedIsGone, PutIsThere, SecondPutLeavesTrees}
+use Rattle.machine_words.proofs.Effects.{deleted_is_gone, put_is_there, second_put_leaves}
 use Rattle.machine_words.proofs.Steps.{answer_closes, step_of}
 use Rattle.http_serve.specs.declared.connection.Ended.{Ended}
 use Rattle.http_serve.specs.declared.machine.Answered.{Answered}
@@ -70,13 +72,29 @@ module _ {W : Type 0} (Keeps : List Edit → W → W → Type 0) (s now s' : Ser
       t.1 ∙ ap (λ (x : ServerState). x.root) is
 
 -- what a request was answered
-module _ {E : Type 0} (s now s' : ServerState) (is : s ≡ now) (request : Request) where
-  pub answered_step : (r : Result Answered E) → IfOk r (λ a. AnswersRequest s request a.reply s' a.edit)
-      → IfOk r (λ a. (m : State) → Kept m → Stands now.content m → (m' : State) × KeptStep now.root m request a.reply m' a.edit × Stands s'.content m')
-  answered_step (Err e) h = tt
-  answered_step (Ok a) h = λ m. λ kept. λ stands.
-      step_of now.root now.content s'.content m request a.reply a.edit (subst (λ (x : ServerState). Does x.root x.content request a.reply s'.content a.edit) is h.does) kept stands
+module _ (s now s' : ServerState) (is : s ≡ now) (request : Request) where
+  abbrev DoesNow : Answered → Type 0
+  DoesNow a = Does now.root now.content request a.reply s'.content a.edit
 
-  pub answered_closes : (r : Result Answered E) → IfOk r (λ a. AnswersRequest s request a.reply s' a.edit) → IfOk r (λ a. a.reply.closes ≡ request.closes)
-  answered_closes (Err e) h = tt
-  answered_closes (Ok a) h = answer_closes s.root s.content request (answer_as a.reply a.edit) h.does.answers
+  -- so whatever holds of all that the machine does
+  of_all : {E : Type 0} (P : Answered → Type 0) → ((a : Answered) → DoesNow a → P a) → (r : Result Answered E) → IfOk r (λ a. AnswersRequest s request a.reply s' a.edit) → IfOk r P
+  of_all P so (Err e) h = tt
+  of_all P so (Ok a) h = so a (subst (λ (x : ServerState). Does x.root x.content request a.reply s'.content a.edit) is h.does)
+
+  pub answered_step : {E : Type 0} (r : Result Answered E) → IfOk r (λ a. AnswersRequest s request a.reply s' a.edit)
+      → IfOk r (λ a. (m : State) → Kept m → Stands now.content m → (m' : State) × KeptStep now.root m request a.reply m' a.edit × Stands s'.content m')
+  answered_step r = of_all (λ a. (m : State) → Kept m → Stands now.content m → (m' : State) × KeptStep now.root m request a.reply m' a.edit × Stands s'.content m')
+      (λ a does m kept stands. step_of now.root now.content s'.content m request a.reply a.edit does kept stands) r
+
+  pub answered_closes : {E : Type 0} (r : Result Answered E) → IfOk r (λ a. AnswersRequest s request a.reply s' a.edit) → IfOk r (λ a. a.reply.closes ≡ request.closes)
+  answered_closes r = of_all (λ a. a.reply.closes ≡ request.closes) (λ a does. answer_closes now.root now.content request (answer_as a.reply a.edit) does.answers) r
+
+  pub answered_put : {E : Type 0} (r : Result Answered E) → IfOk r (λ a. AnswersRequest s request a.reply s' a.edit) → IfOk r (λ a. PutIsThere now.root now.content request a.edit s'.content)
+  answered_put r = of_all (λ a. PutIsThere now.root now.content request a.edit s'.content) (λ a does. put_is_there now.root now.content s'.content request a.reply a.edit does) r
+
+  pub answered_delete : {E : Type 0} (r : Result Answered E) → IfOk r (λ a. AnswersRequest s request a.reply s' a.edit) → IfOk r (λ a. DeletedIsGone now.root request a.edit s'.content)
+  answered_delete r = of_all (λ a. DeletedIsGone now.root request a.edit s'.content) (λ a does. deleted_is_gone now.root now.content s'.content request a.reply a.edit does) r
+
+  pub answered_second : {E : Type 0} → (m : State) × Stands s.content m × Kept m → (r : Result Answered E) → IfOk r (λ a. AnswersRequest s request a.reply s' a.edit) → IfOk r (λ a. SecondPutLeavesTrees now.root request a.edit s'.content)
+  answered_second (m, stands, kept) r = of_all (λ a. SecondPutLeavesTrees now.root request a.edit s'.content)
+      (λ a does. second_put_leaves now.root now.content s'.content request a.reply a.edit m kept (subst (λ (x : ServerState). Stands x.content m) is stands) does) r

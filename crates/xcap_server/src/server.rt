@@ -4,6 +4,7 @@ ghost use Rattle.xcap_uri.specs.Targets.{under_root};
 ghost use Rattle.store_core.specs.State.{State};
 ghost use Rattle.store_core.specs.Held.{Stands};
 ghost use Rattle.store_core.specs.Keeping.{Kept};
+ghost use Rattle.machine_words.specs.Effects.{DeletedIsGone, PutIsThere, SecondPutLeavesTrees};
 ghost use Rattle.machine_words.specs.Machine.{KeptStep};
 ghost use Rattle.http_serve.specs.Connections.{ServesLine};
 ghost use Rattle.http_serve.specs.Ports.{ServesPort};
@@ -72,7 +73,11 @@ impl Server {
     }
 }
 
-/// Answers a request (RFC 4825, section 8). A request whose target lies outside the root takes no memory.
+/// Answers a request (RFC 4825, section 8). After a PUT that made a change, its address selects
+/// exactly what its body spells, and the same request once more, if it has no condition fields,
+/// leaves every tree and is answered 200, or 507 where no number is left for a change. After a
+/// DELETE that made a change, its address finds nothing. A request whose target lies outside the
+/// root takes no memory.
 ///
 /// # Errors
 /// `NoMemory` for want of memory; the server is then as before.
@@ -80,11 +85,18 @@ pub fn answer(server: &mut Server, request: &Request) -> Result<Answered, AllocE
     ensures makes_a_step_of_the_machine { IfOk result (λ answered. (m : State) → Kept m → Stands server.old.content m
         → (next : State) × KeptStep server.old.root m request.now answered.reply next answered.edit
         × Stands server.new.content next) }
+    ensures what_was_put_is_there { IfOk result (λ answered.
+        PutIsThere server.old.root server.old.content request.now answered.edit server.new.content) }
+    ensures what_was_deleted_is_gone { IfOk result (λ answered.
+        DeletedIsGone server.old.root request.now answered.edit server.new.content) }
+    ensures a_second_put_leaves_every_tree { IfOk result (λ answered.
+        SecondPutLeavesTrees server.old.root request.now answered.edit server.new.content) }
     ensures closes_as_asked { IfOk result (λ answered. answered.reply.closes ≡ request.now.closes) }
     ensures outside_takes_no_memory { under_root server.old.root request.now.target ≡ None → IsOk result }
     ensures same_root { server.new.root ≡ server.old.root }
     ensures without_memory_as_before { OnErr result (server.new.content ≡ server.old.content) }
 {
+    server.service.stands();
     server.service.respond(request)
 }
 

@@ -1,6 +1,9 @@
 // The documents under a root, as what answers requests.
 ghost use Rattle.std.specs.Prelude.{◌≡◌, ◌≤◌, [], None, IsOk, IfOk, OnErr};
 ghost use Rattle.xcap_uri.specs.Targets.{under_root};
+ghost use Rattle.store_core.specs.Held.{Stands};
+ghost use Rattle.store_core.specs.Keeping.{Kept};
+ghost use Rattle.store_core.specs.State.{State};
 ghost use Rattle.machine_words.specs.Machine.{answer_as, content_after_answer};
 ghost use Rattle.document_writes.specs.Deciding.{IsReadyFor, answer_of};
 ghost use Rattle.xcap_server.specs.Servers.{AnswersRequest, IsAsBefore};
@@ -58,6 +61,13 @@ impl Service {
         ensures lends_the_documents { result.now.content ≡ self.now.content }
     {
         &self.store
+    }
+
+    // A law: what is held stands for a state that is kept.
+    pub(crate) fn stands(&self)
+        ensures { (m : State) × Stands self.now.content m × Kept m }
+    {
+        self.store.stands();
     }
 
     // What a request is answered: it is decided, and then the change is made, if there is one.

@@ -1,10 +1,16 @@
 use Rattle.document_writes.proofs.Planning.{delete_may}
-use Rattle.document_writes.proofs.Spelled.{cuts}
+use Rattle.document_writes.proofs.Removing.{cut, uncut}
 use Rattle.document_writes.proofs.nodes.plan_cut.Goals as goal
 
-pub returns : goal.returns
-returns c = record {
+pub returns-in-Ok : goal.returns-in-Ok
+returns-in-Ok c = record {
   plans_the_removal =
-      cuts c.args.usage c.args.selector.now c.args.tree.now c.args.request.now (delete_may c.args.usage c.args.tree.now c.args.selector.now c.requires.sound) c.plan_delete-planned.result c.plan_of.result
-      c.plan_delete-planned.ensures.by_the_words c.plan_of.ensures.tells_the_plan;
+      cut c.texts_are_those_of_found_nodes.ensures c.args.usage c.args.tree.now c.args.selector.now c.args.request.now (delete_may c.args.usage c.args.tree.now c.args.selector.now c.requires.sound) c.in-Ok.change c.in-Ok.ensures.by_the_words;
+}
+
+pub returns-in-Err : goal.returns-in-Err
+returns-in-Err c = record {
+  plans_the_removal =
+      uncut c.texts_are_those_of_found_nodes.ensures c.args.usage c.args.tree.now c.args.selector.now c.args.request.now (delete_may c.args.usage c.args.tree.now c.args.selector.now c.requires.sound) c.in-Err.why c.in-Err.ensures.by_the_words
+      c.uncut.result c.uncut.ensures.tells_the_reason;
 }

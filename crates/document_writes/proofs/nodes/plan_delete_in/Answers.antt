@@ -1,23 +1,18 @@
-use Rattle.std.proofs.Common.{Result, Ok, true, refl, sym, ◌∙◌}
+use Rattle.std.proofs.Common.{Option, Some, Ok, true, refl, subst}
 use Rattle.machine_words.specs.Fragments.{CutsNode}
+use Rattle.document_writes.specs.Planning.{IsCut}
 use Rattle.document_writes.specs.declared.plan.Plan.{Plan}
-use Rattle.document_writes.specs.declared.plan.Plan.TheVariants.{Stops}
-use Rattle.document_writes.proofs.Decided.{plan_stopped, plan_unstopped, there}
+use Rattle.document_writes.proofs.Decided.{plan_unstopped, there}
 use Rattle.document_writes.proofs.nodes.plan_delete_in.Goals as goal
 
-pub returns-in-Some : goal.returns-in-Some
-returns-in-Some c = record {
-  plans_the_removal =
-      let plan : Result Plan (Unit {0}) = Ok (Stops c.in-Some.reply) in
-      there c.args.usage c.args.selector.now c.args.held.0.now c.args.held.1 c.args.request.now plan (sym c.is_found.ensures ∙ c.if-not-is_found.false)
-      (plan_stopped c.args.usage c.args.held.0.now c.args.request.now c.args.held.1 true true refl (λ d id a. CutsNode d id c.args.usage c.args.selector.now c.args.held.0.now c.args.request.now a)
-      _ c.in_ok-reply.ensures.is_the_reply c.in-Some.reply c.in-Some.is);
-}
-
 pub returns-in-None : goal.returns-in-None
-returns-in-None c = record {
-  plans_the_removal =
-      there c.args.usage c.args.selector.now c.args.held.0.now c.args.held.1 c.args.request.now c.plan_cut.result (sym c.is_found.ensures ∙ c.if-not-is_found.false)
-      (plan_unstopped c.args.usage c.args.held.0.now c.args.request.now c.args.held.1 true true refl (λ d id a. CutsNode d id c.args.usage c.args.selector.now c.args.held.0.now c.args.request.now a)
-      _ c.in_ok-reply.ensures.is_the_reply c.plan_cut.result c.in-None.is c.plan_cut.ensures.plans_the_removal);
-}
+returns-in-None c =
+    let plan = c.in-Some.plan in
+    let cut : IsCut c.args.usage c.args.held.0.now c.args.selector.now c.args.request.now (Some plan) =
+    subst (λ (p : Option Plan). IsCut c.args.usage c.args.held.0.now c.args.selector.now c.args.request.now p) c.in-Some.is c.in_ok-plan.ensures.plans_the_removal in
+    record {
+      plans_the_removal =
+          there c.args.usage c.args.selector.now c.args.held.0.now c.args.held.1 c.args.request.now {E = Unit {0}} (Ok plan) cut.0
+          (plan_unstopped c.args.usage c.args.held.0.now c.args.request.now c.args.held.1 true true refl (λ d id a. CutsNode d id c.args.usage c.args.selector.now c.args.held.0.now c.args.request.now a)
+          _ c.in_ok-reply.ensures.is_the_reply {E = Unit {0}} (Ok plan) c.in-None.is cut.1);
+    }

@@ -1,0 +1,84 @@
+-- What is planned for a DELETE tells whether the node is there.
+use Rattle.std.proofs.Common.{◌≡◌, ◌≢◌, ◌↔◌, inl, inr, ℕ, Bool, true, false, List, [], ◌∷◌, Option, None, Some, MatchOption, IsSome, Result, Ok, Err, IfOk, refl, subst}
+use Rattle.xml_tree.specs.Tree.{Tree}
+use Rattle.doc_names.specs.declared.usages.Usage.{Usage}
+use Rattle.usage_docs.specs.declared.judging.Fault.{Fault}
+use Rattle.usage_docs.specs.declared.judging.Fault.TheVariants.{Invalid, Unformed, Repeated}
+use Rattle.node_select.specs.declared.selector.End.{End}
+use Rattle.node_select.specs.declared.selector.End.TheVariants.{Element, Attribute, Namespaces}
+use Rattle.node_select.specs.declared.selector.Selector.{Selector}
+use Rattle.node_select.specs.Selection.{Found}
+use Rattle.node_texts.specs.Nodes.{found_text}
+use Rattle.edit_ops.specs.declared.change.Change.{Change}
+use Rattle.edit_ops.specs.declared.change.Change.TheVariants.{Remove, DropAttr}
+use Rattle.plan_words.specs.Deletions.{FindsNothingAfter, IsDeletePlan, IsPlanFor, IsRemoval}
+use Rattle.plan_words.specs.Plans.{IsTested, OrMemory, by_fault}
+use Rattle.plan_words.specs.declared.refusal.EditRefusal.{EditRefusal}
+use Rattle.plan_words.specs.declared.refusal.EditRefusal.TheVariants.{NotFound, CannotDelete, Schema, NoMemory}
+use Rattle.http_wire.specs.declared.request.Request.{Request}
+use Rattle.machine_words.specs.Fragments.{is_there}
+use Rattle.document_writes.specs.Planning.{IsCut, IsPlanOf, MayBeMade}
+use Rattle.document_writes.specs.declared.plan.Plan.{Plan}
+use Rattle.document_writes.specs.declared.plan.Plan.TheVariants.{Makes}
+use Rattle.document_writes.proofs.Spelled.{cuts}
+
+-- ---- where a node is found, it isn't told as missing
+
+judged_never : (change : Change) (fault : Option Fault) → ◌≡◌ {A = Result Change EditRefusal} (Err NotFound) (by_fault change fault) → ⊥
+judged_never change None is = cc
+judged_never change (Some Invalid) is = cc
+judged_never change (Some Unformed) is = cc
+judged_never change (Some (Repeated clash)) is = cc
+
+tested_never : (lawful : Type 0) (u : Usage) (t : Tree) (change : Change) → IsTested CannotDelete lawful u t change (Err NotFound) → ⊥
+tested_never lawful u t change (inl h) = let z : ◌≡◌ {A = Result Change EditRefusal} (Err NotFound) (Err CannotDelete) = h.0 in cc
+tested_never lawful u t change (inr h) = judged_never change h.1.0 h.1.1.1
+
+removal_never : (u : Usage) (t : Tree) (selector : Selector) (p : List ℕ) → IsRemoval u t selector p (Err NotFound) → ⊥
+removal_never u t selector [] h = let z : ◌≡◌ {A = Result Change EditRefusal} (Err NotFound) (Err Schema) = h in cc
+removal_never u t selector (n ∷ p) h = tested_never (FindsNothingAfter selector t (Remove (n ∷ p))) u t (Remove (n ∷ p)) h
+
+found_never : (u : Usage) (t : Tree) (selector : Selector) (p : List ℕ) (e : Tree) (end : End) → IsPlanFor u t selector p e end (Err NotFound) → ⊥
+found_never u t selector p e Element h = removal_never u t selector p h
+found_never u t selector p e (Attribute uri local) h = tested_never (FindsNothingAfter selector t (DropAttr p h.attr.name)) u t (DropAttr p h.attr.name) h.then
+found_never u t selector p e Namespaces h = h
+
+-- ---- what is told
+
+error_is : (why other : EditRefusal) → ◌≡◌ {A = Result Change EditRefusal} (Err why) (Err other) → why ≡ other
+error_is why other is = cc
+
+no_error : (change : Change) (why : EditRefusal) → ◌≡◌ {A = Result Change EditRefusal} (Ok change) (Err why) → ⊥
+no_error change why is = cc
+
+-- by the law on what is found, and where a planned change may be made
+module _ (texts : (root : Tree) (selector : Selector) → IsSome (found_text root selector) ↔ Found root selector)
+    (u : Usage) (t : Tree) (selector : Selector) (request : Request) (may : (change : Change) → IsDeletePlan u t selector (Ok change) → MayBeMade u t change) where
+  absent : OrMemory (IsDeletePlan u t selector) (Err NotFound) → is_there t selector ≡ false
+  absent (inl e) = let z : ◌≡◌ {A = Result Change EditRefusal} (Err NotFound) (Err NoMemory) = e in cc
+  absent (inr (inl h)) = by (is_there t selector) refl
+    where
+      by : (b : Bool) → is_there t selector ≡ b → is_there t selector ≡ false
+      by true is = absurd (h.1 ((texts t selector).0 is))
+      by false is = is
+  absent (inr (inr h)) = absurd (found_never u t selector h.0.path h.0.element selector.end h.1)
+
+  present : (r : Result Change EditRefusal) → (r ≡ Err NotFound → ⊥) → (r ≡ Err NoMemory → ⊥) → OrMemory (IsDeletePlan u t selector) r → is_there t selector ≡ true
+  present r found had (inl e) = absurd (had e)
+  present r found had (inr (inl h)) = absurd (found h.0)
+  present r found had (inr (inr h)) = (texts t selector).1 h.0
+
+  pub cut : (change : Change) → OrMemory (IsDeletePlan u t selector) (Ok change) → IsCut u t selector request (Some (Makes change true))
+  cut change words = (
+    present (Ok change) (no_error change NotFound) (no_error change NoMemory) words,
+    cuts u selector t request {E = Unit {0}} may (Ok change) (Ok (Makes change true)) words refl,
+  )
+
+  pub uncut : {E : Type 0} (why : EditRefusal) → OrMemory (IsDeletePlan u t selector) (Err why) → (r : Result (Option Plan) E)
+      → IfOk r (λ plan. MatchOption plan (why ≡ NotFound) (λ p. (why ≢ NotFound) × IsPlanOf (Err why) true request.closes p)) → IfOk r (λ plan. IsCut u t selector request plan)
+  uncut why words (Err e) told = tt
+  uncut why words (Ok None) told = absent (subst (λ (w : EditRefusal). OrMemory (IsDeletePlan u t selector) (Err w)) told words)
+  uncut why words (Ok (Some plan)) told = (
+    present (Err why) (λ e. told.0 (error_is why NotFound e)) (λ e. told.1.1 (error_is why NoMemory e)) words,
+    cuts u selector t request {E = Unit {0}} may (Err why) (Ok plan) words told.1,
+  )
