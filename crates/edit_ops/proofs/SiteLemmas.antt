@@ -3,12 +3,12 @@ use Rattle.std.proofs.Common.{◌≡◌, ℕ, zero, suc, ◌<◌, List, [], ◌�
 use Rattle.std.specs.List.{slice_get}
 use Rattle.std.specs.Option.{option_and_then}
 use Rattle.xml_tree.specs.Tree.{Content, last, more, note, more_of, Tree, at, kids, kids_of}
-use Rattle.xml_tree.specs.Edits.{change, change_kid, final, front}
+use Rattle.xml_tree.specs.Edits.{change, change_at, change_kid, final, front}
 use Rattle.xml_tree.proofs.PathLemmas.{at-snoc, kid_there}
 use Rattle.edit_ops.specs.declared.change.Change.{Change}
 use Rattle.edit_ops.specs.declared.change.Change.TheVariants.{CreateDocument, Insert, Replace, Remove, SetAttr, DropAttr, RemoveDocument}
-use Rattle.edit_ops.specs.Changes.{Fits}
-use Rattle.edit_ops.specs.Rebuilding.{FitsHere, site}
+use Rattle.edit_ops.specs.Changes.{Fits, edited}
+use Rattle.edit_ops.specs.Rebuilding.{FitsHere, made_here, site}
 
 -- ---- what is there
 
@@ -41,6 +41,16 @@ fits_there t (Remove p) fits =
 fits_there t (SetAttr p name value) fits = some_there (at p t) fits
 fits_there t (DropAttr p name) fits = some_there (at p t) (some_before _ (at p t) fits)
 fits_there t RemoveDocument fits = absurd fits
+
+-- a change is one of the element at its site
+pub edited_there : (t : Tree) (change : Change) → edited t change ≡ change_at (site change) (made_here change) t
+edited_there t (CreateDocument root) = refl
+edited_there t (Insert parent gap element) = refl
+edited_there t (Replace p element) = refl
+edited_there t (Remove p) = refl
+edited_there t (SetAttr p name value) = refl
+edited_there t (DropAttr p name) = refl
+edited_there t RemoveDocument = refl
 
 -- ---- one step of the way
 

@@ -1,5 +1,6 @@
 //! Changes, and the places that an address means for a PUT.
 ghost use Rattle.std.specs.Prelude.{◌≡◌, IfOk};
+ghost use Rattle.edit_ops.specs.Rebuilding.{site};
 
 use std::alloc::{AllocError, Global};
 use xml_tree::{Element, Name, Path, Text, copy_tree};
@@ -94,5 +95,24 @@ impl Change {
             Change::RemoveDocument => Change::RemoveDocument,
         };
         Ok(made)
+    }
+}
+
+// The place of the element that a change is made in.
+#[tactic(auto, using(crate::proofs::WayLemmas::parents))]
+pub(crate) fn site_of(change: &Change) -> Path
+    ensures { result ≡ site change.now }
+{
+    match change {
+        Change::CreateDocument { .. } => Path::root(),
+        Change::Insert { parent, .. } => parent.copy(),
+        Change::Replace { at, .. } => at.copy(),
+        Change::Remove { at } => match at.split_last() {
+            None => Path::root(),
+            Some((parent, _)) => parent,
+        },
+        Change::SetAttr { at, .. } => at.copy(),
+        Change::DropAttr { at, .. } => at.copy(),
+        Change::RemoveDocument => Path::root(),
     }
 }

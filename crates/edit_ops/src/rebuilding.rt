@@ -6,9 +6,9 @@ ghost use Rattle.xml_tree.specs.Edits.{change_at, change_kid, cut_kid, drop_attr
 ghost use Rattle.xml_tree.specs.Nodes.{content_of};
 ghost use Rattle.xml_tree.specs.declared.tree.Node.TheVariants as node;
 ghost use Rattle.edit_ops.specs.Changes.{Fits, edited};
-ghost use Rattle.edit_ops.specs.Rebuilding.{FitsHere, made_here, site};
+ghost use Rattle.edit_ops.specs.Rebuilding.{FitsHere, made_here};
 
-use crate::change::Change;
+use crate::change::{Change, site_of};
 use std::alloc::{AllocError, Global};
 use xml_tree::{
     Attr, Element, Name, Node, Path, Text, copy_nodes, copy_tree, place_of, place_of_gap,
@@ -208,25 +208,6 @@ fn without_attr(alloc: Global, element: &Element, name: &Name) -> Result<Element
 }
 
 // ---- the element on the way
-
-// The place of the element that a change is made in.
-#[tactic(auto, using(crate::proofs::WayLemmas::parents))]
-fn site_of(change: &Change) -> Path
-    ensures { result ≡ site change.now }
-{
-    match change {
-        Change::CreateDocument { .. } => Path::root(),
-        Change::Insert { parent, .. } => parent.copy(),
-        Change::Replace { at, .. } => at.copy(),
-        Change::Remove { at } => match at.split_last() {
-            None => Path::root(),
-            Some((parent, _)) => parent,
-        },
-        Change::SetAttr { at, .. } => at.copy(),
-        Change::DropAttr { at, .. } => at.copy(),
-        Change::RemoveDocument => Path::root(),
-    }
-}
 
 // The element that a change is made in, after it.
 #[tactic(auto, using(crate::proofs::WayLemmas::parents))]

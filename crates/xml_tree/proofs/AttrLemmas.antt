@@ -4,7 +4,7 @@ use Rattle.std.specs.List.{slice_get, find}
 use Rattle.xml_tree.specs.Attributes.{change_first, remove_first, first_place, change_item}
 
 -- what holds for both answers of a test
-tested : {A : Type 0} (p : A → Bool) (x : A) (P : Bool → Type 0) → (p x ≡ true → P true) → (p x ≡ false → P false) → P (p x)
+pub tested : {A : Type 0} (p : A → Bool) (x : A) (P : Bool → Type 0) → (p x ≡ true → P true) → (p x ≡ false → P false) → P (p x)
 tested p x P pass fail = by (p x) refl
   where
     by : (b : Bool) → p x ≡ b → P b

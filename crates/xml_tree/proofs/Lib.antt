@@ -13,6 +13,7 @@ pub mod PathLemmas
 pub mod PathLetters
 pub mod PlaceLaws
 pub mod Places
+pub mod PrintEdits
 pub mod PrintLengths
 pub mod PrintedNodes
 pub mod ProperEdits

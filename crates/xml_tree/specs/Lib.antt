@@ -13,6 +13,7 @@ pub mod Nodes
 pub mod PathTexts
 pub mod Print
 pub mod Proper
+pub mod Rooms
 pub mod Scopes
 pub mod Spelled
 pub mod Tree

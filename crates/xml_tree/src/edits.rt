@@ -1,12 +1,13 @@
 //! Edits of one element, and of the element at a path. Each says the whole new tree.
 ghost use Rattle.std.specs.Prelude.{◌≡◌, ◌<◌, ◌≤◌, length, Some, None, IsSome, IsSomeAnd, IfOk, IfErr, OnOk, OnErr, option_map, slice_get};
 ghost use Rattle.std.specs.List.{find, remove};
+ghost use Rattle.std.specs.Option.{option_copied};
 ghost use Rattle.xml_tree.specs.Attributes.{is_named};
 ghost use Rattle.xml_tree.specs.Tree.{at, kids_of};
 ghost use Rattle.xml_tree.specs.Edits.{TextsMeet, TextsMeetAt, attr_at, change_attr, cut_kid, cut_out, drop_at, drop_attr, put_in, put_kid, put_over, set_at, take_in, write_attr};
 ghost use Rattle.xml_tree.specs.Nodes.{exchange_nodes, nodes_of};
 
-use crate::names::{Attr, Name, place_of_attr};
+use crate::names::{Attr, Name, attr_of, place_of_attr};
 use crate::nodes::{put_elem, take_elem};
 use crate::path::Path;
 use crate::runs::exchange;
@@ -66,6 +67,13 @@ impl Element {
 
 /// Edits of its attributes.
 impl Element {
+    /// The attribute of this prefix and local name, lent: None where there is none. Takes no memory.
+    pub fn attr(&self, name: &Name) -> Option<&Attr>
+        ensures { option_copied result ≡ find (is_named name.now) self.now.attrs }
+    {
+        attr_of(&self.attrs, name)
+    }
+
     /// Exchanges the value of an attribute, counted from 0, and answers the old one. Takes no memory.
     pub fn exchange_value(&mut self, at: usize, value: Text) -> Text
         requires { at < length self.old.attrs }

@@ -1,5 +1,7 @@
 //! Names, declarations and attributes, as they are written (Namespaces in XML 1.0, 3 and 4).
 ghost use Rattle.std.specs.Prelude.{◌≡◌, ◌↔◌, ◌≤◌, length, IsTrue, IfOk};
+ghost use Rattle.std.specs.List.{find};
+ghost use Rattle.std.specs.Option.{option_copied};
 ghost use Rattle.xml_tree.specs.Attributes.{first_place, is_named, same_name};
 
 use crate::text::Text;
@@ -88,6 +90,18 @@ impl Attr {
     {
         self.name.same(&other.name) && self.value.same(&other.value)
     }
+}
+
+// The first attribute of this name.
+pub(crate) fn attr_of<'a>(attrs: &'a [Attr], name: &Name) -> Option<&'a Attr>
+    ensures { option_copied result ≡ find (is_named name.now) attrs.now }
+{
+    for attr in attrs {
+        if attr.name.same(name) {
+            return Some(attr);
+        }
+    }
+    None
 }
 
 // The place of the first attribute of this name, or the number of attributes.

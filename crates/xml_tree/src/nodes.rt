@@ -1,5 +1,5 @@
 //! Work on the nodes of an element.
-ghost use Rattle.std.specs.Prelude.{◌≡◌, ◌<◌, ◌≤◌, ◌+◌, ◌-◌, length, Some, IsSome, OnOk, OnErr, IfOk, IfErr, slice_get, slice_set, remove, chars};
+ghost use Rattle.std.specs.Prelude.{◌≡◌, ◌<◌, ◌≤◌, ◌+◌, ◌-◌, suc, length, vec_capacity, Some, IsSome, IsOk, OnOk, OnErr, IfOk, IfErr, slice_get, slice_set, remove, chars};
 ghost use Rattle.xml_tree.specs.declared.tree.Node.TheVariants.{Chars};
 ghost use Rattle.std.specs.Borrow.{sem};
 ghost use Rattle.std.specs.Option.{option_copied};
@@ -7,6 +7,7 @@ ghost use Rattle.xml_tree.specs.Tree.{kids};
 ghost use Rattle.xml_tree.specs.Edits.{TextsMeet, cut, put, with_comment, with_elem, with_text};
 ghost use Rattle.xml_tree.specs.Nodes.{AreNormal, content_of, ends_in_text, gap_place, joined_beside, place, removed_joined, text_at};
 ghost use Rattle.xml_tree.specs.Lending.{LendsKid};
+ghost use Rattle.xml_tree.specs.Rooms.{HasRoom};
 
 use crate::text::Text;
 use crate::tree::{Element, Node};
@@ -161,12 +162,27 @@ pub(crate) fn put_elem(
     ensures ok { OnOk result (content_of nodes.new.items ≡ put gap element (content_of nodes.old.items)) }
     ensures err { OnErr result (content_of nodes.new.items ≡ content_of nodes.old.items) }
     ensures back { IfErr result (λ refused. refused.1 ≡ element) }
+    ensures where_there_is_room { length nodes.old.items < vec_capacity nodes.old → IsOk result }
 {
     let place = place_of_gap(nodes, gap);
     match nodes.insert(place, Node::Elem(element)) {
         Ok(()) => Ok(()),
         Err(AllocFailed { value }) => Err((AllocError, value.into_elem())),
     }
+}
+
+// Puts an element in a gap. The nodes move into a vector that has room for them and one more.
+#[tactic(auto, using(crate::proofs::Places::places))]
+pub(crate) fn put_elem_in_room(nodes: &mut Vec<Node>, gap: usize, element: Element, room: Vec<Node>)
+    requires gap { gap ≤ length (kids (content_of nodes.old.items)) }
+    requires room { HasRoom (suc (length nodes.old.items)) room }
+    ensures normal { AreNormal nodes.old.items → AreNormal nodes.new.items }
+    ensures put { content_of nodes.new.items ≡ put gap element (content_of nodes.old.items) }
+{
+    let mut moved = room;
+    moved.append(nodes).unwrap();
+    *nodes = moved;
+    put_elem(nodes, gap, element).unwrap();
 }
 
 // The texts directly before and behind a node, joined, where both nodes there are texts.
@@ -212,6 +228,36 @@ fn remove_joined(nodes: &mut Vec<Node>, place: usize, joined: Option<Text>) -> N
     taken
 }
 
+// The texts directly beside an element, joined, where there are two: what taking it out wants.
+pub(crate) fn joined_around(
+    alloc: Global,
+    nodes: &[Node],
+    child: usize,
+) -> Result<Option<Text>, AllocError>
+    requires { child < length (kids (content_of nodes.now)) }
+    ensures value { IfOk result (λ text. text ≡ joined_beside (place child nodes.now) nodes.now) }
+    ensures only_where_texts_meet { AreNormal nodes.now → OnErr result (TextsMeet child (content_of nodes.now)) }
+{
+    joined_beside(alloc, nodes, place_of(nodes, child))
+}
+
+// Takes an element out. The texts beside it are exchanged for one, where there are two.
+pub(crate) fn take_elem_joining(
+    nodes: &mut Vec<Node>,
+    child: usize,
+    joined: Option<Text>,
+) -> Element
+    requires there { child < length (kids (content_of nodes.old.items)) }
+    requires joined { joined ≡ joined_beside (place child nodes.old.items) nodes.old.items }
+    ensures normal { AreNormal nodes.old.items → AreNormal nodes.new.items }
+    ensures taken { slice_get (kids (content_of nodes.old.items)) child ≡ Some result }
+    ensures rest { content_of nodes.new.items ≡ cut child (content_of nodes.old.items) }
+{
+    let place = place_of(nodes, child);
+    let taken = remove_joined(nodes, place, joined);
+    taken.into_elem()
+}
+
 // Takes an element out. Texts that meet are joined, and only for that memory is taken, before anything changes.
 pub(crate) fn take_elem(nodes: &mut Vec<Node>, child: usize) -> Result<Element, AllocError>
     requires { child < length (kids (content_of nodes.old.items)) }
@@ -222,8 +268,6 @@ pub(crate) fn take_elem(nodes: &mut Vec<Node>, child: usize) -> Result<Element, 
     ensures only_where_texts_meet { AreNormal nodes.old.items
         → OnErr result (TextsMeet child (content_of nodes.old.items)) }
 {
-    let place = place_of(nodes, child);
-    let joined = joined_beside(*nodes.allocator(), nodes, place)?;
-    let taken = remove_joined(nodes, place, joined);
-    Ok(taken.into_elem())
+    let joined = joined_around(*nodes.allocator(), nodes, child)?;
+    Ok(take_elem_joining(nodes, child, joined))
 }

@@ -57,9 +57,10 @@ fn quoted_len(value: &Text) -> usize
     value_len(value.as_str().as_bytes()).saturating_add(2)
 }
 
-// The length of a name.
+/// The length in bytes of a name as it is printed, with its prefix and the colon; the greatest
+/// number where it is longer. Takes no memory.
 #[tactic(auto, using(crate::proofs::PrintLengths::lengths))]
-fn name_len(name: &Name) -> usize
+pub fn name_len(name: &Name) -> usize
     ensures { result ≡ min (byte_len (print_name name.now)) usize.MAX }
 {
     let local = name.local.as_str().len();
@@ -95,13 +96,14 @@ pub fn decl_len(decl: &Decl) -> usize
         .saturating_add(2)
 }
 
-// The length of an attribute.
+/// The length in bytes of an attribute of this name and value as it is printed in a tag, with the
+/// space before it; the greatest number where it is longer. Takes no memory.
 #[tactic(auto, using(crate::proofs::PrintLengths::lengths))]
-fn attr_len(attr: &Attr) -> usize
-    ensures { result ≡ min (byte_len (print_attr attr.now)) usize.MAX }
+pub fn attr_len(name: &Name, value: &Text) -> usize
+    ensures { result ≡ min (byte_len (print_attr (record { name = name.now; value = value.now }))) usize.MAX }
 {
-    name_len(&attr.name)
-        .saturating_add(quoted_len(&attr.value))
+    name_len(name)
+        .saturating_add(quoted_len(value))
         .saturating_add(2)
 }
 
@@ -124,7 +126,7 @@ fn attrs_len(attrs: &[Attr]) -> usize
 {
     let mut total = 0usize;
     for attr in attrs {
-        total = total.saturating_add(attr_len(attr));
+        total = total.saturating_add(attr_len(&attr.name, &attr.value));
     }
     total
 }

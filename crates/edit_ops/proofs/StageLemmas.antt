@@ -1,0 +1,45 @@
+-- The memory of a change: at the element that it is made in, and in the whole tree.
+use Rattle.std.proofs.Common.{◌≡◌, ℕ, List, Option, Some, None, IsSome, IsSomeAnd, refl, sym, ap, ◌∙◌}
+use Rattle.xml_tree.specs.Tree.{Tree, at}
+use Rattle.xml_tree.specs.Edits.{TextsMeet, change_at, final, front, put_over}
+use Rattle.xml_tree.proofs.PathLemmas.{from_there, made_at, with_there}
+use Rattle.edit_ops.specs.declared.change.Change.{Change}
+use Rattle.edit_ops.specs.declared.change.Change.TheVariants.{CreateDocument, Insert, Replace, Remove, SetAttr, DropAttr, RemoveDocument}
+use Rattle.edit_ops.specs.Changes.{Fits, WantsMemory, edited}
+use Rattle.edit_ops.specs.Rebuilding.{FitsHere, made_here, site}
+use Rattle.edit_ops.specs.Staging.{WantsHere}
+use Rattle.edit_ops.proofs.SiteLemmas.{edited_there, fits_there}
+
+is_there : (o : Option Tree) (P : Tree → Type 0) → IsSomeAnd o P → IsSome o
+is_there None P h = absurd h
+is_there (Some e) P h = refl
+
+not_there : (o : Option Tree) (P : Tree → Type 0) → IsSomeAnd o P → o ≡ None → ⊥
+not_there None P h e = absurd h
+not_there (Some x) P h e = cc
+
+-- a change that fits a tree has its site there, and fits the element there
+pub site_there : (t : Tree) (change : Change) → Fits t change → IsSome (at (site change) t)
+site_there t change fits = is_there (at (site change) t) (FitsHere change) (fits_there t change fits)
+
+pub site_missing : (t : Tree) (change : Change) → Fits t change → at (site change) t ≡ None → ⊥
+site_missing t change fits none = not_there (at (site change) t) (FitsHere change) (fits_there t change fits) none
+
+pub fits_at : (t e : Tree) (change : Change) → Fits t change → at (site change) t ≡ Some e → FitsHere change e
+fits_at t e change fits is = from_there (at (site change) t) (FitsHere change) e (fits_there t change fits) is
+
+-- the change wants memory in the tree where it wants it at its site
+pub wants_at : (t e : Tree) (change : Change) → at (site change) t ≡ Some e → WantsHere change e → WantsMemory t change
+wants_at t e (CreateDocument root) is h = absurd h
+wants_at t e (Insert parent gap element) is h = tt
+wants_at t e (Replace p element) is h = tt
+wants_at t e (Remove p) is h = with_there (at (front p) t) (λ x. TextsMeet (final p) x.content) e is h
+wants_at t e (SetAttr p name value) is h = tt
+wants_at t e (DropAttr p name) is h = absurd h
+wants_at t e RemoveDocument is h = absurd h
+
+-- what is left at the site, where it is what the change makes of the element there
+pub made_there : (t here left new : Tree) (change : Change) (p : List ℕ) → p ≡ site change → at p t ≡ Some here → left ≡ made_here change here → new ≡ put_over p left t
+    → new ≡ edited t change
+made_there t here left new change p is there made put =
+    made_at p (made_here change) here left t new there made put ∙ ap (λ q. change_at q (made_here change) t) is ∙ sym (edited_there t change)

@@ -1,0 +1,38 @@
+-- What a change brings into a tree, with all memory that it wants there. Capacity is no part of a tree, so whether there is memory
+-- for a change can't be said of the tree: it lies outside.
+use Rattle.std.specs.Prelude.{◌≡◌, IsSomeAnd, Vec}
+use Rattle.std.specs.declared.alloc.Global.{Global}
+use Rattle.xml_tree.specs.Tree.{Tree, at}
+use Rattle.xml_tree.specs.Edits.{TextsMeet, final}
+use Rattle.xml_tree.specs.Rooms.{HasAttrRoom, HasNodeRoom, joined_around}
+use Rattle.xml_tree.specs.declared.names.Attr.{Attr}
+use Rattle.xml_tree.specs.declared.tree.Node.{Node}
+use Rattle.edit_ops.specs.Rebuilding.{site}
+use Rattle.edit_ops.specs.declared.change.Change.{Change}
+use Rattle.edit_ops.specs.declared.change.Change.TheVariants.{CreateDocument, Insert, Replace, Remove, SetAttr, DropAttr, RemoveDocument}
+use Rattle.edit_ops.specs.declared.staged.Staged.{Staged}
+use Rattle.edit_ops.specs.declared.staged.Staged.TheVariants.{Child, Other, Joint, Attribute, Nothing}
+
+-- what the change brings to the element that it is made in: what it names, and room beside what is there already
+abbrev pub IsStagedHere : Change → Tree → Staged → Type 0
+IsStagedHere (CreateDocument root) e made = ⊥
+IsStagedHere (Insert parent gap element) e made = (room : Vec Node Global) × (made ≡ Child element room) × HasNodeRoom e room
+IsStagedHere (Replace p element) e made = made ≡ Other element
+IsStagedHere (Remove p) e made = made ≡ Joint (joined_around (final p) e.content)
+IsStagedHere (SetAttr p name value) e made = (room : Vec Attr Global) × (made ≡ Attribute name value room) × HasAttrRoom name e room
+IsStagedHere (DropAttr p name) e made = made ≡ Nothing
+IsStagedHere RemoveDocument e made = ⊥
+
+-- what the change brings into the tree
+abbrev pub IsStaged : Tree → Change → Staged → Type 0
+IsStaged t change made = IsSomeAnd (at (site change) t) (λ e. IsStagedHere change e made)
+
+-- the change may want memory at that element: to remove an element from it only where texts meet
+abbrev pub WantsHere : Change → Tree → Type 0
+WantsHere (CreateDocument root) e = ⊥
+WantsHere (Insert parent gap element) e = Unit {0}
+WantsHere (Replace p element) e = Unit {0}
+WantsHere (Remove p) e = TextsMeet (final p) e.content
+WantsHere (SetAttr p name value) e = Unit {0}
+WantsHere (DropAttr p name) e = ⊥
+WantsHere RemoveDocument e = ⊥
