@@ -1,5 +1,6 @@
--- A tree that may be a document of services is asked for as a document that is new, or in place of the one that is held.
-use Rattle.std.proofs.Common.{◌≡◌, Bool, true, false, cond, List, [], ◌∷◌, find, is_some, Option, None, Some, IsSomeAnd, option_map, refl, sym, ap, subst, ◌∙◌}
+-- What is asked of an edit of a document that is held; and a tree that may be a document of services is asked for as a document that is new,
+-- or in place of the one that is held.
+use Rattle.std.proofs.Common.{◌≡◌, Bool, true, false, cond, List, [], ◌∷◌, find, is_some, Option, None, Some, IsSome, IsSomeAnd, option_map, refl, sym, ap, subst, ◌∙◌}
 use Rattle.doc_names.specs.declared.usages.Usage.TheVariants as usages
 use Rattle.doc_names.specs.Ids.{IsReadable}
 use Rattle.doc_names.specs.Same.{same_id}
@@ -10,12 +11,29 @@ use Rattle.edit_ops.specs.Changes.{Fits, edited}
 use Rattle.edit_ops.specs.declared.change.Change.{Change}
 use Rattle.edit_ops.specs.declared.change.Change.TheVariants.{CreateDocument, Replace}
 use Rattle.xml_tree.specs.Tree.{Tree}
-use Rattle.store_core.specs.Asking.{Asks, MayBe, MayBeFor}
-use Rattle.store_core.specs.Changing.{document_in, held_name}
+use Rattle.store_core.specs.Asking.{Asks, AsksAct, MayBe, MayBeFor}
+use Rattle.store_core.specs.Changing.{Act, Edits, act_of, document_in, held_name}
 use Rattle.store_core.specs.Held.{Content, Held}
 use Rattle.store_core.specs.Keeping.{IsUsers}
 use Rattle.doc_names.specs.Usages.{usage_of}
 use Rattle.doc_names.proofs.SameIds.{id_exact}
+
+-- ---- an edit
+
+-- what is asked of an edit of the document that is held
+pub asked : (c : Content) (doc : DocId) (change : Change) (h : Held) → act_of change ≡ Edits → document_in held_name c.documents doc ≡ Some h → Asks c doc change → Fits h.tree change × MayBeFor (usage_of h.id.auid) (edited h.tree change)
+asked c doc change h edits found asks =
+    let here : AsksAct c doc change Edits = subst (λ (act : Act). AsksAct c doc change act) edits asks in
+    subst (λ (o : Option Held). IsSomeAnd o (λ x. Fits x.tree change × MayBeFor (usage_of x.id.auid) (edited x.tree change))) found here
+
+pub asks-held : (c : Content) (doc : DocId) (change : Change) → act_of change ≡ Edits → Asks c doc change → IsSome (document_in held_name c.documents doc)
+asks-held c doc change edits asks =
+    let here : AsksAct c doc change Edits = subst (λ (act : Act). AsksAct c doc change act) edits asks in
+    some-where (document_in held_name c.documents doc) here
+  where
+    some-where : (o : Option Held) → IsSomeAnd o (λ x. Fits x.tree change × MayBeFor (usage_of x.id.auid) (edited x.tree change)) → IsSome o
+    some-where None a = absurd a
+    some-where (Some x) a = refl
 
 -- ---- what is found has the name that was looked for
 

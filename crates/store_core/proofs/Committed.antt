@@ -16,7 +16,7 @@ module _ (es : List (DocId × Entry)) (rs : List (List ℕ × ℕ)) (last total 
   ready-here = subst (λ (x : Stored). IsReady x p) (sym seen) (subst (λ (x : Readied). IsReady s x) (sym same) ready)
 
   pub may-step : Steppable es p.doc p.step
-  may-step = steppable es rs last total p p.step storing ready-here.planned.step
+  may-step = steppable es rs last total p p.step storing ready-here.planned ready-here.planned.step
 
   module _ (left rows : List (List ℕ × ℕ)) (next : List (DocId × Entry)) (created : ℕ) (leaves enters : List (List ℕ)) (stepped : Stepped es p.doc p.note.next p.step created next) (leaving : leaves ≡ p.leaves) (entering : enters ≡ p.enters)
       (took : (uri : List ℕ) → registered left uri ≡ cond (is_among leaves uri) None (registered rs uri)) (gave : (uri : List ℕ) → registered rows uri ≡ cond (is_among enters uri) (Some created) (registered left uri)) where

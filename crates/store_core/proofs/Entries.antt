@@ -116,17 +116,12 @@ pub record Known (es : List (DocId × Entry)) : Type 0 where
   pub names : AreApart (map name_in es)
   pub services : AreApart (flat_map uris_in es)
   pub low : AllByRecursion (λ e. height e.1.tree ≤ 64) es
-  pub short : AllByRecursion (λ e. document_len e.1.tree ≤ 262144) es
   pub few : length es ≤ 1000
   pub room : sum_by len_in es ≤ 33554432
 
 low-of : (usage : Option Usage) (t : Tree) → IsSoundFor usage t → height t ≤ 64
 low-of None t h = absurd h
 low-of (Some usage) t h = h.low
-
-short-of : (usage : Option Usage) (t : Tree) → IsSoundFor usage t → document_len t ≤ 262144
-short-of None t h = absurd h
-short-of (Some usage) t h = h.short
 
 -- what holds of the present tree of each document holds of each entry's tree
 each-tree : (P : Tree → Type 0) (m : State) (es : List (DocId × Entry)) → map held_in es ≡ map held_of m.documents → ((d : Document) → IsKept m.next d → P d.now.tree) → AllByRecursion (IsKept m.next) m.documents → AllByRecursion (λ e. P e.1.tree) es
@@ -150,7 +145,6 @@ known es last m s k =
       names = subst (λ (xs : List DocId). AreApart xs) (sym names) k.names;
       services = subst (λ (xs : List (List ℕ)). AreApart xs) (sym services) k.services;
       low = each-tree (λ t. height t ≤ 64) m es same (λ d h. low-of (usage_of d.id.auid) d.now.tree h.sound.0) k.documents;
-      short = each-tree (λ t. document_len t ≤ 262144) m es same (λ d h. short-of (usage_of d.id.auid) d.now.tree h.sound.0) k.documents;
       few = omega (arith, k.few, ap (λ (hs : List Held). length hs) same, length-map es held_in, length-map ds held_of);
       room = omega (arith, k.room, lens);
     }

@@ -1,6 +1,7 @@
 -- What the calls of a map of documents leave, by the names of its entries.
-use Rattle.std.proofs.Common.{◌≡◌, Bool, true, false, not, cond, List, [], ◌∷◌, map, filter, refl, sym, ap, subst, ◌∙◌}
+use Rattle.std.proofs.Common.{◌≡◌, Bool, true, false, not, cond, List, [], ◌∷◌, map, filter, Some, refl, sym, ap, subst, ◌∙◌}
 use Rattle.std.proofs.lemmas.Map.Keys.{IsDistinct-head, IsDistinct-tail}
+use Rattle.std.proofs.lemmas.Option.{same_Some}
 use Rattle.std.specs.List.{AllByRecursion, IsDistinct}
 use Rattle.std.specs.Map.{keys_of, lookup, remove_entry, set_value}
 use Rattle.doc_names.specs.Same.{same_id}
@@ -43,6 +44,10 @@ module _ {V : Type 0} where
   -- the same of the calls, whose test is the derived `==`
   pub looked-up : (doc : DocId) (es : List (DocId × V)) → lookup (eq-value.it doc) es ≡ lookup (same_id doc) es
   looked-up doc es = ap (λ eq. lookup (eq doc) es) derived_eq
+
+  -- what a look-up found is what is there
+  pub one-value : (doc : DocId) (es : List (DocId × V)) (v w : V) → lookup (same_id doc) es ≡ Some v → Some w ≡ lookup (eq-value.it doc) es → v ≡ w
+  one-value doc es v w there found = same_Some v w (sym there ∙ sym (looked-up doc es) ∙ sym found)
 
   pub taken-out : (doc : DocId) (es : List (DocId × V)) → IsDistinct eq-value.it (keys_of es) → remove_entry (eq-value.it doc) es ≡ filter (λ x. not (same_id doc x.0)) es
   taken-out doc es d =

@@ -1,27 +1,27 @@
 -- What planning a change answers, from the reasons against it and its parts.
-use Rattle.std.proofs.Common.{◌≡◌, ℕ, ◌+◌, ◌≤◌, Bool, true, false, List, [], length, sum_by, ◌⊎◌, inl, inr, Option, None, Some, IsSome, IsSomeAnd, option_map, Result, Ok, Err, refl, sym, ap, subst, ◌∙◌, arith}
+use Rattle.std.proofs.Common.{◌≡◌, ℕ, ◌+◌, ◌≤◌, Bool, true, false, List, [], length, sum_by, ◌⊎◌, inl, inr, Option, None, Some, IsSome, option_map, Result, Ok, Err, refl, sym, ap, subst, ◌∙◌, arith}
 use Rattle.std.proofs.lemmas.Option.{same_Some}
 use Rattle.std.specs.Result.{IsErrAnd}
 use Rattle.xml_tree.specs.Tree.{Tree}
 use Rattle.usage_docs.specs.Services.{document_len}
 use Rattle.doc_names.specs.Same.{same_id}
 use Rattle.doc_names.specs.declared.doc_id.DocId.{DocId}
-use Rattle.edit_ops.specs.Changes.{Fits, edited}
+use Rattle.edit_ops.specs.Changes.{edited}
+use Rattle.edit_ops.specs.Staging.{IsStaged}
 use Rattle.edit_ops.specs.declared.change.Change.{Change}
 use Rattle.edit_ops.specs.declared.change.Change.TheVariants.{CreateDocument, Insert, Replace, Remove, SetAttr, DropAttr, RemoveDocument}
 use Rattle.notes.specs.Notes.{Note, note_of}
 use Rattle.notes.specs.Recorded.{note_in}
-use Rattle.notes.specs.declared.edit_note.EditNote.{EditNote}
 use Rattle.store_core.specs.declared.refusal.StoreRefusal.{StoreRefusal}
 use Rattle.store_core.specs.declared.refusal.StoreRefusal.TheVariants.{NoMemory}
-use Rattle.store_core.specs.declared.step.Step.TheVariants.{Make, Renew, End}
+use Rattle.store_core.specs.declared.entry.Entry.{Entry}
+use Rattle.store_core.specs.declared.step.Step.TheVariants.{Make, Edit, End}
 use Rattle.store_core.specs.Held.{Content, Held}
 use Rattle.store_core.specs.Keeping.{addresses_in}
-use Rattle.doc_names.specs.Usages.{usage_of}
-use Rattle.store_core.specs.Asking.{Asks, AsksAct, MayBeFor}
+use Rattle.store_core.specs.Asking.{Asks}
 use Rattle.store_core.specs.Changing.{Act, Edits, act_of, against, against_number, against_tree, answered, changing, content_after, document_in, held_name, note_for, or_else, other_lengths}
 use Rattle.store_core.specs.Storing.{Stored, entry_of}
-use Rattle.store_core.specs.Preparing.{IsPlanned, IsReady, Plans, Readied, total_of}
+use Rattle.store_core.specs.Preparing.{IsHeldAs, IsNoted, IsPlanned, IsReady, Plans, Readied, total_of}
 use Rattle.store_core.proofs.Accepted.{passes, unfound}
 use Rattle.store_core.proofs.Apart.{none-filtered}
 use Rattle.store_core.proofs.Planning.{refused-first, refused-last, not-refused-at-all}
@@ -132,25 +132,44 @@ edit-unnumbered c doc change h t e edits found tree g n =
 pub edit-room : (c : Content) (doc : DocId) (t : Tree) → against_tree c doc false t ≡ None → (other_lengths c doc + document_len t ≤ 33554432) × (document_len t ≤ 262144)
 edit-room c doc t h = let p = passes c doc false t h in (p.room, p.short)
 
-pub edit-planned : (c : Content) (doc : DocId) (change : Change) (h : Held) (t : Tree) (note : EditNote) (number total : ℕ) (leaves enters : List (List ℕ)) → Asks c doc change → act_of change ≡ Edits
-    → document_in held_name c.documents doc ≡ Some h → t ≡ edited h.tree change → against_tree c doc false t ≡ None → against_number c ≡ None → number ≡ c.next → note_in note ≡ note_of h.tag number h.tree change
-    → leaves ≡ addresses_in doc.auid h.tree → enters ≡ addresses_in doc.auid t → total + document_len h.tree ≡ total_of c + document_len t
-    → Plans c doc change (Ok (record { doc = doc; note = note_in note; step = Renew t note; leaves = leaves; enters = enters; total = total }))
-edit-planned c doc change h t note number total leaves enters asks edits found tree free free_number numbered noted left entered sum =
-    let p : Readied = record { doc = doc; note = note_in note; step = Renew t note; leaves = leaves; enters = enters; total = total } in
-    let full : note_in note ≡ note_of h.tag c.next h.tree change = noted ∙ ap (λ (n : ℕ). note_of h.tag n h.tree change) numbered in
-    let same : (note_in note).change ≡ change = ap (λ (n : Note). n.change) full in
+-- with its memory and its note
+pub edit-planned : (c : Content) (doc : DocId) (change : Change) (v : Entry) (number len total : ℕ) (enters : List (List ℕ)) (p : Readied) → Asks c doc change → act_of change ≡ Edits → IsHeldAs c doc v
+    → against_tree c doc false (edited v.tree change) ≡ None → against_number c ≡ None → number ≡ c.next → len ≡ document_len (edited v.tree change) → enters ≡ addresses_in doc.auid (edited v.tree change)
+    → total + document_len v.tree ≡ total_of c + len → IsNoted doc v number change len enters total p → Plans c doc change (Ok p)
+edit-planned c doc change v number len total enters p asks edits held free free_number numbered long entered sum noted =
+    let h = held.0 in
+    let note = noted.0 in
+    let staged = noted.1 in
+    let q : Readied = record { doc = doc; note = note_in note; step = Edit staged note len; leaves = addresses_in doc.auid v.tree; enters = enters; total = total } in
+    let tree : v.tree ≡ h.tree = sym held.2 in
+    let full : note_in note ≡ note_of h.tag c.next h.tree change =
+    noted.2 ∙ ap (λ (t : ℕ). note_of t number v.tree change) (sym held.3) ∙ ap (λ (t : Tree). note_of h.tag number t change) tree ∙ ap (λ (n : ℕ). note_of h.tag n h.tree change) numbered in
+    let same : change ≡ note.change = sym (ap (λ (n : Note). n.change) full) in
+    let after : edited v.tree change ≡ edited h.tree note.change = ap (λ (t : Tree). edited t change) tree ∙ ap (λ (x : Change). edited h.tree x) same in
     let made : changing c doc change ≡ Ok (note_in note, content_after c doc change) =
-    edit-changing c doc change h edits found
-    ∙ not-refused-at-all (against_tree c doc false (edited h.tree change)) (against_number c) (note_of h.tag c.next h.tree change) (content_after c doc change) (ap (λ (x : Tree). against_tree c doc false x) (sym tree) ∙ free) free_number
+    edit-changing c doc change h edits held.1
+    ∙ not-refused-at-all (against_tree c doc false (edited h.tree change)) (against_number c) (note_of h.tag c.next h.tree change) (content_after c doc change)
+    (ap (λ (t : Tree). against_tree c doc false (edited t change)) (sym tree) ∙ free) free_number
     ∙ ap (λ (n : Note). let x : Note × Content = (n, content_after c doc change) in let r : Result (Note × Content) StoreRefusal = Ok x in r) (sym full) in
-    plans-made c doc change p refl same (record {
-      asks = subst (λ (x : Change). Asks c doc x) (sym same) asks;
-      made = subst (λ (x : Change). changing c doc x ≡ Ok (note_in note, content_after c doc x)) (sym same) made;
+    let memory : IsStaged h.tree note.change staged = subst (λ (x : Change). IsStaged h.tree x staged) same (subst (λ (t : Tree). IsStaged t change staged) tree noted.3) in
+    subst (λ (x : Readied). Plans c doc change (Ok x)) (sym noted.4)
+    (plans-made c doc change q refl (sym same) (record {
+      asks = subst (λ (x : Change). Asks c doc x) same asks;
+      made = subst (λ (x : Change). changing c doc x ≡ Ok (note_in note, content_after c doc x)) same made;
       number = ap (λ (n : Note). n.next) full;
-      step =
-          (h, found, ap act_of same ∙ edits, tree ∙ ap (λ (x : Change). edited h.tree x) (sym same), refl, full ∙ ap (λ (x : Change). note_of h.tag c.next h.tree x) (sym same), left, entered, sum);
-    })
+      step = (
+        h,
+        held.1,
+        ap act_of (sym same) ∙ edits,
+        memory,
+        long ∙ ap document_len after,
+        refl,
+        full ∙ ap (λ (x : Change). note_of h.tag c.next h.tree x) same,
+        ap (λ (t : Tree). addresses_in doc.auid t) tree,
+        entered ∙ ap (λ (t : Tree). addresses_in doc.auid t) after,
+        ap (λ (t : Tree). total + document_len t) (sym tree) ∙ sum,
+      );
+    }))
 
 -- a change that neither makes nor removes a document edits one
 pub edits-one : (change : Change) → ((root : Tree) → change ≡ CreateDocument root → ⊥) → (change ≡ RemoveDocument → ⊥) → act_of change ≡ Edits
@@ -161,21 +180,6 @@ edits-one (Remove p) a b = refl
 edits-one (SetAttr p name value) a b = refl
 edits-one (DropAttr p name) a b = refl
 edits-one RemoveDocument a b = absurd (b refl)
-
--- what is asked of an edit of the document that is held
-pub asked : (c : Content) (doc : DocId) (change : Change) (h : Held) → act_of change ≡ Edits → document_in held_name c.documents doc ≡ Some h → Asks c doc change → Fits h.tree change × MayBeFor (usage_of h.id.auid) (edited h.tree change)
-asked c doc change h edits found asks =
-    let here : AsksAct c doc change Edits = subst (λ (act : Act). AsksAct c doc change act) edits asks in
-    subst (λ (o : Option Held). IsSomeAnd o (λ x. Fits x.tree change × MayBeFor (usage_of x.id.auid) (edited x.tree change))) found here
-
-pub asks-held : (c : Content) (doc : DocId) (change : Change) → act_of change ≡ Edits → Asks c doc change → IsSome (document_in held_name c.documents doc)
-asks-held c doc change edits asks =
-    let here : AsksAct c doc change Edits = subst (λ (act : Act). AsksAct c doc change act) edits asks in
-    some-where (document_in held_name c.documents doc) here
-  where
-    some-where : (o : Option Held) → IsSomeAnd o (λ x. Fits x.tree change × MayBeFor (usage_of x.id.auid) (edited x.tree change)) → IsSome o
-    some-where None a = absurd a
-    some-where (Some x) a = refl
 
 -- ---- a document that is taken away
 

@@ -19,14 +19,14 @@ use Rattle.store_core.specs.Held.{Content, Held}
 use Rattle.store_core.specs.Keeping.{AreApart, addresses_in}
 use Rattle.store_core.specs.Changing.{against_tree, answered, document_in, held_name, only_if, or_else, other_addresses, other_lengths, taken, without_document}
 use Rattle.store_core.specs.Storing.{IsStoring, Room, Stored, content_in, held_in, holder, is_among, is_others, len_in, number_in, registered, uris_in}
-use Rattle.store_core.specs.Preparing.{refused_for, total_of}
+use Rattle.store_core.specs.Preparing.{IsHeldAs, refused_for, total_of}
 use Rattle.store_core.proofs.Accepted.{sum-mapped, sum-put}
 use Rattle.store_core.proofs.Apart.{each-append, each-weaker, apart-behind, none-filtered, one-filtered}
 use Rattle.store_core.proofs.Admitted.{apart-before}
 use Rattle.store_core.proofs.Standing.{map-filtered}
 use Rattle.store_core.proofs.Entries.{Around, each-unmapped, none-found}
 use Rattle.store_core.proofs.Holders.{is-other, others-hold, others-hold-beside}
-use Rattle.store_core.proofs.Stored.{absent-entry, around-of, held-found, known-of, short-entry, total-is}
+use Rattle.store_core.proofs.Stored.{absent-entry, around-of, held-found, known-of, len-of, total-is}
 
 abbrev Row : Type 0
 Row = DocId × Entry
@@ -158,34 +158,39 @@ module _ (es : List Row) (rs : List (List ℕ × ℕ)) (last total : ℕ) (room 
       ∙ ap (λ (x : Stored). against_tree x.content doc true t) seen
 
   module _ (v : Entry) (found : Some v ≡ lookup (same_id doc) es) where
-    pub edit-answer : (t : Tree) (uris : List (List ℕ)) (place : Option ℕ) (len before : ℕ) → uris ≡ addresses_in doc.auid t → place ≡ position (λ uri. is_others (Some v.created) (registered rs uri)) uris
-        → len ≡ min (document_len t) 18446744073709551615 → before ≡ min (document_len v.tree) 18446744073709551615 → refused_for place len false (total - before) ≡ against_tree s.content doc false t
-    edit-answer t uris place len before own at counted was =
+    len-here : v.len ≡ document_len v.tree
+    len-here = len-of es rs last total doc v storing (sym found)
+
+    pub edit-answer : (t : Tree) (uris : List (List ℕ)) (place : Option ℕ) (len : ℕ) → uris ≡ addresses_in doc.auid t → place ≡ position (λ uri. is_others (Some v.created) (registered rs uri)) uris
+        → len ≡ min (document_len t) 18446744073709551615 → refused_for place len false (total - v.len) ≡ against_tree s.content doc false t
+    edit-answer t uris place len own at counted =
         let test : List ℕ → Bool = λ uri. is_others (Some v.created) (registered rs uri) in
-        let short = short-entry es rs last total doc v storing (sym found) in
-        let left : total - before ≡ total - document_len v.tree = omega (arith, was, short) in
-        ap (λ (o : Option ℕ). refused_for o len false (total - before)) (at ∙ ap (λ (us : List (List ℕ)). position test us) own)
-        ∙ ap (λ (n : ℕ). refused_for (position test (addresses_in doc.auid t)) n false (total - before)) counted
-        ∙ ap (λ (n : ℕ). refused_for (position test (addresses_in doc.auid t)) (min (document_len t) 18446744073709551615) false n) left
+        ap (λ (o : Option ℕ). refused_for o len false (total - v.len)) (at ∙ ap (λ (us : List (List ℕ)). position test us) own)
+        ∙ ap (λ (n : ℕ). refused_for (position test (addresses_in doc.auid t)) n false (total - v.len)) counted
+        ∙ ap (λ (n : ℕ). refused_for (position test (addresses_in doc.auid t)) (min (document_len t) 18446744073709551615) false (total - n)) len-here
         ∙ against-held es rs last total doc v t storing (sym found)
         ∙ ap (λ (x : Stored). against_tree x.content doc false t) seen
 
-    pub no-longer : (before : ℕ) → before ≡ min (document_len v.tree) 18446744073709551615 → before ≤ total
-    no-longer before was = omega (arith, was, total-without es rs last total doc v storing (sym found))
+    pub held-as : IsHeldAs s.content doc v
+    held-as =
+        let r = around-of es rs last total doc v storing (sym found) in
+        subst (λ (x : Stored). IsHeldAs x.content doc v) seen (held_in (doc, v), held-found es doc v r, refl, refl, len-here)
 
-    pub others-are : (before : ℕ) → before ≡ min (document_len v.tree) 18446744073709551615 → total - before ≡ other_lengths s.content doc
-    others-are before was =
-        let here : total - before ≡ other_lengths (content_in es last) doc =
-        omega (arith, was, short-entry es rs last total doc v storing (sym found), total-without es rs last total doc v storing (sym found), other-lens es last doc) in
+    pub no-longer : v.len ≤ total
+    no-longer = omega (arith, len-here, total-without es rs last total doc v storing (sym found))
+
+    pub others-are : total - v.len ≡ other_lengths s.content doc
+    others-are =
+        let here : total - v.len ≡ other_lengths (content_in es last) doc = omega (arith, len-here, total-without es rs last total doc v storing (sym found), other-lens es last doc) in
         here ∙ ap (λ (x : Stored). other_lengths x.content doc) seen
 
-    pub whole-is : (before : ℕ) → before ≡ min (document_len v.tree) 18446744073709551615 → IsSomeAnd (document_in held_name s.content.documents doc) (λ h. (total - before) + document_len h.tree ≡ total_of s.content)
-    whole-is before was =
+    pub whole-is : IsSomeAnd (document_in held_name s.content.documents doc) (λ h. (total - v.len) + document_len h.tree ≡ total_of s.content)
+    whole-is =
         let r = around-of es rs last total doc v storing (sym found) in
-        let n : (total - before) + document_len v.tree ≡ total_of (content_in es last) =
-        omega (arith, was, short-entry es rs last total doc v storing (sym found), total-without es rs last total doc v storing (sym found), storing.sum, total-is es last) in
-        subst (λ (x : Stored). IsSomeAnd (document_in held_name x.content.documents doc) (λ h. (total - before) + document_len h.tree ≡ total_of x.content)) seen
-        (subst (λ (o : Option Held). IsSomeAnd o (λ h. (total - before) + document_len h.tree ≡ total_of (content_in es last))) (sym (held-found es doc v r)) n)
+        let n : (total - v.len) + document_len v.tree ≡ total_of (content_in es last) =
+        omega (arith, len-here, total-without es rs last total doc v storing (sym found), storing.sum, total-is es last) in
+        subst (λ (x : Stored). IsSomeAnd (document_in held_name x.content.documents doc) (λ h. (total - v.len) + document_len h.tree ≡ total_of x.content)) seen
+        (subst (λ (o : Option Held). IsSomeAnd o (λ h. (total - v.len) + document_len h.tree ≡ total_of (content_in es last))) (sym (held-found es doc v r)) n)
 
 -- ---- what is answered
 

@@ -9,14 +9,16 @@ use Rattle.xml_tree.specs.Tree.{Tree, height}
 use Rattle.usage_docs.specs.Services.{document_len}
 use Rattle.doc_names.specs.Same.{same_id}
 use Rattle.doc_names.specs.declared.doc_id.DocId.{DocId}
-use Rattle.edit_ops.specs.Changes.{edited}
+use Rattle.edit_ops.specs.Changes.{Fits, edited}
+use Rattle.edit_ops.specs.Staging.{IsStaged}
 use Rattle.edit_ops.specs.declared.change.Change.{Change}
+use Rattle.edit_ops.specs.declared.staged.Staged.{Staged}
 use Rattle.notes.specs.Notes.{Note, note_of}
 use Rattle.notes.specs.Recorded.{note_in}
 use Rattle.notes.specs.declared.edit_note.EditNote.{EditNote}
 use Rattle.store_core.specs.declared.entry.Entry.{Entry}
 use Rattle.store_core.specs.declared.step.Step.{Step}
-use Rattle.store_core.specs.declared.step.Step.TheVariants.{Make, Renew, End}
+use Rattle.store_core.specs.declared.step.Step.TheVariants.{Make, Edit, End}
 use Rattle.store_core.specs.State.{State, first_state, retained}
 use Rattle.store_core.specs.Held.{Content, Held, Stands}
 use Rattle.store_core.specs.Keeping.{AreApart, Kept}
@@ -25,6 +27,7 @@ use Rattle.store_core.specs.Storing.{IsRenewed, IsStoring, Room, Stored, content
 use Rattle.store_core.specs.Preparing.{IsPlanned, IsStepOf, Readied, Steppable, Stepped, total_of}
 use Rattle.store_core.proofs.Accepted.{find-map, sum-first, sum-mapped, sum-put}
 use Rattle.store_core.proofs.Apart.{apart-cut, apart-put, each-append, each-cut, each-left, each-right, each-weaker, one-exchanged, one-filtered}
+use Rattle.store_core.proofs.Asked.{asked}
 use Rattle.store_core.proofs.Keeps.{keeps}
 use Rattle.store_core.proofs.KeptAfter.{kept-first}
 use Rattle.store_core.proofs.Standing.{map-filtered}
@@ -83,6 +86,9 @@ numbers-below last n (r ∷ es) e a = ((λ (same : n ≡ number_in r). omega (ar
 abbrev HasRing : Row → Type 0
 HasRing e = e.1.notes.capacity ≡ 64
 
+abbrev HasLen : Row → Type 0
+HasLen e = e.1.len ≡ len_in e
+
 -- ---- a document that is made
 
 made-content : (es : List Row) (last : ℕ) (p : Readied) (entry : Entry) → p.note.next ≡ last + 1 → IsStepOf (content_in es last) p (Make entry)
@@ -123,6 +129,7 @@ made-stored es rs last total p entry rows s planned step reg =
       given = each-append (λ (r : Row). number_in r ≤ p.note.next) es (row ∷ []) (later last p.note.next es planned.number s.given) (omega (arith, n, planned.number), tt);
       sum = omega (arith, step.5, total-is es last, sum_by-append len_in es (row ∷ []), sum-first len_in row []);
       rings = each-append HasRing es (row ∷ []) s.rings (ap (λ (x : Entry). x.notes.capacity) step.2, tt);
+      lens = each-append HasLen es (row ∷ []) s.lens (ap (λ (x : Entry). x.len) step.2, tt);
     }
 
 -- ---- a document that is edited
@@ -133,18 +140,18 @@ renewed-rows es doc v w r =
     let q : Row → Bool = λ e. same_id doc e.0 in
     ap (λ (rows : List Row). map (λ (e : Row). cond (q e) (f e) e) rows) r.parts ∙ one-exchanged q f r.before r.behind (doc, v) r.none-before r.passes r.none-behind
 
-renewed-held : (doc : DocId) (v w : Entry) (number : ℕ) (t : Tree) (kept : EditNote) (change : Change) → IsRenewed v number t kept w → t ≡ edited v.tree change → note_in kept ≡ note_of v.tag number v.tree change
+renewed-held : (doc : DocId) (v w : Entry) (number len : ℕ) (kept : EditNote) (change : Change) → IsRenewed v number kept len w → kept.change ≡ change → note_in kept ≡ note_of v.tag number v.tree change
     → held_in (doc, w) ≡ held_after number change (held_in (doc, v))
-renewed-held doc v w number t kept change new tree note =
+renewed-held doc v w number len kept change new same note =
     let held : ℕ → Tree → List Note → Held = λ n x ns. record { id = doc; tag = n; tree = x; notes = ns } in
     ap (λ (n : ℕ). held n w.tree (map note_in w.notes.items)) new.tag
-    ∙ ap (λ (x : Tree). held number x (map note_in w.notes.items)) (new.tree ∙ tree)
+    ∙ ap (λ (x : Tree). held number x (map note_in w.notes.items)) (new.tree ∙ ap (λ (x : Change). edited v.tree x) same)
     ∙ ap (λ (ns : List Note). held number (edited v.tree change) ns) (new.notes ∙ ap (λ (n : Note). retained (map note_in v.notes.items ++ n ∷ [])) note)
 
-renewed-content : (es : List Row) (last : ℕ) (p : Readied) (v w : Entry) (t : Tree) (kept : EditNote) (h : Held) (r : Around es p.doc v)
-    → p.note.next ≡ last + 1 → act_of p.note.change ≡ Edits → h ≡ held_in (p.doc, v) → t ≡ edited h.tree p.note.change → note_in kept ≡ note_of h.tag (last + 1) h.tree p.note.change → IsRenewed v p.note.next t kept w
+renewed-content : (es : List Row) (last : ℕ) (p : Readied) (v w : Entry) (len : ℕ) (kept : EditNote) (h : Held) (r : Around es p.doc v)
+    → p.note.next ≡ last + 1 → act_of p.note.change ≡ Edits → h ≡ held_in (p.doc, v) → kept.change ≡ p.note.change → note_in kept ≡ note_of h.tag (last + 1) h.tree p.note.change → IsRenewed v p.note.next kept len w
     → content_in (r.before ++ (p.doc, w) ∷ r.behind) p.note.next ≡ content_after (content_in es last) p.doc p.note.change
-renewed-content es last p v w t kept h r number edits same tree note new =
+renewed-content es last p v w len kept h r number edits same changed note new =
     let c = content_in es last in
     let change = p.note.change in
     let g : Held → Held = held_after c.next change in
@@ -153,9 +160,9 @@ renewed-content es last p v w t kept h r number edits same tree note new =
     let behind = map held_in r.behind in
     let of_doc : Row → DocId = λ e. e.0 in
     let nones : (rows : List Row) → AllByRecursion (λ e. same_id p.doc e.0 ≡ false) rows → AllByRecursion (λ x. q x ≡ false) (map held_in rows) = λ rows a. each-mapped (λ (x : Held). q x ≡ false) held_in rows a in
-    let renewed : IsRenewed v c.next t kept w = subst (λ (n : ℕ). IsRenewed v n t kept w) number new in
+    let renewed : IsRenewed v c.next kept len w = subst (λ (n : ℕ). IsRenewed v n kept len w) number new in
     let held : held_in (p.doc, w) ≡ g (held_in (p.doc, v)) =
-    renewed-held p.doc v w c.next t kept change renewed (tree ∙ ap (λ (x : Held). edited x.tree change) same) (note ∙ ap (λ (x : Held). note_of x.tag (last + 1) x.tree change) same) in
+    renewed-held p.doc v w c.next len kept change renewed changed (note ∙ ap (λ (x : Held). note_of x.tag (last + 1) x.tree change) same) in
     let all : with_document held_name g c.documents p.doc ≡ before ++ g (held_in (p.doc, v)) ∷ behind =
     ap (λ (hs : List Held). map (λ (x : Held). cond (q x) (g x) x) hs) (ap (map held_in) r.parts ∙ map-append held_in r.before ((p.doc, v) ∷ r.behind))
     ∙ one-exchanged q g before behind (held_in (p.doc, v)) (nones r.before r.none-before) r.passes (nones r.behind r.none-behind) in
@@ -163,12 +170,12 @@ renewed-content es last p v w t kept h r number edits same tree note new =
     ∙ ap (λ (hs : List Held). content hs (c.next + 1)) (map-append held_in r.before ((p.doc, w) ∷ r.behind) ∙ ap (λ (x : Held). before ++ x ∷ behind) held ∙ sym all)
     ∙ sym (ap (λ (act : Act). content_after_act c p.doc change act) edits)
 
-renewed-stored : (es : List Row) (rs : List (List ℕ × ℕ)) (last total : ℕ) (p : Readied) (t : Tree) (kept : EditNote) (v w : Entry) (rows : List (List ℕ × ℕ))
-    → IsStoring es rs last total → IsPlanned (content_in es last) p → IsStepOf (content_in es last) p (Renew t kept) → lookup (same_id p.doc) es ≡ Some v → IsRenewed v p.note.next t kept w
+renewed-stored : (es : List Row) (rs : List (List ℕ × ℕ)) (last total : ℕ) (p : Readied) (staged : Staged) (kept : EditNote) (len : ℕ) (v w : Entry) (rows : List (List ℕ × ℕ))
+    → IsStoring es rs last total → IsPlanned (content_in es last) p → IsStepOf (content_in es last) p (Edit staged kept len) → lookup (same_id p.doc) es ≡ Some v → IsRenewed v p.note.next kept len w
     → ((uri : List ℕ) → registered rows uri ≡ exchanged p.leaves p.enters w.created (registered rs uri) uri)
     → (content_in (map (λ e. cond (same_id p.doc e.0) (e.0, w) e) es) p.note.next ≡ content_after (content_in es last) p.doc p.note.change)
     × IsStoring (map (λ e. cond (same_id p.doc e.0) (e.0, w) e) es) rows p.note.next p.total
-renewed-stored es rs last total p t kept v w rows s planned step found new reg =
+renewed-stored es rs last total p staged kept len v w rows s planned step found new reg =
     let c = content_in es last in
     let r = around-of es rs last total p.doc v s found in
     let old : Row = (p.doc, v) in
@@ -177,15 +184,19 @@ renewed-stored es rs last total p t kept v w rows s planned step found new reg =
     let same : h ≡ held_in old = one-held es p.doc v h r step.1 in
     let tree : h.tree ≡ v.tree = ap (λ (x : Held). x.tree) same in
     let all = renewed-rows es p.doc v w r in
-    let stands = renewed-content es last p v w t kept h r planned.number step.2 same step.3 (step.4 ∙ step.5) new in
+    let changed : kept.change ≡ p.note.change = ap (λ (n : Note). n.change) step.5 in
+    let now : w.tree ≡ edited h.tree p.note.change = new.tree ∙ ap (λ (x : Change). edited v.tree x) changed ∙ ap (λ (x : Tree). edited x p.note.change) (sym tree) in
+    let long : len ≡ document_len w.tree = step.4 ∙ ap document_len (sym now) in
+    let stands = renewed-content es last p v w len kept h r planned.number step.2 same changed (step.5 ∙ step.6) new in
     let next = kept-next es (r.before ++ row ∷ r.behind) last p s.kept planned stands in
     let apart = (known (r.before ++ row ∷ r.behind) p.note.next next.0 next.1 next.2).services in
     let before-apart : AreApart (flat_map uris_in (r.before ++ old ∷ r.behind)) = subst (λ (ds : List Row). AreApart (flat_map uris_in ds)) r.parts (known-of es rs last total s).services in
     let given = subst (λ (ds : List Row). AllByRecursion (λ e. number_in e ≤ p.note.next) ds) r.parts (later last p.note.next es planned.number s.given) in
     let given-behind = each-right (λ (e : Row). number_in e ≤ p.note.next) r.before (old ∷ r.behind) given in
     let rings = subst (λ (ds : List Row). AllByRecursion HasRing ds) r.parts s.rings in
-    let enters : p.enters ≡ uris_in row = step.7 ∙ ap (λ (x : Tree). uris_in (p.doc, record w { tree = x })) (sym new.tree) in
-    let leaves : p.leaves ≡ uris_in old = step.6 ∙ ap (λ (x : Tree). uris_in (p.doc, record v { tree = x })) tree in
+    let lens = subst (λ (ds : List Row). AllByRecursion HasLen ds) r.parts s.lens in
+    let enters : p.enters ≡ uris_in row = step.8 ∙ ap (λ (x : Tree). uris_in (p.doc, record w { tree = x })) (sym now) in
+    let leaves : p.leaves ≡ uris_in old = step.7 ∙ ap (λ (x : Tree). uris_in (p.doc, record v { tree = x })) tree in
     let stored : IsStoring (r.before ++ row ∷ r.behind) rows p.note.next p.total = record {
       kept = next;
       addresses = λ uri.
@@ -201,8 +212,9 @@ renewed-stored es rs last total p t kept v w rows s planned step found new reg =
           s.numbers;
       given = each-append (λ (e : Row). number_in e ≤ p.note.next) r.before (row ∷ r.behind) (each-left (λ (e : Row). number_in e ≤ p.note.next) r.before (old ∷ r.behind) given) (omega (arith, new.created, given-behind.0), given-behind.1);
       sum =
-          omega (arith, step.8, total-is es last, ap (sum_by len_in) r.parts, sum-put len_in r.before old r.behind, sum-put len_in r.before row r.behind, ap document_len tree, ap document_len new.tree);
+          omega (arith, step.9, total-is es last, ap (sum_by len_in) r.parts, sum-put len_in r.before old r.behind, sum-put len_in r.before row r.behind, ap document_len tree, long);
       rings = each-append HasRing r.before (row ∷ r.behind) (each-left HasRing r.before (old ∷ r.behind) rings) (new.capacity, (each-right HasRing r.before (old ∷ r.behind) rings).1);
+      lens = each-append HasLen r.before (row ∷ r.behind) (each-left HasLen r.before (old ∷ r.behind) lens) (new.len ∙ long, (each-right HasLen r.before (old ∷ r.behind) lens).1);
     } in (
       ap (λ (ds : List Row). content_in ds p.note.next) all ∙ stands,
       subst (λ (ds : List Row). IsStoring ds rows p.note.next p.total) (sym all) stored,
@@ -238,6 +250,7 @@ ended-stored es rs last total p v created rows s planned step found reg =
     subst (λ (ns : List ℕ). AreApart ns) (ap (map number_in) r.parts ∙ map-append number_in r.before (old ∷ r.behind)) s.numbers in
     let given = subst (λ (ds : List Row). AllByRecursion (λ e. number_in e ≤ p.note.next) ds) r.parts (later last p.note.next es planned.number s.given) in
     let rings = subst (λ (ds : List Row). AllByRecursion HasRing ds) r.parts s.rings in
+    let lens = subst (λ (ds : List Row). AllByRecursion HasLen ds) r.parts s.lens in
     subst (λ (ds : List Row). IsStoring ds rows p.note.next p.total) (sym all) (record {
       kept = subst (λ (ds : List Row). (m : State) × Stands (content_in ds p.note.next) m × Kept m) all next;
       addresses = λ uri.
@@ -250,6 +263,7 @@ ended-stored es rs last total p v created rows s planned step found reg =
       given = each-cut (λ (e : Row). number_in e ≤ p.note.next) r.before (old ∷ []) r.behind given;
       sum = omega (arith, step.5, total-is es last, ap (sum_by len_in) r.parts, sum-put len_in r.before old r.behind, ap document_len tree);
       rings = each-cut HasRing r.before (old ∷ []) r.behind rings;
+      lens = each-cut HasLen r.before (old ∷ []) r.behind lens;
     })
 
 -- ---- any step
@@ -284,11 +298,11 @@ stored es rs last total p (Make entry) created next rows s planned step stepped 
       ap (λ (ds : List Row). content_in ds p.note.next) stepped.0 ∙ made-content es last p entry planned.number step,
       subst (λ (ds : List Row). IsStoring ds rows p.note.next p.total) (sym stepped.0) (made-stored es rs last total p entry rows s planned step registered-as),
     )
-stored es rs last total p (Renew t kept) created next rows s planned step stepped reg =
+stored es rs last total p (Edit staged kept len) created next rows s planned step stepped reg =
     let v = stepped.0 in
     let w = stepped.1 in
     let registered-as = λ (uri : List ℕ). reg uri ∙ ap (λ (n : ℕ). exchanged p.leaves p.enters n (registered rs uri) uri) stepped.5 in
-    let made = renewed-stored es rs last total p t kept v w rows s planned step stepped.2 stepped.3 registered-as in (
+    let made = renewed-stored es rs last total p staged kept len v w rows s planned step stepped.2 stepped.3 registered-as in (
       ap (λ (ds : List Row). content_in ds p.note.next) stepped.4 ∙ made.0,
       subst (λ (ds : List Row). IsStoring ds rows p.note.next p.total) (sym stepped.4) made.1,
     )
@@ -311,6 +325,7 @@ first-storing es rs first last none empty h e =
       given = tt;
       sum = refl;
       rings = tt;
+      lens = tt;
     }))
 
 pub same-storing : (es ds : List Row) (rs us : List (List ℕ × ℕ)) (last total : ℕ) → ds ≡ es → us ≡ rs → IsStoring es rs last total → IsStoring ds us last total
@@ -325,16 +340,15 @@ low-entry es rs last total doc v s found =
     let P : Row → Type 0 = λ e. height e.1.tree ≤ 64 in
     (each-right P r.before ((doc, v) ∷ r.behind) (subst (λ (ds : List Row). AllByRecursion P ds) r.parts (known-of es rs last total s).low)).0
 
-pub short-entry : (es : List Row) (rs : List (List ℕ × ℕ)) (last total : ℕ) (doc : DocId) (v : Entry) → IsStoring es rs last total → lookup (same_id doc) es ≡ Some v → document_len v.tree ≤ 262144
-short-entry es rs last total doc v s found =
-    let r = around-of es rs last total doc v s found in
-    let P : Row → Type 0 = λ e. document_len e.1.tree ≤ 262144 in
-    (each-right P r.before ((doc, v) ∷ r.behind) (subst (λ (ds : List Row). AllByRecursion P ds) r.parts (known-of es rs last total s).short)).0
-
 pub ring-of : (es : List Row) (rs : List (List ℕ × ℕ)) (last total : ℕ) (doc : DocId) (v : Entry) → IsStoring es rs last total → lookup (same_id doc) es ≡ Some v → v.notes.capacity ≡ 64
 ring-of es rs last total doc v s found =
     let r = around-of es rs last total doc v s found in
     (each-right HasRing r.before ((doc, v) ∷ r.behind) (subst (λ (ds : List Row). AllByRecursion HasRing ds) r.parts s.rings)).0
+
+pub len-of : (es : List Row) (rs : List (List ℕ × ℕ)) (last total : ℕ) (doc : DocId) (v : Entry) → IsStoring es rs last total → lookup (same_id doc) es ≡ Some v → v.len ≡ document_len v.tree
+len-of es rs last total doc v s found =
+    let r = around-of es rs last total doc v s found in
+    (each-right HasLen r.before ((doc, v) ∷ r.behind) (subst (λ (ds : List Row). AllByRecursion HasLen ds) r.parts s.lens)).0
 
 -- ---- what a step wants
 
@@ -344,12 +358,28 @@ not-there es rs last total doc (Some v) s e missing =
     let there : document_in held_name (map held_in es) doc ≡ Some (held_in (doc, v)) = held-found es doc v (around-of es rs last total doc v s e) in
     cc
 
-pub steppable : (es : List Row) (rs : List (List ℕ × ℕ)) (last total : ℕ) (p : Readied) (step : Step) → IsStoring es rs last total → IsStepOf (content_in es last) p step → Steppable es p.doc step
-steppable es rs last total p (Make entry) s step = not-there es rs last total p.doc (lookup (same_id p.doc) es) s refl step.0
-steppable es rs last total p (Renew t kept) s step =
+-- the edit of a note that is kept fits the entry of its document, and its memory is the one for that entry's tree
+may-edit : (es : List Row) (rs : List (List ℕ × ℕ)) (last total : ℕ) (p : Readied) (staged : Staged) (kept : EditNote) (len : ℕ) (v : Entry)
+    → IsStoring es rs last total → IsPlanned (content_in es last) p → IsStepOf (content_in es last) p (Edit staged kept len) → lookup (same_id p.doc) es ≡ Some v
+    → Fits v.tree kept.change × IsStaged v.tree kept.change staged
+may-edit es rs last total p staged kept len v s planned step found =
+    let h = step.0 in
+    let r = around-of es rs last total p.doc v s found in
+    let tree : h.tree ≡ v.tree = ap (λ (x : Held). x.tree) (one-held es p.doc v h r step.1) in
+    let changed : p.note.change ≡ kept.change = sym (ap (λ (n : Note). n.change) step.5) in
+    let fits : Fits h.tree p.note.change = (asked (content_in es last) p.doc p.note.change h step.2 step.1 planned.asks).0 in (
+      subst (λ (x : Change). Fits v.tree x) changed (subst (λ (x : Tree). Fits x p.note.change) tree fits),
+      subst (λ (x : Change). IsStaged v.tree x staged) changed (subst (λ (x : Tree). IsStaged x p.note.change staged) tree step.3),
+    )
+
+pub steppable : (es : List Row) (rs : List (List ℕ × ℕ)) (last total : ℕ) (p : Readied) (step : Step) → IsStoring es rs last total → IsPlanned (content_in es last) p → IsStepOf (content_in es last) p step
+    → Steppable es p.doc step
+steppable es rs last total p (Make entry) s planned step = not-there es rs last total p.doc (lookup (same_id p.doc) es) s refl step.0
+steppable es rs last total p (Edit staged kept len) s planned step =
     let found = found-entry es p.doc step.0 (lookup (same_id p.doc) es) refl step.1 in
-    (found.0, found.1, ring-of es rs last total p.doc found.0 s found.1)
-steppable es rs last total p End s step = tt
+    let may = may-edit es rs last total p staged kept len found.0 s planned step found.1 in
+    (found.0, found.1, ring-of es rs last total p.doc found.0 s found.1, may.0, may.1)
+steppable es rs last total p End s planned step = tt
 
 pub absent-entry : (es : List Row) (rs : List (List ℕ × ℕ)) (last total : ℕ) (doc : DocId) → IsStoring es rs last total → document_in held_name (map held_in es) doc ≡ None → lookup (same_id doc) es ≡ None
 absent-entry es rs last total doc s missing = not-there es rs last total doc (lookup (same_id doc) es) s refl missing

@@ -6,16 +6,17 @@ use Rattle.usage_docs.specs.declared.keys.Clash.{Clash}
 use Rattle.usage_docs.specs.declared.rows.Key.TheVariants.{Uri}
 use Rattle.doc_names.specs.Same.{same_id}
 use Rattle.doc_names.specs.declared.doc_id.DocId.{DocId}
-use Rattle.edit_ops.specs.Changes.{edited}
+use Rattle.edit_ops.specs.Changes.{Fits, edited}
+use Rattle.edit_ops.specs.Staging.{IsStaged}
 use Rattle.edit_ops.specs.declared.change.Change.{Change}
 use Rattle.edit_ops.specs.declared.change.Change.TheVariants.{CreateDocument, RemoveDocument}
+use Rattle.edit_ops.specs.declared.staged.Staged.{Staged}
 use Rattle.notes.specs.Notes.{Note, note_of}
 use Rattle.notes.specs.Recorded.{note_in}
 use Rattle.notes.specs.declared.edit_note.EditNote.{EditNote}
-use Rattle.xml_tree.specs.Tree.{Tree}
 use Rattle.store_core.specs.declared.entry.Entry.{Entry}
 use Rattle.store_core.specs.declared.step.Step.{Step}
-use Rattle.store_core.specs.declared.step.Step.TheVariants.{Make, Renew, End}
+use Rattle.store_core.specs.declared.step.Step.TheVariants.{Make, Edit, End}
 use Rattle.store_core.specs.declared.refusal.StoreRefusal.{StoreRefusal}
 use Rattle.store_core.specs.declared.refusal.StoreRefusal.TheVariants.{ServiceTaken, TooLarge, TooMany, StoreFull, NoMemory}
 use Rattle.store_core.specs.Held.{Content, Held}
@@ -55,10 +56,11 @@ abbrev pub IsStepOf : Content → Readied → Step → Type 0
 IsStepOf c p (Make entry) =
     (document_in held_name c.documents p.doc ≡ None) × (p.note.change ≡ CreateDocument entry.tree) × (entry ≡ entry_of c.next entry.tree) × (p.leaves ≡ [])
     × (p.enters ≡ addresses_in p.doc.auid entry.tree) × (p.total ≡ total_of c + document_len entry.tree)
-IsStepOf c p (Renew tree kept) =
-    (h : Held) × (document_in held_name c.documents p.doc ≡ Some h) × (act_of p.note.change ≡ Edits) × (tree ≡ edited h.tree p.note.change) × (note_in kept ≡ p.note)
-    × (p.note ≡ note_of h.tag c.next h.tree p.note.change) × (p.leaves ≡ addresses_in p.doc.auid h.tree) × (p.enters ≡ addresses_in p.doc.auid tree)
-    × (p.total + document_len h.tree ≡ total_of c + document_len tree)
+IsStepOf c p (Edit staged kept len) =
+    (h : Held) × (document_in held_name c.documents p.doc ≡ Some h) × (act_of p.note.change ≡ Edits) × IsStaged h.tree p.note.change staged
+    × (len ≡ document_len (edited h.tree p.note.change)) × (note_in kept ≡ p.note) × (p.note ≡ note_of h.tag c.next h.tree p.note.change)
+    × (p.leaves ≡ addresses_in p.doc.auid h.tree) × (p.enters ≡ addresses_in p.doc.auid (edited h.tree p.note.change))
+    × (p.total + document_len h.tree ≡ total_of c + len)
 IsStepOf c p End =
     (h : Held) × (document_in held_name c.documents p.doc ≡ Some h) × (p.note.change ≡ RemoveDocument) × (p.leaves ≡ addresses_in p.doc.auid h.tree) × (p.enters ≡ [])
     × (p.total + document_len h.tree ≡ total_of c)
@@ -76,15 +78,15 @@ pub record IsReady (s : Stored) (p : Readied) : Type 0 where
   pub document : 1 ≤ s.room.documents
   pub services : length p.enters ≤ s.room.services
 
--- a document is held with this tree and tag
-abbrev pub IsHeldWith : Content → DocId → Tree → ℕ → Type 0
-IsHeldWith c doc t tag = (h : Held) × (document_in held_name c.documents doc ≡ Some h) × (h.tree ≡ t) × (h.tag ≡ tag)
+-- a document is held with the tree, the tag and the length of this entry
+abbrev pub IsHeldAs : Content → DocId → Entry → Type 0
+IsHeldAs c doc v = (h : Held) × (document_in held_name c.documents doc ≡ Some h) × (h.tree ≡ v.tree) × (h.tag ≡ v.tag) × (v.len ≡ document_len v.tree)
 
--- an edit with its note, before the store has the room for it
-abbrev pub IsNoted : DocId → Tree → ℕ → ℕ → Tree → Change → List (List ℕ) → ℕ → Readied → Type 0
-IsNoted doc before tag number t change enters total p =
-    (note : EditNote) × (note_in note ≡ note_of tag number before change)
-    × (p ≡ record { doc = doc; note = note_in note; step = Renew t note; leaves = addresses_in doc.auid before; enters = enters; total = total })
+-- an edit of what this entry holds, with its note and its memory, before the store has the room for it
+abbrev pub IsNoted : DocId → Entry → ℕ → Change → ℕ → List (List ℕ) → ℕ → Readied → Type 0
+IsNoted doc v number change len enters total p =
+    (note : EditNote) × (staged : Staged) × (note_in note ≡ note_of v.tag number v.tree change) × IsStaged v.tree change staged
+    × (p ≡ record { doc = doc; note = note_in note; step = Edit staged note len; leaves = addresses_in doc.auid v.tree; enters = enters; total = total })
 
 -- what planning a change answers: the change with its memory, as it was asked for; or the reason against it, or want of memory
 unfoldable pub Plans : Content → DocId → Change → Result Readied StoreRefusal → Type 0
@@ -96,15 +98,16 @@ Plans c doc change (Err e) = (changing c doc change ≡ Err e) ⊎ (e ≡ NoMemo
 -- the number is that under which the document's addresses are entered
 abbrev pub Stepped : List (DocId × Entry) → DocId → ℕ → Step → ℕ → List (DocId × Entry) → Type 0
 Stepped old doc number (Make entry) created new = (new ≡ old ++ (doc, entry) ∷ []) × (created ≡ entry.created)
-Stepped old doc number (Renew tree kept) created new =
-    (v : Entry) × (w : Entry) × (lookup (same_id doc) old ≡ Some v) × IsRenewed v number tree kept w × (new ≡ map (λ e. if same_id doc e.0 then (e.0, w) else e) old)
+Stepped old doc number (Edit staged kept len) created new =
+    (v : Entry) × (w : Entry) × (lookup (same_id doc) old ≡ Some v) × IsRenewed v number kept len w × (new ≡ map (λ e. if same_id doc e.0 then (e.0, w) else e) old)
     × (created ≡ w.created)
 Stepped old doc number End created new = new ≡ filter (λ e. not (same_id doc e.0)) old
 
 -- what a step wants of the entries
 abbrev pub Steppable : List (DocId × Entry) → DocId → Step → Type 0
 Steppable old doc (Make entry) = lookup (same_id doc) old ≡ None
-Steppable old doc (Renew tree kept) = (v : Entry) × (lookup (same_id doc) old ≡ Some v) × (v.notes.capacity ≡ 64)
+Steppable old doc (Edit staged kept len) =
+    (v : Entry) × (lookup (same_id doc) old ≡ Some v) × (v.notes.capacity ≡ 64) × Fits v.tree kept.change × IsStaged v.tree kept.change staged
 Steppable old doc End = Unit {0}
 
 -- ---- a change that is made at once

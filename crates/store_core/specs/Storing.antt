@@ -6,6 +6,7 @@ use Rattle.std.specs.Map.{lookup}
 use Rattle.std.specs.Str.{bytes_eq}
 use Rattle.circular_buffer.specs.Buffer.{buffer}
 use Rattle.xml_tree.specs.Tree.{Tree}
+use Rattle.edit_ops.specs.Changes.{edited}
 use Rattle.usage_docs.specs.Services.{document_len}
 use Rattle.doc_names.specs.declared.doc_id.DocId.{DocId}
 use Rattle.notes.specs.Recorded.{note_in}
@@ -52,13 +53,14 @@ number_in e = e.1.created
 
 -- the entry of a document that is made with this number
 abbrev pub entry_of : ℕ → Tree → Entry
-entry_of number t = record { created = number; tag = number; tree = t; notes = buffer [] 64 }
+entry_of number t = record { created = number; tag = number; tree = t; len = document_len t; notes = buffer [] 64 }
 
--- the entry of a document after an edit, whose note is kept
-pub record IsRenewed (old : Entry) (number : ℕ) (t : Tree) (note : EditNote) (new : Entry) : Type 0 where
+-- the entry of a document after the edit of a note, which is kept, and which left so many bytes
+pub record IsRenewed (old : Entry) (number : ℕ) (note : EditNote) (bytes : ℕ) (new : Entry) : Type 0 where
   pub created : new.created ≡ old.created
   pub tag : new.tag ≡ number
-  pub tree : new.tree ≡ t
+  pub tree : new.tree ≡ edited old.tree note.change
+  pub len : new.len ≡ bytes
   pub notes : map note_in new.notes.items ≡ retained (map note_in old.notes.items ++ note_in note ∷ [])
   pub capacity : new.notes.capacity ≡ 64
 
@@ -105,3 +107,5 @@ pub record IsStoring (es : List (DocId × Entry)) (rs : List (List ℕ × ℕ)) 
   pub sum : total ≡ sum_by len_in es
   -- each document has room for the notes that may be retained
   pub rings : AllByRecursion (λ e. e.1.notes.capacity ≡ 64) es
+  -- the length that is kept of each is the one that it has
+  pub lens : AllByRecursion (λ e. e.1.len ≡ len_in e) es

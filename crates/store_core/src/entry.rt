@@ -1,11 +1,15 @@
 //! One document as the store keeps it, with the notes that are retained of its changes (RFC 5874, section 3).
 ghost use Rattle.std.specs.Prelude.{◌≡◌, ◌<◌, ◌++◌, ◌∷◌, [], true, false, length, map, min, nat_le, sum_by, IfOk};
+ghost use Rattle.edit_ops.specs.Changes.{Fits};
+ghost use Rattle.edit_ops.specs.Staging.{IsStaged};
 ghost use Rattle.notes.specs.Operations.{weight};
 ghost use Rattle.notes.specs.Recorded.{note_in};
+ghost use Rattle.usage_docs.specs.Services.{document_len};
 ghost use Rattle.store_core.specs.State.{is_small, retained};
 ghost use Rattle.store_core.specs.Storing.{IsRenewed, entry_of};
 
 use circular_buffer::HeapCircularBuffer;
+use edit_ops::{Staged, make_staged};
 use notes::{EditNote, weight};
 use std::alloc::{AllocError, Global};
 use xml_tree::Element;
@@ -17,18 +21,25 @@ const MOST_WEIGHT: usize = 65_536;
 
 pub(crate) type NoteRing = HeapCircularBuffer<EditNote>;
 
-/// A document: the number that its creation took, its tag and its tree, and the notes that are retained.
+/// A document: the number that its creation took, its tag, its tree and the bytes of its print, and the notes that are retained.
 #[derive(Drop)]
 pub struct Entry {
     pub(crate) created: u64,
     pub(crate) tag: u64,
     pub(crate) tree: Element,
+    pub(crate) len: usize,
     pub(crate) notes: NoteRing,
 }
 
 impl Entry {
-    /// A document that is made with this number, with the memory for its notes.
-    pub(crate) fn new(alloc: Global, number: u64, tree: Element) -> Result<Entry, AllocError>
+    /// A document that is made with this number, of so many bytes, with the memory for its notes.
+    pub(crate) fn new(
+        alloc: Global,
+        number: u64,
+        tree: Element,
+        len: usize,
+    ) -> Result<Entry, AllocError>
+        requires { len ≡ document_len tree }
         ensures { IfOk result (λ made. made ≡ entry_of number tree) }
     {
         let notes = HeapCircularBuffer::with_capacity(alloc, MOST_NOTES)?;
@@ -36,19 +47,23 @@ impl Entry {
             created: number,
             tag: number,
             tree,
+            len,
             notes,
         })
     }
 }
 
-/// Gives a document the tree that an edit left, with its number as the tag, and keeps the edit's note.
-pub(crate) fn renew(entry: &mut Entry, number: u64, tree: Element, note: EditNote)
-    requires { entry.old.notes.capacity ≡ 64 }
-    ensures { IsRenewed entry.old number tree note entry.new }
+/// Makes the edit of a note in a document, which then has so many bytes and the edit's number as its tag, and keeps the note.
+pub(crate) fn renew(entry: &mut Entry, number: u64, staged: Staged, note: EditNote, len: usize)
+    requires ring { entry.old.notes.capacity ≡ 64 }
+    requires fits { Fits entry.old.tree note.change }
+    requires staged { IsStaged entry.old.tree note.change staged }
+    ensures { IsRenewed entry.old number note len entry.new }
 {
-    keep(&mut entry.notes, note);
+    make_staged(&mut entry.tree, &note.change, staged);
+    entry.len = len;
     entry.tag = number;
-    entry.tree = tree;
+    keep(&mut entry.notes, note);
 }
 
 // How much notes weigh together; the greatest number where it is more.

@@ -1,5 +1,6 @@
 //! Changes of documents: each first takes all its memory, and then can't fail.
 ghost use Rattle.std.specs.Prelude.{◌≡◌, ◌≤◌, ◌+◌, ◌⊎◌, [], ◌∷◌, Err, IfErr, IfOk, IsSome, IsSomeAnd, None, Ok, Some, false, min, true};
+ghost use Rattle.xml_tree.specs.Tree.{Tree};
 ghost use Rattle.usage_docs.specs.Services.{document_len};
 ghost use Rattle.usage_docs.specs.declared.rows.Key.TheVariants as keys;
 ghost use Rattle.edit_ops.specs.declared.change.Change.TheVariants as changes;
@@ -8,7 +9,7 @@ ghost use Rattle.store_core.specs.Asking.{Asks};
 ghost use Rattle.store_core.specs.Changing.{Edits, act_of, against_number, against_tree, changing, content_after, document_in, held_name, other_lengths};
 ghost use Rattle.store_core.specs.Keeping.{addresses_in};
 ghost use Rattle.edit_ops.specs.Changes.{Fits, edited};
-ghost use Rattle.store_core.specs.Preparing.{IsHeldWith, IsNoted, IsReady, Plans, refused_for, total_of};
+ghost use Rattle.store_core.specs.Preparing.{IsHeldAs, IsNoted, IsReady, Plans, refused_for, total_of};
 ghost use Rattle.store_core.specs.Storing.{entry_of};
 ghost use Rattle.store_core.specs.declared.step.Step.TheVariants as steps;
 ghost use Rattle.notes.specs.Recorded.{note_in};
@@ -16,11 +17,11 @@ ghost use Rattle.notes.specs.Recorded.{note_in};
 use crate::entry::Entry;
 use crate::prepared::Prepared;
 use crate::refusal::StoreRefusal;
-use crate::registry::{addresses, first_taken};
+use crate::registry::{addresses, addresses_after, first_taken};
 use crate::step::{Step, find};
 use crate::store::Store;
 use doc_names::DocId;
-use edit_ops::{Change, rebuilt};
+use edit_ops::{Change, Staged, printed_len_after, stage};
 use notes::EditNote;
 use std::alloc::{AllocError, Global};
 use usage_docs::{Clash, Key};
@@ -41,6 +42,15 @@ fn document_len(root: &Element) -> usize
     ensures { result ≡ min (document_len root.now) usize.MAX }
 {
     printed_len(root).saturating_add(HEAD_LEN)
+}
+
+// How many bytes a document that has so many has after a change; the greatest number where it has more.
+fn len_after(root: &Element, len: usize, change: &Change) -> usize
+    requires fits { Fits root.now change.now }
+    requires len { len ≡ document_len root.now }
+    ensures { result ≡ min (document_len (edited root.now change.now)) usize.MAX }
+{
+    printed_len_after(root, len - HEAD_LEN, change).saturating_add(HEAD_LEN)
 }
 
 // The clash of the service at this place.
@@ -85,9 +95,11 @@ fn creation(
     doc: &DocId,
     root: Element,
     number: u64,
+    len: usize,
     enters: List<Text>,
     total: u64,
 ) -> Result<Prepared, AllocError>
+    requires { len ≡ document_len root }
     ensures { IfOk result (λ p. p ≡ record {
       doc = doc.now;
       note = record { previous = 0; next = number; bindings = []; change = changes.CreateDocument root; fresh = false };
@@ -99,7 +111,7 @@ fn creation(
 {
     let doc = doc.copy(alloc)?;
     let tree = copy_tree(alloc, &root)?;
-    let entry = Entry::new(alloc, number, tree)?;
+    let entry = Entry::new(alloc, number, tree, len)?;
     let change = Change::CreateDocument { root };
     Ok(Prepared {
         doc,
@@ -111,12 +123,13 @@ fn creation(
     })
 }
 
-// A document that is edited.
+// A document that is edited, with the note of the change and what it brings.
 fn edit(
     alloc: Global,
     doc: &DocId,
-    tree: Element,
+    staged: Staged,
     note: EditNote,
+    len: usize,
     leaves: List<Text>,
     enters: List<Text>,
     total: u64,
@@ -124,7 +137,7 @@ fn edit(
     ensures { IfOk result (λ p. p ≡ record {
       doc = doc.now;
       note = note_in note;
-      step = steps.Renew tree note;
+      step = steps.Edit staged note len;
       leaves = leaves;
       enters = enters;
       total = total;
@@ -135,7 +148,7 @@ fn edit(
     Ok(Prepared {
         doc,
         note,
-        step: Step::Renew(tree, kept),
+        step: Step::Edit { staged, kept, len },
         leaves,
         enters,
         total,
@@ -171,24 +184,24 @@ fn removal(
     })
 }
 
-// A document that is edited, with the note of the change.
+// A document that is edited, whose addresses, length and total are known.
 fn noted(
     alloc: Global,
     doc: &DocId,
-    before: &Element,
-    tag: u64,
+    entry: &Entry,
     number: u64,
-    tree: Element,
     change: Change,
+    len: usize,
     enters: List<Text>,
     total: u64,
 ) -> Result<Prepared, AllocError>
-    requires { Fits before.now change }
-    ensures { IfOk result (λ p. IsNoted doc.now before.now tag number tree change enters total p) }
+    requires { Fits entry.now.tree change }
+    ensures { IfOk result (λ p. IsNoted doc.now entry.now number change len enters total p) }
 {
-    let leaves = addresses(alloc, doc.auid, before)?;
-    let note = EditNote::of(alloc, tag, number, before, change)?;
-    edit(alloc, doc, tree, note, leaves, enters, total)
+    let leaves = addresses(alloc, doc.auid, &entry.tree)?;
+    let staged = stage(alloc, &entry.tree, &change)?;
+    let note = EditNote::of(alloc, entry.tag, number, &entry.tree, change)?;
+    edit(alloc, doc, staged, note, len, leaves, enters, total)
 }
 
 impl Store {
@@ -203,15 +216,25 @@ impl Store {
         }
     }
 
-    // The first reason against a tree of a document that isn't held, whose service addresses are these.
-    fn refusal_of_new(&self, doc: &DocId, root: &Element, uris: &[Text]) -> Option<StoreRefusal>
-        requires absent { document_in held_name self.now.content.documents doc.now ≡ None }
-        requires uris { uris.now ≡ addresses_in doc.now.auid root.now }
-        ensures { result ≡ against_tree self.now.content doc.now true root.now }
+    // The first reason against a tree of a document that isn't held, by the tree's length and its service addresses.
+    fn refusal_of_new(&self, doc: &DocId, len: usize, uris: &[Text]) -> Option<StoreRefusal>
+        requires { document_in held_name self.now.content.documents doc.now ≡ None }
+        ensures { (t : Tree) → len ≡ min (document_len t) usize.MAX → uris.now ≡ addresses_in doc.now.auid t → result ≡ against_tree self.now.content doc.now true t }
     {
         let place = first_taken(&self.services, uris, None);
         let is_full = self.documents.len() >= MOST_DOCUMENTS;
-        refused_for(place, document_len(root), is_full, self.total)
+        refused_for(place, len, is_full, self.total)
+    }
+
+    // The entry of a document that is held.
+    fn held(&self, doc: &DocId) -> &Entry
+        requires { IsSome (document_in held_name self.now.content.documents doc.now) }
+        ensures { IsHeldAs self.now.content doc.now result.now }
+    {
+        match find(&self.documents, doc) {
+            Some(entry) => entry,
+            None => unreachable!(),
+        }
     }
 
     // How many bytes the documents beside one have that is held.
@@ -224,22 +247,19 @@ impl Store {
         let Some(entry) = find(&self.documents, doc) else {
             unreachable!()
         };
-        self.total - document_len(&entry.tree) as u64
+        self.total - entry.len as u64
     }
 
-    // The first reason against a new tree of a document that is held, where the tree's service addresses are these.
-    fn refusal_of_edit(&self, doc: &DocId, tree: &Element, uris: &[Text]) -> Option<StoreRefusal>
-        requires held { IsSome (document_in held_name self.now.content.documents doc.now) }
-        requires uris { uris.now ≡ addresses_in doc.now.auid tree.now }
-        ensures { result ≡ against_tree self.now.content doc.now false tree.now }
+    // The first reason against a new tree of a document that is held, by the tree's length and its service addresses.
+    fn refusal_of_edit(&self, doc: &DocId, len: usize, uris: &[Text]) -> Option<StoreRefusal>
+        requires { IsSome (document_in held_name self.now.content.documents doc.now) }
+        ensures { (t : Tree) → len ≡ min (document_len t) usize.MAX → uris.now ≡ addresses_in doc.now.auid t → result ≡ against_tree self.now.content doc.now false t }
     {
         let Some(entry) = find(&self.documents, doc) else {
             unreachable!()
         };
         let place = first_taken(&self.services, uris, Some(entry.created));
-        let before = document_len(&entry.tree);
-        let others = self.total - before as u64;
-        let len = document_len(tree);
+        let others = self.total - entry.len as u64;
         refused_for(place, len, false, others)
     }
 
@@ -249,44 +269,14 @@ impl Store {
         ensures { Plans self.now.content doc.now (changes.CreateDocument root) result }
     {
         let enters = addresses(self.alloc, doc.auid, &root)?;
-        if let Some(refusal) = self.refusal_of_new(doc, &root, enters.as_slice()) {
+        let len = document_len(&root);
+        if let Some(refusal) = self.refusal_of_new(doc, len, enters.as_slice()) {
             return Err(refusal);
         }
         let number = self.next_number()?;
-        let len = document_len(&root);
         let sum = self.total();
         let total = sum.saturating_add(len as u64);
-        let prepared = creation(self.alloc, doc, root, number, enters, total)?;
-        Ok(prepared)
-    }
-
-    // Plans to give a document another tree, which is there.
-    fn plan_tree(
-        &self,
-        doc: &DocId,
-        before: &Element,
-        tag: u64,
-        tree: Element,
-        change: Change,
-    ) -> Result<Prepared, StoreRefusal>
-        requires held { IsHeldWith self.now.content doc.now before.now tag }
-        requires fits { Fits before.now change }
-        requires tree { tree ≡ edited before.now change }
-        requires asks { Asks self.now.content doc.now change }
-        requires edits { act_of change ≡ Edits }
-        ensures { Plans self.now.content doc.now change result }
-    {
-        let enters = addresses(self.alloc, doc.auid, &tree)?;
-        if let Some(refusal) = self.refusal_of_edit(doc, &tree, enters.as_slice()) {
-            return Err(refusal);
-        }
-        let number = self.next_number()?;
-        let others = self.total_without(doc);
-        let len = document_len(&tree);
-        let total = others.saturating_add(len as u64);
-        let prepared = noted(
-            self.alloc, doc, before, tag, number, tree, change, enters, total,
-        )?;
+        let prepared = creation(self.alloc, doc, root, number, len, enters, total)?;
         Ok(prepared)
     }
 
@@ -296,11 +286,17 @@ impl Store {
         requires edits { act_of change ≡ Edits }
         ensures { Plans self.now.content doc.now change result }
     {
-        let Some((before, tag)) = self.get(doc) else {
-            unreachable!()
-        };
-        let tree = rebuilt(self.alloc, before, &change)?;
-        self.plan_tree(doc, before, tag, tree, change)
+        let entry = self.held(doc);
+        let enters = addresses_after(self.alloc, doc.auid, &entry.tree, &change)?;
+        let len = len_after(&entry.tree, entry.len, &change);
+        if let Some(refusal) = self.refusal_of_edit(doc, len, enters.as_slice()) {
+            return Err(refusal);
+        }
+        let number = self.next_number()?;
+        let others = self.total_without(doc);
+        let total = others.saturating_add(len as u64);
+        let prepared = noted(self.alloc, doc, entry, number, change, len, enters, total)?;
+        Ok(prepared)
     }
 
     // Plans to take a document away.

@@ -4,14 +4,16 @@ ghost use Rattle.std.specs.Map.{lookup};
 ghost use Rattle.std.specs.Option.{option_copied};
 ghost use Rattle.indexmap.specs.IndexMap.{spare};
 ghost use Rattle.doc_names.specs.Same.{same_id};
+ghost use Rattle.edit_ops.specs.Changes.{Fits};
+ghost use Rattle.edit_ops.specs.Staging.{IsStaged};
 ghost use Rattle.store_core.specs.declared.entry.Entry.{Entry as Held};
 ghost use Rattle.store_core.specs.Storing.{IsRenewed};
 
 use crate::entry::{Entry, renew};
 use doc_names::DocId;
+use edit_ops::Staged;
 use indexmap::IndexMap;
 use notes::EditNote;
-use xml_tree::Element;
 
 pub(crate) type Documents = IndexMap<DocId, Entry>;
 
@@ -20,8 +22,12 @@ pub(crate) type Documents = IndexMap<DocId, Entry>;
 pub enum Step {
     /// It is made.
     Make(Entry),
-    /// It gets this tree, and this note is kept.
-    Renew(Element, EditNote),
+    /// The edit of a note is made in it, which leaves so many bytes, and the note is kept.
+    Edit {
+        staged: Staged,
+        kept: EditNote,
+        len: usize,
+    },
     /// It is taken out.
     End,
 }
@@ -42,21 +48,22 @@ fn make(documents: &mut Documents, doc: DocId, entry: Entry)
     documents.insert(doc, entry).unwrap();
 }
 
-// Gives a document that is there the tree of an edit and keeps its note, and answers the number of the document's creation.
+// Makes the edit of a note in a document that is there and keeps the note, and answers the number of the document's creation.
 fn exchange(
     documents: &mut Documents,
     doc: &DocId,
     number: u64,
-    tree: Element,
+    staged: Staged,
     note: EditNote,
+    len: usize,
 ) -> u64
-    requires { (v : Held) × (lookup (same_id doc.now) documents.old.entries ≡ Some v) × (v.notes.capacity ≡ 64) }
-    ensures { (v : Held) × (w : Held) × (lookup (same_id doc.now) documents.old.entries ≡ Some v) × IsRenewed v number tree note w
+    requires { (v : Held) × (lookup (same_id doc.now) documents.old.entries ≡ Some v) × (v.notes.capacity ≡ 64) × Fits v.tree note.change × IsStaged v.tree note.change staged }
+    ensures { (v : Held) × (w : Held) × (lookup (same_id doc.now) documents.old.entries ≡ Some v) × IsRenewed v number note len w
         × (documents.new.entries ≡ map (λ e. if same_id doc.now e.0 then (e.0, w) else e) documents.old.entries) × (result ≡ w.created) }
 {
     match documents.get_mut(doc) {
         Some(entry) => {
-            renew(entry, number, tree, note);
+            renew(entry, number, staged, note, len);
             entry.created
         }
         None => unreachable!(),
@@ -86,7 +93,9 @@ impl Step {
                 make(documents, doc, entry);
                 created
             }
-            Step::Renew(tree, note) => exchange(documents, &doc, number, tree, note),
+            Step::Edit { staged, kept, len } => {
+                exchange(documents, &doc, number, staged, kept, len)
+            }
             Step::End => {
                 end(documents, &doc);
                 number

@@ -1,18 +1,26 @@
 use Rattle.std.proofs.Common.{◌≡◌, Some, refl, sym, subst, ◌∙◌}
-use Rattle.std.proofs.lemmas.Option.{same_Some}
 use Rattle.std.specs.Map.{lookup}
 use Rattle.doc_names.specs.Same.{same_id}
+use Rattle.edit_ops.specs.Changes.{Fits}
+use Rattle.edit_ops.specs.Staging.{IsStaged}
 use Rattle.store_core.specs.declared.entry.Entry.{Entry}
-use Rattle.store_core.proofs.Keyed.{exchanged-in, looked-up}
+use Rattle.store_core.proofs.Keyed.{exchanged-in, looked-up, one-value}
 use Rattle.store_core.proofs.step.exchange.Goals as goal
 
-pub renew-requires : goal.renew-requires
-renew-requires c =
-    let es = c.args.documents.now.entries in
-    let doc = c.args.doc.now in
-    let there : lookup (same_id doc) es ≡ Some c.in-Some.entry.now = sym (looked-up doc es) ∙ sym c.in-Some.ensures.value in
-    let same : c.requires.0 ≡ c.in-Some.entry.now = same_Some c.requires.0 c.in-Some.entry.now (sym c.requires.1 ∙ there) in
-    subst (λ (v : Entry). v.notes.capacity ≡ 64) same c.requires.2
+pub renew-requires-clause-ring : goal.renew-requires-clause-ring
+renew-requires-clause-ring c =
+    let r = c.requires in
+    subst (λ (v : Entry). v.notes.capacity ≡ 64) (one-value c.args.doc.now c.args.documents.now.entries r.0 c.in-Some.entry.now r.1 c.in-Some.ensures.value) r.2
+
+pub renew-requires-clause-fits : goal.renew-requires-clause-fits
+renew-requires-clause-fits c =
+    let r = c.requires in
+    subst (λ (v : Entry). Fits v.tree c.args.note.change) (one-value c.args.doc.now c.args.documents.now.entries r.0 c.in-Some.entry.now r.1 c.in-Some.ensures.value) r.3
+
+pub renew-requires-clause-staged : goal.renew-requires-clause-staged
+renew-requires-clause-staged c =
+    let r = c.requires in
+    subst (λ (v : Entry). IsStaged v.tree c.args.note.change c.args.staged) (one-value c.args.doc.now c.args.documents.now.entries r.0 c.in-Some.entry.now r.1 c.in-Some.ensures.value) r.4
 
 pub returns : goal.returns
 returns c =

@@ -9,21 +9,21 @@ pub unreachable-requires : goal.unreachable-requires
 unreachable-requires c =
     let s = c.self.inside in
     let room : Room = record { documents = spare s.documents; services = spare s.services } in
-    no-entry s.documents.entries s.last room c.args.self.now c.args.doc.now c.self.view_is (rw c.in_default.is at c.find.ensures) c.requires.held
+    no-entry s.documents.entries s.last room c.args.self.now c.args.doc.now c.self.view_is (rw c.in_default.is at c.find.ensures) c.requires
 
 pub overflow_sub-others : goal.overflow_sub-others
 overflow_sub-others c =
     let s = c.self.inside in
     let room : Room = record { documents = spare s.documents; services = spare s.services } in
-    no-longer s.documents.entries s.services.entries s.last s.total room c.args.self.now c.args.doc.now c.self.view_is c.self.invariant c.in-Some.entry.now c.in-Some.ensures c.document_len-before.result c.document_len-before.ensures
+    no-longer s.documents.entries s.services.entries s.last s.total room c.args.self.now c.args.doc.now c.self.view_is c.self.invariant c.in-Some.entry.now c.in-Some.ensures
 
 pub refused_for-requires : goal.refused_for-requires
 refused_for-requires c = let s = c.self.inside in omega (arith, total-small s.documents.entries s.services.entries s.last s.total c.self.invariant)
 
 pub returns : goal.returns
-returns c =
+returns c = λ t counted own.
     let s = c.self.inside in
     let room : Room = record { documents = spare s.documents; services = spare s.services } in
     c.refused_for.ensures
-    ∙ edit-answer s.documents.entries s.services.entries s.last s.total room c.args.self.now c.args.doc.now c.self.view_is c.self.invariant c.in-Some.entry.now c.in-Some.ensures c.args.tree.now c.args.uris.now
-    c.first_taken-place.result c.document_len-len.result c.document_len-before.result c.requires.uris c.first_taken-place.ensures c.document_len-len.ensures c.document_len-before.ensures
+    ∙ edit-answer s.documents.entries s.services.entries s.last s.total room c.args.self.now c.args.doc.now c.self.view_is c.self.invariant c.in-Some.entry.now c.in-Some.ensures t c.args.uris.now
+    c.first_taken-place.result c.args.len own c.first_taken-place.ensures counted

@@ -1,0 +1,17 @@
+use Rattle.indexmap.specs.IndexMap.{spare}
+use Rattle.store_core.specs.Storing.{Room}
+use Rattle.store_core.proofs.Planning.{held-as}
+use Rattle.store_core.proofs.Stored.{no-entry}
+use Rattle.store_core.proofs.store.Store.held.Goals as goal
+
+pub unreachable-requires : goal.unreachable-requires
+unreachable-requires c =
+    let s = c.self.inside in
+    let room : Room = record { documents = spare s.documents; services = spare s.services } in
+    no-entry s.documents.entries s.last room c.args.self.now c.args.doc.now c.self.view_is (rw c.in-None.is at c.find.ensures) c.requires
+
+pub returns : goal.returns
+returns c =
+    let s = c.self.inside in
+    let room : Room = record { documents = spare s.documents; services = spare s.services } in
+    held-as s.documents.entries s.services.entries s.last s.total room c.args.self.now c.args.doc.now c.self.view_is c.self.invariant c.in-Some.entry.now c.in-Some.ensures
