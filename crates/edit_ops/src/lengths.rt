@@ -4,7 +4,7 @@ ghost use Rattle.std.specs.Prelude.{◌≡◌, ◌<◌, ◌+◌, flat_map, lengt
 ghost use Rattle.std.specs.List.{find};
 ghost use Rattle.xml_tree.specs.Tree.{kids_of};
 ghost use Rattle.xml_tree.specs.Attributes.{is_named};
-ghost use Rattle.xml_tree.specs.Edits.{cut, final};
+ghost use Rattle.xml_tree.specs.Edits.{cut};
 ghost use Rattle.xml_tree.specs.Print.{byte_len, is_empty, print, print_attr};
 ghost use Rattle.edit_ops.specs.Changes.{Fits, edited};
 ghost use Rattle.edit_ops.specs.Lengths.{brought, end_tag_len, lost};

@@ -1,8 +1,8 @@
 //! Whether a selected child may be taken out, seen from its parent alone (RFC 4825, section 8.4).
-ghost use Rattle.std.specs.Prelude.{◌≡◌, ◌↔◌, ◌<◌, ◌≤◌, ℕ, IsTrue, IsSome, Some, length, remove, suc};
+ghost use Rattle.std.specs.Prelude.{◌≡◌, ◌↔◌, ◌<◌, ◌≤◌, ℕ, IsTrue, Some, length, remove, suc};
 ghost use Rattle.std.specs.Option.{ForSome};
 ghost use Rattle.step_laws.specs.Edits.{IsNextMatch};
-ghost use Rattle.xml_tree.specs.Tree.{at, kids_of};
+ghost use Rattle.xml_tree.specs.Tree.{kids_of};
 ghost use Rattle.node_select.specs.Selection.{SelectsChild, is_named, is_tested};
 ghost use Rattle.usage_docs.specs.Reading.Gaps.{part_before, part_after};
 ghost use Rattle.plan_words.specs.Plans.{OrMemory};

@@ -1,6 +1,6 @@
 //! What a new element is beside its siblings (RFC 4826, sections 3.2 and 4.2): the first clash that
 //! it makes.
-ghost use Rattle.std.specs.Prelude.{◌≡◌, ◌↔◌, ◌<◌, ◌≤◌, ◌+◌, ◌++◌, ◌∷◌, ◌^◌, ℕ, List, [], chars, length, suc, IsTrue, IfOk, IfSome, Some, None};
+ghost use Rattle.std.specs.Prelude.{◌≡◌, ◌↔◌, ◌<◌, ◌≤◌, ◌+◌, ◌++◌, ◌∷◌, ◌^◌, ℕ, List, [], chars, length, IsTrue, IfOk, IfSome, Some, None};
 ghost use Rattle.xml_tree.specs.Tree.{height, kids_of};
 ghost use Rattle.usage_docs.specs.declared.rows.Key.{Key};
 ghost use Rattle.usage_docs.specs.Keys.{key_of, value_of};

@@ -1,5 +1,5 @@
 // Chunked bodies, decoded as their bytes come.
-ghost use Rattle.std.specs.Prelude.{◌≡◌, ℕ, ◌<◌, ◌≤◌, ◌+◌, length, take, true, false, IfOk};
+ghost use Rattle.std.specs.Prelude.{◌≡◌, ◌<◌, ◌≤◌, ◌+◌, length, take, false, IfOk};
 ghost use Rattle.http_wire.specs.Decoding.{Decoding, start, is_settled, is_data, after_digits, in_digits, in_extension, after_line, in_trailers, if_feed, next_stage, next_decoding, ReadsOn, Fits};
 
 use crate::wire::MAX_BODY;

@@ -3,6 +3,8 @@ pub mod Admitted
 pub mod Admits
 pub mod Apart
 pub mod Asked
+pub mod Bridge
+pub mod Chains
 pub mod Committed
 pub mod Ends
 pub mod Entries
@@ -18,3 +20,4 @@ pub mod Rings
 pub mod Services
 pub mod Standing
 pub mod Stored
+pub mod TellingSince

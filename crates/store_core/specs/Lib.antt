@@ -1,11 +1,13 @@
 pub mod Asking
 pub mod Changing
 pub mod Held
+pub mod History
 pub mod Indexes
 pub mod Keeping
 pub mod Listed
 pub mod Preparing
 pub mod Since
 pub mod State
+pub mod Stories
 pub mod Storing
 pub mod Suiting

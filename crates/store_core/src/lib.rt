@@ -11,6 +11,7 @@ mod prepared;
 mod preparing;
 mod refusal;
 mod registry;
+mod since;
 mod step;
 mod store;
 
@@ -21,5 +22,6 @@ pub use laws::{
 };
 pub use prepared::Prepared;
 pub use refusal::StoreRefusal;
+pub use since::{Since, notes_since_a_version_lead_from_it};
 pub use std::alloc::AllocError as NoMemory;
 pub use store::Store;

@@ -1,5 +1,5 @@
 // A port in memory, for tests and for programs over known bytes.
-ghost use Rattle.std.specs.Prelude.{◌≡◌, ◌<◌, [], length, None, Some, IsTrue, ◌↔◌, option_copied, slice_get};
+ghost use Rattle.std.specs.Prelude.{◌≡◌, ◌<◌, length, None, Some, IsTrue, ◌↔◌, option_copied, slice_get};
 ghost use Rattle.std.specs.Io.{ReadsAtMost};
 ghost use Rattle.xcap_io.specs.Causes.{OnlyReads, OnlyWrites};
 ghost use Rattle.xcap_io.specs.Connections.{Listens, OnlyNext};

@@ -1,6 +1,6 @@
 // Real sockets. These few lines are the trusted edge: no contract says that what a call of the system gives came over the
 // network, or that what it takes goes there. Which bytes each call gave and took, and on which connection, is told.
-ghost use Rattle.std.specs.Prelude.{◌≡◌, ◌<◌, ◌≤◌, ℕ, [], None, Some, false, length, take, IfOk, OnOk, OnErr, IsSome, IfSome, IsTrue, MatchResult};
+ghost use Rattle.std.specs.Prelude.{◌≡◌, ◌<◌, ◌≤◌, [], None, Some, false, length, take, IfOk, OnOk, OnErr, IsSome, IfSome, IsTrue, MatchResult};
 ghost use Rattle.std.specs.Io.{ReadsAtMost};
 ghost use Rattle.xcap_io.specs.Causes.{Counts, OnlyReads, OnlyWrites, inward_of, no_inward, no_port, no_peer, none_begun};
 ghost use Rattle.xcap_io.specs.Connections.{Listens, OnlyConnects, OnlyNext, carried};

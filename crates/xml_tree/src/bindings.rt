@@ -1,5 +1,5 @@
 //! All bindings of a scope, in the order of their prefixes.
-ghost use Rattle.std.specs.Prelude.{◌≡◌, [], map, filter, IfOk, OnOk};
+ghost use Rattle.std.specs.Prelude.{◌≡◌, map, filter, IfOk, OnOk};
 ghost use Rattle.xml_tree.specs.Scopes.{bindings_in, binds, gathered};
 ghost use Rattle.xml_tree.specs.Gathering.{AreKeyed, values_in};
 

@@ -1,0 +1,14 @@
+use Rattle.std.proofs.Common.{◌≡◌, ℕ, List, [], IfOk, encode_utf8_all, subst, ap, ◌∙◌}
+use Rattle.xml_tree.specs.Tree.{Tree}
+use Rattle.doc_names.specs.Ids.{id_text}
+use Rattle.tree_text.specs.Printing.{document_print}
+use Rattle.patch_words.specs.Notices.{diff}
+use Rattle.patch_text.proofs.Built.{gone_is}
+use Rattle.patch_text.proofs.notices.gone_notice.Goals as goal
+
+pub returns : goal.returns
+returns c =
+    let p = c.in_ok-from.field-0 in
+    let is = gone_is c.in_ok-from.field-0 c.in_ok-print_doc_id.field-0 c.args.root.now (id_text c.args.doc.now) c.args.from c.in_ok-notice.notice c.in_ok-removed.field-0 c.push_elem.new.self
+    c.in_ok-from.ensures c.in_ok-print_doc_id.ensures (c.in_ok-notice.ensures ∙ ap (λ (r : List ℕ). diff p r []) c.text.ensures.text) c.in_ok-removed.ensures c.in_ok-push_elem.ensures.ok in
+    subst (λ (t : Tree). IfOk c.print_document.result (λ bytes. bytes ≡ encode_utf8_all (document_print t))) is c.print_document.ensures

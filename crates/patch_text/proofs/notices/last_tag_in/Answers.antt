@@ -1,0 +1,10 @@
+use Rattle.std.proofs.Common.{ℕ, ap, map, ◌∙◌}
+use Rattle.notes.specs.Notes.{tag_after}
+use Rattle.notes.specs.Recorded.{note_in}
+use Rattle.patch_text.proofs.Listing.{tag-joined}
+use Rattle.patch_text.proofs.notices.last_tag_in.Goals as goal
+
+pub returns : goal.returns
+returns c =
+    let newer = c.args.notes.newer.now in
+    c.last_tag-2.ensures ∙ ap (λ (k : ℕ). tag_after k (map note_in newer)) c.last_tag.ensures ∙ tag-joined c.args.from c.args.notes.older.now newer

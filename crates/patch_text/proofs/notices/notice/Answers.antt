@@ -1,0 +1,17 @@
+use Rattle.std.proofs.Common.{◌≡◌, ℕ, List, [], IfOk, encode_utf8_all, subst, ap, ◌∙◌}
+use Rattle.xml_tree.specs.Tree.{Tree}
+use Rattle.doc_names.specs.Ids.{id_text}
+use Rattle.notes.specs.Recorded.{joined}
+use Rattle.tree_text.specs.Printing.{document_print}
+use Rattle.patch_words.specs.Notices.{diff}
+use Rattle.patch_text.proofs.Built.{notice_is}
+use Rattle.patch_text.proofs.notices.notice.Goals as goal
+
+pub returns : goal.returns
+returns c =
+    let p = c.in_ok-prefix_for.field-0 in
+    let ns = joined c.args.notes.older.now c.args.notes.newer.now in
+    let told = joined c.told.result.older.now c.told.result.newer.now in
+    let is = notice_is c.args.mode c.in_ok-prefix_for.field-0 c.in_ok-print_doc_id.field-0 c.args.root.now (id_text c.args.doc.now) c.args.from told ns c.in_ok-notice.notice c.push_documents.new.notice
+    c.told.ensures c.in_ok-prefix_for.ensures c.in_ok-print_doc_id.ensures (c.in_ok-notice.ensures ∙ ap (λ (r : List ℕ). diff p r []) c.text.ensures.text) c.in_ok-push_documents.ensures in
+    subst (λ (t : Tree). IfOk c.print_document.result (λ bytes. bytes ≡ encode_utf8_all (document_print t))) is c.print_document.ensures

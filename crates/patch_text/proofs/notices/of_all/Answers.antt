@@ -1,0 +1,11 @@
+use Rattle.std.proofs.Common.{[], ◌∷◌, codes}
+use Rattle.notes.specs.Operations.{in_diff, operation, plain}
+use Rattle.patch_words.specs.Notices.{tag_attr}
+use Rattle.patch_text.proofs.Listing.{two-put}
+use Rattle.patch_text.proofs.notices.of_all.Goals as goal
+
+pub returns : goal.returns
+returns c =
+    let p = c.args.names.now.prefix in
+    two-put (operation p) (in_diff p (codes "document")) [] (plain (codes "sel") c.args.names.now.sel ∷ tag_attr (codes "new-etag") c.args.to ∷ tag_attr (codes "previous-etag") c.args.from ∷ []) c.args.notes.older.now c.args.notes.newer.now
+    c.in_ok-made.made c.push_operations.new.document c.push_operations-2.new.document c.in_ok-made.ensures c.in_ok-push_operations.ensures c.in_ok-push_operations-2.ensures

@@ -1,0 +1,21 @@
+use Rattle.std.proofs.Common.{List, ap, map, ◌∙◌}
+use Rattle.std.proofs.lemmas.List.{take_all}
+use Rattle.xml_tree.specs.Edits.{with_elem}
+use Rattle.xml_tree.specs.Tree.{Tree}
+use Rattle.notes.specs.Operations.{operation}
+use Rattle.notes.specs.Recorded.{note_in}
+use Rattle.notes.specs.declared.edit_note.EditNote.{EditNote}
+use Rattle.patch_words.specs.Notices.{operations}
+use Rattle.patch_text.specs.Lists.{with_all}
+use Rattle.patch_text.proofs.Listing.{next-put}
+use Rattle.patch_text.proofs.notices.push_operations.Goals as goal
+
+pub loop-note-preserved : goal.loop-note-preserved
+loop-note-preserved c =
+    let old = c.loop-note.document in
+    next-put (operation c.args.prefix.now) c.args.notes.now c.loop-note.note-index c.note-item.result c.args.document.now old c.push_elem.new.self c.loop-note-test.true c.note-item.is c.loop-note.invariant
+    (c.in_ok-push_elem.ensures.ok ∙ ap (λ (e : Tree). record old { content = with_elem e old.content }) c.in_ok-operation.ensures)
+
+pub returns : goal.returns
+returns c =
+    c.loop-note.invariant ∙ ap (λ (ns : List EditNote). with_all (operations c.args.prefix.now (map note_in ns)) c.args.document.now) (take_all c.loop-note.note-index c.args.notes.now c.loop-note-test.false)

@@ -1,0 +1,3 @@
+pub mod Declaring
+pub mod Lists
+pub mod Modes

@@ -1,0 +1,279 @@
+//! Notices of documents (RFC 5874, section 3).
+ghost use Rattle.std.specs.Prelude.{◌≡◌, [], ◌∷◌, ◌++◌, IfOk, OnOk, chars, false, encode_utf8_all, map};
+ghost use Rattle.doc_names.specs.Ids.{id_text};
+ghost use Rattle.tree_text.specs.Printing.{document_print};
+ghost use Rattle.notes.specs.Notes.{tag_after};
+ghost use Rattle.notes.specs.Operations.{operation};
+ghost use Rattle.notes.specs.Recorded.{joined, note_in};
+ghost use Rattle.patch_words.specs.Notices.{all_at_once, diff, document, gone_notice, one_by_one, operations, removed_document, tags_alone};
+ghost use Rattle.patch_text.specs.Modes.{documents_of, notice_of, told_notes};
+ghost use Rattle.patch_text.specs.Lists.{is_none, with_all};
+
+use crate::operations::operation;
+use crate::parts::{element_of, push_plain, tag_text};
+use crate::prefixes::prefix_for;
+use doc_names::{DocId, print_doc_id};
+use notes::{EditNote, Notes};
+use std::alloc::{AllocError, Global};
+use tree_text::print_document;
+use xcap_io::Bytes;
+use xcap_uri::{Mode, Root};
+use xml_tree::{Decl, Element, Text};
+
+// The namespace of notices (RFC 5874, section 7.2).
+const DIFF_URI: &str = "urn:ietf:params:xml:ns:xcap-diff";
+
+// How a notice names things: the prefix of its namespace, and the document's printed name.
+#[derive(Drop)]
+struct Names {
+    prefix: Text,
+    sel: Text,
+}
+
+// ---- documents
+
+// The tag that notes lead to, from this one on.
+fn last_tag(from: u64, notes: &[EditNote]) -> u64
+    ensures { result ≡ tag_after from (map note_in notes.now) }
+{
+    match notes.last() {
+        Some(note) => note.next,
+        None => from,
+    }
+}
+
+// Adds the operations of notes to a document.
+fn push_operations(
+    alloc: Global,
+    document: &mut Element,
+    prefix: &Text,
+    notes: &[EditNote],
+) -> Result<(), AllocError>
+    ensures { OnOk result (document.new ≡ with_all (operations prefix.now (map note_in notes.now)) document.old) }
+{
+    for note in notes {
+        document.push_elem(operation(alloc, prefix, note)?)?;
+    }
+    Ok(())
+}
+
+// A document that has these tags, before it has any operation.
+#[tactic(auto, using(crate::proofs::Words::words))]
+fn tagged(alloc: Global, names: &Names, from: u64, to: u64) -> Result<Element, AllocError>
+    ensures { IfOk result (λ made. made ≡ document names.now.prefix names.now.sel from to []) }
+{
+    let mut made = element_of(alloc, &names.prefix, "document")?;
+    push_plain(alloc, &mut made, "sel", names.sel.copy(alloc)?)?;
+    push_plain(alloc, &mut made, "new-etag", tag_text(alloc, to)?)?;
+    push_plain(alloc, &mut made, "previous-etag", tag_text(alloc, from)?)?;
+    Ok(made)
+}
+
+// A document that was removed.
+#[tactic(auto, using(crate::proofs::Words::words))]
+fn removed(alloc: Global, names: &Names, from: u64) -> Result<Element, AllocError>
+    ensures { IfOk result (λ made. made ≡ removed_document names.now.prefix names.now.sel from) }
+{
+    let mut gone = element_of(alloc, &names.prefix, "document")?;
+    push_plain(alloc, &mut gone, "sel", names.sel.copy(alloc)?)?;
+    push_plain(alloc, &mut gone, "previous-etag", tag_text(alloc, from)?)?;
+    Ok(gone)
+}
+
+// A document with the operation of one note.
+fn of_one(alloc: Global, names: &Names, note: &EditNote) -> Result<Element, AllocError>
+    ensures { IfOk result (λ made. made ≡ document names.now.prefix names.now.sel note.now.previous note.now.next (operation names.now.prefix (note_in note.now) ∷ [])) }
+{
+    let mut made = tagged(alloc, names, note.previous, note.next)?;
+    made.push_elem(operation(alloc, &names.prefix, note)?)?;
+    Ok(made)
+}
+
+// A document with the operations of all notes.
+fn of_all(
+    alloc: Global,
+    names: &Names,
+    from: u64,
+    to: u64,
+    notes: Notes<'_>,
+) -> Result<Element, AllocError>
+    ensures { IfOk result (λ made. made ≡ document names.now.prefix names.now.sel from to (operations names.now.prefix (joined notes.entry.older.now notes.entry.newer.now))) }
+{
+    let mut made = tagged(alloc, names, from, to)?;
+    push_operations(alloc, &mut made, &names.prefix, notes.older)?;
+    push_operations(alloc, &mut made, &names.prefix, notes.newer)?;
+    Ok(made)
+}
+
+// Adds a document for each note.
+fn push_each(
+    alloc: Global,
+    notice: &mut Element,
+    names: &Names,
+    notes: &[EditNote],
+) -> Result<(), AllocError>
+    ensures { OnOk result (notice.new ≡ with_all (one_by_one names.now.prefix names.now.sel (map note_in notes.now)) notice.old) }
+{
+    for note in notes {
+        notice.push_elem(of_one(alloc, names, note)?)?;
+    }
+    Ok(())
+}
+
+// ---- the whole notice
+
+// A notice without documents, under the server's root.
+#[tactic(auto, using(crate::proofs::Words::words))]
+fn empty_notice(alloc: Global, prefix: &Text, root: &str) -> Result<Element, AllocError>
+    ensures { IfOk result (λ made. made ≡ diff prefix.now (chars root.now) []) }
+{
+    let mut made = element_of(alloc, prefix, "xcap-diff")?;
+    made.push_decl(Decl {
+        prefix: prefix.copy(alloc)?,
+        uri: Text::from(alloc, DIFF_URI)?,
+    })?;
+    let mut value = Text::from(alloc, root)?;
+    value.push('/')?;
+    push_plain(alloc, &mut made, "xcap-root", value)?;
+    Ok(made)
+}
+
+// Whether there are no notes.
+fn are_none(notes: Notes<'_>) -> bool
+    ensures { result ≡ is_none (joined notes.entry.older.now notes.entry.newer.now) }
+{
+    notes.older.is_empty() && notes.newer.is_empty()
+}
+
+// The tag that all notes lead to.
+fn last_tag_in(from: u64, notes: Notes<'_>) -> u64
+    ensures { result ≡ tag_after from (joined notes.entry.older.now notes.entry.newer.now) }
+{
+    last_tag(last_tag(from, notes.older), notes.newer)
+}
+
+// Adds the document that tells the tags alone.
+fn push_tags(
+    alloc: Global,
+    notice: &mut Element,
+    names: &Names,
+    from: u64,
+    notes: Notes<'_>,
+) -> Result<(), AllocError>
+    requires { is_none (joined notes.older.now notes.newer.now) ≡ false }
+    ensures { OnOk result (notice.new ≡ with_all (tags_alone names.now.prefix names.now.sel from (joined notes.entry.older.now notes.entry.newer.now)) notice.old) }
+{
+    let to = last_tag_in(from, notes);
+    let made = tagged(alloc, names, from, to)?;
+    notice.push_elem(made)?;
+    Ok(())
+}
+
+// Adds a document for each of the notes in both pieces.
+fn push_each_in(
+    alloc: Global,
+    notice: &mut Element,
+    names: &Names,
+    notes: Notes<'_>,
+) -> Result<(), AllocError>
+    ensures { OnOk result (notice.new ≡ with_all (one_by_one names.now.prefix names.now.sel (joined notes.entry.older.now notes.entry.newer.now)) notice.old) }
+{
+    push_each(alloc, notice, names, notes.older)?;
+    push_each(alloc, notice, names, notes.newer)?;
+    Ok(())
+}
+
+// Adds the document that tells all changes at once.
+fn push_all(
+    alloc: Global,
+    notice: &mut Element,
+    names: &Names,
+    from: u64,
+    notes: Notes<'_>,
+) -> Result<(), AllocError>
+    requires { is_none (joined notes.older.now notes.newer.now) ≡ false }
+    ensures { OnOk result (notice.new ≡ with_all (all_at_once names.now.prefix names.now.sel from (joined notes.entry.older.now notes.entry.newer.now)) notice.old) }
+{
+    let to = last_tag_in(from, notes);
+    let made = of_all(alloc, names, from, to, notes)?;
+    notice.push_elem(made)?;
+    Ok(())
+}
+
+// Adds the documents that tell of notes.
+fn push_documents(
+    alloc: Global,
+    notice: &mut Element,
+    names: &Names,
+    mode: Mode,
+    from: u64,
+    notes: Notes<'_>,
+) -> Result<(), AllocError>
+    ensures { OnOk result (notice.new ≡ with_all (documents_of mode names.now.prefix names.now.sel from (joined notes.entry.older.now notes.entry.newer.now)) notice.old) }
+{
+    if are_none(notes) {
+        return Ok(());
+    }
+    match mode {
+        Mode::NoPatching => push_tags(alloc, notice, names, from, notes),
+        Mode::XcapPatching => push_each_in(alloc, notice, names, notes),
+        Mode::Aggregate => push_all(alloc, notice, names, from, notes),
+    }
+}
+
+// Those of the notes whose operations a notice has.
+fn told(mode: Mode, notes: Notes<'_>) -> Notes<'_>
+    ensures { joined result.older.now result.newer.now ≡ told_notes mode (joined notes.entry.older.now notes.entry.newer.now) }
+{
+    match mode {
+        Mode::NoPatching => Notes {
+            older: &[],
+            newer: &[],
+        },
+        Mode::XcapPatching => notes,
+        Mode::Aggregate => notes,
+    }
+}
+
+/// The notice of a document's notes from the tag `from` on, as a document: what became of it since
+/// the version with that tag. Without notes nothing is told. `no-patching` tells the tags alone,
+/// `xcap-patching` each change by itself, and `aggregate` all changes at once, from the first tag to
+/// the last (RFC 5875, section 4.3).
+///
+/// # Errors
+/// `NoMemory` for want of memory.
+pub fn notice(
+    alloc: Global,
+    mode: Mode,
+    root: &Root,
+    doc: &DocId,
+    from: u64,
+    notes: Notes<'_>,
+) -> Result<Bytes, AllocError>
+    ensures { IfOk result (λ bytes. bytes ≡ encode_utf8_all (document_print (notice_of mode root.now (id_text doc.now) from (joined notes.entry.older.now notes.entry.newer.now)))) }
+{
+    let names = Names {
+        prefix: prefix_for(alloc, told(mode, notes))?,
+        sel: print_doc_id(alloc, doc)?,
+    };
+    let mut notice = empty_notice(alloc, &names.prefix, root.text())?;
+    push_documents(alloc, &mut notice, &names, mode, from, notes)?;
+    print_document(alloc, &notice)
+}
+
+/// The notice that a document is gone, to one who holds the version with the tag `from`.
+///
+/// # Errors
+/// `NoMemory` for want of memory.
+#[tactic(auto, using(crate::proofs::Words::words))]
+pub fn gone_notice(alloc: Global, root: &Root, doc: &DocId, from: u64) -> Result<Bytes, AllocError>
+    ensures { IfOk result (λ bytes. bytes ≡ encode_utf8_all (document_print (gone_notice root.now (id_text doc.now) from))) }
+{
+    let names = Names {
+        prefix: Text::from(alloc, "d")?,
+        sel: print_doc_id(alloc, doc)?,
+    };
+    let mut notice = empty_notice(alloc, &names.prefix, root.text())?;
+    notice.push_elem(removed(alloc, &names, from)?)?;
+    print_document(alloc, &notice)
+}

@@ -1,0 +1,239 @@
+//! The operation of a note (RFC 5261, sections 4.3 to 4.5).
+ghost use Rattle.std.specs.Prelude.{◌≡◌, [], ◌∷◌, ◌++◌, IfOk, OnOk, chars, codes, false};
+ghost use Rattle.edit_ops.specs.declared.change.Change.TheVariants as change;
+ghost use Rattle.xml_tree.specs.PathTexts.{path_text};
+ghost use Rattle.xml_tree.specs.Print.{print_name};
+ghost use Rattle.xml_tree.specs.Tree.{last};
+ghost use Rattle.notes.specs.Operations.{attr_name_text, attr_path_text, gap_attrs, operation, operation_of, sel_attr, told};
+ghost use Rattle.notes.specs.Recorded.{note_in};
+
+use crate::parts::{element_of, push_plain};
+use edit_ops::Change;
+use notes::EditNote;
+use std::alloc::{AllocError, Global};
+use xml_tree::{Decl, Element, Name, Path, Text, copy_tree, print_path};
+
+// ---- where an operation is made
+
+// The selector of an element's child.
+fn child_text(alloc: Global, parent: &Path, child: usize) -> Result<Text, AllocError>
+    ensures { IfOk result (λ text. text ≡ path_text (parent.now ++ child ∷ [])) }
+{
+    let mut text = print_path(alloc, parent)?;
+    let step = format!(in alloc; "/*[{}]", child as u128 + 1)?;
+    text.push_str(&step)?;
+    Ok(text)
+}
+
+// Adds a name as it is written.
+#[tactic(auto, using(crate::proofs::Named::bare_name))]
+fn push_name(text: &mut Text, name: &Name) -> Result<(), AllocError>
+    ensures { OnOk result (text.new ≡ text.old ++ print_name name.now) }
+{
+    if name.prefix.is_empty() {
+        return text.push_str(name.local.as_str());
+    }
+    text.push_str(name.prefix.as_str())?;
+    text.push(':')?;
+    text.push_str(name.local.as_str())?;
+    Ok(())
+}
+
+// The name of an attribute, behind `@`.
+#[tactic(auto, using(crate::proofs::Words::words))]
+fn name_text(alloc: Global, name: &Name) -> Result<Text, AllocError>
+    ensures { IfOk result (λ text. text ≡ attr_name_text name.now) }
+{
+    let mut text = Text::from(alloc, "@")?;
+    push_name(&mut text, name)?;
+    Ok(text)
+}
+
+// The selector of an element's attribute.
+#[tactic(auto, using(crate::proofs::Words::words))]
+fn attribute_text(alloc: Global, at: &Path, name: &Name) -> Result<Text, AllocError>
+    ensures { IfOk result (λ text. text ≡ attr_path_text at.now name.now) }
+{
+    let mut text = print_path(alloc, at)?;
+    text.push_str("/@")?;
+    push_name(&mut text, name)?;
+    Ok(text)
+}
+
+// ---- each operation
+
+// Its word, and the note's bindings as declarations.
+fn bare(alloc: Global, prefix: &Text, bindings: &[Decl], word: &str) -> Result<Element, AllocError>
+    ensures { IfOk result (λ made. made ≡ operation_of prefix.now bindings.now (chars word.now) [] (last [])) }
+{
+    let mut made = element_of(alloc, prefix, word)?;
+    for binding in bindings {
+        made.push_decl(binding.copy(alloc)?)?;
+    }
+    Ok(made)
+}
+
+// The same and a selector.
+#[tactic(auto, using(crate::proofs::Words::words))]
+fn beginning(
+    alloc: Global,
+    prefix: &Text,
+    bindings: &[Decl],
+    word: &str,
+    sel: Text,
+) -> Result<Element, AllocError>
+    ensures { IfOk result (λ made. made ≡ operation_of prefix.now bindings.now (chars word.now) (sel_attr sel ∷ []) (last [])) }
+{
+    let mut made = bare(alloc, prefix, bindings, word)?;
+    push_plain(alloc, &mut made, "sel", sel)?;
+    Ok(made)
+}
+
+// An element is put before all nodes of its parent, or directly behind the child before it.
+fn insertion(
+    alloc: Global,
+    prefix: &Text,
+    bindings: &[Decl],
+    parent: &Path,
+    gap: usize,
+    element: &Element,
+) -> Result<Element, AllocError>
+    ensures { IfOk result (λ made. made ≡ told prefix.now bindings.now false (change.Insert parent.now gap element.now)) }
+{
+    let mut made = placed(alloc, prefix, bindings, parent, gap)?;
+    made.push_elem(copy_tree(alloc, element)?)?;
+    Ok(made)
+}
+
+// The same without the element.
+#[tactic(auto, using(crate::proofs::Words::words))]
+fn placed(
+    alloc: Global,
+    prefix: &Text,
+    bindings: &[Decl],
+    parent: &Path,
+    gap: usize,
+) -> Result<Element, AllocError>
+    ensures { IfOk result (λ made. made ≡ operation_of prefix.now bindings.now (codes "add") (gap_attrs parent.now gap) (last [])) }
+{
+    if gap == 0 {
+        let sel = print_path(alloc, parent)?;
+        let mut made = beginning(alloc, prefix, bindings, "add", sel)?;
+        push_plain(alloc, &mut made, "pos", Text::from(alloc, "prepend")?)?;
+        return Ok(made);
+    }
+    let sel = child_text(alloc, parent, gap - 1)?;
+    let mut made = beginning(alloc, prefix, bindings, "add", sel)?;
+    push_plain(alloc, &mut made, "pos", Text::from(alloc, "after")?)?;
+    Ok(made)
+}
+
+// An element is exchanged.
+#[tactic(auto, using(crate::proofs::Words::words))]
+fn replacement(
+    alloc: Global,
+    prefix: &Text,
+    bindings: &[Decl],
+    at: &Path,
+    element: &Element,
+) -> Result<Element, AllocError>
+    ensures { IfOk result (λ made. made ≡ told prefix.now bindings.now false (change.Replace at.now element.now)) }
+{
+    let sel = print_path(alloc, at)?;
+    let mut made = beginning(alloc, prefix, bindings, "replace", sel)?;
+    made.push_elem(copy_tree(alloc, element)?)?;
+    Ok(made)
+}
+
+// An element is taken out.
+#[tactic(auto, using(crate::proofs::Words::words))]
+fn removal(
+    alloc: Global,
+    prefix: &Text,
+    bindings: &[Decl],
+    at: &Path,
+) -> Result<Element, AllocError>
+    ensures { IfOk result (λ made. made ≡ told prefix.now bindings.now false (change.Remove at.now)) }
+{
+    let sel = print_path(alloc, at)?;
+    beginning(alloc, prefix, bindings, "remove", sel)
+}
+
+// An attribute is written: added where it is new, else exchanged.
+fn writing(
+    alloc: Global,
+    prefix: &Text,
+    note: &EditNote,
+    at: &Path,
+    name: &Name,
+    value: &Text,
+) -> Result<Element, AllocError>
+    ensures { IfOk result (λ made. made ≡ told prefix.now note.now.bindings note.now.fresh (change.SetAttr at.now name.now value.now)) }
+{
+    let mut made = written_at(alloc, prefix, note, at, name)?;
+    made.push_chars(value.as_str())?;
+    Ok(made)
+}
+
+// The same without the value.
+#[tactic(auto, using(crate::proofs::Words::words))]
+fn written_at(
+    alloc: Global,
+    prefix: &Text,
+    note: &EditNote,
+    at: &Path,
+    name: &Name,
+) -> Result<Element, AllocError>
+    ensures { IfOk result (λ made. made ≡ told prefix.now note.now.bindings note.now.fresh (change.SetAttr at.now name.now [])) }
+{
+    let bindings = note.bindings.as_slice();
+    if note.fresh {
+        let sel = print_path(alloc, at)?;
+        let mut made = beginning(alloc, prefix, bindings, "add", sel)?;
+        push_plain(alloc, &mut made, "type", name_text(alloc, name)?)?;
+        return Ok(made);
+    }
+    let sel = attribute_text(alloc, at, name)?;
+    beginning(alloc, prefix, bindings, "replace", sel)
+}
+
+// An attribute is taken out.
+#[tactic(auto, using(crate::proofs::Words::words))]
+fn dropped(
+    alloc: Global,
+    prefix: &Text,
+    bindings: &[Decl],
+    at: &Path,
+    name: &Name,
+) -> Result<Element, AllocError>
+    ensures { IfOk result (λ made. made ≡ told prefix.now bindings.now false (change.DropAttr at.now name.now)) }
+{
+    let sel = attribute_text(alloc, at, name)?;
+    beginning(alloc, prefix, bindings, "remove", sel)
+}
+
+// The operation of a note. A change of a whole document has none, and an empty `remove` stands for
+// it.
+#[tactic(auto, using(crate::proofs::Words::words))]
+pub(crate) fn operation(
+    alloc: Global,
+    prefix: &Text,
+    note: &EditNote,
+) -> Result<Element, AllocError>
+    ensures { IfOk result (λ made. made ≡ operation prefix.now (note_in note.now)) }
+{
+    let bindings = note.bindings.as_slice();
+    match &note.change {
+        Change::CreateDocument { .. } => bare(alloc, prefix, bindings, "remove"),
+        Change::Insert {
+            parent,
+            gap,
+            element,
+        } => insertion(alloc, prefix, bindings, parent, *gap, element),
+        Change::Replace { at, element } => replacement(alloc, prefix, bindings, at, element),
+        Change::Remove { at } => removal(alloc, prefix, bindings, at),
+        Change::SetAttr { at, name, value } => writing(alloc, prefix, note, at, name, value),
+        Change::DropAttr { at, name } => dropped(alloc, prefix, bindings, at, name),
+        Change::RemoveDocument => bare(alloc, prefix, bindings, "remove"),
+    }
+}

@@ -1,0 +1,40 @@
+//! Elements and attributes of notices.
+ghost use Rattle.std.specs.Prelude.{◌≡◌, [], ◌∷◌, ◌++◌, IfOk, OnOk, chars, decimal};
+ghost use Rattle.xml_tree.specs.Tree.{last, tree_of};
+ghost use Rattle.notes.specs.Operations.{in_diff, plain};
+
+use std::alloc::{AllocError, Global};
+use xml_tree::{Attr, Element, Name, Text};
+
+// An element in the namespace of notices, which has this prefix, and nothing in it.
+pub(crate) fn element_of(alloc: Global, prefix: &Text, word: &str) -> Result<Element, AllocError>
+    ensures { IfOk result (λ made. made ≡ tree_of (in_diff prefix.now (chars word.now)) [] [] (last [])) }
+{
+    let prefix = prefix.copy(alloc)?;
+    let local = Text::from(alloc, word)?;
+    Ok(Element::new(alloc, Name { prefix, local }))
+}
+
+// Gives an element an attribute without prefix.
+#[tactic(auto, using(crate::proofs::Words::words))]
+pub(crate) fn push_plain(
+    alloc: Global,
+    element: &mut Element,
+    word: &str,
+    value: Text,
+) -> Result<(), AllocError>
+    ensures { OnOk result (element.new ≡ record element.old { attrs = element.old.attrs ++ plain (chars word.now) value ∷ [] }) }
+{
+    let prefix = Text::from(alloc, "")?;
+    let local = Text::from(alloc, word)?;
+    let name = Name { prefix, local };
+    element.push_attr(Attr { name, value })
+}
+
+// The number of a tag, without quotes.
+pub(crate) fn tag_text(alloc: Global, tag: u64) -> Result<Text, AllocError>
+    ensures { IfOk result (λ text. text ≡ decimal tag) }
+{
+    let number = format!(in alloc; "{}", tag)?;
+    Ok(Text::own(number))
+}

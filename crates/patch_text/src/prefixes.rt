@@ -1,0 +1,115 @@
+//! The prefix of a notice: `d`, or the first of `d1`, `d2` and so on that nothing in its operations
+//! declares.
+ghost use Rattle.std.specs.Prelude.{◌≡◌, ℕ, List, ◌++◌, IfOk, OnOk, flat_map, length};
+ghost use Rattle.notes.specs.Recorded.{joined};
+ghost use Rattle.patch_words.specs.Notices.{candidate, first_free, prefix_for};
+ghost use Rattle.patch_text.specs.Declaring.{Gains, Holds, is_among, prefixes, prefixes_at, prefixes_in, prefixes_put, prefixes_told};
+
+use edit_ops::Change;
+use notes::{EditNote, Notes};
+use std::alloc::{AllocError, Global};
+use std::collections::BTreeSet;
+use xml_tree::{Decl, Element, Node, Text};
+
+// ---- what is declared
+
+// Adds the prefixes of declarations.
+fn add_decls(alloc: Global, seen: &mut BTreeSet<Text>, decls: &[Decl]) -> Result<(), AllocError>
+    ensures { OnOk result (Gains (prefixes decls.now) seen.old seen.new) }
+{
+    for decl in decls {
+        let _is_new = seen.insert(decl.prefix.copy(alloc)?)?;
+    }
+    Ok(())
+}
+
+// Adds those of an element and of all elements in it.
+#[cycle(declared)]
+fn add_element(
+    alloc: Global,
+    seen: &mut BTreeSet<Text>,
+    element: &Element,
+) -> Result<(), AllocError>
+    ensures { OnOk result (Gains (prefixes element.now.decls ++ prefixes_in element.now.content) seen.old seen.new) }
+{
+    add_decls(alloc, seen, element.decls())?;
+    let nodes = element.nodes();
+    for node in nodes {
+        add_node(alloc, seen, node)?;
+    }
+    Ok(())
+}
+
+// Adds those of a node.
+#[cycle(declared)]
+fn add_node(alloc: Global, seen: &mut BTreeSet<Text>, node: &Node) -> Result<(), AllocError>
+    ensures { OnOk result (Gains (prefixes_at node.now) seen.old seen.new) }
+{
+    match node {
+        Node::Elem(element) => add_element(alloc, seen, element),
+        Node::Chars(_) => Ok(()),
+        Node::Comment(_) => Ok(()),
+    }
+}
+
+// Adds those of the element that a change puts into its document.
+fn add_change(alloc: Global, seen: &mut BTreeSet<Text>, change: &Change) -> Result<(), AllocError>
+    ensures { OnOk result (Gains (prefixes_put change.now) seen.old seen.new) }
+{
+    match change {
+        Change::CreateDocument { .. } => Ok(()),
+        Change::Insert { element, .. } => add_element(alloc, seen, element),
+        Change::Replace { element, .. } => add_element(alloc, seen, element),
+        Change::Remove { .. } => Ok(()),
+        Change::SetAttr { .. } => Ok(()),
+        Change::DropAttr { .. } => Ok(()),
+        Change::RemoveDocument => Ok(()),
+    }
+}
+
+// Adds those of the operations of notes.
+fn add_notes(alloc: Global, seen: &mut BTreeSet<Text>, notes: &[EditNote]) -> Result<(), AllocError>
+    ensures { OnOk result (Gains (flat_map prefixes_told notes.now) seen.old seen.new) }
+{
+    for note in notes {
+        add_decls(alloc, seen, note.bindings.as_slice())?;
+        add_change(alloc, seen, &note.change)?;
+    }
+    Ok(())
+}
+
+// ---- what is free
+
+// `d`, or `d` and a number from 1 on.
+#[tactic(auto, using(crate::proofs::Words::words))]
+fn candidate(alloc: Global, number: u64) -> Result<Text, AllocError>
+    ensures { IfOk result (λ prefix. prefix ≡ candidate number) }
+{
+    if number == 0 {
+        return Text::from(alloc, "d");
+    }
+    Ok(Text::own(format!(in alloc; "d{}", number)?))
+}
+
+// The first candidate that isn't among these. More than there are numbers don't fit into a memory.
+fn first_free(alloc: Global, seen: &BTreeSet<Text>) -> Result<Text, AllocError>
+    ensures { (ps : List (List ℕ)) → Holds ps seen.now → IfOk result (λ prefix. prefix ≡ candidate (first_free (is_among ps) (length ps) 0)) }
+{
+    for number in 0..u64::MAX {
+        let prefix = candidate(alloc, number)?;
+        if !seen.contains(&prefix) {
+            return Ok(prefix);
+        }
+    }
+    Err(AllocError)
+}
+
+// The prefix of a notice with the operations of these notes.
+pub(crate) fn prefix_for(alloc: Global, notes: Notes<'_>) -> Result<Text, AllocError>
+    ensures { IfOk result (λ prefix. prefix ≡ prefix_for (joined notes.entry.older.now notes.entry.newer.now)) }
+{
+    let mut seen = BTreeSet::new(alloc);
+    add_notes(alloc, &mut seen, notes.older)?;
+    add_notes(alloc, &mut seen, notes.newer)?;
+    first_free(alloc, &seen)
+}

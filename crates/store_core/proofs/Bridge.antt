@@ -1,0 +1,142 @@
+-- What a store tells since a tag leads from the version with that tag to the present one.
+use Rattle.std.proofs.Common.{◌≡◌, ℕ, ◌<◌, ◌≤◌, Bool, true, false, cond, ◌&&◌, List, [], ◌∷◌, ◌++◌, length, map, reverse, sum_by, Option, None, Some, find, eqb-true, append_assoc, append-nil, length-append, refl, sym, ap, ◌∙◌, subst, arith}
+use Rattle.std.specs.Prelude.{◌==◌, nat_le}
+use Rattle.std.proofs.lemmas.Bool.Decides.{nat_tests}
+use Rattle.std.proofs.lemmas.List.{reverse-append, reverse-reverse}
+use Rattle.std.specs.List.{AllByRecursion}
+use Rattle.doc_names.specs.declared.usages.Usage.{Usage}
+use Rattle.doc_names.specs.Same.{same_id}
+use Rattle.doc_names.specs.declared.doc_id.DocId.{DocId}
+use Rattle.notes.specs.Notes.{Note}
+use Rattle.notes.specs.Operations.{weight}
+use Rattle.store_core.specs.Changing.{document_in, document_name, held_name}
+use Rattle.store_core.specs.Held.{Content, Held, Stands, held_of}
+use Rattle.doc_names.specs.Usages.{usage_of}
+use Rattle.store_core.specs.Keeping.{IsKept, Kept}
+use Rattle.store_core.specs.Since.{Told, held_since, notes_from, since, story_of}
+use Rattle.store_core.specs.State.{Document, State, Version, is_small, notes, retained, small_end, versions}
+use Rattle.store_core.specs.History.{IsSince, Leads}
+use Rattle.store_core.proofs.Chains.{Reached, notes_of, reached}
+
+-- ---- ends of lists
+
+both : (a b : Bool) → (a && b) ≡ true → (a ≡ true) × (b ≡ true)
+both true b h = (refl, h)
+both false b h = absurd cc
+
+small_end_is : {A : Type 0} (w : A → ℕ) (xs : List A) → (front : List A) × (xs ≡ front ++ small_end w xs) × (length (small_end w xs) ≤ 64)
+small_end_is w [] = ([], refl, omega arith)
+small_end_is w (x ∷ []) = ([], refl, omega arith)
+small_end_is w (x ∷ y ∷ xs) = by (is_small w (x ∷ y ∷ xs)) refl (small_end_is w (y ∷ xs))
+  where
+    low : (n : ℕ) → nat_le n 64 ≡ true → n ≤ 64
+    low n h = grind (arith, nat_tests)
+
+    by : (b : Bool) → is_small w (x ∷ y ∷ xs) ≡ b → (front : _) × (y ∷ xs ≡ front ++ small_end w (y ∷ xs)) × (length (small_end w (y ∷ xs)) ≤ 64)
+        → (front : _) × (x ∷ y ∷ xs ≡ front ++ small_end w (x ∷ y ∷ xs)) × (length (small_end w (x ∷ y ∷ xs)) ≤ 64)
+    by true e r = rw e ([], refl, low (length (x ∷ y ∷ xs)) (both (nat_le (length (x ∷ y ∷ xs)) 64) (nat_le (sum_by w (x ∷ y ∷ xs)) 65536) e).0)
+    by false e r = rw e (x ∷ r.0, ap (λ l. x ∷ l) r.1, r.2)
+
+-- the notes from a tag on are an end, and the first goes on from the tag
+from_is : (tag : ℕ) (xs ns : List Note) → notes_from tag xs ≡ Some ns → (front : List Note) × (xs ≡ front ++ ns) × (n : Note) × (ms : List Note) × (ns ≡ n ∷ ms) × (n.previous ≡ tag)
+from_is tag [] ns h = cc
+from_is tag (x ∷ xs) ns h = by (x.previous == tag) refl h (from_is tag xs ns)
+  where
+    by : (b : Bool) → x.previous == tag ≡ b → cond b (Some (x ∷ xs)) (notes_from tag xs) ≡ Some ns
+        → (notes_from tag xs ≡ Some ns → (front : List Note) × (xs ≡ front ++ ns) × (n : Note) × (ms : List Note) × (ns ≡ n ∷ ms) × (n.previous ≡ tag))
+        → (front : List Note) × (x ∷ xs ≡ front ++ ns) × (n : Note) × (ms : List Note) × (ns ≡ n ∷ ms) × (n.previous ≡ tag)
+    by true e s f = let same : x ∷ xs ≡ ns = cc in ([], same, x, xs, sym same, eqb-true x.previous tag e)
+    by false e s f = let r = f s in (x ∷ r.0, ap (λ l. x ∷ l) r.1, r.2, r.3, r.4, r.5)
+
+length-le : {A : Type 0} (front ns xs : List A) → xs ≡ front ++ ns → length ns ≤ length xs
+length-le front ns xs is = omega (arith, ap length is, length-append front ns)
+
+-- ---- documents that are found
+
+-- one found among what is made of others is made of the one found among these
+found : {D H : Type 0} (h : D → H) (q : H → Bool) (P : D → Type 0) (ds : List D) (x : H) → AllByRecursion P ds → find q (map h ds) ≡ Some x → (d : D) × (find (λ y. q (h y)) ds ≡ Some d) × (h d ≡ x) × P d
+found {D = D} {H = H} h q P [] x all is = cc
+found {D = D} {H = H} h q P (d ∷ ds) x all is = by (q (h d)) refl is (found h q P ds x all.1)
+  where
+    by : (b : Bool) → q (h d) ≡ b → cond b (Some (h d)) (find q (map h ds)) ≡ Some x → (find q (map h ds) ≡ Some x → (e : D) × (find (λ y. q (h y)) ds ≡ Some e) × (h e ≡ x) × P e)
+        → (e : D) × (find (λ y. q (h y)) (d ∷ ds) ≡ Some e) × (h e ≡ x) × P e
+    by true e s f = let same : h d ≡ x = cc in (d, rw e refl, same, all.0)
+    by false e s f = let r = f s in (r.0, rw e r.1, r.2, r.3)
+
+-- ---- tags
+
+low_all : (next : ℕ) (vs : List Version) → AllByRecursion (λ v. (1 ≤ v.tag) × (v.tag < next)) vs → AllByRecursion (λ v. v.tag < next) vs
+low_all next [] h = tt
+low_all next (v ∷ vs) h = (h.0.1, low_all next vs h.1)
+
+-- ---- what is told
+
+-- an end of a document's notes leads from one of its versions to the present one
+from_end : (next : ℕ) (d : Document) (front ns : List Note) → IsKept next d → notes d ≡ front ++ ns → Reached (usage_of d.id.auid) next (versions d) ns d.now
+from_end next d front ns kept is =
+    let turned : notes_of (versions d) ≡ reverse ns ++ reverse front = sym (reverse-reverse (notes_of (versions d))) ∙ ap reverse is ∙ reverse-append front ns in
+    subst (λ l. Reached (usage_of d.id.auid) next (versions d) l d.now) (reverse-reverse ns)
+    (reached (usage_of d.id.auid) next d.now d.earlier (reverse ns) (reverse front) kept.sound (low_all next (versions d) kept.tags) kept.follows turned)
+
+-- the first note says from which tag it goes on
+first_tag : (usage : Option Usage) (next : ℕ) (from to : Version) (ns : List Note) (n : Note) (ms : List Note) (tag : ℕ) → Leads usage next from ns to → ns ≡ n ∷ ms → n.previous ≡ tag → from.tag ≡ tag
+first_tag usage next from to ns n ms tag h is previous =
+    let k : Leads usage next from (n ∷ ms) to = subst (λ l. Leads usage next from l to) is h in
+    sym (ap (λ (x : Note). x.previous) k.notes.1) ∙ previous
+
+by_story : (m : State) (id : DocId) (tag : ℕ) (ns : List Note) (d : Document) → document_in document_name m.documents id ≡ Some d → IsKept m.next d → story_of (notes_from tag (retained (notes d))) ≡ Told ns → IsSince m id tag ns
+by_story m id tag ns d there kept is = by (notes_from tag (retained (notes d))) refl is
+  where
+    by : (o : Option (List Note)) → notes_from tag (retained (notes d)) ≡ o → story_of o ≡ Told ns → IsSince m id tag ns
+    by None e s = absurd (cc)
+    by (Some xs) e s =
+        let same : xs ≡ ns = cc in
+        let f = from_is tag (retained (notes d)) ns (e ∙ ap (λ l. Some l) same) in
+        let g = small_end_is weight (notes d) in
+        let whole : notes d ≡ (g.0 ++ f.0) ++ ns = g.1 ∙ ap (λ l. g.0 ++ l) f.1 ∙ sym (append_assoc g.0 f.0 ns) in
+        let r = from_end m.next d (g.0 ++ f.0) ns kept whole in record {
+          document = d;
+          there = there;
+          from = r.from;
+          number = r.number;
+          is_version = r.there;
+          same_tag = first_tag (usage_of d.id.auid) m.next r.from d.now ns f.2 f.3 tag r.leads f.4 f.5;
+          leads = r.leads;
+          few = omega (arith, length-le f.0 ns (retained (notes d)) f.1, g.2);
+        }
+
+present : (m : State) (id : DocId) (tag : ℕ) (ns : List Note) (d : Document) → document_in document_name m.documents id ≡ Some d → IsKept m.next d → d.now.tag ≡ tag → [] ≡ ns → IsSince m id tag ns
+present m id tag ns d there kept same none =
+    let r = from_end m.next d (notes d) [] kept (sym (append-nil (notes d))) in
+    subst (IsSince m id tag) none (record {
+      document = d;
+      there = there;
+      from = d.now;
+      number = 0;
+      is_version = refl;
+      same_tag = same;
+      leads = record {
+        notes = tt;
+        tree = refl;
+        tag = refl;
+        sound = kept.sound.0;
+        first = kept.tags.0.1;
+        tags = tt;
+      };
+      few = omega arith;
+    })
+
+by_held : (m : State) (id : DocId) (tag : ℕ) (ns : List Note) (d : Document) (b : Bool) → document_in document_name m.documents id ≡ Some d → IsKept m.next d → d.now.tag == tag ≡ b
+    → cond b (Told []) (story_of (notes_from tag (retained (notes d)))) ≡ Told ns → IsSince m id tag ns
+by_held m id tag ns d true there kept e s = let none : [] ≡ ns = cc in present m id tag ns d there kept (eqb-true d.now.tag tag e) none
+by_held m id tag ns d false there kept e s = by_story m id tag ns d there kept s
+
+by_found : (m : State) (id : DocId) (tag : ℕ) (ns : List Note) (o : Option Held) → Kept m → document_in held_name (map held_of m.documents) id ≡ o → held_since tag o ≡ Told ns → IsSince m id tag ns
+by_found m id tag ns None kept is s = absurd (cc)
+by_found m id tag ns (Some h) kept is s =
+    let r = found held_of (λ x. same_id id x.id) (IsKept m.next) m.documents h kept.documents is in
+    by_held m id tag ns r.0 (r.0.now.tag == tag) r.1 r.3 refl (ap (λ o. held_since tag (Some o)) r.2 ∙ s)
+
+pub told_since : (c : Content) (m : State) (id : DocId) (tag : ℕ) (ns : List Note) → Kept m → Stands c m → since c id tag ≡ Told ns → IsSince m id tag ns
+told_since c m id tag ns kept stands is =
+    by_found m id tag ns (document_in held_name (map held_of m.documents) id) kept refl (ap (λ (x : Content). held_since tag (document_in held_name x.documents id)) (sym stands) ∙ is)

@@ -1,0 +1,64 @@
+-- The notes since a version, found in two pieces of a list and by a document's entry.
+use Rattle.std.proofs.Common.{◌≡◌, ℕ, ◌==◌, Bool, true, false, if◌then◌else◌, List, [], ◌∷◌, ◌++◌, map, Option, None, Some, refl, sym, ap, ◌∙◌}
+use Rattle.std.proofs.lemmas.List.{map-append}
+use Rattle.std.specs.Map.{lookup}
+use Rattle.std.specs.Option.{option_map}
+use Rattle.doc_names.specs.Same.{same_id}
+use Rattle.doc_names.specs.declared.doc_id.DocId.{DocId}
+use Rattle.notes.specs.Notes.{Note}
+use Rattle.notes.specs.Recorded.{joined, note_in}
+use Rattle.notes.specs.declared.edit_note.EditNote.{EditNote}
+use Rattle.store_core.specs.declared.entry.Entry.{Entry}
+use Rattle.store_core.specs.Changing.{document_in, held_name}
+use Rattle.store_core.specs.Held.{Held}
+use Rattle.store_core.specs.Since.{Story, Gone, Told, held_since, notes_from, since, story_of}
+use Rattle.store_core.specs.Storing.{Stored, held_in}
+use Rattle.store_core.proofs.Entries.{read-as}
+
+-- ---- in two pieces
+
+abbrev either : Option (List Note) → List Note → Option (List Note) → Option (List Note)
+either None ys o = o
+either (Some zs) ys o = Some (zs ++ ys)
+
+from-append : (tag : ℕ) (xs ys : List Note) → notes_from tag (xs ++ ys) ≡ either (notes_from tag xs) ys (notes_from tag ys)
+from-append tag [] ys = refl
+from-append tag (x ∷ xs) ys = by (x.previous == tag) (from-append tag xs ys)
+  where
+    by : (b : Bool) → notes_from tag (xs ++ ys) ≡ either (notes_from tag xs) ys (notes_from tag ys)
+        → (if b then Some (x ∷ xs ++ ys) else notes_from tag (xs ++ ys)) ≡ either (if b then Some (x ∷ xs) else notes_from tag xs) ys (notes_from tag ys)
+    by true rest = refl
+    by false rest = rest
+
+in-two : (tag : ℕ) (older newer : List EditNote) → notes_from tag (joined older newer) ≡ either (notes_from tag (map note_in older)) (map note_in newer) (notes_from tag (map note_in newer))
+in-two tag older newer = ap (notes_from tag) (map-append note_in older newer) ∙ from-append tag (map note_in older) (map note_in newer)
+
+pub in-older : (tag : ℕ) (older newer found : List EditNote) → Some (map note_in found) ≡ notes_from tag (map note_in older) → Some (joined found newer) ≡ notes_from tag (joined older newer)
+in-older tag older newer found is =
+    ap Some (map-append note_in found newer) ∙ ap (λ (o : Option (List Note)). either o (map note_in newer) (notes_from tag (map note_in newer))) is ∙ sym (in-two tag older newer)
+
+pub in-newer : (tag : ℕ) (older newer : List EditNote) → None ≡ notes_from tag (map note_in older) → notes_from tag (map note_in newer) ≡ notes_from tag (joined older newer)
+in-newer tag older newer none =
+    ap (λ (o : Option (List Note)). either o (map note_in newer) (notes_from tag (map note_in newer))) none ∙ sym (in-two tag older newer)
+
+-- ---- by the entry
+
+-- what an entry tells
+abbrev pub entry_story : ℕ → Entry → Story
+entry_story tag v = if v.tag == tag then Told [] else story_of (notes_from tag (map note_in v.notes.items))
+
+abbrev pub or_gone : Option Story → Story
+or_gone None = Gone
+or_gone (Some s) = s
+
+held-or-gone : (tag : ℕ) (o : Option Held) → held_since tag o ≡ or_gone (option_map (λ h. held_since tag (Some h)) o)
+held-or-gone tag None = refl
+held-or-gone tag (Some h) = refl
+
+pub by-entry : (es : List (DocId × Entry)) (doc : DocId) (tag : ℕ) (s : Stored) (o : Option Entry) → map held_in es ≡ s.content.documents → o ≡ lookup (same_id doc) es
+    → or_gone (option_map (entry_story tag) o) ≡ since s.content doc tag
+by-entry es doc tag s o same found =
+    ap (λ (l : Option Entry). or_gone (option_map (entry_story tag) l)) found
+    ∙ ap or_gone (sym (read-as (same_id doc) held_in held_name (λ e. refl) (λ (h : Held). held_since tag (Some h)) (entry_story tag) (λ e. refl) es))
+    ∙ sym (held-or-gone tag (document_in held_name (map held_in es) doc))
+    ∙ ap (λ (hs : List Held). held_since tag (document_in held_name hs doc)) same

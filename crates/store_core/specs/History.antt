@@ -1,0 +1,37 @@
+-- A version of a document, and the notes from it to the version that the document has now. RFC 5874, section 3: changes between two entity tags.
+use Rattle.std.specs.Prelude.{◌≡◌, ℕ, ◌<◌, ◌≤◌, List, [], ◌∷◌, Option, Some, length, slice_get}
+use Rattle.std.specs.List.{AllByRecursion}
+use Rattle.xml_tree.specs.Tree.{Tree}
+use Rattle.doc_names.specs.declared.doc_id.DocId.{DocId}
+use Rattle.doc_names.specs.declared.usages.Usage.{Usage}
+use Rattle.doc_names.specs.Usages.{usage_of}
+use Rattle.edit_ops.specs.Changes.{edited}
+use Rattle.notes.specs.Notes.{AreNotesOf, Note, tag_after, tree_after}
+use Rattle.store_core.specs.Changing.{document_in, document_name}
+use Rattle.store_core.specs.Keeping.{IsSoundFor}
+use Rattle.store_core.specs.State.{Document, State, Version, versions}
+
+-- the tree, and each one that a note leaves, may be a document of the usage
+abbrev pub AreSound : Option Usage → Tree → List Note → Type 0
+AreSound usage t [] = IsSoundFor usage t
+AreSound usage t (n ∷ ns) = IsSoundFor usage t × AreSound usage (edited t n.change) ns
+
+-- the notes lead from the first version to the second, through sound trees, and give tags below a bound
+pub record Leads (usage : Option Usage) (next : ℕ) (from : Version) (ns : List Note) (to : Version) : Type 0 where
+  pub notes : AreNotesOf from.tag from.tree ns
+  pub tree : tree_after from.tree ns ≡ to.tree
+  pub tag : tag_after from.tag ns ≡ to.tag
+  pub sound : AreSound usage from.tree ns
+  pub first : from.tag < next
+  pub tags : AllByRecursion (λ n. n.next < next) ns
+
+-- the document of this name has a version with this tag, from which the notes lead to the one that it has now; they are at most 64
+pub record IsSince (state : State) (id : DocId) (tag : ℕ) (ns : List Note) : Type 0 where
+  pub document : Document
+  pub there : document_in document_name state.documents id ≡ Some document
+  pub from : Version
+  pub number : ℕ
+  pub is_version : slice_get (versions document) number ≡ Some from
+  pub same_tag : from.tag ≡ tag
+  pub leads : Leads (usage_of document.id.auid) state.next from ns document.now
+  pub few : length ns ≤ 64
