@@ -44,7 +44,7 @@ pub fn error_document(alloc: Global, body: &ErrorBody) -> Result<Bytes, NoMemory
 
 // The document, piece by piece.
 fn document(alloc: Global, body: &ErrorBody) -> Result<Bytes, NoMemory>
-    ensures { IfOk result (λ document. document ≡ conflict_bytes body.now) }
+    ensures prints_the_body { IfOk result (λ document. document ≡ conflict_bytes body.now) }
 {
     let mut document = Bytes::new(alloc);
     document.extend(OPENING)?;
@@ -55,7 +55,7 @@ fn document(alloc: Global, body: &ErrorBody) -> Result<Bytes, NoMemory>
 
 // Adds the child of the root.
 fn push_child(document: &mut Bytes, body: &ErrorBody) -> Result<(), NoMemory>
-    ensures { OnOk result (document.new ≡ document.old ++ child_bytes body.now) }
+    ensures adds_the_child { OnOk result (document.new ≡ document.old ++ child_bytes body.now) }
 {
     match body {
         ErrorBody::NotUtf8 => document.extend(b"<not-utf-8/>"),
@@ -73,7 +73,7 @@ fn push_child(document: &mut Bytes, body: &ErrorBody) -> Result<(), NoMemory>
 
 // Adds the child that names an ancestor.
 fn push_no_parent(document: &mut Bytes, uri: &[u8]) -> Result<(), NoMemory>
-    ensures { OnOk result (document.new ≡ document.old ++ no_parent_bytes uri.now) }
+    ensures adds_the_ancestor { OnOk result (document.new ≡ document.old ++ no_parent_bytes uri.now) }
 {
     document.extend(b"<no-parent><ancestor>")?;
     push_text(document, uri)?;
@@ -83,7 +83,7 @@ fn push_no_parent(document: &mut Bytes, uri: &[u8]) -> Result<(), NoMemory>
 
 // Adds the child that names an attribute.
 fn push_unique(document: &mut Bytes, field: &[u8]) -> Result<(), NoMemory>
-    ensures { OnOk result (document.new ≡ document.old ++ unique_bytes field.now) }
+    ensures adds_the_attribute { OnOk result (document.new ≡ document.old ++ unique_bytes field.now) }
 {
     document.extend(b"<uniqueness-failure><exists field=\"")?;
     push_value(document, field)?;
@@ -93,7 +93,7 @@ fn push_unique(document: &mut Bytes, field: &[u8]) -> Result<(), NoMemory>
 
 // Adds a text, its markup escaped.
 fn push_text(document: &mut Bytes, text: &[u8]) -> Result<(), NoMemory>
-    ensures { OnOk result (document.new ≡ document.old ++ flat_map text_escape text.now) }
+    ensures adds_the_escaped_text { OnOk result (document.new ≡ document.old ++ flat_map text_escape text.now) }
 {
     for byte in text {
         push_byte(document, *byte, text_reference(*byte as char))?;
@@ -103,7 +103,7 @@ fn push_text(document: &mut Bytes, text: &[u8]) -> Result<(), NoMemory>
 
 // Adds a value in quotes, its markup escaped.
 fn push_value(document: &mut Bytes, value: &[u8]) -> Result<(), NoMemory>
-    ensures { OnOk result (document.new ≡ document.old ++ flat_map value_escape value.now) }
+    ensures adds_the_escaped_value { OnOk result (document.new ≡ document.old ++ flat_map value_escape value.now) }
 {
     for byte in value {
         push_byte(document, *byte, value_reference(*byte as char))?;

@@ -36,7 +36,7 @@ impl Home {
     /// # Errors
     /// `NoMemory` for want of memory.
     pub fn copy(&self, alloc: Global) -> Result<Home, AllocError>
-        ensures { IfOk result (λ made. made ≡ self.now) }
+        ensures makes_an_equal_home { IfOk result (λ made. made ≡ self.now) }
     {
         match self {
             Home::Global => Ok(Home::Global),
@@ -54,7 +54,7 @@ impl DocId {
     /// # Errors
     /// `NoMemory` for want of memory.
     pub fn copy(&self, alloc: Global) -> Result<DocId, AllocError>
-        ensures { IfOk result (λ made. made ≡ self.now) }
+        ensures makes_an_equal_name { IfOk result (λ made. made ≡ self.now) }
     {
         let home = self.home.copy(alloc)?;
         let name = self.name.copy(alloc)?;

@@ -38,7 +38,7 @@ const INVISIBLE: AsciiSet = ascii_set!(CONTROLS.add(b' '));
 /// # Errors
 /// `NoMemory` for want of memory.
 pub fn push_part(line: &mut String, text: &Text) -> Result<(), AllocError>
-    ensures { OnOk result (string_bytes line.new ≡ string_bytes line.old ++ part_text text.now) }
+    ensures adds_the_part { OnOk result (string_bytes line.new ≡ string_bytes line.old ++ part_text text.now) }
 {
     utf8_percent_encode(text.as_str(), ESCAPED_IN_PARTS).append_to(line)?;
     Ok(())
@@ -49,7 +49,7 @@ pub fn push_part(line: &mut String, text: &Text) -> Result<(), AllocError>
 /// # Errors
 /// `NoMemory` for want of memory.
 pub fn push_visible(line: &mut String, octets: &[u8]) -> Result<(), AllocError>
-    ensures { OnOk result (string_bytes line.new ≡ string_bytes line.old ++ escaped is_visible octets.now) }
+    ensures adds_the_octets_escaped { OnOk result (string_bytes line.new ≡ string_bytes line.old ++ escaped is_visible octets.now) }
 {
     percent_encode(octets, INVISIBLE).append_to(line)?;
     Ok(())

@@ -10,14 +10,14 @@ use xml_tree::Text;
 
 // Adds the name of a usage.
 fn push_auid(line: &mut String, auid: Auid) -> Result<(), AllocError>
-    ensures { OnOk result (string_bytes line.new ≡ string_bytes line.old ++ auid_text auid) }
+    ensures adds_the_name { OnOk result (string_bytes line.new ≡ string_bytes line.old ++ auid_text auid) }
 {
     line.push_str(auid.text())
 }
 
 // Adds the segments of a home, between slashes.
 fn push_home(line: &mut String, home: &Home) -> Result<(), AllocError>
-    ensures { OnOk result (string_bytes line.new ≡ string_bytes line.old ++ home_text home.now) }
+    ensures adds_the_segments { OnOk result (string_bytes line.new ≡ string_bytes line.old ++ home_text home.now) }
 {
     match home {
         Home::Global => line.push_str("/global/"),
@@ -34,7 +34,7 @@ fn push_home(line: &mut String, home: &Home) -> Result<(), AllocError>
 /// # Errors
 /// `NoMemory` for want of memory.
 pub fn print_doc_id(alloc: Global, doc: &DocId) -> Result<Text, AllocError>
-    ensures { IfOk result (λ text. text ≡ id_text doc.now) }
+    ensures prints_the_id { IfOk result (λ text. text ≡ id_text doc.now) }
 {
     let mut line = String::new(alloc);
     push_auid(&mut line, doc.auid)?;

@@ -16,7 +16,7 @@ pub enum Usage {
 impl Auid {
     /// The name of the usage. Takes no memory.
     pub fn text(self) -> &'static str
-        ensures { result.now ≡ auid_text self }
+        ensures names_the_usage { result.now ≡ auid_text self }
     {
         match self {
             Auid::ResourceLists => "resource-lists",
@@ -27,7 +27,7 @@ impl Auid {
 
     /// The namespace of its documents, which a selector's unprefixed element names have. Takes no memory.
     pub fn namespace(self) -> &'static str
-        ensures { result.now ≡ namespace_of self }
+        ensures names_the_namespace { result.now ≡ namespace_of self }
     {
         match self {
             Auid::ResourceLists => "urn:ietf:params:xml:ns:resource-lists",
@@ -38,7 +38,7 @@ impl Auid {
 
     /// The same usage, where its documents are stored. Takes no memory.
     pub fn stored(self) -> Option<Usage>
-        ensures { result ≡ usage_of self }
+        ensures tells_the_stored_usage { result ≡ usage_of self }
     {
         match self {
             Auid::ResourceLists => Some(Usage::ResourceLists),

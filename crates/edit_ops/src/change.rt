@@ -49,7 +49,7 @@ impl Change {
     /// # Errors
     /// `NoMemory` for want of memory.
     pub fn copy(&self, alloc: Global) -> Result<Change, AllocError>
-        ensures { IfOk result (λ made. made ≡ self.now) }
+        ensures makes_an_equal_change { IfOk result (λ made. made ≡ self.now) }
     {
         let made = match self {
             Change::CreateDocument { root } => {
@@ -101,7 +101,7 @@ impl Change {
 // The place of the element that a change is made in.
 #[tactic(auto, using(crate::proofs::WayLemmas::parents))]
 pub(crate) fn site_of(change: &Change) -> Path
-    ensures { result ≡ site change.now }
+    ensures place_of_the_change { result ≡ site change.now }
 {
     match change {
         Change::CreateDocument { .. } => Path::root(),

@@ -6,5 +6,5 @@ ghost use Rattle.edit_ops.specs.declared.change.Change.{Change};
 
 /// A change that fits a tree leaves each element that it doesn't lie in as it is, at the place that `moved` says.
 pub fn elements_beside_a_change_stay()
-    ensures { (t : Tree) (change : Change) → Fits t change → KeepsTheOthers t change (edited t change) }
+    ensures keeps_the_others { (t : Tree) (change : Change) → Fits t change → KeepsTheOthers t change (edited t change) }
 {}

@@ -15,7 +15,7 @@ use xml_tree::{Element, Name, attr_len, element_at, name_len, printed_len};
 
 // By how much `>` and the end tag of an element are longer than `/>`.
 fn end_tag_len(element: &Element) -> usize
-    ensures { result ≡ min (end_tag_len element.now.name) usize.MAX }
+    ensures counts_the_end_tag { result ≡ min (end_tag_len element.now.name) usize.MAX }
 {
     name_len(element.name()).saturating_add(2)
 }
@@ -23,7 +23,7 @@ fn end_tag_len(element: &Element) -> usize
 // The length of the end tag that an element gets with its first node.
 #[tactic(auto, using(crate::proofs::LengthLemmas::ends))]
 fn first_node_len(element: &Element) -> usize
-    ensures { result ≡ min (if is_empty element.now.content then end_tag_len element.now.name else 0) usize.MAX }
+    ensures counts_the_end_tag_it_gets { result ≡ min (if is_empty element.now.content then end_tag_len element.now.name else 0) usize.MAX }
 {
     if element.nodes().is_empty() {
         end_tag_len(element)
@@ -36,7 +36,7 @@ fn first_node_len(element: &Element) -> usize
 #[tactic(auto, using(crate::proofs::LengthLemmas::ends))]
 fn last_node_len(element: &Element, child: usize) -> usize
     requires { child < length (kids_of element.now) }
-    ensures { result ≡ min (if is_empty (cut child element.now.content) then end_tag_len element.now.name else 0) usize.MAX }
+    ensures counts_the_end_tag_it_loses { result ≡ min (if is_empty (cut child element.now.content) then end_tag_len element.now.name else 0) usize.MAX }
 {
     if element.nodes().len() == 1 {
         end_tag_len(element)
@@ -48,7 +48,7 @@ fn last_node_len(element: &Element, child: usize) -> usize
 // The length of an element child.
 #[tactic(auto, using(crate::proofs::LengthLemmas::one))]
 fn kid_len(element: &Element, child: usize) -> usize
-    ensures { result ≡ min (byte_len (flat_map print (option_to_list (slice_get (kids_of element.now) child)))) usize.MAX }
+    ensures counts_the_child { result ≡ min (byte_len (flat_map print (option_to_list (slice_get (kids_of element.now) child)))) usize.MAX }
 {
     match element.kid(child) {
         Some(kid) => printed_len(kid),
@@ -59,7 +59,7 @@ fn kid_len(element: &Element, child: usize) -> usize
 // The length of an attribute, where it is there.
 #[tactic(auto, using(crate::proofs::LengthLemmas::one))]
 fn attr_there_len(element: &Element, name: &Name) -> usize
-    ensures { result ≡ min (byte_len (flat_map print_attr (option_to_list (find (is_named name.now) element.now.attrs)))) usize.MAX }
+    ensures counts_the_attribute_there { result ≡ min (byte_len (flat_map print_attr (option_to_list (find (is_named name.now) element.now.attrs)))) usize.MAX }
 {
     match element.attr(name) {
         Some(attr) => attr_len(&attr.name, &attr.value),
@@ -70,7 +70,7 @@ fn attr_there_len(element: &Element, name: &Name) -> usize
 // What a removal takes from the print of the element that it is made in.
 fn kid_and_end_tag_len(element: &Element, child: usize) -> usize
     requires { child < length (kids_of element.now) }
-    ensures { result ≡ min (byte_len (flat_map print (option_to_list (slice_get (kids_of element.now) child)))
+    ensures counts_the_child_and_end_tag { result ≡ min (byte_len (flat_map print (option_to_list (slice_get (kids_of element.now) child)))
         + (if is_empty (cut child element.now.content) then end_tag_len element.now.name else 0)) usize.MAX }
 {
     kid_len(element, child).saturating_add(last_node_len(element, child))
@@ -80,7 +80,7 @@ fn kid_and_end_tag_len(element: &Element, child: usize) -> usize
 #[tactic(auto, using(crate::proofs::WayLemmas::parents))]
 fn lost_len(element: &Element, change: &Change) -> usize
     requires { FitsHere change.now element.now }
-    ensures { result ≡ min (lost change.now element.now) usize.MAX }
+    ensures counts_what_is_lost { result ≡ min (lost change.now element.now) usize.MAX }
 {
     match change {
         Change::CreateDocument { .. } => 0,
@@ -98,7 +98,7 @@ fn lost_len(element: &Element, change: &Change) -> usize
 
 // What a change brings to it.
 fn brought_len(element: &Element, change: &Change) -> usize
-    ensures { result ≡ min (brought change.now element.now) usize.MAX }
+    ensures counts_what_is_brought { result ≡ min (brought change.now element.now) usize.MAX }
 {
     match change {
         Change::CreateDocument { .. } => 0,

@@ -29,7 +29,7 @@ fn way<'a>(place: &[usize], path: &'a [usize]) -> Option<&'a [usize]>
 // The path with more numbers behind it.
 fn joined(path: Path, numbers: &[usize]) -> Path
     requires { length path + length numbers.now ≤ 64 }
-    ensures { result ≡ path ++ numbers.now }
+    ensures joins_the_numbers { result ≡ path ++ numbers.now }
 {
     let mut made = path;
     for number in numbers {
@@ -44,7 +44,7 @@ fn joined(path: Path, numbers: &[usize]) -> Path
 // The path of a place, a number behind it, and more numbers.
 fn through(place: &Path, number: usize, below: &[usize]) -> Path
     requires { length place.now + suc (length below.now) ≤ 64 }
-    ensures { result ≡ place.now ++ (number ∷ below.now) }
+    ensures leads_through_the_place { result ≡ place.now ++ (number ∷ below.now) }
 {
     match place.child(number) {
         Some(path) => joined(path, below),
@@ -55,7 +55,7 @@ fn through(place: &Path, number: usize, below: &[usize]) -> Path
 // The path after an insertion in a gap of the element at `parent`.
 fn after_insertion(path: &Path, parent: &Path, gap: usize) -> Path
     requires { All (λ n. n ≤ 4294967295) path.now }
-    ensures { result ≡ under (made_room gap) parent.now path.now }
+    ensures moved_by_the_insertion { result ≡ under (made_room gap) parent.now path.now }
 {
     let rest = match way(parent.numbers(), path.numbers()) {
         None => return path.copy(),
@@ -74,7 +74,7 @@ fn after_insertion(path: &Path, parent: &Path, gap: usize) -> Path
 
 // The path after the child `gone` of the element at `parent` was taken out.
 fn after_removal(path: &Path, parent: &Path, gone: usize) -> Path
-    ensures { result ≡ under (closed_up gone) parent.now path.now }
+    ensures moved_by_the_removal { result ≡ under (closed_up gone) parent.now path.now }
 {
     let rest = match way(parent.numbers(), path.numbers()) {
         None => return path.copy(),
@@ -94,7 +94,7 @@ fn after_removal(path: &Path, parent: &Path, gone: usize) -> Path
 // The path after the element at a place, which isn't the root, was taken out: None where it leads there or through it.
 #[tactic(auto, using(crate::proofs::WayLemmas::parents))]
 fn after_cut(path: &Path, place: &Path) -> Option<Path>
-    ensures { result ≡ unless (behind place.now path.now)
+    ensures moved_by_the_cut { result ≡ unless (behind place.now path.now)
         (under (closed_up (final place.now)) (front place.now) path.now) }
 {
     if way(place.numbers(), path.numbers()).is_some() {
@@ -110,7 +110,7 @@ fn after_cut(path: &Path, place: &Path) -> Option<Path>
 /// or where the document was made or removed. No number of the path is above 4,294,967,295. Takes no memory.
 pub fn moved(path: &Path, change: &Change) -> Option<Path>
     requires { All (λ n. n ≤ 4294967295) path.now }
-    ensures { result ≡ moved path.now change.now }
+    ensures moved_by_the_change { result ≡ moved path.now change.now }
 {
     match change {
         Change::CreateDocument { .. } => None,

@@ -18,7 +18,7 @@ use xml_tree::{
 
 // An element with the name and declarations of another, and nothing else.
 fn opened(alloc: Global, element: &Element) -> Result<Element, AllocError>
-    ensures { IfOk result (λ made. made ≡ tree_of element.now.name element.now.decls [] (last [])) }
+    ensures opens_an_equal_tag { IfOk result (λ made. made ≡ tree_of element.now.name element.now.decls [] (last [])) }
 {
     let mut made = Element::new(alloc, element.name().copy(alloc)?);
     for decl in element.decls() {
@@ -29,7 +29,7 @@ fn opened(alloc: Global, element: &Element) -> Result<Element, AllocError>
 
 // An element with copies of attributes behind its own.
 fn with_attrs(alloc: Global, element: Element, attrs: &[Attr]) -> Result<Element, AllocError>
-    ensures { IfOk result (λ made. made ≡ record element { attrs = element.attrs ++ attrs.now }) }
+    ensures adds_the_attributes { IfOk result (λ made. made ≡ record element { attrs = element.attrs ++ attrs.now }) }
 {
     let mut made = element;
     for attr in attrs {
@@ -40,7 +40,7 @@ fn with_attrs(alloc: Global, element: Element, attrs: &[Attr]) -> Result<Element
 
 // An attribute of copies.
 fn attr_of(alloc: Global, name: &Name, value: &Text) -> Result<Attr, AllocError>
-    ensures { IfOk result (λ made. made ≡ record { name = name.now; value = value.now }) }
+    ensures copies_name_and_value { IfOk result (λ made. made ≡ record { name = name.now; value = value.now }) }
 {
     let name = name.copy(alloc)?;
     let value = value.copy(alloc)?;
@@ -55,7 +55,7 @@ fn with_attrs_written(
     name: &Name,
     value: &Text,
 ) -> Result<Element, AllocError>
-    ensures { IfOk result (λ made. made ≡ record element { attrs = element.attrs ++ with_attr name.now value.now attrs.now }) }
+    ensures adds_them_with_the_written_one { IfOk result (λ made. made ≡ record element { attrs = element.attrs ++ with_attr name.now value.now attrs.now }) }
 {
     let mut made = element;
     for (i, attr) in attrs.iter().enumerate() {
@@ -76,7 +76,7 @@ fn with_other_attrs(
     attrs: &[Attr],
     name: &Name,
 ) -> Result<Element, AllocError>
-    ensures { IfOk result (λ made. made ≡ record element { attrs = element.attrs ++ without_attr name.now attrs.now }) }
+    ensures adds_them_without_the_named_one { IfOk result (λ made. made ≡ record element { attrs = element.attrs ++ without_attr name.now attrs.now }) }
 {
     let mut made = element;
     for (i, attr) in attrs.iter().enumerate() {
@@ -91,7 +91,7 @@ fn with_other_attrs(
 // An element with nodes behind its tag, which had none.
 fn closed(element: Element, nodes: Vec<Node>) -> Result<Element, AllocError>
     requires { element.content ≡ last [] }
-    ensures { IfOk result (λ made. made ≡ record element { content = content_of nodes.items }) }
+    ensures closes_with_the_nodes { IfOk result (λ made. made ≡ record element { content = content_of nodes.items }) }
 {
     let mut made = element;
     made.exchange_nodes(0, 0, nodes)?;
@@ -107,7 +107,7 @@ fn around(
     element: Element,
     behind: &[Node],
 ) -> Result<Vec<Node>, AllocError>
-    ensures { IfOk result (λ made. made.items ≡ before.now ++ node.Elem element ∷ behind.now) }
+    ensures puts_the_element_between { IfOk result (λ made. made.items ≡ before.now ++ node.Elem element ∷ behind.now) }
 {
     let mut made = copy_nodes(alloc, before)?;
     made.push(Node::Elem(element))?;
@@ -118,7 +118,7 @@ fn around(
 
 // Copies of nodes, and of further nodes.
 fn together(alloc: Global, before: &[Node], behind: &[Node]) -> Result<Vec<Node>, AllocError>
-    ensures { IfOk result (λ made. made.items ≡ before.now ++ behind.now) }
+    ensures joins_both_lists { IfOk result (λ made. made.items ≡ before.now ++ behind.now) }
 {
     let mut made = copy_nodes(alloc, before)?;
     let mut rest = copy_nodes(alloc, behind)?;
@@ -130,7 +130,7 @@ fn together(alloc: Global, before: &[Node], behind: &[Node]) -> Result<Vec<Node>
 
 // An element with these nodes in place of its own.
 fn with_nodes(alloc: Global, element: &Element, nodes: Vec<Node>) -> Result<Element, AllocError>
-    ensures { IfOk result (λ made. made ≡ record element.now { content = content_of nodes.items }) }
+    ensures has_these_nodes { IfOk result (λ made. made ≡ record element.now { content = content_of nodes.items }) }
 {
     let opened = opened(alloc, element)?;
     let tag = with_attrs(alloc, opened, element.attrs())?;
@@ -146,7 +146,7 @@ fn with_element(
     put: &Element,
 ) -> Result<Element, AllocError>
     requires { gap ≤ length (kids_of element.now) }
-    ensures { IfOk result (λ made. made ≡ put_kid gap put.now element.now) }
+    ensures puts_the_element_in_the_gap { IfOk result (λ made. made ≡ put_kid gap put.now element.now) }
 {
     let nodes = element.nodes();
     let (before, behind) = nodes.split_at(place_of_gap(nodes, gap));
@@ -164,7 +164,7 @@ fn with_child(
     put: Element,
 ) -> Result<Element, AllocError>
     requires { child < length (kids_of element.now) }
-    ensures { IfOk result (λ made. made ≡ change_kid child (λ _. put) element.now) }
+    ensures puts_it_over_the_child { IfOk result (λ made. made ≡ change_kid child (λ _. put) element.now) }
 {
     let nodes = element.nodes();
     let at = place_of(nodes, child);
@@ -176,7 +176,7 @@ fn with_child(
 #[tactic(auto, using(xml_tree::proofs::Places::places, crate::proofs::NodeLemmas::parts))]
 fn without_child(alloc: Global, element: &Element, child: usize) -> Result<Element, AllocError>
     requires { child < length (kids_of element.now) }
-    ensures { IfOk result (λ made. made ≡ cut_kid child element.now) }
+    ensures leaves_out_the_child { IfOk result (λ made. made ≡ cut_kid child element.now) }
 {
     let nodes = element.nodes();
     let at = place_of(nodes, child);
@@ -191,7 +191,7 @@ fn with_attr(
     name: &Name,
     value: &Text,
 ) -> Result<Element, AllocError>
-    ensures { IfOk result (λ made. made ≡ write_attr name.now value.now element.now) }
+    ensures writes_the_attribute { IfOk result (λ made. made ≡ write_attr name.now value.now element.now) }
 {
     let opened = opened(alloc, element)?;
     let tag = with_attrs_written(alloc, opened, element.attrs(), name, value)?;
@@ -200,7 +200,7 @@ fn with_attr(
 
 // Without the attribute of this name.
 fn without_attr(alloc: Global, element: &Element, name: &Name) -> Result<Element, AllocError>
-    ensures { IfOk result (λ made. made ≡ drop_attr name.now element.now) }
+    ensures leaves_out_the_attribute { IfOk result (λ made. made ≡ drop_attr name.now element.now) }
 {
     let opened = opened(alloc, element)?;
     let tag = with_other_attrs(alloc, opened, element.attrs(), name)?;
@@ -213,7 +213,7 @@ fn without_attr(alloc: Global, element: &Element, name: &Name) -> Result<Element
 #[tactic(auto, using(crate::proofs::WayLemmas::parents))]
 fn rebuilt_here(alloc: Global, element: &Element, change: &Change) -> Result<Element, AllocError>
     requires { FitsHere change.now element.now }
-    ensures { IfOk result (λ made. made ≡ made_here change.now element.now) }
+    ensures makes_the_change_there { IfOk result (λ made. made ≡ made_here change.now element.now) }
 {
     match change {
         Change::CreateDocument { root: _ } => unreachable!(),
@@ -241,7 +241,7 @@ fn rebuilt_below(
     change: &Change,
 ) -> Result<Element, AllocError>
     requires { IsSomeAnd (at way.now element.now) (FitsHere change.now) }
-    ensures { IfOk result (λ made. made ≡ change_at way.now (made_here change.now) element.now) }
+    ensures makes_the_change_below { IfOk result (λ made. made ≡ change_at way.now (made_here change.now) element.now) }
 {
     let [child, way @ ..] = way else {
         return rebuilt_here(alloc, element, change);
@@ -259,7 +259,7 @@ fn rebuilt_below(
 /// `NoMemory` for want of memory.
 pub fn rebuilt(alloc: Global, root: &Element, change: &Change) -> Result<Element, AllocError>
     requires { Fits root.now change.now }
-    ensures { IfOk result (λ made. made ≡ edited root.now change.now) }
+    ensures makes_the_change { IfOk result (λ made. made ≡ edited root.now change.now) }
 {
     rebuilt_below(alloc, root, site_of(change).numbers(), change)
 }

@@ -44,7 +44,7 @@ pub enum Staged {
 
 // A copy of a child, and room for the nodes of its parent and one more.
 fn child(alloc: Global, parent: &Element, element: &Element) -> Result<Staged, AllocError>
-    ensures { IfOk result (λ made. (room : Vec ANode AnyMemory) × (made ≡ staging.Child element.now room) × HasNodeRoom parent.now room) }
+    ensures copies_the_child_and_makes_room { IfOk result (λ made. (room : Vec ANode AnyMemory) × (made ≡ staging.Child element.now room) × HasNodeRoom parent.now room) }
 {
     let room = Vec::with_capacity(alloc, parent.nodes().len() + 1)?;
     let element = copy_tree(alloc, element)?;
@@ -53,7 +53,7 @@ fn child(alloc: Global, parent: &Element, element: &Element) -> Result<Staged, A
 
 // Room for the attributes of an element and one more, where none of them has this name.
 fn room_for_attr(alloc: Global, element: &Element, name: &Name) -> Result<Vec<Attr>, AllocError>
-    ensures { IfOk result (λ room. HasAttrRoom name.now element.now room) }
+    ensures makes_room_for_the_attribute { IfOk result (λ room. HasAttrRoom name.now element.now room) }
 {
     match element.attr(name) {
         Some(_) => Ok(Vec::new(alloc)),
@@ -68,7 +68,7 @@ fn attribute(
     name: &Name,
     value: &Text,
 ) -> Result<Staged, AllocError>
-    ensures { IfOk result (λ made. (room : Vec AnAttr AnyMemory) × (made ≡ staging.Attribute name.now value.now room) × HasAttrRoom name.now element.now room) }
+    ensures copies_the_attribute_and_makes_room { IfOk result (λ made. (room : Vec AnAttr AnyMemory) × (made ≡ staging.Attribute name.now value.now room) × HasAttrRoom name.now element.now room) }
 {
     let room = room_for_attr(alloc, element, name)?;
     let name = name.copy(alloc)?;
@@ -136,7 +136,7 @@ fn take_out(parent: &mut Element, place: &Path, joined: Option<Text>)
     requires below { 0 < length place.now }
     requires there { final place.now < length (kids_of parent.old) }
     requires joined { joined ≡ joined_around (final place.now) parent.old.content }
-    ensures { parent.new ≡ cut_kid (final place.now) parent.old }
+    ensures takes_the_element_out { parent.new ≡ cut_kid (final place.now) parent.old }
 {
     match place.split_last() {
         None => unreachable!(),
@@ -150,7 +150,7 @@ fn take_out(parent: &mut Element, place: &Path, joined: Option<Text>)
 fn make_here(here: &mut Element, change: &Change, staged: Staged)
     requires fits { FitsHere change.now here.old }
     requires staged { IsStagedHere change.now here.old staged }
-    ensures { here.new ≡ made_here change.now here.old }
+    ensures makes_the_change_here { here.new ≡ made_here change.now here.old }
 {
     match (change, staged) {
         (Change::Insert { gap, .. }, Staged::Child { element, room }) => {
@@ -182,7 +182,7 @@ pub fn make_staged(root: &mut Element, change: &Change, staged: Staged)
         |here: &mut Element|
             requires fits { FitsHere change.now here.old }
             requires staged { IsStagedHere change.now here.old staged }
-            ensures { here.new ≡ made_here change.entry.now here.old }
+            ensures makes_the_change_here { here.new ≡ made_here change.entry.now here.old }
         { make_here(here, change, staged) },
     )
 }

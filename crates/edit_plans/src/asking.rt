@@ -41,7 +41,7 @@ fn answer_in(
     asked: &Asked<'_>,
 ) -> Result<usize, EditRefusal>
     requires asked { MayAsk row scope.now step.now parent.now place.now asked.now }
-    ensures { OrMemory (Answers row scope.now step.now parent.now place.now asked.now) result }
+    ensures answers_what_was_asked { OrMemory (Answers row scope.now step.now parent.now place.now asked.now) result }
 {
     match *asked {
         Asked::Put(new) => placed_in(alloc, row, scope, step, parent, place, new),
@@ -57,7 +57,7 @@ fn answer_in(
 
 // The row of a child, where its parent has one, in the scope at the child.
 fn row_inside(row: Option<Kind>, inside: &Around<'_>, name: &Name) -> Option<Kind>
-    ensures { result ≡ option_and_then (λ kind. kind_of kind inside.now name.now) row }
+    ensures row_of_the_child { result ≡ option_and_then (λ kind. kind_of kind inside.now name.now) row }
 {
     match row {
         None => None,
@@ -79,7 +79,7 @@ fn answer_below(
 ) -> Result<usize, EditRefusal>
     requires there { IsSome (at way.now element.now) }
     requires asked { Below (λ r c parent. MayAsk r c step.now parent place.now asked.now) row scope.now element.now way.now }
-    ensures { OrMemory (λ answer. Below (λ r c parent. Answers r c step.now parent place.now asked.now answer) row scope.now element.now way.now) result }
+    ensures answers_below { OrMemory (λ answer. Below (λ r c parent. Answers r c step.now parent place.now asked.now answer) row scope.now element.now way.now) result }
 {
     let [number, way @ ..] = way else {
         return answer_in(alloc, row, scope, step, element, place, asked);
@@ -110,7 +110,7 @@ pub(crate) fn answer(
 ) -> Result<usize, EditRefusal>
     requires there { IsSome (at place.now root.now) }
     requires asked { Below (λ r c parent. MayAsk r c step.now parent place.now asked.now) (Some (root_kind usage)) (root.now.decls ∷ []) root.now place.now }
-    ensures { OrMemory (λ answer. Below (λ r c parent. Answers r c step.now parent place.now asked.now answer) (Some (root_kind usage)) (root.now.decls ∷ []) root.now place.now) result }
+    ensures answers_at_the_place { OrMemory (λ answer. Below (λ r c parent. Answers r c step.now parent place.now asked.now answer) (Some (root_kind usage)) (root.now.decls ∷ []) root.now place.now) result }
 {
     let declared = Declared::indexed(alloc, root.decls())?;
     answer_below(

@@ -38,7 +38,7 @@ pub(crate) fn retagged(
     requires ends { selector.now.end ≡ ends.Attribute sought.now.uri.now sought.now.local.now }
     requires selected { SelectsPath selector.now.steps root.now path.now }
     requires faultless { Judged usage root.now None }
-    ensures { OrMemory (IsRetaggedAt usage root.now selector.now path.now element.now tag.now.attrs sought.now) result }
+    ensures answers_the_new_tag { OrMemory (IsRetaggedAt usage root.now selector.now path.now element.now tag.now.attrs sought.now) result }
 {
     let [.., step] = selector.steps.as_slice() else {
         unreachable!()

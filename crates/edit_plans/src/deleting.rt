@@ -24,21 +24,21 @@ use xml_tree::{Element, Name, NoMemory, Path, Scope, Text, element_at};
 
 // The removal of the element at a path, where it may be made.
 fn removed(path: Path, found: Result<usize, EditRefusal>) -> Result<Change, EditRefusal>
-    ensures { result ≡ made (Remove path) found }
+    ensures removes_if_it_may { result ≡ made (Remove path) found }
 {
     made(Change::Remove { at: path }, found)
 }
 
 // The dropping of an attribute of it, where it may be made.
 fn dropped(path: Path, name: Name, found: Result<usize, EditRefusal>) -> Result<Change, EditRefusal>
-    ensures { result ≡ made (DropAttr path name) found }
+    ensures drops_if_it_may { result ≡ made (DropAttr path name) found }
 {
     made(Change::DropAttr { at: path, name }, found)
 }
 
 // The tag of an element without an attribute.
 fn tag_without(alloc: Global, element: &Element, name: &Name) -> Result<Element, NoMemory>
-    ensures { IfOk result (λ tag. tag ≡ tag_with (without_attr name.now element.now.attrs) element.now) }
+    ensures tag_without_the_attribute { IfOk result (λ tag. tag ≡ tag_with (without_attr name.now element.now.attrs) element.now) }
 {
     let mut tag = tag_of(alloc, element)?;
     tag.drop_attr(name);
@@ -56,7 +56,7 @@ fn plan_removal(
     requires ends { selector.now.end ≡ ends.Element }
     requires selected { SelectsPath selector.now.steps root.now path }
     requires faultless { Judged usage root.now None }
-    ensures { OrMemory (IsDeletePlan usage root.now selector.now) result }
+    ensures plans_the_removal { OrMemory (IsDeletePlan usage root.now selector.now) result }
 {
     let Some((place, child)) = path.split_last() else {
         return Err(EditRefusal::Schema);
@@ -82,7 +82,7 @@ fn plan_drop<'a>(
     requires ends { selector.now.end ≡ ends.Attribute uri.now local.now }
     requires selected { SelectsPath selector.now.steps root.now path }
     requires faultless { Judged usage root.now None }
-    ensures { OrMemory (IsDeletePlan usage root.now selector.now) result }
+    ensures plans_the_drop { OrMemory (IsDeletePlan usage root.now selector.now) result }
 {
     let Some(element) = element_at(root, &path) else {
         unreachable!()

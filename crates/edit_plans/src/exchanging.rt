@@ -26,7 +26,7 @@ fn fits_over(
     new: &Element,
 ) -> Result<bool, NoMemory>
     requires there { child < length (kids_of parent.now) }
-    ensures { IfOk result (λ fits. IsTrue fits ↔ FitsOver row scope.now parent.now.content new.now child) }
+    ensures tells_whether_it_fits_over { IfOk result (λ fits. IsTrue fits ↔ FitsOver row scope.now parent.now.content new.now child) }
 {
     let itself = is_valid_in(alloc, row, scope, new)?;
     let part = part_in(alloc, row, scope, new);
@@ -53,7 +53,7 @@ pub(crate) fn exchanged_in(
 ) -> Result<usize, EditRefusal>
     requires selected { IsSelected row scope.now step.now parent.now child }
     requires room { HasRoom place.now new.now }
-    ensures { OrMemory (IsExchangedIn row scope.now step.now parent.now child new.now place.now) result }
+    ensures answers_the_exchange { OrMemory (IsExchangedIn row scope.now step.now parent.now child new.now place.now) result }
 {
     if !passes(alloc, scope, step, new) {
         return Err(EditRefusal::CannotInsert);

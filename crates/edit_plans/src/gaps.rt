@@ -31,7 +31,7 @@ fn with_gap(
     lawful: bool,
     valid: bool,
 ) -> Result<usize, NoGap>
-    ensures { result ≡ plan_with Invalid answer gap lawful valid }
+    ensures answers_with_the_gap { result ≡ plan_with Invalid answer gap lawful valid }
 {
     if !lawful {
         return answer;
@@ -47,7 +47,7 @@ fn with_gap(
 
 /// The part of a child by the row of its parent, if there is one.
 pub(crate) fn part_in(alloc: Global, row: Option<Kind>, scope: &Around<'_>, kid: &Element) -> u8
-    ensures { result ≡ part_in row scope.now kid.now }
+    ensures part_of_the_child { result ≡ part_in row scope.now kid.now }
 {
     match row {
         None => 0,
@@ -60,7 +60,7 @@ pub(crate) fn part_in(alloc: Global, row: Option<Kind>, scope: &Around<'_>, kid:
 
 /// Whether a child of this part may stand between two others.
 pub(crate) fn fits(row: Option<Kind>, itself: bool, before: u8, part: u8, after: u8) -> bool
-    ensures { result ≡ fits_between row itself before part after }
+    ensures tells_whether_it_fits_between { result ≡ fits_between row itself before part after }
 {
     match row {
         None => true,
@@ -78,7 +78,7 @@ pub(crate) fn is_valid_in(
     scope: &Around<'_>,
     new: &Element,
 ) -> Result<bool, NoMemory>
-    ensures { IfOk result (λ valid. ForSome row (λ kind. IsTrue valid ↔ ValidChild kind scope.now new.now)) }
+    ensures tells_whether_it_is_valid { IfOk result (λ valid. ForSome row (λ kind. IsTrue valid ↔ ValidChild kind scope.now new.now)) }
 {
     match row {
         None => Ok(true),
@@ -88,7 +88,7 @@ pub(crate) fn is_valid_in(
 
 /// Whether a child passes both tests of a step.
 pub(crate) fn passes(alloc: Global, scope: &Around<'_>, step: &Step, kid: &Element) -> bool
-    ensures { IsTrue result ↔ (IsTrue (is_named scope.now step.now kid.now) × IsTrue (is_tested scope.now step.now kid.now)) }
+    ensures tells_whether_it_passes_both { IsTrue result ↔ (IsTrue (is_named scope.now step.now kid.now) × IsTrue (is_tested scope.now step.now kid.now)) }
 {
     step.names(alloc, scope, kid) && step.tests(alloc, scope, kid)
 }
@@ -96,7 +96,7 @@ pub(crate) fn passes(alloc: Global, scope: &Around<'_>, step: &Step, kid: &Eleme
 // Whether one that has so many of its name before it is at the position.
 fn is_at_position(position: Option<u64>, before: u64) -> bool
     requires { before + 1 < 2 ^ 64 }
-    ensures { result ≡ is_at_position position before }
+    ensures tells_whether_it_is_at_the_position { result ≡ is_at_position position before }
 {
     match position {
         None => true,
@@ -107,14 +107,14 @@ fn is_at_position(position: Option<u64>, before: u64) -> bool
 // One more, if it is.
 fn count(before: u64, more: bool) -> u64
     requires { before + 1 < 2 ^ 64 }
-    ensures { result ≡ before + cond more 1 0 }
+    ensures counts_one_more { result ≡ before + cond more 1 0 }
 {
     if more { before + 1 } else { before }
 }
 
 // Whether some child passes both tests of a step.
 fn some_passes(alloc: Global, scope: &Around<'_>, step: &Step, parent: &Element) -> bool
-    ensures { IsTrue result ↔ ((k : ℕ) × Matches (is_named scope.now step.now) (is_tested scope.now step.now) None (kids_of parent.now) k) }
+    ensures tells_whether_one_passes { IsTrue result ↔ ((k : ℕ) × Matches (is_named scope.now step.now) (is_tested scope.now step.now) None (kids_of parent.now) k) }
 {
     let mut i: usize = 0;
     for node in parent.nodes() {
@@ -130,7 +130,7 @@ fn some_passes(alloc: Global, scope: &Around<'_>, step: &Step, parent: &Element)
 
 // Whether no child stands in a new one's way: there is a position, or none passes both tests.
 fn is_free(alloc: Global, scope: &Around<'_>, step: &Step, parent: &Element) -> bool
-    ensures { IsTrue result ↔ IsFree (is_named scope.now step.now) (is_tested scope.now step.now) step.now.position (kids_of parent.now) }
+    ensures tells_whether_it_is_free { IsTrue result ↔ IsFree (is_named scope.now step.now) (is_tested scope.now step.now) step.now.position (kids_of parent.now) }
 {
     match step.position {
         None => !some_passes(alloc, scope, step, parent),
@@ -152,7 +152,7 @@ fn last_gap(
     requires tested { IsTrue (is_tested scope.now step.now new.now) }
     requires free { IsFree (is_named scope.now step.now) (is_tested scope.now step.now) step.now.position (kids_of parent.now) }
     requires itself { ForSome row (λ kind. IsTrue itself ↔ ValidChild kind scope.now new.now) }
-    ensures { PlanIs Unlawful Invalid (Lawful (is_named scope.now step.now) (is_tested scope.now step.now) step.now.position (kids_of parent.now) new.now)
+    ensures finds_the_last_gap { PlanIs Unlawful Invalid (Lawful (is_named scope.now step.now) (is_tested scope.now step.now) step.now.position (kids_of parent.now) new.now)
         (FitsIn row scope.now parent.now.content new.now) (length (kids_of parent.now) + 1) result }
 {
     let part = part_in(alloc, row, scope, new);
@@ -189,7 +189,7 @@ pub(crate) fn choose_gap(
     parent: &Element,
     new: &Element,
 ) -> Result<Result<usize, NoGap>, NoMemory>
-    ensures { IfOk result (λ plan. PlanIs Unlawful Invalid (Lawful (is_named scope.now step.now) (is_tested scope.now step.now) step.now.position (kids_of parent.now) new.now)
+    ensures chooses_the_last_gap { IfOk result (λ plan. PlanIs Unlawful Invalid (Lawful (is_named scope.now step.now) (is_tested scope.now step.now) step.now.position (kids_of parent.now) new.now)
         (FitsIn row scope.now parent.now.content new.now) (length (kids_of parent.now) + 1) plan) }
 {
     if !step.names(alloc, scope, new) {

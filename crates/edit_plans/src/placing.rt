@@ -20,7 +20,7 @@ fn is_formed_in(
     scope: &Around<'_>,
     new: &Element,
 ) -> Result<bool, NoMemory>
-    ensures { IfOk result (λ formed. IsTrue formed ↔ FormedIn row scope.now new.now) }
+    ensures tells_whether_it_is_formed { IfOk result (λ formed. IsTrue formed ↔ FormedIn row scope.now new.now) }
 {
     match row {
         None => Ok(true),
@@ -46,7 +46,7 @@ pub(crate) fn judged(
     requires room { HasRoom place.now new.now }
     requires gap { gap ≤ length (others siblings.now.left_out (kids_of siblings.now.parent.now)) }
     requires unique { NoClash row scope.now siblings.now.parent.now }
-    ensures { OrMemory (IsJudgedIn (IsTrue formed) row scope.now (others siblings.now.left_out (kids_of siblings.now.parent.now)) new.now place.now gap) result }
+    ensures judges_by_the_form { OrMemory (IsJudgedIn (IsTrue formed) row scope.now (others siblings.now.left_out (kids_of siblings.now.parent.now)) new.now place.now gap) result }
 {
     if !formed {
         return Err(EditRefusal::Constraint);
@@ -76,7 +76,7 @@ pub(crate) fn judged_new(
     requires room { HasRoom place.now new.now }
     requires gap { gap ≤ length (others siblings.now.left_out (kids_of siblings.now.parent.now)) }
     requires unique { NoClash row scope.now siblings.now.parent.now }
-    ensures { OrMemory (IsJudgedIn (FormedIn row scope.now new.now) row scope.now (others siblings.now.left_out (kids_of siblings.now.parent.now)) new.now place.now gap) result }
+    ensures judges_the_new_element { OrMemory (IsJudgedIn (FormedIn row scope.now new.now) row scope.now (others siblings.now.left_out (kids_of siblings.now.parent.now)) new.now place.now gap) result }
 {
     let formed = is_formed_in(alloc, row, scope, new)?;
     judged(alloc, row, scope, siblings, place, new, gap, formed)
@@ -98,7 +98,7 @@ pub(crate) fn placed_in(
 ) -> Result<usize, EditRefusal>
     requires room { HasRoom place.now new.now }
     requires unique { NoClash row scope.now parent.now }
-    ensures { OrMemory (IsPlacedIn row scope.now step.now parent.now new.now place.now) result }
+    ensures answers_the_gap { OrMemory (IsPlacedIn row scope.now step.now parent.now new.now place.now) result }
 {
     match choose_gap(alloc, row, scope, step, parent, new)? {
         Ok(gap) => judged_new(alloc, row, scope, &Siblings::all(parent), place, new, gap),

@@ -28,7 +28,7 @@ fn inserted(
     new: Element,
     gap: Result<usize, EditRefusal>,
 ) -> Result<Change, EditRefusal>
-    ensures { result ≡ inserted place.now new gap }
+    ensures inserts_at_the_gap { result ≡ inserted place.now new gap }
 {
     match gap {
         Ok(gap) => Ok(Change::Insert {
@@ -42,7 +42,7 @@ fn inserted(
 
 /// A change, where it may be made.
 pub(crate) fn made(change: Change, found: Result<usize, EditRefusal>) -> Result<Change, EditRefusal>
-    ensures { result ≡ made change found }
+    ensures changes_if_it_may { result ≡ made change found }
 {
     match found {
         Ok(_) => Ok(change),
@@ -56,7 +56,7 @@ fn replaced(
     new: Element,
     found: Result<usize, EditRefusal>,
 ) -> Result<Change, EditRefusal>
-    ensures { result ≡ made (Replace path.now new) found }
+    ensures replaces_if_it_may { result ≡ made (Replace path.now new) found }
 {
     let change = Change::Replace {
         at: path.copy(),
@@ -77,7 +77,7 @@ fn plan_under(
     requires parent { SelectsParent steps.now root.now place.now }
     requires faultless { Judged usage root.now None }
     requires room { length place.now + suc (height element) ≤ 64 }
-    ensures { OrMemory (IsInsertion usage root.now steps.now place.now element) result }
+    ensures plans_the_insertion { OrMemory (IsInsertion usage root.now steps.now place.now element) result }
 {
     let [.., step] = steps else { unreachable!() };
     let gap = answer(alloc, usage, root, step, place, &Asked::Put(&element));
@@ -96,7 +96,7 @@ fn plan_over(
     requires selected { SelectsPath steps.now root.now path.now }
     requires faultless { Judged usage root.now None }
     requires room { length path.now + height element ≤ 64 }
-    ensures { OrMemory (IsTested CannotInsert (LawfulOver steps.now root.now element path.now) usage root.now (Replace path.now element)) result }
+    ensures plans_the_exchange { OrMemory (IsTested CannotInsert (LawfulOver steps.now root.now element path.now) usage root.now (Replace path.now element)) result }
 {
     let Some((place, child)) = path.split_last() else {
         let found = root_exchanged(alloc, usage, steps, &element);

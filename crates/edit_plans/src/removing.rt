@@ -25,7 +25,7 @@ fn is_next(
     i: usize,
     kid: &Element,
 ) -> bool
-    ensures { IsTrue result ↔ ((child < i) × IsTrue (is_named scope.now step.now kid.now)) }
+    ensures tells_whether_it_is_next { IsTrue result ↔ ((child < i) × IsTrue (is_named scope.now step.now kid.now)) }
 {
     if i <= child {
         return false;
@@ -42,7 +42,7 @@ fn next_passes(
     child: usize,
 ) -> bool
     requires { child < length (kids_of parent.now) }
-    ensures { IsTrue result ↔ ((i : ℕ) × IsNextMatch (is_named scope.now step.now) (is_tested scope.now step.now) (remove (kids_of parent.now) child) child i) }
+    ensures tells_whether_the_next_passes { IsTrue result ↔ ((i : ℕ) × IsNextMatch (is_named scope.now step.now) (is_tested scope.now step.now) (remove (kids_of parent.now) child) child i) }
 {
     let mut i: usize = 0;
     for node in parent.nodes() {
@@ -65,7 +65,7 @@ fn still_selects(
     child: usize,
 ) -> bool
     requires { SelectsChild scope.now step.now (kids_of parent.now) child }
-    ensures { IsTrue result ↔ StillSelects scope.now step.now (kids_of parent.now) child }
+    ensures tells_whether_one_is_still_selected { IsTrue result ↔ StillSelects scope.now step.now (kids_of parent.now) child }
 {
     match step.position {
         None => false,
@@ -82,7 +82,7 @@ pub(crate) fn part_left(
     child: usize,
 ) -> u8
     requires { child < length (kids_of parent.now) }
-    ensures { ForSome row (λ kind. result ≡ part_before kind scope.now 0 child parent.now.content) }
+    ensures part_before_the_child { ForSome row (λ kind. result ≡ part_before kind scope.now 0 child parent.now.content) }
 {
     if child == 0 {
         return 0;
@@ -101,7 +101,7 @@ pub(crate) fn part_right(
     parent: &Element,
     child: usize,
 ) -> u8
-    ensures { ForSome row (λ kind. result ≡ part_after kind scope.now (suc child) parent.now.content) }
+    ensures part_behind_the_child { ForSome row (λ kind. result ≡ part_after kind scope.now (suc child) parent.now.content) }
 {
     let mut i: usize = 0;
     for node in parent.nodes() {
@@ -124,7 +124,7 @@ fn closes_up(
     child: usize,
 ) -> bool
     requires { child < length (kids_of parent.now) }
-    ensures { IsTrue result ↔ ClosesUp row scope.now parent.now.content child }
+    ensures tells_whether_it_closes_up { IsTrue result ↔ ClosesUp row scope.now parent.now.content child }
 {
     let left = part_left(alloc, row, scope, parent, child);
     let right = part_right(alloc, row, scope, parent, child);
@@ -148,7 +148,7 @@ pub(crate) fn removed_in(
     child: usize,
 ) -> Result<usize, EditRefusal>
     requires selected { IsSelected row scope.now step.now parent.now child }
-    ensures { OrMemory (IsRemovedIn row scope.now step.now parent.now child) result }
+    ensures answers_the_removal { OrMemory (IsRemovedIn row scope.now step.now parent.now child) result }
 {
     if still_selects(alloc, scope, step, parent, child) {
         return Err(EditRefusal::CannotDelete);

@@ -46,7 +46,7 @@ fn value_of<'a>(
     tag: &'a Element,
     sought: &Sought<'_>,
 ) -> Result<Option<&'a Text>, NoMemory>
-    ensures { IfOk result (λ value. option_copied value
+    ensures value_of_the_attribute { IfOk result (λ value. option_copied value
         ≡ option_map (λ a. a.value) (find (is_attr (inside scope.now tag.now) sought.now.uri.now sought.now.local.now) tag.now.attrs)) }
 {
     let declared = Declared::indexed(alloc, tag.decls())?;
@@ -64,7 +64,7 @@ fn value_of<'a>(
 
 // Whether a value is the one that is wanted, or there is none where none is.
 fn is_wanted(value: Option<&Text>, wanted: Option<&Text>) -> bool
-    ensures { IsTrue result ↔ (option_copied value.entry ≡ option_copied wanted.entry) }
+    ensures tells_whether_it_is_wanted { IsTrue result ↔ (option_copied value.entry ≡ option_copied wanted.entry) }
 {
     match value {
         None => wanted.is_none(),
@@ -86,7 +86,7 @@ pub(crate) fn is_found_in(
     tag: &Element,
     sought: &Sought<'_>,
 ) -> Result<bool, NoMemory>
-    ensures { IfOk result (λ found. IsTrue found ↔ IsFoundIn scope.now step.now tag.now sought.now) }
+    ensures tells_whether_it_is_found { IfOk result (λ found. IsTrue found ↔ IsFoundIn scope.now step.now tag.now sought.now) }
 {
     if !step.tests(alloc, scope, tag) {
         return Ok(is_wanted(None, sought.value));
@@ -97,7 +97,7 @@ pub(crate) fn is_found_in(
 
 /// The refusal where it isn't.
 pub(crate) fn unfound(wanted: Option<&Text>) -> EditRefusal
-    ensures { result ≡ unfound (option_copied wanted.entry) }
+    ensures refuses_as_it_was_wanted { result ≡ unfound (option_copied wanted.entry) }
 {
     match wanted {
         None => EditRefusal::CannotDelete,
@@ -112,7 +112,7 @@ fn attrs_pass_in(
     scope: &Around<'_>,
     tag: &Element,
 ) -> Result<bool, NoMemory>
-    ensures { IfOk result (λ passes. IsTrue passes ↔ AttrsPass row scope.now tag.now) }
+    ensures tells_whether_they_pass { IfOk result (λ passes. IsTrue passes ↔ AttrsPass row scope.now tag.now) }
 {
     let Some(row) = row else {
         return Ok(true);
@@ -127,7 +127,7 @@ fn attrs_pass_in(
 
 // Whether the reference among the attributes of an element of this kind has its form.
 fn attrs_formed(kind: Kind, tag: &Element) -> bool
-    ensures { result ≡ attrs_formed kind tag.now.attrs }
+    ensures tells_whether_the_reference_is_formed { result ≡ attrs_formed kind tag.now.attrs }
 {
     match kind {
         Kind::ResourceList => true,
@@ -142,7 +142,7 @@ fn attrs_formed_in(
     scope: &Around<'_>,
     tag: &Element,
 ) -> Result<bool, NoMemory>
-    ensures { IfOk result (λ formed. IsTrue formed ↔ AttrsFormed row scope.now tag.now) }
+    ensures tells_whether_they_are_formed { IfOk result (λ formed. IsTrue formed ↔ AttrsFormed row scope.now tag.now) }
 {
     let Some(row) = row else {
         return Ok(true);
@@ -173,7 +173,7 @@ pub(crate) fn retagged_in(
 ) -> Result<usize, EditRefusal>
     requires selected { IsSelected row scope.now step.now parent.now child }
     requires room { HasRoom place.now tag.now }
-    ensures { OrMemory (IsRetaggedIn row scope.now step.now parent.now child tag.now sought.now place.now) result }
+    ensures answers_the_new_tag_of_a_child { OrMemory (IsRetaggedIn row scope.now step.now parent.now child tag.now sought.now place.now) result }
 {
     if !is_found_in(alloc, scope, step, tag, sought)? {
         return Err(unfound(sought.value));

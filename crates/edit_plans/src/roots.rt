@@ -18,7 +18,7 @@ use xml_tree::{Around, Declared, Element};
 
 // The refusal by the first fault of a document.
 fn refusal(fault: Fault) -> EditRefusal
-    ensures { result ≡ refusal fault }
+    ensures refuses_by_the_fault { result ≡ refusal fault }
 {
     match fault {
         Fault::Invalid => EditRefusal::Schema,
@@ -40,7 +40,7 @@ pub(crate) fn root_exchanged(
 ) -> Result<usize, EditRefusal>
     requires alone { (p : List ℕ) → SelectsPath steps.now new.now p → p ≡ [] }
     requires low { height new.now ≤ 64 }
-    ensures { OrMemory (IsTestedAs CannotInsert (SelectsPath steps.now new.now []) usage new.now) result }
+    ensures answers_the_new_root { OrMemory (IsTestedAs CannotInsert (SelectsPath steps.now new.now []) usage new.now) result }
 {
     if select_steps(alloc, new, steps).is_none() {
         return Err(EditRefusal::CannotInsert);
@@ -64,7 +64,7 @@ pub(crate) fn root_retagged(
     tag: &Element,
     sought: &Sought<'_>,
 ) -> Result<usize, EditRefusal>
-    ensures { OrMemory (IsRootRetagged usage step.now tag.now sought.now) result }
+    ensures answers_the_new_tag_of_the_root { OrMemory (IsRootRetagged usage step.now tag.now sought.now) result }
 {
     if !is_found_in(alloc, &Around::empty(), step, tag, sought)? {
         return Err(unfound(sought.value));

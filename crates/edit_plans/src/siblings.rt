@@ -56,7 +56,7 @@ pub(crate) struct Twin {
 
 // The kind of a child, by the row of its parent.
 fn kind_of_kid(alloc: Global, row: Kind, scope: &Around<'_>, kid: &Element) -> Option<Kind>
-    ensures { result ≡ kind_of_kid row scope.now kid.now }
+    ensures kind_of_the_child { result ≡ kind_of_kid row scope.now kid.now }
 {
     let declared = Declared::new(alloc, kid.decls());
     kind_of(row, &(&*scope).inside(&declared), kid.name())
@@ -64,21 +64,21 @@ fn kind_of_kid(alloc: Global, row: Kind, scope: &Around<'_>, kid: &Element) -> O
 
 // Whether two kinds are one.
 fn is_kind(a: Kind, b: Kind) -> bool
-    ensures { IsTrue result ↔ (a ≡ b) }
+    ensures tells_whether_they_are_one { IsTrue result ↔ (a ≡ b) }
 {
     a == b
 }
 
 // Whether two texts have the same characters.
 fn same_text(a: &str, b: &str) -> bool
-    ensures { IsTrue result ↔ (chars a.now ≡ chars b.now) }
+    ensures tells_equal_characters { IsTrue result ↔ (chars a.now ≡ chars b.now) }
 {
     a == b
 }
 
 // Whether an element has this value of a key.
 fn has_value(key: Key, value: &str, kid: &Element) -> bool
-    ensures { IsTrue result ↔ (value_of key kid.now.attrs ≡ Some (chars value.now)) }
+    ensures tells_whether_it_has_the_value { IsTrue result ↔ (value_of key kid.now.attrs ≡ Some (chars value.now)) }
 {
     match value_of(key, kid.attrs()) {
         Some(own) => same_text(own, value),
@@ -97,7 +97,7 @@ fn has_mark(
     kid: &Element,
 ) -> bool
     requires { key_of kind ≡ Some key }
-    ensures { IsTrue result ↔ (mark_of row scope.now kid.now ≡ Some (mark kind (chars value.now))) }
+    ensures tells_whether_it_has_the_mark { IsTrue result ↔ (mark_of row scope.now kid.now ≡ Some (mark kind (chars value.now))) }
 {
     let Some(own) = kind_of_kid(alloc, row, scope, kid) else {
         return false;
@@ -110,7 +110,7 @@ fn has_mark(
 
 // Whether it is the child that is left out.
 fn is_left_out(left_out: Option<usize>, child: usize) -> bool
-    ensures { IsTrue result ↔ (left_out ≡ Some child) }
+    ensures tells_whether_it_is_left_out { IsTrue result ↔ (left_out ≡ Some child) }
 {
     match left_out {
         None => false,
@@ -131,7 +131,7 @@ fn is_marked(
     kid: &Element,
 ) -> bool
     requires { key_of kind ≡ Some key }
-    ensures { IsTrue result ↔ ((left_out ≡ Some child → ⊥) × (mark_of row scope.now kid.now ≡ Some (mark kind (chars value.now)))) }
+    ensures tells_whether_it_is_marked { IsTrue result ↔ ((left_out ≡ Some child → ⊥) × (mark_of row scope.now kid.now ≡ Some (mark kind (chars value.now)))) }
 {
     if is_left_out(left_out, child) {
         return false;
@@ -178,7 +178,7 @@ fn marked_child(
 
 // The number of a child among the others, once one is left out.
 fn among(left_out: Option<usize>, child: usize) -> usize
-    ensures { result ≡ among left_out child }
+    ensures number_among_the_others { result ≡ among left_out child }
 {
     match left_out {
         None => child,
@@ -235,7 +235,7 @@ fn key_before(twin: Option<Twin>, gap: usize) -> Option<Key>
 // The path of a child.
 fn below(place: &Path, child: usize) -> Path
     requires { length place.now < 64 }
-    ensures { result ≡ place.now ++ child ∷ [] }
+    ensures leads_to_the_child { result ≡ place.now ++ child ∷ [] }
 {
     match place.child(child) {
         Some(path) => path,
@@ -252,7 +252,7 @@ fn first_in_new(
     here: &Path,
 ) -> Result<Option<Clash>, NoMemory>
     requires { length here.now + height new.now ≤ 64 }
-    ensures { IfOk result (λ found. IsFirst (ClashesInside row scope.now new.now) here.now found) }
+    ensures finds_the_first_in_the_new { IfOk result (λ found. IsFirst (ClashesInside row scope.now new.now) here.now found) }
 {
     let declared = Declared::indexed(alloc, new.decls())?;
     let inside = (&*scope).inside(&declared);
@@ -279,7 +279,7 @@ pub(crate) fn first_beside(
     requires room { HasRoom place.now new.now }
     requires gap { gap ≤ length (others siblings.now.left_out (kids_of siblings.now.parent.now)) }
     requires unique { (r : List ℕ) (key : Key) → RepeatsAt row scope.now (others siblings.now.left_out (kids_of siblings.now.parent.now)) r key → ⊥ }
-    ensures { IfOk result (λ found. IsFirst (ClashesBeside row scope.now (others siblings.now.left_out (kids_of siblings.now.parent.now)) new.now gap) place.now found) }
+    ensures finds_the_first_beside_the_new { IfOk result (λ found. IsFirst (ClashesBeside row scope.now (others siblings.now.left_out (kids_of siblings.now.parent.now)) new.now gap) place.now found) }
 {
     let twin = twin_of(alloc, row, scope, siblings, new);
     let here = below(place, gap);

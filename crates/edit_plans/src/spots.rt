@@ -13,7 +13,7 @@ use xml_tree::Element;
 
 // The spot of a selector of so many steps that ends in an element.
 fn element_spot(many: usize, reached: Reached) -> Result<Spot, NoParent>
-    ensures { (t : Tree) (selector : Selector) → selector.end ≡ ends.Element → many ≡ length selector.steps → Reaches selector.steps t reached → IsSpot t selector result }
+    ensures spot_of_an_element { (t : Tree) (selector : Selector) → selector.end ≡ ends.Element → many ≡ length selector.steps → Reaches selector.steps t reached → IsSpot t selector result }
 {
     if reached.steps == 0 {
         if many == 1 {
@@ -34,7 +34,7 @@ fn element_spot(many: usize, reached: Reached) -> Result<Spot, NoParent>
 
 // The spot of one that ends in an attribute.
 fn value_spot(many: usize, reached: Reached) -> Result<Spot, NoParent>
-    ensures { (t : Tree) (selector : Selector) → EndsInAttribute selector.end → many ≡ length selector.steps → Reaches selector.steps t reached → IsSpot t selector result }
+    ensures spot_of_an_attribute { (t : Tree) (selector : Selector) → EndsInAttribute selector.end → many ≡ length selector.steps → Reaches selector.steps t reached → IsSpot t selector result }
 {
     if reached.steps == 0 {
         return Err(NoParent { steps: 0 });

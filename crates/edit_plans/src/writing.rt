@@ -29,14 +29,14 @@ use xml_tree::{Decl, Element, Name, NoMemory, Path, Scope, Text, element_at};
 
 // Whether it is a binding of the namespace to a prefix, which isn't the empty one.
 fn is_binding(uri: &Text, decl: &Decl) -> bool
-    ensures { result ≡ is_binding uri.now decl.now }
+    ensures tells_whether_it_binds_the_namespace { result ≡ is_binding uri.now decl.now }
 {
     !decl.prefix.is("") && decl.uri.is(uri.as_str())
 }
 
 // The prefix of the first binding of a namespace.
 fn bound_prefix(alloc: Global, bindings: &[Decl], uri: &Text) -> Result<Option<Text>, NoMemory>
-    ensures { IfOk result (λ prefix. prefix ≡ option_map (λ d. d.prefix) (find (is_binding uri.now) bindings.now)) }
+    ensures prefix_of_the_first_binding { IfOk result (λ prefix. prefix ≡ option_map (λ d. d.prefix) (find (is_binding uri.now) bindings.now)) }
 {
     for decl in bindings {
         if is_binding(uri, decl) {
@@ -49,7 +49,7 @@ fn bound_prefix(alloc: Global, bindings: &[Decl], uri: &Text) -> Result<Option<T
 
 // Whether it is the namespace that `xml` is bound to everywhere.
 fn is_xml_space(scope: &Scope<'_>, uri: &Text) -> bool
-    ensures { result ≡ bytes_eq uri.now xml_uri }
+    ensures tells_whether_it_is_that_of_xml { result ≡ bytes_eq uri.now xml_uri }
 {
     match scope.resolve("xml") {
         Some(space) => uri.is(space),
@@ -59,7 +59,7 @@ fn is_xml_space(scope: &Scope<'_>, uri: &Text) -> bool
 
 // The prefix of a new attribute of this namespace, if there is one.
 fn new_prefix(alloc: Global, scope: &Scope<'_>, uri: &Text) -> Result<Option<Text>, NoMemory>
-    ensures { IfOk result (λ prefix. prefix ≡ new_prefix scope.now uri.now) }
+    ensures finds_a_prefix { IfOk result (λ prefix. prefix ≡ new_prefix scope.now uri.now) }
 {
     if uri.is("") {
         let none = Text::from(alloc, "")?;
@@ -80,7 +80,7 @@ fn new_name(
     uri: &Text,
     local: &Text,
 ) -> Result<Option<Name>, NoMemory>
-    ensures { IfOk result (λ name. name ≡ new_name scope.now uri.now local.now) }
+    ensures finds_a_name { IfOk result (λ name. name ≡ new_name scope.now uri.now local.now) }
 {
     match new_prefix(alloc, scope, uri)? {
         None => Ok(None),
@@ -99,7 +99,7 @@ fn written_name(
     uri: &Text,
     local: &Text,
 ) -> Result<Option<Name>, NoMemory>
-    ensures { IfOk result (λ name. name ≡ written_name scope.now uri.now local.now element.now.attrs) }
+    ensures name_that_is_written { IfOk result (λ name. name ≡ written_name scope.now uri.now local.now element.now.attrs) }
 {
     match find_attr(alloc, element, scope, uri.as_str(), local.as_str()) {
         None => new_name(alloc, scope, uri, local),
@@ -117,7 +117,7 @@ fn written(
     value: Text,
     found: Result<usize, EditRefusal>,
 ) -> Result<Change, EditRefusal>
-    ensures { result ≡ made (SetAttr path.now name value) found }
+    ensures writes_if_it_may { result ≡ made (SetAttr path.now name value) found }
 {
     let change = Change::SetAttr {
         at: path.copy(),
@@ -134,7 +134,7 @@ fn tag_written(
     name: &Name,
     value: &Text,
 ) -> Result<Element, NoMemory>
-    ensures { IfOk result (λ tag. tag ≡ tag_with (with_attr name.now value.now element.now.attrs) element.now) }
+    ensures tag_with_the_attribute { IfOk result (λ tag. tag ≡ tag_with (with_attr name.now value.now element.now.attrs) element.now) }
 {
     let mut tag = tag_of(alloc, element)?;
     let name = name.copy(alloc)?;
@@ -158,7 +158,7 @@ fn plan_value(
     requires ends { selector.now.end ≡ ends.Attribute uri.now local.now }
     requires selected { SelectsPath selector.now.steps root.now path.now }
     requires faultless { Judged usage root.now None }
-    ensures { OrMemory (IsValuePlan usage root.now selector.now.steps uri.now local.now path.now value) result }
+    ensures plans_the_value { OrMemory (IsValuePlan usage root.now selector.now.steps uri.now local.now path.now value) result }
 {
     let Some(element) = element_at(root, path) else {
         unreachable!()

@@ -44,7 +44,7 @@ fn fixed(status: u16) -> Answered
 
 // The machine's answer; for want of memory the fixed 503.
 fn answer_request<M: Machine>(machine: &mut M, request: &Request) -> Answered
-    ensures { AnswersAsked (InBytes M.steps) machine.old (Asked.Request request.now) result.reply result.edit machine.new }
+    ensures answers_as_the_machine { AnswersAsked (InBytes M.steps) machine.old (Asked.Request request.now) result.reply result.edit machine.new }
 {
     match machine.answer(request) {
         Ok(answered) => answered,
@@ -54,7 +54,7 @@ fn answer_request<M: Machine>(machine: &mut M, request: &Request) -> Answered
 
 // The answer to what was asked; None at the end of the connection.
 fn answer_to<M: Machine>(machine: &mut M, asked: &Asked) -> Option<Answered>
-    ensures { MatchOption result ((asked.now ≡ Asked.End) × (machine.new ≡ machine.old))
+    ensures answers_what_was_asked { MatchOption result ((asked.now ≡ Asked.End) × (machine.new ≡ machine.old))
         (λ answered. AnswersAsked (InBytes M.steps) machine.old asked.now answered.reply answered.edit machine.new) }
 {
     match asked {
@@ -69,7 +69,7 @@ fn answer_to<M: Machine>(machine: &mut M, asked: &Asked) -> Option<Answered>
 
 // Tells the watchers of a change, if there is one.
 fn tell_of<W: Watchers>(watchers: &mut W, edit: &Option<Edit>)
-    ensures { W.keeps (told edit.now) watchers.old watchers.new }
+    ensures told_to_the_watchers { W.keeps (told edit.now) watchers.old watchers.new }
 {
     let Some(edit) = edit else {
         return;
@@ -118,7 +118,7 @@ fn serve_turns<M: Machine, L: Source + Sink, W: Watchers>(
     watchers: &mut W,
 ) -> Ended
     requires { buffers.old.wire ≡ fresh_wire }
-    ensures { ServesLine (InBytes M.steps) W.keeps result
+    ensures serves_the_turns { ServesLine (InBytes M.steps) W.keeps result
         machine.old machine.new (L.state line.old) (L.state line.new) watchers.old watchers.new }
 {
     'turns: loop {
@@ -138,7 +138,7 @@ pub fn serve_line<M: Machine, L: Source + Sink, W: Watchers>(
     line: &mut L,
     watchers: &mut W,
 ) -> Ended
-    ensures { ServesLine (InBytes M.steps) W.keeps result
+    ensures serves_the_line { ServesLine (InBytes M.steps) W.keeps result
         machine.old machine.new (L.state line.old) (L.state line.new) watchers.old watchers.new }
 {
     buffers.wire.reset();

@@ -37,7 +37,7 @@ pub fn serve_lines<M: Machine, P: Port, W: Watchers>(
     count: u64,
     watchers: &mut W,
 ) -> Served
-    ensures { ServesPort (InBytes M.steps) W.keeps count result
+    ensures serves_the_port { ServesPort (InBytes M.steps) W.keeps count result
         machine.old machine.new (P.state port.old) (P.state port.new) watchers.old watchers.new }
 {
     let mut connections = 0;

@@ -48,7 +48,7 @@ pub enum Stage {
 
 fn after_digits(value: usize, len: usize, byte: u8) -> Stage
     requires { len ≤ 254 }
-    ensures { result ≡ after_digits value len byte }
+    ensures stage_behind_the_digits { result ≡ after_digits value len byte }
 {
     if byte == b'\r' {
         Stage::SizeEnd { value }
@@ -72,7 +72,7 @@ fn after_digits(value: usize, len: usize, byte: u8) -> Stage
 fn in_digits(digits: usize, value: usize, byte: u8) -> Stage
     requires few { digits ≤ 16 }
     requires capped { value ≤ 262_145 }
-    ensures { result ≡ in_digits digits value byte }
+    ensures stage_within_the_digits { result ≡ in_digits digits value byte }
 {
     match parse_hex_digit(byte) {
         Some(_) if digits >= MAX_DIGITS => Stage::Bad,
@@ -87,7 +87,7 @@ fn in_digits(digits: usize, value: usize, byte: u8) -> Stage
 
 fn in_extension(value: usize, len: usize, byte: u8) -> Stage
     requires { len ≤ 254 }
-    ensures { result ≡ in_extension value len byte }
+    ensures stage_within_the_extension { result ≡ in_extension value len byte }
 {
     if byte == b'\r' {
         Stage::SizeEnd { value }
@@ -104,7 +104,7 @@ fn in_extension(value: usize, len: usize, byte: u8) -> Stage
 fn after_line(value: usize, decoded: usize, byte: u8) -> Stage
     requires capped { value ≤ 262_145 }
     requires room { decoded ≤ 262_144 }
-    ensures { result ≡ after_line value decoded byte }
+    ensures stage_behind_the_line { result ≡ after_line value decoded byte }
 {
     if byte != b'\n' {
         Stage::Bad
@@ -119,7 +119,7 @@ fn after_line(value: usize, decoded: usize, byte: u8) -> Stage
 
 fn in_trailers(used: usize, byte: u8, end: Stage) -> Stage
     requires { used ≤ 16_384 }
-    ensures { result ≡ in_trailers used byte end }
+    ensures stage_within_the_trailers { result ≡ in_trailers used byte end }
 {
     if byte == b'\r' {
         end
@@ -131,7 +131,7 @@ fn in_trailers(used: usize, byte: u8, end: Stage) -> Stage
 }
 
 fn if_feed(byte: u8, next: Stage) -> Stage
-    ensures { result ≡ if_feed byte next }
+    ensures stage_if_a_feed_comes { result ≡ if_feed byte next }
 {
     if byte == b'\n' { next } else { Stage::Bad }
 }
@@ -140,7 +140,7 @@ fn if_feed(byte: u8, next: Stage) -> Stage
 fn next_stage(stage: Stage, decoded: usize, byte: u8) -> Stage
     requires fits { Fits stage decoded }
     requires other { is_data stage ≡ false }
-    ensures { result ≡ next_stage stage decoded byte }
+    ensures stage_behind_the_byte { result ≡ next_stage stage decoded byte }
 {
     match stage {
         Stage::Size { digits, value } => in_digits(digits, value, byte),
@@ -185,7 +185,7 @@ impl Model for Decoder {
 
 impl Decoder {
     pub fn new(alloc: Global) -> Result<Decoder, NoMemory>
-        ensures { IfOk result (λ decoder. decoder ≡ start) }
+        ensures starts_a_body { IfOk result (λ decoder. decoder ≡ start) }
     {
         Ok(Decoder {
             stage: Stage::Size {
@@ -199,7 +199,7 @@ impl Decoder {
 
     // For the next body.
     pub fn restart(&mut self)
-        ensures { self.new ≡ start }
+        ensures starts_the_next_body { self.new ≡ start }
     {
         self.stage = Stage::Size {
             digits: 0,
@@ -209,20 +209,20 @@ impl Decoder {
     }
 
     pub fn stage(&self) -> Stage
-        ensures { result ≡ self.now.stage }
+        ensures tells_the_stage { result ≡ self.now.stage }
     {
         self.stage
     }
 
     // The bytes of the chunks so far, joined.
     pub fn body(&self) -> &[u8]
-        ensures { result.now ≡ self.now.body }
+        ensures lends_the_joined_chunks { result.now ≡ self.now.body }
     {
         &self.buffer[..self.decoded]
     }
 
     pub fn is_settled(&self) -> bool
-        ensures { result ≡ is_settled self.now.stage }
+        ensures tells_whether_it_is_settled { result ≡ is_settled self.now.stage }
     {
         matches!(self.stage, Stage::Done | Stage::Bad | Stage::TooLong)
     }
@@ -245,7 +245,7 @@ impl Decoder {
     fn read_byte(&mut self, byte: u8)
         requires open { is_settled self.old.stage ≡ false }
         requires other { is_data self.old.stage ≡ false }
-        ensures { self.new ≡ next_decoding self.old byte }
+        ensures reads_the_byte { self.new ≡ next_decoding self.old byte }
     {
         self.stage = next_stage(self.stage, self.decoded, byte);
     }

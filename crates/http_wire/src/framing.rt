@@ -38,14 +38,14 @@ pub enum Named<'b> {
 }
 
 fn is_same_word(a: &[u8], b: &[u8]) -> bool
-    ensures { result ≡ same_word a.now b.now }
+    ensures tells_whether_they_are_one_word { result ≡ same_word a.now b.now }
 {
     a.eq_ignore_ascii_case(b)
 }
 
 impl<'b> Named<'b> {
     fn and(self, value: &'b [u8]) -> Named<'b>
-        ensures { (values : List (List ℕ)) → Found self.entry values
+        ensures finds_one_more { (values : List (List ℕ)) → Found self.entry values
             → Found result (values ++ value.now ∷ []) }
     {
         match self {
@@ -55,14 +55,14 @@ impl<'b> Named<'b> {
     }
 
     fn is_absent(self) -> bool
-        ensures { (values : List (List ℕ)) → Found self.entry values
+        ensures tells_whether_none_was_found { (values : List (List ℕ)) → Found self.entry values
             → result ≡ not (nat_lt 0 (length values)) }
     {
         matches!(self, Named::Absent)
     }
 
     fn is_once(self) -> bool
-        ensures { (values : List (List ℕ)) → Found self.entry values
+        ensures tells_whether_one_was_found { (values : List (List ℕ)) → Found self.entry values
             → result ≡ (length values == 1) }
     {
         matches!(self, Named::Once(_))
@@ -71,7 +71,7 @@ impl<'b> Named<'b> {
 
 fn find<'b>(buf: &'b [u8], headers: &[HeaderSpan], name: &[u8]) -> Named<'b>
     requires { All (IsHeaderWithin (length buf.now)) headers.now }
-    ensures { Found result (values_of name.now (map (header_bytes buf.now) headers.now)) }
+    ensures finds_the_values_of_the_name { Found result (values_of name.now (map (header_bytes buf.now) headers.now)) }
 {
     let mut found = Named::Absent;
     'fields: for header in headers {
@@ -84,7 +84,7 @@ fn find<'b>(buf: &'b [u8], headers: &[HeaderSpan], name: &[u8]) -> Named<'b>
 
 // The number that digits write, or the first number beyond the limit where it is greater.
 fn capped_number(digits: &[u8]) -> Option<usize>
-    ensures { result ≡ (if is_number digits.now then Some (min (digits_value 10 digits.now) 262_145) else None) }
+    ensures caps_the_number { result ≡ (if is_number digits.now then Some (min (digits_value 10 digits.now) 262_145) else None) }
 {
     if digits.is_empty() {
         return None;
@@ -114,7 +114,7 @@ fn length_of(value: &[u8]) -> Framing
 #[tactic(auto, unfolding(crate::specs::Framing::lacks_host))]
 fn lacks_host(buf: &[u8], headers: &[HeaderSpan], version: u8) -> bool
     requires { All (IsHeaderWithin (length buf.now)) headers.now }
-    ensures { result ≡ lacks_host version (map (header_bytes buf.now) headers.now) }
+    ensures tells_whether_the_host_is_missing { result ≡ lacks_host version (map (header_bytes buf.now) headers.now) }
 {
     version == 1 && !find(buf, headers, b"host").is_once()
 }
@@ -162,7 +162,7 @@ pub fn read_framing(buf: &[u8], headers: &[HeaderSpan], version: u8) -> Framing
 }
 
 fn trim_start(mut bytes: &[u8]) -> &[u8]
-    ensures { result.now ≡ skip_ows bytes.now }
+    ensures trims_the_start { result.now ≡ skip_ows bytes.now }
 {
     'blanks: while let [first, rest @ ..] = bytes
         && is_space_or_tab(*first)
@@ -173,7 +173,7 @@ fn trim_start(mut bytes: &[u8]) -> &[u8]
 }
 
 fn trim_end(mut bytes: &[u8]) -> &[u8]
-    ensures { result.now ≡ reverse (skip_ows (reverse bytes.now)) }
+    ensures trims_the_end { result.now ≡ reverse (skip_ows (reverse bytes.now)) }
 {
     'blanks: while let [rest @ .., last] = bytes
         && is_space_or_tab(*last)
@@ -185,14 +185,14 @@ fn trim_end(mut bytes: &[u8]) -> &[u8]
 
 #[tactic(auto, unfolding(httparse::specs::Grammar::trim_ows))]
 fn is_close(part: &[u8]) -> bool
-    ensures { result ≡ same_word (trim_ows part.now) (codes "close") }
+    ensures tells_whether_it_is_close { result ≡ same_word (trim_ows part.now) (codes "close") }
 {
     is_same_word(trim_end(trim_start(part)), b"close")
 }
 
 #[tactic(auto, unfolding(crate::specs::Fields::has_close))]
 fn has_close(value: &[u8]) -> bool
-    ensures { result ≡ has_close value.now }
+    ensures tells_whether_one_is_close { result ≡ has_close value.now }
 {
     value.split(|b| *b == b',').any(|part| is_close(part))
 }
@@ -201,7 +201,7 @@ fn has_close(value: &[u8]) -> bool
 #[tactic(auto, unfolding(crate::specs::Fields::asks_to_close))]
 pub fn asks_to_close(buf: &[u8], headers: &[HeaderSpan]) -> bool
     requires { All (IsHeaderWithin (length buf.now)) headers.now }
-    ensures { result ≡ asks_to_close (map (header_bytes buf.now) headers.now) }
+    ensures tells_whether_it_asks_to_close { result ≡ asks_to_close (map (header_bytes buf.now) headers.now) }
 {
     'fields: for header in headers {
         if is_same_word(header.name.of(buf), b"connection") && has_close(header.value.of(buf)) {

@@ -24,7 +24,7 @@ pub enum Front {
 
 fn find_front(bytes: &[u8], headers: &mut [HeaderSpan]) -> Front
     requires { length headers.old ≡ 64 }
-    ensures { IsFront bytes.now headers.new result }
+    ensures front_of_these_bytes { IsFront bytes.now headers.new result }
 {
     let start = &bytes[..bytes.len().min(MAX_HEAD)];
     match parse_request(start, headers) {
@@ -40,7 +40,7 @@ fn look_on(bytes: &[u8], seen: usize, headers: &mut [HeaderSpan]) -> Front
     requires slots { length headers.old ≡ 64 }
     requires inside { seen ≤ length bytes.now }
     requires none { HasNoHead (take seen bytes.now) }
-    ensures { IsFront bytes.now headers.new result }
+    ensures front_of_all_bytes { IsFront bytes.now headers.new result }
 {
     if seen > 0 && bytes.len() < MAX_HEAD && !bytes[seen..].contains(&b'\n') {
         return Front::Open;

@@ -49,7 +49,7 @@ pub enum Asked {
 
 // The text of a token, which is ASCII, so that its characters are its bytes.
 fn text_of(alloc: Global, token: &[u8]) -> Result<Text, NoMemory>
-    ensures { IfOk result (λ text. text ≡ token.now) }
+    ensures characters_of_the_token { IfOk result (λ text. text ≡ token.now) }
 {
     let mut text = Text::own(String::new(alloc));
     'token: for byte in token {
@@ -60,7 +60,7 @@ fn text_of(alloc: Global, token: &[u8]) -> Result<Text, NoMemory>
 
 fn fields_of(alloc: Global, bytes: &[u8], headers: &[HeaderSpan]) -> Result<List<Field>, NoMemory>
     requires { All (IsHeaderWithin (length bytes.now)) headers.now }
-    ensures { IfOk result (λ fields. fields ≡ map field_of (map (header_bytes bytes.now) headers.now)) }
+    ensures fields_of_the_headers { IfOk result (λ fields. fields ≡ map field_of (map (header_bytes bytes.now) headers.now)) }
 {
     let mut fields = List::empty(alloc);
     'fields: for header in headers {

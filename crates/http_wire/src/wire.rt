@@ -44,7 +44,7 @@ impl Model for Inflow {
 fn move_to_front(buffer: &mut [u8], start: usize, end: usize)
     requires ordered { start ≤ end }
     requires inside { end ≤ length buffer.old }
-    ensures { slice_range buffer.new 0 (end - start) ≡ slice_range buffer.old start end }
+    ensures moves_them_to_the_front { slice_range buffer.new 0 (end - start) ≡ slice_range buffer.old start end }
 {
     if start > 0 {
         buffer.copy_within(start..end, 0);
@@ -53,7 +53,7 @@ fn move_to_front(buffer: &mut [u8], start: usize, end: usize)
 
 impl Inflow {
     pub fn new(alloc: Global) -> Result<Inflow, NoMemory>
-        ensures { IfOk result (λ inflow. inflow ≡ []) }
+        ensures holds_no_bytes { IfOk result (λ inflow. inflow ≡ []) }
     {
         Ok(Inflow {
             buffer: vec![in alloc; 0; MAX_HELD]?,
@@ -77,7 +77,7 @@ impl Inflow {
     }
 
     pub fn is_empty(&self) -> bool
-        ensures { IsTrue result ↔ (self.now ≡ []) }
+        ensures tells_whether_it_holds_none { IsTrue result ↔ (self.now ≡ []) }
     {
         self.start == self.end
     }
@@ -85,7 +85,7 @@ impl Inflow {
     // Keeps the first bytes alone.
     pub fn truncate(&mut self, count: usize)
         requires { count ≤ length self.old }
-        ensures { self.new ≡ take count self.old }
+        ensures keeps_the_first_bytes { self.new ≡ take count self.old }
     {
         self.end = self.start + count;
     }
@@ -93,7 +93,7 @@ impl Inflow {
     // Lets the first bytes go, and moves none.
     pub fn pass(&mut self, count: usize)
         requires { count ≤ length self.old }
-        ensures { self.new ≡ drop count self.old }
+        ensures lets_the_first_bytes_go { self.new ≡ drop count self.old }
     {
         self.start += count;
     }
@@ -164,7 +164,7 @@ impl Wire {
     /// # Errors
     /// `NoMemory` for want of memory.
     pub fn new(alloc: Global) -> Result<Wire, NoMemory>
-        ensures { IfOk result (λ wire. wire ≡ fresh_wire) }
+        ensures wire_that_begins { IfOk result (λ wire. wire ≡ fresh_wire) }
     {
         Ok(Wire {
             inflow: Inflow::new(alloc)?,
@@ -176,7 +176,7 @@ impl Wire {
 
     /// Makes it the wire of a connection that begins: what is held is forgotten. Takes no memory.
     pub fn reset(&mut self)
-        ensures { self.new ≡ fresh_wire }
+        ensures begins_anew { self.new ≡ fresh_wire }
     {
         self.inflow.truncate(0);
         self.requests = 0;

@@ -29,7 +29,7 @@ impl Model for Bindings {
 impl Bindings {
     /// No bindings. Takes no memory; those that are added take it from `alloc`.
     pub fn none(alloc: Global) -> Bindings
-        ensures { result ≡ [] }
+        ensures binds_nothing { result ≡ [] }
     {
         Bindings {
             alloc,
@@ -53,7 +53,7 @@ impl Bindings {
 
     /// The URI that a prefix is bound to. Takes no memory.
     pub fn resolve(&self, prefix: &str) -> Option<&str>
-        ensures { option_map (λ uri. chars uri.now) result ≡ prefix_uri self.now (chars prefix.now) }
+        ensures resolves_the_prefix { option_map (λ uri. chars uri.now) result ≡ prefix_uri self.now (chars prefix.now) }
     {
         if is_xmlns(prefix) {
             return None;

@@ -15,7 +15,7 @@ use xml_tree::{Around, Attr, Decl, Declared, Element, Name, Node, Scope, Text};
 
 /// Declarations, with an index where they are many and there is memory for one. What they declare doesn't depend on that.
 pub(crate) fn declared_in<'a>(alloc: Global, decls: &'a [Decl]) -> Declared<'a>
-    ensures { result ≡ decls.now }
+    ensures holds_the_declarations { result ≡ decls.now }
 {
     match Declared::indexed(alloc, decls) {
         Ok(declared) => declared,
@@ -33,7 +33,7 @@ pub fn find_attr(
     uri: &str,
     local: &str,
 ) -> Option<usize>
-    ensures { result ≡ position (is_attr scope.now (chars uri.now) (chars local.now)) element.now.attrs }
+    ensures place_of_the_first { result ≡ position (is_attr scope.now (chars uri.now) (chars local.now)) element.now.attrs }
 {
     find_within(
         alloc,
@@ -54,7 +54,7 @@ fn find_within(
     uri: &str,
     local: &str,
 ) -> Option<usize>
-    ensures { result ≡ position (is_attr (scope.now ++ map (λ x. x.now) lists.now) (chars uri.now) (chars local.now)) attrs.now }
+    ensures place_of_the_first_within { result ≡ position (is_attr (scope.now ++ map (λ x. x.now) lists.now) (chars uri.now) (chars local.now)) attrs.now }
 {
     let [list, lists @ ..] = lists else {
         return attr_place(scope, attrs, uri, local);
@@ -72,7 +72,7 @@ fn find_within(
 
 // The number of the first such attribute in a scope.
 fn attr_place(scope: &Around<'_>, attrs: &[Attr], uri: &str, local: &str) -> Option<usize>
-    ensures { result ≡ position (is_attr scope.now (chars uri.now) (chars local.now)) attrs.now }
+    ensures place_of_the_first_in_scope { result ≡ position (is_attr scope.now (chars uri.now) (chars local.now)) attrs.now }
 {
     attrs
         .iter()
@@ -81,21 +81,21 @@ fn attr_place(scope: &Around<'_>, attrs: &[Attr], uri: &str, local: &str) -> Opt
 
 // The URI of what is in no namespace.
 pub(crate) fn no_uri() -> &'static str
-    ensures { chars result.now ≡ [] }
+    ensures holds_no_characters { chars result.now ≡ [] }
 {
     ""
 }
 
 // Whether two texts have the same characters.
 fn same_text(a: &str, b: &str) -> bool
-    ensures { result ≡ bytes_eq (chars a.now) (chars b.now) }
+    ensures tells_equal_characters { result ≡ bytes_eq (chars a.now) (chars b.now) }
 {
     a == b
 }
 
 // The URI of an element's name, which is empty where it is in no namespace.
 fn element_uri<'a>(scope: &Around<'a>, name: &Name) -> &'a str
-    ensures { chars result.now ≡ uri_of (element_name scope.now name.now) }
+    ensures uri_of_the_element_name { chars result.now ≡ uri_of (element_name scope.now name.now) }
 {
     match scope.resolve(&name.prefix) {
         Some(uri) => uri,
@@ -105,7 +105,7 @@ fn element_uri<'a>(scope: &Around<'a>, name: &Name) -> &'a str
 
 // The same of an attribute's name.
 fn attr_uri<'a>(scope: &Around<'a>, name: &Name) -> &'a str
-    ensures { chars result.now ≡ uri_of (attr_name scope.now name.now) }
+    ensures uri_of_the_attribute_name { chars result.now ≡ uri_of (attr_name scope.now name.now) }
 {
     if has_no_prefix(name) {
         return no_uri();
@@ -115,21 +115,21 @@ fn attr_uri<'a>(scope: &Around<'a>, name: &Name) -> &'a str
 
 // Whether a name has no prefix.
 fn has_no_prefix(name: &Name) -> bool
-    ensures { result ≡ bytes_eq name.now.prefix [] }
+    ensures tells_whether_it_lacks_a_prefix { result ≡ bytes_eq name.now.prefix [] }
 {
     name.prefix.is("")
 }
 
 // Whether it is the attribute of this name.
 fn is_attr(scope: &Around<'_>, uri: &str, local: &str, attr: &Attr) -> bool
-    ensures { result ≡ is_attr scope.now (chars uri.now) (chars local.now) attr.now }
+    ensures tells_whether_it_has_the_name { result ≡ is_attr scope.now (chars uri.now) (chars local.now) attr.now }
 {
     attr.name.local.is(local) && same_text(attr_uri(scope, &attr.name), uri)
 }
 
 // Whether it is the attribute that is asked for.
 fn is_asked(scope: &Around<'_>, test: &AttrTest, attr: &Attr) -> bool
-    ensures { result ≡ is_asked scope.now test.now attr.now }
+    ensures tells_whether_it_is_asked_for { result ≡ is_asked scope.now test.now attr.now }
 {
     attr.value.is(test.value.as_str())
         && is_attr(scope, test.uri.as_str(), test.local.as_str(), attr)
@@ -137,7 +137,7 @@ fn is_asked(scope: &Around<'_>, test: &AttrTest, attr: &Attr) -> bool
 
 // Whether an element has the name that is asked for, in the scope around it.
 fn is_named_so(alloc: Global, scope: &Around<'_>, uri: &Text, local: &Text, kid: &Element) -> bool
-    ensures { result ≡ is_named_so uri.now local.now (element_name (inside scope.now kid.now) kid.now.name) }
+    ensures tells_whether_it_is_named_so { result ≡ is_named_so uri.now local.now (element_name (inside scope.now kid.now) kid.now.name) }
 {
     let declared = Declared::new(alloc, kid.decls());
     let inside = (&*scope).inside(&declared);
@@ -146,7 +146,7 @@ fn is_named_so(alloc: Global, scope: &Around<'_>, uri: &Text, local: &Text, kid:
 
 // Whether an element passes a step's name test, in the scope around it.
 fn is_named(alloc: Global, scope: &Around<'_>, step: &Step, kid: &Element) -> bool
-    ensures { result ≡ is_named scope.now step.now kid.now }
+    ensures tells_whether_it_passes_the_name { result ≡ is_named scope.now step.now kid.now }
 {
     match &step.name {
         NameTest::Any => true,
@@ -156,7 +156,7 @@ fn is_named(alloc: Global, scope: &Around<'_>, step: &Step, kid: &Element) -> bo
 
 // Whether an element has the attribute that is asked for, in the scope around it.
 fn has_tested(alloc: Global, scope: &Around<'_>, test: &AttrTest, kid: &Element) -> bool
-    ensures { result ≡ has_asked (inside scope.now kid.now) (Some test.now) kid.now.attrs }
+    ensures tells_whether_it_has_the_attribute { result ≡ has_asked (inside scope.now kid.now) (Some test.now) kid.now.attrs }
 {
     let declared = declared_in(alloc, kid.decls());
     has_asked(&(&*scope).inside(&declared), test, kid.attrs())
@@ -164,7 +164,7 @@ fn has_tested(alloc: Global, scope: &Around<'_>, test: &AttrTest, kid: &Element)
 
 // Whether an element passes a step's attribute test, in the scope around it.
 fn is_tested(alloc: Global, scope: &Around<'_>, step: &Step, kid: &Element) -> bool
-    ensures { result ≡ is_tested scope.now step.now kid.now }
+    ensures tells_whether_it_passes_the_test { result ≡ is_tested scope.now step.now kid.now }
 {
     match &step.test {
         None => true,
@@ -174,7 +174,7 @@ fn is_tested(alloc: Global, scope: &Around<'_>, step: &Step, kid: &Element) -> b
 
 // Whether some attribute is the one that is asked for.
 fn has_asked(scope: &Around<'_>, test: &AttrTest, attrs: &[Attr]) -> bool
-    ensures { result ≡ has_asked scope.now (Some test.now) attrs.now }
+    ensures tells_whether_one_is_asked_for { result ≡ has_asked scope.now (Some test.now) attrs.now }
 {
     attrs.iter().any(|attr| is_asked(scope, test, attr))
 }
@@ -182,7 +182,7 @@ fn has_asked(scope: &Around<'_>, test: &AttrTest, attrs: &[Attr]) -> bool
 // Whether one that has so many before it is at the position.
 fn is_at_position(position: Option<u64>, before: u64) -> bool
     requires { before + 1 < 2 ^ 64 }
-    ensures { result ≡ is_at_position position before }
+    ensures tells_whether_it_is_at_the_position { result ≡ is_at_position position before }
 {
     match position {
         None => true,
@@ -199,7 +199,7 @@ pub(crate) fn is_match(
     before: u64,
 ) -> bool
     requires { before + 1 < 2 ^ 64 }
-    ensures { result ≡ child_matches (is_named scope.now step.now) (is_tested scope.now step.now) step.now.position before (Some kid.now) }
+    ensures tells_whether_it_matches { result ≡ child_matches (is_named scope.now step.now) (is_tested scope.now step.now) step.now.position before (Some kid.now) }
 {
     is_named(alloc, scope, step, kid)
         && (is_at_position(step.position, before) && is_tested(alloc, scope, step, kid))
@@ -208,7 +208,7 @@ pub(crate) fn is_match(
 // One more, if it is.
 fn count(before: u64, more: bool) -> u64
     requires { before + 1 < 2 ^ 64 }
-    ensures { result ≡ before + cond more 1 0 }
+    ensures counts_one_more { result ≡ before + cond more 1 0 }
 {
     if more { before + 1 } else { before }
 }
@@ -220,7 +220,7 @@ pub(crate) fn select_child(
     step: &Step,
     element: &Element,
 ) -> Option<usize>
-    ensures { result ≡ selected_child scope.now step.now (kids_of element.now) }
+    ensures selects_the_one_that_matches { result ≡ selected_child scope.now step.now (kids_of element.now) }
 {
     let mut found = None;
     let mut before: u64 = 0;

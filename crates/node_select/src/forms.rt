@@ -14,7 +14,7 @@ use tree_text::{Stop, word};
 
 // An attribute or all namespaces, and what follows them.
 fn end(text: &[char]) -> Result<(RawEnd<'_>, &[char]), Stop<'_>>
-    ensures { Gives (λ x. (end_in x.0, x.1.now)) result (read_end text.now) }
+    ensures reads_an_end { Gives (λ x. (end_in x.0, x.1.now)) result (read_end text.now) }
 {
     match text {
         ['@', ..] => {
@@ -33,7 +33,7 @@ fn end(text: &[char]) -> Result<(RawEnd<'_>, &[char]), Stop<'_>>
 
 // A slash and an end, if a slash follows, and what follows them.
 fn optional_end(text: &[char]) -> Result<(RawEnd<'_>, &[char]), Stop<'_>>
-    ensures { Gives (λ x. (end_in x.0, x.1.now)) result (read_valued end_or_element (read_optional slash_follows (read_behind (read_word slash) read_end)) text.now) }
+    ensures reads_an_end_if_it_follows { Gives (λ x. (end_in x.0, x.1.now)) result (read_valued end_or_element (read_optional slash_follows (read_behind (read_word slash) read_end)) text.now) }
 {
     if !slash_follows(text) {
         return Ok((RawEnd::Element, text));
@@ -44,7 +44,7 @@ fn optional_end(text: &[char]) -> Result<(RawEnd<'_>, &[char]), Stop<'_>>
 
 // A selector, and what follows it.
 fn selector(alloc: Global, text: &[char]) -> Result<(RawSelector<'_>, &[char]), Stop<'_>>
-    ensures { Gives (λ x. (selector_in x.0, x.1.now)) result (read_selector text.now) }
+    ensures reads_a_selector { Gives (λ x. (selector_in x.0, x.1.now)) result (read_selector text.now) }
 {
     let (steps, rest) = steps(alloc, text, Form::Node)?;
     let (end, rest) = optional_end(rest)?;
@@ -66,7 +66,7 @@ pub fn raw_selector(alloc: Global, text: &[char]) -> Result<RawSelector<'_>, Sto
 
 // The position of a text, if a bracket follows, and what follows it.
 fn text_position(text: &[char]) -> Result<(Option<u64>, &[char]), Stop<'_>>
-    ensures { Gives (λ x. (x.0, x.1.now)) result (read_optional test_follows read_position text.now) }
+    ensures reads_a_position_if_it_follows { Gives (λ x. (x.0, x.1.now)) result (read_optional test_follows read_position text.now) }
 {
     if !test_follows(text) {
         return Ok((None, text));
@@ -77,7 +77,7 @@ fn text_position(text: &[char]) -> Result<(Option<u64>, &[char]), Stop<'_>>
 
 // An attribute or a text, and what follows them.
 fn patch_end(text: &[char]) -> Result<(RawPatchEnd<'_>, &[char]), Stop<'_>>
-    ensures { Gives (λ x. (patch_end_in x.0, x.1.now)) result (read_patch_end text.now) }
+    ensures reads_an_end_of_a_patch { Gives (λ x. (patch_end_in x.0, x.1.now)) result (read_patch_end text.now) }
 {
     match text {
         ['@', ..] => {
@@ -94,7 +94,7 @@ fn patch_end(text: &[char]) -> Result<(RawPatchEnd<'_>, &[char]), Stop<'_>>
 
 // A slash and an end, if a slash follows, and what follows them.
 fn optional_patch_end(text: &[char]) -> Result<(RawPatchEnd<'_>, &[char]), Stop<'_>>
-    ensures { Gives (λ x. (patch_end_in x.0, x.1.now)) result (read_valued patch_end_or_element (read_optional slash_follows (read_behind (read_word slash) read_patch_end)) text.now) }
+    ensures reads_an_end_of_a_patch_if_it_follows { Gives (λ x. (patch_end_in x.0, x.1.now)) result (read_valued patch_end_or_element (read_optional slash_follows (read_behind (read_word slash) read_patch_end)) text.now) }
 {
     if !slash_follows(text) {
         return Ok((RawPatchEnd::Element, text));
@@ -105,7 +105,7 @@ fn optional_patch_end(text: &[char]) -> Result<(RawPatchEnd<'_>, &[char]), Stop<
 
 // How many characters a slash in front has, and what follows it.
 fn optional_slash(text: &[char]) -> Result<(usize, &[char]), Stop<'_>>
-    ensures { Gives (λ x. (x.0, x.1.now)) result (read_valued slash_width (read_optional slash_follows (read_word slash)) text.now) }
+    ensures reads_a_slash_if_it_follows { Gives (λ x. (x.0, x.1.now)) result (read_valued slash_width (read_optional slash_follows (read_word slash)) text.now) }
 {
     if !slash_follows(text) {
         return Ok((0, text));
@@ -116,7 +116,7 @@ fn optional_slash(text: &[char]) -> Result<(usize, &[char]), Stop<'_>>
 
 // A selector of a patch, and what follows it.
 fn patch_selector(alloc: Global, text: &[char]) -> Result<(RawPatchSelector<'_>, &[char]), Stop<'_>>
-    ensures { Gives (λ x. (patch_selector_in x.0, x.1.now)) result (read_patch_selector text.now) }
+    ensures reads_a_selector_of_a_patch { Gives (λ x. (patch_selector_in x.0, x.1.now)) result (read_patch_selector text.now) }
 {
     let (slash, rest) = optional_slash(text)?;
     let (steps, rest) = steps(alloc, rest, Form::Patch)?;

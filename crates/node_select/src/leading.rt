@@ -52,7 +52,7 @@ fn nowhere() -> Reached
 // How far they lead from the root down.
 fn reach_inside(alloc: Global, root: &Element, steps: &[Step]) -> Reached
     requires low { height root.now ≤ 64 }
-    ensures { ReachesBelow (root.now.decls ∷ []) (kids_of root.now) steps.now [] result }
+    ensures reaches_from_the_root { ReachesBelow (root.now.decls ∷ []) (kids_of root.now) steps.now [] result }
 {
     let declared = declared_in(alloc, root.decls());
     reach_below(
@@ -73,7 +73,7 @@ fn reach_below(
     path: Path,
 ) -> Reached
     requires low { length path + height element.now ≤ 64 }
-    ensures { ReachesBelow scope.now (kids_of element.now) steps.now path result }
+    ensures reaches_from_the_element { ReachesBelow scope.now (kids_of element.now) steps.now path result }
 {
     let [step, steps @ ..] = steps else {
         return Reached { steps: 0, path };

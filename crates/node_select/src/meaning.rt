@@ -42,7 +42,7 @@ impl<T: Drop> From<AllocFailed<T>> for Unresolved {
 
 // The URI of a prefix, if it is bound.
 fn uri_of(alloc: Global, bindings: &Bindings, prefix: &[char]) -> Result<Option<Text>, AllocError>
-    ensures { IfOk result (λ uri. uri ≡ prefix_uri bindings.now prefix.now) }
+    ensures uri_of_the_prefix { IfOk result (λ uri. uri ≡ prefix_uri bindings.now prefix.now) }
 {
     let prefix = text_of(alloc, prefix)?;
     match bindings.resolve(prefix.as_str()) {
@@ -62,7 +62,7 @@ fn name_uri(
     name: &Written<'_>,
     at: usize,
 ) -> Result<Text, Unresolved>
-    ensures { Means (unbound_at bindings.now at (name_in name.now)) (name_uri bindings.now (chars none.now) (name_in name.now)) result }
+    ensures means_the_name { Means (unbound_at bindings.now at (name_in name.now)) (name_uri bindings.now (chars none.now) (name_in name.now)) result }
 {
     if name.prefix.is_empty() {
         let uri = Text::from(alloc, none)?;
@@ -81,7 +81,7 @@ fn attr_uri(
     name: &Written<'_>,
     at: usize,
 ) -> Result<Text, Unresolved>
-    ensures { Means (unbound_at bindings.now at (name_in name.now)) (attr_uri bindings.now (name_in name.now)) result }
+    ensures means_the_attribute_name { Means (unbound_at bindings.now at (name_in name.now)) (attr_uri bindings.now (name_in name.now)) result }
 {
     name_uri(alloc, bindings, no_uri(), name, at)
 }
@@ -94,7 +94,7 @@ fn name_test(
     name: &Option<Written<'_>>,
     at: usize,
 ) -> Result<NameTest, Unresolved>
-    ensures { Means (unbound_name bindings.now at (option_map name_in name.now)) (name_test bindings.now (chars default.now) (option_map name_in name.now)) result }
+    ensures means_the_name_test { Means (unbound_name bindings.now at (option_map name_in name.now)) (name_test bindings.now (chars default.now) (option_map name_in name.now)) result }
 {
     match name {
         None => Ok(NameTest::Any),
@@ -113,7 +113,7 @@ fn attr_test(
     test: &RawTest<'_>,
     at: usize,
 ) -> Result<AttrTest, Unresolved>
-    ensures { Means (unbound_at bindings.now at (test_in test.now).0) (attr_test bindings.now (test_in test.now)) result }
+    ensures means_the_attribute_test { Means (unbound_at bindings.now at (test_in test.now).0) (attr_test bindings.now (test_in test.now)) result }
 {
     let uri = attr_uri(alloc, bindings, &test.name, at)?;
     let local = text_of(alloc, test.name.local)?;
@@ -128,7 +128,7 @@ fn optional_test(
     test: &Option<RawTest<'_>>,
     at: usize,
 ) -> Result<Option<AttrTest>, Unresolved>
-    ensures { Means (unbound_test bindings.now at (option_map test_in test.now)) (option_map (attr_test bindings.now) (option_map test_in test.now)) result }
+    ensures means_the_test_if_it_is_there { Means (unbound_test bindings.now at (option_map test_in test.now)) (option_map (attr_test bindings.now) (option_map test_in test.now)) result }
 {
     match test {
         None => Ok(None),
@@ -148,7 +148,7 @@ fn step(
     at: usize,
 ) -> Result<Step, Unresolved>
     requires { at + step.now.front + 2 < 2 ^ 64 }
-    ensures { Means (unbound_in bindings.now at (step_in step.now)) (step_of bindings.now (chars default.now) (step_in step.now)) result }
+    ensures means_the_step { Means (unbound_in bindings.now at (step_in step.now)) (step_of bindings.now (chars default.now) (step_in step.now)) result }
 {
     let name = name_test(alloc, bindings, default, &step.name, at)?;
     let test = optional_test(alloc, bindings, &step.test, at + step.front + 2)?;
@@ -168,7 +168,7 @@ pub fn steps(
     at: usize,
 ) -> Result<(List<Step>, usize), Unresolved>
     requires { HasRoom at (map step_in steps.now) }
-    ensures { Means (unbound_from bindings.now at (map step_in steps.now) no_end) (steps_of bindings.now (chars default.now) (map step_in steps.now), at + widths (map step_in steps.now)) result }
+    ensures means_the_steps { Means (unbound_from bindings.now at (map step_in steps.now) no_end) (steps_of bindings.now (chars default.now) (map step_in steps.now), at + widths (map step_in steps.now)) result }
 {
     let mut made = List::empty(alloc);
     let mut here = at;
@@ -188,7 +188,7 @@ pub fn end(
     at: usize,
 ) -> Result<End, Unresolved>
     requires { at + 1 < 2 ^ 64 }
-    ensures { Means (unbound_end bindings.now (end_in end.now) at) (end_of bindings.now (end_in end.now)) result }
+    ensures means_the_end { Means (unbound_end bindings.now (end_in end.now) at) (end_of bindings.now (end_in end.now)) result }
 {
     match end {
         RawEnd::Element => Ok(End::Element),
@@ -209,7 +209,7 @@ pub fn patch_end(
     at: usize,
 ) -> Result<PatchEnd, Unresolved>
     requires { at + 1 < 2 ^ 64 }
-    ensures { Means (unbound_patch_end bindings.now (patch_end_in end.now) at) (patch_end_of bindings.now (patch_end_in end.now)) result }
+    ensures means_the_end_of_a_patch { Means (unbound_patch_end bindings.now (patch_end_in end.now) at) (patch_end_of bindings.now (patch_end_in end.now)) result }
 {
     match end {
         RawPatchEnd::Element => Ok(PatchEnd::Element),

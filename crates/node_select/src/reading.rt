@@ -19,7 +19,7 @@ use tree_text::{ReadError, Stop};
 
 // The characters of a text.
 fn decoded(alloc: Global, text: &str) -> Result<Vec<char>, AllocError>
-    ensures { IfOk result (λ all. all.items ≡ chars text.now) }
+    ensures characters_of_the_text { IfOk result (λ all. all.items ≡ chars text.now) }
 {
     text.chars().collect(alloc)
 }
@@ -28,7 +28,7 @@ fn decoded(alloc: Global, text: &str) -> Result<Vec<char>, AllocError>
 #[tactic(auto, using(crate::proofs::Bytes::bytes_more))]
 fn byte_len(text: &[char]) -> usize
     requires { length (encode_utf8_all text.now) < 2 ^ 64 }
-    ensures { result ≡ length (encode_utf8_all text.now) }
+    ensures counts_the_bytes { result ≡ length (encode_utf8_all text.now) }
 {
     let mut len = 0;
     for &c in text {
@@ -40,7 +40,7 @@ fn byte_len(text: &[char]) -> usize
 // The byte behind so many characters of a text.
 fn byte_of(text: &str, all: &[char], n: usize) -> usize
     requires { all.now ≡ chars text.now }
-    ensures { result ≡ byte_of text.now n }
+    ensures byte_behind_the_characters { result ≡ byte_of text.now n }
 {
     let n = n.min(all.len());
     text.len() - byte_len(&all[n..])
@@ -49,7 +49,7 @@ fn byte_of(text: &str, all: &[char], n: usize) -> usize
 // Why a text hasn't the form of a selector.
 fn stopped(text: &str, all: &[char], stop: &Stop<'_>) -> ReadError<SelectorFault>
     requires { all.now ≡ chars text.now }
-    ensures { Tells text.now stop.now result }
+    ensures tells_of_the_stop { Tells text.now stop.now result }
 {
     match stop {
         Stop::Syntax(rest) => ReadError::Fault(SelectorFault::BadSelector(byte_of(
@@ -69,7 +69,7 @@ fn stopped(text: &str, all: &[char], stop: &Stop<'_>) -> ReadError<SelectorFault
 // Why the names of a selector can't be resolved.
 fn unresolved(text: &str, all: &[char], why: &Unresolved) -> ReadError<SelectorFault>
     requires { all.now ≡ chars text.now }
-    ensures { TellsUnresolved text.now why.now result }
+    ensures tells_of_the_name { TellsUnresolved text.now why.now result }
 {
     match why {
         Unresolved::Prefix(n) => {
@@ -87,7 +87,7 @@ fn resolved(
     default_uri: &str,
 ) -> Result<Selector, Unresolved>
     requires { HasRoom 0 (map step_in raw.now.steps.items) }
-    ensures { Means (first_unbound bindings.now (selector_in raw.now)) (selector_of bindings.now (chars default_uri.now) (selector_in raw.now)) result }
+    ensures means_the_selector { Means (first_unbound bindings.now (selector_in raw.now)) (selector_of bindings.now (chars default_uri.now) (selector_in raw.now)) result }
 {
     let (steps, at) = steps(alloc, bindings, default_uri, &raw.steps, 0)?;
     let end = end(alloc, bindings, &raw.end, at)?;
@@ -102,7 +102,7 @@ fn patch_resolved(
     default_uri: &str,
 ) -> Result<PatchSelector, Unresolved>
     requires { HasRoom raw.now.slash (map step_in raw.now.steps.items) }
-    ensures { Means (first_unbound_in_patch bindings.now (patch_selector_in raw.now)) (patch_selector_of bindings.now (chars default_uri.now) (patch_selector_in raw.now)) result }
+    ensures means_the_selector_of_a_patch { Means (first_unbound_in_patch bindings.now (patch_selector_in raw.now)) (patch_selector_of bindings.now (chars default_uri.now) (patch_selector_in raw.now)) result }
 {
     let (steps, at) = steps(alloc, bindings, default_uri, &raw.steps, raw.slash)?;
     let end = patch_end(alloc, bindings, &raw.end, at)?;
@@ -116,7 +116,7 @@ fn selector_of_text(
     bindings: &Bindings,
     default_uri: &str,
 ) -> Result<Selector, ReadError<SelectorFault>>
-    ensures { Answered (λ answer. answer ≡ selector_read bindings.now (chars default_uri.now) text.now) result }
+    ensures selector_as_it_is_read { Answered (λ answer. answer ≡ selector_read bindings.now (chars default_uri.now) text.now) result }
 {
     let all = decoded(alloc, text)?;
     match raw_selector(alloc, &all) {
@@ -135,7 +135,7 @@ fn patch_selector_of_text(
     bindings: &Bindings,
     default_uri: &str,
 ) -> Result<PatchSelector, ReadError<SelectorFault>>
-    ensures { Answered (λ answer. answer ≡ patch_selector_read bindings.now (chars default_uri.now) text.now) result }
+    ensures patch_selector_as_it_is_read { Answered (λ answer. answer ≡ patch_selector_read bindings.now (chars default_uri.now) text.now) result }
 {
     let all = decoded(alloc, text)?;
     match raw_patch_selector(alloc, &all) {

@@ -21,7 +21,7 @@ pub fn select(alloc: Global, root: &Element, selector: &Selector) -> Option<Path
 /// The element that steps select, from the document on. Memory as for `select`.
 pub fn select_steps(alloc: Global, root: &Element, steps: &[Step]) -> Option<Path>
     requires { height root.now ≤ 64 }
-    ensures { result ≡ selected_in steps.now root.now }
+    ensures selects_in_the_document { result ≡ selected_in steps.now root.now }
 {
     let [step, steps @ ..] = steps else {
         return None;
@@ -35,7 +35,7 @@ pub fn select_steps(alloc: Global, root: &Element, steps: &[Step]) -> Option<Pat
 // The element that steps select from the root down.
 fn select_inside(alloc: Global, root: &Element, steps: &[Step]) -> Option<Path>
     requires { height root.now ≤ 64 }
-    ensures { result ≡ selected_among (root.now.decls ∷ []) (kids_of root.now) steps.now }
+    ensures selects_below_the_root { result ≡ selected_among (root.now.decls ∷ []) (kids_of root.now) steps.now }
 {
     let declared = declared_in(alloc, root.decls());
     select_below(
@@ -56,7 +56,7 @@ fn select_below(
     path: Path,
 ) -> Option<Path>
     requires { length path + height element.now ≤ 64 }
-    ensures { result ≡ option_map (λ q. path ++ q) (selected_among scope.now (kids_of element.now) steps.now) }
+    ensures selects_below_the_element { result ≡ option_map (λ q. path ++ q) (selected_among scope.now (kids_of element.now) steps.now) }
 {
     let [step, steps @ ..] = steps else {
         return Some(path);
@@ -79,7 +79,7 @@ pub fn longest_match(alloc: Global, root: &Element, selector: &Selector) -> usiz
 
 // How many first steps select an element.
 fn matched_steps(alloc: Global, root: &Element, steps: &[Step]) -> usize
-    ensures { result ≡ longest_in steps.now root.now }
+    ensures counts_the_steps_that_match { result ≡ longest_in steps.now root.now }
 {
     let [step, steps @ ..] = steps else {
         return 0;
@@ -92,7 +92,7 @@ fn matched_steps(alloc: Global, root: &Element, steps: &[Step]) -> usize
 
 // How many first steps select one after the other from the root down.
 fn longest_inside(alloc: Global, root: &Element, steps: &[Step]) -> usize
-    ensures { result ≡ depth_among (root.now.decls ∷ []) (kids_of root.now) steps.now }
+    ensures counts_the_steps_below_the_root { result ≡ depth_among (root.now.decls ∷ []) (kids_of root.now) steps.now }
 {
     let declared = declared_in(alloc, root.decls());
     longest_below(alloc, &Around::empty().inside(&declared), root, steps)
@@ -100,7 +100,7 @@ fn longest_inside(alloc: Global, root: &Element, steps: &[Step]) -> usize
 
 // How many first steps select one after the other from an element down, in the scope at it.
 fn longest_below(alloc: Global, scope: &Around<'_>, element: &Element, steps: &[Step]) -> usize
-    ensures { result ≡ depth_among scope.now (kids_of element.now) steps.now }
+    ensures counts_the_steps_below_the_element { result ≡ depth_among scope.now (kids_of element.now) steps.now }
 {
     let [step, steps @ ..] = steps else {
         return 0;

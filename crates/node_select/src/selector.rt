@@ -67,7 +67,7 @@ impl NameTest {
     /// # Errors
     /// `NoMemory` for want of memory, as at each `copy` below.
     pub fn copy(&self, alloc: Global) -> Result<NameTest, AllocError>
-        ensures { IfOk result (λ made. made ≡ self.now) }
+        ensures makes_an_equal_name_test { IfOk result (λ made. made ≡ self.now) }
     {
         match self {
             NameTest::Any => Ok(NameTest::Any),
@@ -83,7 +83,7 @@ impl NameTest {
 impl AttrTest {
     /// An equal test.
     pub fn copy(&self, alloc: Global) -> Result<AttrTest, AllocError>
-        ensures { IfOk result (λ made. made ≡ self.now) }
+        ensures makes_an_equal_attribute_test { IfOk result (λ made. made ≡ self.now) }
     {
         let uri = self.uri.copy(alloc)?;
         let local = self.local.copy(alloc)?;
@@ -95,7 +95,7 @@ impl AttrTest {
 impl Step {
     /// An equal step.
     pub fn copy(&self, alloc: Global) -> Result<Step, AllocError>
-        ensures { IfOk result (λ made. made ≡ self.now) }
+        ensures makes_an_equal_step { IfOk result (λ made. made ≡ self.now) }
     {
         let name = self.name.copy(alloc)?;
         let test = copy_test(&self.test, alloc)?;
@@ -109,7 +109,7 @@ impl Step {
 
 // An equal test, if there is one.
 fn copy_test(test: &Option<AttrTest>, alloc: Global) -> Result<Option<AttrTest>, AllocError>
-    ensures { IfOk result (λ made. made ≡ test.now) }
+    ensures makes_an_equal_test { IfOk result (λ made. made ≡ test.now) }
 {
     match test {
         None => Ok(None),
@@ -123,7 +123,7 @@ fn copy_test(test: &Option<AttrTest>, alloc: Global) -> Result<Option<AttrTest>,
 impl End {
     /// An equal end.
     pub fn copy(&self, alloc: Global) -> Result<End, AllocError>
-        ensures { IfOk result (λ made. made ≡ self.now) }
+        ensures makes_an_equal_end { IfOk result (λ made. made ≡ self.now) }
     {
         match self {
             End::Element => Ok(End::Element),
@@ -140,7 +140,7 @@ impl End {
 impl Selector {
     /// An equal selector.
     pub fn copy(&self, alloc: Global) -> Result<Selector, AllocError>
-        ensures { IfOk result (λ made. made ≡ self.now) }
+        ensures makes_an_equal_selector { IfOk result (λ made. made ≡ self.now) }
     {
         let steps = copy_steps(self.steps.as_slice(), alloc)?;
         let end = self.end.copy(alloc)?;
@@ -153,7 +153,7 @@ impl Selector {
 
 // Equal steps.
 fn copy_steps(steps: &[Step], alloc: Global) -> Result<Vec<Step>, AllocError>
-    ensures { IfOk result (λ made. made.items ≡ steps.now) }
+    ensures copies_the_steps { IfOk result (λ made. made.items ≡ steps.now) }
 {
     let mut made = Vec::new(alloc);
     for step in steps {

@@ -21,7 +21,7 @@ const GREATEST_POSITION: u64 = 4_294_967_295;
 
 // A name, or none for `*`, and what follows it.
 fn node_name(text: &[char]) -> Result<(Option<Written<'_>>, &[char]), Stop<'_>>
-    ensures { Gives (λ x. (option_map name_in x.0, x.1.now)) result (read_node_name text.now) }
+    ensures reads_a_name_or_a_star { Gives (λ x. (option_map name_in x.0, x.1.now)) result (read_node_name text.now) }
 {
     match text {
         ['*', ..] => {
@@ -45,7 +45,7 @@ fn digit_value(c: char) -> u64
 
 // The position that digits say.
 fn position_value(digits: &[char]) -> u64
-    ensures { result ≡ position_of digits.now }
+    ensures position_of_the_digits { result ≡ position_of digits.now }
 {
     let mut value = 0;
     for &c in digits {
@@ -59,7 +59,7 @@ fn position_value(digits: &[char]) -> u64
 
 /// A position in brackets, and what follows it.
 pub fn position(text: &[char]) -> Result<(u64, &[char]), Stop<'_>>
-    ensures { Gives (λ x. (x.0, x.1.now)) result (read_position text.now) }
+    ensures reads_a_position { Gives (λ x. (x.0, x.1.now)) result (read_position text.now) }
 {
     let rest = word(text, &['['])?;
     let (digits, rest) = digits(rest)?;
@@ -69,7 +69,7 @@ pub fn position(text: &[char]) -> Result<(u64, &[char]), Stop<'_>>
 
 // Whether a position follows.
 fn position_follows(text: &[char]) -> bool
-    ensures { result ≡ position_follows text.now }
+    ensures tells_whether_a_position_follows { result ≡ position_follows text.now }
 {
     match text {
         ['[', '@', ..] => false,
@@ -80,7 +80,7 @@ fn position_follows(text: &[char]) -> bool
 
 // A position, if one follows, and what follows it.
 fn optional_position(text: &[char]) -> Result<(Option<u64>, &[char]), Stop<'_>>
-    ensures { Gives (λ x. (x.0, x.1.now)) result (read_optional position_follows read_position text.now) }
+    ensures reads_a_position_if_one_follows { Gives (λ x. (x.0, x.1.now)) result (read_optional position_follows read_position text.now) }
 {
     if !position_follows(text) {
         return Ok((None, text));
@@ -91,21 +91,21 @@ fn optional_position(text: &[char]) -> Result<(Option<u64>, &[char]), Stop<'_>>
 
 // Whether it is a name that an attribute may have, and no declaration.
 fn names_attribute(name: &Written<'_>) -> bool
-    ensures { result ≡ names_attribute (name_in name.now) }
+    ensures tells_whether_it_names_an_attribute { result ≡ names_attribute (name_in name.now) }
 {
     !(same_chars(name.prefix, &[]) && same_chars(name.local, &['x', 'm', 'l', 'n', 's']))
 }
 
 // Whether two texts have the same characters.
 fn same_chars(a: &[char], b: &[char]) -> bool
-    ensures { result ≡ bytes_eq a.now b.now }
+    ensures tells_equal_characters { result ≡ bytes_eq a.now b.now }
 {
     a == b
 }
 
 /// `@` and the name of an attribute, and what follows them.
 pub fn attribute(text: &[char]) -> Result<(Written<'_>, &[char]), Stop<'_>>
-    ensures { Gives (λ x. (name_in x.0, x.1.now)) result (read_attribute text.now) }
+    ensures reads_an_attribute { Gives (λ x. (name_in x.0, x.1.now)) result (read_attribute text.now) }
 {
     let rest = word(text, &['@'])?;
     let (name, rest) = qname(rest)?;
@@ -117,7 +117,7 @@ pub fn attribute(text: &[char]) -> Result<(Written<'_>, &[char]), Stop<'_>>
 
 // Adds characters as they stand.
 fn push_all(value: &mut Text, chars: &[char]) -> Result<(), AllocError>
-    ensures { OnOk result (value.new ≡ value.old ++ chars.now) }
+    ensures adds_all_characters { OnOk result (value.new ≡ value.old ++ chars.now) }
 {
     for &c in chars {
         value.push(c)?;
@@ -127,7 +127,7 @@ fn push_all(value: &mut Text, chars: &[char]) -> Result<(), AllocError>
 
 // Adds a character from a reference, and the raw characters behind it.
 fn push_piece(value: &mut Text, c: char, run: &[char]) -> Result<(), AllocError>
-    ensures { OnOk result (value.new ≡ value.old ++ (c ∷ run.now)) }
+    ensures adds_the_piece { OnOk result (value.new ≡ value.old ++ (c ∷ run.now)) }
 {
     value.push(c)?;
     push_all(value, run)
@@ -135,7 +135,7 @@ fn push_piece(value: &mut Text, c: char, run: &[char]) -> Result<(), AllocError>
 
 // A value up to its quote, and what follows it.
 fn inside_quotes(alloc: Global, text: &[char], quote: char) -> Result<(Text, &[char]), Stop<'_>>
-    ensures { Gives (λ x. (x.0, x.1.now)) result (read_inside_quotes quote text.now) }
+    ensures reads_up_to_the_quote { Gives (λ x. (x.0, x.1.now)) result (read_inside_quotes quote text.now) }
 {
     let mut value = no_text(alloc);
     let (first, start) = raw_run(text, quote);
@@ -155,7 +155,7 @@ fn inside_quotes(alloc: Global, text: &[char], quote: char) -> Result<(Text, &[c
 
 // A value in quotes, and what follows it.
 fn value(alloc: Global, text: &[char]) -> Result<(Text, &[char]), Stop<'_>>
-    ensures { Gives (λ x. (x.0, x.1.now)) result (read_value text.now) }
+    ensures reads_a_value { Gives (λ x. (x.0, x.1.now)) result (read_value text.now) }
 {
     let (quote, rest) = quote(text)?;
     let (value, rest) = inside_quotes(alloc, rest, quote)?;
@@ -165,7 +165,7 @@ fn value(alloc: Global, text: &[char]) -> Result<(Text, &[char]), Stop<'_>>
 
 // A test in brackets, and what follows it.
 fn test(alloc: Global, text: &[char]) -> Result<(RawTest<'_>, &[char]), Stop<'_>>
-    ensures { Gives (λ x. (test_in x.0, x.1.now)) result (read_test text.now) }
+    ensures reads_a_test { Gives (λ x. (test_in x.0, x.1.now)) result (read_test text.now) }
 {
     let rest = word(text, &['['])?;
     let (name, rest) = attribute(rest)?;
@@ -177,14 +177,14 @@ fn test(alloc: Global, text: &[char]) -> Result<(RawTest<'_>, &[char]), Stop<'_>
 
 /// Whether a bracket follows.
 pub fn test_follows(text: &[char]) -> bool
-    ensures { result ≡ test_follows text.now }
+    ensures tells_whether_a_test_follows { result ≡ test_follows text.now }
 {
     matches!(text, ['[', ..])
 }
 
 // A test, if one follows, and what follows it.
 fn optional_test(alloc: Global, text: &[char]) -> Result<(Option<RawTest<'_>>, &[char]), Stop<'_>>
-    ensures { Gives (λ x. (option_map test_in x.0, x.1.now)) result (read_optional test_follows read_test text.now) }
+    ensures reads_a_test_if_it_follows { Gives (λ x. (option_map test_in x.0, x.1.now)) result (read_optional test_follows read_test text.now) }
 {
     if !test_follows(text) {
         return Ok((None, text));
@@ -195,7 +195,7 @@ fn optional_test(alloc: Global, text: &[char]) -> Result<(Option<RawTest<'_>>, &
 
 // The name and the position of a step, and what follows them.
 fn front(text: &[char]) -> Result<(Option<Written<'_>>, Option<u64>, &[char]), Stop<'_>>
-    ensures { Gives (λ x. ((option_map name_in x.0, x.1), x.2.now)) result (read_sequence read_node_name (λ _. read_optional position_follows read_position) text.now) }
+    ensures reads_the_front_of_a_step { Gives (λ x. ((option_map name_in x.0, x.1), x.2.now)) result (read_sequence read_node_name (λ _. read_optional position_follows read_position) text.now) }
 {
     let (name, rest) = node_name(text)?;
     let (position, rest) = optional_position(rest)?;
@@ -204,7 +204,7 @@ fn front(text: &[char]) -> Result<(Option<Written<'_>>, Option<u64>, &[char]), S
 
 // A step, and what follows it.
 fn step(alloc: Global, text: &[char]) -> Result<(RawStep<'_>, &[char]), Stop<'_>>
-    ensures { Gives (λ x. (step_in x.0, x.1.now)) result (read_step text.now) }
+    ensures reads_a_step { Gives (λ x. (step_in x.0, x.1.now)) result (read_step text.now) }
 {
     let (name, position, behind) = front(text)?;
     let (test, rest) = optional_test(alloc, behind)?;
@@ -220,7 +220,7 @@ fn step(alloc: Global, text: &[char]) -> Result<(RawStep<'_>, &[char]), Stop<'_>
 
 // A step behind a slash, and what follows it.
 fn next_step(alloc: Global, text: &[char]) -> Result<(RawStep<'_>, &[char]), Stop<'_>>
-    ensures { Gives (λ x. (step_in x.0, x.1.now)) result (read_next_step text.now) }
+    ensures reads_the_next_step { Gives (λ x. (step_in x.0, x.1.now)) result (read_next_step text.now) }
 {
     let rest = word(text, &['/'])?;
     step(alloc, rest)
@@ -228,7 +228,7 @@ fn next_step(alloc: Global, text: &[char]) -> Result<(RawStep<'_>, &[char]), Sto
 
 // Whether another step follows.
 fn step_follows(text: &[char], form: Form) -> bool
-    ensures { result ≡ follows_in form text.now }
+    ensures tells_whether_a_step_follows { result ≡ follows_in form text.now }
 {
     match form {
         Form::Node => node_step_follows(text),
@@ -238,7 +238,7 @@ fn step_follows(text: &[char], form: Form) -> bool
 
 // Whether a text begins with a word.
 fn begins_with(text: &[char], word: &[char]) -> bool
-    ensures { result ≡ starts word.now text.now }
+    ensures tells_whether_it_begins_with_the_word { result ≡ starts word.now text.now }
 {
     let mut rest = text;
     for &expected in word {
@@ -252,14 +252,14 @@ fn begins_with(text: &[char], word: &[char]) -> bool
 
 /// Whether a slash follows.
 pub fn slash_follows(text: &[char]) -> bool
-    ensures { result ≡ slash_follows text.now }
+    ensures tells_whether_a_slash_follows { result ≡ slash_follows text.now }
 {
     matches!(text, ['/', ..])
 }
 
 // Whether a slash and another step follow, and no end of a selector.
 fn node_step_follows(text: &[char]) -> bool
-    ensures { result ≡ follows_in Form.Node text.now }
+    ensures tells_whether_a_node_step_follows { result ≡ follows_in Form.Node text.now }
 {
     slash_follows(text)
         && !(begins_with(text, &['/', '@'])
@@ -271,7 +271,7 @@ fn node_step_follows(text: &[char]) -> bool
 
 // Whether a slash and another step follow, and no end of a patch's selector.
 fn patch_step_follows(text: &[char]) -> bool
-    ensures { result ≡ follows_in Form.Patch text.now }
+    ensures tells_whether_a_patch_step_follows { result ≡ follows_in Form.Patch text.now }
 {
     slash_follows(text)
         && !(begins_with(text, &['/', '@']) || begins_with(text, &['/', 't', 'e', 'x', 't', '(']))
@@ -283,7 +283,7 @@ pub fn steps(
     text: &[char],
     form: Form,
 ) -> Result<(Vec<RawStep<'_>>, &[char]), Stop<'_>>
-    ensures { Gives (λ x. (map step_in x.0.items, x.1.now)) result (read_steps (follows_in form) text.now) }
+    ensures reads_the_steps { Gives (λ x. (map step_in x.0.items, x.1.now)) result (read_steps (follows_in form) text.now) }
 {
     let mut steps = Vec::new(alloc);
     let (first, start) = step(alloc, text)?;

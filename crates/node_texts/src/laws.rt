@@ -9,11 +9,11 @@ ghost use Rattle.node_texts.specs.Places.{but_last, element_has_place};
 
 /// A law: a text is sent of exactly those nodes that a selector finds by its meaning (RFC 4825, section 6.3).
 pub fn texts_are_those_of_found_nodes()
-    ensures { (root : Tree) (selector : Selector) → IsSome (found_text root selector) ↔ Found root selector }
+    ensures texts_of_found_nodes_alone { (root : Tree) (selector : Selector) → IsSome (found_text root selector) ↔ Found root selector }
 {}
 
 /// A law: below the root an element has a place exactly where its parent is there (RFC 4825, section 8.2.1).
 pub fn elements_have_places_below_their_parents()
-    ensures { (first second : Step) (steps : List Step) (root : Tree)
+    ensures has_a_place_below_its_parent { (first second : Step) (steps : List Step) (root : Tree)
         → IsTrue (element_has_place (first ∷ second ∷ steps) root) ↔ IsSome (selected_in (but_last (first ∷ second ∷ steps)) root) }
 {}

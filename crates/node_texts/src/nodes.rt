@@ -25,7 +25,7 @@ fn attribute<'a>(
     uri: &Text,
     local: &Text,
 ) -> Option<&'a Attr>
-    ensures { option_copied result ≡ find (is_attr scope.now uri.now local.now) element.now.attrs }
+    ensures finds_the_attribute { option_copied result ≡ find (is_attr scope.now uri.now local.now) element.now.attrs }
 {
     let place = find_attr(alloc, element, scope, uri.as_str(), local.as_str())?;
     element.attrs().get(place)
@@ -33,7 +33,7 @@ fn attribute<'a>(
 
 // The value of an attribute, if there is one, as the body of a reply.
 fn attribute_text(alloc: Global, attr: Option<&Attr>) -> Result<Option<Bytes>, NoMemory>
-    ensures { IfOk result (λ text. text ≡ encoded (attribute_text (option_copied attr.entry))) }
+    ensures sends_the_value { IfOk result (λ text. text ≡ encoded (attribute_text (option_copied attr.entry))) }
 {
     match attr {
         None => Ok(None),
@@ -46,7 +46,7 @@ fn attribute_text(alloc: Global, attr: Option<&Attr>) -> Result<Option<Bytes>, N
 
 // An element without content, with these declarations.
 fn declaring_element(alloc: Global, name: &Name, decls: Vec<Decl>) -> Result<Element, NoMemory>
-    ensures { IfOk result (λ made. made ≡ tree_of name.now decls.items [] (last [])) }
+    ensures declares_these_alone { IfOk result (λ made. made ≡ tree_of name.now decls.items [] (last [])) }
 {
     let mut element = Element::new(alloc, name.copy(alloc)?);
     for decl in decls {
@@ -57,7 +57,7 @@ fn declaring_element(alloc: Global, name: &Name, decls: Vec<Decl>) -> Result<Ele
 
 // All bindings in scope at an element, as the declarations of an empty element with its name.
 fn bindings_text(alloc: Global, element: &Element, scope: &Scope<'_>) -> Result<Bytes, NoMemory>
-    ensures { IfOk result (λ text. Some text ≡ encoded (Some (print (tree_of element.now.name (bindings_in scope.now) [] (last []))))) }
+    ensures declares_all_in_scope { IfOk result (λ text. Some text ≡ encoded (Some (print (tree_of element.now.name (bindings_in scope.now) [] (last []))))) }
 {
     let decls = scope.bindings(alloc)?;
     let declaring = declaring_element(alloc, element.name(), decls)?;
@@ -71,7 +71,7 @@ fn node_text(
     scope: &Scope<'_>,
     end: &End,
 ) -> Result<Option<Bytes>, NoMemory>
-    ensures { IfOk result (λ text. text ≡ encoded (node_text end.now scope.now element.now)) }
+    ensures sends_what_the_end_finds { IfOk result (λ text. text ≡ encoded (node_text end.now scope.now element.now)) }
 {
     match end {
         End::Element => {
@@ -90,7 +90,7 @@ fn node_text(
 
 // Whether an end finds something of an element in its scope.
 fn has_node(alloc: Global, element: &Element, scope: &Scope<'_>, end: &End) -> bool
-    ensures { result ≡ is_some (node_text end.now scope.now element.now) }
+    ensures tells_whether_there_is_a_text { result ≡ is_some (node_text end.now scope.now element.now) }
 {
     match end {
         End::Element => true,
@@ -103,7 +103,7 @@ fn has_node(alloc: Global, element: &Element, scope: &Scope<'_>, end: &End) -> b
 
 // What an end finds of the element at a path.
 fn text_at(alloc: Global, root: &Element, path: &Path, end: &End) -> Result<Option<Bytes>, NoMemory>
-    ensures { IfOk result (λ text. text ≡ encoded (text_at end.now path.now root.now)) }
+    ensures sends_what_is_found_there { IfOk result (λ text. text ≡ encoded (text_at end.now path.now root.now)) }
 {
     let Some(element) = element_at(root, path) else {
         return Ok(None);
@@ -118,7 +118,7 @@ fn text_at(alloc: Global, root: &Element, path: &Path, end: &End) -> Result<Opti
 /// descent is wanted. Memory is taken for indexes of declarations alone, and the answer is the same
 /// without it.
 pub fn has_node_at(alloc: Global, root: &Element, path: &Path, end: &End) -> bool
-    ensures { result ≡ is_some (text_at end.now path.now root.now) }
+    ensures tells_whether_it_is_there { result ≡ is_some (text_at end.now path.now root.now) }
 {
     let Some(element) = element_at(root, path) else {
         return false;
@@ -143,7 +143,7 @@ pub fn found_text(
     selector: &Selector,
 ) -> Result<Option<Bytes>, NoMemory>
     requires { height root.now ≤ 64 }
-    ensures { IfOk result (λ text. text ≡ encoded (found_text root.now selector.now)) }
+    ensures sends_what_is_found { IfOk result (λ text. text ≡ encoded (found_text root.now selector.now)) }
 {
     let Some(path) = select(alloc, root, selector) else {
         return Ok(None);
@@ -154,7 +154,7 @@ pub fn found_text(
 /// Whether a selector finds something in a document. Memory is taken for indexes of declarations alone, and the answer is the same without it.
 pub fn is_found(alloc: Global, root: &Element, selector: &Selector) -> bool
     requires { height root.now ≤ 64 }
-    ensures { result ≡ is_some (found_text root.now selector.now) }
+    ensures tells_whether_it_is_found { result ≡ is_some (found_text root.now selector.now) }
 {
     let Some(path) = select(alloc, root, selector) else {
         return false;
@@ -164,7 +164,7 @@ pub fn is_found(alloc: Global, root: &Element, selector: &Selector) -> bool
 
 /// The media type of what a selector with this end finds (RFC 4825, section 15.2). Takes no memory.
 pub fn node_media(end: &End) -> Media
-    ensures { result ≡ node_media end.now }
+    ensures tells_the_media_type { result ≡ node_media end.now }
 {
     match end {
         End::Element => Media::Element,

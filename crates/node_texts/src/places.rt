@@ -10,7 +10,7 @@ use xml_tree::Element;
 // All steps but the last.
 #[tactic(auto, using(crate::proofs::Fronts::front_is))]
 fn but_last(steps: &[Step]) -> &[Step]
-    ensures { result.now ≡ but_last steps.now }
+    ensures leaves_out_the_last { result.now ≡ but_last steps.now }
 {
     match steps {
         [] => steps,
@@ -21,7 +21,7 @@ fn but_last(steps: &[Step]) -> &[Step]
 // Whether steps select an element.
 fn selects(alloc: Global, root: &Element, steps: &[Step]) -> bool
     requires { height root.now ≤ 64 }
-    ensures { result ≡ attribute_has_place steps.now root.now }
+    ensures tells_whether_an_element_is_selected { result ≡ attribute_has_place steps.now root.now }
 {
     select_steps(alloc, root, steps).is_some()
 }
@@ -29,7 +29,7 @@ fn selects(alloc: Global, root: &Element, steps: &[Step]) -> bool
 // Whether an element that these steps select has a place: it is there, or its parent is, or it would be the root.
 fn element_has_place(alloc: Global, root: &Element, steps: &[Step]) -> bool
     requires { height root.now ≤ 64 }
-    ensures { result ≡ element_has_place steps.now root.now }
+    ensures tells_whether_it_has_a_place { result ≡ element_has_place steps.now root.now }
 {
     match steps {
         [] => false,
@@ -43,7 +43,7 @@ fn element_has_place(alloc: Global, root: &Element, steps: &[Step]) -> bool
 /// indexes of declarations alone, and the answer is the same without it.
 pub fn has_place(alloc: Global, root: &Element, selector: &Selector) -> bool
     requires { height root.now ≤ 64 }
-    ensures { result ≡ has_place selector.now root.now }
+    ensures tells_whether_there_is_a_place { result ≡ has_place selector.now root.now }
 {
     let steps = selector.steps.as_slice();
     match &selector.end {

@@ -38,7 +38,7 @@ impl EditNote {
         change: Change,
     ) -> Result<EditNote, AllocError>
         requires { Fits root.now change }
-        ensures { IfOk result (λ made. note_in made ≡ note_of previous next root.now change) }
+        ensures tells_of_the_change { IfOk result (λ made. note_in made ≡ note_of previous next root.now change) }
     {
         let bindings = bindings_of_place(alloc, root, &change)?;
         let fresh = is_fresh(root, &change);
@@ -54,7 +54,7 @@ impl EditNote {
     /// The note of a change that makes or removes a document. Takes no memory.
     pub fn of_document(alloc: Global, previous: u64, next: u64, change: Change) -> EditNote
         requires { IsOfDocument change }
-        ensures { (t : Tree) → note_in result ≡ note_of previous next t change }
+        ensures tells_of_the_change_in_any_tree { (t : Tree) → note_in result ≡ note_of previous next t change }
     {
         EditNote {
             previous,
@@ -70,7 +70,7 @@ impl EditNote {
     /// # Errors
     /// `NoMemory` for want of memory.
     pub fn copy(&self, alloc: Global) -> Result<EditNote, AllocError>
-        ensures { IfOk result (λ made. made ≡ self.now) }
+        ensures makes_an_equal_note { IfOk result (λ made. made ≡ self.now) }
     {
         let bindings = List::from(copy_decls(alloc, self.bindings.as_slice())?);
         let change = self.change.copy(alloc)?;

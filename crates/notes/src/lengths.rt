@@ -12,7 +12,7 @@ use xml_tree::{Name, Path, Text};
 // A text between tags.
 #[tactic(auto, using(xml_tree::proofs::PrintLengths::lengths))]
 pub(crate) fn text_len(text: &Text) -> usize
-    ensures { result ≡ min (byte_len (print_text text.now)) usize.MAX }
+    ensures counts_the_printed_text { result ≡ min (byte_len (print_text text.now)) usize.MAX }
 {
     xml_tree::text_len(text.as_str().as_bytes())
 }
@@ -20,7 +20,7 @@ pub(crate) fn text_len(text: &Text) -> usize
 // A value, without its quotes.
 #[tactic(auto, using(crate::proofs::Values::written))]
 pub(crate) fn value_len(value: &Text) -> usize
-    ensures { result ≡ min (written_len value.now) usize.MAX }
+    ensures counts_the_written_value { result ≡ min (written_len value.now) usize.MAX }
 {
     xml_tree::value_len(value.as_str().as_bytes())
 }
@@ -28,7 +28,7 @@ pub(crate) fn value_len(value: &Text) -> usize
 // A name within a value.
 #[tactic(auto, using(crate::proofs::Values::written))]
 pub(crate) fn name_len(name: &Name) -> usize
-    ensures { result ≡ min (written_len (print_name name.now)) usize.MAX }
+    ensures counts_the_written_name { result ≡ min (written_len (print_name name.now)) usize.MAX }
 {
     let local = value_len(&name.local);
     if name.prefix.is_empty() {
@@ -43,14 +43,14 @@ pub(crate) fn name_len(name: &Name) -> usize
 
 // One step: `/*[`, the number counted from 1, and `]`.
 pub(crate) fn step_len(number: usize) -> usize
-    ensures { result ≡ written_len (steps_text (number ∷ [])) }
+    ensures counts_the_written_step { result ≡ written_len (steps_text (number ∷ [])) }
 {
     (number as u128 + 1).ilog10() as usize + 5
 }
 
 // The positional selector of a place.
 pub(crate) fn path_len(path: &Path) -> usize
-    ensures { result ≡ min (written_len (path_text path.now)) usize.MAX }
+    ensures counts_the_written_path { result ≡ min (written_len (path_text path.now)) usize.MAX }
 {
     let mut total = 1usize;
     for number in path.numbers() {

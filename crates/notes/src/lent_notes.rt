@@ -14,7 +14,7 @@ pub struct Notes<'a> {
 impl<'a> Notes<'a> {
     /// The note of this number, counted from 0: None exactly where there are not so many. Takes no memory.
     pub fn get(&self, number: usize) -> Option<&'a EditNote>
-        ensures { option_copied result ≡ slice_get (self.now.older.now ++ self.now.newer.now) number }
+        ensures note_of_that_number { option_copied result ≡ slice_get (self.now.older.now ++ self.now.newer.now) number }
     {
         if number < self.older.len() {
             return self.older.get(number);

@@ -17,7 +17,7 @@ use xml_tree::{Decl, Element, Name, Path, Scope, element_at};
 // Those in scope at the element of a path.
 fn bindings_at(alloc: Global, root: &Element, path: &Path) -> Result<Vec<Decl>, AllocError>
     requires { IsSome (at path.now root.now) }
-    ensures { IfOk result (λ made. made.items ≡ bindings_in (scope_at path.now root.now)) }
+    ensures all_in_scope_there { IfOk result (λ made. made.items ≡ bindings_in (scope_at path.now root.now)) }
 {
     match Scope::at(root, path) {
         Some(scope) => scope.bindings(alloc),
@@ -29,7 +29,7 @@ fn bindings_at(alloc: Global, root: &Element, path: &Path) -> Result<Vec<Decl>, 
 #[tactic(auto, using(crate::proofs::Around::around))]
 fn bindings_around(alloc: Global, root: &Element, path: &Path) -> Result<Vec<Decl>, AllocError>
     requires { IsSome (at path.now root.now) }
-    ensures { IfOk result (λ made. made.items ≡ bindings_in (scope_around path.now root.now)) }
+    ensures all_in_scope_around { IfOk result (λ made. made.items ≡ bindings_in (scope_around path.now root.now)) }
 {
     match path.split_last() {
         Some((parent, _)) => bindings_at(alloc, root, &parent),
@@ -45,7 +45,7 @@ pub(crate) fn bindings_of_place(
     change: &Change,
 ) -> Result<Vec<Decl>, AllocError>
     requires { Fits root.now change.now }
-    ensures { IfOk result (λ made. made.items ≡ bindings_in (scope_of_place root.now change.now)) }
+    ensures all_in_scope_of_the_place { IfOk result (λ made. made.items ≡ bindings_in (scope_of_place root.now change.now)) }
 {
     match change {
         Change::CreateDocument { .. } => Ok(Vec::new(alloc)),
@@ -62,20 +62,20 @@ pub(crate) fn bindings_of_place(
 
 // Whether an element has an attribute of this name.
 fn has_attr(element: &Element, name: &Name) -> bool
-    ensures { result ≡ list_any (is_named name.now) element.now.attrs }
+    ensures tells_whether_it_has_one { result ≡ list_any (is_named name.now) element.now.attrs }
 {
     element.attrs().iter().any(|attr| attr.name.same(name))
 }
 
 fn lacks_attr(element: &Element, name: &Name) -> bool
-    ensures { result ≡ is_none (find (is_named name.now) element.now.attrs) }
+    ensures tells_whether_it_has_none { result ≡ is_none (find (is_named name.now) element.now.attrs) }
 {
     !has_attr(element, name)
 }
 
 // Whether the element at a path has none.
 fn lacks_attr_at(root: &Element, path: &Path, name: &Name) -> bool
-    ensures { result ≡ is_none (attr_at path.now name.now root.now) }
+    ensures tells_whether_there_is_none { result ≡ is_none (attr_at path.now name.now root.now) }
 {
     match element_at(root, path) {
         Some(element) => lacks_attr(element, name),
@@ -85,7 +85,7 @@ fn lacks_attr_at(root: &Element, path: &Path, name: &Name) -> bool
 
 // Whether a change writes an attribute that isn't there.
 pub(crate) fn is_fresh(root: &Element, change: &Change) -> bool
-    ensures { result ≡ is_fresh root.now change.now }
+    ensures tells_whether_it_is_fresh { result ≡ is_fresh root.now change.now }
 {
     match change {
         Change::CreateDocument { .. } => false,

@@ -34,7 +34,7 @@ const AT: usize = 2;
 
 // With nothing in it; the length of its word and of its attributes are given.
 fn bare_len(word: usize, bindings: &[Decl], attrs: usize) -> usize
-    ensures { result ≡ min (bare_sum word (byte_len (flat_map print_decl bindings.now)) attrs) usize.MAX }
+    ensures counts_the_bare_element { result ≡ min (bare_sum word (byte_len (flat_map print_decl bindings.now)) attrs) usize.MAX }
 {
     decls_len(bindings)
         .saturating_add(attrs)
@@ -44,7 +44,7 @@ fn bare_len(word: usize, bindings: &[Decl], attrs: usize) -> usize
 
 // With something in it.
 fn filled_len(word: usize, bindings: &[Decl], attrs: usize, inside: usize) -> usize
-    ensures { result ≡ min (filled_sum word (byte_len (flat_map print_decl bindings.now)) attrs inside) usize.MAX }
+    ensures counts_the_filled_element { result ≡ min (filled_sum word (byte_len (flat_map print_decl bindings.now)) attrs inside) usize.MAX }
 {
     decls_len(bindings)
         .saturating_add(attrs)
@@ -56,7 +56,7 @@ fn filled_len(word: usize, bindings: &[Decl], attrs: usize, inside: usize) -> us
 
 // With a value as its text.
 fn valued_len(word: usize, bindings: &[Decl], attrs: usize, value: &Text) -> usize
-    ensures { result ≡ min (valued_sum word (byte_len (flat_map print_decl bindings.now)) attrs value.now) usize.MAX }
+    ensures counts_the_element_with_a_value { result ≡ min (valued_sum word (byte_len (flat_map print_decl bindings.now)) attrs value.now) usize.MAX }
 {
     if value.is_empty() {
         return bare_len(word, bindings, attrs);
@@ -68,7 +68,7 @@ fn valued_len(word: usize, bindings: &[Decl], attrs: usize, value: &Text) -> usi
 
 // The attributes that say where an element is put.
 fn gap_len(parent: &Path, gap: usize) -> usize
-    ensures { result ≡ min (byte_len (flat_map print_attr (gap_attrs parent.now gap))) usize.MAX }
+    ensures counts_the_attributes_of_the_gap { result ≡ min (byte_len (flat_map print_attr (gap_attrs parent.now gap))) usize.MAX }
 {
     let sel = path_len(parent).saturating_add(SEL);
     if gap == 0 {
@@ -78,20 +78,20 @@ fn gap_len(parent: &Path, gap: usize) -> usize
 }
 
 fn insertion_len(bindings: &[Decl], parent: &Path, gap: usize, element: &Element) -> usize
-    ensures { result ≡ min (byte_len (print (told (codes "d") bindings.now false (change.Insert parent.now gap element.now)))) usize.MAX }
+    ensures counts_the_told_insertion { result ≡ min (byte_len (print (told (codes "d") bindings.now false (change.Insert parent.now gap element.now)))) usize.MAX }
 {
     filled_len(ADD, bindings, gap_len(parent, gap), printed_len(element))
 }
 
 fn replacement_len(bindings: &[Decl], at: &Path, element: &Element) -> usize
-    ensures { result ≡ min (byte_len (print (told (codes "d") bindings.now false (change.Replace at.now element.now)))) usize.MAX }
+    ensures counts_the_told_replacement { result ≡ min (byte_len (print (told (codes "d") bindings.now false (change.Replace at.now element.now)))) usize.MAX }
 {
     let attrs = path_len(at).saturating_add(SEL);
     filled_len(REPLACE, bindings, attrs, printed_len(element))
 }
 
 fn removal_len(bindings: &[Decl], at: &Path) -> usize
-    ensures { result ≡ min (byte_len (print (told (codes "d") bindings.now false (change.Remove at.now)))) usize.MAX }
+    ensures counts_the_told_removal { result ≡ min (byte_len (print (told (codes "d") bindings.now false (change.Remove at.now)))) usize.MAX }
 {
     let attrs = path_len(at).saturating_add(SEL);
     bare_len(REMOVE, bindings, attrs)
@@ -99,7 +99,7 @@ fn removal_len(bindings: &[Decl], at: &Path) -> usize
 
 // The attribute that selects an attribute.
 fn attr_len(at: &Path, name: &Name) -> usize
-    ensures { result ≡ min (written_len (attr_path_text at.now name.now) + 7) usize.MAX }
+    ensures counts_the_attribute_path { result ≡ min (written_len (attr_path_text at.now name.now) + 7) usize.MAX }
 {
     path_len(at)
         .saturating_add(name_len(name))
@@ -107,14 +107,14 @@ fn attr_len(at: &Path, name: &Name) -> usize
 }
 
 fn drop_len(bindings: &[Decl], at: &Path, name: &Name) -> usize
-    ensures { result ≡ min (byte_len (print (told (codes "d") bindings.now false (change.DropAttr at.now name.now)))) usize.MAX }
+    ensures counts_the_told_drop { result ≡ min (byte_len (print (told (codes "d") bindings.now false (change.DropAttr at.now name.now)))) usize.MAX }
 {
     bare_len(REMOVE, bindings, attr_len(at, name))
 }
 
 // An attribute that is new.
 fn addition_len(bindings: &[Decl], at: &Path, name: &Name, value: &Text) -> usize
-    ensures { result ≡ min (byte_len (print (told (codes "d") bindings.now true (change.SetAttr at.now name.now value.now)))) usize.MAX }
+    ensures counts_the_told_addition { result ≡ min (byte_len (print (told (codes "d") bindings.now true (change.SetAttr at.now name.now value.now)))) usize.MAX }
 {
     let attrs = path_len(at)
         .saturating_add(name_len(name))
@@ -124,13 +124,13 @@ fn addition_len(bindings: &[Decl], at: &Path, name: &Name, value: &Text) -> usiz
 
 // An attribute that was there.
 fn rewriting_len(bindings: &[Decl], at: &Path, name: &Name, value: &Text) -> usize
-    ensures { result ≡ min (byte_len (print (told (codes "d") bindings.now false (change.SetAttr at.now name.now value.now)))) usize.MAX }
+    ensures counts_the_told_rewriting { result ≡ min (byte_len (print (told (codes "d") bindings.now false (change.SetAttr at.now name.now value.now)))) usize.MAX }
 {
     valued_len(REPLACE, bindings, attr_len(at, name), value)
 }
 
 fn writing_len(bindings: &[Decl], at: &Path, name: &Name, value: &Text, fresh: bool) -> usize
-    ensures { result ≡ min (byte_len (print (told (codes "d") bindings.now fresh (change.SetAttr at.now name.now value.now)))) usize.MAX }
+    ensures counts_the_told_writing { result ≡ min (byte_len (print (told (codes "d") bindings.now fresh (change.SetAttr at.now name.now value.now)))) usize.MAX }
 {
     if fresh {
         return addition_len(bindings, at, name, value);
@@ -141,7 +141,7 @@ fn writing_len(bindings: &[Decl], at: &Path, name: &Name, value: &Text, fresh: b
 /// The length in bytes of a note's operation, as a notice with the prefix `d` has it (RFC 5261, section 4): the greatest number where it is
 /// longer, and 0 for a document that is made or removed. Takes no memory.
 pub fn weight(note: &EditNote) -> usize
-    ensures { result ≡ min (weight (note_in note.now)) usize.MAX }
+    ensures counts_the_printed_operation { result ≡ min (weight (note_in note.now)) usize.MAX }
 {
     let bindings = note.bindings.as_slice();
     match &note.change {

@@ -6,5 +6,5 @@ ghost use Rattle.patch_words.specs.Notices.{IsFirstFree, declarations, first_fre
 /// The prefix of a notice is the first of `d`, `d1`, `d2` and so on that none of its operations, and
 /// no element in them, declares.
 pub fn the_prefix_is_the_first_free()
-    ensures { (os : List Tree) → declarations os < 2 ^ 64 → IsFirstFree (is_taken os) (first_free (is_taken os) (declarations os) 0) }
+    ensures first_that_none_declares { (os : List Tree) → declarations os < 2 ^ 64 → IsFirstFree (is_taken os) (first_free (is_taken os) (declarations os) 0) }
 {}

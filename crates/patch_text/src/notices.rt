@@ -34,7 +34,7 @@ struct Names {
 
 // The tag that notes lead to, from this one on.
 fn last_tag(from: u64, notes: &[EditNote]) -> u64
-    ensures { result ≡ tag_after from (map note_in notes.now) }
+    ensures tag_that_they_lead_to { result ≡ tag_after from (map note_in notes.now) }
 {
     match notes.last() {
         Some(note) => note.next,
@@ -49,7 +49,7 @@ fn push_operations(
     prefix: &Text,
     notes: &[EditNote],
 ) -> Result<(), AllocError>
-    ensures { OnOk result (document.new ≡ with_all (operations prefix.now (map note_in notes.now)) document.old) }
+    ensures adds_the_operations { OnOk result (document.new ≡ with_all (operations prefix.now (map note_in notes.now)) document.old) }
 {
     for note in notes {
         document.push_elem(operation(alloc, prefix, note)?)?;
@@ -60,7 +60,7 @@ fn push_operations(
 // A document that has these tags, before it has any operation.
 #[tactic(auto, using(crate::proofs::Words::words))]
 fn tagged(alloc: Global, names: &Names, from: u64, to: u64) -> Result<Element, AllocError>
-    ensures { IfOk result (λ made. made ≡ document names.now.prefix names.now.sel from to []) }
+    ensures document_of_these_tags { IfOk result (λ made. made ≡ document names.now.prefix names.now.sel from to []) }
 {
     let mut made = element_of(alloc, &names.prefix, "document")?;
     push_plain(alloc, &mut made, "sel", names.sel.copy(alloc)?)?;
@@ -72,7 +72,7 @@ fn tagged(alloc: Global, names: &Names, from: u64, to: u64) -> Result<Element, A
 // A document that was removed.
 #[tactic(auto, using(crate::proofs::Words::words))]
 fn removed(alloc: Global, names: &Names, from: u64) -> Result<Element, AllocError>
-    ensures { IfOk result (λ made. made ≡ removed_document names.now.prefix names.now.sel from) }
+    ensures document_that_was_removed { IfOk result (λ made. made ≡ removed_document names.now.prefix names.now.sel from) }
 {
     let mut gone = element_of(alloc, &names.prefix, "document")?;
     push_plain(alloc, &mut gone, "sel", names.sel.copy(alloc)?)?;
@@ -82,7 +82,7 @@ fn removed(alloc: Global, names: &Names, from: u64) -> Result<Element, AllocErro
 
 // A document with the operation of one note.
 fn of_one(alloc: Global, names: &Names, note: &EditNote) -> Result<Element, AllocError>
-    ensures { IfOk result (λ made. made ≡ document names.now.prefix names.now.sel note.now.previous note.now.next (operation names.now.prefix (note_in note.now) ∷ [])) }
+    ensures document_of_the_note { IfOk result (λ made. made ≡ document names.now.prefix names.now.sel note.now.previous note.now.next (operation names.now.prefix (note_in note.now) ∷ [])) }
 {
     let mut made = tagged(alloc, names, note.previous, note.next)?;
     made.push_elem(operation(alloc, &names.prefix, note)?)?;
@@ -97,7 +97,7 @@ fn of_all(
     to: u64,
     notes: Notes<'_>,
 ) -> Result<Element, AllocError>
-    ensures { IfOk result (λ made. made ≡ document names.now.prefix names.now.sel from to (operations names.now.prefix (joined notes.entry.older.now notes.entry.newer.now))) }
+    ensures document_of_all_notes { IfOk result (λ made. made ≡ document names.now.prefix names.now.sel from to (operations names.now.prefix (joined notes.entry.older.now notes.entry.newer.now))) }
 {
     let mut made = tagged(alloc, names, from, to)?;
     push_operations(alloc, &mut made, &names.prefix, notes.older)?;
@@ -112,7 +112,7 @@ fn push_each(
     names: &Names,
     notes: &[EditNote],
 ) -> Result<(), AllocError>
-    ensures { OnOk result (notice.new ≡ with_all (one_by_one names.now.prefix names.now.sel (map note_in notes.now)) notice.old) }
+    ensures adds_a_document_for_each { OnOk result (notice.new ≡ with_all (one_by_one names.now.prefix names.now.sel (map note_in notes.now)) notice.old) }
 {
     for note in notes {
         notice.push_elem(of_one(alloc, names, note)?)?;
@@ -125,7 +125,7 @@ fn push_each(
 // A notice without documents, under the server's root.
 #[tactic(auto, using(crate::proofs::Words::words))]
 fn empty_notice(alloc: Global, prefix: &Text, root: &str) -> Result<Element, AllocError>
-    ensures { IfOk result (λ made. made ≡ diff prefix.now (chars root.now) []) }
+    ensures notice_without_documents { IfOk result (λ made. made ≡ diff prefix.now (chars root.now) []) }
 {
     let mut made = element_of(alloc, prefix, "xcap-diff")?;
     made.push_decl(Decl {
@@ -140,14 +140,14 @@ fn empty_notice(alloc: Global, prefix: &Text, root: &str) -> Result<Element, All
 
 // Whether there are no notes.
 fn are_none(notes: Notes<'_>) -> bool
-    ensures { result ≡ is_none (joined notes.entry.older.now notes.entry.newer.now) }
+    ensures tells_whether_there_are_none { result ≡ is_none (joined notes.entry.older.now notes.entry.newer.now) }
 {
     notes.older.is_empty() && notes.newer.is_empty()
 }
 
 // The tag that all notes lead to.
 fn last_tag_in(from: u64, notes: Notes<'_>) -> u64
-    ensures { result ≡ tag_after from (joined notes.entry.older.now notes.entry.newer.now) }
+    ensures tag_that_all_lead_to { result ≡ tag_after from (joined notes.entry.older.now notes.entry.newer.now) }
 {
     last_tag(last_tag(from, notes.older), notes.newer)
 }
@@ -161,7 +161,7 @@ fn push_tags(
     notes: Notes<'_>,
 ) -> Result<(), AllocError>
     requires { is_none (joined notes.older.now notes.newer.now) ≡ false }
-    ensures { OnOk result (notice.new ≡ with_all (tags_alone names.now.prefix names.now.sel from (joined notes.entry.older.now notes.entry.newer.now)) notice.old) }
+    ensures adds_the_tags_alone { OnOk result (notice.new ≡ with_all (tags_alone names.now.prefix names.now.sel from (joined notes.entry.older.now notes.entry.newer.now)) notice.old) }
 {
     let to = last_tag_in(from, notes);
     let made = tagged(alloc, names, from, to)?;
@@ -176,7 +176,7 @@ fn push_each_in(
     names: &Names,
     notes: Notes<'_>,
 ) -> Result<(), AllocError>
-    ensures { OnOk result (notice.new ≡ with_all (one_by_one names.now.prefix names.now.sel (joined notes.entry.older.now notes.entry.newer.now)) notice.old) }
+    ensures adds_a_document_for_each_of_both { OnOk result (notice.new ≡ with_all (one_by_one names.now.prefix names.now.sel (joined notes.entry.older.now notes.entry.newer.now)) notice.old) }
 {
     push_each(alloc, notice, names, notes.older)?;
     push_each(alloc, notice, names, notes.newer)?;
@@ -192,7 +192,7 @@ fn push_all(
     notes: Notes<'_>,
 ) -> Result<(), AllocError>
     requires { is_none (joined notes.older.now notes.newer.now) ≡ false }
-    ensures { OnOk result (notice.new ≡ with_all (all_at_once names.now.prefix names.now.sel from (joined notes.entry.older.now notes.entry.newer.now)) notice.old) }
+    ensures adds_the_document_of_all { OnOk result (notice.new ≡ with_all (all_at_once names.now.prefix names.now.sel from (joined notes.entry.older.now notes.entry.newer.now)) notice.old) }
 {
     let to = last_tag_in(from, notes);
     let made = of_all(alloc, names, from, to, notes)?;
@@ -209,7 +209,7 @@ fn push_documents(
     from: u64,
     notes: Notes<'_>,
 ) -> Result<(), AllocError>
-    ensures { OnOk result (notice.new ≡ with_all (documents_of mode names.now.prefix names.now.sel from (joined notes.entry.older.now notes.entry.newer.now)) notice.old) }
+    ensures adds_the_documents_of_the_mode { OnOk result (notice.new ≡ with_all (documents_of mode names.now.prefix names.now.sel from (joined notes.entry.older.now notes.entry.newer.now)) notice.old) }
 {
     if are_none(notes) {
         return Ok(());
@@ -223,7 +223,7 @@ fn push_documents(
 
 // Those of the notes whose operations a notice has.
 fn told(mode: Mode, notes: Notes<'_>) -> Notes<'_>
-    ensures { joined result.older.now result.newer.now ≡ told_notes mode (joined notes.entry.older.now notes.entry.newer.now) }
+    ensures notes_that_the_mode_tells { joined result.older.now result.newer.now ≡ told_notes mode (joined notes.entry.older.now notes.entry.newer.now) }
 {
     match mode {
         Mode::NoPatching => Notes {
@@ -250,7 +250,7 @@ pub fn notice(
     from: u64,
     notes: Notes<'_>,
 ) -> Result<Bytes, AllocError>
-    ensures { IfOk result (λ bytes. bytes ≡ encode_utf8_all (document_print (notice_of mode root.now (id_text doc.now) from (joined notes.entry.older.now notes.entry.newer.now)))) }
+    ensures prints_the_notice { IfOk result (λ bytes. bytes ≡ encode_utf8_all (document_print (notice_of mode root.now (id_text doc.now) from (joined notes.entry.older.now notes.entry.newer.now)))) }
 {
     let names = Names {
         prefix: prefix_for(alloc, told(mode, notes))?,
@@ -267,7 +267,7 @@ pub fn notice(
 /// `NoMemory` for want of memory.
 #[tactic(auto, using(crate::proofs::Words::words))]
 pub fn gone_notice(alloc: Global, root: &Root, doc: &DocId, from: u64) -> Result<Bytes, AllocError>
-    ensures { IfOk result (λ bytes. bytes ≡ encode_utf8_all (document_print (gone_notice root.now (id_text doc.now) from))) }
+    ensures prints_that_it_is_gone { IfOk result (λ bytes. bytes ≡ encode_utf8_all (document_print (gone_notice root.now (id_text doc.now) from))) }
 {
     let names = Names {
         prefix: Text::from(alloc, "d")?,

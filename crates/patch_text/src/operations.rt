@@ -17,7 +17,7 @@ use xml_tree::{Decl, Element, Name, Path, Text, copy_tree, print_path};
 
 // The selector of an element's child.
 fn child_text(alloc: Global, parent: &Path, child: usize) -> Result<Text, AllocError>
-    ensures { IfOk result (λ text. text ≡ path_text (parent.now ++ child ∷ [])) }
+    ensures selector_of_the_child { IfOk result (λ text. text ≡ path_text (parent.now ++ child ∷ [])) }
 {
     let mut text = print_path(alloc, parent)?;
     let step = format!(in alloc; "/*[{}]", child as u128 + 1)?;
@@ -28,7 +28,7 @@ fn child_text(alloc: Global, parent: &Path, child: usize) -> Result<Text, AllocE
 // Adds a name as it is written.
 #[tactic(auto, using(crate::proofs::Named::bare_name))]
 fn push_name(text: &mut Text, name: &Name) -> Result<(), AllocError>
-    ensures { OnOk result (text.new ≡ text.old ++ print_name name.now) }
+    ensures adds_the_name { OnOk result (text.new ≡ text.old ++ print_name name.now) }
 {
     if name.prefix.is_empty() {
         return text.push_str(name.local.as_str());
@@ -42,7 +42,7 @@ fn push_name(text: &mut Text, name: &Name) -> Result<(), AllocError>
 // The name of an attribute, behind `@`.
 #[tactic(auto, using(crate::proofs::Words::words))]
 fn name_text(alloc: Global, name: &Name) -> Result<Text, AllocError>
-    ensures { IfOk result (λ text. text ≡ attr_name_text name.now) }
+    ensures name_behind_the_at_sign { IfOk result (λ text. text ≡ attr_name_text name.now) }
 {
     let mut text = Text::from(alloc, "@")?;
     push_name(&mut text, name)?;
@@ -52,7 +52,7 @@ fn name_text(alloc: Global, name: &Name) -> Result<Text, AllocError>
 // The selector of an element's attribute.
 #[tactic(auto, using(crate::proofs::Words::words))]
 fn attribute_text(alloc: Global, at: &Path, name: &Name) -> Result<Text, AllocError>
-    ensures { IfOk result (λ text. text ≡ attr_path_text at.now name.now) }
+    ensures selector_of_the_attribute { IfOk result (λ text. text ≡ attr_path_text at.now name.now) }
 {
     let mut text = print_path(alloc, at)?;
     text.push_str("/@")?;
@@ -64,7 +64,7 @@ fn attribute_text(alloc: Global, at: &Path, name: &Name) -> Result<Text, AllocEr
 
 // Its word, and the note's bindings as declarations.
 fn bare(alloc: Global, prefix: &Text, bindings: &[Decl], word: &str) -> Result<Element, AllocError>
-    ensures { IfOk result (λ made. made ≡ operation_of prefix.now bindings.now (chars word.now) [] (last [])) }
+    ensures declares_the_bindings { IfOk result (λ made. made ≡ operation_of prefix.now bindings.now (chars word.now) [] (last [])) }
 {
     let mut made = element_of(alloc, prefix, word)?;
     for binding in bindings {
@@ -82,7 +82,7 @@ fn beginning(
     word: &str,
     sel: Text,
 ) -> Result<Element, AllocError>
-    ensures { IfOk result (λ made. made ≡ operation_of prefix.now bindings.now (chars word.now) (sel_attr sel ∷ []) (last [])) }
+    ensures has_the_selector { IfOk result (λ made. made ≡ operation_of prefix.now bindings.now (chars word.now) (sel_attr sel ∷ []) (last [])) }
 {
     let mut made = bare(alloc, prefix, bindings, word)?;
     push_plain(alloc, &mut made, "sel", sel)?;
@@ -98,7 +98,7 @@ fn insertion(
     gap: usize,
     element: &Element,
 ) -> Result<Element, AllocError>
-    ensures { IfOk result (λ made. made ≡ told prefix.now bindings.now false (change.Insert parent.now gap element.now)) }
+    ensures tells_the_insertion { IfOk result (λ made. made ≡ told prefix.now bindings.now false (change.Insert parent.now gap element.now)) }
 {
     let mut made = placed(alloc, prefix, bindings, parent, gap)?;
     made.push_elem(copy_tree(alloc, element)?)?;
@@ -114,7 +114,7 @@ fn placed(
     parent: &Path,
     gap: usize,
 ) -> Result<Element, AllocError>
-    ensures { IfOk result (λ made. made ≡ operation_of prefix.now bindings.now (codes "add") (gap_attrs parent.now gap) (last [])) }
+    ensures tells_where_it_is_put { IfOk result (λ made. made ≡ operation_of prefix.now bindings.now (codes "add") (gap_attrs parent.now gap) (last [])) }
 {
     if gap == 0 {
         let sel = print_path(alloc, parent)?;
@@ -137,7 +137,7 @@ fn replacement(
     at: &Path,
     element: &Element,
 ) -> Result<Element, AllocError>
-    ensures { IfOk result (λ made. made ≡ told prefix.now bindings.now false (change.Replace at.now element.now)) }
+    ensures tells_the_replacement { IfOk result (λ made. made ≡ told prefix.now bindings.now false (change.Replace at.now element.now)) }
 {
     let sel = print_path(alloc, at)?;
     let mut made = beginning(alloc, prefix, bindings, "replace", sel)?;
@@ -153,7 +153,7 @@ fn removal(
     bindings: &[Decl],
     at: &Path,
 ) -> Result<Element, AllocError>
-    ensures { IfOk result (λ made. made ≡ told prefix.now bindings.now false (change.Remove at.now)) }
+    ensures tells_the_removal { IfOk result (λ made. made ≡ told prefix.now bindings.now false (change.Remove at.now)) }
 {
     let sel = print_path(alloc, at)?;
     beginning(alloc, prefix, bindings, "remove", sel)
@@ -168,7 +168,7 @@ fn writing(
     name: &Name,
     value: &Text,
 ) -> Result<Element, AllocError>
-    ensures { IfOk result (λ made. made ≡ told prefix.now note.now.bindings note.now.fresh (change.SetAttr at.now name.now value.now)) }
+    ensures tells_the_writing { IfOk result (λ made. made ≡ told prefix.now note.now.bindings note.now.fresh (change.SetAttr at.now name.now value.now)) }
 {
     let mut made = written_at(alloc, prefix, note, at, name)?;
     made.push_chars(value.as_str())?;
@@ -184,7 +184,7 @@ fn written_at(
     at: &Path,
     name: &Name,
 ) -> Result<Element, AllocError>
-    ensures { IfOk result (λ made. made ≡ told prefix.now note.now.bindings note.now.fresh (change.SetAttr at.now name.now [])) }
+    ensures tells_where_it_is_written { IfOk result (λ made. made ≡ told prefix.now note.now.bindings note.now.fresh (change.SetAttr at.now name.now [])) }
 {
     let bindings = note.bindings.as_slice();
     if note.fresh {
@@ -206,7 +206,7 @@ fn dropped(
     at: &Path,
     name: &Name,
 ) -> Result<Element, AllocError>
-    ensures { IfOk result (λ made. made ≡ told prefix.now bindings.now false (change.DropAttr at.now name.now)) }
+    ensures tells_the_drop { IfOk result (λ made. made ≡ told prefix.now bindings.now false (change.DropAttr at.now name.now)) }
 {
     let sel = attribute_text(alloc, at, name)?;
     beginning(alloc, prefix, bindings, "remove", sel)
@@ -220,7 +220,7 @@ pub(crate) fn operation(
     prefix: &Text,
     note: &EditNote,
 ) -> Result<Element, AllocError>
-    ensures { IfOk result (λ made. made ≡ operation prefix.now (note_in note.now)) }
+    ensures operation_of_the_note { IfOk result (λ made. made ≡ operation prefix.now (note_in note.now)) }
 {
     let bindings = note.bindings.as_slice();
     match &note.change {

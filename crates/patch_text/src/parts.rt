@@ -8,7 +8,7 @@ use xml_tree::{Attr, Element, Name, Text};
 
 // An element in the namespace of notices, which has this prefix, and nothing in it.
 pub(crate) fn element_of(alloc: Global, prefix: &Text, word: &str) -> Result<Element, AllocError>
-    ensures { IfOk result (λ made. made ≡ tree_of (in_diff prefix.now (chars word.now)) [] [] (last [])) }
+    ensures has_the_word_alone { IfOk result (λ made. made ≡ tree_of (in_diff prefix.now (chars word.now)) [] [] (last [])) }
 {
     let prefix = prefix.copy(alloc)?;
     let local = Text::from(alloc, word)?;
@@ -23,7 +23,7 @@ pub(crate) fn push_plain(
     word: &str,
     value: Text,
 ) -> Result<(), AllocError>
-    ensures { OnOk result (element.new ≡ record element.old { attrs = element.old.attrs ++ plain (chars word.now) value ∷ [] }) }
+    ensures adds_the_plain_attribute { OnOk result (element.new ≡ record element.old { attrs = element.old.attrs ++ plain (chars word.now) value ∷ [] }) }
 {
     let prefix = Text::from(alloc, "")?;
     let local = Text::from(alloc, word)?;
@@ -33,7 +33,7 @@ pub(crate) fn push_plain(
 
 // The number of a tag, without quotes.
 pub(crate) fn tag_text(alloc: Global, tag: u64) -> Result<Text, AllocError>
-    ensures { IfOk result (λ text. text ≡ decimal tag) }
+    ensures prints_the_tag { IfOk result (λ text. text ≡ decimal tag) }
 {
     let number = format!(in alloc; "{}", tag)?;
     Ok(Text::own(number))

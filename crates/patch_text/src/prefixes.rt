@@ -15,7 +15,7 @@ use xml_tree::{Decl, Element, Node, Text};
 
 // Adds the prefixes of declarations.
 fn add_decls(alloc: Global, seen: &mut BTreeSet<Text>, decls: &[Decl]) -> Result<(), AllocError>
-    ensures { OnOk result (Gains (prefixes decls.now) seen.old seen.new) }
+    ensures gains_their_prefixes { OnOk result (Gains (prefixes decls.now) seen.old seen.new) }
 {
     for decl in decls {
         let _is_new = seen.insert(decl.prefix.copy(alloc)?)?;
@@ -30,7 +30,7 @@ fn add_element(
     seen: &mut BTreeSet<Text>,
     element: &Element,
 ) -> Result<(), AllocError>
-    ensures { OnOk result (Gains (prefixes element.now.decls ++ prefixes_in element.now.content) seen.old seen.new) }
+    ensures gains_the_prefixes_inside { OnOk result (Gains (prefixes element.now.decls ++ prefixes_in element.now.content) seen.old seen.new) }
 {
     add_decls(alloc, seen, element.decls())?;
     let nodes = element.nodes();
@@ -43,7 +43,7 @@ fn add_element(
 // Adds those of a node.
 #[cycle(declared)]
 fn add_node(alloc: Global, seen: &mut BTreeSet<Text>, node: &Node) -> Result<(), AllocError>
-    ensures { OnOk result (Gains (prefixes_at node.now) seen.old seen.new) }
+    ensures gains_the_prefixes_of_the_node { OnOk result (Gains (prefixes_at node.now) seen.old seen.new) }
 {
     match node {
         Node::Elem(element) => add_element(alloc, seen, element),
@@ -54,7 +54,7 @@ fn add_node(alloc: Global, seen: &mut BTreeSet<Text>, node: &Node) -> Result<(),
 
 // Adds those of the element that a change puts into its document.
 fn add_change(alloc: Global, seen: &mut BTreeSet<Text>, change: &Change) -> Result<(), AllocError>
-    ensures { OnOk result (Gains (prefixes_put change.now) seen.old seen.new) }
+    ensures gains_the_prefixes_put { OnOk result (Gains (prefixes_put change.now) seen.old seen.new) }
 {
     match change {
         Change::CreateDocument { .. } => Ok(()),
@@ -69,7 +69,7 @@ fn add_change(alloc: Global, seen: &mut BTreeSet<Text>, change: &Change) -> Resu
 
 // Adds those of the operations of notes.
 fn add_notes(alloc: Global, seen: &mut BTreeSet<Text>, notes: &[EditNote]) -> Result<(), AllocError>
-    ensures { OnOk result (Gains (flat_map prefixes_told notes.now) seen.old seen.new) }
+    ensures gains_the_prefixes_told { OnOk result (Gains (flat_map prefixes_told notes.now) seen.old seen.new) }
 {
     for note in notes {
         add_decls(alloc, seen, note.bindings.as_slice())?;
@@ -83,7 +83,7 @@ fn add_notes(alloc: Global, seen: &mut BTreeSet<Text>, notes: &[EditNote]) -> Re
 // `d`, or `d` and a number from 1 on.
 #[tactic(auto, using(crate::proofs::Words::words))]
 fn candidate(alloc: Global, number: u64) -> Result<Text, AllocError>
-    ensures { IfOk result (λ prefix. prefix ≡ candidate number) }
+    ensures candidate_of_the_number { IfOk result (λ prefix. prefix ≡ candidate number) }
 {
     if number == 0 {
         return Text::from(alloc, "d");
@@ -93,7 +93,7 @@ fn candidate(alloc: Global, number: u64) -> Result<Text, AllocError>
 
 // The first candidate that isn't among these. More than there are numbers don't fit into a memory.
 fn first_free(alloc: Global, seen: &BTreeSet<Text>) -> Result<Text, AllocError>
-    ensures { (ps : List (List ℕ)) → Holds ps seen.now → IfOk result (λ prefix. prefix ≡ candidate (first_free (is_among ps) (length ps) 0)) }
+    ensures first_that_is_free { (ps : List (List ℕ)) → Holds ps seen.now → IfOk result (λ prefix. prefix ≡ candidate (first_free (is_among ps) (length ps) 0)) }
 {
     for number in 0..u64::MAX {
         let prefix = candidate(alloc, number)?;
@@ -106,7 +106,7 @@ fn first_free(alloc: Global, seen: &BTreeSet<Text>) -> Result<Text, AllocError>
 
 // The prefix of a notice with the operations of these notes.
 pub(crate) fn prefix_for(alloc: Global, notes: Notes<'_>) -> Result<Text, AllocError>
-    ensures { IfOk result (λ prefix. prefix ≡ prefix_for (joined notes.entry.older.now notes.entry.newer.now)) }
+    ensures prefix_of_the_notes { IfOk result (λ prefix. prefix ≡ prefix_for (joined notes.entry.older.now notes.entry.newer.now)) }
 {
     let mut seen = BTreeSet::new(alloc);
     add_notes(alloc, &mut seen, notes.older)?;

@@ -51,14 +51,14 @@ pub fn what_was_deleted_is_not_found()
 /// Where an element was put, the address means its place, the plan of the same is to exchange it
 /// for the equal one, and this leaves the document.
 pub fn an_element_is_put_twice()
-    ensures { (u : Usage) (t : Tree) (selector : Selector) (spot : Spot) (e : Tree) (change : Change) → selector.end ≡ ends.Element → IsPutPlan u t selector.steps spot e (Ok change)
+    ensures plans_the_same_put_again { (u : Usage) (t : Tree) (selector : Selector) (spot : Spot) (e : Tree) (change : Change) → selector.end ≡ ends.Element → IsPutPlan u t selector.steps spot e (Ok change)
         → (p : List ℕ) × IsSpotOf (edited t change) selector (Over p) × IsPutPlan u (edited t change) selector.steps (Over p) e (Ok (Replace p e)) × (edited (edited t change) (Replace p e) ≡ edited t change) }
 {}
 
 /// Where an attribute was written, the address means the same place, the plan of the same is the
 /// same change, and this leaves the document.
 pub fn an_attribute_is_put_twice()
-    ensures { (u : Usage) (t : Tree) (selector : Selector) (uri local p value : List ℕ) (change : Change) → selector.end ≡ ends.Attribute uri local → IsAttrPlan u t selector.steps (ends.Attribute uri local) p value (Ok change)
+    ensures plans_the_same_writing_again { (u : Usage) (t : Tree) (selector : Selector) (uri local p value : List ℕ) (change : Change) → selector.end ≡ ends.Attribute uri local → IsAttrPlan u t selector.steps (ends.Attribute uri local) p value (Ok change)
         → IsSpotOf (edited t change) selector (Value p) × IsAttrPlan u (edited t change) selector.steps (ends.Attribute uri local) p value (Ok change) × (edited (edited t change) change ≡ edited t change) }
 {}
 
@@ -91,6 +91,6 @@ pub fn planned_changes_leave_proper_documents()
 
 /// The attribute that a selector ends in may be written.
 pub fn attributes_of_selectors_may_be_written()
-    ensures { (bindings : List Decl) (default text : List ℕ) (selector : Selector) (uri local : List ℕ) → IsSelectorAnswer bindings default text (Ok selector) → selector.end ≡ ends.Attribute uri local
+    ensures may_be_written { (bindings : List Decl) (default text : List ℕ) (selector : Selector) (uri local : List ℕ) → IsSelectorAnswer bindings default text (Ok selector) → selector.end ≡ ends.Attribute uri local
         → IsWritable uri local }
 {}

@@ -37,7 +37,7 @@ impl Model for Conditions {
 
 // The lines of a field as one text, with a comma between each two.
 fn joined(alloc: Global, first: &Bytes, others: &[Bytes]) -> Result<Bytes, NoMemory>
-    ensures { IfOk result (λ text. text ≡ first.now ++ flat_map (λ line. 44 ∷ line) others.now) }
+    ensures joins_the_lines_by_commas { IfOk result (λ text. text ≡ first.now ++ flat_map (λ line. 44 ∷ line) others.now) }
 {
     let mut text = first.copy(alloc)?;
     'lines: for line in others {
@@ -95,7 +95,7 @@ fn read_both(
     if_match: &[Bytes],
     if_none_match: &[Bytes],
 ) -> Result<Conditions, ConditionFault>
-    ensures { Answers ConditionFault.NoMemory (conditions_of if_match.now if_none_match.now) result }
+    ensures conditions_of_both_or_their_fault { Answers ConditionFault.NoMemory (conditions_of if_match.now if_none_match.now) result }
 {
     let if_match = read_field(alloc, if_match)?;
     let if_none_match = read_field(alloc, if_none_match)?;

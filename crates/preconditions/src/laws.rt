@@ -5,7 +5,7 @@ ghost use Rattle.preconditions.specs.Reading.{field_value};
 
 /// A law: the lines of a field say exactly what is computed of them, and nothing else.
 pub fn fields_have_one_reading()
-    ensures { (lines : List (List ℕ)) (value : FieldValue) → Says lines value ↔ (field_value lines ≡ Some value) }
+    ensures says_what_is_computed { (lines : List (List ℕ)) (value : FieldValue) → Says lines value ↔ (field_value lines ≡ Some value) }
 {}
 
 /// A law: the lines of the two fields have exactly one answer by the grammar.

@@ -26,13 +26,13 @@ struct Front<'a> {
 }
 
 fn is_blank(byte: u8) -> bool
-    ensures { result ≡ is_blank byte }
+    ensures tells_whether_it_is_blank { result ≡ is_blank byte }
 {
     byte == b' ' || byte == b'\t'
 }
 
 fn is_tag_byte(byte: u8) -> bool
-    ensures { result ≡ is_tag_byte byte }
+    ensures tells_whether_a_tag_may_hold_it { result ≡ is_tag_byte byte }
 {
     byte == 0x21 || (byte >= 0x23 && byte <= 0x7e) || byte >= 0x80
 }
@@ -62,7 +62,7 @@ fn opaque_len(text: &[u8]) -> usize
 }
 
 fn behind_quote(text: &[u8]) -> Option<&[u8]>
-    ensures { MatchOption result (behind_byte 34 text.now ≡ None) (λ rest. (behind_byte 34 text.now ≡ Some rest.now) × (length rest.now ≤ length text.now)) }
+    ensures rest_behind_the_quote { MatchOption result (behind_byte 34 text.now ≡ None) (λ rest. (behind_byte 34 text.now ≡ Some rest.now) × (length rest.now ≤ length text.now)) }
 {
     match text {
         [b'"', rest @ ..] => Some(rest),
@@ -71,7 +71,7 @@ fn behind_quote(text: &[u8]) -> Option<&[u8]>
 }
 
 fn behind_comma(text: &[u8]) -> Option<&[u8]>
-    ensures { MatchOption result (behind_byte 44 text.now ≡ None) (λ rest. (behind_byte 44 text.now ≡ Some rest.now) × (length rest.now < length text.now)) }
+    ensures rest_behind_the_comma { MatchOption result (behind_byte 44 text.now ≡ None) (λ rest. (behind_byte 44 text.now ≡ Some rest.now) × (length rest.now < length text.now)) }
 {
     match text {
         [b',', rest @ ..] => Some(rest),
@@ -81,7 +81,7 @@ fn behind_comma(text: &[u8]) -> Option<&[u8]>
 
 // The tag whose opening quote was just passed, if its bytes are lawful and a quote closes it.
 fn quoted(weak: bool, text: &[u8]) -> Option<Front<'_>>
-    ensures { MatchOption result (closed text.now ≡ None) (λ f. (f.weak ≡ weak) × (f.opaque.now ≡ opaque_front text.now) × (closed text.now ≡ Some f.rest.now) × (length f.rest.now ≤ length text.now)) }
+    ensures tag_up_to_its_quote { MatchOption result (closed text.now ≡ None) (λ f. (f.weak ≡ weak) × (f.opaque.now ≡ opaque_front text.now) × (closed text.now ≡ Some f.rest.now) × (length f.rest.now ≤ length text.now)) }
 {
     let len = opaque_len(text);
     let opaque = &text[..len];
@@ -90,7 +90,7 @@ fn quoted(weak: bool, text: &[u8]) -> Option<Front<'_>>
 }
 
 fn first_tag(text: &[u8]) -> Option<Front<'_>>
-    ensures { MatchOption result (first_tag text.now ≡ None) (λ f. (first_tag text.now ≡ Some (tag_of f.weak f.opaque.now, f.rest.now)) × (length f.rest.now ≤ length text.now)) }
+    ensures tag_at_the_front { MatchOption result (first_tag text.now ≡ None) (λ f. (first_tag text.now ≡ Some (tag_of f.weak f.opaque.now, f.rest.now)) × (length f.rest.now ≤ length text.now)) }
 {
     match text {
         [b'"', rest @ ..] => quoted(false, rest),
@@ -106,7 +106,7 @@ fn push_tag(
     weak: bool,
     opaque: &[u8],
 ) -> Result<(), NoMemory>
-    ensures { OnOk result (tags.new.items ≡ tags.old.items ++ tag_of weak opaque.now ∷ []) }
+    ensures adds_the_tag { OnOk result (tags.new.items ≡ tags.old.items ++ tag_of weak opaque.now ∷ []) }
 {
     let opaque = Bytes::from(alloc, opaque)?;
     tags.push(EntityTag { weak, opaque })?;

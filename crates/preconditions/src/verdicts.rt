@@ -21,7 +21,7 @@ pub enum Verdict {
 }
 
 fn is_number(opaque: &[u8], number: u64) -> bool
-    ensures { result ≡ bytes_eq opaque.now (decimal number) }
+    ensures tells_whether_it_is_the_number { result ≡ bytes_eq opaque.now (decimal number) }
 {
     let mut buffer = Buffer::new();
     opaque == buffer.format(number).as_bytes()
@@ -29,7 +29,7 @@ fn is_number(opaque: &[u8], number: u64) -> bool
 
 #[tactic(auto, unfolding(crate::specs::Verdicts::is_own))]
 fn is_own(tag: &EntityTag, own: Option<u64>) -> bool
-    ensures { result ≡ is_own own tag.now }
+    ensures tells_whether_it_is_the_own { result ≡ is_own own tag.now }
 {
     match own {
         Some(number) => is_number(tag.opaque.as_slice(), number),
@@ -39,25 +39,25 @@ fn is_own(tag: &EntityTag, own: Option<u64>) -> bool
 
 #[tactic(auto, unfolding(crate::specs::Verdicts::is_strongly_own))]
 fn is_strongly_own(tag: &EntityTag, own: Option<u64>) -> bool
-    ensures { result ≡ is_strongly_own own tag.now }
+    ensures tells_whether_it_is_strongly_the_own { result ≡ is_strongly_own own tag.now }
 {
     !tag.weak && is_own(tag, own)
 }
 
 fn any_strongly_own(tags: &[EntityTag], own: Option<u64>) -> bool
-    ensures { result ≡ list_any (is_strongly_own own) tags.now }
+    ensures tells_whether_one_is_strongly_the_own { result ≡ list_any (is_strongly_own own) tags.now }
 {
     tags.iter().any(|tag| is_strongly_own(tag, own))
 }
 
 fn any_own(tags: &[EntityTag], own: Option<u64>) -> bool
-    ensures { result ≡ list_any (is_own own) tags.now }
+    ensures tells_whether_one_is_the_own { result ≡ list_any (is_own own) tags.now }
 {
     tags.iter().any(|tag| is_own(tag, own))
 }
 
 fn if_match_holds(field: &Field, own: Option<u64>, exists: bool) -> bool
-    ensures { result ≡ if_match_holds own exists (value_of field.now) }
+    ensures tells_whether_it_holds { result ≡ if_match_holds own exists (value_of field.now) }
 {
     match field {
         Field::Missing => true,
@@ -67,7 +67,7 @@ fn if_match_holds(field: &Field, own: Option<u64>, exists: bool) -> bool
 }
 
 fn if_none_match_holds(field: &Field, own: Option<u64>, exists: bool) -> bool
-    ensures { result ≡ if_none_match_holds own exists (value_of field.now) }
+    ensures tells_whether_none_is_the_own { result ≡ if_none_match_holds own exists (value_of field.now) }
 {
     match field {
         Field::Missing => true,
@@ -79,7 +79,7 @@ fn if_none_match_holds(field: &Field, own: Option<u64>, exists: bool) -> bool
 /// The verdict of the conditions on a resource of the document with this tag, if it is held; `exists` says whether the resource is there,
 /// and `reading` whether the method is GET or HEAD. Takes no memory.
 pub fn condition(conditions: &Conditions, tag: Option<u64>, exists: bool, reading: bool) -> Verdict
-    ensures { result ≡ verdict_of conditions.now tag exists reading }
+    ensures judges_the_conditions { result ≡ verdict_of conditions.now tag exists reading }
 {
     if !if_match_holds(&conditions.if_match, tag, exists) {
         return Verdict::Failed;

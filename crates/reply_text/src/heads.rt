@@ -33,7 +33,7 @@ impl Model for HeadText {
 impl HeadText {
     /// No bytes.
     pub(crate) fn new() -> HeadText
-        ensures { result ≡ [] }
+        ensures holds_no_bytes { result ≡ [] }
     {
         HeadText {
             bytes: [0; ROOM],
@@ -43,7 +43,7 @@ impl HeadText {
 
     /// The bytes.
     pub(crate) fn as_slice(&self) -> &[u8]
-        ensures { result.now ≡ self.now }
+        ensures lends_the_bytes { result.now ≡ self.now }
     {
         &self.bytes[..self.len]
     }
@@ -51,7 +51,7 @@ impl HeadText {
     // Adds bytes.
     fn push(&mut self, piece: &[u8])
         requires { length self.old + length piece.now ≤ 384 }
-        ensures { self.new ≡ self.old ++ piece.now }
+        ensures adds_the_bytes { self.new ≡ self.old ++ piece.now }
     {
         let end = self.len + piece.len();
         self.bytes[self.len..end].copy_from_slice(piece);
@@ -192,7 +192,7 @@ impl HeadText {
     /// Adds the empty line.
     pub(crate) fn push_end(&mut self)
         requires { length self.old ≤ 380 }
-        ensures { self.new ≡ self.old ++ line_end }
+        ensures adds_the_empty_line { self.new ≡ self.old ++ line_end }
     {
         self.push(b"\r\n");
     }

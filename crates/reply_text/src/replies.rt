@@ -41,7 +41,7 @@ fn head(
     closes: bool,
 ) -> HeadText
     requires { IsTrue (is_status status) }
-    ensures { result ≡ head_of (parts status tag read_only media size closes) }
+    ensures head_of_its_parts { result ≡ head_of (parts status tag read_only media size closes) }
 {
     let mut head = HeadText::new();
     head.push_status(status);
@@ -59,7 +59,7 @@ impl Reply {
     pub fn fixed(status: u16, close: bool) -> Reply
         requires status { IsTrue (is_status status) }
         requires plain { (status ≢ 304) × (status ≢ 405) × (status ≢ 409) }
-        ensures { result ≡ plain status close }
+        ensures bare_reply_of_the_status { result ≡ plain status close }
     {
         Reply {
             status,
@@ -71,7 +71,7 @@ impl Reply {
 
     /// The 405, with the methods of a resource that can only be read, or of any other. Takes no memory.
     pub fn method(read_only: bool, close: bool) -> Reply
-        ensures { result ≡ sent (parts 405 None (Some read_only) None 0 close) [] }
+        ensures names_the_methods { result ≡ sent (parts 405 None (Some read_only) None 0 close) [] }
     {
         Reply {
             status: 405,
@@ -92,7 +92,7 @@ impl Reply {
         requires status { IsTrue (is_status status) }
         requires plain { status ≢ 405 }
         requires no_body { status ≡ 304 → body ≡ [] }
-        ensures { result ≡ sent (parts status tag None media (length body) close) body }
+        ensures sends_the_body { result ≡ sent (parts status tag None media (length body) close) body }
     {
         Reply {
             status,
@@ -106,7 +106,7 @@ impl Reply {
     pub fn lent(status: u16, tag: Option<u64>, media: Media, size: usize, close: bool) -> Reply
         requires status { IsTrue (is_status status) }
         requires plain { (status ≢ 304) × (status ≢ 405) }
-        ensures { result ≡ sent (parts status tag None (Some media) size close) [] }
+        ensures sends_the_head_alone { result ≡ sent (parts status tag None (Some media) size close) [] }
     {
         Reply {
             status,
@@ -118,7 +118,7 @@ impl Reply {
 
     /// The same reply without its body, as the answer to HEAD. Takes no memory.
     pub fn head_only(mut self) -> Reply
-        ensures { result ≡ record self { body = [] } }
+        ensures keeps_all_but_the_body { result ≡ record self { body = [] } }
     {
         self.body = None;
         self
@@ -126,28 +126,28 @@ impl Reply {
 
     /// The status. Takes no memory.
     pub fn status(&self) -> u16
-        ensures { result ≡ self.now.status }
+        ensures tells_the_status { result ≡ self.now.status }
     {
         self.status
     }
 
     /// Whether the connection ends behind the reply. Takes no memory.
     pub fn closes(&self) -> bool
-        ensures { result ≡ self.now.closes }
+        ensures tells_whether_it_closes { result ≡ self.now.closes }
     {
         self.closes
     }
 
     /// The bytes up to and with the first empty line. Takes no memory.
     pub fn head(&self) -> &[u8]
-        ensures { result.now ≡ self.now.head }
+        ensures lends_the_head { result.now ≡ self.now.head }
     {
         self.head.as_slice()
     }
 
     /// The bytes behind it. Takes no memory.
     pub fn body(&self) -> &[u8]
-        ensures { result.now ≡ self.now.body }
+        ensures lends_the_body { result.now ≡ self.now.body }
     {
         match &self.body {
             Some(body) => body.as_slice(),

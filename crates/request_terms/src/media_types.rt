@@ -15,7 +15,7 @@ use reply_text::{Media, media_type};
 /// its parameters, and every `Content-Encoding` is `identity`. Takes no memory.
 #[tactic(auto, unfolding(crate::specs::MediaTypes::has_type))]
 pub fn has_type(request: &Request, media: Media) -> bool
-    ensures { result ≡ has_type media request.now.fields }
+    ensures tells_whether_it_has_the_type { result ≡ has_type media request.now.fields }
 {
     let fields = request.fields.as_slice();
     if !all_named_are(fields, b"content-encoding", b"identity") {
@@ -26,7 +26,7 @@ pub fn has_type(request: &Request, media: Media) -> bool
 
 #[tactic(auto, using(crate::proofs::Onlys::type_one, crate::proofs::Onlys::type_other))]
 fn is_of_type(fields: &[Field], wanted: &[u8]) -> bool
-    ensures { result ≡ is_type wanted.now (fields_named (codes "content-type") fields.now) }
+    ensures tells_whether_it_names_the_type { result ≡ is_type wanted.now (fields_named (codes "content-type") fields.now) }
 {
     match only_named(fields, b"content-type") {
         Some(value) => is_same_word(essence(value), wanted),
@@ -36,20 +36,20 @@ fn is_of_type(fields: &[Field], wanted: &[u8]) -> bool
 
 #[tactic(auto, using(crate::proofs::Onlys::essence_is))]
 fn essence(value: &[u8]) -> &[u8]
-    ensures { result.now ≡ essence value.now }
+    ensures cuts_the_essence { result.now ≡ essence value.now }
 {
     trim(before_semicolon(value))
 }
 
 fn semicolon(value: &[u8]) -> Option<usize>
-    ensures { result ≡ position (λ b. b == 59) value.now }
+    ensures place_of_the_first_semicolon { result ≡ position (λ b. b == 59) value.now }
 {
     value.iter().position(|b| *b == b';')
 }
 
 #[tactic(auto, using(crate::proofs::Onlys::before_some, crate::proofs::Onlys::before_none))]
 fn before_semicolon(value: &[u8]) -> &[u8]
-    ensures { result.now ≡ before_first (λ b. b == 59) value.now }
+    ensures bytes_before_the_semicolon { result.now ≡ before_first (λ b. b == 59) value.now }
 {
     match semicolon(value) {
         Some(len) => &value[..len],
@@ -59,13 +59,13 @@ fn before_semicolon(value: &[u8]) -> &[u8]
 
 #[tactic(auto, unfolding(httparse::specs::Grammar::trim_ows))]
 fn trim(bytes: &[u8]) -> &[u8]
-    ensures { result.now ≡ trim_ows bytes.now }
+    ensures trims_both_ends { result.now ≡ trim_ows bytes.now }
 {
     trim_end(trim_start(bytes))
 }
 
 fn trim_start(mut bytes: &[u8]) -> &[u8]
-    ensures { result.now ≡ skip_ows bytes.now }
+    ensures trims_the_start { result.now ≡ skip_ows bytes.now }
 {
     'blanks: while let [first, rest @ ..] = bytes
         && is_space_or_tab(*first)
@@ -76,7 +76,7 @@ fn trim_start(mut bytes: &[u8]) -> &[u8]
 }
 
 fn trim_end(mut bytes: &[u8]) -> &[u8]
-    ensures { result.now ≡ reverse (skip_ows (reverse bytes.now)) }
+    ensures trims_the_end { result.now ≡ reverse (skip_ows (reverse bytes.now)) }
 {
     'blanks: while let [rest @ .., last] = bytes
         && is_space_or_tab(*last)
@@ -88,7 +88,7 @@ fn trim_end(mut bytes: &[u8]) -> &[u8]
 
 /// The media type of a usage's documents. Takes no memory.
 pub fn document_media(auid: Auid) -> Media
-    ensures { result ≡ document_media auid }
+    ensures tells_the_media_type { result ≡ document_media auid }
 {
     match auid {
         Auid::ResourceLists => Media::ResourceLists,

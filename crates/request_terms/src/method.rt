@@ -19,7 +19,7 @@ impl Method {
     /// The method of a request. Takes no memory.
     #[tactic(auto, unfolding(crate::specs::Methods::method_of))]
     pub fn of(request: &Request) -> Method
-        ensures { result ≡ method_of request.now.method }
+        ensures reads_the_method { result ≡ method_of request.now.method }
     {
         let name = &request.method;
         if name.is("GET") {
@@ -39,14 +39,14 @@ impl Method {
 
     /// Whether it reads, and so changes nothing (RFC 9110, section 9.2.1).
     pub fn reads(self) -> bool
-        ensures { result ≡ is_reading self }
+        ensures tells_whether_it_reads { result ≡ is_reading self }
     {
         matches!(self, Method::Get | Method::Head)
     }
 
     /// Whether it is one of the four that this server takes.
     pub fn is_known(self) -> bool
-        ensures { result ≡ is_known self }
+        ensures tells_whether_it_is_known { result ≡ is_known self }
     {
         !matches!(self, Method::Other)
     }

@@ -13,7 +13,7 @@ use xml_tree::{List, Text};
 
 fn is_word(text: &Text, word: &[u8]) -> bool
     requires { IsTrue (list_all is_ascii word.now) }
-    ensures { result ≡ same_word text.now word.now }
+    ensures tells_whether_it_is_the_word { result ≡ same_word text.now word.now }
 {
     text.as_str().as_bytes().eq_ignore_ascii_case(word)
 }
@@ -37,7 +37,7 @@ fn first_named<'a>(mut fields: &'a [Field], name: &[u8]) -> Option<(&'a Bytes, &
 // The value of the one field of that name; none where there isn't exactly one.
 pub fn only_named<'a>(fields: &'a [Field], name: &[u8]) -> Option<&'a [u8]>
     requires { IsTrue (list_all is_ascii name.now) }
-    ensures { MatchOption result (length (fields_named name.now fields.now) ≢ 1) (λ value. fields_named name.now fields.now ≡ value.now ∷ []) }
+    ensures value_of_the_only_field { MatchOption result (length (fields_named name.now fields.now) ≢ 1) (λ value. fields_named name.now fields.now ≡ value.now ∷ []) }
 {
     let (value, rest) = first_named(fields, name)?;
     match first_named(rest, name) {
@@ -49,7 +49,7 @@ pub fn only_named<'a>(fields: &'a [Field], name: &[u8]) -> Option<&'a [u8]>
 // Whether each value of the fields of that name is this word, whatever the case of its letters.
 pub fn all_named_are(mut fields: &[Field], name: &[u8], word: &[u8]) -> bool
     requires { IsTrue (list_all is_ascii name.now) }
-    ensures { result ≡ list_all (λ v. same_word v word.now) (fields_named name.now fields.now) }
+    ensures tells_whether_all_are_the_word { result ≡ list_all (λ v. same_word v word.now) (fields_named name.now fields.now) }
 {
     'fields: while let Some((value, rest)) = first_named(fields, name) {
         if !is_same_word(value.as_slice(), word) {
@@ -62,7 +62,7 @@ pub fn all_named_are(mut fields: &[Field], name: &[u8], word: &[u8]) -> bool
 
 // Whether two words are equal, whatever the case of their letters.
 pub fn is_same_word(a: &[u8], b: &[u8]) -> bool
-    ensures { result ≡ same_word a.now b.now }
+    ensures tells_whether_they_are_one_word { result ≡ same_word a.now b.now }
 {
     a.eq_ignore_ascii_case(b)
 }
@@ -70,7 +70,7 @@ pub fn is_same_word(a: &[u8], b: &[u8]) -> bool
 // Copies of the values of the fields of that name, in order.
 pub fn copy_named(alloc: Global, mut fields: &[Field], name: &[u8]) -> Result<List<Bytes>, NoMemory>
     requires { IsTrue (list_all is_ascii name.now) }
-    ensures { IfOk result (λ values. values ≡ fields_named name.now fields.now) }
+    ensures copies_the_values_in_order { IfOk result (λ values. values ≡ fields_named name.now fields.now) }
 {
     let mut values = List::empty(alloc);
     'fields: while let Some((value, rest)) = first_named(fields, name) {

@@ -10,7 +10,7 @@ use std::alloc::{AllocError, Global};
 use xcap_io::Bytes;
 
 fn by_verdict(verdict: Verdict) -> Outcome
-    ensures { result ≡ by_verdict verdict }
+    ensures outcome_of_the_verdict { result ≡ by_verdict verdict }
 {
     match verdict {
         Verdict::Go => Outcome::Go,
@@ -27,7 +27,7 @@ fn outcome_by_lines(
     exists: bool,
     reading: bool,
 ) -> Result<Outcome, NoMemory>
-    ensures { IfOk result (λ o. LinesMake if_match.now if_none_match.now tag exists reading o) }
+    ensures made_of_the_lines { IfOk result (λ o. LinesMake if_match.now if_none_match.now tag exists reading o) }
 {
     match read_conditions(alloc, if_match, if_none_match) {
         Ok(conditions) => Ok(by_verdict(condition(&conditions, tag, exists, reading))),

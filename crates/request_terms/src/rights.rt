@@ -12,7 +12,7 @@ use xml_tree::Text;
 /// What is global is read by everyone and written by nobody. What is a user's is read and written by that user, whom exactly
 /// one field `X-XCAP-User` has to name; nobody writes `xcap-caps`.
 pub fn is_allowed(writes: bool, auid: Auid, home: &Home, request: &Request) -> bool
-    ensures { result ≡ is_allowed writes auid home.now request.now.fields }
+    ensures tells_whether_it_is_allowed { result ≡ is_allowed writes auid home.now request.now.fields }
 {
     match home {
         Home::Global => !writes,
@@ -26,14 +26,14 @@ pub fn is_allowed(writes: bool, auid: Auid, home: &Home, request: &Request) -> b
 }
 
 fn is_fixed_usage(auid: Auid) -> bool
-    ensures { result ≡ is_fixed_usage auid }
+    ensures tells_whether_it_is_fixed { result ≡ is_fixed_usage auid }
 {
     matches!(auid, Auid::XcapCaps)
 }
 
 #[tactic(auto, unfolding(crate::specs::Rights::is_user), using(crate::proofs::Onlys::only_one, crate::proofs::Onlys::only_other))]
 fn is_user(xui: &Text, fields: &[Field]) -> bool
-    ensures { result ≡ is_user xui.now fields.now }
+    ensures tells_whether_it_is_the_user { result ≡ is_user xui.now fields.now }
 {
     match only_named(fields, b"x-xcap-user") {
         Some(user) => user == xui.as_str().as_bytes(),

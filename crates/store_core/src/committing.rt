@@ -43,7 +43,7 @@ impl Store {
     /// The first reason against the change, in the order of `StoreRefusal`, or `NoMemory`; the store then holds what it held.
     pub fn change(&mut self, doc: &DocId, change: Change) -> Result<EditNote, StoreRefusal>
         requires { Asks self.old.content doc.now change }
-        ensures { Steps refusals.NoMemory (changing self.old.content doc.now change) note_in result self.old.content self.new.content }
+        ensures makes_the_change_or_refuses { Steps refusals.NoMemory (changing self.old.content doc.now change) note_in result self.old.content self.new.content }
     {
         let prepared = self.prepare(doc, change)?;
         Ok(self.commit(prepared))

@@ -40,7 +40,7 @@ impl Entry {
         len: usize,
     ) -> Result<Entry, AllocError>
         requires { len ≡ document_len tree }
-        ensures { IfOk result (λ made. made ≡ entry_of number tree) }
+        ensures made_with_the_number { IfOk result (λ made. made ≡ entry_of number tree) }
     {
         let notes = HeapCircularBuffer::with_capacity(alloc, MOST_NOTES)?;
         Ok(Entry {
@@ -58,7 +58,7 @@ pub(crate) fn renew(entry: &mut Entry, number: u64, staged: Staged, note: EditNo
     requires ring { entry.old.notes.capacity ≡ 64 }
     requires fits { Fits entry.old.tree note.change }
     requires staged { IsStaged entry.old.tree note.change staged }
-    ensures { IsRenewed entry.old number note len entry.new }
+    ensures renewed_by_the_edit { IsRenewed entry.old number note len entry.new }
 {
     make_staged(&mut entry.tree, &note.change, staged);
     entry.len = len;
@@ -68,7 +68,7 @@ pub(crate) fn renew(entry: &mut Entry, number: u64, staged: Staged, note: EditNo
 
 // How much notes weigh together; the greatest number where it is more.
 fn weight_of(notes: &[EditNote]) -> usize
-    ensures { result ≡ min (sum_by weight (map note_in notes.now)) usize.MAX }
+    ensures sums_their_weights { result ≡ min (sum_by weight (map note_in notes.now)) usize.MAX }
 {
     let mut total = 0usize;
     for note in notes {
@@ -79,7 +79,7 @@ fn weight_of(notes: &[EditNote]) -> usize
 
 // Whether all notes of a ring weigh little enough to be retained.
 fn is_light(notes: &NoteRing) -> bool
-    ensures { result ≡ nat_le (sum_by weight (map note_in notes.now.items)) 65536 }
+    ensures tells_whether_they_are_light { result ≡ nat_le (sum_by weight (map note_in notes.now.items)) 65536 }
 {
     let (older, newer) = notes.as_slices();
     weight_of(older).saturating_add(weight_of(newer)) <= MOST_WEIGHT

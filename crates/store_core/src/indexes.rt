@@ -15,7 +15,7 @@ use xml_tree::{Element, Text};
 
 // The user whose home this is.
 fn user_of(home: &Home) -> Option<&Text>
-    ensures { (t : Tree) → option_map (λ user. (user.now, t)) result ≡ indexed_in home.now t }
+    ensures user_of_the_home { (t : Tree) → option_map (λ user. (user.now, t)) result ≡ indexed_in home.now t }
 {
     match home {
         Home::Global => None,
@@ -26,7 +26,7 @@ fn user_of(home: &Home) -> Option<&Text>
 // The user who keeps a document under the name `index`.
 #[tactic(auto, unfolding(crate::specs::Indexes::index))]
 fn user_of_index(doc: &DocId) -> Option<&Text>
-    ensures { (t : Tree) → option_map (λ user. (user.now, t)) result ≡ (if bytes_eq doc.now.name index then indexed_in doc.now.home t else None) }
+    ensures user_of_the_index { (t : Tree) → option_map (λ user. (user.now, t)) result ≡ (if bytes_eq doc.now.name index then indexed_in doc.now.home t else None) }
 {
     if !doc.name.is("index") {
         return None;
@@ -36,7 +36,7 @@ fn user_of_index(doc: &DocId) -> Option<&Text>
 
 // The user whose document the index lists, if it lists this one.
 fn listed_user(doc: &DocId) -> Option<&Text>
-    ensures { (t : Tree) → option_map (λ user. (user.now, t)) result ≡ indexed_by doc.now.auid (bytes_eq doc.now.name index) doc.now.home t }
+    ensures user_whom_it_lists { (t : Tree) → option_map (λ user. (user.now, t)) result ≡ indexed_by doc.now.auid (bytes_eq doc.now.name index) doc.now.home t }
 {
     match doc.auid {
         Auid::ResourceLists => None,
@@ -50,7 +50,7 @@ fn trees_by_user<'a>(
     alloc: Global,
     documents: &'a Documents,
 ) -> Result<BTreeMap<&'a Text, &'a Element>, AllocError>
-    ensures { IfOk result (λ made. pairs_in made.entries ≡ entered [] (listed documents.now.entries)) }
+    ensures trees_that_are_listed { IfOk result (λ made. pairs_in made.entries ≡ entered [] (listed documents.now.entries)) }
 {
     let mut made = BTreeMap::new(alloc);
     for (doc, entry) in documents.iter() {

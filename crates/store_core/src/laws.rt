@@ -12,30 +12,30 @@ ghost use Rattle.edit_ops.specs.declared.change.Change.{Change};
 
 /// A law: where a store stands for a state, what it holds after a change stands for the state after that change.
 pub fn stores_stand_after_each_change()
-    ensures { (c : Content) (m : State) (id : DocId) (change : Change) → Stands c m → Stands (content_after c id change) (after m id change) }
+    ensures stands_after_the_change { (c : Content) (m : State) (id : DocId) (change : Change) → Stands c m → Stands (content_after c id change) (after m id change) }
 {}
 
 /// A law: a state that is kept is kept after each change that suits it.
 pub fn states_are_kept_after_each_change()
-    ensures { (m : State) (id : DocId) (change : Change) → Kept m → Suits m id change → Kept (after m id change) }
+    ensures kept_after_the_change { (m : State) (id : DocId) (change : Change) → Kept m → Suits m id change → Kept (after m id change) }
 {}
 
 /// A law: the state without documents is kept, where the first number is 1 or more.
 pub fn the_first_state_is_kept()
-    ensures { (first : ℕ) → 1 ≤ first → Kept (first_state first) }
+    ensures keeps_the_first_state { (first : ℕ) → 1 ≤ first → Kept (first_state first) }
 {}
 
 /// A law: where a store stands for a kept state, a change that the store answers with its note suits the state.
 pub fn changes_that_are_made_suit_the_state()
-    ensures { (c : Content) (m : State) (id : DocId) (change : Change) (made : Note × Content) → Stands c m → Kept m → Asks c id change → changing c id change ≡ Ok made → Suits m id change }
+    ensures suits_if_it_is_made { (c : Content) (m : State) (id : DocId) (change : Change) (made : Note × Content) → Stands c m → Kept m → Asks c id change → changing c id change ≡ Ok made → Suits m id change }
 {}
 
 /// A law: where a store stands for a kept state and makes a change that may be asked for, what it then holds stands for the next state, which is kept.
 pub fn changes_that_are_made_keep_store_and_state()
-    ensures { (c : Content) (m : State) (id : DocId) (change : Change) (note : Note) (next : Content) → Stands c m → Kept m → Asks c id change → changing c id change ≡ Ok (note, next) → Stands next (after m id change) × Kept (after m id change) }
+    ensures stands_for_the_next_and_keeps_it { (c : Content) (m : State) (id : DocId) (change : Change) (note : Note) (next : Content) → Stands c m → Kept m → Asks c id change → changing c id change ≡ Ok (note, next) → Stands next (after m id change) × Kept (after m id change) }
 {}
 
 /// A law: where a store stands for a kept state, it makes each change that suits the state, while 64 bits hold the next number.
 pub fn changes_that_suit_the_state_are_made()
-    ensures { (c : Content) (m : State) (id : DocId) (change : Change) → Stands c m → Kept m → Suits m id change → m.next < 18446744073709551616 → changing c id change ≡ Ok (note_for c id change (document_in held_name c.documents id), content_after c id change) }
+    ensures made_if_it_suits { (c : Content) (m : State) (id : DocId) (change : Change) → Stands c m → Kept m → Suits m id change → m.next < 18446744073709551616 → changing c id change ≡ Ok (note_for c id change (document_in held_name c.documents id), content_after c id change) }
 {}

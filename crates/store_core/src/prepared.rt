@@ -40,14 +40,14 @@ impl Model for Prepared {
 impl Prepared {
     /// The note that the change will be answered with, lent. Takes no memory.
     pub fn note(&self) -> &EditNote
-        ensures { note_in result.now ≡ self.now.note }
+        ensures lends_the_note { note_in result.now ≡ self.now.note }
     {
         &self.note
     }
 
     /// How many service addresses come in.
     pub(crate) fn addresses_more(&self) -> usize
-        ensures { result ≡ length self.now.enters }
+        ensures counts_what_enters { result ≡ length self.now.enters }
     {
         self.enters.as_slice().len()
     }

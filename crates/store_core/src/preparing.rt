@@ -39,7 +39,7 @@ const HEAD_LEN: usize = 39;
 
 // How many bytes a document has, printed; the greatest number where it has more.
 fn document_len(root: &Element) -> usize
-    ensures { result ≡ min (document_len root.now) usize.MAX }
+    ensures counts_the_document { result ≡ min (document_len root.now) usize.MAX }
 {
     printed_len(root).saturating_add(HEAD_LEN)
 }
@@ -48,14 +48,14 @@ fn document_len(root: &Element) -> usize
 fn len_after(root: &Element, len: usize, change: &Change) -> usize
     requires fits { Fits root.now change.now }
     requires len { len ≡ document_len root.now }
-    ensures { result ≡ min (document_len (edited root.now change.now)) usize.MAX }
+    ensures counts_the_changed_document { result ≡ min (document_len (edited root.now change.now)) usize.MAX }
 {
     printed_len_after(root, len - HEAD_LEN, change).saturating_add(HEAD_LEN)
 }
 
 // The clash of the service at this place.
 fn clash_at(place: usize) -> Clash
-    ensures { result ≡ record { path = place ∷ []; key = keys.Uri } }
+    ensures clash_at_the_place { result ≡ record { path = place ∷ []; key = keys.Uri } }
 {
     match Path::root().child(place) {
         Some(path) => Clash {
@@ -69,7 +69,7 @@ fn clash_at(place: usize) -> Clash
 // The first reason against a tree, by what was found of it.
 fn refused_for(place: Option<usize>, len: usize, is_full: bool, others: u64) -> Option<StoreRefusal>
     requires { others ≤ 33554432 }
-    ensures { result ≡ refused_for place len is_full others }
+    ensures first_reason_against_it { result ≡ refused_for place len is_full others }
 {
     if let Some(place) = place {
         return Some(StoreRefusal::ServiceTaken(clash_at(place)));
@@ -100,7 +100,7 @@ fn creation(
     total: u64,
 ) -> Result<Prepared, AllocError>
     requires { len ≡ document_len root }
-    ensures { IfOk result (λ p. p ≡ record {
+    ensures prepares_the_creation { IfOk result (λ p. p ≡ record {
       doc = doc.now;
       note = record { previous = 0; next = number; bindings = []; change = changes.CreateDocument root; fresh = false };
       step = steps.Make (entry_of number root);
@@ -134,7 +134,7 @@ fn edit(
     enters: List<Text>,
     total: u64,
 ) -> Result<Prepared, AllocError>
-    ensures { IfOk result (λ p. p ≡ record {
+    ensures prepares_the_edit { IfOk result (λ p. p ≡ record {
       doc = doc.now;
       note = note_in note;
       step = steps.Edit staged note len;
@@ -164,7 +164,7 @@ fn removal(
     leaves: List<Text>,
     total: u64,
 ) -> Result<Prepared, AllocError>
-    ensures { IfOk result (λ p. p ≡ record {
+    ensures prepares_the_removal { IfOk result (λ p. p ≡ record {
       doc = doc.now;
       note = record { previous = tag; next = number; bindings = []; change = changes.RemoveDocument; fresh = false };
       step = steps.End;
@@ -196,7 +196,7 @@ fn noted(
     total: u64,
 ) -> Result<Prepared, AllocError>
     requires { Fits entry.now.tree change }
-    ensures { IfOk result (λ p. IsNoted doc.now entry.now number change len enters total p) }
+    ensures notes_the_edit { IfOk result (λ p. IsNoted doc.now entry.now number change len enters total p) }
 {
     let leaves = addresses(alloc, doc.auid, &entry.tree)?;
     let staged = stage(alloc, &entry.tree, &change)?;
@@ -219,7 +219,7 @@ impl Store {
     // The first reason against a tree of a document that isn't held, by the tree's length and its service addresses.
     fn refusal_of_new(&self, doc: &DocId, len: usize, uris: &[Text]) -> Option<StoreRefusal>
         requires { document_in held_name self.now.content.documents doc.now ≡ None }
-        ensures { (t : Tree) → len ≡ min (document_len t) usize.MAX → uris.now ≡ addresses_in doc.now.auid t → result ≡ against_tree self.now.content doc.now true t }
+        ensures first_reason_against_a_new_one { (t : Tree) → len ≡ min (document_len t) usize.MAX → uris.now ≡ addresses_in doc.now.auid t → result ≡ against_tree self.now.content doc.now true t }
     {
         let place = first_taken(&self.services, uris, None);
         let is_full = self.documents.len() >= MOST_DOCUMENTS;
@@ -229,7 +229,7 @@ impl Store {
     // The entry of a document that is held.
     fn held(&self, doc: &DocId) -> &Entry
         requires { IsSome (document_in held_name self.now.content.documents doc.now) }
-        ensures { IsHeldAs self.now.content doc.now result.now }
+        ensures entry_that_is_held { IsHeldAs self.now.content doc.now result.now }
     {
         match find(&self.documents, doc) {
             Some(entry) => entry,
@@ -253,7 +253,7 @@ impl Store {
     // The first reason against a new tree of a document that is held, by the tree's length and its service addresses.
     fn refusal_of_edit(&self, doc: &DocId, len: usize, uris: &[Text]) -> Option<StoreRefusal>
         requires { IsSome (document_in held_name self.now.content.documents doc.now) }
-        ensures { (t : Tree) → len ≡ min (document_len t) usize.MAX → uris.now ≡ addresses_in doc.now.auid t → result ≡ against_tree self.now.content doc.now false t }
+        ensures first_reason_against_an_edited_one { (t : Tree) → len ≡ min (document_len t) usize.MAX → uris.now ≡ addresses_in doc.now.auid t → result ≡ against_tree self.now.content doc.now false t }
     {
         let Some(entry) = find(&self.documents, doc) else {
             unreachable!()
@@ -266,7 +266,7 @@ impl Store {
     // Plans to make a document.
     fn plan_creation(&self, doc: &DocId, root: Element) -> Result<Prepared, StoreRefusal>
         requires { Asks self.now.content doc.now (changes.CreateDocument root) }
-        ensures { Plans self.now.content doc.now (changes.CreateDocument root) result }
+        ensures plans_the_creation { Plans self.now.content doc.now (changes.CreateDocument root) result }
     {
         let enters = addresses(self.alloc, doc.auid, &root)?;
         let len = document_len(&root);
@@ -284,7 +284,7 @@ impl Store {
     fn plan_edit(&self, doc: &DocId, change: Change) -> Result<Prepared, StoreRefusal>
         requires asks { Asks self.now.content doc.now change }
         requires edits { act_of change ≡ Edits }
-        ensures { Plans self.now.content doc.now change result }
+        ensures plans_the_edit { Plans self.now.content doc.now change result }
     {
         let entry = self.held(doc);
         let enters = addresses_after(self.alloc, doc.auid, &entry.tree, &change)?;
@@ -302,7 +302,7 @@ impl Store {
     // Plans to take a document away.
     fn plan_removal(&self, doc: &DocId) -> Result<Prepared, StoreRefusal>
         requires { Asks self.now.content doc.now changes.RemoveDocument }
-        ensures { Plans self.now.content doc.now changes.RemoveDocument result }
+        ensures plans_the_removal { Plans self.now.content doc.now changes.RemoveDocument result }
     {
         let Some((tree, tag)) = self.get(doc) else {
             unreachable!()
@@ -317,7 +317,7 @@ impl Store {
     // Plans any change.
     fn plan(&self, doc: &DocId, change: Change) -> Result<Prepared, StoreRefusal>
         requires { Asks self.now.content doc.now change }
-        ensures { Plans self.now.content doc.now change result }
+        ensures plans_the_change { Plans self.now.content doc.now change result }
     {
         match change {
             Change::CreateDocument { root } => self.plan_creation(doc, root),

@@ -19,7 +19,7 @@ pub(crate) type Registry = IndexMap<Text, u64>;
 
 // Those of its services, in order.
 fn service_addresses(alloc: Global, root: &Element) -> Result<List<Text>, AllocError>
-    ensures { IfOk result (λ made. made ≡ service_uris root.now) }
+    ensures addresses_in_order { IfOk result (λ made. made ≡ service_uris root.now) }
 {
     let mut made = List::empty(alloc);
     let mut left = services(alloc, root)?;
@@ -31,7 +31,7 @@ fn service_addresses(alloc: Global, root: &Element) -> Result<List<Text>, AllocE
 
 /// The service addresses of a document of this usage, in order; the other usage has none.
 pub(crate) fn addresses(alloc: Global, auid: Auid, root: &Element) -> Result<List<Text>, AllocError>
-    ensures { IfOk result (λ made. made ≡ addresses_in auid root.now) }
+    ensures addresses_of_the_usage { IfOk result (λ made. made ≡ addresses_in auid root.now) }
 {
     match auid {
         Auid::RlsServices => service_addresses(alloc, root),
@@ -47,7 +47,7 @@ fn service_addresses_after(
     change: &Change,
 ) -> Result<List<Text>, AllocError>
     requires { Fits before.now change.now }
-    ensures { IfOk result (λ made. made ≡ service_uris (edited before.now change.now)) }
+    ensures addresses_after_the_change { IfOk result (λ made. made ≡ service_uris (edited before.now change.now)) }
 {
     let tree = rebuilt(alloc, before, change)?;
     service_addresses(alloc, &tree)
@@ -61,7 +61,7 @@ pub(crate) fn addresses_after(
     change: &Change,
 ) -> Result<List<Text>, AllocError>
     requires { Fits before.now change.now }
-    ensures { IfOk result (λ made. made ≡ addresses_in auid (edited before.now change.now)) }
+    ensures addresses_of_the_usage_after_it { IfOk result (λ made. made ≡ addresses_in auid (edited before.now change.now)) }
 {
     match auid {
         Auid::RlsServices => service_addresses_after(alloc, before, change),
@@ -74,7 +74,7 @@ pub(crate) fn addresses_after(
 
 // Whether another document than the one with this number has an address.
 fn is_taken(registry: &Registry, uri: &Text, own: Option<u64>) -> bool
-    ensures { result ≡ is_others own (registered registry.now.entries uri.now) }
+    ensures tells_whether_another_has_it { result ≡ is_others own (registered registry.now.entries uri.now) }
 {
     let Some(holder) = registry.get(uri) else {
         return false;
@@ -87,7 +87,7 @@ fn is_taken(registry: &Registry, uri: &Text, own: Option<u64>) -> bool
 
 /// The place of the first of these addresses that another document than the one with this number has.
 pub(crate) fn first_taken(registry: &Registry, uris: &[Text], own: Option<u64>) -> Option<usize>
-    ensures { result ≡ position (λ uri. is_others own (registered registry.now.entries uri)) uris.now }
+    ensures place_of_the_first_taken { result ≡ position (λ uri. is_others own (registered registry.now.entries uri)) uris.now }
 {
     uris.iter().position(|uri| is_taken(registry, uri, own))
 }
@@ -97,7 +97,7 @@ pub(crate) fn first_taken(registry: &Registry, uris: &[Text], own: Option<u64>) 
 /// Enters addresses, for which there is room.
 pub(crate) fn enter(registry: &mut Registry, mut uris: Vec<Text>, number: u64)
     requires { vec_len uris ≤ spare registry.old }
-    ensures { (uri : List ℕ) → registered registry.new.entries uri ≡ (if is_among uris.items uri then Some number else registered registry.old.entries uri) }
+    ensures enters_these_alone { (uri : List ℕ) → registered registry.new.entries uri ≡ (if is_among uris.items uri then Some number else registered registry.old.entries uri) }
 {
     'each: while let Some(uri) = uris.pop() {
         registry.insert(uri, number).unwrap();

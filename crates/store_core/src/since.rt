@@ -30,7 +30,7 @@ pub enum Since<'a> {
 
 // The notes from the one on that goes on from this tag, if there is one.
 fn from_tag(notes: &[EditNote], tag: u64) -> Option<&[EditNote]>
-    ensures { option_map (λ found. map note_in found.now) result ≡ notes_from tag (map note_in notes.now) }
+    ensures notes_from_the_tag { option_map (λ found. map note_in found.now) result ≡ notes_from tag (map note_in notes.now) }
 {
     for (number, note) in notes.iter().enumerate() {
         if note.previous == tag {
@@ -42,7 +42,7 @@ fn from_tag(notes: &[EditNote], tag: u64) -> Option<&[EditNote]>
 
 // The same, in two pieces of which the older is empty.
 fn from_tag_alone(newer: &[EditNote], tag: u64) -> Option<Notes<'_>>
-    ensures { option_map (λ found. joined found.older.now found.newer.now) result ≡ notes_from tag (map note_in newer.now) }
+    ensures notes_of_one_piece_from_the_tag { option_map (λ found. joined found.older.now found.newer.now) result ≡ notes_from tag (map note_in newer.now) }
 {
     match from_tag(newer, tag) {
         Some(found) => Some(Notes {
@@ -55,7 +55,7 @@ fn from_tag_alone(newer: &[EditNote], tag: u64) -> Option<Notes<'_>>
 
 // The same of notes in two pieces.
 fn from_tag_in<'a>(older: &'a [EditNote], newer: &'a [EditNote], tag: u64) -> Option<Notes<'a>>
-    ensures { option_map (λ found. joined found.older.now found.newer.now) result ≡ notes_from tag (joined older.now newer.now) }
+    ensures notes_of_both_from_the_tag { option_map (λ found. joined found.older.now found.newer.now) result ≡ notes_from tag (joined older.now newer.now) }
 {
     match from_tag(older, tag) {
         Some(found) => Some(Notes {
@@ -68,7 +68,7 @@ fn from_tag_in<'a>(older: &'a [EditNote], newer: &'a [EditNote], tag: u64) -> Op
 
 // What the entry of a document tells.
 fn told_by(entry: &Entry, tag: u64) -> Since<'_>
-    ensures { story_in result ≡ (if entry.now.tag == tag then Told [] else story_of (notes_from tag (map note_in entry.now.notes.items))) }
+    ensures tells_its_story { story_in result ≡ (if entry.now.tag == tag then Told [] else story_of (notes_from tag (map note_in entry.now.notes.items))) }
 {
     if entry.tag == tag {
         return Since::Changes(Notes {
@@ -88,7 +88,7 @@ impl Store {
     /// held, `Unknown` exactly where the tag is neither its own nor the one before a note that is
     /// retained, and else the notes from there on, which are lent. Takes no memory.
     pub fn since(&self, doc: &DocId, tag: u64) -> Since<'_>
-        ensures { story_in result ≡ since self.now.content doc.now tag }
+        ensures tells_what_became_of_it { story_in result ≡ since self.now.content doc.now tag }
     {
         match find(&self.documents, doc) {
             Some(entry) => told_by(entry, tag),
@@ -101,5 +101,5 @@ impl Store {
 /// version with that tag, the notes lead from it to the version that the document has now, through
 /// sound trees, and they are at most 64.
 pub fn notes_since_a_version_lead_from_it()
-    ensures { (c : Content) (m : State) (id : DocId) (tag : ℕ) (ns : List Note) → Kept m → Stands c m → since c id tag ≡ Told ns → IsSince m id tag ns }
+    ensures notes_lead_to_what_is_held { (c : Content) (m : State) (id : DocId) (tag : ℕ) (ns : List Note) → Kept m → Stands c m → since c id tag ≡ Told ns → IsSince m id tag ns }
 {}

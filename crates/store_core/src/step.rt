@@ -34,7 +34,7 @@ pub enum Step {
 
 /// The entry of a document.
 pub(crate) fn find<'a>(documents: &'a Documents, doc: &DocId) -> Option<&'a Entry>
-    ensures { option_copied result ≡ lookup (same_id doc.now) documents.now.entries }
+    ensures entry_of_the_document { option_copied result ≡ lookup (same_id doc.now) documents.now.entries }
 {
     documents.get(doc)
 }
@@ -43,7 +43,7 @@ pub(crate) fn find<'a>(documents: &'a Documents, doc: &DocId) -> Option<&'a Entr
 fn make(documents: &mut Documents, doc: DocId, entry: Entry)
     requires absent { lookup (same_id doc) documents.old.entries ≡ None }
     requires room { 0 < spare documents.old }
-    ensures { documents.new.entries ≡ documents.old.entries ++ (doc, entry) ∷ [] }
+    ensures puts_it_behind_the_others { documents.new.entries ≡ documents.old.entries ++ (doc, entry) ∷ [] }
 {
     documents.insert(doc, entry).unwrap();
 }
@@ -58,7 +58,7 @@ fn exchange(
     len: usize,
 ) -> u64
     requires { (v : Held) × (lookup (same_id doc.now) documents.old.entries ≡ Some v) × (v.notes.capacity ≡ 64) × Fits v.tree note.change × IsStaged v.tree note.change staged }
-    ensures { (v : Held) × (w : Held) × (lookup (same_id doc.now) documents.old.entries ≡ Some v) × IsRenewed v number note len w
+    ensures renews_the_one_entry { (v : Held) × (w : Held) × (lookup (same_id doc.now) documents.old.entries ≡ Some v) × IsRenewed v number note len w
         × (documents.new.entries ≡ map (λ e. if same_id doc.now e.0 then (e.0, w) else e) documents.old.entries) × (result ≡ w.created) }
 {
     match documents.get_mut(doc) {
@@ -72,7 +72,7 @@ fn exchange(
 
 // Takes a document out, and keeps the order of the others.
 fn end(documents: &mut Documents, doc: &DocId)
-    ensures { documents.new.entries ≡ filter (λ e. not (same_id doc.now e.0)) documents.old.entries }
+    ensures takes_it_out { documents.new.entries ≡ filter (λ e. not (same_id doc.now e.0)) documents.old.entries }
 {
     let _count = documents.len();
     documents.shift_remove(doc);
@@ -85,7 +85,7 @@ impl Step {
     pub(crate) fn take(self, documents: &mut Documents, doc: DocId, number: u64) -> u64
         requires fits { Steppable documents.old.entries doc self }
         requires room { 0 < spare documents.old }
-        ensures { Stepped documents.old.entries doc number self result documents.new.entries }
+        ensures takes_the_step { Stepped documents.old.entries doc number self result documents.new.entries }
     {
         match self {
             Step::Make(entry) => {

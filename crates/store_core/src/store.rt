@@ -53,7 +53,7 @@ impl Store {
     /// None: it always answers a store.
     pub fn new(alloc: Global, first: u64) -> Result<Store, NoMemory>
         requires { 1 ≤ first }
-        ensures { IfOk result (λ s. s.content ≡ record { documents = []; next = first }) }
+        ensures begins_without_documents { IfOk result (λ s. s.content ≡ record { documents = []; next = first }) }
     {
         Ok(Store {
             alloc,
@@ -75,28 +75,28 @@ impl Store {
 
     /// The number that was given last. Takes no memory.
     pub fn last_number(&self) -> u64
-        ensures { result + 1 ≡ self.now.content.next }
+        ensures number_before_the_next { result + 1 ≡ self.now.content.next }
     {
         self.last
     }
 
     /// How many documents are held. Takes no memory.
     pub fn count(&self) -> usize
-        ensures { result ≡ length self.now.content.documents }
+        ensures counts_the_documents { result ≡ length self.now.content.documents }
     {
         self.documents.len()
     }
 
     /// How many bytes all documents have, printed. Takes no memory.
     pub fn total(&self) -> u64
-        ensures { result ≡ sum_by (λ h. document_len h.tree) self.now.content.documents }
+        ensures sums_their_lengths { result ≡ sum_by (λ h. document_len h.tree) self.now.content.documents }
     {
         self.total
     }
 
     /// A law: what a store holds stands for a state that is kept.
     pub fn stands(&self)
-        ensures { (m : State) × Stands self.now.content m × Kept m }
+        ensures stands_for_a_kept_state { (m : State) × Stands self.now.content m × Kept m }
     {
         let _last = self.last;
     }

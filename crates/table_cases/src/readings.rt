@@ -16,7 +16,7 @@ pub const LEVELS: usize = 64;
 
 /// The root element of the document that a field spells.
 pub fn document(alloc: Global, field: &Field) -> Result<Element>
-    ensures { IfOk result (λ tree. height tree ≤ 64) }
+    ensures of_lawful_height { IfOk result (λ tree. height tree ≤ 64) }
 {
     Ok(read_document(alloc, field.bytes(), LEVELS)?)
 }

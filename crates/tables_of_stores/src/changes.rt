@@ -56,13 +56,13 @@ pub fn read_change(alloc: Global, text: &str) -> Result<Change> {
 // ---- whether a change fits a tree
 
 fn is_there(root: &Element, path: &Path) -> bool
-    ensures { IsTrue result → IsSome (at path.now root.now) }
+    ensures only_where_it_is_there { IsTrue result → IsSome (at path.now root.now) }
 {
     element_at(root, path).is_some()
 }
 
 fn has_gap(root: &Element, parent: &Path, gap: usize) -> bool
-    ensures { IsTrue result → IsSomeAnd (at parent.now root.now) (λ e. gap ≤ length (kids_of e)) }
+    ensures only_where_the_gap_is_there { IsTrue result → IsSomeAnd (at parent.now root.now) (λ e. gap ≤ length (kids_of e)) }
 {
     let Some(parent) = element_at(root, parent) else {
         return false;
@@ -74,7 +74,7 @@ fn has_gap(root: &Element, parent: &Path, gap: usize) -> bool
 }
 
 fn has_attr(alloc: Global, root: &Element, path: &Path, name: &Name) -> Result<bool, NoMemory>
-    ensures { IfOk result (λ yes. IsTrue yes → IsSome (attr_at path.now name.now root.now)) }
+    ensures only_where_it_has_one { IfOk result (λ yes. IsTrue yes → IsSome (attr_at path.now name.now root.now)) }
 {
     if !is_there(root, path) {
         return Ok(false);
@@ -85,7 +85,7 @@ fn has_attr(alloc: Global, root: &Element, path: &Path, name: &Name) -> Result<b
 
 /// Whether a change fits a tree.
 pub fn fits(alloc: Global, root: &Element, change: &Change) -> Result<bool, NoMemory>
-    ensures { IfOk result (λ yes. IsTrue yes → Fits root.now change.now) }
+    ensures only_where_it_fits { IfOk result (λ yes. IsTrue yes → Fits root.now change.now) }
 {
     match change {
         Change::CreateDocument { .. } => Ok(false),

@@ -23,7 +23,7 @@ use xml_tree::{Element, Path, Text};
 
 // A text that an address can name.
 fn nameable(alloc: Global, text: &str) -> Result<Text>
-    ensures { IfOk result (λ made. IsNameable made) }
+    ensures can_be_named { IfOk result (λ made. IsNameable made) }
 {
     let made = Text::from(alloc, text)?;
     if made.is_empty() || made.is("~~") {
@@ -34,7 +34,7 @@ fn nameable(alloc: Global, text: &str) -> Result<Text>
 
 // The name of the document of services that the index lists of a user.
 fn index_of(alloc: Global, user: &str) -> Result<DocId>
-    ensures { IfOk result (λ doc. (doc.auid ≡ auids.RlsServices) × IsReadable doc × IsUsers doc.home) }
+    ensures names_a_document_of_services { IfOk result (λ doc. (doc.auid ≡ auids.RlsServices) × IsReadable doc × IsUsers doc.home) }
 {
     let xui = nameable(alloc, user)?;
     let name = nameable(alloc, "index")?;
@@ -47,7 +47,7 @@ fn index_of(alloc: Global, user: &str) -> Result<DocId>
 
 // The tree that a document of services spells.
 fn read(alloc: Global, text: &str) -> Result<Element>
-    ensures { IfOk result (λ root. MayBe usages.RlsServices root) }
+    ensures may_be_stored { IfOk result (λ root. MayBe usages.RlsServices root) }
 {
     let Ok(root) = read_document(alloc, text.as_bytes(), 64) else {
         bail!("no document");
@@ -70,7 +70,7 @@ fn spelled(alloc: Global, uri: &str) -> Result<String> {
 
 // The change that a document is put by: it takes the place of the one held, or it is new.
 fn put_change(is_held: bool, root: Element) -> Change
-    ensures { result ≡ (if is_held then changes.Replace [] root else changes.CreateDocument root) }
+    ensures replaces_or_creates { result ≡ (if is_held then changes.Replace [] root else changes.CreateDocument root) }
 {
     if is_held {
         return Change::Replace {

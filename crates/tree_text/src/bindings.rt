@@ -67,7 +67,7 @@ impl Bindings {
     /// The number of the namespace that a prefix is bound to, the empty prefix being the default namespace.
     pub fn namespace(&self, prefix: &Text) -> Option<usize>
         requires { AreKept self.now }
-        ensures { option_map Some result ≡ option_map (number self.now.namespaces) (bound (lists self.now) prefix.now) }
+        ensures number_of_the_bound_namespace { option_map Some result ≡ option_map (number self.now.namespaces) (bound (lists self.now) prefix.now) }
     {
         self.namespaces.of_prefix(prefix)
     }

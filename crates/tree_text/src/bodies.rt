@@ -22,7 +22,7 @@ use xml_tree::Text;
 
 /// A reference, taken whole or not at all, and what follows it.
 fn whole_reference(text: &[char]) -> Result<(char, &[char]), Stop<'_>>
-    ensures { Gives (λ x. (x.0, x.1.now)) result (read_whole_reference text.now) }
+    ensures reads_a_whole_reference { Gives (λ x. (x.0, x.1.now)) result (read_whole_reference text.now) }
 {
     match reference(text) {
         Ok(read) => Ok(read),
@@ -35,7 +35,7 @@ fn whole_reference(text: &[char]) -> Result<(char, &[char]), Stop<'_>>
 /// How many raw characters stand in front.
 #[tactic(auto, using(crate::proofs::RunLemmas::run_more, crate::proofs::RunLemmas::run_done))]
 fn plain_len(text: &[char]) -> usize
-    ensures { result ≡ run_len is_raw text.now }
+    ensures counts_the_raw_characters { result ≡ run_len is_raw text.now }
 {
     let mut len = 0;
     for &c in text {
@@ -50,14 +50,14 @@ fn plain_len(text: &[char]) -> usize
 /// Raw characters, which may be none, and what follows them.
 #[tactic(auto, using(crate::proofs::RunLemmas::take_run, crate::proofs::RunLemmas::drop_run, crate::proofs::RunLemmas::run_len_le))]
 fn plain(text: &[char]) -> (&[char], &[char])
-    ensures { read_plain text.now ≡ Ok (result.0.now, result.1.now) }
+    ensures reads_a_plain_run { read_plain text.now ≡ Ok (result.0.now, result.1.now) }
 {
     text.split_at(plain_len(text))
 }
 
 /// The value that a spelling spells, and what follows it.
 fn spelled(alloc: Global, text: &[char]) -> Result<(Text, &[char]), Stop<'_>>
-    ensures { Gives (λ x. (x.0, x.1.now)) result (read_spelling text.now) }
+    ensures reads_a_spelling { Gives (λ x. (x.0, x.1.now)) result (read_spelling text.now) }
 {
     let mut value = no_text(alloc);
     let (first, start) = plain(text);
@@ -77,7 +77,7 @@ fn spelled(alloc: Global, text: &[char]) -> Result<(Text, &[char]), Stop<'_>>
 
 /// The value that all of a spelling spells.
 fn all_spelled(alloc: Global, text: &[char]) -> Result<Text, Stop<'_>>
-    ensures { GivesAll result (read_whole read_spelling text.now) }
+    ensures reads_it_to_its_end { GivesAll result (read_whole read_spelling text.now) }
 {
     let (value, rest) = spelled(alloc, text)?;
     if !rest.is_empty() {
@@ -89,7 +89,7 @@ fn all_spelled(alloc: Global, text: &[char]) -> Result<Text, Stop<'_>>
 /// How much stands before the first quote of this kind.
 #[tactic(auto, using(crate::proofs::RunLemmas::run_more, crate::proofs::RunLemmas::run_done))]
 fn unquoted_len(text: &[char], quote: char) -> usize
-    ensures { result ≡ run_len (is_other quote) text.now }
+    ensures counts_up_to_the_quote { result ≡ run_len (is_other quote) text.now }
 {
     let mut len = 0;
     for &c in text {
@@ -112,7 +112,7 @@ fn unquoted(text: &[char], quote: char) -> (&[char], &[char])
 
 /// The inside of a body between two quotes of one kind.
 fn in_quotes(body: &[char]) -> Option<&[char]>
-    ensures { option_map (λ inside. inside.now) result ≡ in_quotes body.now }
+    ensures inside_of_the_quotes { option_map (λ inside. inside.now) result ≡ in_quotes body.now }
 {
     match body {
         [quote, rest @ ..] if is_quote(*quote) => {
@@ -139,7 +139,7 @@ fn spelling_of(body: &[char]) -> (&[char], usize)
 
 /// The error that a stop is, in a body of these bytes, behind which so many follow.
 fn error(bytes: &[u8], stop: Stop<'_>, behind: usize) -> ReadError<ValueFault>
-    ensures { BodyFaultOf bytes.now behind stop.entry result }
+    ensures fault_of_the_stop { BodyFaultOf bytes.now behind stop.entry result }
 {
     match stop {
         Stop::Syntax(rest) => {
@@ -166,7 +166,7 @@ pub fn read_att_value(alloc: Global, bytes: &[u8]) -> Result<Text, ReadError<Val
 
 /// The value that the bytes of a body spell.
 fn read_body(alloc: Global, bytes: &[u8]) -> Result<Text, ReadError<ValueFault>>
-    ensures { Answered (λ answer. answer ≡ body_read bytes.now) result }
+    ensures reads_the_body { Answered (λ answer. answer ≡ body_read bytes.now) result }
 {
     let Ok(text) = str::from_utf8(bytes) else {
         return Err(ReadError::Fault(ValueFault::NotUtf8));

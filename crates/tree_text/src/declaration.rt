@@ -15,21 +15,21 @@ use crate::stop::Stop;
 use crate::values::quote;
 
 fn is_letter(c: char) -> bool
-    ensures { result ≡ is_letter c }
+    ensures tells_whether_it_is_a_letter { result ≡ is_letter c }
 {
     matches!(c, 'A'..='Z' | 'a'..='z')
 }
 
 /// Whether a character may stand in the name of an encoding, behind its first letter.
 fn is_encoding_char(c: char) -> bool
-    ensures { result ≡ is_encoding_char c }
+    ensures tells_whether_encodings_have_it { result ≡ is_encoding_char c }
 {
     is_letter(c) || is_digit(c) || matches!(c, '.' | '_' | '-')
 }
 
 #[tactic(auto, using(crate::proofs::RunLemmas::run_more, crate::proofs::RunLemmas::run_done))]
 fn encoding_len(text: &[char]) -> usize
-    ensures { result ≡ run_len is_encoding_char text.now }
+    ensures counts_the_letters_of_an_encoding { result ≡ run_len is_encoding_char text.now }
 {
     let mut len = 0;
     for &c in text {
@@ -43,7 +43,7 @@ fn encoding_len(text: &[char]) -> usize
 
 /// What follows a version number.
 fn version_number(text: &[char]) -> Result<&[char], Stop<'_>>
-    ensures { Gives (λ rest. (tt, rest.now)) result (read_version_number text.now) }
+    ensures reads_a_version_number { Gives (λ rest. (tt, rest.now)) result (read_version_number text.now) }
 {
     let rest = word(text, &['1', '.'])?;
     let (_, rest) = digits(rest)?;
@@ -53,7 +53,7 @@ fn version_number(text: &[char]) -> Result<&[char], Stop<'_>>
 /// The name of an encoding, and what follows it.
 #[tactic(auto, using(crate::proofs::RunLemmas::run_len_le))]
 fn encoding_name(text: &[char]) -> Result<(&[char], &[char]), Stop<'_>>
-    ensures { Gives (λ x. (x.0.now, x.1.now)) result (read_encoding_name text.now) }
+    ensures reads_the_name_of_an_encoding { Gives (λ x. (x.0.now, x.1.now)) result (read_encoding_name text.now) }
 {
     match text {
         [first, rest @ ..] if is_letter(*first) => Ok(text.split_at(1 + encoding_len(rest))),
@@ -63,7 +63,7 @@ fn encoding_name(text: &[char]) -> Result<(&[char], &[char]), Stop<'_>>
 
 /// What follows `yes` or `no`.
 fn yes_or_no(text: &[char]) -> Result<&[char], Stop<'_>>
-    ensures { Gives (λ rest. (tt, rest.now)) result (read_yes_or_no text.now) }
+    ensures reads_yes_or_no { Gives (λ rest. (tt, rest.now)) result (read_yes_or_no text.now) }
 {
     match text {
         ['y', ..] => word(text, &['y', 'e', 's']),
@@ -73,7 +73,7 @@ fn yes_or_no(text: &[char]) -> Result<&[char], Stop<'_>>
 
 /// What follows the version.
 fn version(text: &[char]) -> Result<&[char], Stop<'_>>
-    ensures { Gives (λ rest. (tt, rest.now)) result (read_version text.now) }
+    ensures reads_a_version { Gives (λ rest. (tt, rest.now)) result (read_version text.now) }
 {
     let (_, rest) = some_spaces(text)?;
     let rest = word(rest, &['v', 'e', 'r', 's', 'i', 'o', 'n'])?;
@@ -85,7 +85,7 @@ fn version(text: &[char]) -> Result<&[char], Stop<'_>>
 
 /// The declared encoding, and what follows it.
 fn encoding(text: &[char]) -> Result<(&[char], &[char]), Stop<'_>>
-    ensures { Gives (λ x. (x.0.now, x.1.now)) result (read_encoding text.now) }
+    ensures reads_an_encoding { Gives (λ x. (x.0.now, x.1.now)) result (read_encoding text.now) }
 {
     let (_, rest) = some_spaces(text)?;
     let rest = word(rest, &['e', 'n', 'c', 'o', 'd', 'i', 'n', 'g'])?;
@@ -97,7 +97,7 @@ fn encoding(text: &[char]) -> Result<(&[char], &[char]), Stop<'_>>
 
 /// What follows the word on whether the document stands alone.
 fn standalone(text: &[char]) -> Result<&[char], Stop<'_>>
-    ensures { Gives (λ rest. (tt, rest.now)) result (read_standalone text.now) }
+    ensures reads_whether_it_stands_alone { Gives (λ rest. (tt, rest.now)) result (read_standalone text.now) }
 {
     let (_, rest) = some_spaces(text)?;
     let rest = word(rest, &['s', 't', 'a', 'n', 'd', 'a', 'l', 'o', 'n', 'e'])?;
@@ -109,7 +109,7 @@ fn standalone(text: &[char]) -> Result<&[char], Stop<'_>>
 
 /// Whether white space and this letter follow.
 fn letter_follows(text: &[char], letter: char) -> bool
-    ensures { result ≡ letter_follows letter text.now }
+    ensures tells_whether_the_letter_follows { result ≡ letter_follows letter text.now }
 {
     if !starts_with_space(text) {
         return false;
@@ -120,7 +120,7 @@ fn letter_follows(text: &[char], letter: char) -> bool
 
 /// The declared encoding, if there is one, and what follows it.
 fn encoding_if(text: &[char]) -> Result<(Option<&[char]>, &[char]), Stop<'_>>
-    ensures { Gives (λ x. (option_map (λ name. name.now) x.0, x.1.now)) result (read_encoding_if text.now) }
+    ensures reads_an_encoding_if_it_follows { Gives (λ x. (option_map (λ name. name.now) x.0, x.1.now)) result (read_encoding_if text.now) }
 {
     if !letter_follows(text, 'e') {
         return Ok((None, text));
@@ -131,7 +131,7 @@ fn encoding_if(text: &[char]) -> Result<(Option<&[char]>, &[char]), Stop<'_>>
 
 /// Whether it is said that the document stands alone or not, and what follows.
 fn standalone_if(text: &[char]) -> Result<(Option<()>, &[char]), Stop<'_>>
-    ensures { Gives (λ x. (x.0, x.1.now)) result (read_standalone_if text.now) }
+    ensures reads_standalone_if_it_follows { Gives (λ x. (x.0, x.1.now)) result (read_standalone_if text.now) }
 {
     if !letter_follows(text, 's') {
         return Ok((None, text));
@@ -142,7 +142,7 @@ fn standalone_if(text: &[char]) -> Result<(Option<()>, &[char]), Stop<'_>>
 
 /// An XML declaration: the encoding that it names, if it does, and what follows it.
 fn xml_declaration(text: &[char]) -> Result<(Option<&[char]>, &[char]), Stop<'_>>
-    ensures { Gives (λ x. (option_map (λ name. name.now) x.0, x.1.now)) result (read_xml_declaration text.now) }
+    ensures reads_an_xml_declaration { Gives (λ x. (option_map (λ name. name.now) x.0, x.1.now)) result (read_xml_declaration text.now) }
 {
     let rest = word(text, &['<', '?', 'x', 'm', 'l'])?;
     let rest = version(rest)?;
@@ -154,7 +154,7 @@ fn xml_declaration(text: &[char]) -> Result<(Option<&[char]>, &[char]), Stop<'_>
 
 /// Whether an encoding is read.
 fn is_our_encoding(name: &[char]) -> bool
-    ensures { result ≡ is_our_encoding name.now }
+    ensures tells_whether_it_is_read { result ≡ is_our_encoding name.now }
 {
     if same_letters(name, &['u', 't', 'f', '-', '8']) {
         return true;
@@ -164,7 +164,7 @@ fn is_our_encoding(name: &[char]) -> bool
 
 /// An XML declaration whose encoding is read, and what follows it.
 fn declaration(text: &[char]) -> Result<(Option<&[char]>, &[char]), Stop<'_>>
-    ensures { Gives (λ x. (option_map (λ name. name.now) x.0, x.1.now)) result (read_declaration text.now) }
+    ensures reads_a_declaration { Gives (λ x. (option_map (λ name. name.now) x.0, x.1.now)) result (read_declaration text.now) }
 {
     let (name, rest) = xml_declaration(text)?;
     match name {
@@ -181,7 +181,7 @@ fn declaration(text: &[char]) -> Result<(Option<&[char]>, &[char]), Stop<'_>>
 /// Whether `<?xml` and white space follow.
 #[tactic(auto, using(crate::proofs::RunLemmas::rest_of_drop))]
 fn declaration_follows(text: &[char]) -> bool
-    ensures { result ≡ declaration_follows text.now }
+    ensures tells_whether_a_declaration_follows { result ≡ declaration_follows text.now }
 {
     if !starts(text, &['<', '?', 'x', 'm', 'l']) {
         return false;
@@ -191,7 +191,7 @@ fn declaration_follows(text: &[char]) -> bool
 
 /// What follows an XML declaration, which may be absent.
 pub fn declaration_if(text: &[char]) -> Result<&[char], Stop<'_>>
-    ensures { Gives (λ rest. (tt, rest.now)) result (read_declaration_if text.now) }
+    ensures reads_a_declaration_if_it_follows { Gives (λ rest. (tt, rest.now)) result (read_declaration_if text.now) }
 {
     if !declaration_follows(text) {
         return Ok(text);
@@ -202,7 +202,7 @@ pub fn declaration_if(text: &[char]) -> Result<&[char], Stop<'_>>
 
 /// What follows a byte order mark, which may be absent.
 pub fn mark_if(text: &[char]) -> &[char]
-    ensures { read_mark_if text.now ≡ Ok (tt, result.now) }
+    ensures passes_a_mark_if_it_follows { read_mark_if text.now ≡ Ok (tt, result.now) }
 {
     match text {
         ['\u{FEFF}', rest @ ..] => rest,

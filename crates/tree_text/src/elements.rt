@@ -41,7 +41,7 @@ fn judged<'a>(
     requires named { name.now ≡ name_in tag.now.written }
     requires opening { tag.now.opening ≡ opening (tag_in tag.now) }
     requires sizes { tag.now.opening + widths tag.now.said.items ≤ length text.now }
-    ensures { Gives (λ _. (tag_in tag.now, behind.now)) result (judgement text.now (tag_in tag.now, behind.now) (counted_back tag.now.size (first_of_tag (lists here.now) (tag_in tag.now)))) }
+    ensures judges_the_names_of_the_tag { Gives (λ _. (tag_in tag.now, behind.now)) result (judgement text.now (tag_in tag.now, behind.now) (counted_back tag.now.size (first_of_tag (lists here.now) (tag_in tag.now)))) }
 {
     if let Some((kind, at)) = first_of_tag(alloc, here, name, tag)? {
         let place = before(text, behind, tag.size.saturating_sub(at));
@@ -52,7 +52,7 @@ fn judged<'a>(
 
 /// Adds a character to content.
 fn push_char(alloc: Global, element: &mut Element, c: char) -> Result<(), AllocError>
-    ensures { OnOk result (element.new ≡ record element.old { content = with_text (c ∷ []) element.old.content }) }
+    ensures adds_the_character { OnOk result (element.new ≡ record element.old { content = with_text (c ∷ []) element.old.content }) }
 {
     element.push_text(text_of(alloc, &[c])?)
 }
@@ -63,7 +63,7 @@ fn push_mixed<'a>(
     text: &'a [char],
     element: &mut Element,
 ) -> Result<&'a [char], AllocError>
-    ensures { IfOk result (λ rest. read_chars_onto element.old text.now ≡ Ok (element.new, rest.now)) }
+    ensures reads_the_characters_onto_it { IfOk result (λ rest. read_chars_onto element.old text.now ≡ Ok (element.new, rest.now)) }
 {
     let (run, rest) = raw_run(text);
     element.push_text(lines(alloc, run)?)?;
@@ -76,7 +76,7 @@ fn push_run<'a>(
     text: &'a [char],
     element: &mut Element,
 ) -> Result<&'a [char], AllocError>
-    ensures { IfOk result (λ rest. read_chars_onto element.old text.now ≡ Ok (element.new, rest.now)) }
+    ensures reads_the_run_onto_it { IfOk result (λ rest. read_chars_onto element.old text.now ≡ Ok (element.new, rest.now)) }
 {
     if ends_run(text, '<') {
         return Ok(text);
@@ -92,7 +92,7 @@ fn push_run<'a>(
 
 /// Adds declarations to an element.
 fn push_decls(element: &mut Element, decls: Vec<Decl>) -> Result<(), AllocError>
-    ensures { OnOk result (element.new ≡ record element.old { decls = element.old.decls ++ decls.items }) }
+    ensures adds_the_declarations { OnOk result (element.new ≡ record element.old { decls = element.old.decls ++ decls.items }) }
 {
     for decl in decls {
         element.push_decl(decl)?;
@@ -102,7 +102,7 @@ fn push_decls(element: &mut Element, decls: Vec<Decl>) -> Result<(), AllocError>
 
 /// Adds one of a tag to an element, unless it is a declaration.
 fn push_said(element: &mut Element, said: Said) -> Result<(), AllocError>
-    ensures { OnOk result (element.new ≡ record element.old { attrs = element.old.attrs ++ attrs_of (said ∷ []) }) }
+    ensures adds_it_if_it_is_an_attribute { OnOk result (element.new ≡ record element.old { attrs = element.old.attrs ++ attrs_of (said ∷ []) }) }
 {
     if declares(&said.name) {
         return Ok(());
@@ -118,7 +118,7 @@ fn push_said(element: &mut Element, said: Said) -> Result<(), AllocError>
 
 /// Adds the attributes of a tag to an element.
 fn push_attrs(element: &mut Element, said: Vec<Said>) -> Result<(), AllocError>
-    ensures { OnOk result (element.new ≡ record element.old { attrs = element.old.attrs ++ attrs_of said.items }) }
+    ensures adds_the_attributes { OnOk result (element.new ≡ record element.old { attrs = element.old.attrs ++ attrs_of said.items }) }
 {
     for one in said {
         push_said(element, one)?;
@@ -128,7 +128,7 @@ fn push_attrs(element: &mut Element, said: Vec<Said>) -> Result<(), AllocError>
 
 /// Adds the declarations and attributes of its tag to an element.
 fn dress(element: &mut Element, decls: Vec<Decl>, said: Vec<Said>) -> Result<(), AllocError>
-    ensures { OnOk result (element.new ≡ record element.old { decls = element.old.decls ++ decls.items; attrs = element.old.attrs ++ attrs_of said.items }) }
+    ensures adds_the_names_of_the_tag { OnOk result (element.new ≡ record element.old { decls = element.old.decls ++ decls.items; attrs = element.old.attrs ++ attrs_of said.items }) }
 {
     if !decls.is_empty() {
         push_decls(element, decls)?;
@@ -141,7 +141,7 @@ fn dress(element: &mut Element, decls: Vec<Decl>, said: Vec<Said>) -> Result<(),
 
 /// Whether content goes on: a reference or a `<` follows, and no end tag.
 fn markup_follows(text: &[char]) -> bool
-    ensures { result ≡ markup_follows text.now }
+    ensures tells_whether_markup_follows { result ≡ markup_follows text.now }
 {
     match text {
         ['&', ..] => true,
@@ -152,7 +152,7 @@ fn markup_follows(text: &[char]) -> bool
 
 /// Why no element is read where no level is left: it is too deep, or none stands there.
 fn no_level(text: &[char], depth: usize) -> Stop<'_>
-    ensures { Fails result (read_element 0 [] depth text.now) }
+    ensures stops_where_no_level_is_left { Fails result (read_element 0 [] depth text.now) }
 {
     match text {
         ['<', rest @ ..] => {

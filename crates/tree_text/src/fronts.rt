@@ -10,7 +10,7 @@ const MOST: usize = 64;
 
 // Whether a character is an ASCII one that stands raw in content wherever it is, and for itself. The most frequent are tested first.
 fn is_plain_in_content(c: char) -> bool
-    ensures { result ≡ is_plain_in_content c }
+    ensures tells_whether_it_is_plain_in_content { result ≡ is_plain_in_content c }
 {
     matches!(c, '^'..='~')
         || c == ' '
@@ -22,7 +22,7 @@ fn is_plain_in_content(c: char) -> bool
 
 // Whether a character is an ASCII one that stands raw in a value between these quotes, and for itself.
 fn is_plain_in_value(c: char, quote: char) -> bool
-    ensures { result ≡ is_plain_in_value quote c }
+    ensures tells_whether_it_is_plain_in_a_value { result ≡ is_plain_in_value quote c }
 {
     c != quote && (matches!(c, '\''..=';') || matches!(c, ' '..='%') || matches!(c, '='..='~'))
 }

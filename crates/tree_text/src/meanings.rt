@@ -21,7 +21,7 @@ pub enum Meaning<'a> {
 /// The number of the namespace of an attribute of this name.
 fn attr_number(here: &Bindings, name: &Name) -> Option<usize>
     requires { AreKept here.now }
-    ensures { option_map Some result ≡ option_map (number here.now.namespaces) (attr_name (lists here.now) name.now).uri }
+    ensures number_of_the_name { option_map Some result ≡ option_map (number here.now.namespaces) (attr_name (lists here.now) name.now).uri }
 {
     if is_nothing(&name.prefix) {
         return None;
@@ -32,7 +32,7 @@ fn attr_number(here: &Bindings, name: &Name) -> Option<usize>
 /// What one says, in the scope inside its tag.
 pub fn meaning_of<'a>(here: &Bindings, said: &'a Said) -> Meaning<'a>
     requires { AreKept here.now }
-    ensures { Means here.now said.now result }
+    ensures means_what_it_says { Means here.now said.now result }
 {
     if declares(&said.name) {
         return Meaning::Declared(declared_prefix(said));

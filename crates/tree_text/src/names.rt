@@ -21,26 +21,26 @@ use xml_tree::{Decl, Name, Text, is_xml, is_xmlns};
 
 /// Whether a text is empty.
 pub fn is_nothing(text: &Text) -> bool
-    ensures { result ≡ bytes_eq text.now [] }
+    ensures tells_whether_it_is_empty { result ≡ bytes_eq text.now [] }
 {
     text.is("")
 }
 
 fn is_xml_uri(text: &Text) -> bool
-    ensures { result ≡ bytes_eq text.now xml_uri }
+    ensures tells_whether_it_is_that_of_xml { result ≡ bytes_eq text.now xml_uri }
 {
     text.is("http://www.w3.org/XML/1998/namespace")
 }
 
 fn is_xmlns_uri(text: &Text) -> bool
-    ensures { result ≡ bytes_eq text.now xmlns_uri }
+    ensures tells_whether_it_is_that_of_xmlns { result ≡ bytes_eq text.now xmlns_uri }
 {
     text.is("http://www.w3.org/2000/xmlns/")
 }
 
 /// Whether an attribute of this name is a declaration.
 pub fn declares(name: &Name) -> bool
-    ensures { result ≡ declares name.now }
+    ensures tells_whether_it_declares { result ≡ declares name.now }
 {
     if is_xmlns(name.prefix.as_str()) {
         return true;
@@ -53,7 +53,7 @@ pub fn declares(name: &Name) -> bool
 
 /// The prefix that a declaration declares.
 pub fn declared_prefix(said: &Said) -> &Text
-    ensures { result.now ≡ (decl_of said.now).prefix }
+    ensures lends_the_prefix { result.now ≡ (decl_of said.now).prefix }
 {
     if is_nothing(&said.name.prefix) {
         &said.name.prefix
@@ -64,7 +64,7 @@ pub fn declared_prefix(said: &Said) -> &Text
 
 /// The declaration that one is.
 fn decl_of(alloc: Global, said: &Said) -> Result<Decl, AllocError>
-    ensures { IfOk result (λ decl. decl ≡ decl_of said.now) }
+    ensures declaration_that_it_is { IfOk result (λ decl. decl ≡ decl_of said.now) }
 {
     let prefix = declared_prefix(said).copy(alloc)?;
     let uri = said.value.copy(alloc)?;
@@ -73,7 +73,7 @@ fn decl_of(alloc: Global, said: &Said) -> Result<Decl, AllocError>
 
 /// Adds a declaration, unless it is an attribute.
 fn push_decl(alloc: Global, decls: &mut Vec<Decl>, said: &Said) -> Result<(), AllocError>
-    ensures { IfOk result (λ _. decls.new.items ≡ decls.old.items ++ decls_of (said.now ∷ [])) }
+    ensures adds_it_if_it_declares { IfOk result (λ _. decls.new.items ≡ decls.old.items ++ decls_of (said.now ∷ [])) }
 {
     if !declares(&said.name) {
         return Ok(());
@@ -85,7 +85,7 @@ fn push_decl(alloc: Global, decls: &mut Vec<Decl>, said: &Said) -> Result<(), Al
 
 /// The declarations among these, in order.
 pub fn decls_of(alloc: Global, all: &[Said]) -> Result<Vec<Decl>, AllocError>
-    ensures { IfOk result (λ decls. decls.items ≡ decls_of all.now) }
+    ensures declarations_among_them { IfOk result (λ decls. decls.items ≡ decls_of all.now) }
 {
     let mut decls = Vec::new(alloc);
     for said in all {
@@ -96,7 +96,7 @@ pub fn decls_of(alloc: Global, all: &[Said]) -> Result<Vec<Decl>, AllocError>
 
 /// Whether `xml` is bound to its own namespace, and nothing else to that.
 fn fits_xml(prefix: &Text, uri: &Text) -> bool
-    ensures { result ≡ (if bytes_eq prefix.now xml_prefix then bytes_eq uri.now xml_uri else not (bytes_eq uri.now xml_uri)) }
+    ensures tells_whether_xml_fits { result ≡ (if bytes_eq prefix.now xml_prefix then bytes_eq uri.now xml_uri else not (bytes_eq uri.now xml_uri)) }
 {
     let own = is_xml_uri(uri);
     if is_xml(prefix.as_str()) { own } else { !own }
@@ -104,7 +104,7 @@ fn fits_xml(prefix: &Text, uri: &Text) -> bool
 
 /// Whether a declaration may stand.
 fn may_stand(prefix: &Text, uri: &Text) -> bool
-    ensures { result ≡ may_stand (record { prefix = prefix.now; uri = uri.now }) }
+    ensures tells_whether_it_may_stand { result ≡ may_stand (record { prefix = prefix.now; uri = uri.now }) }
 {
     if is_xmlns(prefix.as_str()) {
         return false;
@@ -124,7 +124,7 @@ fn may_stand(prefix: &Text, uri: &Text) -> bool
 /// Whether a name has a prefix that isn't bound.
 pub fn is_unbound(here: &Bindings, name: &Name) -> bool
     requires kept { AreKept here.now }
-    ensures { result ≡ is_unbound (lists here.now) name.now }
+    ensures tells_whether_it_is_unbound { result ≡ is_unbound (lists here.now) name.now }
 {
     if is_nothing(&name.prefix) {
         return false;
@@ -135,7 +135,7 @@ pub fn is_unbound(here: &Bindings, name: &Name) -> bool
 /// Whether a declaration may not stand, or an attribute has an unbound prefix.
 fn is_misnamed(here: &Bindings, said: &Said) -> bool
     requires kept { AreKept here.now }
-    ensures { result ≡ is_misnamed (lists here.now) said.now }
+    ensures tells_whether_it_is_misnamed { result ≡ is_misnamed (lists here.now) said.now }
 {
     if declares(&said.name) {
         return !may_stand(declared_prefix(said), &said.value);
@@ -181,7 +181,7 @@ fn wrong_said<'a>(
 fn only_wrong(here: &Bindings, only: &Said, opening: usize) -> Option<(Kind, usize)>
     requires kept { AreKept here.now }
     requires fits { opening + widths (only.now ∷ []) < 2 ^ 64 }
-    ensures { result ≡ first_wrong (lists here.now) [] opening (only.now ∷ []) }
+    ensures finds_whether_it_is_wrong { result ≡ first_wrong (lists here.now) [] opening (only.now ∷ []) }
 {
     if is_misnamed(here, only) {
         return Some((Kind::Unbound, opening + only.gap));
@@ -198,7 +198,7 @@ fn first_of_several<'a>(
 ) -> Result<Option<(Kind, usize)>, AllocError>
     requires kept { AreKept here.now }
     requires fits { opening + widths all.now < 2 ^ 64 }
-    ensures { IfOk result (λ found. found ≡ first_wrong (lists here.now) [] opening all.now) }
+    ensures finds_the_first_of_several { IfOk result (λ found. found ≡ first_wrong (lists here.now) [] opening all.now) }
 {
     let mut seen = BTreeSet::new(alloc);
     let mut at = opening;
@@ -220,7 +220,7 @@ pub fn first_wrong<'a>(
 ) -> Result<Option<(Kind, usize)>, AllocError>
     requires kept { AreKept here.now }
     requires fits { opening + widths all.now < 2 ^ 64 }
-    ensures { IfOk result (λ found. found ≡ first_wrong (lists here.now) [] opening all.now) }
+    ensures finds_the_first_wrong { IfOk result (λ found. found ≡ first_wrong (lists here.now) [] opening all.now) }
 {
     match all {
         [] => Ok(None),
@@ -240,7 +240,7 @@ pub fn first_of_tag<'a>(
     requires named { name.now ≡ name_in tag.now.written }
     requires opening { tag.now.opening ≡ opening (tag_in tag.now) }
     requires fits { tag.now.opening + widths tag.now.said.items < 2 ^ 64 }
-    ensures { IfOk result (λ found. found ≡ first_of_tag (lists here.now) (tag_in tag.now)) }
+    ensures finds_the_first_of_the_tag { IfOk result (λ found. found ≡ first_of_tag (lists here.now) (tag_in tag.now)) }
 {
     if is_unbound(here, name) {
         return Ok(Some((Kind::Unbound, 1)));

@@ -47,7 +47,7 @@ fn push_number(
     prefix: &Text,
     number: usize,
 ) -> Result<(), AllocError>
-    ensures { OnOk result ((p : List ℕ) → numbers_at declared.new p ≡ numbers_at declared.old p ++ (if bytes_eq prefix.now p then number ∷ [] else [])) }
+    ensures puts_the_number_behind { OnOk result ((p : List ℕ) → numbers_at declared.new p ≡ numbers_at declared.old p ++ (if bytes_eq prefix.now p then number ∷ [] else [])) }
 {
     match declared.get_mut(prefix) {
         Some(numbers) => numbers.push(number)?,
@@ -62,7 +62,7 @@ fn push_number(
 
 /// Takes the last number of a prefix away.
 fn pop_number(declared: &mut BTreeMap<Text, Vec<usize>>, prefix: &Text)
-    ensures { (p : List ℕ) → numbers_at declared.new p ≡ (if bytes_eq prefix.now p then take (length (numbers_at declared.old p) - 1) (numbers_at declared.old p) else numbers_at declared.old p) }
+    ensures takes_the_last_number { (p : List ℕ) → numbers_at declared.new p ≡ (if bytes_eq prefix.now p then take (length (numbers_at declared.old p) - 1) (numbers_at declared.old p) else numbers_at declared.old p) }
 {
     if let Some(numbers) = declared.get_mut(prefix) {
         numbers.pop();
@@ -72,7 +72,7 @@ fn pop_number(declared: &mut BTreeMap<Text, Vec<usize>>, prefix: &Text)
 impl Namespaces {
     /// Those of no declarations.
     pub fn new(alloc: Global) -> Result<Namespaces, AllocError>
-        ensures { IfOk result (λ made. AreOf made []) }
+        ensures made_of_no_declarations { IfOk result (λ made. AreOf made []) }
     {
         let mut numbers = BTreeMap::new(alloc);
         let none = numbered(alloc, &mut numbers, &Text::from(alloc, "")?)?;
@@ -91,7 +91,7 @@ impl Namespaces {
 
     /// Adds a declaration, which is nearer than the others.
     fn declare(&mut self, alloc: Global, decl: &Decl) -> Result<(), AllocError>
-        ensures { (ds : List Decl) → AreOf self.old ds → OnOk result (AreOf self.new (ds ++ decl.now ∷ [])) }
+        ensures made_of_one_more { (ds : List Decl) → AreOf self.old ds → OnOk result (AreOf self.new (ds ++ decl.now ∷ [])) }
     {
         let number = numbered(alloc, &mut self.numbers, &decl.uri)?;
         push_number(alloc, &mut self.declared, &decl.prefix, number)
@@ -99,14 +99,14 @@ impl Namespaces {
 
     /// Takes the nearest declaration away.
     fn forget(&mut self, decl: &Decl)
-        ensures { (ds : List Decl) → AreOf self.old (ds ++ decl.now ∷ []) → AreOf self.new ds }
+        ensures made_of_one_fewer { (ds : List Decl) → AreOf self.old (ds ++ decl.now ∷ []) → AreOf self.new ds }
     {
         pop_number(&mut self.declared, &decl.prefix);
     }
 
     /// Adds declarations, which are nearer than the others, and a later one nearer than those before it.
     pub fn declare_all(&mut self, alloc: Global, decls: &[Decl]) -> Result<(), AllocError>
-        ensures { (ds : List Decl) → AreOf self.old ds → OnOk result (AreOf self.new (ds ++ decls.now)) }
+        ensures made_of_all_of_them { (ds : List Decl) → AreOf self.old ds → OnOk result (AreOf self.new (ds ++ decls.now)) }
     {
         for decl in decls {
             self.declare(alloc, decl)?;
@@ -116,7 +116,7 @@ impl Namespaces {
 
     /// Takes the nearest declarations away.
     pub fn forget_all(&mut self, decls: &[Decl])
-        ensures { (ds : List Decl) → AreOf self.old (ds ++ decls.now) → AreOf self.new ds }
+        ensures made_of_those_before { (ds : List Decl) → AreOf self.old (ds ++ decls.now) → AreOf self.new ds }
     {
         for decl in decls.iter().rev() {
             self.forget(decl);
@@ -125,7 +125,7 @@ impl Namespaces {
 
     /// The number of the namespace that a prefix is bound to, the empty prefix being the default namespace.
     pub fn of_prefix(&self, prefix: &Text) -> Option<usize>
-        ensures { (here : List (List Decl)) → AreOf self.now (joined here) → option_map Some result ≡ option_map (number self.now) (bound here prefix.now) }
+        ensures number_of_the_bound_prefix { (here : List (List Decl)) → AreOf self.now (joined here) → option_map Some result ≡ option_map (number self.now) (bound here prefix.now) }
     {
         if prefix.is("xml") {
             return Some(self.xml);

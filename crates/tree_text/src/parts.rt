@@ -51,7 +51,7 @@ fn letters<'a>(text: &'a [char], word: &[char]) -> Result<&'a [char], Stop<'a>>
 /// How much white space stands in front.
 #[tactic(auto, using(crate::proofs::RunLemmas::run_more, crate::proofs::RunLemmas::run_done))]
 fn spaces_len(text: &[char]) -> usize
-    ensures { result ≡ run_len is_space text.now }
+    ensures counts_the_spaces { result ≡ run_len is_space text.now }
 {
     for (i, &c) in text.iter().enumerate() {
         if !is_space(c) {
@@ -72,14 +72,14 @@ pub fn spaces(text: &[char]) -> (&[char], &[char])
 }
 
 fn is_small_letter(c: char) -> bool
-    ensures { result ≡ within 97 122 c }
+    ensures tells_whether_it_is_small { result ≡ within 97 122 c }
 {
     matches!(c, 'a'..='z')
 }
 
 /// Whether a name may begin with a character. Most begin with a small letter.
 fn begins_name(c: char) -> bool
-    ensures { result ≡ is_name_start c }
+    ensures tells_whether_it_begins_names { result ≡ is_name_start c }
 {
     if is_small_letter(c) {
         return true;
@@ -89,7 +89,7 @@ fn begins_name(c: char) -> bool
 
 /// Whether a character may stand in a name. Most are small letters.
 fn stands_in_name(c: char) -> bool
-    ensures { result ≡ is_name_char c }
+    ensures tells_whether_it_stands_in_names { result ≡ is_name_char c }
 {
     if is_small_letter(c) {
         return true;
@@ -99,7 +99,7 @@ fn stands_in_name(c: char) -> bool
 
 #[tactic(auto, using(crate::proofs::RunLemmas::run_more, crate::proofs::RunLemmas::run_done))]
 fn name_len(text: &[char]) -> usize
-    ensures { result ≡ run_len is_name_char text.now }
+    ensures counts_the_name_characters { result ≡ run_len is_name_char text.now }
 {
     for (i, &c) in text.iter().enumerate() {
         if !stands_in_name(c) {
@@ -137,21 +137,21 @@ pub fn some_spaces(text: &[char]) -> Result<(&[char], &[char]), Stop<'_>>
 
 /// Whether white space stands in front.
 pub fn starts_with_space(text: &[char]) -> bool
-    ensures { result ≡ head_is is_space text.now }
+    ensures tells_whether_space_is_first { result ≡ head_is is_space text.now }
 {
     matches!(text, [c, ..] if is_space(*c))
 }
 
 /// Whether the first character of a name stands in front.
 pub fn starts_with_name(text: &[char]) -> bool
-    ensures { result ≡ head_is is_name_start text.now }
+    ensures tells_whether_a_name_is_first { result ≡ head_is is_name_start text.now }
 {
     matches!(text, [c, ..] if begins_name(*c))
 }
 
 /// `=` with white space round it: the white space behind it, and what follows.
 pub fn equals(text: &[char]) -> Result<(&[char], &[char]), Stop<'_>>
-    ensures { Gives (λ x. (x.0.now, x.1.now)) result (read_equals text.now) }
+    ensures reads_the_equals_sign { Gives (λ x. (x.0.now, x.1.now)) result (read_equals text.now) }
 {
     let (_, rest) = spaces(text);
     let rest = letter(rest, '=')?;

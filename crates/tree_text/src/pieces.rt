@@ -36,7 +36,7 @@ pub fn comment(alloc: Global, text: &[char]) -> Result<(Text, &[char]), Stop<'_>
 
 /// A CDATA section, and what follows it.
 pub fn section(alloc: Global, text: &[char]) -> Result<(Text, &[char]), Stop<'_>>
-    ensures { Gives (λ x. (x.0, x.1.now)) result (read_section text.now) }
+    ensures reads_a_section { Gives (λ x. (x.0, x.1.now)) result (read_section text.now) }
 {
     let rest = word(text, &['<', '!', '[', 'C', 'D', 'A', 'T', 'A', '['])?;
     let (inside, rest) = up_to(rest, &[']', ']', '>'])?;
@@ -45,14 +45,14 @@ pub fn section(alloc: Global, text: &[char]) -> Result<(Text, &[char]), Stop<'_>
 
 /// Whether a name may be the target of an instruction.
 fn is_target(name: &[char]) -> bool
-    ensures { result ≡ is_target name.now }
+    ensures tells_whether_it_is_a_target { result ≡ is_target name.now }
 {
     !same_letters(name, &['x', 'm', 'l'])
 }
 
 /// What follows the part of an instruction behind its target.
 fn instructed(text: &[char]) -> Result<&[char], Stop<'_>>
-    ensures { Gives (λ rest. (tt, rest.now)) result (read_instructed text.now) }
+    ensures reads_what_is_instructed { Gives (λ rest. (tt, rest.now)) result (read_instructed text.now) }
 {
     match text {
         [c, rest @ ..] if is_space(*c) => {
@@ -65,7 +65,7 @@ fn instructed(text: &[char]) -> Result<&[char], Stop<'_>>
 
 /// What follows a processing instruction.
 pub fn instruction(text: &[char]) -> Result<&[char], Stop<'_>>
-    ensures { Gives (λ rest. (tt, rest.now)) result (read_instruction text.now) }
+    ensures reads_an_instruction { Gives (λ rest. (tt, rest.now)) result (read_instruction text.now) }
 {
     let rest = word(text, &['<', '?'])?;
     let (target, rest) = name(rest)?;
@@ -77,7 +77,7 @@ pub fn instruction(text: &[char]) -> Result<&[char], Stop<'_>>
 
 /// What follows a comment or an instruction.
 fn misc(text: &[char]) -> Result<&[char], Stop<'_>>
-    ensures { Gives (λ rest. (tt, rest.now)) result (read_misc text.now) }
+    ensures reads_a_misc { Gives (λ rest. (tt, rest.now)) result (read_misc text.now) }
 {
     if starts(text, &['<', '!']) {
         let (_, rest) = comment_inside(text)?;
@@ -88,7 +88,7 @@ fn misc(text: &[char]) -> Result<&[char], Stop<'_>>
 
 /// Whether a comment or an instruction follows.
 fn misc_follows(text: &[char]) -> bool
-    ensures { result ≡ misc_follows text.now }
+    ensures tells_whether_a_misc_follows { result ≡ misc_follows text.now }
 {
     if starts(text, &['<', '!']) {
         return true;
@@ -98,7 +98,7 @@ fn misc_follows(text: &[char]) -> bool
 
 /// What follows a comment or an instruction before the root element, where no document type may stand.
 fn prolog_misc(text: &[char]) -> Result<&[char], Stop<'_>>
-    ensures { Gives (λ rest. (tt, rest.now)) result (read_prolog_misc text.now) }
+    ensures reads_a_misc_of_the_prolog { Gives (λ rest. (tt, rest.now)) result (read_prolog_misc text.now) }
 {
     if starts(text, &['<', '!', 'D', 'O', 'C', 'T', 'Y', 'P', 'E']) {
         return Err(Stop::Faulty(Kind::Doctyped, text));
@@ -108,7 +108,7 @@ fn prolog_misc(text: &[char]) -> Result<&[char], Stop<'_>>
 
 /// What follows white space, comments and instructions before the root element.
 pub fn prolog(text: &[char]) -> Result<&[char], Stop<'_>>
-    ensures { Gives (λ rest. (tt, rest.now)) result (read_prolog text.now) }
+    ensures reads_the_prolog { Gives (λ rest. (tt, rest.now)) result (read_prolog text.now) }
 {
     let (_, start) = spaces(text);
     let mut rest = start;
@@ -125,14 +125,14 @@ pub fn prolog(text: &[char]) -> Result<&[char], Stop<'_>>
 
 /// Whether a `<` follows: behind the root element only a comment or an instruction can begin with it.
 fn less_follows(text: &[char]) -> bool
-    ensures { result ≡ less_follows text.now }
+    ensures tells_whether_less_follows { result ≡ less_follows text.now }
 {
     matches!(text, ['<', ..])
 }
 
 /// What follows white space, comments and instructions behind the root element.
 pub fn epilog(text: &[char]) -> Result<&[char], Stop<'_>>
-    ensures { Gives (λ rest. (tt, rest.now)) result (read_epilog text.now) }
+    ensures reads_the_epilog { Gives (λ rest. (tt, rest.now)) result (read_epilog text.now) }
 {
     let (_, start) = spaces(text);
     let mut rest = start;

@@ -34,5 +34,5 @@ pub fn prints_spell_what_was_printed()
 
 /// No scope in a proper tree binds `xmlns`, unless that around it does.
 pub fn scopes_leave_xmlns_unbound()
-    ensures { (path : List ℕ) (scope : List (List Decl)) (root : Tree) → bound scope xmlns_prefix ≡ None → ProperIn scope root → bound (scope ++ scope_at path root) xmlns_prefix ≡ None }
+    ensures leaves_xmlns_unbound { (path : List ℕ) (scope : List (List Decl)) (root : Tree) → bound scope xmlns_prefix ≡ None → ProperIn scope root → bound (scope ++ scope_at path root) xmlns_prefix ≡ None }
 {}

@@ -11,7 +11,7 @@ use xml_tree::{Attr, Decl, Element, Name, Node, Text, text_reference, value_refe
 
 /// Adds a character of a text.
 fn push_text_char(out: &mut Text, c: char) -> Result<(), AllocError>
-    ensures { OnOk result (out.new ≡ out.old ++ text_escape c) }
+    ensures adds_the_character_of_a_text { OnOk result (out.new ≡ out.old ++ text_escape c) }
 {
     match text_reference(c) {
         Some(reference) => out.push_str(reference),
@@ -21,7 +21,7 @@ fn push_text_char(out: &mut Text, c: char) -> Result<(), AllocError>
 
 /// Adds a character of a value in quotes.
 fn push_value_char(out: &mut Text, c: char) -> Result<(), AllocError>
-    ensures { OnOk result (out.new ≡ out.old ++ value_escape c) }
+    ensures adds_the_character_of_a_value { OnOk result (out.new ≡ out.old ++ value_escape c) }
 {
     match value_reference(c) {
         Some(reference) => out.push_str(reference),
@@ -32,7 +32,7 @@ fn push_value_char(out: &mut Text, c: char) -> Result<(), AllocError>
 /// Adds a character of a body, which may stand in either quotes.
 #[tactic(auto, using(crate::proofs::PrintLemmas::literals))]
 fn push_body_char(out: &mut Text, c: char) -> Result<(), AllocError>
-    ensures { OnOk result (out.new ≡ out.old ++ body_escape c) }
+    ensures adds_the_character_of_a_body { OnOk result (out.new ≡ out.old ++ body_escape c) }
 {
     match c {
         '\'' => out.push_str("&apos;"),
@@ -41,7 +41,7 @@ fn push_body_char(out: &mut Text, c: char) -> Result<(), AllocError>
 }
 
 fn push_text(out: &mut Text, text: &str) -> Result<(), AllocError>
-    ensures { OnOk result (out.new ≡ out.old ++ print_text (chars text.now)) }
+    ensures adds_the_text { OnOk result (out.new ≡ out.old ++ print_text (chars text.now)) }
 {
     for c in text.chars() {
         push_text_char(out, c)?;
@@ -50,7 +50,7 @@ fn push_text(out: &mut Text, text: &str) -> Result<(), AllocError>
 }
 
 fn push_value(out: &mut Text, value: &str) -> Result<(), AllocError>
-    ensures { OnOk result (out.new ≡ out.old ++ flat_map value_escape (chars value.now)) }
+    ensures adds_the_value { OnOk result (out.new ≡ out.old ++ flat_map value_escape (chars value.now)) }
 {
     for c in value.chars() {
         push_value_char(out, c)?;
@@ -59,7 +59,7 @@ fn push_value(out: &mut Text, value: &str) -> Result<(), AllocError>
 }
 
 fn push_body(out: &mut Text, value: &str) -> Result<(), AllocError>
-    ensures { OnOk result (out.new ≡ out.old ++ body_print (chars value.now)) }
+    ensures adds_the_body { OnOk result (out.new ≡ out.old ++ body_print (chars value.now)) }
 {
     for c in value.chars() {
         push_body_char(out, c)?;
@@ -70,7 +70,7 @@ fn push_body(out: &mut Text, value: &str) -> Result<(), AllocError>
 /// Adds `=` and a value in quotes.
 #[tactic(auto, using(crate::proofs::PrintLemmas::set_value))]
 fn push_set(out: &mut Text, value: &Text) -> Result<(), AllocError>
-    ensures { OnOk result (out.new ≡ out.old ++ 61 ∷ quoted value.now) }
+    ensures adds_the_set_value { OnOk result (out.new ≡ out.old ++ 61 ∷ quoted value.now) }
 {
     out.push('=')?;
     out.push('"')?;
@@ -80,7 +80,7 @@ fn push_set(out: &mut Text, value: &Text) -> Result<(), AllocError>
 
 #[tactic(auto, using(crate::proofs::PrintLemmas::three))]
 fn push_name(out: &mut Text, name: &Name) -> Result<(), AllocError>
-    ensures { OnOk result (out.new ≡ out.old ++ print_name name.now) }
+    ensures adds_the_name { OnOk result (out.new ≡ out.old ++ print_name name.now) }
 {
     if is_nothing(&name.prefix) {
         return out.push_str(name.local.as_str());
@@ -93,7 +93,7 @@ fn push_name(out: &mut Text, name: &Name) -> Result<(), AllocError>
 /// Adds the name that declares a prefix.
 #[tactic(auto, using(crate::proofs::PrintLemmas::literals))]
 fn push_declaring(out: &mut Text, prefix: &Text) -> Result<(), AllocError>
-    ensures { OnOk result (out.new ≡ out.old ++ declaring prefix.now) }
+    ensures adds_the_declaring_name { OnOk result (out.new ≡ out.old ++ declaring prefix.now) }
 {
     if is_nothing(prefix) {
         return out.push_str("xmlns");
@@ -105,7 +105,7 @@ fn push_declaring(out: &mut Text, prefix: &Text) -> Result<(), AllocError>
 
 #[tactic(auto, using(crate::proofs::PrintLemmas::three))]
 fn push_decl(out: &mut Text, decl: &Decl) -> Result<(), AllocError>
-    ensures { OnOk result (out.new ≡ out.old ++ print_decl decl.now) }
+    ensures adds_the_declaration { OnOk result (out.new ≡ out.old ++ print_decl decl.now) }
 {
     out.push(' ')?;
     push_declaring(out, &decl.prefix)?;
@@ -114,7 +114,7 @@ fn push_decl(out: &mut Text, decl: &Decl) -> Result<(), AllocError>
 
 #[tactic(auto, using(crate::proofs::PrintLemmas::three))]
 fn push_attr(out: &mut Text, attr: &Attr) -> Result<(), AllocError>
-    ensures { OnOk result (out.new ≡ out.old ++ print_attr attr.now) }
+    ensures adds_the_attribute { OnOk result (out.new ≡ out.old ++ print_attr attr.now) }
 {
     out.push(' ')?;
     push_name(out, &attr.name)?;
@@ -122,7 +122,7 @@ fn push_attr(out: &mut Text, attr: &Attr) -> Result<(), AllocError>
 }
 
 fn push_decls(out: &mut Text, decls: &[Decl]) -> Result<(), AllocError>
-    ensures { OnOk result (out.new ≡ out.old ++ flat_map print_decl decls.now) }
+    ensures adds_all_declarations { OnOk result (out.new ≡ out.old ++ flat_map print_decl decls.now) }
 {
     for decl in decls {
         push_decl(out, decl)?;
@@ -131,7 +131,7 @@ fn push_decls(out: &mut Text, decls: &[Decl]) -> Result<(), AllocError>
 }
 
 fn push_attrs(out: &mut Text, attrs: &[Attr]) -> Result<(), AllocError>
-    ensures { OnOk result (out.new ≡ out.old ++ flat_map print_attr attrs.now) }
+    ensures adds_all_attributes { OnOk result (out.new ≡ out.old ++ flat_map print_attr attrs.now) }
 {
     for attr in attrs {
         push_attr(out, attr)?;
@@ -141,7 +141,7 @@ fn push_attrs(out: &mut Text, attrs: &[Attr]) -> Result<(), AllocError>
 
 /// Adds `<`, a name, declarations and attributes.
 fn push_opening(out: &mut Text, element: &Element) -> Result<(), AllocError>
-    ensures { OnOk result (out.new ≡ out.old ++ opening element.now.name element.now.decls element.now.attrs) }
+    ensures adds_the_opening { OnOk result (out.new ≡ out.old ++ opening element.now.name element.now.decls element.now.attrs) }
 {
     out.push('<')?;
     push_name(out, element.name())?;
@@ -151,7 +151,7 @@ fn push_opening(out: &mut Text, element: &Element) -> Result<(), AllocError>
 
 /// Adds an end tag.
 fn push_closing(out: &mut Text, name: &Name) -> Result<(), AllocError>
-    ensures { OnOk result (out.new ≡ out.old ++ closing name.now) }
+    ensures adds_the_end_tag { OnOk result (out.new ≡ out.old ++ closing name.now) }
 {
     out.push('<')?;
     out.push('/')?;
@@ -162,7 +162,7 @@ fn push_closing(out: &mut Text, name: &Name) -> Result<(), AllocError>
 /// Adds a comment.
 #[tactic(auto, using(crate::proofs::PrintLemmas::literals, crate::proofs::PrintLemmas::three))]
 fn push_comment(out: &mut Text, text: &Text) -> Result<(), AllocError>
-    ensures { OnOk result (out.new ≡ out.old ++ print_comment text.now) }
+    ensures adds_the_comment { OnOk result (out.new ≡ out.old ++ print_comment text.now) }
 {
     out.push_str("<!--")?;
     out.push_str(text.as_str())?;
@@ -172,7 +172,7 @@ fn push_comment(out: &mut Text, text: &Text) -> Result<(), AllocError>
 /// Adds the print of a node.
 #[cycle(print)]
 fn push_node(out: &mut Text, node: &Node) -> Result<(), AllocError>
-    ensures { OnOk result (out.new ≡ out.old ++ print_node node.now) }
+    ensures adds_the_node { OnOk result (out.new ≡ out.old ++ print_node node.now) }
 {
     match node {
         Node::Elem(element) => push_element(out, element),
@@ -184,7 +184,7 @@ fn push_node(out: &mut Text, node: &Node) -> Result<(), AllocError>
 /// Adds what follows the attributes of an element: `/>`, or `>`, its nodes and its end tag.
 #[cycle(print)]
 fn push_ending(out: &mut Text, element: &Element) -> Result<(), AllocError>
-    ensures { OnOk result (out.new ≡ out.old ++ ending element.now.name (is_empty element.now.content) (print_content element.now.content)) }
+    ensures adds_the_ending { OnOk result (out.new ≡ out.old ++ ending element.now.name (is_empty element.now.content) (print_content element.now.content)) }
 {
     let nodes = element.nodes();
     if nodes.is_empty() {
@@ -202,7 +202,7 @@ fn push_ending(out: &mut Text, element: &Element) -> Result<(), AllocError>
 /// Adds the print of an element.
 #[cycle(print)]
 fn push_element(out: &mut Text, element: &Element) -> Result<(), AllocError>
-    ensures { OnOk result (out.new ≡ out.old ++ print element.now) }
+    ensures adds_the_element { OnOk result (out.new ≡ out.old ++ print element.now) }
 {
     push_opening(out, element)?;
     push_ending(out, element)
@@ -210,7 +210,7 @@ fn push_element(out: &mut Text, element: &Element) -> Result<(), AllocError>
 
 /// The bytes of a text, in UTF-8.
 fn bytes_of(alloc: Global, text: &Text) -> Result<Bytes, AllocError>
-    ensures { IfOk result (λ bytes. bytes ≡ encode_utf8_all text.now) }
+    ensures bytes_of_the_text { IfOk result (λ bytes. bytes ≡ encode_utf8_all text.now) }
 {
     Bytes::from(alloc, text.as_str().as_bytes())
 }
@@ -220,7 +220,7 @@ fn bytes_of(alloc: Global, text: &Text) -> Result<Bytes, AllocError>
 /// # Errors
 /// `NoMemory` for want of memory.
 pub fn print_element(alloc: Global, element: &Element) -> Result<Bytes, AllocError>
-    ensures { IfOk result (λ bytes. bytes ≡ encode_utf8_all (print element.now)) }
+    ensures prints_the_element { IfOk result (λ bytes. bytes ≡ encode_utf8_all (print element.now)) }
 {
     let mut out = no_text(alloc);
     push_element(&mut out, element)?;
@@ -230,7 +230,7 @@ pub fn print_element(alloc: Global, element: &Element) -> Result<Bytes, AllocErr
 /// The XML declaration and a line feed.
 #[tactic(auto, using(crate::proofs::PrintLemmas::literals))]
 fn push_header(out: &mut Text) -> Result<(), AllocError>
-    ensures { OnOk result (out.new ≡ out.old ++ header) }
+    ensures adds_the_header { OnOk result (out.new ≡ out.old ++ header) }
 {
     out.push_str("<?xml version=\"1.0\" encoding=\"UTF-8\"?>\n")?;
     Ok(())
@@ -241,7 +241,7 @@ fn push_header(out: &mut Text) -> Result<(), AllocError>
 /// # Errors
 /// `NoMemory` for want of memory.
 pub fn print_document(alloc: Global, root: &Element) -> Result<Bytes, AllocError>
-    ensures { IfOk result (λ bytes. bytes ≡ encode_utf8_all (document_print root.now)) }
+    ensures prints_the_document { IfOk result (λ bytes. bytes ≡ encode_utf8_all (document_print root.now)) }
 {
     let mut out = no_text(alloc);
     push_header(&mut out)?;
@@ -254,7 +254,7 @@ pub fn print_document(alloc: Global, root: &Element) -> Result<Bytes, AllocError
 /// # Errors
 /// `NoMemory` for want of memory.
 pub fn print_att_value(alloc: Global, value: &str) -> Result<Bytes, AllocError>
-    ensures { IfOk result (λ bytes. bytes ≡ encode_utf8_all (body_print (chars value.now))) }
+    ensures prints_the_value { IfOk result (λ bytes. bytes ≡ encode_utf8_all (body_print (chars value.now))) }
 {
     let mut out = no_text(alloc);
     push_body(&mut out, value)?;

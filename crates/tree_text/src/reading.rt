@@ -29,7 +29,7 @@ fn root<'a>(
     depth: usize,
 ) -> Result<Element, Stop<'a>>
     requires { length scope.now + depth ≤ 67 }
-    ensures { GivesAll result (read_whole (read_text depth scope.now) text.now) }
+    ensures reads_all_of_the_text { GivesAll result (read_whole (read_text depth scope.now) text.now) }
 {
     let rest = mark_if(text);
     let rest = declaration_if(rest)?;
@@ -45,14 +45,14 @@ fn root<'a>(
 
 /// The characters that ASCII bytes are.
 fn widened(alloc: Global, bytes: &[u8]) -> Result<Vec<char>, AllocError>
-    ensures { IfOk result (λ all. all.items ≡ bytes.now) }
+    ensures character_of_each_byte { IfOk result (λ all. all.items ≡ bytes.now) }
 {
     bytes.iter().map(|&byte| byte as char).collect(alloc)
 }
 
 /// The characters of a text.
 pub fn decoded(alloc: Global, text: &str) -> Result<Vec<char>, AllocError>
-    ensures { IfOk result (λ all. all.items ≡ chars text.now) }
+    ensures characters_of_the_text { IfOk result (λ all. all.items ≡ chars text.now) }
 {
     if text.is_ascii() {
         return widened(alloc, text.as_bytes());
@@ -62,7 +62,7 @@ pub fn decoded(alloc: Global, text: &str) -> Result<Vec<char>, AllocError>
 
 /// The error that a stop is, in the text of these bytes.
 fn error(bytes: &[u8], stop: Stop<'_>) -> ReadError<TextFault>
-    ensures { FaultOf bytes.now stop.entry result }
+    ensures fault_of_the_text { FaultOf bytes.now stop.entry result }
 {
     match stop {
         Stop::Syntax(rest) => ReadError::Fault(TextFault::NotWellFormed(place(bytes, rest))),
@@ -85,7 +85,7 @@ fn read(
     depth: usize,
 ) -> Result<Element, ReadError<TextFault>>
     requires { length scope.now + depth ≤ 67 }
-    ensures { Answered (λ answer. answer ≡ text_read depth scope.now bytes.now) result }
+    ensures reads_the_tree_in_the_scope { Answered (λ answer. answer ≡ text_read depth scope.now bytes.now) result }
 {
     let Ok(text) = str::from_utf8(bytes) else {
         return Err(ReadError::Fault(TextFault::NotUtf8));

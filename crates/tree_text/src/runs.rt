@@ -33,7 +33,7 @@ pub fn starts(text: &[char], word: &[char]) -> bool
 
 /// Whether these are the letters of a word, in small letters or in capitals.
 pub fn same_letters(text: &[char], word: &[char]) -> bool
-    ensures { result ≡ same_letters text.now word.now }
+    ensures tells_whether_the_letters_are_the_same { result ≡ same_letters text.now word.now }
 {
     let mut rest = text;
     for &expected in word {
@@ -47,14 +47,14 @@ pub fn same_letters(text: &[char], word: &[char]) -> bool
 
 /// Whether the end of a CDATA section stands in front.
 fn ends_section(text: &[char]) -> bool
-    ensures { result ≡ starts section_end text.now }
+    ensures tells_whether_the_section_ends { result ≡ starts section_end text.now }
 {
     matches!(text, [']', ']', '>', ..])
 }
 
 /// Whether a character stands behind `]` and before the surrogates, or is a space or a line end.
 fn is_usual(c: char) -> bool
-    ensures { result ≡ is_usual c }
+    ensures tells_whether_it_is_usual { result ≡ is_usual c }
 {
     matches!(c, '^'..='\u{D7FF}') || c == ' ' || c == '\n'
 }
@@ -70,7 +70,7 @@ fn is_inner(c: char) -> bool
 /// How many raw characters of content stand in front of a `>` that would end `]]>`, or of what isn't raw.
 #[inline(never)]
 fn raw_len(text: &[char]) -> usize
-    ensures { result ≡ without_len is_raw section_end text.now }
+    ensures counts_the_raw_ones_of_content { result ≡ without_len is_raw section_end text.now }
 {
     for (i, &c) in text.iter().enumerate() {
         if is_inner(c) {
@@ -89,7 +89,7 @@ fn raw_len(text: &[char]) -> usize
 /// Raw characters of content, which may be none, and what follows them.
 #[tactic(auto, using(crate::proofs::RunLemmas::take_without, crate::proofs::RunLemmas::drop_without, crate::proofs::RunLemmas::without_len_le))]
 pub fn raw_run(text: &[char]) -> (&[char], &[char])
-    ensures { read_raw_run text.now ≡ Ok (result.0.now, result.1.now) }
+    ensures reads_a_raw_run { read_raw_run text.now ≡ Ok (result.0.now, result.1.now) }
 {
     text.split_at(raw_len(text))
 }
@@ -97,7 +97,7 @@ pub fn raw_run(text: &[char]) -> (&[char], &[char])
 /// The Chars up to the first time that a word stands there, and what follows the word.
 pub fn up_to<'a>(text: &'a [char], end: &[char]) -> Result<(&'a [char], &'a [char]), Stop<'a>>
     requires { 0 < length end.now }
-    ensures { Gives (λ x. (x.0.now, x.1.now)) result (read_up_to is_char end.now text.now) }
+    ensures reads_up_to_the_word { Gives (λ x. (x.0.now, x.1.now)) result (read_up_to is_char end.now text.now) }
 {
     for i in 0..text.len() {
         let rest = &text[i..];
@@ -113,7 +113,7 @@ pub fn up_to<'a>(text: &'a [char], end: &[char]) -> Result<(&'a [char], &'a [cha
 
 /// Adds a raw character of content, which these follow.
 fn push_char(text: &mut Text, c: char, after: &[char]) -> Result<(), AllocError>
-    ensures { OnOk result (text.new ≡ text.old ++ with_char (line_char c after.now) []) }
+    ensures adds_the_character_as_it_is_read { OnOk result (text.new ≡ text.old ++ with_char (line_char c after.now) []) }
 {
     match line_char(c, after) {
         Some(c) => text.push(c),
@@ -123,14 +123,14 @@ fn push_char(text: &mut Text, c: char, after: &[char]) -> Result<(), AllocError>
 
 /// Whether a run has no CR, so that it is read as it stands.
 fn has_no_return(run: &[char]) -> bool
-    ensures { result ≡ list_all is_no_return run.now }
+    ensures tells_whether_none_is_a_return { result ≡ list_all is_no_return run.now }
 {
     run.iter().all(|&c| c != '\r')
 }
 
 /// The text that a run is read as: its line ends are LF.
 pub fn lines(alloc: Global, run: &[char]) -> Result<Text, AllocError>
-    ensures { IfOk result (λ text. text ≡ line_ends run.now) }
+    ensures mends_the_line_ends { IfOk result (λ text. text ≡ line_ends run.now) }
 {
     if has_no_return(run) {
         return text_of(alloc, run);
@@ -140,7 +140,7 @@ pub fn lines(alloc: Global, run: &[char]) -> Result<Text, AllocError>
 
 /// The same, character by character.
 fn mended(alloc: Global, run: &[char]) -> Result<Text, AllocError>
-    ensures { IfOk result (λ text. text ≡ line_ends run.now) }
+    ensures mends_each_line_end { IfOk result (λ text. text ≡ line_ends run.now) }
 {
     let mut text = Text::with_capacity(alloc, run.len())?;
     let mut rest = run;

@@ -31,7 +31,7 @@ pub struct Tag<'a> {
 
 /// A value in quotes, and what follows it.
 fn quoted(alloc: Global, text: &[char]) -> Result<(Text, &[char]), Stop<'_>>
-    ensures { Gives (λ x. (x.0, x.1.now)) result (read_quoted is_quote read_value text.now) }
+    ensures reads_a_quoted_value { Gives (λ x. (x.0, x.1.now)) result (read_quoted is_quote read_value text.now) }
 {
     let (quote, rest) = quote(text)?;
     let (value, rest) = value(alloc, rest, quote)?;
@@ -40,7 +40,7 @@ fn quoted(alloc: Global, text: &[char]) -> Result<(Text, &[char]), Stop<'_>>
 
 /// A name, Eq and a value in quotes, and what follows them.
 fn attribute(alloc: Global, text: &[char]) -> Result<(Written<'_>, Text, &[char]), Stop<'_>>
-    ensures { Gives (λ x. ((name_in x.0, x.1), x.2.now)) result (read_attribute text.now) }
+    ensures reads_an_attribute { Gives (λ x. ((name_in x.0, x.1), x.2.now)) result (read_attribute text.now) }
 {
     let (name, rest) = qname(text)?;
     let (_, rest) = equals(rest)?;
@@ -71,7 +71,7 @@ fn push_said<'a>(
 
 /// Whether an attribute follows behind white space.
 fn said_follows(text: &[char]) -> bool
-    ensures { result ≡ said_follows text.now }
+    ensures tells_whether_an_attribute_follows { result ≡ said_follows text.now }
 {
     if !starts_with_space(text) {
         return false;

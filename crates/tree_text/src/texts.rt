@@ -12,14 +12,14 @@ const CHUNK: usize = 64;
 
 /// An empty text. Takes no memory.
 pub fn no_text(alloc: Global) -> Text
-    ensures { result ≡ [] }
+    ensures holds_no_characters { result ≡ [] }
 {
     Text::own(String::new(alloc))
 }
 
 // Whether a character is an ASCII one.
 fn is_ascii(c: char) -> bool
-    ensures { result ≡ is_ascii c }
+    ensures tells_whether_it_is_ascii { result ≡ is_ascii c }
 {
     c <= '\u{7F}'
 }
@@ -28,7 +28,7 @@ fn is_ascii(c: char) -> bool
 pub fn ascii(bytes: &[u8; 64], len: usize) -> &str
     requires size { len ≤ 64 }
     requires ascii { IsAscii (take len bytes.now) }
-    ensures { chars result.now ≡ take len bytes.now }
+    ensures lends_the_bytes_in_front { chars result.now ≡ take len bytes.now }
 {
     // It is proved that these bytes are ASCII.
     unsafe { str::from_utf8_unchecked(&bytes[..len]) }
@@ -51,7 +51,7 @@ fn narrowed(run: &[char], bytes: &mut [u8; 64]) -> bool
 
 // A run as a text, where it is short and ASCII.
 fn plain<'a>(run: &[char], bytes: &'a mut [u8; 64]) -> Option<&'a str>
-    ensures { IfSome result (λ text. Spells run.now text.now) }
+    ensures lends_the_run { IfSome result (λ text. Spells run.now text.now) }
 {
     if run.len() > CHUNK {
         return None;
@@ -64,7 +64,7 @@ fn plain<'a>(run: &[char], bytes: &'a mut [u8; 64]) -> Option<&'a str>
 
 // Adds characters one by one.
 fn push_each(text: &mut Text, chars: &[char]) -> Result<(), AllocError>
-    ensures { OnOk result (text.new ≡ text.old ++ chars.now) }
+    ensures adds_each_character { OnOk result (text.new ≡ text.old ++ chars.now) }
 {
     for &c in chars {
         text.push(c)?;
@@ -74,7 +74,7 @@ fn push_each(text: &mut Text, chars: &[char]) -> Result<(), AllocError>
 
 // Adds a few characters, all at once where they are ASCII.
 fn push_chunk(text: &mut Text, chars: &[char]) -> Result<(), AllocError>
-    ensures { OnOk result (text.new ≡ text.old ++ chars.now) }
+    ensures adds_the_chunk { OnOk result (text.new ≡ text.old ++ chars.now) }
 {
     let mut bytes = [0; 64];
     match plain(chars, &mut bytes) {
@@ -85,7 +85,7 @@ fn push_chunk(text: &mut Text, chars: &[char]) -> Result<(), AllocError>
 
 /// Adds characters to a text.
 pub fn push_all(text: &mut Text, chars: &[char]) -> Result<(), AllocError>
-    ensures { OnOk result (text.new ≡ text.old ++ chars.now) }
+    ensures adds_all_characters { OnOk result (text.new ≡ text.old ++ chars.now) }
 {
     let mut rest = chars;
     while !rest.is_empty() {
@@ -98,7 +98,7 @@ pub fn push_all(text: &mut Text, chars: &[char]) -> Result<(), AllocError>
 
 /// A text of these characters.
 pub fn text_of(alloc: Global, chars: &[char]) -> Result<Text, AllocError>
-    ensures { IfOk result (λ text. text ≡ chars.now) }
+    ensures holds_these_characters { IfOk result (λ text. text ≡ chars.now) }
 {
     let mut bytes = [0; 64];
     match plain(chars, &mut bytes) {
@@ -109,7 +109,7 @@ pub fn text_of(alloc: Global, chars: &[char]) -> Result<Text, AllocError>
 
 // The same, made bit by bit.
 fn gathered(alloc: Global, chars: &[char]) -> Result<Text, AllocError>
-    ensures { IfOk result (λ text. text ≡ chars.now) }
+    ensures gathers_these_characters { IfOk result (λ text. text ≡ chars.now) }
 {
     let mut text = Text::with_capacity(alloc, chars.len())?;
     push_all(&mut text, chars)?;

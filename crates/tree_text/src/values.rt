@@ -20,7 +20,7 @@ use xml_tree::{Text, is_char};
 
 /// What a digit is worth, where numbers are written in hexadecimal or in decimal digits.
 fn digit(c: char, hexadecimal: bool) -> Option<u32>
-    ensures { MatchOption result ((digits_of hexadecimal).is_digit c ≡ false) (λ d. ((digits_of hexadecimal).is_digit c ≡ true) × (d ≡ (digits_of hexadecimal).value c) × (d < 16)) }
+    ensures worth_of_the_digit { MatchOption result ((digits_of hexadecimal).is_digit c ≡ false) (λ d. ((digits_of hexadecimal).is_digit c ≡ true) × (d ≡ (digits_of hexadecimal).value c) × (d < 16)) }
 {
     match c {
         '0'..='9' => Some(c as u32 - 48),
@@ -39,7 +39,7 @@ fn base(hexadecimal: bool) -> u32
 
 /// The Char whose number stands here, and what follows it.
 fn number(text: &[char], hexadecimal: bool) -> Result<(char, &[char]), Stop<'_>>
-    ensures { Gives (λ x. (x.0, x.1.now)) result (read_number (digits_of hexadecimal) last_char is_char text.now) }
+    ensures reads_a_number { Gives (λ x. (x.0, x.1.now)) result (read_number (digits_of hexadecimal) last_char is_char text.now) }
 {
     let base = base(hexadecimal);
     let mut value = 0u32;
@@ -62,7 +62,7 @@ fn number(text: &[char], hexadecimal: bool) -> Result<(char, &[char]), Stop<'_>>
 
 /// `#` and a number.
 fn numbered(text: &[char]) -> Result<(char, &[char]), Stop<'_>>
-    ensures { Gives (λ x. (x.0, x.1.now)) result (read_numbered text.now) }
+    ensures reads_a_numbered_one { Gives (λ x. (x.0, x.1.now)) result (read_numbered text.now) }
 {
     let rest = word(text, &['#'])?;
     if let ['x', ..] = rest {
@@ -74,7 +74,7 @@ fn numbered(text: &[char]) -> Result<(char, &[char]), Stop<'_>>
 
 /// The name of an entity, which stands for this character.
 fn stands_for<'a>(c: char, text: &'a [char], name: &[char]) -> Result<(char, &'a [char]), Stop<'a>>
-    ensures { Gives (λ x. (x.0, x.1.now)) result (read_stands_for c name.now text.now) }
+    ensures reads_what_stands_for_it { Gives (λ x. (x.0, x.1.now)) result (read_stands_for c name.now text.now) }
 {
     let rest = word(text, name)?;
     Ok((c, rest))
@@ -82,7 +82,7 @@ fn stands_for<'a>(c: char, text: &'a [char], name: &[char]) -> Result<(char, &'a
 
 /// The character that an entity stands for, and what follows its name.
 fn entity(text: &[char]) -> Result<(char, &[char]), Stop<'_>>
-    ensures { Gives (λ x. (x.0, x.1.now)) result (read_entity text.now) }
+    ensures reads_an_entity { Gives (λ x. (x.0, x.1.now)) result (read_entity text.now) }
 {
     match text {
         ['l', ..] => stands_for('<', text, &['l', 't']),
@@ -95,7 +95,7 @@ fn entity(text: &[char]) -> Result<(char, &[char]), Stop<'_>>
 
 /// A number or the name of an entity.
 fn named(text: &[char]) -> Result<(char, &[char]), Stop<'_>>
-    ensures { Gives (λ x. (x.0, x.1.now)) result (read_named text.now) }
+    ensures reads_a_named_one { Gives (λ x. (x.0, x.1.now)) result (read_named text.now) }
 {
     match text {
         ['#', ..] => numbered(text),
@@ -105,7 +105,7 @@ fn named(text: &[char]) -> Result<(char, &[char]), Stop<'_>>
 
 /// The character that a reference stands for, and what follows it.
 pub fn reference(text: &[char]) -> Result<(char, &[char]), Stop<'_>>
-    ensures { Gives (λ x. (x.0, x.1.now)) result (read_reference text.now) }
+    ensures reads_a_reference { Gives (λ x. (x.0, x.1.now)) result (read_reference text.now) }
 {
     let rest = word(text, &['&'])?;
     let (c, rest) = named(rest)?;
@@ -114,14 +114,14 @@ pub fn reference(text: &[char]) -> Result<(char, &[char]), Stop<'_>>
 
 /// Whether a character is a quote.
 pub fn is_quote(c: char) -> bool
-    ensures { result ≡ is_quote c }
+    ensures tells_whether_it_is_a_quote { result ≡ is_quote c }
 {
     matches!(c, '"' | '\'')
 }
 
 /// A quote, and what follows it.
 pub fn quote(text: &[char]) -> Result<(char, &[char]), Stop<'_>>
-    ensures { Gives (λ x. (x.0, x.1.now)) result (read_one is_quote text.now) }
+    ensures reads_a_quote { Gives (λ x. (x.0, x.1.now)) result (read_one is_quote text.now) }
 {
     match text {
         [quote, rest @ ..] if is_quote(*quote) => Ok((*quote, rest)),
@@ -131,14 +131,14 @@ pub fn quote(text: &[char]) -> Result<(char, &[char]), Stop<'_>>
 
 /// Whether a character stands behind the `&` and before the surrogates, and is no `<`. Most characters of values do.
 fn is_frequent(c: char) -> bool
-    ensures { result ≡ is_frequent c }
+    ensures tells_whether_it_is_frequent { result ≡ is_frequent c }
 {
     c != '<' && matches!(c, '\''..='\u{D7FF}')
 }
 
 /// Whether a character stands raw in content.
 pub fn is_raw(c: char) -> bool
-    ensures { result ≡ is_raw c }
+    ensures tells_whether_it_is_raw { result ≡ is_raw c }
 {
     if is_frequent(c) {
         return true;
@@ -150,7 +150,7 @@ pub fn is_raw(c: char) -> bool
 #[inline(never)]
 #[tactic(auto, using(crate::proofs::RunLemmas::run_more, crate::proofs::RunLemmas::run_done))]
 fn raw_len(text: &[char], quote: char) -> usize
-    ensures { result ≡ run_len (is_raw_in quote) text.now }
+    ensures counts_the_raw_ones_of_a_value { result ≡ run_len (is_raw_in quote) text.now }
 {
     for (i, &c) in text.iter().enumerate() {
         if c == quote || !is_raw(c) {
@@ -163,14 +163,14 @@ fn raw_len(text: &[char], quote: char) -> usize
 /// The raw characters of a value between these quotes, and what follows them.
 #[tactic(auto, using(crate::proofs::RunLemmas::take_run, crate::proofs::RunLemmas::drop_run, crate::proofs::RunLemmas::run_len_le))]
 pub fn raw_run(text: &[char], quote: char) -> (&[char], &[char])
-    ensures { read_raw quote text.now ≡ Ok (result.0.now, result.1.now) }
+    ensures reads_the_raw_ones_of_a_value { read_raw quote text.now ≡ Ok (result.0.now, result.1.now) }
 {
     text.split_at(raw_len(text, quote))
 }
 
 /// How a character is read that these follow: a CR before a LF as nothing.
 pub fn line_char(c: char, after: &[char]) -> Option<char>
-    ensures { result ≡ line_char c after.now }
+    ensures character_as_a_line_has_it { result ≡ line_char c after.now }
 {
     match c {
         '\r' => match after {
@@ -183,7 +183,7 @@ pub fn line_char(c: char, after: &[char]) -> Option<char>
 
 /// How a raw character is read in a value.
 fn blank(c: char) -> char
-    ensures { result ≡ blank c }
+    ensures character_as_a_value_has_it { result ≡ blank c }
 {
     match c {
         '\t' | '\n' => ' ',
@@ -193,7 +193,7 @@ fn blank(c: char) -> char
 
 /// Adds a raw character of a value, which these follow.
 fn push_raw_char(value: &mut Text, c: char, after: &[char]) -> Result<(), AllocError>
-    ensures { OnOk result (value.new ≡ value.old ++ with_char (option_map blank (line_char c after.now)) []) }
+    ensures adds_the_raw_character { OnOk result (value.new ≡ value.old ++ with_char (option_map blank (line_char c after.now)) []) }
 {
     match line_char(c, after) {
         Some(c) => value.push(blank(c)),
@@ -203,7 +203,7 @@ fn push_raw_char(value: &mut Text, c: char, after: &[char]) -> Result<(), AllocE
 
 /// Whether no raw character of a value is a tab or a line end, so that all are read as they stand.
 fn is_all_smooth(run: &[char]) -> bool
-    ensures { result ≡ list_all is_smooth run.now }
+    ensures tells_whether_all_are_smooth { result ≡ list_all is_smooth run.now }
 {
     for &c in run {
         if c < ' ' {
@@ -215,7 +215,7 @@ fn is_all_smooth(run: &[char]) -> bool
 
 /// Adds raw characters of a value, as they are read.
 pub fn push_raw(value: &mut Text, run: &[char]) -> Result<(), AllocError>
-    ensures { OnOk result (value.new ≡ value.old ++ raw run.now) }
+    ensures adds_the_raw_run { OnOk result (value.new ≡ value.old ++ raw run.now) }
 {
     if is_all_smooth(run) {
         return push_all(value, run);
@@ -225,7 +225,7 @@ pub fn push_raw(value: &mut Text, run: &[char]) -> Result<(), AllocError>
 
 /// The same, character by character.
 fn push_blanks(value: &mut Text, run: &[char]) -> Result<(), AllocError>
-    ensures { OnOk result (value.new ≡ value.old ++ raw run.now) }
+    ensures adds_each_raw_character { OnOk result (value.new ≡ value.old ++ raw run.now) }
 {
     let mut rest = run;
     while let [c, after @ ..] = rest {
@@ -237,7 +237,7 @@ fn push_blanks(value: &mut Text, run: &[char]) -> Result<(), AllocError>
 
 /// The text that raw characters of a value are read as.
 fn raw_text(alloc: Global, run: &[char]) -> Result<Text, AllocError>
-    ensures { IfOk result (λ text. text ≡ raw run.now) }
+    ensures text_of_the_raw_run { IfOk result (λ text. text ≡ raw run.now) }
 {
     let mut text = Text::with_capacity(alloc, run.len())?;
     push_raw(&mut text, run)?;
@@ -246,14 +246,14 @@ fn raw_text(alloc: Global, run: &[char]) -> Result<Text, AllocError>
 
 /// Whether a reference follows.
 pub fn reference_follows(text: &[char]) -> bool
-    ensures { result ≡ reference_follows text.now }
+    ensures tells_whether_a_reference_follows { result ≡ reference_follows text.now }
 {
     matches!(text, ['&', ..])
 }
 
 /// Adds a character from a reference, and the raw characters behind it.
 pub fn push_piece(value: &mut Text, c: char, run: &[char]) -> Result<(), AllocError>
-    ensures { OnOk result (value.new ≡ value.old ++ (c ∷ raw run.now)) }
+    ensures adds_the_piece { OnOk result (value.new ≡ value.old ++ (c ∷ raw run.now)) }
 {
     value.push(c)?;
     push_raw(value, run)
@@ -261,7 +261,7 @@ pub fn push_piece(value: &mut Text, c: char, run: &[char]) -> Result<(), AllocEr
 
 /// Whether this character or a `&` follows, which ends a run: a `<` in content, the quote in a value.
 pub fn ends_run(text: &[char], end: char) -> bool
-    ensures { result ≡ ends_run end text.now }
+    ensures tells_whether_the_run_ends { result ≡ ends_run end text.now }
 {
     match text {
         [c, ..] => *c == end || *c == '&',
@@ -271,7 +271,7 @@ pub fn ends_run(text: &[char], end: char) -> bool
 
 /// What raw characters of a value are read as, and what follows them. Most runs are short and plain, and are read in one pass.
 fn blanked(alloc: Global, text: &[char], quote: char) -> Result<(Text, &[char]), AllocError>
-    ensures { IfOk result (λ x. read_blanked quote text.now ≡ Ok (x.0, x.1.now)) }
+    ensures reads_a_blanked_run { IfOk result (λ x. read_blanked quote text.now ≡ Ok (x.0, x.1.now)) }
 {
     let mut bytes = [0; 64];
     let (plain, rest) = plain_in_value(text, quote, &mut bytes);
@@ -284,7 +284,7 @@ fn blanked(alloc: Global, text: &[char], quote: char) -> Result<(Text, &[char]),
 
 /// A value up to its quote, and what follows it.
 pub fn value(alloc: Global, text: &[char], quote: char) -> Result<(Text, &[char]), Stop<'_>>
-    ensures { Gives (λ x. (x.0, x.1.now)) result (read_value quote text.now) }
+    ensures reads_a_value { Gives (λ x. (x.0, x.1.now)) result (read_value quote text.now) }
 {
     let (mut value, start) = blanked(alloc, text, quote)?;
     let mut rest = start;

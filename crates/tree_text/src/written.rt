@@ -21,7 +21,7 @@ pub struct Written<'a> {
 }
 
 fn colon_follows(text: &[char]) -> bool
-    ensures { result ≡ colon_follows text.now }
+    ensures tells_whether_a_colon_follows { result ≡ colon_follows text.now }
 {
     matches!(text, [':', ..])
 }
@@ -57,7 +57,7 @@ pub fn qname(text: &[char]) -> Result<(Written<'_>, &[char]), Stop<'_>>
 /// What follows a name that is written as this one.
 #[tactic(auto, using(crate::proofs::NameLemmas::word_then, crate::proofs::NameLemmas::prefixed))]
 fn same_name<'a>(text: &'a [char], name: &Written<'_>) -> Result<&'a [char], Stop<'a>>
-    ensures { Gives (λ rest. (tt, rest.now)) result (read_word (written (name_in name.now)) text.now) }
+    ensures reads_the_same_name { Gives (λ rest. (tt, rest.now)) result (read_word (written (name_in name.now)) text.now) }
 {
     if name.prefix.is_empty() {
         return word(text, name.local);
@@ -70,7 +70,7 @@ fn same_name<'a>(text: &'a [char], name: &Written<'_>) -> Result<&'a [char], Sto
 /// What follows the beginning of an end tag.
 #[inline(always)]
 fn end_start(text: &[char]) -> Result<&[char], Stop<'_>>
-    ensures { Gives (λ rest. (tt, rest.now)) result (read_word end_start text.now) }
+    ensures reads_the_start_of_an_end_tag { Gives (λ rest. (tt, rest.now)) result (read_word end_start text.now) }
 {
     match text {
         ['<', '/', rest @ ..] => Ok(rest),
@@ -80,7 +80,7 @@ fn end_start(text: &[char]) -> Result<&[char], Stop<'_>>
 
 /// What follows the end tag of an element of this name.
 pub fn end_tag<'a>(text: &'a [char], name: &Written<'_>) -> Result<&'a [char], Stop<'a>>
-    ensures { Gives (λ rest. (tt, rest.now)) result (read_end_tag (name_in name.now) text.now) }
+    ensures reads_the_end_tag { Gives (λ rest. (tt, rest.now)) result (read_end_tag (name_in name.now) text.now) }
 {
     let rest = end_start(text)?;
     let rest = same_name(rest, name)?;
@@ -90,7 +90,7 @@ pub fn end_tag<'a>(text: &'a [char], name: &Written<'_>) -> Result<&'a [char], S
 
 /// A prefix that owns its characters. Most names have none.
 fn prefix_of(alloc: Global, name: &Written<'_>) -> Result<Text, AllocError>
-    ensures { IfOk result (λ prefix. prefix ≡ name.now.prefix.now) }
+    ensures copies_the_prefix { IfOk result (λ prefix. prefix ≡ name.now.prefix.now) }
 {
     match name.prefix {
         [] => Ok(no_text(alloc)),
@@ -100,7 +100,7 @@ fn prefix_of(alloc: Global, name: &Written<'_>) -> Result<Text, AllocError>
 
 /// A name that owns its parts.
 pub fn owned(alloc: Global, name: &Written<'_>) -> Result<Name, AllocError>
-    ensures { IfOk result (λ owned. owned ≡ name_in name.now) }
+    ensures owns_its_parts { IfOk result (λ owned. owned ≡ name_in name.now) }
 {
     let prefix = prefix_of(alloc, name)?;
     let local = text_of(alloc, name.local)?;

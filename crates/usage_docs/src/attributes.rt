@@ -41,7 +41,7 @@ fn attribute_of(kind: Kind) -> Attribute
 /// The one attribute without a namespace that a row takes, which is its key. Takes no memory.
 #[tactic(auto, unfolding(crate::specs::Keys::key_of))]
 pub fn key_of(kind: Kind) -> Option<Key>
-    ensures { result ≡ key_of kind }
+    ensures key_that_the_kind_has { result ≡ key_of kind }
 {
     match attribute_of(kind) {
         Attribute::May(key) => Some(key),
@@ -52,7 +52,7 @@ pub fn key_of(kind: Kind) -> Option<Key>
 
 // Whether it is the unprefixed attribute of this key.
 fn is_key(key: Key, attr: &Attr) -> bool
-    ensures { result ≡ is_key key attr.now }
+    ensures tells_whether_it_is_the_key { result ≡ is_key key attr.now }
 {
     is_word(attr.name.prefix.as_str(), "") && is_word(attr.name.local.as_str(), key.word())
 }
@@ -60,7 +60,7 @@ fn is_key(key: Key, attr: &Attr) -> bool
 // The text of a key, where it is written.
 #[tactic(auto, unfolding(crate::specs::Keys::value_of))]
 pub(crate) fn text_of<'a>(key: Key, attrs: &'a [Attr]) -> Option<&'a Text>
-    ensures { option_map (λ text. text.now) result ≡ value_of key attrs.now }
+    ensures text_of_the_key { option_map (λ text. text.now) result ≡ value_of key attrs.now }
 {
     for attr in attrs {
         if is_key(key, attr) {
@@ -72,7 +72,7 @@ pub(crate) fn text_of<'a>(key: Key, attrs: &'a [Attr]) -> Option<&'a Text>
 
 /// The value of a key, where it is written. Takes no memory.
 pub fn value_of<'a>(key: Key, attrs: &'a [Attr]) -> Option<&'a str>
-    ensures { option_map (λ value. chars value.now) result ≡ value_of key attrs.now }
+    ensures value_of_the_key { option_map (λ value. chars value.now) result ≡ value_of key attrs.now }
 {
     match text_of(key, attrs) {
         Some(text) => Some(text.as_str()),
@@ -83,7 +83,7 @@ pub fn value_of<'a>(key: Key, attrs: &'a [Attr]) -> Option<&'a str>
 /// The value of the key that elements of this kind have, where it is written. Takes no memory.
 #[tactic(auto, unfolding(crate::specs::Keys::key_value))]
 pub fn key_value<'a>(kind: Kind, attrs: &'a [Attr]) -> Option<&'a str>
-    ensures { option_map (λ value. chars value.now) result ≡ key_value kind attrs.now }
+    ensures value_of_the_key_of_the_kind { option_map (λ value. chars value.now) result ≡ key_value kind attrs.now }
 {
     match key_of(kind) {
         Some(key) => value_of(key, attrs),
@@ -93,7 +93,7 @@ pub fn key_value<'a>(kind: Kind, attrs: &'a [Attr]) -> Option<&'a str>
 
 // The namespace of a prefixed attribute.
 fn space_of<'a>(scope: &Around<'a>, attr: &Attr) -> &'a str
-    ensures { chars result.now ≡ space_of_attr scope.now attr.now }
+    ensures namespace_of_the_attribute { chars result.now ≡ space_of_attr scope.now attr.now }
 {
     match scope.resolve(&attr.name.prefix) {
         Some(space) => space,
@@ -103,14 +103,14 @@ fn space_of<'a>(scope: &Around<'a>, attr: &Attr) -> &'a str
 
 // Whether a namespace is of neither document type.
 fn is_other_space(space: &str) -> bool
-    ensures { result ≡ is_other_space (chars space.now) }
+    ensures tells_whether_it_is_of_neither { result ≡ is_other_space (chars space.now) }
 {
     !is_word(space, lists_space()) && !is_word(space, services_space())
 }
 
 // Whether the local name is that of the row's own attribute.
 fn is_own_word(row: Kind, local: &str) -> bool
-    ensures { result ≡ is_own_word row (chars local.now) }
+    ensures tells_whether_it_is_the_own_word { result ≡ is_own_word row (chars local.now) }
 {
     match key_of(row) {
         Some(key) => is_word(local, key.word()),
@@ -121,7 +121,7 @@ fn is_own_word(row: Kind, local: &str) -> bool
 // Whether an attribute may stand in an element of this row.
 #[tactic(auto, unfolding(crate::specs::Keys::attr_passes))]
 fn attr_passes(row: Kind, scope: &Around<'_>, attr: &Attr) -> bool
-    ensures { result ≡ attr_passes row scope.now attr.now }
+    ensures tells_whether_it_passes { result ≡ attr_passes row scope.now attr.now }
 {
     if is_word(attr.name.prefix.as_str(), "") {
         return is_own_word(row, attr.name.local.as_str());
@@ -132,7 +132,7 @@ fn attr_passes(row: Kind, scope: &Around<'_>, attr: &Attr) -> bool
 // Whether the attribute is there that an element of this row must have.
 #[tactic(auto, unfolding(crate::specs::Keys::has_needed))]
 fn has_needed(row: Kind, attrs: &[Attr]) -> bool
-    ensures { result ≡ has_needed row attrs.now }
+    ensures tells_whether_the_needed_is_there { result ≡ has_needed row attrs.now }
 {
     match attribute_of(row) {
         Attribute::Must(key) => has_value(key, attrs),
@@ -143,14 +143,14 @@ fn has_needed(row: Kind, attrs: &[Attr]) -> bool
 
 // Whether the attribute of a key is there.
 fn has_value(key: Key, attrs: &[Attr]) -> bool
-    ensures { result ≡ is_some (value_of key attrs.now) }
+    ensures tells_whether_the_key_is_there { result ≡ is_some (value_of key attrs.now) }
 {
     value_of(key, attrs).is_some()
 }
 
 // Whether each attribute may stand in an element of this row.
 fn all_pass(row: Kind, scope: &Around<'_>, attrs: &[Attr]) -> bool
-    ensures { result ≡ list_all (attr_passes row scope.now) attrs.now }
+    ensures tells_whether_each_passes { result ≡ list_all (attr_passes row scope.now) attrs.now }
 {
     for attr in attrs {
         if !attr_passes(row, scope, attr) {
@@ -164,7 +164,7 @@ fn all_pass(row: Kind, scope: &Around<'_>, attrs: &[Attr]) -> bool
 /// Takes no memory.
 #[tactic(auto, unfolding(crate::specs::Keys::attrs_pass))]
 pub fn attrs_pass(row: Kind, scope: &Around<'_>, attrs: &[Attr]) -> bool
-    ensures { result ≡ attrs_pass row scope.now attrs.now }
+    ensures tells_whether_they_pass { result ≡ attrs_pass row scope.now attrs.now }
 {
     all_pass(row, scope, attrs) && has_needed(row, attrs)
 }

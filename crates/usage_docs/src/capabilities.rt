@@ -11,7 +11,7 @@ use xml_tree::{Element, NoMemory};
 // An element of this name, with nothing in it.
 fn empty(alloc: Global, local: &str) -> Result<Element, NoMemory>
     requires { IsTrue (is_ascii local.now) }
-    ensures { IfOk result (λ made. made ≡ around local.now (row [])) }
+    ensures has_the_name_alone { IfOk result (λ made. made ≡ around local.now (row [])) }
 {
     Ok(Element::new(alloc, name(alloc, "", local)?))
 }
@@ -21,7 +21,7 @@ fn empty(alloc: Global, local: &str) -> Result<Element, NoMemory>
 fn text_elem(alloc: Global, local: &str, text: &str) -> Result<Element, NoMemory>
     requires local { IsTrue (is_ascii local.now) }
     requires text { IsTrue (is_ascii text.now) }
-    ensures { IfOk result (λ made. made ≡ text_elem local.now text.now) }
+    ensures has_the_text_alone { IfOk result (λ made. made ≡ text_elem local.now text.now) }
 {
     let mut made = empty(alloc, local)?;
     made.push_chars(text)?;
@@ -30,7 +30,7 @@ fn text_elem(alloc: Global, local: &str, text: &str) -> Result<Element, NoMemory
 
 // The application usages.
 fn auids(alloc: Global) -> Result<Element, NoMemory>
-    ensures { IfOk result (λ made. made ≡ auids) }
+    ensures lists_the_usages { IfOk result (λ made. made ≡ auids) }
 {
     let mut made = empty(alloc, "auids")?;
     made.push_elem(text_elem(alloc, "auid", "resource-lists")?)?;
@@ -41,7 +41,7 @@ fn auids(alloc: Global) -> Result<Element, NoMemory>
 
 // The namespaces.
 fn namespaces(alloc: Global) -> Result<Element, NoMemory>
-    ensures { IfOk result (λ made. made ≡ namespaces) }
+    ensures lists_the_namespaces { IfOk result (λ made. made ≡ namespaces) }
 {
     let mut made = empty(alloc, "namespaces")?;
     made.push_elem(text_elem(alloc, "namespace", "urn:ietf:params:xml:ns:resource-lists")?)?;
@@ -54,7 +54,7 @@ fn namespaces(alloc: Global) -> Result<Element, NoMemory>
 
 // The document, made part by part.
 fn capabilities(alloc: Global) -> Result<Element, NoMemory>
-    ensures { IfOk result (λ made. made ≡ capabilities) }
+    ensures makes_the_capabilities { IfOk result (λ made. made ≡ capabilities) }
 {
     let mut made = empty(alloc, "xcap-caps")?;
     made.push_decl(declaration(alloc, "", "urn:ietf:params:xml:ns:xcap-caps")?)?;

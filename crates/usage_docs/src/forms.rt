@@ -15,7 +15,7 @@ use xml_tree::{Around, Attr, Declared, Element, NoMemory, Node};
 
 // Whether `ref`, if it is there, has its form.
 fn is_ref_formed(attrs: &[Attr]) -> bool
-    ensures { result ≡ option_map_or is_reference (value_of Ref attrs.now) true }
+    ensures tells_whether_the_ref_is_formed { result ≡ option_map_or is_reference (value_of Ref attrs.now) true }
 {
     match value_of(Key::Ref, attrs) {
         Some(value) => is_reference(value),
@@ -25,7 +25,7 @@ fn is_ref_formed(attrs: &[Attr]) -> bool
 
 // Whether `anchor`, if it is there, has its form.
 fn is_anchor_formed(attrs: &[Attr]) -> bool
-    ensures { result ≡ option_map_or is_http (value_of Anchor attrs.now) true }
+    ensures tells_whether_the_anchor_is_formed { result ≡ option_map_or is_http (value_of Anchor attrs.now) true }
 {
     match value_of(Key::Anchor, attrs) {
         Some(value) => is_http(value),
@@ -37,7 +37,7 @@ fn is_anchor_formed(attrs: &[Attr]) -> bool
 /// of an external list, the text of a resource-list. Takes no memory.
 #[tactic(auto, unfolding(crate::specs::Forms::is_formed))]
 pub fn is_formed(kind: Kind, element: &Element) -> bool
-    ensures { result ≡ is_formed kind element.now.attrs element.now.content }
+    ensures tells_whether_it_is_formed { result ≡ is_formed kind element.now.attrs element.now.content }
 {
     match kind {
         Kind::EntryRef => is_ref_formed(element.attrs()),
@@ -58,7 +58,7 @@ pub fn all_formed(
     scope: &Around<'_>,
     element: &Element,
 ) -> Result<bool, NoMemory>
-    ensures { IfOk result (λ formed. IsTrue formed ↔ AllFormed row scope.now element.now.content) }
+    ensures tells_whether_all_are_formed { IfOk result (λ formed. IsTrue formed ↔ AllFormed row scope.now element.now.content) }
 {
     for node in element.nodes() {
         if !is_node_formed(alloc, row, scope, node)? {
@@ -76,7 +76,7 @@ fn is_node_formed(
     scope: &Around<'_>,
     node: &Node,
 ) -> Result<bool, NoMemory>
-    ensures { IfOk result (λ formed. IsTrue formed ↔ IsNodeFormed row scope.now node.now) }
+    ensures tells_whether_the_node_is_formed { IfOk result (λ formed. IsTrue formed ↔ IsNodeFormed row scope.now node.now) }
 {
     match node {
         Node::Elem(kid) => is_kid_formed(alloc, row, scope, kid),
@@ -93,7 +93,7 @@ fn is_kid_formed(
     scope: &Around<'_>,
     kid: &Element,
 ) -> Result<bool, NoMemory>
-    ensures { IfOk result (λ formed. IsTrue formed ↔ IsNodeFormed row scope.now (Elem kid.now)) }
+    ensures tells_whether_the_element_is_formed { IfOk result (λ formed. IsTrue formed ↔ IsNodeFormed row scope.now (Elem kid.now)) }
 {
     let declared = Declared::indexed(alloc, kid.decls())?;
     let inside = (&*scope).inside(&declared);
@@ -111,7 +111,7 @@ fn is_kid_formed(
 /// # Errors
 /// `NoMemory` for want of memory.
 pub fn constraints(alloc: Global, usage: Usage, root: &Element) -> Result<bool, NoMemory>
-    ensures { IfOk result (λ formed. IsTrue formed ↔ Constraints usage root.now) }
+    ensures tells_whether_they_are_met { IfOk result (λ formed. IsTrue formed ↔ Constraints usage root.now) }
 {
     let declared = Declared::indexed(alloc, root.decls())?;
     all_formed(
@@ -132,7 +132,7 @@ pub fn is_formed_child(
     scope: &Around<'_>,
     kid: &Element,
 ) -> Result<bool, NoMemory>
-    ensures { IfOk result (λ formed. IsTrue formed ↔ IsNodeFormed row scope.now (Elem kid.now)) }
+    ensures tells_whether_the_child_is_formed { IfOk result (λ formed. IsTrue formed ↔ IsNodeFormed row scope.now (Elem kid.now)) }
 {
     is_kid_formed(alloc, row, scope, kid)
 }

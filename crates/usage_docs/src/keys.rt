@@ -96,7 +96,7 @@ fn clash_inside(
     path: &Path,
 ) -> Result<Option<Clash>, NoMemory>
     requires { length path.now + content_height element.now.content ≤ 64 }
-    ensures { IfOk result (λ found. IsFirst (RepeatsAt row scope.now (kids_of element.now)) path.now found) }
+    ensures finds_the_first_inside { IfOk result (λ found. IsFirst (RepeatsAt row scope.now (kids_of element.now)) path.now found) }
 {
     let nodes = element.nodes();
     let mut seen = BTreeSet::new(alloc);
@@ -120,7 +120,7 @@ fn clash_inside(
 /// `NoMemory` for want of memory.
 pub fn first_clash(alloc: Global, usage: Usage, root: &Element) -> Result<Option<Clash>, NoMemory>
     requires { height root.now ≤ 64 }
-    ensures { IfOk result (λ found. IsFirstClash usage root.now found) }
+    ensures finds_the_first_clash { IfOk result (λ found. IsFirstClash usage root.now found) }
 {
     let declared = Declared::indexed(alloc, root.decls())?;
     clash_inside(

@@ -44,7 +44,7 @@ impl<'a> Outer<'a> {
 // The printed length of the binding of a prefix, if there is one; else 0.
 fn binding_len(bindings: &[Decl], prefix: &Text) -> usize
     requires { AreInOrder bindings.now }
-    ensures { result ≡ min (decls_len (binding_of prefix.now bindings.now)) usize.MAX }
+    ensures counts_the_binding { result ≡ min (decls_len (binding_of prefix.now bindings.now)) usize.MAX }
 {
     match bindings.binary_search_by(|binding| binding.prefix.cmp(prefix)) {
         Ok(place) => decl_len(&bindings[place]),
@@ -55,7 +55,7 @@ fn binding_len(bindings: &[Decl], prefix: &Text) -> usize
 // The printed length of those bindings whose prefixes these declarations declare anew. Each prefix is looked up once.
 fn hidden_len(alloc: Global, bindings: &[Decl], own: &[Decl]) -> Result<usize, NoMemory>
     requires { AreInOrder bindings.now }
-    ensures { IfOk result (λ len. len ≡ min (decls_len (hidden own.now bindings.now)) usize.MAX) }
+    ensures counts_what_is_hidden { IfOk result (λ len. len ≡ min (decls_len (hidden own.now bindings.now)) usize.MAX) }
 {
     let mut seen = BTreeSet::new(alloc);
     let mut total = 0usize;
@@ -71,7 +71,7 @@ fn hidden_len(alloc: Global, bindings: &[Decl], own: &[Decl]) -> Result<usize, N
 // bindings stand for its declarations.
 fn service_len(alloc: Global, outer: &Outer<'_>, kid: &Element) -> Result<usize, NoMemory>
     requires { CountsFrom outer.now }
-    ensures { IfOk result (λ len. len ≡ min (byte_len (print (listed_as (outer.now.decls.now ∷ []) kid.now))) usize.MAX) }
+    ensures counts_the_listed_service { IfOk result (λ len. len ≡ min (byte_len (print (listed_as (outer.now.decls.now ∷ []) kid.now))) usize.MAX) }
 {
     let own = kid.decls();
     let whole = printed_len(kid).saturating_add(outer.len);
@@ -96,7 +96,7 @@ fn node_len(
 ) -> Result<usize, NoMemory>
     requires counts { CountsFrom outer.now }
     requires inside { scope.now ≡ outer.now.decls.now ∷ [] }
-    ensures { IfOk result (λ len. len ≡ min (elems_len (listed_nodes scope.now (node.now ∷ []))) usize.MAX) }
+    ensures counts_the_listed_node { IfOk result (λ len. len ≡ min (elems_len (listed_nodes scope.now (node.now ∷ []))) usize.MAX) }
 {
     if let Node::Elem(kid) = node {
         if is_service(alloc, scope, kid) {
@@ -116,7 +116,7 @@ fn nodes_len(
     requires counts { CountsFrom outer.now }
     requires root { outer.now.decls.now ≡ root.now.decls }
     requires inside { scope.now ≡ outer.now.decls.now ∷ [] }
-    ensures { IfOk result (λ len. len ≡ min (elems_len (map Elem (listed root.now))) usize.MAX) }
+    ensures counts_the_listed_nodes { IfOk result (λ len. len ≡ min (elems_len (map Elem (listed root.now))) usize.MAX) }
 {
     let mut total = 0usize;
     for node in root.nodes() {
@@ -131,7 +131,7 @@ fn nodes_len(
 /// # Errors
 /// `NoMemory` for want of memory.
 pub(crate) fn listed_len(alloc: Global, root: &Element) -> Result<usize, NoMemory>
-    ensures { IfOk result (λ len. len ≡ min (elems_len (map Elem (listed root.now))) usize.MAX) }
+    ensures counts_the_listed_services { IfOk result (λ len. len ≡ min (elems_len (map Elem (listed root.now))) usize.MAX) }
 {
     let declared = Declared::indexed(alloc, root.decls())?;
     let outer = Outer::new(alloc, root.decls())?;

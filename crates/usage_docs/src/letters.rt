@@ -36,14 +36,14 @@ pub(crate) enum Segment {
 
 // Whether a letter is white space that doesn't count at the ends.
 fn is_white(trims: bool, letter: char) -> bool
-    ensures { result ≡ white trims letter }
+    ensures tells_whether_it_is_white { result ≡ white trims letter }
 {
     trims && is_space(letter)
 }
 
 // This address, if the letter is the one that is wanted.
 fn wanted(letter: char, wanted: char, next: Address) -> Address
-    ensures { result ≡ (if letter == wanted then next else Other) }
+    ensures only_if_the_letter_is_wanted { result ≡ (if letter == wanted then next else Other) }
 {
     if letter == wanted {
         next
@@ -54,7 +54,7 @@ fn wanted(letter: char, wanted: char, next: Address) -> Address
 
 // The address after one letter more.
 fn address_after(trims: bool, address: Address, letter: char) -> Address
-    ensures { result ≡ address_after (white trims) address letter }
+    ensures address_behind_the_letter { result ≡ address_after (white trims) address letter }
 {
     match address {
         Address::Start if is_white(trims, letter) => Address::Start,
@@ -77,7 +77,7 @@ fn address_after(trims: bool, address: Address, letter: char) -> Address
 impl Address {
     // The address after a text more.
     fn and(self, trims: bool, text: &str) -> Address
-        ensures { result ≡ fold (address_after (white trims)) self (chars text.now) }
+        ensures address_behind_the_text { result ≡ fold (address_after (white trims)) self (chars text.now) }
     {
         text.chars().fold(
             self,
@@ -87,7 +87,7 @@ impl Address {
 
     // Whether it is whole and goes on.
     fn goes_on(self) -> bool
-        ensures { result ≡ is_address self }
+        ensures tells_whether_it_is_an_address { result ≡ is_address self }
     {
         matches!(self, Address::GoesOn)
     }
@@ -96,14 +96,14 @@ impl Address {
 /// Whether a text is an address of HTTP.
 #[tactic(auto, using(crate::proofs::Addresses::address_is))]
 pub(crate) fn is_http(text: &str) -> bool
-    ensures { result ≡ is_http (chars text.now) }
+    ensures tells_whether_it_is_http { result ≡ is_http (chars text.now) }
 {
     Address::Start.and(false, text).goes_on()
 }
 
 /// Whether the text of these nodes is an address of HTTP, without the white space at its ends.
 pub(crate) fn is_http_inside(element: &Element) -> bool
-    ensures { result ≡ is_http (trimmed (text_of element.now.content)) }
+    ensures tells_whether_the_inside_is_http { result ≡ is_http (trimmed (text_of element.now.content)) }
 {
     let mut address = Address::Start;
     for node in element.nodes() {
@@ -117,7 +117,7 @@ pub(crate) fn is_http_inside(element: &Element) -> bool
 impl Segment {
     // Whether it is a segment.
     fn is_right(self) -> bool
-        ensures { result ≡ is_segment self }
+        ensures tells_whether_it_is_a_segment { result ≡ is_segment self }
     {
         match self {
             Segment::Empty => false,
@@ -130,7 +130,7 @@ impl Segment {
 
 // The first segment after one letter more.
 fn segment_after(segment: Segment, letter: char) -> Segment
-    ensures { result ≡ segment_after segment letter }
+    ensures segment_behind_the_letter { result ≡ segment_after segment letter }
 {
     match segment {
         Segment::Empty if letter == '/' => Segment::Wrong,
@@ -146,7 +146,7 @@ fn segment_after(segment: Segment, letter: char) -> Segment
 
 // The first segment of a text.
 fn first_segment(text: &str) -> Segment
-    ensures { result ≡ fold segment_after Empty (chars text.now) }
+    ensures segment_in_front { result ≡ fold segment_after Empty (chars text.now) }
 {
     text.chars().fold(
         Segment::Empty,
@@ -157,7 +157,7 @@ fn first_segment(text: &str) -> Segment
 /// Whether a text is a relative reference that begins with a segment.
 #[tactic(auto, using(crate::proofs::Segments::segment_is))]
 pub(crate) fn is_reference(text: &str) -> bool
-    ensures { result ≡ is_reference (chars text.now) }
+    ensures tells_whether_it_is_a_reference { result ≡ is_reference (chars text.now) }
 {
     first_segment(text).is_right()
 }

@@ -65,7 +65,7 @@ impl Model for IndexMaker {
 
 /// Whether a child of a root, in the scope inside the root, is a service. Takes no memory.
 pub(crate) fn is_service(alloc: Global, scope: &Around<'_>, kid: &Element) -> bool
-    ensures { result ≡ is_service scope.now kid.now }
+    ensures tells_whether_it_is_a_service { result ≡ is_service scope.now kid.now }
 {
     let declared = Declared::new(alloc, kid.decls());
     let inside = (&*scope).inside(&declared);
@@ -74,7 +74,7 @@ pub(crate) fn is_service(alloc: Global, scope: &Around<'_>, kid: &Element) -> bo
 
 /// A service of a root with these declarations, as the index shows it.
 pub(crate) fn listed_as(alloc: Global, decls: &[Decl], kid: &Element) -> Result<Element, NoMemory>
-    ensures { IfOk result (λ made. made ≡ listed_as (decls.now ∷ []) kid.now) }
+    ensures shows_the_service { IfOk result (λ made. made ≡ listed_as (decls.now ∷ []) kid.now) }
 {
     let scope = Scope::empty().with(decls);
     let bindings = scope.with(kid.decls()).bindings(alloc)?;
@@ -92,7 +92,7 @@ fn push_listed(
     made: &mut Vec<Node>,
 ) -> Result<(), NoMemory>
     requires { scope.now ≡ decls.now ∷ [] }
-    ensures { OnOk result (made.new.items ≡ made.old.items ++ listed_nodes scope.now (node.now ∷ [])) }
+    ensures adds_it_if_it_is_a_service { OnOk result (made.new.items ≡ made.old.items ++ listed_nodes scope.now (node.now ∷ [])) }
 {
     if let Node::Elem(kid) = node {
         if is_service(alloc, scope, kid) {
@@ -105,7 +105,7 @@ fn push_listed(
 // The services of a root, in the scope inside it, as the index shows them.
 fn listed_in(alloc: Global, scope: &Around<'_>, root: &Element) -> Result<Vec<Node>, NoMemory>
     requires { scope.now ≡ root.now.decls ∷ [] }
-    ensures { IfOk result (λ made. made.items ≡ map Elem (listed root.now)) }
+    ensures lists_the_services_in_scope { IfOk result (λ made. made.items ≡ map Elem (listed root.now)) }
 {
     let mut made = Vec::new(alloc);
     for node in root.nodes() {
@@ -116,7 +116,7 @@ fn listed_in(alloc: Global, scope: &Around<'_>, root: &Element) -> Result<Vec<No
 
 // The services of a document, as the index shows them.
 fn listed(alloc: Global, root: &Element) -> Result<Vec<Node>, NoMemory>
-    ensures { IfOk result (λ made. made.items ≡ map Elem (listed root.now)) }
+    ensures lists_the_services { IfOk result (λ made. made.items ≡ map Elem (listed root.now)) }
 {
     let declared = Declared::indexed(alloc, root.decls())?;
     listed_in(alloc, &Around::empty().inside(&declared), root)
@@ -124,7 +124,7 @@ fn listed(alloc: Global, root: &Element) -> Result<Vec<Node>, NoMemory>
 
 // The length of an index whose services have this length.
 fn len_with(inner: usize) -> usize
-    ensures { result ≡ len_with inner }
+    ensures counts_the_index { result ≡ len_with inner }
 {
     if inner == 0 {
         EMPTY_LEN
@@ -142,7 +142,7 @@ impl IndexMaker {
     /// # Errors
     /// `NoMemory` for want of memory.
     pub fn new(alloc: Global) -> Result<IndexMaker, NoMemory>
-        ensures { IfOk result (λ made. made ≡ []) }
+        ensures lists_no_services { IfOk result (λ made. made ≡ []) }
     {
         let root = empty_index(alloc)?;
         Ok(IndexMaker {
@@ -189,7 +189,7 @@ impl IndexMaker {
 // The index without services.
 #[tactic(auto, unfolding(crate::specs::Services::index_name, crate::specs::Services::index_decls))]
 fn empty_index(alloc: Global) -> Result<Element, NoMemory>
-    ensures { IfOk result (λ made. made ≡ index_of []) }
+    ensures index_of_no_services { IfOk result (λ made. made ≡ index_of []) }
 {
     let mut root = Element::new(alloc, name(alloc, "rls", "rls-services")?);
     root.push_decl(declaration(alloc, "rls", services_space())?)?;

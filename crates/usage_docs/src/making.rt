@@ -9,7 +9,7 @@ use xml_tree::{Decl, Name, NoMemory, Text};
 #[tactic(auto, using(crate::proofs::Words::chars_ascii))]
 fn text(alloc: Global, word: &str) -> Result<Text, NoMemory>
     requires { IsTrue (is_ascii word.now) }
-    ensures { IfOk result (λ made. made ≡ word.now) }
+    ensures text_of_these_letters { IfOk result (λ made. made ≡ word.now) }
 {
     Text::from(alloc, word)
 }
@@ -18,7 +18,7 @@ fn text(alloc: Global, word: &str) -> Result<Text, NoMemory>
 pub(crate) fn name(alloc: Global, prefix: &str, local: &str) -> Result<Name, NoMemory>
     requires prefix { IsTrue (is_ascii prefix.now) }
     requires local { IsTrue (is_ascii local.now) }
-    ensures { IfOk result (λ made. made ≡ name_of prefix.now local.now) }
+    ensures name_of_both_parts { IfOk result (λ made. made ≡ name_of prefix.now local.now) }
 {
     let prefix = text(alloc, prefix)?;
     let local = text(alloc, local)?;
@@ -29,7 +29,7 @@ pub(crate) fn name(alloc: Global, prefix: &str, local: &str) -> Result<Name, NoM
 pub(crate) fn declaration(alloc: Global, prefix: &str, uri: &str) -> Result<Decl, NoMemory>
     requires prefix { IsTrue (is_ascii prefix.now) }
     requires uri { IsTrue (is_ascii uri.now) }
-    ensures { IfOk result (λ made. made ≡ declaration_of prefix.now uri.now) }
+    ensures declares_the_prefix { IfOk result (λ made. made ≡ declaration_of prefix.now uri.now) }
 {
     let prefix = text(alloc, prefix)?;
     let uri = text(alloc, uri)?;

@@ -9,7 +9,7 @@ use xml_tree::{Around, Name};
 // The part of a child of some kind.
 #[tactic(auto, unfolding(crate::specs::Reading::Parts::part_named))]
 fn part_named(row: Kind, kind: Kind) -> u8
-    ensures { result ≡ part_named row kind }
+    ensures part_of_the_kind { result ≡ part_named row kind }
 {
     match (row, kind) {
         (Kind::ResourceLists, Kind::EntryList) => 1,
@@ -33,7 +33,7 @@ fn part_named(row: Kind, kind: Kind) -> u8
 // The part of the foreign elements.
 #[tactic(auto, unfolding(crate::specs::Reading::Parts::foreign_part))]
 fn foreign_part(row: Kind) -> u8
-    ensures { result ≡ foreign_part row }
+    ensures part_of_the_foreign { result ≡ foreign_part row }
 {
     match row {
         Kind::EntryList | Kind::Service => 3,
@@ -46,7 +46,7 @@ fn foreign_part(row: Kind) -> u8
 // How many of the first parts are of one child at most.
 #[tactic(auto, unfolding(crate::specs::Reading::Parts::single_parts))]
 fn single_parts(row: Kind) -> u8
-    ensures { result ≡ single_parts row }
+    ensures counts_the_single_parts { result ≡ single_parts row }
 {
     match row {
         Kind::Service => 2,
@@ -58,7 +58,7 @@ fn single_parts(row: Kind) -> u8
 // Whether the first part has to be there.
 #[tactic(auto, unfolding(crate::specs::Reading::Parts::needs_first))]
 fn needs_first(row: Kind) -> bool
-    ensures { result ≡ needs_first row }
+    ensures tells_whether_the_first_is_needed { result ≡ needs_first row }
 {
     matches!(row, Kind::Service)
 }
@@ -67,7 +67,7 @@ fn needs_first(row: Kind) -> bool
 /// Parts count from 1; before the first child stands part 0, behind the last one the part `END`. Takes no memory.
 #[tactic(auto, unfolding(crate::specs::Reading::Parts::follows))]
 pub fn follows(row: Kind, before: u8, next: u8) -> bool
-    ensures { result ≡ follows row before next }
+    ensures tells_whether_it_may_follow { result ≡ follows row before next }
 {
     let in_order = before < next || (before == next && single_parts(row) < next);
     let passed_over = needs_first(row) && before == 0 && 1 < next;
@@ -80,7 +80,7 @@ pub const END: u8 = 4;
 /// The part that a child belongs to, counted from 1; 0 where it may not stand. Takes no memory.
 #[tactic(auto, unfolding(crate::specs::Reading::Parts::part_of, crate::specs::Rows::child_of))]
 pub fn part_of(row: Kind, scope: &Around<'_>, name: &Name) -> u8
-    ensures { result ≡ part_of row scope.now name.now }
+    ensures part_of_the_child { result ≡ part_of row scope.now name.now }
 {
     let space = space_of(scope, name);
     match kind_by(row, space, &name.local) {
@@ -91,7 +91,7 @@ pub fn part_of(row: Kind, scope: &Around<'_>, name: &Name) -> u8
 
 // The part of a child that has no kind.
 fn part_without_kind(row: Kind, space: &str) -> u8
-    ensures { result ≡ part_in row (if is_foreign row (chars space.now) then foreign else stray) }
+    ensures part_of_what_has_no_kind { result ≡ part_in row (if is_foreign row (chars space.now) then foreign else stray) }
 {
     if is_foreign(row, space) {
         foreign_part(row)

@@ -71,7 +71,7 @@ pub(crate) fn services_space() -> &'static str
 /// The kind of a document's root.
 #[tactic(auto, unfolding(crate::specs::Rows::root_kind))]
 pub fn root_kind(usage: Usage) -> Kind
-    ensures { result ≡ root_kind usage }
+    ensures kind_of_the_root { result ≡ root_kind usage }
 {
     match usage {
         Usage::ResourceLists => Kind::ResourceLists,
@@ -112,7 +112,7 @@ fn own_space(row: Kind) -> &'static str
 // What a child of the row's namespace is, by its local name.
 #[tactic(auto, unfolding(crate::specs::Rows::child_named, crate::specs::Rows::model_of, crate::specs::Rows::word_of))]
 fn child_named(row: Kind, local: &Text) -> Option<Kind>
-    ensures { result ≡ child_named row local.now }
+    ensures kind_of_the_local_name { result ≡ child_named row local.now }
 {
     match row {
         Kind::ResourceLists => only(local, "list", Kind::EntryList),
@@ -130,7 +130,7 @@ fn child_named(row: Kind, local: &Text) -> Option<Kind>
 // This kind, where the name is this word.
 fn only(local: &Text, word: &str, kind: Kind) -> Option<Kind>
     requires { IsTrue (is_ascii word.now) }
-    ensures { result ≡ (if bytes_eq local.now word.now then Some kind else None) }
+    ensures kind_if_it_is_the_word { result ≡ (if bytes_eq local.now word.now then Some kind else None) }
 {
     if is_word(local.as_str(), word) {
         Some(kind)
@@ -142,7 +142,7 @@ fn only(local: &Text, word: &str, kind: Kind) -> Option<Kind>
 // A child of a list.
 #[tactic(auto, unfolding(crate::specs::Rows::child_named, crate::specs::Rows::model_of, crate::specs::Rows::word_of))]
 fn child_of_list(local: &Text) -> Option<Kind>
-    ensures { result ≡ child_named Kind.EntryList local.now }
+    ensures kind_in_a_list { result ≡ child_named Kind.EntryList local.now }
 {
     if is_word(local.as_str(), "display-name") {
         return Some(Kind::DisplayName);
@@ -162,7 +162,7 @@ fn child_of_list(local: &Text) -> Option<Kind>
 // A child of a service.
 #[tactic(auto, unfolding(crate::specs::Rows::child_named, crate::specs::Rows::model_of, crate::specs::Rows::word_of))]
 fn child_of_service(local: &Text) -> Option<Kind>
-    ensures { result ≡ child_named Kind.Service local.now }
+    ensures kind_in_a_service { result ≡ child_named Kind.Service local.now }
 {
     if is_word(local.as_str(), "resource-list") {
         return Some(Kind::ResourceList);
@@ -175,7 +175,7 @@ fn child_of_service(local: &Text) -> Option<Kind>
 
 // The namespace of an element's name, in the scope that ends with its own declarations.
 pub(crate) fn space_of<'a>(scope: &Around<'a>, name: &Name) -> &'a str
-    ensures { chars result.now ≡ space_of scope.now name.now }
+    ensures namespace_of_the_name { chars result.now ≡ space_of scope.now name.now }
 {
     match scope.resolve(&name.prefix) {
         Some(space) => space,
@@ -186,14 +186,14 @@ pub(crate) fn space_of<'a>(scope: &Around<'a>, name: &Name) -> &'a str
 // Whether a text is this word of ASCII.
 pub(crate) fn is_word(text: &str, word: &str) -> bool
     requires { IsTrue (is_ascii word.now) }
-    ensures { result ≡ bytes_eq (chars text.now) word.now }
+    ensures tells_whether_it_is_the_word { result ≡ bytes_eq (chars text.now) word.now }
 {
     text == word
 }
 
 // A child's kind by its expanded name.
 pub(crate) fn kind_by(row: Kind, space: &str, local: &Text) -> Option<Kind>
-    ensures { result ≡ kind_by row (chars space.now) local.now }
+    ensures kind_of_the_expanded_name { result ≡ kind_by row (chars space.now) local.now }
 {
     if is_word(space, own_space(row)) {
         child_named(row, local)
@@ -204,7 +204,7 @@ pub(crate) fn kind_by(row: Kind, space: &str, local: &Text) -> Option<Kind>
 
 // Whether an element of this namespace is foreign to the row.
 pub(crate) fn is_foreign(row: Kind, space: &str) -> bool
-    ensures { result ≡ is_foreign row (chars space.now) }
+    ensures tells_whether_it_is_foreign { result ≡ is_foreign row (chars space.now) }
 {
     !is_word(space, own_space(row)) && !is_word(space, "")
 }
@@ -213,7 +213,7 @@ pub(crate) fn is_foreign(row: Kind, space: &str) -> bool
 /// those that may not stand have none. Takes no memory.
 #[tactic(auto, unfolding(crate::specs::Rows::kind_of))]
 pub fn kind_of(row: Kind, scope: &Around<'_>, name: &Name) -> Option<Kind>
-    ensures { result ≡ kind_of row scope.now name.now }
+    ensures kind_of_the_child { result ≡ kind_of row scope.now name.now }
 {
     kind_by(row, space_of(scope, name), &name.local)
 }
@@ -221,7 +221,7 @@ pub fn kind_of(row: Kind, scope: &Around<'_>, name: &Name) -> Option<Kind>
 /// Whether a name is that of a document's root, in the scope of the root's declarations. Takes no memory.
 #[tactic(auto, unfolding(crate::specs::Rows::is_root))]
 pub fn is_root(usage: Usage, scope: &Around<'_>, name: &Name) -> bool
-    ensures { result ≡ is_root usage scope.now name.now }
+    ensures tells_whether_it_is_the_root { result ≡ is_root usage scope.now name.now }
 {
     is_word(space_of(scope, name), own_space(root_kind(usage)))
         && is_word(name.local.as_str(), root_word(usage))

@@ -23,7 +23,7 @@ pub struct ServiceUris<'a> {
 /// # Errors
 /// `NoMemory` for want of memory.
 pub fn services(alloc: Global, root: &Element) -> Result<ServiceUris<'_>, NoMemory>
-    ensures { IfOk result (λ uris. uris_left uris ≡ service_uris root.now) }
+    ensures addresses_in_order { IfOk result (λ uris. uris_left uris ≡ service_uris root.now) }
 {
     let declared = Declared::indexed(alloc, root.decls())?;
     Ok(ServiceUris {
@@ -36,7 +36,7 @@ pub fn services(alloc: Global, root: &Element) -> Result<ServiceUris<'_>, NoMemo
 // The address of a child of a root with these declarations, if it is a service.
 #[tactic(auto, unfolding(crate::specs::Services::service_uri))]
 fn service_uri<'a>(alloc: Global, root: &Declared<'_>, kid: &'a Element) -> Option<&'a str>
-    ensures { option_map (λ uri. chars uri.now) result ≡ service_uri (root.now ∷ []) kid.now }
+    ensures address_of_the_child { option_map (λ uri. chars uri.now) result ≡ service_uri (root.now ∷ []) kid.now }
 {
     if is_service(alloc, &Around::empty().inside(root), kid) {
         value_of(Key::Uri, kid.attrs())
@@ -47,7 +47,7 @@ fn service_uri<'a>(alloc: Global, root: &Declared<'_>, kid: &'a Element) -> Opti
 
 // The address of a node, if it is a service.
 fn node_uri<'a>(alloc: Global, root: &Declared<'_>, node: &'a Node) -> Option<&'a str>
-    ensures { option_map (λ uri. chars uri.now) result ≡ node_uri (root.now ∷ []) node.now }
+    ensures address_of_the_node { option_map (λ uri. chars uri.now) result ≡ node_uri (root.now ∷ []) node.now }
 {
     match node {
         Node::Elem(kid) => service_uri(alloc, root, kid),

@@ -18,14 +18,14 @@ use xml_tree::{Around, Declared, Element, NoMemory, Node, is_space};
 // Whether the row is text alone.
 #[tactic(auto, unfolding(crate::specs::Validity::takes_text, crate::specs::Rows::model_of))]
 fn takes_text(row: Kind) -> bool
-    ensures { result ≡ takes_text row }
+    ensures tells_whether_it_takes_text { result ≡ takes_text row }
 {
     matches!(row, Kind::DisplayName | Kind::ResourceList | Kind::Package)
 }
 
 // Whether a text is white space alone.
 fn is_blank(text: &str) -> bool
-    ensures { result ≡ list_all is_space (chars text.now) }
+    ensures tells_whether_it_is_blank { result ≡ list_all is_space (chars text.now) }
 {
     text.chars().all(|c| is_space(c))
 }
@@ -33,7 +33,7 @@ fn is_blank(text: &str) -> bool
 // Whether a text may stand in an element of this row.
 #[tactic(auto, unfolding(crate::specs::Validity::text_passes))]
 fn text_passes(row: Kind, text: &str) -> bool
-    ensures { result ≡ text_passes row (chars text.now) }
+    ensures tells_whether_the_text_passes { result ≡ text_passes row (chars text.now) }
 {
     takes_text(row) || is_blank(text)
 }
@@ -49,7 +49,7 @@ pub fn is_valid_in_row(
     scope: &Around<'_>,
     element: &Element,
 ) -> Result<bool, NoMemory>
-    ensures { IfOk result (λ valid. IsTrue valid ↔ ValidInRow kind scope.now element.now) }
+    ensures tells_whether_it_is_valid_in_the_row { IfOk result (λ valid. IsTrue valid ↔ ValidInRow kind scope.now element.now) }
 {
     if !attrs_pass(kind, scope, element.attrs()) {
         return Ok(false);
@@ -65,7 +65,7 @@ fn holds_row(
     scope: &Around<'_>,
     element: &Element,
 ) -> Result<bool, NoMemory>
-    ensures { IfOk result (λ valid. IsTrue valid ↔ HoldsRow kind scope.now element.now.content) }
+    ensures tells_whether_it_holds_the_row { IfOk result (λ valid. IsTrue valid ↔ HoldsRow kind scope.now element.now.content) }
 {
     let mut before = 0;
     for node in element.nodes() {
@@ -86,7 +86,7 @@ fn next_part(
     before: u8,
     node: &Node,
 ) -> Result<Option<u8>, NoMemory>
-    ensures { IfOk result (λ next. IsNextPart row scope.now before node.now next) }
+    ensures part_before_the_next_node { IfOk result (λ next. IsNextPart row scope.now before node.now next) }
 {
     match node {
         Node::Elem(kid) => kid_part(alloc, row, scope, before, kid),
@@ -97,7 +97,7 @@ fn next_part(
 
 // The same of a text.
 fn part_behind_text(row: Kind, before: u8, text: &str) -> Option<u8>
-    ensures { result ≡ (if text_passes row (chars text.now) then Some before else None) }
+    ensures part_behind_the_text { result ≡ (if text_passes row (chars text.now) then Some before else None) }
 {
     if text_passes(row, text) {
         Some(before)
@@ -115,7 +115,7 @@ fn kid_part(
     before: u8,
     kid: &Element,
 ) -> Result<Option<u8>, NoMemory>
-    ensures { IfOk result (λ next. IsNextPart row scope.now before (Elem kid.now) next) }
+    ensures part_behind_the_element { IfOk result (λ next. IsNextPart row scope.now before (Elem kid.now) next) }
 {
     let declared = Declared::indexed(alloc, kid.decls())?;
     let inside = (&*scope).inside(&declared);
@@ -137,7 +137,7 @@ fn is_valid_inside(
     inside: &Around<'_>,
     kid: &Element,
 ) -> Result<bool, NoMemory>
-    ensures { IfOk result (λ valid. IsTrue valid ↔ ForSome (kind_of row inside.now kid.now.name) (λ kind. ValidInRow kind inside.now kid.now)) }
+    ensures tells_whether_the_inside_is_valid { IfOk result (λ valid. IsTrue valid ↔ ForSome (kind_of row inside.now kid.now.name) (λ kind. ValidInRow kind inside.now kid.now)) }
 {
     match kind_of(row, inside, kid.name()) {
         Some(kind) => is_valid_in_row(alloc, kind, inside, kid),
@@ -156,7 +156,7 @@ pub fn is_valid_child(
     scope: &Around<'_>,
     kid: &Element,
 ) -> Result<bool, NoMemory>
-    ensures { IfOk result (λ valid. IsTrue valid ↔ ValidChild row scope.now kid.now) }
+    ensures tells_whether_the_child_is_valid { IfOk result (λ valid. IsTrue valid ↔ ValidChild row scope.now kid.now) }
 {
     let declared = Declared::indexed(alloc, kid.decls())?;
     let inside = (&*scope).inside(&declared);
@@ -170,7 +170,7 @@ fn is_valid_root(
     scope: &Around<'_>,
     root: &Element,
 ) -> Result<bool, NoMemory>
-    ensures { IfOk result (λ valid. IsTrue valid ↔ (IsTrue (is_root usage scope.now root.now.name) × ValidInRow (root_kind usage) scope.now root.now)) }
+    ensures tells_whether_the_root_is_valid { IfOk result (λ valid. IsTrue valid ↔ (IsTrue (is_root usage scope.now root.now.name) × ValidInRow (root_kind usage) scope.now root.now)) }
 {
     if !is_root(usage, scope, root.name()) {
         return Ok(false);
@@ -183,7 +183,7 @@ fn is_valid_root(
 /// # Errors
 /// `NoMemory` for want of memory.
 pub fn schema(alloc: Global, usage: Usage, root: &Element) -> Result<bool, NoMemory>
-    ensures { IfOk result (λ valid. IsTrue valid ↔ Schema usage root.now) }
+    ensures tells_whether_it_is_valid { IfOk result (λ valid. IsTrue valid ↔ Schema usage root.now) }
 {
     let declared = Declared::indexed(alloc, root.decls())?;
     is_valid_root(alloc, usage, &Around::empty().inside(&declared), root)

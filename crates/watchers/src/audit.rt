@@ -21,14 +21,14 @@ pub struct Audit<S: Sink> {
 impl<S: Sink> Audit<S> {
     /// Writes to this sink. Takes no memory; each line takes it from `alloc`.
     pub fn new(alloc: Global, sink: S) -> Audit<S>
-        ensures { result.sink ≡ sink }
+        ensures writes_to_the_sink { result.sink ≡ sink }
     {
         Audit { alloc, sink }
     }
 
     /// The sink, lent. Takes no memory.
     pub fn sink(&self) -> &S
-        ensures { result.now ≡ self.now.sink }
+        ensures lends_the_sink { result.now ≡ self.now.sink }
     {
         &self.sink
     }
@@ -46,7 +46,7 @@ impl<S: Sink + Drop> Watcher for Audit<S> {
     ghost holds = { λ _ _. None };
 
     fn told(&mut self, doc: &DocId, note: &EditNote) -> Told
-        ensures { Audits (S.state self.old.sink) (record { doc = doc.now; note = note.now }) result (S.state self.new.sink) }
+        ensures audits_the_change { Audits (S.state self.old.sink) (record { doc = doc.now; note = note.now }) result (S.state self.new.sink) }
     {
         let line = match line_of(self.alloc, doc, note) {
             Ok(line) => line,

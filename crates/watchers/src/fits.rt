@@ -10,13 +10,13 @@ use edit_ops::Change;
 use xml_tree::{Attr, Element, Name, Path, element_at};
 
 fn has_element(root: &Element, path: &Path) -> bool
-    ensures { IsTrue result ↔ IsSome (at path.now root.now) }
+    ensures tells_whether_the_element_is_there { IsTrue result ↔ IsSome (at path.now root.now) }
 {
     element_at(root, path).is_some()
 }
 
 fn has_gap(root: &Element, parent: &Path, gap: usize) -> bool
-    ensures { IsTrue result ↔ IsSomeAnd (at parent.now root.now) (λ element. gap ≤ length (kids_of element)) }
+    ensures tells_whether_the_gap_is_there { IsTrue result ↔ IsSomeAnd (at parent.now root.now) (λ element. gap ≤ length (kids_of element)) }
 {
     match element_at(root, parent) {
         Some(element) => gap == 0 || element.kid(gap - 1).is_some(),
@@ -25,13 +25,13 @@ fn has_gap(root: &Element, parent: &Path, gap: usize) -> bool
 }
 
 fn names_one(attrs: &[Attr], name: &Name) -> bool
-    ensures { result ≡ list_any (is_named name.now) attrs.now }
+    ensures tells_whether_one_has_the_name { result ≡ list_any (is_named name.now) attrs.now }
 {
     attrs.iter().any(|attr| attr.name.same(name))
 }
 
 fn has_attr(root: &Element, path: &Path, name: &Name) -> bool
-    ensures { IsTrue result ↔ IsSome (attr_at path.now name.now root.now) }
+    ensures tells_whether_the_attribute_is_there { IsTrue result ↔ IsSome (attr_at path.now name.now root.now) }
 {
     match element_at(root, path) {
         Some(element) => names_one(element.attrs(), name),
@@ -41,7 +41,7 @@ fn has_attr(root: &Element, path: &Path, name: &Name) -> bool
 
 /// Whether the change is one of the tree: its place, gap and dropped attribute are there, and the root isn't to be removed.
 pub(crate) fn fits(root: &Element, change: &Change) -> bool
-    ensures { IsTrue result ↔ Fits root.now change.now }
+    ensures tells_whether_it_fits { IsTrue result ↔ Fits root.now change.now }
 {
     match change {
         Change::CreateDocument { root: _ } | Change::RemoveDocument => false,

@@ -11,7 +11,7 @@ use xml_tree::{Name, Path, print_path};
 
 // Adds a name as it is written.
 fn push_name(line: &mut String, name: &Name) -> Result<(), AllocError>
-    ensures { OnOk result (string_bytes line.new ≡ string_bytes line.old ++ encode_utf8_all (print_name name.now)) }
+    ensures adds_the_name { OnOk result (string_bytes line.new ≡ string_bytes line.old ++ encode_utf8_all (print_name name.now)) }
 {
     if name.prefix.is_empty() {
         return line.push_str(name.local.as_str());
@@ -24,7 +24,7 @@ fn push_name(line: &mut String, name: &Name) -> Result<(), AllocError>
 
 // Adds a word, a space and the selector of a place.
 fn push_place(alloc: Global, line: &mut String, word: &str, path: &Path) -> Result<(), AllocError>
-    ensures { OnOk result (string_bytes line.new ≡ string_bytes line.old ++ place_bytes word.now path.now) }
+    ensures adds_the_place { OnOk result (string_bytes line.new ≡ string_bytes line.old ++ place_bytes word.now path.now) }
 {
     let place = print_path(alloc, path)?;
     line.push_str(word)?;
@@ -39,7 +39,7 @@ fn push_new_place(
     parent: &Path,
     gap: usize,
 ) -> Result<(), AllocError>
-    ensures { OnOk result (string_bytes line.new ≡ string_bytes line.old ++ place_bytes (codes "insert") (parent.now ++ gap ∷ [])) }
+    ensures adds_the_new_place { OnOk result (string_bytes line.new ≡ string_bytes line.old ++ place_bytes (codes "insert") (parent.now ++ gap ∷ [])) }
 {
     push_place(alloc, line, "insert", parent)?;
     let step = format!(in alloc; "/*[{}]", gap as u128 + 1)?;
@@ -49,7 +49,7 @@ fn push_new_place(
 
 // Adds `/@` and the name of an attribute.
 fn push_attr(line: &mut String, name: &Name) -> Result<(), AllocError>
-    ensures { OnOk result (string_bytes line.new ≡ string_bytes line.old ++ attr_bytes name.now) }
+    ensures adds_the_attribute { OnOk result (string_bytes line.new ≡ string_bytes line.old ++ attr_bytes name.now) }
 {
     line.push_str("/@")?;
     push_name(line, name)
@@ -57,7 +57,7 @@ fn push_attr(line: &mut String, name: &Name) -> Result<(), AllocError>
 
 // Adds the word and the place of a change.
 fn push_change(alloc: Global, line: &mut String, change: &Change) -> Result<(), AllocError>
-    ensures { OnOk result (string_bytes line.new ≡ string_bytes line.old ++ change_bytes change.now) }
+    ensures adds_the_change { OnOk result (string_bytes line.new ≡ string_bytes line.old ++ change_bytes change.now) }
 {
     match change {
         Change::CreateDocument { .. } => line.push_str("create"),
@@ -79,7 +79,7 @@ fn push_change(alloc: Global, line: &mut String, change: &Change) -> Result<(), 
 /// The line about a change: its number, the document's printed id, a word, and for all but a document that is made or
 /// removed the place of the change as a selector.
 pub(crate) fn line_of(alloc: Global, doc: &DocId, note: &EditNote) -> Result<String, AllocError>
-    ensures { IfOk result (λ line. string_bytes line ≡ line_bytes (record { doc = doc.now; note = note.now })) }
+    ensures line_of_the_change { IfOk result (λ line. string_bytes line ≡ line_bytes (record { doc = doc.now; note = note.now })) }
 {
     let id = print_doc_id(alloc, doc)?;
     let mut line = format!(in alloc; "{} ", note.next)?;

@@ -61,7 +61,7 @@ fn follow(
 impl Mirror {
     /// A mirror that holds nothing. Takes no memory; what it holds later takes it from `alloc`.
     pub fn new(alloc: Global) -> Mirror
-        ensures { result ≡ [] }
+        ensures holds_no_documents { result ≡ [] }
     {
         Mirror {
             alloc,
@@ -71,7 +71,7 @@ impl Mirror {
 
     /// The tree that it holds of a document, and the number of the change that made it. Takes no memory.
     pub fn get(&self, doc: &DocId) -> Option<(&Element, u64)>
-        ensures { option_map (λ held. (held.0.now, held.1)) result ≡ held_in self.now doc.now }
+        ensures lends_what_is_held { option_map (λ held. (held.0.now, held.1)) result ≡ held_in self.now doc.now }
     {
         let held = self.held.get(doc)?;
         Some((&held.tree, held.number))

@@ -32,7 +32,7 @@ impl Model for Recorder {
 impl Recorder {
     /// A recorder that was told nothing. Takes no memory; what it keeps later takes it from `alloc`.
     pub fn new(alloc: Global) -> Recorder
-        ensures { result ≡ [] }
+        ensures was_told_nothing { result ≡ [] }
     {
         Recorder {
             alloc,
@@ -42,7 +42,7 @@ impl Recorder {
 
     /// The changes, lent. Takes no memory.
     pub fn edits(&self) -> &[Edit]
-        ensures { result.now ≡ self.now }
+        ensures lends_the_changes { result.now ≡ self.now }
     {
         &self.edits
     }

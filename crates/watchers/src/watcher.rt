@@ -53,5 +53,5 @@ pub trait Watcher: Drop {
     /// The tree that it holds of a document, and the number of the change that made it; None for a watcher that holds no
     /// trees. Takes no memory.
     fn kept(&self, doc: &DocId) -> Option<(&Element, u64)>
-        ensures { option_map (λ held. (held.0.now, held.1)) result ≡ holds self.now doc.now };
+        ensures lends_what_it_holds { option_map (λ held. (held.0.now, held.1)) result ≡ holds self.now doc.now };
 }

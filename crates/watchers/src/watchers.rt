@@ -15,7 +15,7 @@ pub trait Watchers {
 
     /// Tells them of a change.
     fn tell(&mut self, edit: &Edit)
-        ensures { keeps (edit.now ∷ []) self.old self.new };
+        ensures told_of_the_change { keeps (edit.now ∷ []) self.old self.new };
 
     /// Where nothing is told they stay.
     ghost none: { (w : Self) → keeps [] w w };

@@ -33,7 +33,7 @@ fn fill<I: Source>(input: &mut I, buffer: &mut [u8]) -> Result<usize, Failed>
 // Reads the input to its end, or until the buffer is full, and answers whether it is a document.
 fn examine_in<I: Source>(alloc: Global, usage: Usage, input: &mut I, buffer: &mut [u8]) -> Exit
     requires { length buffer.old ≡ 262_145 }
-    ensures { Examines usage result (I.state input.old) (I.state input.new) }
+    ensures examines_the_input { Examines usage result (I.state input.old) (I.state input.new) }
 {
     let Ok(length) = fill(input, buffer) else {
         return Exit::InputFailed;
@@ -46,7 +46,7 @@ fn examine_in<I: Source>(alloc: Global, usage: Usage, input: &mut I, buffer: &mu
 
 // The same with a buffer that has room for one byte more than a document may have.
 fn examine<I: Source>(alloc: Global, usage: Usage, input: &mut I) -> Exit
-    ensures { Examines usage result (I.state input.old) (I.state input.new) }
+    ensures examines_with_enough_room { Examines usage result (I.state input.old) (I.state input.new) }
 {
     match vec![in alloc; 0; GREATEST_LENGTH + 1] {
         Ok(mut buffer) => examine_in(alloc, usage, input, &mut buffer),
@@ -62,7 +62,7 @@ pub(crate) fn check<I: Source, O: Sink>(
     input: &mut I,
     output: &mut O,
 ) -> Exit
-    ensures { Checks usage result (I.state input.old) (I.state input.new) (O.state output.old) (O.state output.new) }
+    ensures checks_the_input { Checks usage result (I.state input.old) (I.state input.new) (O.state output.old) (O.state output.new) }
 {
     match examine(alloc, usage, input) {
         Exit::Done => print(output, b"valid\n"),

@@ -33,7 +33,7 @@ pub(crate) enum Words {
 
 impl Words {
     pub(crate) fn as_slice(&self) -> &[u8]
-        ensures { result.now ≡ said self.now }
+        ensures lends_the_words { result.now ≡ said self.now }
     {
         match self {
             Words::Fixed(words) => words,
@@ -48,7 +48,7 @@ const USAGE: &[u8] =
 impl Exit {
     /// The status that the program ends with.
     pub fn status(&self) -> u8
-        ensures { result ≡ status_of self.now }
+        ensures status_of_the_exit { result ≡ status_of self.now }
     {
         match self {
             Exit::Done => 0,

@@ -29,7 +29,7 @@ fn exit_of(fault: Option<Fault>) -> Exit
 // How it ends where a text spells this tree.
 fn judge_tree(alloc: Global, usage: Usage, root: &Element) -> Result<Exit, AllocError>
     requires { height root.now ≤ 64 }
-    ensures { IfOk result (λ exit. TreeVerdict usage root.now exit) }
+    ensures judges_the_tree { IfOk result (λ exit. TreeVerdict usage root.now exit) }
 {
     let fault = usage_docs::judge(alloc, usage, root)?;
     Ok(exit_of(fault))
@@ -37,7 +37,7 @@ fn judge_tree(alloc: Global, usage: Usage, root: &Element) -> Result<Exit, Alloc
 
 // How the command ends where a text spells no tree.
 fn judge_fault(fault: TextFault) -> Exit
-    ensures { FaultVerdict fault result }
+    ensures judges_the_fault { FaultVerdict fault result }
 {
     match fault {
         TextFault::NotUtf8 => Exit::Refused(Refusal::NotUtf8),
@@ -51,7 +51,7 @@ fn judge_fault(fault: TextFault) -> Exit
 
 /// `Done` where the text is a document of the usage, and else why it isn't, or that memory was wanted.
 pub(crate) fn judge(alloc: Global, usage: Usage, text: &[u8]) -> Exit
-    ensures { TextVerdict usage text.now result ⊎ (result ≡ Exit.OutOfMemory) }
+    ensures judges_the_text { TextVerdict usage text.now result ⊎ (result ≡ Exit.OutOfMemory) }
 {
     match read_document(alloc, text, LEVELS) {
         Ok(root) => judge_tree(alloc, usage, &root).unwrap_or(Exit::OutOfMemory),

@@ -25,7 +25,7 @@ pub enum Refusal {
 
 // The words about an element whose key repeats that of a sibling.
 fn clash_words(alloc: Global, clash: &Clash) -> Result<String, AllocError>
-    ensures { IfOk result (λ words. string_bytes words ≡ clash_words clash.now) }
+    ensures words_about_the_clash { IfOk result (λ words. string_bytes words ≡ clash_words clash.now) }
 {
     let place = print_path(alloc, &clash.path)?;
     let mut words = String::from_str(alloc, "uniqueness-failure ")?;
@@ -42,7 +42,7 @@ impl Refusal {
     /// # Errors
     /// `NoMemory` for want of memory.
     pub(crate) fn words(&self, alloc: Global) -> Result<String, AllocError>
-        ensures { IfOk result (λ words. string_bytes words ≡ refusal_words self.now) }
+        ensures words_about_the_reason { IfOk result (λ words. string_bytes words ≡ refusal_words self.now) }
     {
         match self {
             Refusal::TooLarge => String::from_str(alloc, "too-large\n"),

@@ -15,7 +15,7 @@ use xcap_uri::Root;
 
 // How the command ends with its connection.
 fn exit_of(ended: Ended) -> Exit
-    ensures { result ≡ exit_of ended }
+    ensures exit_of_the_connection { result ≡ exit_of ended }
 {
     match ended {
         Ended::Closed => Exit::Done,
@@ -31,7 +31,7 @@ fn serve_pair<I: Source, O: Sink, W: Watchers>(
     output: &mut O,
     watchers: &mut W,
 ) -> Ended
-    ensures { (m : State) → Kept m → Stands server.old.content m → ServesInput W.keeps server.old.root m result
+    ensures serves_the_input { (m : State) → Kept m → Stands server.old.content m → ServesInput W.keeps server.old.root m result
         (I.state input.old) (I.state input.new) (O.state output.old) (O.state output.new) watchers.old watchers.new }
 {
     let mut pair = Pair::new(input, output);
@@ -46,7 +46,7 @@ fn replay_by<I: Source, O: Sink, W: Watchers>(
     watchers: &mut W,
 ) -> Exit
     requires { server.old.content ≡ record { documents = []; next = 1 } }
-    ensures { Replays W.keeps server.old.root result
+    ensures replays_by_the_server { Replays W.keeps server.old.root result
         (I.state input.old) (I.state input.new) (O.state output.old) (O.state output.new) watchers.old watchers.new }
 {
     exit_of(serve_pair(server, input, output, watchers))
@@ -61,7 +61,7 @@ pub(crate) fn replay<I: Source, O: Sink, W: Watchers>(
     output: &mut O,
     watchers: &mut W,
 ) -> Exit
-    ensures { Replays W.keeps root.now result
+    ensures replays_the_input { Replays W.keeps root.now result
         (I.state input.old) (I.state input.new) (O.state output.old) (O.state output.new) watchers.old watchers.new }
 {
     let Ok(mut server) = Server::new(alloc, root, 1) else {

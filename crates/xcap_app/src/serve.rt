@@ -29,7 +29,7 @@ fn write_served<O: Sink>(output: &mut O, connections: u64) -> Result<(), Failed>
 
 // How the command ends that has served so many connections. It takes no memory.
 fn print_served<O: Sink>(output: &mut O, connections: u64) -> Exit
-    ensures { Prints (served_line connections) result (O.state output.old) (O.state output.new) }
+    ensures prints_how_many_were_served { Prints (served_line connections) result (O.state output.old) (O.state output.new) }
 {
     match write_served(output, connections) {
         Ok(()) => Exit::Done,
@@ -47,7 +47,7 @@ fn serve_at<P: Port, O: Sink, W: Watchers>(
     watchers: &mut W,
 ) -> Exit
     requires { server.old.content ≡ record { documents = []; next = 1 } }
-    ensures { Serves W.keeps address.now server.old.root count result
+    ensures serves_at_the_address { Serves W.keeps address.now server.old.root count result
         (P.state port.old) (P.state port.new) (O.state output.old) (O.state output.new) watchers.old watchers.new }
 {
     if let Err(Failed) = port.listen(address) {
@@ -72,7 +72,7 @@ pub(crate) fn serve<P: Port, O: Sink, W: Watchers>(
     output: &mut O,
     watchers: &mut W,
 ) -> Exit
-    ensures { Serves W.keeps address.now root.now count result
+    ensures serves_by_a_new_server { Serves W.keeps address.now root.now count result
         (P.state port.old) (P.state port.new) (O.state output.old) (O.state output.new) watchers.old watchers.new }
 {
     let Ok(mut server) = Server::new(alloc, root, 1) else {

@@ -8,7 +8,7 @@ use xcap_io::{Failed, Sink, write_all};
 
 /// How a command ends that has written its output.
 pub(crate) fn print<O: Sink>(output: &mut O, bytes: &[u8]) -> Exit
-    ensures { Prints bytes.now result (O.state output.old) (O.state output.new) }
+    ensures prints_the_bytes { Prints bytes.now result (O.state output.old) (O.state output.new) }
 {
     match write_all(output, bytes) {
         Ok(()) => Exit::Done,
@@ -18,7 +18,7 @@ pub(crate) fn print<O: Sink>(output: &mut O, bytes: &[u8]) -> Exit
 
 // Writes the words. That the stream failed changes nothing else, so it isn't answered.
 fn tell<E: Sink>(errors: &mut E, words: &[u8])
-    ensures { Tells words.now (E.state errors.old) (E.state errors.new) }
+    ensures tells_the_words { Tells words.now (E.state errors.old) (E.state errors.new) }
 {
     let _ = write_all(errors, words);
 }

@@ -26,7 +26,7 @@ fn execute<P: Port, I: Source, O: Sink, W: Watchers>(
     output: &mut O,
     watchers: &mut W,
 ) -> Exit
-    ensures { Runs W.keeps (Some command.now) result (P.state port.old) (P.state port.new)
+    ensures runs_the_command { Runs W.keeps (Some command.now) result (P.state port.old) (P.state port.new)
         (I.state input.old) (I.state input.new) (O.state output.old) (O.state output.new) watchers.old watchers.new }
 {
     match command {
@@ -57,7 +57,7 @@ fn execute_words<P: Port, I: Source, O: Sink, W: Watchers>(
     output: &mut O,
     watchers: &mut W,
 ) -> Exit
-    ensures { Runs W.keeps (command_of (map string_bytes words.now)) result (P.state port.old) (P.state port.new)
+    ensures runs_what_the_words_spell { Runs W.keeps (command_of (map string_bytes words.now)) result (P.state port.old) (P.state port.new)
         (I.state input.old) (I.state input.new) (O.state output.old) (O.state output.new) watchers.old watchers.new }
 {
     match command_of(alloc, words) {

@@ -14,7 +14,7 @@ const GREATEST_COUNT: u64 = 1_000_000;
 // The COUNT that a word is.
 #[tactic(auto, unfolding(crate::specs::Commands::count_of))]
 fn count_of(word: &str) -> Option<u64>
-    ensures { result ≡ count_of word.now }
+    ensures reads_the_count { result ≡ count_of word.now }
 {
     let number = numeral(word.as_bytes())?;
     if number > GREATEST_COUNT {
@@ -26,7 +26,7 @@ fn count_of(word: &str) -> Option<u64>
 // The usage that a word names.
 #[tactic(auto, unfolding(crate::specs::Commands::lists_word, crate::specs::Commands::services_word))]
 fn usage_of(word: &str) -> Option<Usage>
-    ensures { result ≡ usage_of word.now }
+    ensures names_the_usage { result ≡ usage_of word.now }
 {
     if word == "resource-lists" {
         return Some(Usage::ResourceLists);
@@ -40,7 +40,7 @@ fn usage_of(word: &str) -> Option<Usage>
 // The root that a word is.
 #[tactic(auto, unfolding(crate::specs::Commands::root_of))]
 fn root_of(alloc: Global, word: &str) -> Result<Option<Root>, AllocError>
-    ensures { IfOk result (λ root. root ≡ root_of word.now) }
+    ensures reads_the_root { IfOk result (λ root. root ≡ root_of word.now) }
 {
     match read_root(alloc, word) {
         Ok(root) => Ok(Some(root)),
@@ -51,7 +51,7 @@ fn root_of(alloc: Global, word: &str) -> Result<Option<Root>, AllocError>
 
 // What `replay` and a word spell.
 fn replay_of(alloc: Global, root: &str) -> Result<Option<Command>, AllocError>
-    ensures { IfOk result (λ command. command ≡ replay_of root.now) }
+    ensures reads_a_replay { IfOk result (λ command. command ≡ replay_of root.now) }
 {
     match root_of(alloc, root)? {
         Some(root) => Ok(Some(Command::Replay { root })),
@@ -61,7 +61,7 @@ fn replay_of(alloc: Global, root: &str) -> Result<Option<Command>, AllocError>
 
 // What `check` and a word spell.
 fn check_of(word: &str) -> Option<Command>
-    ensures { result ≡ check_of word.now }
+    ensures reads_a_check { result ≡ check_of word.now }
 {
     let usage = usage_of(word)?;
     Some(Command::Check { usage })
@@ -74,7 +74,7 @@ fn serve_of(
     root: &str,
     count: &str,
 ) -> Result<Option<Command>, AllocError>
-    ensures { IfOk result (λ command. command ≡ serve_of address.now root.now count.now) }
+    ensures reads_a_serve { IfOk result (λ command. command ≡ serve_of address.now root.now count.now) }
 {
     if address.is_empty() {
         return Ok(None);
@@ -96,7 +96,7 @@ fn serve_of(
 // What two words spell.
 #[tactic(auto, unfolding(crate::specs::Commands::of_two, crate::specs::Commands::replay_word, crate::specs::Commands::check_word))]
 fn of_two(alloc: Global, name: &str, word: &str) -> Result<Option<Command>, AllocError>
-    ensures { IfOk result (λ command. command ≡ of_two name.now word.now) }
+    ensures reads_two_words { IfOk result (λ command. command ≡ of_two name.now word.now) }
 {
     if name == "replay" {
         return replay_of(alloc, word);
@@ -116,7 +116,7 @@ fn of_four(
     root: &str,
     count: &str,
 ) -> Result<Option<Command>, AllocError>
-    ensures { IfOk result (λ command. command ≡ of_four name.now address.now root.now count.now) }
+    ensures reads_four_words { IfOk result (λ command. command ≡ of_four name.now address.now root.now count.now) }
 {
     if name == "serve" {
         return serve_of(alloc, address, root, count);
@@ -129,7 +129,7 @@ fn of_four(
 /// # Errors
 /// `NoMemory` for want of memory.
 pub(crate) fn command_of(alloc: Global, words: &[String]) -> Result<Option<Command>, AllocError>
-    ensures { IfOk result (λ command. command ≡ command_of (map string_bytes words.now)) }
+    ensures reads_the_command { IfOk result (λ command. command ≡ command_of (map string_bytes words.now)) }
 {
     match words {
         [name, word] => of_two(alloc, name.as_str(), word.as_str()),

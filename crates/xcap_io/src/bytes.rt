@@ -23,7 +23,7 @@ impl Model for Bytes {
 impl Bytes {
     /// No bytes. Takes no memory.
     pub fn new(alloc: Global) -> Bytes
-        ensures { result ≡ [] }
+        ensures holds_no_bytes { result ≡ [] }
     {
         Bytes {
             inner: Vec::new(alloc),
@@ -32,7 +32,7 @@ impl Bytes {
 
     /// A copy of these bytes.
     pub fn from(alloc: Global, bytes: &[u8]) -> Result<Bytes, NoMemory>
-        ensures { IfOk result (λ copy. copy ≡ bytes.now) }
+        ensures copies_the_bytes { IfOk result (λ copy. copy ≡ bytes.now) }
     {
         let inner = Vec::from_slice(alloc, bytes)?;
         Ok(Bytes { inner })
@@ -40,14 +40,14 @@ impl Bytes {
 
     /// The bytes of a vector, as they are. Takes no memory.
     pub fn own(inner: Vec<u8>) -> Bytes
-        ensures { result ≡ inner.items }
+        ensures holds_the_bytes { result ≡ inner.items }
     {
         Bytes { inner }
     }
 
     /// The vector of the bytes. Takes no memory.
     pub fn into_vec(self) -> Vec<u8>
-        ensures { result.items ≡ self }
+        ensures hands_out_the_bytes { result.items ≡ self }
     {
         let Bytes { inner } = self;
         inner
@@ -55,28 +55,28 @@ impl Bytes {
 
     /// The bytes, lent.
     pub fn as_slice(&self) -> &[u8]
-        ensures { result.now ≡ self.now }
+        ensures lends_the_bytes { result.now ≡ self.now }
     {
         self.inner.as_slice()
     }
 
     /// How many bytes there are.
     pub fn len(&self) -> usize
-        ensures { result ≡ length self.now }
+        ensures counts_the_bytes { result ≡ length self.now }
     {
         self.inner.len()
     }
 
     /// Equal bytes.
     pub fn copy(&self, alloc: Global) -> Result<Bytes, NoMemory>
-        ensures { IfOk result (λ copy. copy ≡ self.now) }
+        ensures makes_equal_bytes { IfOk result (λ copy. copy ≡ self.now) }
     {
         Bytes::from(alloc, self.as_slice())
     }
 
     /// Adds a byte at the end. After a refusal the bytes are as before.
     pub fn push(&mut self, byte: u8) -> Result<(), NoMemory>
-        ensures { MatchResult result (λ _. self.new ≡ self.old ++ byte ∷ []) (λ _. self.new ≡ self.old) }
+        ensures adds_the_byte_or_nothing { MatchResult result (λ _. self.new ≡ self.old ++ byte ∷ []) (λ _. self.new ≡ self.old) }
     {
         self.inner.push(byte)?;
         Ok(())
@@ -84,7 +84,7 @@ impl Bytes {
 
     /// Adds bytes at the end. After a refusal the bytes are as before.
     pub fn extend(&mut self, bytes: &[u8]) -> Result<(), NoMemory>
-        ensures { MatchResult result (λ _. self.new ≡ self.old ++ bytes.now) (λ _. self.new ≡ self.old) }
+        ensures adds_the_bytes_or_nothing { MatchResult result (λ _. self.new ≡ self.old ++ bytes.now) (λ _. self.new ≡ self.old) }
     {
         self.inner.extend_from_slice(bytes)
     }

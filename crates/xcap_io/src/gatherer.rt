@@ -28,7 +28,7 @@ impl Model for Gatherer {
 impl Gatherer {
     /// Nothing is held.
     pub fn new() -> Gatherer
-        ensures { result ≡ [] }
+        ensures holds_nothing { result ≡ [] }
     {
         Gatherer {
             bytes: [0; 8192],
@@ -38,26 +38,26 @@ impl Gatherer {
 
     /// The bytes that are held.
     pub fn as_slice(&self) -> &[u8]
-        ensures { result.now ≡ self.now }
+        ensures lends_what_is_held { result.now ≡ self.now }
     {
         &self.bytes[..self.held]
     }
 
     fn room(&self) -> usize
-        ensures { result ≡ 8192 - length self.now }
+        ensures counts_the_room { result ≡ 8192 - length self.now }
     {
         ROOM - self.held
     }
 
     fn clear(&mut self)
-        ensures { self.new ≡ [] }
+        ensures lets_all_go { self.new ≡ [] }
     {
         self.held = 0;
     }
 
     fn hold(&mut self, piece: &[u8])
         requires { length piece.now ≤ 8192 - length self.old }
-        ensures { self.new ≡ self.old ++ piece.now }
+        ensures holds_the_piece_behind { self.new ≡ self.old ++ piece.now }
     {
         let end = self.held + piece.len();
         self.bytes[self.held..end].copy_from_slice(piece);
@@ -80,7 +80,7 @@ pub fn flush<S: Sink>(sink: &mut S, gatherer: &mut Gatherer) -> Result<(), Faile
 /// After `Failed` a proper prefix of what was held and the piece was taken.
 #[tactic(auto, using(crate::proofs::Adding::adding))]
 pub fn put<S: Sink>(sink: &mut S, gatherer: &mut Gatherer, piece: &[u8]) -> Result<(), Failed>
-    ensures { Adds (S.state sink.old) gatherer.old (S.state sink.new) gatherer.new result piece.now }
+    ensures adds_the_piece_in_order { Adds (S.state sink.old) gatherer.old (S.state sink.new) gatherer.new result piece.now }
 {
     if piece.len() <= gatherer.room() {
         gatherer.hold(piece);

@@ -58,7 +58,7 @@ impl MemLine {
         room: usize,
     ) -> Result<MemLine, NoMemory>
         requires { 0 < step }
-        ensures { IfOk result (λ line. line ≡ record {
+        ensures gives_these_bytes { IfOk result (λ line. line ≡ record {
           left = bytes.now;
           step = step;
           until_fault = read_fails_at;
@@ -85,14 +85,14 @@ impl MemLine {
 
     /// What writes have handed over. Takes no memory.
     pub fn sent(&self) -> &[u8]
-        ensures { result.now ≡ self.now.taken }
+        ensures lends_what_was_sent { result.now ≡ self.now.taken }
     {
         &self.output[..self.held]
     }
 
     /// Forgets what has passed, as a connection over this line begins.
     pub(crate) fn begin(&mut self)
-        ensures { self.new ≡ begun_anew self.old }
+        ensures begins_anew { self.new ≡ begun_anew self.old }
     {
         self.held = 0;
         self.log = Log::new();

@@ -38,7 +38,7 @@ impl Model for MemLines {
 impl MemLines {
     /// Lines of which none has begun.
     pub(crate) fn new(lines: Vec<MemLine>) -> MemLines
-        ensures { result ≡ record { lines = lines.items; present = None; read_faults = 0; write_faults = 0 } }
+        ensures none_has_begun { result ≡ record { lines = lines.items; present = None; read_faults = 0; write_faults = 0 } }
     {
         MemLines {
             lines,
@@ -50,14 +50,14 @@ impl MemLines {
 
     /// The line of this number, from 0.
     pub(crate) fn line(&self, i: usize) -> Option<&MemLine>
-        ensures { option_copied result ≡ slice_get self.now.lines i }
+        ensures line_of_that_number { option_copied result ≡ slice_get self.now.lines i }
     {
         self.lines.get(i)
     }
 
     /// Begins the first line that is to come. False where none is.
     pub(crate) fn begin_next(&mut self) -> bool
-        ensures { BeginsLine self.old self.new result }
+        ensures begins_the_next { BeginsLine self.old self.new result }
     {
         let at = match self.present {
             Some(present) => present + 1,

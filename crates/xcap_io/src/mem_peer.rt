@@ -44,7 +44,7 @@ impl MemPeer {
     /// A `connect` fails where no line is left, and of the calls, counted from 1, the one of the number `connect_fails_at` does.
     /// Takes no memory.
     pub fn new(lines: Vec<MemLine>, connect_fails_at: Option<usize>) -> MemPeer
-        ensures { result ≡ record {
+        ensures connects_over_these_lines { result ≡ record {
           lines = record { lines = lines.items; present = None; read_faults = 0; write_faults = 0 };
           until_fault = connect_fails_at;
           addresses = [];
@@ -61,7 +61,7 @@ impl MemPeer {
 
     /// The line of this number, from 0. Takes no memory.
     pub fn line(&self, i: usize) -> Option<&MemLine>
-        ensures { option_copied result ≡ slice_get self.now.lines.lines i }
+        ensures line_of_that_connection { option_copied result ≡ slice_get self.now.lines.lines i }
     {
         self.lines.line(i)
     }

@@ -42,7 +42,7 @@ impl MemPort {
     /// Every `listen` fails where `listen_fails`, and of the calls of `next`, counted from 1, the one of the number `next_fails_at`.
     /// Takes no memory.
     pub fn new(lines: Vec<MemLine>, listen_fails: bool, next_fails_at: Option<usize>) -> MemPort
-        ensures { result ≡ record {
+        ensures takes_these_lines { result ≡ record {
           lines = record { lines = lines.items; present = None; read_faults = 0; write_faults = 0 };
           listen_fails = listen_fails;
           until_fault = next_fails_at;
@@ -61,7 +61,7 @@ impl MemPort {
 
     /// The line of this number, from 0. Takes no memory.
     pub fn line(&self, i: usize) -> Option<&MemLine>
-        ensures { option_copied result ≡ slice_get self.now.lines.lines i }
+        ensures line_of_that_client { option_copied result ≡ slice_get self.now.lines.lines i }
     {
         self.lines.line(i)
     }

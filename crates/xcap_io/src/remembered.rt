@@ -17,13 +17,13 @@ impl Model for Remembered {
 impl Remembered {
     /// Nothing yet.
     pub(crate) fn new() -> Remembered
-        ensures { result.texts ≡ [] }
+        ensures remembers_nothing { result.texts ≡ [] }
     {
         Remembered {}
     }
 
     /// One address more.
     pub(crate) fn add(&mut self, _text: &[u8])
-        ensures { self.new.texts ≡ _text.now ∷ self.old.texts }
+        ensures remembers_the_address { self.new.texts ≡ _text.now ∷ self.old.texts }
     {}
 }

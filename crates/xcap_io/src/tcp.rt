@@ -180,7 +180,7 @@ fn write_to<S: Write>(
 
 // The next connection, which this may wait for; nothing where nobody listens, or it failed.
 fn accept_next<L: OpenListener>(listener: &Option<L>) -> Option<L::Stream>
-    ensures { IfSome result (λ _. IsSome listener.now) }
+    ensures only_while_it_listens { IfSome result (λ _. IsSome listener.now) }
 {
     match listener {
         Some(listener) => match listener.accept() {

@@ -65,7 +65,7 @@ impl Service {
 
     // A law: what is held stands for a state that is kept.
     pub(crate) fn stands(&self)
-        ensures { (m : State) × Stands self.now.content m × Kept m }
+        ensures stands_for_a_kept_state { (m : State) × Stands self.now.content m × Kept m }
     {
         self.store.stands();
     }

@@ -13,7 +13,7 @@ use xml_tree::{Element, NoMemory, Path, Text, print_path};
 
 // The URI of what has this path under the root.
 fn uri_under(alloc: Global, root: &Root, path: &str) -> Result<Text, NoMemory>
-    ensures { IfOk result (λ uri. uri ≡ root.now ++ (codes "/" ++ chars path.now)) }
+    ensures path_under_the_root { IfOk result (λ uri. uri ≡ root.now ++ (codes "/" ++ chars path.now)) }
 {
     let mut uri = Text::from(alloc, root.text())?;
     uri.push('/')?;
@@ -23,7 +23,7 @@ fn uri_under(alloc: Global, root: &Root, path: &str) -> Result<Text, NoMemory>
 
 // A text without its last character.
 fn without_last(text: &str) -> &str
-    ensures { (front : List ℕ) (c : ℕ) → chars text.now ≡ front ++ c ∷ [] → chars result.now ≡ front }
+    ensures leaves_out_the_last { (front : List ℕ) (c : ℕ) → chars text.now ≡ front ++ c ∷ [] → chars result.now ≡ front }
 {
     let mut letters = text.chars();
     let _ = letters.next_back();
@@ -35,7 +35,7 @@ fn without_last(text: &str) -> &str
 /// # Errors
 /// `NoMemory` for want of memory.
 pub fn home_uri(alloc: Global, root: &Root, auid: Auid, home: &Home) -> Result<Text, NoMemory>
-    ensures { IfOk result (λ uri. uri ≡ home_uri root.now auid home.now) }
+    ensures uri_of_the_home { IfOk result (λ uri. uri ≡ home_uri root.now auid home.now) }
 {
     // The id of a document without a name is that of its home and a slash.
     let home = home.copy(alloc)?;
@@ -50,7 +50,7 @@ pub fn home_uri(alloc: Global, root: &Root, auid: Auid, home: &Home) -> Result<T
 
 // The URI of a document.
 fn document_uri(alloc: Global, root: &Root, doc: &DocId) -> Result<Text, NoMemory>
-    ensures { IfOk result (λ uri. uri ≡ document_uri root.now doc.now) }
+    ensures uri_of_the_document { IfOk result (λ uri. uri ≡ document_uri root.now doc.now) }
 {
     let id = print_doc_id(alloc, doc)?;
     uri_under(alloc, root, id.as_str())
@@ -59,7 +59,7 @@ fn document_uri(alloc: Global, root: &Root, doc: &DocId) -> Result<Text, NoMemor
 // Adds a character of a node selector.
 #[tactic(auto, using(crate::proofs::Letters::letters))]
 fn push_escaped(uri: &mut Text, c: char) -> Result<(), NoMemory>
-    ensures { OnOk result (uri.new ≡ uri.old ++ bracket_escape c) }
+    ensures adds_the_escaped_character { OnOk result (uri.new ≡ uri.old ++ bracket_escape c) }
 {
     match c {
         '[' => uri.push_str("%5B"),
@@ -70,7 +70,7 @@ fn push_escaped(uri: &mut Text, c: char) -> Result<(), NoMemory>
 
 // Adds a node selector.
 fn push_selector(uri: &mut Text, selector: &str) -> Result<(), NoMemory>
-    ensures { OnOk result (uri.new ≡ uri.old ++ flat_map bracket_escape (chars selector.now)) }
+    ensures adds_the_escaped_selector { OnOk result (uri.new ≡ uri.old ++ flat_map bracket_escape (chars selector.now)) }
 {
     for c in selector.chars() {
         push_escaped(uri, c)?;
@@ -81,7 +81,7 @@ fn push_selector(uri: &mut Text, selector: &str) -> Result<(), NoMemory>
 // Adds what follows the document's URI in that of the element at a path.
 #[tactic(auto, using(crate::proofs::Letters::letters, std::proofs::Common::append_assoc))]
 fn push_path(alloc: Global, uri: &mut Text, path: &Path) -> Result<(), NoMemory>
-    ensures { OnOk result (uri.new ≡ uri.old ++ (codes "/~~/" ++ flat_map bracket_escape (path_text path.now))) }
+    ensures adds_the_escaped_path { OnOk result (uri.new ≡ uri.old ++ (codes "/~~/" ++ flat_map bracket_escape (path_text path.now))) }
 {
     let selector = print_path(alloc, path)?;
     uri.push_str("/~~/")?;
@@ -91,7 +91,7 @@ fn push_path(alloc: Global, uri: &mut Text, path: &Path) -> Result<(), NoMemory>
 // The place of the element that the greatest number of first steps selects.
 fn closest(alloc: Global, tree: &Element, selector: &Selector) -> Option<Path>
     requires { height tree.now ≤ 64 }
-    ensures { result ≡ closest_in selector.now.steps tree.now }
+    ensures place_of_the_closest { result ≡ closest_in selector.now.steps tree.now }
 {
     let matched = longest_match(alloc, tree, selector);
     select_steps(alloc, tree, &selector.steps.as_slice()[..matched])
@@ -110,7 +110,7 @@ pub fn ancestor_uri(
     selector: &Selector,
 ) -> Result<Text, NoMemory>
     requires { height tree.now ≤ 64 }
-    ensures { IfOk result (λ uri. uri ≡ ancestor_uri root.now doc.now tree.now selector.now.steps) }
+    ensures uri_of_the_ancestor { IfOk result (λ uri. uri ≡ ancestor_uri root.now doc.now tree.now selector.now.steps) }
 {
     let mut uri = document_uri(alloc, root, doc)?;
     if let Some(path) = closest(alloc, tree, selector) {

@@ -7,7 +7,7 @@ ghost use Rattle.grammar_rules.specs.Reading.{after_front};
 // How many octets stand before the first `stop`.
 #[tactic(auto, using(tree_text::proofs::RunLemmas::run_more, tree_text::proofs::RunLemmas::run_done))]
 fn len_before(text: &[u8], stop: u8) -> usize
-    ensures { result ≡ run_len (is_other stop) text.now }
+    ensures counts_up_to_the_stop { result ≡ run_len (is_other stop) text.now }
 {
     let mut len = 0;
     for &b in text {
@@ -41,7 +41,7 @@ pub fn cut(text: &[u8], stop: u8) -> (&[u8], Option<&[u8]>)
 
 /// What follows a front, where the text begins with it.
 pub fn after<'a>(text: &'a [u8], front: &[u8]) -> Option<&'a [u8]>
-    ensures { option_map (λ x. x.now) result ≡ after front.now text.now }
+    ensures rest_behind_the_front { option_map (λ x. x.now) result ≡ after front.now text.now }
 {
     let mut rest = text;
     for &expected in front {

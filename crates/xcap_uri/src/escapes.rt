@@ -12,7 +12,7 @@ use xml_tree::Text;
 
 // Whether two hexadecimal digits follow each `%`.
 fn has_whole_escapes(part: &[u8]) -> bool
-    ensures { result ≡ has_whole_escapes part.now }
+    ensures tells_whether_all_are_whole { result ≡ has_whole_escapes part.now }
 {
     let mut rest = part;
     loop {
@@ -36,7 +36,7 @@ fn has_whole_escapes(part: &[u8]) -> bool
 /// `BadEscape` exactly where a `%` isn't followed by two hexadecimal digits, or the octets aren't UTF-8; `NoMemory` for want of memory.
 #[tactic(auto, using(crate::proofs::Escaped::read_as_text, crate::proofs::Escaped::read_as_no_text, crate::proofs::Escaped::read_as_no_escapes))]
 pub fn read_part(alloc: Global, part: &[u8]) -> Result<Text, ReadError<UriFault>>
-    ensures { Answers ReadError.NoMemory (text_read part.now) result }
+    ensures reads_the_part { Answers ReadError.NoMemory (text_read part.now) result }
 {
     if !has_whole_escapes(part) {
         return Err(ReadError::Fault(UriFault::BadEscape));
@@ -59,7 +59,7 @@ pub fn read_optional_part(
     alloc: Global,
     part: Option<&[u8]>,
 ) -> Result<Option<Text>, ReadError<UriFault>>
-    ensures { Answers ReadError.NoMemory (optional_text_read (option_map (λ x. x.now) part.entry)) result }
+    ensures reads_the_part_if_it_is_there { Answers ReadError.NoMemory (optional_text_read (option_map (λ x. x.now) part.entry)) result }
 {
     match part {
         None => Ok(None),

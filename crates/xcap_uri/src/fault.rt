@@ -64,7 +64,7 @@ impl<T: Drop> From<AllocFailed<T>> for RootFault {
 
 /// What an error of the selector says of the target.
 pub fn uri_error(error: ReadError<SelectorFault>) -> ReadError<UriFault>
-    ensures { result ≡ error_of error }
+    ensures tells_what_was_wrong { result ≡ error_of error }
 {
     match error {
         ReadError::Fault(SelectorFault::BadSelector(_)) => ReadError::Fault(UriFault::BadSelector),

@@ -19,19 +19,19 @@ use xml_tree::Text;
 
 // Octets are small numbers.
 fn are_octets(octets: &[u8])
-    ensures { All IsOctet octets.now }
+    ensures each_is_an_octet { All IsOctet octets.now }
 {}
 
 // A text is spelled by its octets.
 fn is_spelled(text: &Text)
-    ensures { IsSpelled text.now }
+    ensures spelled_by_its_octets { IsSpelled text.now }
 {
     are_octets(text.as_str().as_bytes());
 }
 
 // So is the user of a home.
 fn is_spelled_home(home: &Home)
-    ensures { IsSpelledHome home.now }
+    ensures user_spelled_by_its_octets { IsSpelledHome home.now }
 {
     match home {
         Home::Global => {}
@@ -69,5 +69,5 @@ pub fn queries_have_one_reading()
 /// A text is a root by its pieces between the slashes exactly where the grammar spells it as one, with this authority and this path and no
 /// others (RFC 4825, section 6.1).
 pub fn roots_are_spelled_by_the_grammar()
-    ensures { (text authority path : List ℕ) → IsRoot text authority path ↔ ((is_root text ≡ true) × (authority ≡ authority_of text) × (path ≡ path_of text)) }
+    ensures root_by_its_pieces_alone { (text authority path : List ℕ) → IsRoot text authority path ↔ ((is_root text ≡ true) × (authority ≡ authority_of text) × (path ≡ path_of text)) }
 {}

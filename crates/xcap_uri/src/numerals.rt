@@ -4,14 +4,14 @@ ghost use Rattle.xcap_uri.specs.Numerals.{begins_with_digit, number_behind, nume
 
 // Whether the first octet is a digit other than 0.
 fn begins_with_digit(octets: &[u8]) -> bool
-    ensures { result ≡ begins_with_digit octets.now }
+    ensures tells_whether_a_digit_begins { result ≡ begins_with_digit octets.now }
 {
     matches!(octets, [b'1'..=b'9', ..])
 }
 
 // The number that digits are worth, if it has at most 64 bits.
 fn number_of(octets: &[u8]) -> Option<u64>
-    ensures { result ≡ number_behind 0 octets.now }
+    ensures number_of_the_digits { result ≡ number_behind 0 octets.now }
 {
     let mut number: u64 = 0;
     for &b in octets {
@@ -26,7 +26,7 @@ fn number_of(octets: &[u8]) -> Option<u64>
 
 /// The number of a numeral, if it is one and has at most 64 bits. Takes no memory.
 pub fn numeral(octets: &[u8]) -> Option<u64>
-    ensures { result ≡ numeral_of octets.now }
+    ensures number_of_the_numeral { result ≡ numeral_of octets.now }
 {
     if !begins_with_digit(octets) {
         return None;

@@ -37,7 +37,7 @@ struct Item<'a> {
 // How much white space stands in front.
 #[tactic(auto, using(tree_text::proofs::RunLemmas::run_more, tree_text::proofs::RunLemmas::run_done))]
 fn space_len(text: &[char]) -> usize
-    ensures { result ≡ run_len is_space text.now }
+    ensures counts_the_white_space { result ≡ run_len is_space text.now }
 {
     let mut len = 0;
     for &c in text {
@@ -52,7 +52,7 @@ fn space_len(text: &[char]) -> usize
 // How many spaces stand in front.
 #[tactic(auto, using(tree_text::proofs::RunLemmas::run_more, tree_text::proofs::RunLemmas::run_done))]
 fn blank_len(text: &[char]) -> usize
-    ensures { result ≡ run_len is_blank text.now }
+    ensures counts_the_spaces { result ≡ run_len is_blank text.now }
 {
     let mut len = 0;
     for &c in text {
@@ -67,7 +67,7 @@ fn blank_len(text: &[char]) -> usize
 // How many characters of names stand in front.
 #[tactic(auto, using(tree_text::proofs::RunLemmas::run_more, tree_text::proofs::RunLemmas::run_done))]
 fn name_len(text: &[char]) -> usize
-    ensures { result ≡ run_len is_name_char text.now }
+    ensures counts_the_name_characters { result ≡ run_len is_name_char text.now }
 {
     let mut len = 0;
     for &c in text {
@@ -81,21 +81,21 @@ fn name_len(text: &[char]) -> usize
 
 // What follows the white space in front.
 fn past_space(text: &[char]) -> &[char]
-    ensures { result.now ≡ after_front is_space text.now }
+    ensures rest_behind_white_space { result.now ≡ after_front is_space text.now }
 {
     text.split_at(space_len(text)).1
 }
 
 // What follows the spaces in front.
 fn past_blanks(text: &[char]) -> &[char]
-    ensures { result.now ≡ after_front is_blank text.now }
+    ensures rest_behind_spaces { result.now ≡ after_front is_blank text.now }
 {
     text.split_at(blank_len(text)).1
 }
 
 // What follows a word, where the text begins with it.
 fn after<'a>(text: &'a [char], word: &[char]) -> Option<&'a [char]>
-    ensures { option_map (λ x. x.now) result ≡ after word.now text.now }
+    ensures rest_behind_the_word { option_map (λ x. x.now) result ≡ after word.now text.now }
 {
     let mut rest = text;
     for &expected in word {
@@ -109,7 +109,7 @@ fn after<'a>(text: &'a [char], word: &[char]) -> Option<&'a [char]>
 
 // What follows `=`, with white space round it.
 fn past_equals(text: &[char]) -> Result<&[char], ReadError<UriFault>>
-    ensures { Gives (λ x. x.now) result (equals_past text.now) }
+    ensures reads_past_the_equals_sign { Gives (λ x. x.now) result (equals_past text.now) }
 {
     match after(past_space(text), &['=']) {
         None => Err(ReadError::Fault(UriFault::BadQuery)),
@@ -119,7 +119,7 @@ fn past_equals(text: &[char]) -> Result<&[char], ReadError<UriFault>>
 
 // Whether a name begins the text.
 fn begins_name(text: &[char]) -> bool
-    ensures { result ≡ head_is is_name_start text.now }
+    ensures tells_whether_a_name_begins { result ≡ head_is is_name_start text.now }
 {
     match text {
         [] => false,
@@ -129,7 +129,7 @@ fn begins_name(text: &[char]) -> bool
 
 // A name, and what follows it.
 fn name(text: &[char]) -> Result<(&[char], &[char]), ReadError<UriFault>>
-    ensures { Gives (λ x. (x.0.now, x.1.now)) result (prefix_read text.now) }
+    ensures reads_a_name { Gives (λ x. (x.0.now, x.1.now)) result (prefix_read text.now) }
 {
     if !begins_name(text) {
         return Err(ReadError::Fault(UriFault::BadQuery));
@@ -139,14 +139,14 @@ fn name(text: &[char]) -> Result<(&[char], &[char]), ReadError<UriFault>>
 
 // Whether it is this word.
 fn is_word(text: &[char], word: &[char]) -> bool
-    ensures { result ≡ bytes_eq text.now word.now }
+    ensures tells_whether_it_is_the_word { result ≡ bytes_eq text.now word.now }
 {
     text == word
 }
 
 // Whether an item may not bind the prefix.
 fn is_reserved(prefix: &[char]) -> bool
-    ensures { result ≡ is_reserved prefix.now }
+    ensures tells_whether_it_is_reserved { result ≡ is_reserved prefix.now }
 {
     if is_word(prefix, &['x', 'm', 'l']) {
         return true;
@@ -156,7 +156,7 @@ fn is_reserved(prefix: &[char]) -> bool
 
 // Whether `^` escapes it.
 fn is_escapable(c: char) -> bool
-    ensures { result ≡ is_bracket_or_caret c }
+    ensures tells_whether_it_is_escaped { result ≡ is_bracket_or_caret c }
 {
     matches!(c, '(' | ')' | '^')
 }
@@ -211,7 +211,7 @@ fn uri_step(depth: usize, text: &[char]) -> UriStep<'_>
 
 // The URI up to the `)` that ends its item, and what follows.
 fn uri_chars(alloc: Global, text: &[char]) -> Result<(Text, &[char]), ReadError<UriFault>>
-    ensures { Gives (λ x. (x.0, x.1.now)) result (uri_chars 0 text.now) }
+    ensures reads_the_characters_of_a_uri { Gives (λ x. (x.0, x.1.now)) result (uri_chars 0 text.now) }
 {
     let mut uri = no_text(alloc);
     let mut depth = 0;
@@ -231,7 +231,7 @@ fn uri_chars(alloc: Global, text: &[char]) -> Result<(Text, &[char]), ReadError<
 
 // The same, where the URI isn't empty.
 fn uri(alloc: Global, text: &[char]) -> Result<(Text, &[char]), ReadError<UriFault>>
-    ensures { Gives (λ x. (x.0, x.1.now)) result (uri_read text.now) }
+    ensures reads_a_uri { Gives (λ x. (x.0, x.1.now)) result (uri_read text.now) }
 {
     let (uri, rest) = uri_chars(alloc, text)?;
     if uri.is_empty() {
@@ -242,7 +242,7 @@ fn uri(alloc: Global, text: &[char]) -> Result<(Text, &[char]), ReadError<UriFau
 
 // A prefix that an item may bind, and what follows it.
 fn prefix(text: &[char]) -> Result<(&[char], &[char]), ReadError<UriFault>>
-    ensures { Gives (λ x. (x.0.now, x.1.now)) result (free_prefix_read text.now) }
+    ensures reads_a_free_prefix { Gives (λ x. (x.0.now, x.1.now)) result (free_prefix_read text.now) }
 {
     let (prefix, rest) = name(text)?;
     if is_reserved(prefix) {
@@ -253,7 +253,7 @@ fn prefix(text: &[char]) -> Result<(&[char], &[char]), ReadError<UriFault>>
 
 // An item, and what follows it.
 fn read_item(alloc: Global, text: &[char]) -> Result<Item<'_>, ReadError<UriFault>>
-    ensures { Gives item_in result (item_read text.now) }
+    ensures reads_an_item { Gives item_in result (item_read text.now) }
 {
     let Some(inner) = after(text, &['x', 'm', 'l', 'n', 's', '(']) else {
         return Err(ReadError::Fault(UriFault::BadQuery));
@@ -267,7 +267,7 @@ fn read_item(alloc: Global, text: &[char]) -> Result<Item<'_>, ReadError<UriFaul
 
 // The bindings of a query.
 fn read_items(alloc: Global, text: &[char]) -> Result<Bindings, ReadError<UriFault>>
-    ensures { Answers ReadError.NoMemory (bindings_read text.now) result }
+    ensures reads_all_items { Answers ReadError.NoMemory (bindings_read text.now) result }
 {
     let mut bindings = Bindings::none(alloc);
     let mut rest = past_blanks(text);
@@ -290,7 +290,7 @@ fn read_items(alloc: Global, text: &[char]) -> Result<Bindings, ReadError<UriFau
 /// # Errors
 /// `BadQuery` exactly where the query isn't a row of items, `NoMemory` for want of memory.
 pub fn read_query(alloc: Global, query: &Option<Text>) -> Result<Bindings, ReadError<UriFault>>
-    ensures { Answers ReadError.NoMemory (optional_bindings_read query.now) result }
+    ensures reads_the_query { Answers ReadError.NoMemory (optional_bindings_read query.now) result }
 {
     match query {
         None => Ok(Bindings::none(alloc)),
@@ -303,7 +303,7 @@ pub fn read_query(alloc: Global, query: &Option<Text>) -> Result<Bindings, ReadE
 
 // The characters of a text.
 fn decoded(alloc: Global, text: &str) -> Result<Vec<char>, AllocError>
-    ensures { IfOk result (λ all. all.items ≡ chars text.now) }
+    ensures characters_of_the_text { IfOk result (λ all. all.items ≡ chars text.now) }
 {
     text.chars().collect(alloc)
 }

@@ -46,7 +46,7 @@ impl Root {
 
     /// Its authority. Takes no memory.
     pub fn authority(&self) -> &str
-        ensures { chars result.now ≡ authority_of self.now }
+        ensures tells_the_authority { chars result.now ≡ authority_of self.now }
     {
         self.authority.as_str()
     }
@@ -64,7 +64,7 @@ impl Root {
     /// # Errors
     /// `NoMemory` for want of memory.
     pub fn copy(&self, alloc: Global) -> Result<Root, AllocError>
-        ensures { IfOk result (λ made. made ≡ self.now) }
+        ensures makes_an_equal_root { IfOk result (λ made. made ≡ self.now) }
     {
         let text = self.text.copy(alloc)?;
         let authority = self.authority.copy(alloc)?;
@@ -79,28 +79,28 @@ impl Root {
 
 // Whether a character can stand in an authority.
 fn is_authority_char(b: u8) -> bool
-    ensures { result ≡ is_authority_char b }
+    ensures tells_whether_authorities_have_it { result ≡ is_authority_char b }
 {
     b.is_ascii_alphanumeric() || matches!(b, b'.' | b'-' | b':' | b'[' | b']')
 }
 
 // Whether a character can stand in a segment of a root's path.
 fn is_segment_char(b: u8) -> bool
-    ensures { result ≡ is_segment_char b }
+    ensures tells_whether_segments_have_it { result ≡ is_segment_char b }
 {
     b.is_ascii_alphanumeric() || matches!(b, b'-' | b'.' | b'_' | b'~')
 }
 
 // Whether each can stand in an authority.
 fn are_authority_chars(piece: &[u8]) -> bool
-    ensures { result ≡ list_all is_authority_char piece.now }
+    ensures tells_whether_authorities_have_all { result ≡ list_all is_authority_char piece.now }
 {
     piece.iter().all(|b| is_authority_char(*b))
 }
 
 // Whether each can stand in a segment.
 fn are_segment_chars(piece: &[u8]) -> bool
-    ensures { result ≡ list_all is_segment_char piece.now }
+    ensures tells_whether_segments_have_all { result ≡ list_all is_segment_char piece.now }
 {
     piece.iter().all(|b| is_segment_char(*b))
 }
@@ -108,7 +108,7 @@ fn are_segment_chars(piece: &[u8]) -> bool
 // Whether it is an authority.
 #[tactic(auto, using(crate::proofs::Pieces::some_of))]
 fn is_authority(piece: &[u8]) -> bool
-    ensures { result ≡ is_some_of is_authority_char piece.now }
+    ensures tells_whether_it_is_an_authority { result ≡ is_some_of is_authority_char piece.now }
 {
     match piece {
         [] => false,
@@ -119,7 +119,7 @@ fn is_authority(piece: &[u8]) -> bool
 // Whether it is a segment of a root's path.
 #[tactic(auto, using(crate::proofs::Pieces::some_of))]
 fn is_segment(piece: &[u8]) -> bool
-    ensures { result ≡ is_some_of is_segment_char piece.now }
+    ensures tells_whether_it_is_a_segment { result ≡ is_some_of is_segment_char piece.now }
 {
     match piece {
         [] => false,
@@ -130,7 +130,7 @@ fn is_segment(piece: &[u8]) -> bool
 // Whether segments stand between the slashes.
 #[tactic(auto, using(crate::proofs::Pieces::pieces_cut))]
 fn are_segments(text: &[u8]) -> bool
-    ensures { result ≡ list_all (is_some_of is_segment_char) (pieces slash text.now) }
+    ensures tells_whether_all_are_segments { result ≡ list_all (is_some_of is_segment_char) (pieces slash text.now) }
 {
     let mut rest = text;
     'segments: loop {
@@ -147,7 +147,7 @@ fn are_segments(text: &[u8]) -> bool
 
 // What follows the scheme.
 fn behind_scheme(text: &[u8]) -> Option<&[u8]>
-    ensures { option_map (λ x. x.now) result ≡ behind_scheme text.now }
+    ensures rest_behind_the_scheme { option_map (λ x. x.now) result ≡ behind_scheme text.now }
 {
     match after(text, b"http://") {
         Some(rest) => Some(rest),
@@ -158,7 +158,7 @@ fn behind_scheme(text: &[u8]) -> Option<&[u8]>
 // Whether an authority stands in front, and segments behind it.
 #[tactic(auto, using(crate::proofs::Pieces::pieces_cut))]
 fn are_authority_and_segments(rest: &[u8]) -> bool
-    ensures { result ≡ are_authority_and_segments (pieces slash rest.now) }
+    ensures tells_whether_segments_follow_an_authority { result ≡ are_authority_and_segments (pieces slash rest.now) }
 {
     let (authority, behind) = cut(rest, b'/');
     if !is_authority(authority) {
@@ -172,7 +172,7 @@ fn are_authority_and_segments(rest: &[u8]) -> bool
 
 // A text with a character for each octet.
 fn letters(alloc: Global, octets: &[u8]) -> Result<Text, AllocError>
-    ensures { IfOk result (λ text. text ≡ octets.now) }
+    ensures letter_of_each_octet { IfOk result (λ text. text ≡ octets.now) }
 {
     let mut text = no_text(alloc);
     for &b in octets {
@@ -186,7 +186,7 @@ fn letters(alloc: Global, octets: &[u8]) -> Result<Text, AllocError>
 fn make_root(alloc: Global, text: &[u8], rest: &[u8]) -> Result<Root, AllocError>
     requires root { is_root text.now ≡ true }
     requires rest { behind_scheme text.now ≡ Some rest.now }
-    ensures { IfOk result (λ made. made ≡ text.now) }
+    ensures root_of_the_text { IfOk result (λ made. made ≡ text.now) }
 {
     let (authority, path) = cut_before(rest, b'/');
     let text = letters(alloc, text)?;
@@ -205,7 +205,7 @@ fn make_root(alloc: Global, text: &[u8], rest: &[u8]) -> Result<Root, AllocError
 /// `NotRoot` exactly where the text isn't a root, `NoMemory` for want of memory.
 #[tactic(auto, using(crate::proofs::RootAnswers::read_as_root))]
 pub fn read_root(alloc: Global, text: &str) -> Result<Root, RootFault>
-    ensures { Answers RootFault.NoMemory (root_read text.now) result }
+    ensures reads_the_root { Answers RootFault.NoMemory (root_read text.now) result }
 {
     let text = text.as_bytes();
     let Some(rest) = behind_scheme(text) else {

@@ -14,14 +14,14 @@ use xml_tree::Text;
 
 // Whether it is the segment behind which a selector stands.
 fn is_separator(segment: &Text) -> bool
-    ensures { result ≡ bytes_eq segment.now separator }
+    ensures tells_whether_it_separates { result ≡ bytes_eq segment.now separator }
 {
     segment.is("~~")
 }
 
 // What stands behind a segment, nothing where the path ends.
 fn or_nothing(behind: Option<&[u8]>) -> &[u8]
-    ensures { result.now ≡ unwrap_or (option_map (λ x. x.now) behind.entry) [] }
+    ensures nothing_where_the_path_ends { result.now ≡ unwrap_or (option_map (λ x. x.now) behind.entry) [] }
 {
     match behind {
         None => &[],
@@ -37,7 +37,7 @@ pub fn read_path(
     alloc: Global,
     path: &[u8],
 ) -> Result<(Vec<Text>, Option<&[u8]>), ReadError<UriFault>>
-    ensures { Gives (λ x. (x.0.items, option_map (λ y. y.now) x.1)) result (path_read path.now) }
+    ensures reads_the_path { Gives (λ x. (x.0.items, option_map (λ y. y.now) x.1)) result (path_read path.now) }
 {
     let mut segments = Vec::new(alloc);
     let mut rest = path;

@@ -33,7 +33,7 @@ pub enum Shape {
 
 // The usage of this name.
 fn auid_of(name: &Text) -> Option<Auid>
-    ensures { result ≡ auid_of name.now }
+    ensures usage_of_the_name { result ≡ auid_of name.now }
 {
     if name.is("resource-lists") {
         return Some(Auid::ResourceLists);
@@ -49,7 +49,7 @@ fn auid_of(name: &Text) -> Option<Auid>
 
 // The usage of this name, where its documents are stored.
 fn stored_auid_of(name: &Text) -> Option<Auid>
-    ensures { result ≡ stored_auid_of name.now }
+    ensures stored_usage_of_the_name { result ≡ stored_auid_of name.now }
 {
     if name.is("resource-lists") {
         return Some(Auid::ResourceLists);
@@ -62,7 +62,7 @@ fn stored_auid_of(name: &Text) -> Option<Auid>
 
 // The mode of this name.
 fn mode_of(name: &Text) -> Option<Mode>
-    ensures { result ≡ mode_of name.now }
+    ensures mode_of_the_name { result ≡ mode_of name.now }
 {
     if name.is("no-patching") {
         return Some(Mode::NoPatching);
@@ -78,14 +78,14 @@ fn mode_of(name: &Text) -> Option<Mode>
 
 // The number of a tag.
 fn tag_of(text: &Text) -> Option<u64>
-    ensures { result ≡ tag_of text.now }
+    ensures number_of_the_tag { result ≡ tag_of text.now }
 {
     numeral(text.as_str().as_bytes())
 }
 
 // A document, or with a selector a part of it.
 fn document(doc: DocId, selector: Option<Text>) -> Result<Shape, ReadError<UriFault>>
-    ensures { result ≡ document doc selector }
+    ensures names_the_document { result ≡ document doc selector }
 {
     match selector {
         None => Ok(Shape::Whole(doc)),
@@ -106,7 +106,7 @@ fn in_home(
     rest: &[Text],
     selector: Option<Text>,
 ) -> Result<Shape, ReadError<UriFault>>
-    ensures { Answers ReadError.NoMemory (in_home auid home rest.now selector) result }
+    ensures names_what_is_in_the_home { Answers ReadError.NoMemory (in_home auid home rest.now selector) result }
 {
     match rest {
         [] => Err(ReadError::Fault(UriFault::BadShape)),
@@ -125,7 +125,7 @@ fn of_user(
     rest: &[Text],
     selector: Option<Text>,
 ) -> Result<Shape, ReadError<UriFault>>
-    ensures { Answers ReadError.NoMemory (of_user auid rest.now selector) result }
+    ensures names_what_the_user_has { Answers ReadError.NoMemory (of_user auid rest.now selector) result }
 {
     match rest {
         [] => Err(ReadError::Fault(UriFault::BadShape)),
@@ -143,7 +143,7 @@ fn in_usage(
     rest: &[Text],
     selector: Option<Text>,
 ) -> Result<Shape, ReadError<UriFault>>
-    ensures { Answers ReadError.NoMemory (in_usage auid rest.now selector) result }
+    ensures names_what_is_in_the_usage { Answers ReadError.NoMemory (in_usage auid rest.now selector) result }
 {
     match rest {
         [] => Err(ReadError::Fault(UriFault::BadShape)),
@@ -167,7 +167,7 @@ fn stored_doc(
     xui: &Text,
     name: &Text,
 ) -> Result<Option<DocId>, AllocError>
-    ensures { IfOk result (λ doc. doc ≡ stored_doc auid.now tree.now xui.now name.now) }
+    ensures document_if_it_is_stored { IfOk result (λ doc. doc ≡ stored_doc auid.now tree.now xui.now name.now) }
 {
     if !tree.is("users") {
         return Ok(None);
@@ -185,7 +185,7 @@ fn stored_doc(
 
 // The changes of a part, which has a selector.
 fn part_changes(tag: u64, doc: DocId, selector: Option<Text>) -> Result<Shape, ReadError<UriFault>>
-    ensures { result ≡ part_changes tag doc selector }
+    ensures names_the_changes_of_a_part { result ≡ part_changes tag doc selector }
 {
     match selector {
         None => Err(ReadError::Fault(UriFault::BadShape)),
@@ -205,7 +205,7 @@ fn changes(
     doc: DocId,
     selector: Option<Text>,
 ) -> Result<Shape, ReadError<UriFault>>
-    ensures { result ≡ changes mode tag doc selector }
+    ensures names_the_changes { result ≡ changes mode tag doc selector }
 {
     match (mode, selector) {
         (Some(mode), None) => Ok(Shape::Changes(mode, tag, doc)),
@@ -220,7 +220,7 @@ fn changes_or_part(
     doc: Option<DocId>,
     selector: Option<Text>,
 ) -> Result<Shape, ReadError<UriFault>>
-    ensures { result ≡ changes_or_part mode.now tag doc selector }
+    ensures names_the_changes_of_either { result ≡ changes_or_part mode.now tag doc selector }
 {
     let Some(tag) = tag else {
         return Err(ReadError::Fault(UriFault::BadShape));
@@ -240,7 +240,7 @@ fn feed_shape(
     rest: &[Text],
     selector: Option<Text>,
 ) -> Result<Shape, ReadError<UriFault>>
-    ensures { Answers ReadError.NoMemory (feed_shape rest.now selector) result }
+    ensures names_the_feed { Answers ReadError.NoMemory (feed_shape rest.now selector) result }
 {
     match rest {
         [mode, tag, auid, tree, xui, name] => {
@@ -253,7 +253,7 @@ fn feed_shape(
 
 // The flat list of a service of this document.
 fn flat_list(alloc: Global, xui: &Text, name: &Text, service: &Text) -> Result<Shape, AllocError>
-    ensures { IfOk result (λ shape. shape ≡ Shape.FlatList (doc_of Auid.RlsServices (Home.User xui.now) name.now) service.now) }
+    ensures names_the_flat_list { IfOk result (λ shape. shape ≡ Shape.FlatList (doc_of Auid.RlsServices (Home.User xui.now) name.now) service.now) }
 {
     let xui = xui.copy(alloc)?;
     let name = name.copy(alloc)?;
@@ -272,7 +272,7 @@ fn flat_shape(
     rest: &[Text],
     selector: Option<Text>,
 ) -> Result<Shape, ReadError<UriFault>>
-    ensures { Answers ReadError.NoMemory (flat_shape rest.now selector) result }
+    ensures names_what_is_flat { Answers ReadError.NoMemory (flat_shape rest.now selector) result }
 {
     match (rest, selector) {
         ([xui, name, service], None) => {
@@ -290,7 +290,7 @@ fn of_usage(
     rest: &[Text],
     selector: Option<Text>,
 ) -> Result<Shape, ReadError<UriFault>>
-    ensures { Answers ReadError.NoMemory (of_usage auid rest.now selector) result }
+    ensures names_what_the_usage_has { Answers ReadError.NoMemory (of_usage auid rest.now selector) result }
 {
     match auid {
         None => Err(ReadError::Fault(UriFault::UnknownAuid)),
@@ -304,7 +304,7 @@ fn named(
     segments: &[Text],
     selector: Option<Text>,
 ) -> Result<Shape, ReadError<UriFault>>
-    ensures { Answers ReadError.NoMemory (named segments.now selector) result }
+    ensures names_by_its_segments { Answers ReadError.NoMemory (named segments.now selector) result }
 {
     match segments {
         [] => Err(ReadError::Fault(UriFault::UnknownAuid)),
@@ -322,14 +322,14 @@ fn named(
 
 // Whether a segment is empty.
 fn is_empty(segment: &Text) -> bool
-    ensures { result ≡ is_empty segment.now }
+    ensures tells_whether_it_is_empty { result ≡ is_empty segment.now }
 {
     segment.is_empty()
 }
 
 // Whether one of them is empty.
 fn has_empty(segments: &[Text]) -> bool
-    ensures { result ≡ list_any is_empty segments.now }
+    ensures tells_whether_one_is_empty { result ≡ list_any is_empty segments.now }
 {
     segments.iter().any(|segment| is_empty(segment))
 }
@@ -343,7 +343,7 @@ pub fn shape_of(
     segments: &[Text],
     selector: Option<Text>,
 ) -> Result<Shape, ReadError<UriFault>>
-    ensures { Answers ReadError.NoMemory (shape_of segments.now selector) result }
+    ensures shape_of_the_segments { Answers ReadError.NoMemory (shape_of segments.now selector) result }
 {
     if has_empty(segments) {
         return Err(ReadError::Fault(UriFault::BadShape));

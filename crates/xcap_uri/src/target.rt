@@ -60,7 +60,7 @@ pub enum Target {
 
 // What follows a front and a slash, where the target begins with them.
 fn under<'a>(target: &'a [u8], front: &[u8]) -> Option<&'a [u8]>
-    ensures { option_map (λ x. x.now) result ≡ under front.now target.now }
+    ensures rest_behind_front_and_slash { option_map (λ x. x.now) result ≡ under front.now target.now }
 {
     let rest = after(target, front)?;
     after(rest, b"/")
@@ -68,20 +68,20 @@ fn under<'a>(target: &'a [u8], front: &[u8]) -> Option<&'a [u8]>
 
 // The octets of the root's text, and of its path.
 fn text_octets(root: &Root) -> &[u8]
-    ensures { result.now ≡ root.now }
+    ensures octets_of_the_root { result.now ≡ root.now }
 {
     root.text().as_bytes()
 }
 
 fn path_octets(root: &Root) -> &[u8]
-    ensures { result.now ≡ path_of root.now }
+    ensures octets_of_the_path { result.now ≡ path_of root.now }
 {
     root.path().as_bytes()
 }
 
 // What follows the root, or its path, and a slash.
 fn under_root<'a>(root: &Root, target: &'a [u8]) -> Option<&'a [u8]>
-    ensures { option_map (λ x. x.now) result ≡ under_root root.now target.now }
+    ensures rest_under_the_root { option_map (λ x. x.now) result ≡ under_root root.now target.now }
 {
     match under(target, text_octets(root)) {
         Some(rest) => Some(rest),
@@ -96,7 +96,7 @@ fn part(
     auid: Auid,
     text: &Text,
 ) -> Result<Selector, ReadError<UriFault>>
-    ensures { Answers ReadError.NoMemory (part_read bindings.now auid text.now) result }
+    ensures reads_the_selector { Answers ReadError.NoMemory (part_read bindings.now auid text.now) result }
 {
     match read_selector(alloc, text.as_str(), bindings, auid.namespace()) {
         Ok(selector) => Ok(selector),
@@ -106,7 +106,7 @@ fn part(
 
 // The selector, if it ends in an element.
 fn about_element(selector: Selector) -> Result<Selector, ReadError<UriFault>>
-    ensures { result ≡ about_element selector }
+    ensures only_if_it_is_of_an_element { result ≡ about_element selector }
 {
     match &selector.end {
         End::Element => Ok(selector),
@@ -116,7 +116,7 @@ fn about_element(selector: Selector) -> Result<Selector, ReadError<UriFault>>
 
 // Adds the selector behind the separator, and the query.
 fn push_raw(line: &mut String, selector: &[u8], query: Option<&[u8]>) -> Result<(), AllocError>
-    ensures { OnOk result (string_bytes line.new ≡ string_bytes line.old ++ escaped is_visible (with_query selector.now (option_map (λ x. x.now) query.entry))) }
+    ensures adds_what_is_raw { OnOk result (string_bytes line.new ≡ string_bytes line.old ++ escaped is_visible (with_query selector.now (option_map (λ x. x.now) query.entry))) }
 {
     push_visible(line, selector)?;
     match query {
@@ -134,7 +134,7 @@ fn raw_text(
     selector: Option<&[u8]>,
     query: Option<&[u8]>,
 ) -> Result<Text, AllocError>
-    ensures { IfOk result (λ text. text ≡ raw_text (option_map (λ x. x.now) selector.entry) (option_map (λ x. x.now) query.entry)) }
+    ensures text_of_what_is_raw { IfOk result (λ text. text ≡ raw_text (option_map (λ x. x.now) selector.entry) (option_map (λ x. x.now) query.entry)) }
 {
     match selector {
         None => Ok(no_text(alloc)),
@@ -153,7 +153,7 @@ fn target_of(
     bindings: &Bindings,
     raw: Text,
 ) -> Result<Target, ReadError<UriFault>>
-    ensures { Answers ReadError.NoMemory (target_of shape bindings.now raw) result }
+    ensures target_of_the_shape { Answers ReadError.NoMemory (target_of shape bindings.now raw) result }
 {
     match shape {
         Shape::Whole(doc) => Ok(Target::Document(doc)),
@@ -179,7 +179,7 @@ fn target_of(
 
 // What stands under the root.
 fn read_rest(alloc: Global, rest: &[u8]) -> Result<Target, ReadError<UriFault>>
-    ensures { Answers ReadError.NoMemory (rest_read rest.now) result }
+    ensures reads_what_is_under_the_root { Answers ReadError.NoMemory (rest_read rest.now) result }
 {
     let (path, raw_query) = cut(rest, b'?');
     let (segments, raw_selector) = read_path(alloc, path)?;

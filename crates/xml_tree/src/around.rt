@@ -50,7 +50,7 @@ impl<'a> Model for Around<'a> {
 impl<'a> Around<'a> {
     /// The scope of no declarations. Takes no memory.
     pub fn empty() -> Around<'a>
-        ensures { result ≡ [] }
+        ensures declares_nothing { result ≡ [] }
     {
         Around {
             place: Place::Nothing,
@@ -59,7 +59,7 @@ impl<'a> Around<'a> {
 
     /// A scope that others can be linked to. Takes no memory.
     pub fn given(scope: &'a Scope<'a>) -> Around<'a>
-        ensures { result ≡ scope.now }
+        ensures holds_what_is_given { result ≡ scope.now }
     {
         Around {
             place: Place::Outermost(scope),
@@ -68,7 +68,7 @@ impl<'a> Around<'a> {
 
     /// The scope inside an element with these declarations, in this scope. Takes no memory.
     pub fn inside<'b>(&'b self, declared: &'b Declared<'_>) -> Around<'b>
-        ensures { result ≡ self.now ++ declared.now ∷ [] }
+        ensures adds_the_declarations { result ≡ self.now ++ declared.now ∷ [] }
     {
         Around {
             place: Place::Within(&*self, &*declared),
@@ -77,7 +77,7 @@ impl<'a> Around<'a> {
 
     /// The URI that a prefix is bound to, the empty prefix being the default namespace. Takes no memory.
     pub fn resolve(&self, prefix: &Text) -> Option<&'a str>
-        ensures { option_map (λ uri. chars uri.now) result ≡ bound self.now prefix.now }
+        ensures resolves_as_it_is_bound { option_map (λ uri. chars uri.now) result ≡ bound self.now prefix.now }
     {
         if is_xml(prefix.as_str()) {
             return Some(xml_uri());
@@ -87,7 +87,7 @@ impl<'a> Around<'a> {
 
     // What the nearest declaration of a prefix says.
     fn nearest(&self, prefix: &Text) -> Option<&'a Text>
-        ensures { option_copied result ≡ declared (joined self.now) prefix.now }
+        ensures finds_what_is_declared { option_copied result ≡ declared (joined self.now) prefix.now }
     {
         match self.place {
             Place::Nothing => None,

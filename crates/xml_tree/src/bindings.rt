@@ -25,14 +25,14 @@ pub(crate) fn gather<'a>(
 
 // Whether a declaration binds a prefix that isn't bound anyway.
 fn binds(decl: &Decl) -> bool
-    ensures { result ≡ binds decl.now }
+    ensures tells_whether_it_binds { result ≡ binds decl.now }
 {
     !decl.uri.is_empty() && !is_xml(decl.prefix.as_str())
 }
 
 /// All bindings in these lists of declarations, outermost first, without that of `xml`: the default, then the prefixes by code point.
 pub(crate) fn bindings(alloc: Global, lists: &[&[Decl]]) -> Result<Vec<Decl>, AllocError>
-    ensures { IfOk result (λ made. made.items ≡ bindings_in (map (λ x. x.now) lists.now)) }
+    ensures all_bindings_in_scope { IfOk result (λ made. made.items ≡ bindings_in (map (λ x. x.now) lists.now)) }
 {
     let mut found = BTreeMap::new(alloc);
     for list in lists {
@@ -43,7 +43,7 @@ pub(crate) fn bindings(alloc: Global, lists: &[&[Decl]]) -> Result<Vec<Decl>, Al
 
 // Copies of the declarations that bind, in order.
 fn binding_ones(alloc: Global, found: &BTreeMap<&str, &Decl>) -> Result<Vec<Decl>, AllocError>
-    ensures { IfOk result (λ made. made.items ≡ filter binds (values_in found.now.entries)) }
+    ensures copies_of_those_that_bind { IfOk result (λ made. made.items ≡ filter binds (values_in found.now.entries)) }
 {
     let mut ones = Vec::new(alloc);
     for decl in found.values() {

@@ -40,7 +40,7 @@ impl<'a> Model for Declared<'a> {
 impl<'a> Declared<'a> {
     /// The declarations without an index, for a list that is asked only a few times. Takes no memory.
     pub fn new(alloc: Global, decls: &'a [Decl]) -> Declared<'a>
-        ensures { result ≡ decls.now }
+        ensures holds_the_declarations { result ≡ decls.now }
     {
         Declared {
             decls,
@@ -53,7 +53,7 @@ impl<'a> Declared<'a> {
     /// # Errors
     /// `NoMemory` for want of memory.
     pub fn indexed(alloc: Global, decls: &'a [Decl]) -> Result<Declared<'a>, AllocError>
-        ensures { IfOk result (λ made. made ≡ decls.now) }
+        ensures holds_the_declarations { IfOk result (λ made. made ≡ decls.now) }
     {
         if decls.len() <= FEW {
             return Ok(Declared::new(alloc, decls));
@@ -64,7 +64,7 @@ impl<'a> Declared<'a> {
 
     /// What the last declaration of a prefix says, if there is one: its URI, which is empty where the prefix is undeclared. Takes no memory.
     pub fn uri_of(&self, prefix: &Text) -> Option<&'a Text>
-        ensures { option_copied result ≡ declared self.now prefix.now }
+        ensures last_of_the_prefix { option_copied result ≡ declared self.now prefix.now }
     {
         if self.index.is_empty() {
             return scope::declared(self.decls, prefix.as_str());
@@ -75,7 +75,7 @@ impl<'a> Declared<'a> {
 
 // The last declaration of each prefix, in the order of the prefixes.
 fn index_of<'a>(alloc: Global, decls: &'a [Decl]) -> Result<Vec<&'a Decl>, AllocError>
-    ensures { IfOk result (λ made. map (λ x. x.now) made.items ≡ gathered [] decls.now) }
+    ensures gathers_the_last_of_each { IfOk result (λ made. map (λ x. x.now) made.items ≡ gathered [] decls.now) }
 {
     let mut found = BTreeMap::new(alloc);
     gather(&mut found, decls)?;
@@ -89,7 +89,7 @@ fn index_of<'a>(alloc: Global, decls: &'a [Decl]) -> Result<Vec<&'a Decl>, Alloc
 // The URI of a prefix in an index.
 fn look_up<'a>(index: &[&'a Decl], prefix: &Text) -> Option<&'a Text>
     requires { AreInOrder (map (λ x. x.now) index.now) }
-    ensures { option_copied result ≡ declared (map (λ x. x.now) index.now) prefix.now }
+    ensures finds_the_prefix { option_copied result ≡ declared (map (λ x. x.now) index.now) prefix.now }
 {
     match index.binary_search_by(|decl| decl.prefix.cmp(prefix)) {
         Ok(place) => Some(&index[place].uri),

@@ -69,7 +69,7 @@ impl Element {
 impl Element {
     /// The attribute of this prefix and local name, lent: None where there is none. Takes no memory.
     pub fn attr(&self, name: &Name) -> Option<&Attr>
-        ensures { option_copied result ≡ find (is_named name.now) self.now.attrs }
+        ensures attribute_of_the_name { option_copied result ≡ find (is_named name.now) self.now.attrs }
     {
         attr_of(&self.attrs, name)
     }

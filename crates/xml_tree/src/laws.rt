@@ -10,7 +10,7 @@ ghost use Rattle.xml_tree.specs.declared.tree.Node.{Node};
 
 /// A change at a path leaves what is at a path that parts from it.
 pub fn other_places_stay()
-    ensures { (p q : List ℕ) (f : Tree → Tree) (t : Tree) → Apart p q → at q (change_at p f t) ≡ at q t }
+    ensures leaves_the_other_place { (p q : List ℕ) (f : Tree → Tree) (t : Tree) → Apart p q → at q (change_at p f t) ≡ at q t }
 {}
 
 /// What a change made of an element, or put in its place, is there.
@@ -27,7 +27,7 @@ pub fn paths_go_on()
 
 /// A path has fewer numbers than the tree has levels.
 pub fn paths_are_short()
-    ensures { (p : List ℕ) (e t : Tree) → at p t ≡ Some e → length p + height e ≤ height t }
+    ensures shorter_than_the_tree_is_high { (p : List ℕ) (e t : Tree) → at p t ≡ Some e → length p + height e ≤ height t }
 {}
 
 /// A content and its nodes, which are normal, are one; and the element children are the elements among the nodes.

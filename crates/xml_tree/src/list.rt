@@ -24,7 +24,7 @@ impl<T> Model for List<T> {
 impl<T> List<T> {
     /// The list without items. Takes no memory.
     pub fn empty(alloc: Global) -> List<T>
-        ensures { result ≡ [] }
+        ensures holds_no_items { result ≡ [] }
     {
         List {
             items: Vec::new(alloc),
@@ -33,21 +33,21 @@ impl<T> List<T> {
 
     /// The items of a vector, which are not copied. Takes no memory.
     pub fn from(items: Vec<T>) -> List<T>
-        ensures { result ≡ items.items }
+        ensures holds_the_items { result ≡ items.items }
     {
         List { items }
     }
 
     /// The items, lent. Takes no memory.
     pub fn as_slice(&self) -> &[T]
-        ensures { result.now ≡ self.now }
+        ensures lends_the_items { result.now ≡ self.now }
     {
         self.items.as_slice()
     }
 
     /// The vector of the items. Takes no memory.
     pub fn into_vec(self) -> Vec<T>
-        ensures { result.items ≡ self }
+        ensures hands_out_the_items { result.items ≡ self }
     {
         let List { items } = self;
         items

@@ -34,7 +34,7 @@ impl Name {
     /// # Errors
     /// `NoMemory` for want of memory.
     pub fn copy(&self, alloc: Global) -> Result<Name, AllocError>
-        ensures { IfOk result (λ made. made ≡ self.now) }
+        ensures makes_an_equal_name { IfOk result (λ made. made ≡ self.now) }
     {
         let prefix = self.prefix.copy(alloc)?;
         let local = self.local.copy(alloc)?;
@@ -56,7 +56,7 @@ impl Decl {
     /// # Errors
     /// `NoMemory` for want of memory.
     pub fn copy(&self, alloc: Global) -> Result<Decl, AllocError>
-        ensures { IfOk result (λ made. made ≡ self.now) }
+        ensures makes_an_equal_declaration { IfOk result (λ made. made ≡ self.now) }
     {
         let prefix = self.prefix.copy(alloc)?;
         let uri = self.uri.copy(alloc)?;
@@ -65,7 +65,7 @@ impl Decl {
 
     /// Whether two declarations are equal. Takes no memory.
     pub fn same(&self, other: &Decl) -> bool
-        ensures { IsTrue result ↔ (self.now ≡ other.now) }
+        ensures tells_equal_declarations { IsTrue result ↔ (self.now ≡ other.now) }
     {
         self.prefix.same(&other.prefix) && self.uri.same(&other.uri)
     }
@@ -77,7 +77,7 @@ impl Attr {
     /// # Errors
     /// `NoMemory` for want of memory.
     pub fn copy(&self, alloc: Global) -> Result<Attr, AllocError>
-        ensures { IfOk result (λ made. made ≡ self.now) }
+        ensures makes_an_equal_attribute { IfOk result (λ made. made ≡ self.now) }
     {
         let name = self.name.copy(alloc)?;
         let value = self.value.copy(alloc)?;
@@ -86,7 +86,7 @@ impl Attr {
 
     /// Whether two attributes have the same prefix, local name and value. Takes no memory.
     pub fn same(&self, other: &Attr) -> bool
-        ensures { IsTrue result ↔ (self.now ≡ other.now) }
+        ensures tells_equal_attributes { IsTrue result ↔ (self.now ≡ other.now) }
     {
         self.name.same(&other.name) && self.value.same(&other.value)
     }
@@ -94,7 +94,7 @@ impl Attr {
 
 // The first attribute of this name.
 pub(crate) fn attr_of<'a>(attrs: &'a [Attr], name: &Name) -> Option<&'a Attr>
-    ensures { option_copied result ≡ find (is_named name.now) attrs.now }
+    ensures first_of_the_name { option_copied result ≡ find (is_named name.now) attrs.now }
 {
     for attr in attrs {
         if attr.name.same(name) {
@@ -118,7 +118,7 @@ pub(crate) fn place_of_attr(attrs: &[Attr], name: &Name) -> usize
 }
 
 pub(crate) fn same_decls(a: &[Decl], b: &[Decl]) -> bool
-    ensures { IsTrue result ↔ (a.now ≡ b.now) }
+    ensures tells_equal_declaration_lists { IsTrue result ↔ (a.now ≡ b.now) }
 {
     if a.len() != b.len() {
         return false;
@@ -132,7 +132,7 @@ pub(crate) fn same_decls(a: &[Decl], b: &[Decl]) -> bool
 }
 
 pub(crate) fn same_attrs(a: &[Attr], b: &[Attr]) -> bool
-    ensures { IsTrue result ↔ (a.now ≡ b.now) }
+    ensures tells_equal_attribute_lists { IsTrue result ↔ (a.now ≡ b.now) }
 {
     if a.len() != b.len() {
         return false;
@@ -150,7 +150,7 @@ pub(crate) fn same_attrs(a: &[Attr], b: &[Attr]) -> bool
 /// # Errors
 /// `NoMemory` for want of memory.
 pub fn copy_decls(alloc: Global, decls: &[Decl]) -> Result<Vec<Decl>, AllocError>
-    ensures { IfOk result (λ made. made.items ≡ decls.now) }
+    ensures copies_the_declarations { IfOk result (λ made. made.items ≡ decls.now) }
 {
     let mut made = Vec::with_capacity(alloc, decls.len())?;
     for decl in decls {
@@ -160,7 +160,7 @@ pub fn copy_decls(alloc: Global, decls: &[Decl]) -> Result<Vec<Decl>, AllocError
 }
 
 pub(crate) fn copy_attrs(alloc: Global, attrs: &[Attr]) -> Result<Vec<Attr>, AllocError>
-    ensures { IfOk result (λ made. made.items ≡ attrs.now) }
+    ensures copies_the_attributes { IfOk result (λ made. made.items ≡ attrs.now) }
 {
     let mut made = Vec::with_capacity(alloc, attrs.len())?;
     for attr in attrs {

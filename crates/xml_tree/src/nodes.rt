@@ -34,7 +34,7 @@ pub fn place_of(nodes: &[Node], child: usize) -> usize
 // An element child, if it is there.
 #[tactic(auto, using(crate::proofs::Places::places))]
 pub(crate) fn kid_of(nodes: &[Node], child: usize) -> Option<&Element>
-    ensures { option_copied result ≡ slice_get (kids (content_of nodes.now)) child }
+    ensures child_of_that_number { option_copied result ≡ slice_get (kids (content_of nodes.now)) child }
 {
     let mut left = child;
     for node in nodes {
@@ -84,7 +84,7 @@ pub(crate) fn push_comment_node(nodes: &mut Vec<Node>, text: Text) -> Result<(),
 // Whether a text stands last.
 #[tactic(auto, using(crate::proofs::Places::texts))]
 pub(crate) fn ends_in_text(nodes: &[Node]) -> bool
-    ensures { result ≡ ends_in_text nodes.now }
+    ensures tells_whether_a_text_is_last { result ≡ ends_in_text nodes.now }
 {
     let count = nodes.len();
     if count == 0 {
@@ -131,7 +131,7 @@ pub(crate) fn push_text(nodes: &mut Vec<Node>, text: &str) -> Result<(), AllocEr
 
 // The text at a place among the nodes, where one is there.
 pub(crate) fn text_at(nodes: &[Node], place: usize) -> Option<&Text>
-    ensures { option_copied result ≡ text_at place nodes.now }
+    ensures text_at_that_place { option_copied result ≡ text_at place nodes.now }
 {
     if place >= nodes.len() {
         return None;
@@ -141,7 +141,7 @@ pub(crate) fn text_at(nodes: &[Node], place: usize) -> Option<&Text>
 
 /// The place of a gap between element children among nodes: behind the child before it.
 pub fn place_of_gap(nodes: &[Node], gap: usize) -> usize
-    ensures { result ≡ gap_place gap nodes.now }
+    ensures place_behind_the_child_before { result ≡ gap_place gap nodes.now }
 {
     if gap == 0 {
         0
@@ -207,7 +207,7 @@ fn joined_beside(alloc: Global, nodes: &[Node], place: usize) -> Result<Option<T
 // Exchanges a node and the one before it for a text.
 fn replace_two(nodes: &mut Vec<Node>, place: usize, text: Text)
     requires between { (0 < place) × (place < length nodes.old.items) }
-    ensures { nodes.new.items ≡ slice_set (remove nodes.old.items place) (place - 1) (Chars text) }
+    ensures text_in_place_of_both { nodes.new.items ≡ slice_set (remove nodes.old.items place) (place - 1) (Chars text) }
 {
     let _behind = nodes.remove(place);
     let _before = mem::replace(&mut nodes[place - 1], Node::Chars(text));

@@ -29,7 +29,7 @@ impl Model for Path {
 impl Path {
     /// The place of the root element. Takes no memory.
     pub fn root() -> Path
-        ensures { result ≡ [] }
+        ensures leads_to_the_root { result ≡ [] }
     {
         Path {
             numbers: [0; 64],
@@ -63,7 +63,7 @@ impl Path {
 
     /// An equal path. Takes no memory.
     pub fn copy(&self) -> Path
-        ensures { result ≡ self.now }
+        ensures makes_an_equal_path { result ≡ self.now }
     {
         Path {
             numbers: self.numbers,
@@ -73,7 +73,7 @@ impl Path {
 
     /// Whether two paths have the same numbers. Takes no memory.
     pub fn same(&self, other: &Path) -> bool
-        ensures { IsTrue result ↔ (self.now ≡ other.now) }
+        ensures tells_equal_paths { IsTrue result ↔ (self.now ≡ other.now) }
     {
         self.numbers() == other.numbers()
     }
@@ -97,7 +97,7 @@ impl Path {
 
 /// The element at a path: None exactly where a number has no element child. Takes no memory.
 pub fn element_at<'a>(root: &'a Element, path: &Path) -> Option<&'a Element>
-    ensures { option_copied result ≡ at path.now root.now }
+    ensures element_at_the_path { option_copied result ≡ at path.now root.now }
 {
     let mut here = root;
     for number in path.numbers() {

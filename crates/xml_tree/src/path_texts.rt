@@ -11,7 +11,7 @@ use std::alloc::{AllocError, Global};
 /// # Errors
 /// `NoMemory` for want of memory.
 pub fn print_path(alloc: Global, path: &Path) -> Result<Text, AllocError>
-    ensures { IfOk result (λ text. text ≡ path_text path.now) }
+    ensures prints_the_path { IfOk result (λ text. text ≡ path_text path.now) }
 {
     let mut text = String::from_str(alloc, "*")?;
     for number in path.numbers() {

@@ -9,7 +9,7 @@ use crate::tree::{Element, Node};
 
 // How many bytes a byte of a text is written as.
 fn text_width(byte: u8) -> usize
-    ensures { result ≡ length (text_escape byte) }
+    ensures counts_the_escaped_byte { result ≡ length (text_escape byte) }
 {
     match text_reference(byte as char) {
         Some(reference) => reference.len(),
@@ -19,7 +19,7 @@ fn text_width(byte: u8) -> usize
 
 // How many bytes a byte of a value in quotes is written as.
 fn value_width(byte: u8) -> usize
-    ensures { result ≡ length (value_escape byte) }
+    ensures counts_the_escaped_byte_in_quotes { result ≡ length (value_escape byte) }
 {
     match value_reference(byte as char) {
         Some(reference) => reference.len(),
@@ -29,7 +29,7 @@ fn value_width(byte: u8) -> usize
 
 /// The length in bytes of the print of a text, by its bytes; the greatest number where it is longer, as in all that follows. Takes no memory.
 pub fn text_len(text: &[u8]) -> usize
-    ensures { result ≡ min (length (flat_map text_escape text.now)) usize.MAX }
+    ensures counts_the_escaped_text { result ≡ min (length (flat_map text_escape text.now)) usize.MAX }
 {
     let mut total = 0usize;
     for byte in text {
@@ -40,7 +40,7 @@ pub fn text_len(text: &[u8]) -> usize
 
 /// The length in bytes of a value as it is written, without the quotes, by its bytes. Takes no memory.
 pub fn value_len(value: &[u8]) -> usize
-    ensures { result ≡ min (length (flat_map value_escape value.now)) usize.MAX }
+    ensures counts_the_escaped_value { result ≡ min (length (flat_map value_escape value.now)) usize.MAX }
 {
     let mut total = 0usize;
     for byte in value {
@@ -52,7 +52,7 @@ pub fn value_len(value: &[u8]) -> usize
 // The length of a value in its quotes.
 #[tactic(auto, using(crate::proofs::PrintLengths::lengths))]
 fn quoted_len(value: &Text) -> usize
-    ensures { result ≡ min (byte_len (quoted value.now)) usize.MAX }
+    ensures counts_the_quoted_value { result ≡ min (byte_len (quoted value.now)) usize.MAX }
 {
     value_len(value.as_str().as_bytes()).saturating_add(2)
 }
@@ -61,7 +61,7 @@ fn quoted_len(value: &Text) -> usize
 /// number where it is longer. Takes no memory.
 #[tactic(auto, using(crate::proofs::PrintLengths::lengths))]
 pub fn name_len(name: &Name) -> usize
-    ensures { result ≡ min (byte_len (print_name name.now)) usize.MAX }
+    ensures counts_the_printed_name { result ≡ min (byte_len (print_name name.now)) usize.MAX }
 {
     let local = name.local.as_str().len();
     if name.prefix.is_empty() {
@@ -77,7 +77,7 @@ pub fn name_len(name: &Name) -> usize
 // The length of the name that declares a prefix.
 #[tactic(auto, using(crate::proofs::PrintLengths::lengths))]
 fn declaring_len(prefix: &Text) -> usize
-    ensures { result ≡ min (byte_len (declaring prefix.now)) usize.MAX }
+    ensures counts_the_declaring_name { result ≡ min (byte_len (declaring prefix.now)) usize.MAX }
 {
     if prefix.is_empty() {
         return 5;
@@ -89,7 +89,7 @@ fn declaring_len(prefix: &Text) -> usize
 /// memory.
 #[tactic(auto, using(crate::proofs::PrintLengths::lengths))]
 pub fn decl_len(decl: &Decl) -> usize
-    ensures { result ≡ min (byte_len (print_decl decl.now)) usize.MAX }
+    ensures counts_the_printed_declaration { result ≡ min (byte_len (print_decl decl.now)) usize.MAX }
 {
     declaring_len(&decl.prefix)
         .saturating_add(quoted_len(&decl.uri))
@@ -100,7 +100,7 @@ pub fn decl_len(decl: &Decl) -> usize
 /// space before it; the greatest number where it is longer. Takes no memory.
 #[tactic(auto, using(crate::proofs::PrintLengths::lengths))]
 pub fn attr_len(name: &Name, value: &Text) -> usize
-    ensures { result ≡ min (byte_len (print_attr (record { name = name.now; value = value.now }))) usize.MAX }
+    ensures counts_the_printed_attribute { result ≡ min (byte_len (print_attr (record { name = name.now; value = value.now }))) usize.MAX }
 {
     name_len(name)
         .saturating_add(quoted_len(value))
@@ -110,7 +110,7 @@ pub fn attr_len(name: &Name, value: &Text) -> usize
 /// The length in bytes of all declarations of an element as they are printed in its tag. Takes no memory.
 #[tactic(auto, using(crate::proofs::PrintLengths::lengths))]
 pub fn decls_len(decls: &[Decl]) -> usize
-    ensures { result ≡ min (byte_len (flat_map print_decl decls.now)) usize.MAX }
+    ensures counts_the_printed_declarations { result ≡ min (byte_len (flat_map print_decl decls.now)) usize.MAX }
 {
     let mut total = 0usize;
     for decl in decls {
@@ -122,7 +122,7 @@ pub fn decls_len(decls: &[Decl]) -> usize
 // The length of all attributes of an element.
 #[tactic(auto, using(crate::proofs::PrintLengths::lengths))]
 fn attrs_len(attrs: &[Attr]) -> usize
-    ensures { result ≡ min (byte_len (flat_map print_attr attrs.now)) usize.MAX }
+    ensures counts_the_printed_attributes { result ≡ min (byte_len (flat_map print_attr attrs.now)) usize.MAX }
 {
     let mut total = 0usize;
     for attr in attrs {
@@ -134,7 +134,7 @@ fn attrs_len(attrs: &[Attr]) -> usize
 // The length of what begins an element: its name, declarations and attributes.
 #[tactic(auto, using(crate::proofs::PrintLengths::lengths))]
 fn opening_len(element: &Element) -> usize
-    ensures { result ≡ min (byte_len (opening element.now.name element.now.decls element.now.attrs)) usize.MAX }
+    ensures counts_the_opening { result ≡ min (byte_len (opening element.now.name element.now.decls element.now.attrs)) usize.MAX }
 {
     let names = name_len(element.name());
     let lists = decls_len(element.decls()).saturating_add(attrs_len(element.attrs()));
@@ -144,7 +144,7 @@ fn opening_len(element: &Element) -> usize
 // The length of a comment.
 #[tactic(auto, using(crate::proofs::PrintLengths::lengths))]
 fn comment_len(text: &Text) -> usize
-    ensures { result ≡ min (byte_len (print_comment text.now)) usize.MAX }
+    ensures counts_the_comment { result ≡ min (byte_len (print_comment text.now)) usize.MAX }
 {
     text.as_str().len().saturating_add(7)
 }
@@ -153,7 +153,7 @@ fn comment_len(text: &Text) -> usize
 #[cycle(printed)]
 #[tactic(auto, using(crate::proofs::PrintLengths::lengths))]
 pub fn printed_len(element: &Element) -> usize
-    ensures { result ≡ min (byte_len (print element.now)) usize.MAX }
+    ensures counts_the_printed_element { result ≡ min (byte_len (print element.now)) usize.MAX }
 {
     let opening = opening_len(element);
     let nodes = element.nodes();
@@ -174,7 +174,7 @@ pub fn printed_len(element: &Element) -> usize
 #[cycle(printed)]
 #[tactic(auto, using(crate::proofs::PrintLengths::lengths))]
 fn node_len(node: &Node) -> usize
-    ensures { result ≡ min (byte_len (print_node node.now)) usize.MAX }
+    ensures counts_the_printed_node { result ≡ min (byte_len (print_node node.now)) usize.MAX }
 {
     match node {
         Node::Elem(element) => printed_len(element),

@@ -36,5 +36,5 @@ pub fn proper_when_put()
 
 /// What is proper in a scope is proper in each that binds every prefix alike.
 pub fn proper_in_scopes_that_bind_alike()
-    ensures { (c d : List (List Decl)) (t : Tree) → ((p : List ℕ) → bound c p ≡ bound d p) → ProperIn c t → ProperIn d t }
+    ensures proper_where_all_is_bound_alike { (c d : List (List Decl)) (t : Tree) → ((p : List ℕ) → bound c p ≡ bound d p) → ProperIn c t → ProperIn d t }
 {}

@@ -16,7 +16,7 @@ impl Element {
     pub fn put_kid_in_room(&mut self, gap: usize, element: Element, room: Vec<Node>)
         requires gap { gap ≤ length (kids_of self.old) }
         requires room { HasNodeRoom self.old room }
-        ensures { self.new ≡ put_kid gap element self.old }
+        ensures puts_the_child { self.new ≡ put_kid gap element self.old }
     {
         put_elem_in_room(&mut self.nodes, gap, element, room)
     }
@@ -51,7 +51,7 @@ impl Element {
     #[tactic(auto, using(crate::proofs::AttrLemmas::by_place))]
     pub fn set_attr_in_room(&mut self, name: Name, value: Text, room: Vec<Attr>)
         requires { HasAttrRoom name self.old room }
-        ensures { self.new ≡ write_attr name value self.old }
+        ensures writes_the_attribute { self.new ≡ write_attr name value self.old }
     {
         let place = place_of_attr(&self.attrs, &name);
         if place < self.attrs.len() {

@@ -41,7 +41,7 @@ impl<'a> Model for Scope<'a> {
 impl<'a> Scope<'a> {
     /// The scope of no declarations. Takes no memory.
     pub fn empty() -> Scope<'a>
-        ensures { result ≡ [] }
+        ensures declares_nothing { result ≡ [] }
     {
         Scope {
             lists: [&[]; 67],
@@ -52,7 +52,7 @@ impl<'a> Scope<'a> {
     /// The scope at an element: the declarations of all elements on its path, its own included. None exactly where no element
     /// is at the path. Takes no memory.
     pub fn at(root: &'a Element, path: &Path) -> Option<Scope<'a>>
-        ensures { result ≡ option_map (λ _. scope_at path.now root.now) (at path.now root.now) }
+        ensures scope_at_the_element { result ≡ option_map (λ _. scope_at path.now root.now) (at path.now root.now) }
     {
         let mut here = root;
         let mut scope = Scope::empty().with(root.decls());
@@ -66,7 +66,7 @@ impl<'a> Scope<'a> {
     /// The scope with one list more, which is the innermost. Takes no memory.
     pub fn with(&self, decls: &'a [Decl]) -> Scope<'a>
         requires { length self.now < SCOPE_LIMIT }
-        ensures { result ≡ self.now ++ decls.now ∷ [] }
+        ensures adds_the_list { result ≡ self.now ++ decls.now ∷ [] }
     {
         let mut lists = self.lists;
         lists[self.len] = decls;
@@ -78,7 +78,7 @@ impl<'a> Scope<'a> {
 
     /// An equal scope, which borrows the same lists. Takes no memory.
     pub fn copy(&self) -> Scope<'a>
-        ensures { result ≡ self.now }
+        ensures makes_an_equal_scope { result ≡ self.now }
     {
         Scope {
             lists: self.lists,
@@ -88,14 +88,14 @@ impl<'a> Scope<'a> {
 
     /// How many lists it holds. Takes no memory.
     pub fn depth(&self) -> usize
-        ensures { result ≡ length self.now }
+        ensures counts_the_lists { result ≡ length self.now }
     {
         self.len
     }
 
     /// The lists, outermost first. Takes no memory.
     pub fn lists(&self) -> &[&'a [Decl]]
-        ensures { map (λ x. x.now) result.now ≡ self.now }
+        ensures lends_the_lists { map (λ x. x.now) result.now ≡ self.now }
     {
         &self.lists[..self.len]
     }
@@ -105,14 +105,14 @@ impl<'a> Scope<'a> {
     /// # Errors
     /// `NoMemory` for want of memory.
     pub fn bindings(&self, alloc: Global) -> Result<Vec<Decl>, AllocError>
-        ensures { IfOk result (λ made. made.items ≡ bindings_in self.now) }
+        ensures all_bindings_in_scope { IfOk result (λ made. made.items ≡ bindings_in self.now) }
     {
         bindings(alloc, &self.lists[..self.len])
     }
 
     /// The URI that a prefix is bound to, the empty prefix being the default namespace. Takes no memory.
     pub fn resolve(&self, prefix: &str) -> Option<&'a str>
-        ensures { option_map (λ uri. chars uri.now) result ≡ bound self.now (chars prefix.now) }
+        ensures resolves_as_it_is_bound { option_map (λ uri. chars uri.now) result ≡ bound self.now (chars prefix.now) }
     {
         if is_xml(prefix) {
             return Some(xml_uri());
@@ -122,7 +122,7 @@ impl<'a> Scope<'a> {
 
     // What the nearest declaration of a prefix says.
     pub(crate) fn nearest(&self, prefix: &str) -> Option<&'a Text>
-        ensures { option_copied result ≡ declared (joined self.now) (chars prefix.now) }
+        ensures finds_what_is_declared { option_copied result ≡ declared (joined self.now) (chars prefix.now) }
     {
         nearest(&self.lists[..self.len], prefix)
     }
@@ -130,28 +130,28 @@ impl<'a> Scope<'a> {
 
 /// Whether a prefix is `xml`, which is always bound.
 pub fn is_xml(prefix: &str) -> bool
-    ensures { result ≡ bytes_eq (chars prefix.now) xml_prefix }
+    ensures tells_whether_it_is_xml { result ≡ bytes_eq (chars prefix.now) xml_prefix }
 {
     prefix == "xml"
 }
 
 /// Whether a prefix is `xmlns`, which is never bound.
 pub fn is_xmlns(prefix: &str) -> bool
-    ensures { result ≡ bytes_eq (chars prefix.now) xmlns_prefix }
+    ensures tells_whether_it_is_xmlns { result ≡ bytes_eq (chars prefix.now) xmlns_prefix }
 {
     prefix == "xmlns"
 }
 
 // The namespace of `xml`.
 pub(crate) fn xml_uri() -> &'static str
-    ensures { chars result.now ≡ xml_uri }
+    ensures namespace_of_xml { chars result.now ≡ xml_uri }
 {
     "http://www.w3.org/XML/1998/namespace"
 }
 
 // A URI, unless it is empty, which binds nothing.
 pub(crate) fn some_text<'a>(uri: Option<&'a Text>) -> Option<&'a str>
-    ensures { option_map (λ text. chars text.now) result ≡ some_text (option_copied uri.entry) }
+    ensures nothing_if_it_is_empty { option_map (λ text. chars text.now) result ≡ some_text (option_copied uri.entry) }
 {
     match uri {
         Some(text) if !text.is_empty() => Some(text.as_str()),
@@ -162,7 +162,7 @@ pub(crate) fn some_text<'a>(uri: Option<&'a Text>) -> Option<&'a str>
 // What the lists declare of a prefix, the last of them first.
 #[tactic(auto, using(crate::proofs::ScopeLemmas::declared_steps))]
 fn nearest<'a>(lists: &[&'a [Decl]], prefix: &str) -> Option<&'a Text>
-    ensures { option_copied result ≡ declared (joined (map (λ x. x.now) lists.now)) (chars prefix.now) }
+    ensures last_that_is_declared { option_copied result ≡ declared (joined (map (λ x. x.now) lists.now)) (chars prefix.now) }
 {
     let mut found = None;
     for list in lists {
@@ -175,7 +175,7 @@ fn nearest<'a>(lists: &[&'a [Decl]], prefix: &str) -> Option<&'a Text>
 
 // What a list declares of a prefix.
 pub(crate) fn declared<'a>(decls: &'a [Decl], prefix: &str) -> Option<&'a Text>
-    ensures { option_copied result ≡ declared decls.now (chars prefix.now) }
+    ensures declared_by_the_list { option_copied result ≡ declared decls.now (chars prefix.now) }
 {
     let mut found = None;
     for decl in decls {

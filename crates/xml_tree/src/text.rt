@@ -31,7 +31,7 @@ impl Text {
     /// # Errors
     /// `NoMemory` for want of memory.
     pub fn from(alloc: Global, text: &str) -> Result<Text, AllocError>
-        ensures { IfOk result (λ made. made ≡ chars text.now) }
+        ensures copies_the_text { IfOk result (λ made. made ≡ chars text.now) }
     {
         let bytes = TextBytes::from(alloc, text)?;
         Ok(Text { bytes })
@@ -39,7 +39,7 @@ impl Text {
 
     /// The text that a string holds, which is not copied. Takes no memory.
     pub fn own(string: String) -> Text
-        ensures { result ≡ chars (string_bytes string) }
+        ensures holds_the_string { result ≡ chars (string_bytes string) }
     {
         Text {
             bytes: TextBytes::Long(string),
@@ -51,7 +51,7 @@ impl Text {
     /// # Errors
     /// `NoMemory` for want of memory.
     pub fn with_capacity(alloc: Global, bytes: usize) -> Result<Text, AllocError>
-        ensures { IfOk result (λ made. made ≡ []) }
+        ensures holds_no_characters { IfOk result (λ made. made ≡ []) }
     {
         let bytes = TextBytes::with_capacity(alloc, bytes)?;
         Ok(Text { bytes })
@@ -70,7 +70,7 @@ impl Text {
     /// # Errors
     /// `NoMemory` for want of memory.
     pub fn copy(&self, alloc: Global) -> Result<Text, AllocError>
-        ensures { IfOk result (λ made. made ≡ self.now) }
+        ensures makes_an_equal_text { IfOk result (λ made. made ≡ self.now) }
     {
         Text::from(alloc, self.as_str())
     }
@@ -99,28 +99,28 @@ impl Text {
 
     /// Whether two texts have the same characters. Takes no memory.
     pub fn same(&self, other: &Text) -> bool
-        ensures { IsTrue result ↔ (self.now ≡ other.now) }
+        ensures tells_equal_texts { IsTrue result ↔ (self.now ≡ other.now) }
     {
         self.as_str() == other.as_str()
     }
 
     /// Whether it has these characters. Takes no memory.
     pub fn is(&self, text: &str) -> bool
-        ensures { result ≡ bytes_eq self.now (chars text.now) }
+        ensures tells_whether_it_has_these { result ≡ bytes_eq self.now (chars text.now) }
     {
         self.as_str() == text
     }
 
     /// Whether it has no character. Takes no memory.
     pub fn is_empty(&self) -> bool
-        ensures { IsTrue result ↔ (self.now ≡ []) }
+        ensures tells_whether_it_has_none { IsTrue result ↔ (self.now ≡ []) }
     {
         self.as_str().is_empty()
     }
 
     /// How many characters it has. Takes no memory.
     pub fn count(&self) -> usize
-        ensures { result ≡ length self.now }
+        ensures counts_the_characters { result ≡ length self.now }
     {
         self.as_str().chars().count()
     }

@@ -18,7 +18,7 @@ pub(crate) enum TextBytes {
 impl TextBytes {
     /// No bytes, with room for so many.
     pub(crate) fn with_capacity(alloc: Global, bytes: usize) -> Result<TextBytes, AllocError>
-        ensures { IfOk result (λ made. bytes_of made ≡ []) }
+        ensures holds_no_bytes { IfOk result (λ made. bytes_of made ≡ []) }
     {
         if bytes <= IN_PLACE {
             return Ok(TextBytes::Short(alloc, ArrayString::new()));
@@ -28,7 +28,7 @@ impl TextBytes {
 
     /// A copy of a text's bytes.
     pub(crate) fn from(alloc: Global, text: &str) -> Result<TextBytes, AllocError>
-        ensures { IfOk result (λ made. bytes_of made ≡ text.now) }
+        ensures copies_the_bytes { IfOk result (λ made. bytes_of made ≡ text.now) }
     {
         match ArrayString::from(text) {
             Ok(short) => Ok(TextBytes::Short(alloc, short)),
@@ -38,7 +38,7 @@ impl TextBytes {
 
     /// The text, lent.
     pub(crate) fn as_str(&self) -> &str
-        ensures { result.now ≡ bytes_of self.now }
+        ensures lends_the_text { result.now ≡ bytes_of self.now }
     {
         match self {
             TextBytes::Short(_, short) => short.as_str(),
@@ -81,7 +81,7 @@ impl TextBytes {
 
 // Two texts, one behind the other.
 fn joined(alloc: Global, front: &str, back: &str) -> Result<String, AllocError>
-    ensures { IfOk result (λ string. string_bytes string ≡ front.now ++ back.now) }
+    ensures joins_both { IfOk result (λ string. string_bytes string ≡ front.now ++ back.now) }
 {
     let mut string = String::with_capacity(alloc, front.len().saturating_add(back.len()))?;
     string.push_str(front)?;

@@ -60,7 +60,7 @@ impl Element {
 
     /// An element with this name and nothing else. Takes no memory; what is added later takes it from `alloc`.
     pub fn new(alloc: Global, name: Name) -> Element
-        ensures { result ≡ tree_of name [] [] (last []) }
+        ensures has_the_name_alone { result ≡ tree_of name [] [] (last []) }
     {
         Element {
             name,
@@ -149,21 +149,21 @@ impl Element {
 
     /// The name.
     pub fn name(&self) -> &Name
-        ensures { result.now ≡ self.now.name }
+        ensures lends_the_name { result.now ≡ self.now.name }
     {
         &self.name
     }
 
     /// The declarations, in the order in which they are written.
     pub fn decls(&self) -> &[Decl]
-        ensures { result.now ≡ self.now.decls }
+        ensures lends_the_declarations { result.now ≡ self.now.decls }
     {
         &self.decls
     }
 
     /// The attributes, in the order in which they are written.
     pub fn attrs(&self) -> &[Attr]
-        ensures { result.now ≡ self.now.attrs }
+        ensures lends_the_attributes { result.now ≡ self.now.attrs }
     {
         &self.attrs
     }
@@ -194,7 +194,7 @@ impl Element {
 
     /// An element child, counted from 0: None exactly where there are not so many.
     pub fn kid(&self, child: usize) -> Option<&Element>
-        ensures { option_copied result ≡ slice_get (kids_of self.now) child }
+        ensures child_of_that_number { option_copied result ≡ slice_get (kids_of self.now) child }
     {
         kid_of(&self.nodes, child)
     }
@@ -211,7 +211,7 @@ impl Element {
     pub fn edit_at<R, F: FnOnce(&mut Element) -> R>(&mut self, path: &Path, edit: F) -> R
         requires there { IsSome (at path.now self.old) }
         requires callable { (e : _) → at path.now self.old ≡ Some e → FnOnceTakesAtMut F.FnOnce edit e }
-        ensures { EditsAt F.FnOnce edit path.now self.old result self.new }
+        ensures edits_the_element_there { EditsAt F.FnOnce edit path.now self.old result self.new }
     {
         self.edit_below(path.numbers(), edit)
     }
@@ -224,7 +224,7 @@ impl Element {
     ) -> R
         requires there { IsSome (at path.now self.old) }
         requires callable { (e : _) → at path.now self.old ≡ Some e → FnOnceTakesAtMut F.FnOnce edit e }
-        ensures { EditsAt F.FnOnce edit path.now self.old result self.new }
+        ensures edits_the_element_below { EditsAt F.FnOnce edit path.now self.old result self.new }
     {
         match path.split_first() {
             None => edit(self),
@@ -256,7 +256,7 @@ impl Node {
 
     /// Whether it is a text. Takes no memory.
     pub fn is_text(&self) -> bool
-        ensures { result ≡ is_text self.now }
+        ensures tells_whether_it_is_text { result ≡ is_text self.now }
     {
         match self {
             Node::Elem(_) => false,
@@ -267,7 +267,7 @@ impl Node {
 
     // The text that it is.
     pub(crate) fn text(&self) -> Option<&Text>
-        ensures { option_copied result ≡ text_of self.now }
+        ensures lends_its_text { option_copied result ≡ text_of self.now }
     {
         match self {
             Node::Elem(_) => None,
@@ -279,7 +279,7 @@ impl Node {
     // The element that it is.
     pub(crate) fn into_elem(self) -> Element
         requires { IsSome (elem_of self) }
-        ensures { elem_of self ≡ Some result }
+        ensures element_that_it_was { elem_of self ≡ Some result }
     {
         match self {
             Node::Elem(element) => element,

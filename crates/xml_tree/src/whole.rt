@@ -8,7 +8,7 @@ use std::alloc::{AllocError, Global};
 
 /// How many elements are one in another, the root being 1; the greatest number where there are more. Takes no memory.
 pub fn depth(element: &Element) -> usize
-    ensures { result ≡ min (height element.now) usize.MAX }
+    ensures counts_the_levels { result ≡ min (height element.now) usize.MAX }
 {
     let mut below = 0usize;
     for node in &element.nodes {
@@ -25,7 +25,7 @@ pub fn depth(element: &Element) -> usize
 /// `NoMemory` for want of memory.
 #[cycle(copy)]
 pub fn copy_tree(alloc: Global, element: &Element) -> Result<Element, AllocError>
-    ensures { IfOk result (λ made. made ≡ element.now) }
+    ensures makes_an_equal_tree { IfOk result (λ made. made ≡ element.now) }
 {
     let nodes = copy_nodes(alloc, &element.nodes)?;
     Ok(Element {
@@ -42,7 +42,7 @@ pub fn copy_tree(alloc: Global, element: &Element) -> Result<Element, AllocError
 /// `NoMemory` for want of memory.
 #[cycle(copy)]
 pub fn copy_nodes(alloc: Global, nodes: &[Node]) -> Result<Vec<Node>, AllocError>
-    ensures { IfOk result (λ made. made.items ≡ nodes.now) }
+    ensures makes_equal_nodes { IfOk result (λ made. made.items ≡ nodes.now) }
 {
     let mut made = Vec::with_capacity(alloc, nodes.len())?;
     for node in nodes {
@@ -59,7 +59,7 @@ pub fn copy_nodes(alloc: Global, nodes: &[Node]) -> Result<Vec<Node>, AllocError
 /// Whether two trees are the same, prefixes and the order of declarations and attributes included. Takes no memory.
 #[cycle(equal)]
 pub fn equal(a: &Element, b: &Element) -> bool
-    ensures { IsTrue result ↔ (a.now ≡ b.now) }
+    ensures tells_equal_trees { IsTrue result ↔ (a.now ≡ b.now) }
 {
     if !a.name.same(&b.name) {
         return false;
@@ -72,7 +72,7 @@ pub fn equal(a: &Element, b: &Element) -> bool
 
 #[cycle(equal)]
 fn equal_nodes(a: &[Node], b: &[Node]) -> bool
-    ensures { IsTrue result ↔ (a.now ≡ b.now) }
+    ensures tells_equal_node_lists { IsTrue result ↔ (a.now ≡ b.now) }
 {
     if a.len() != b.len() {
         return false;
@@ -87,7 +87,7 @@ fn equal_nodes(a: &[Node], b: &[Node]) -> bool
 
 #[cycle(equal)]
 fn equal_node(a: &Node, b: &Node) -> bool
-    ensures { IsTrue result ↔ (a.now ≡ b.now) }
+    ensures tells_equal_nodes { IsTrue result ↔ (a.now ≡ b.now) }
 {
     match (a, b) {
         (Node::Elem(a), Node::Elem(b)) => equal(a, b),

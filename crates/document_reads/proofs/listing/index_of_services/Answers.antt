@@ -9,7 +9,7 @@ pub loop-root-init : goal.loop-root-init
 loop-root-init c =
     let trees = index_trees c.args.store.now.content in
     let left = c.into_iter-root-iterator.result.rest.items in
-    subst (λ (ss : List Tree). Gathered trees (shown left) ss) (sym c.in_ok-maker.ensures)
+    subst (λ (ss : List Tree). Gathered trees (shown left) ss) (sym c.in_ok-maker.ensures.lists_no_services)
     (gathered_none trees c.in_ok-root-items.root-items.items left c.into_iter-root-iterator.ensures.into_iter_gives.0 c.in_ok-root-items.ensures.trees c.in_ok-root-items.ensures.low)
 
 pub loop-root-preserved : goal.loop-root-preserved

@@ -7,4 +7,4 @@ pub returns-in-None-clause-decides_the_removal : goal.returns-in-None-clause-dec
 returns-in-None-clause-decides_the_removal c =
     let content = c.args.store.now.content in
     stays (DeletesDocument content c.args.doc.now c.args.request.now) c.args.store.now c.fixed.result
-    (delete_absent content c.args.doc.now c.args.request.now c.fixed.result c.in-None.ensures.tag_now c.fixed.ensures)
+    (delete_absent content c.args.doc.now c.args.request.now c.fixed.result c.in-None.ensures.tag_now c.fixed.ensures.bare_reply_of_the_status)

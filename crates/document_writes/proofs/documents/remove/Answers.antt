@@ -5,7 +5,7 @@ use Rattle.document_writes.proofs.documents.remove.Goals as goal
 
 pub returns-in-Ok-clause-decides_the_removal : goal.returns-in-Ok-clause-decides_the_removal
 returns-in-Ok-clause-decides_the_removal c =
-    makes c.args.store.now.content c.args.doc.now RemoveDocument c.args.closes (deleted_reply c.args.closes) c.prepare.new.store c.fixed.result c.in-Ok.name c.in-Ok.prepared c.in-Ok.ensures.prepared_or_refused c.fixed.ensures
+    makes c.args.store.now.content c.args.doc.now RemoveDocument c.args.closes (deleted_reply c.args.closes) c.prepare.new.store c.fixed.result c.in-Ok.name c.in-Ok.prepared c.in-Ok.ensures.prepared_or_refused c.fixed.ensures.bare_reply_of_the_status
 
 pub returns-in_ok-reply-in-Err-clause-decides_the_removal : goal.returns-in_ok-reply-in-Err-clause-decides_the_removal
 returns-in_ok-reply-in-Err-clause-decides_the_removal c =

@@ -31,4 +31,4 @@ returns-in-None-clause-decides_the_removal c =
     let reply = c.fixed.result in
     let P : Option (Tree × ℕ) → Type 0 = λ v. DeletesNodeIn content c.args.doc.now c.args.usage c.args.selector.now v c.args.request.now (unchanged reply) in
     stays (DeletesNode content c.args.doc.now c.args.usage c.args.selector.now c.args.request.now) c.args.store.now reply
-    (of_version content c.args.doc.now None P c.in-None.ensures.version_now (ap unchanged c.fixed.ensures))
+    (of_version content c.args.doc.now None P c.in-None.ensures.version_now (ap unchanged c.fixed.ensures.bare_reply_of_the_status))

@@ -12,4 +12,4 @@ pub returns-in-Beside : goal.returns-in-Beside
 returns-in-Beside c = record { there_before = new_beside c.args.tree.now c.args.selector.now c.args.spot.now c.requires.spot c.in-Beside.is }
 
 pub returns-in-Value : goal.returns-in-Value
-returns-in-Value c = record { there_before = c.has_node_at.ensures ∙ there_as_value c.args.tree.now c.args.selector.now c.args.spot.now c.requires.spot c.in-Value.path c.in-Value.is }
+returns-in-Value c = record { there_before = c.has_node_at.ensures.tells_whether_it_is_there ∙ there_as_value c.args.tree.now c.args.selector.now c.args.spot.now c.requires.spot c.in-Value.path c.in-Value.is }

@@ -5,12 +5,12 @@ use Rattle.document_writes.proofs.nodes.plan_cut.Goals as goal
 pub returns-in-Ok : goal.returns-in-Ok
 returns-in-Ok c = record {
   plans_the_removal =
-      cut c.texts_are_those_of_found_nodes.ensures c.args.usage c.args.tree.now c.args.selector.now c.args.request.now (delete_may c.args.usage c.args.tree.now c.args.selector.now c.requires.sound) c.in-Ok.change c.in-Ok.ensures.by_the_words;
+      cut c.texts_are_those_of_found_nodes.ensures.texts_of_found_nodes_alone c.args.usage c.args.tree.now c.args.selector.now c.args.request.now (delete_may c.args.usage c.args.tree.now c.args.selector.now c.requires.sound) c.in-Ok.change c.in-Ok.ensures.by_the_words;
 }
 
 pub returns-in-Err : goal.returns-in-Err
 returns-in-Err c = record {
   plans_the_removal =
-      uncut c.texts_are_those_of_found_nodes.ensures c.args.usage c.args.tree.now c.args.selector.now c.args.request.now (delete_may c.args.usage c.args.tree.now c.args.selector.now c.requires.sound) c.in-Err.why c.in-Err.ensures.by_the_words
+      uncut c.texts_are_those_of_found_nodes.ensures.texts_of_found_nodes_alone c.args.usage c.args.tree.now c.args.selector.now c.args.request.now (delete_may c.args.usage c.args.tree.now c.args.selector.now c.requires.sound) c.in-Err.why c.in-Err.ensures.by_the_words
       c.uncut.result c.uncut.ensures.tells_the_reason;
 }

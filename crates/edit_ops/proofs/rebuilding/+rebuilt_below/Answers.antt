@@ -7,11 +7,13 @@ use Rattle.edit_ops.proofs.SiteLemmas.{made_below}
 use Rattle.edit_ops.proofs.rebuilding.+rebuilt_below.Goals as goal
 
 pub returns : goal.returns
-returns t c =
-    let way = c.args.way.now in let child = get_or way 0 0 in let rest = take (length way - 1) (drop 1 way) in
-    let parts : way ≡ child ∷ rest = grind (arith, common_steps, c.in-len1-up.len_at_least) in
-    let f = made_here c.args.change.now in
-    IfOk-weaker c.with_child.result _ _
-    (λ made is. is ∙ made_below child (change_at rest f) c.in-Some.kid.now c.in_ok-made.made c.args.element.now (sym c.in-Some.ensures) c.in_ok-made.ensures
-    ∙ ap (λ p. change_at p f c.args.element.now) (sym parts))
-    c.with_child.ensures
+returns t c = record {
+  makes_the_change_below =
+      let way = c.args.way.now in let child = get_or way 0 0 in let rest = take (length way - 1) (drop 1 way) in
+      let parts : way ≡ child ∷ rest = grind (arith, common_steps, c.in-len1-up.len_at_least) in
+      let f = made_here c.args.change.now in
+      IfOk-weaker c.with_child.result _ _
+      (λ made is. is ∙ made_below child (change_at rest f) c.in-Some.kid.now c.in_ok-made.made c.args.element.now (sym c.in-Some.ensures.child_of_that_number) c.in_ok-made.ensures.makes_the_change_below
+      ∙ ap (λ p. change_at p f c.args.element.now) (sym parts))
+      c.with_child.ensures.puts_it_over_the_child;
+}

@@ -10,25 +10,25 @@ use Rattle.edit_ops.proofs.staged.make_staged.Goals as goal
 
 pub edit_at-requires-clause-there : goal.edit_at-requires-clause-there
 edit_at-requires-clause-there c =
-    subst (λ p. IsSome (at p c.args.root.now)) (sym c.site_of.ensures) (site_there c.args.root.now c.args.change.now c.requires.fits)
+    subst (λ p. IsSome (at p c.args.root.now)) (sym c.site_of.ensures.place_of_the_change) (site_there c.args.root.now c.args.change.now c.requires.fits)
 
 pub edit_at-requires-clause-callable : goal.edit_at-requires-clause-callable
 edit_at-requires-clause-callable c = λ e is p shows.
     let root = c.args.root.now in let change = c.args.change.now in let staged = c.args.staged in
-    let there = ap (λ q. at q root) (sym c.site_of.ensures) ∙ is in (
+    let there = ap (λ q. at q root) (sym c.site_of.ensures.place_of_the_change) ∙ is in (
       subst (FitsHere change) (sym shows) (fits_at root e change c.requires.fits there),
       subst (λ x. IsStagedHere change x staged) (sym shows) (from_there (at (site change) root) (λ x. IsStagedHere change x staged) e c.requires.staged there),
     )
 
 pub returns-clause-made : goal.returns-clause-made
 returns-clause-made c =
-    let done = c.edit_at.ensures in let change = c.args.change.now in
-    made_there c.args.root.now done.here done.left c.edit_at.new.self change c.site_of.result c.site_of.ensures done.there
+    let done = c.edit_at.ensures.edits_the_element_there in let change = c.args.change.now in
+    made_there c.args.root.now done.here done.left c.edit_at.new.self change c.site_of.result c.site_of.ensures.place_of_the_change done.there
     (sym done.edits.leaves ∙ done.edits.met ∙ ap (made_here change) done.edits.shows) done.put
 
 pub returns-clause-others : goal.returns-clause-others
 returns-clause-others c =
-    let done = c.edit_at.ensures in let root = c.args.root.now in let change = c.args.change.now in
-    let made = made_there root done.here done.left c.edit_at.new.self change c.site_of.result c.site_of.ensures done.there
+    let done = c.edit_at.ensures.edits_the_element_there in let root = c.args.root.now in let change = c.args.change.now in
+    let made = made_there root done.here done.left c.edit_at.new.self change c.site_of.result c.site_of.ensures.place_of_the_change done.there
     (sym done.edits.leaves ∙ done.edits.met ∙ ap (made_here change) done.edits.shows) done.put in
     subst (λ t. KeepsTheOthers root change t) (sym made) (others_stay root change c.requires.fits)

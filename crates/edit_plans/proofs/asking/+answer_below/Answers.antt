@@ -23,11 +23,13 @@ answer_in-requires t c =
     }
 
 pub returns-in_default : goal.returns-in_default
-returns-in_default t c =
-    let P : Result ℕ EditRefusal → Option Kind → Scope → Tree → Type 0 = λ x r d parent. Answers r d c.args.step.now parent c.args.place.now c.args.asked.now x in
-    or_memory (Answers c.args.row c.args.scope.now c.args.step.now c.args.element.now c.args.place.now c.args.asked.now) (λ x. Below (P x) c.args.row c.args.scope.now c.args.element.now c.args.way.now) c.answer_in.result
-    (λ x h. subst (λ (w : List ℕ). Below (P x) c.args.row c.args.scope.now c.args.element.now w) (sym (empty_way c.args.way.now c.in_default.len_below)) (below_here (P x) c.args.row c.args.scope.now c.args.element.now h))
-    c.answer_in.ensures
+returns-in_default t c = record {
+  answers_below =
+      let P : Result ℕ EditRefusal → Option Kind → Scope → Tree → Type 0 = λ x r d parent. Answers r d c.args.step.now parent c.args.place.now c.args.asked.now x in
+      or_memory (Answers c.args.row c.args.scope.now c.args.step.now c.args.element.now c.args.place.now c.args.asked.now) (λ x. Below (P x) c.args.row c.args.scope.now c.args.element.now c.args.way.now) c.answer_in.result
+      (λ x h. subst (λ (w : List ℕ). Below (P x) c.args.row c.args.scope.now c.args.element.now w) (sym (empty_way c.args.way.now c.in_default.len_below)) (below_here (P x) c.args.row c.args.scope.now c.args.element.now h))
+      c.answer_in.ensures.answers_what_was_asked;
+}
 
 -- one child further
 pub answer_below-requires : goal.answer_below-requires
@@ -41,12 +43,12 @@ answer_below-requires t c =
     let n = get_or way 0 0 in
     let rest = take (length way - 1) (drop 1 way) in
     let parts = way_parts way c.in-len1-up.len_at_least in
-    let there : slice_get (kids_of e) n ≡ Some kid = sym c.kid.ensures ∙ ap option_copied c.in-Some.is in
-    let scope_is : c.inside-inside.result ≡ inside scope kid = c.inside-inside.ensures ∙ ap (λ (ds : List Decl). scope ++ ds ∷ []) (c.in_ok-declared-in-Some.ensures {u = tt} ∙ c.decls.ensures) in
+    let there : slice_get (kids_of e) n ≡ Some kid = sym c.kid.ensures.child_of_that_number ∙ ap option_copied c.in-Some.is in
+    let scope_is : c.inside-inside.result ≡ inside scope kid = c.inside-inside.ensures.adds_the_declarations ∙ ap (λ (ds : List Decl). scope ++ ds ∷ []) ((c.in_ok-declared-in-Some.ensures {u = tt}).holds_the_declarations ∙ c.decls.ensures.lends_the_declarations) in
     let row_is : c.row_inside-row.result ≡ option_and_then (λ kind. kind_of kind (inside scope kid) kid.name) row =
-    c.row_inside-row.ensures
+    c.row_inside-row.ensures.row_of_the_child
     ∙ ap (λ (d : List (List Decl)). option_and_then (λ kind. kind_of kind d c.name.result.now) row) scope_is
-    ∙ ap (λ (m : Name). option_and_then (λ kind. kind_of kind (inside scope kid) m) row) c.name.ensures in
+    ∙ ap (λ (m : Name). option_and_then (λ kind. kind_of kind (inside scope kid) m) row) c.name.ensures.lends_the_name in
     let some = there_next n rest e kid there (subst (λ (w : List ℕ). IsSome (at w e)) parts c.requires.there) in
     let asked = subst (λ (o : Option Kind). Below P o c.inside-inside.result kid rest) (sym row_is)
     (subst (λ (d : List (List Decl)). Below P (option_and_then (λ kind. kind_of kind (inside scope kid) kid.name) row) d kid rest) (sym scope_is)
@@ -54,23 +56,25 @@ answer_below-requires t c =
     (search rules, (some, asked))
 
 pub returns : goal.returns
-returns t c =
-    let P : Result ℕ EditRefusal → Option Kind → Scope → Tree → Type 0 = λ x r d parent. Answers r d c.args.step.now parent c.args.place.now c.args.asked.now x in
-    let e = c.args.element.now in
-    let row = c.args.row in
-    let scope = c.args.scope.now in
-    let kid = c.in-Some.kid.now in
-    let way = c.args.way.now in
-    let n = get_or way 0 0 in
-    let rest = take (length way - 1) (drop 1 way) in
-    let there : slice_get (kids_of e) n ≡ Some kid = sym c.kid.ensures ∙ ap option_copied c.in-Some.is in
-    let scope_is : c.inside-inside.result ≡ inside scope kid = c.inside-inside.ensures ∙ ap (λ (ds : List Decl). scope ++ ds ∷ []) (c.in_ok-declared-in-Some.ensures {u = tt} ∙ c.decls.ensures) in
-    let row_is : c.row_inside-row.result ≡ option_and_then (λ kind. kind_of kind (inside scope kid) kid.name) row =
-    c.row_inside-row.ensures
-    ∙ ap (λ (d : List (List Decl)). option_and_then (λ kind. kind_of kind d c.name.result.now) row) scope_is
-    ∙ ap (λ (m : Name). option_and_then (λ kind. kind_of kind (inside scope kid) m) row) c.name.ensures in
-    or_memory (λ x. Below (P x) c.row_inside-row.result c.inside-inside.result kid rest) (λ x. Below (P x) row scope e way) c.answer_below.result
-    (λ x h. subst (λ (w : List ℕ). Below (P x) row scope e w) (sym (way_parts way c.in-len1-up.len_at_least))
-    (below_next (P x) row scope n rest e kid there
-    (subst (λ (o : Option Kind). Below (P x) o (inside scope kid) kid rest) row_is (subst (λ (d : List (List Decl)). Below (P x) c.row_inside-row.result d kid rest) scope_is h))))
-    c.answer_below.ensures
+returns t c = record {
+  answers_below =
+      let P : Result ℕ EditRefusal → Option Kind → Scope → Tree → Type 0 = λ x r d parent. Answers r d c.args.step.now parent c.args.place.now c.args.asked.now x in
+      let e = c.args.element.now in
+      let row = c.args.row in
+      let scope = c.args.scope.now in
+      let kid = c.in-Some.kid.now in
+      let way = c.args.way.now in
+      let n = get_or way 0 0 in
+      let rest = take (length way - 1) (drop 1 way) in
+      let there : slice_get (kids_of e) n ≡ Some kid = sym c.kid.ensures.child_of_that_number ∙ ap option_copied c.in-Some.is in
+      let scope_is : c.inside-inside.result ≡ inside scope kid = c.inside-inside.ensures.adds_the_declarations ∙ ap (λ (ds : List Decl). scope ++ ds ∷ []) ((c.in_ok-declared-in-Some.ensures {u = tt}).holds_the_declarations ∙ c.decls.ensures.lends_the_declarations) in
+      let row_is : c.row_inside-row.result ≡ option_and_then (λ kind. kind_of kind (inside scope kid) kid.name) row =
+      c.row_inside-row.ensures.row_of_the_child
+      ∙ ap (λ (d : List (List Decl)). option_and_then (λ kind. kind_of kind d c.name.result.now) row) scope_is
+      ∙ ap (λ (m : Name). option_and_then (λ kind. kind_of kind (inside scope kid) m) row) c.name.ensures.lends_the_name in
+      or_memory (λ x. Below (P x) c.row_inside-row.result c.inside-inside.result kid rest) (λ x. Below (P x) row scope e way) c.answer_below.result
+      (λ x h. subst (λ (w : List ℕ). Below (P x) row scope e w) (sym (way_parts way c.in-len1-up.len_at_least))
+      (below_next (P x) row scope n rest e kid there
+      (subst (λ (o : Option Kind). Below (P x) o (inside scope kid) kid rest) row_is (subst (λ (d : List (List Decl)). Below (P x) c.row_inside-row.result d kid rest) scope_is h))))
+      c.answer_below.ensures.answers_below;
+}

@@ -13,16 +13,18 @@ pub answer_below-requires-clause-asked : goal.answer_below-requires-clause-asked
 answer_below-requires-clause-asked c =
     let P : Option Kind → Scope → Tree → Type 0 = λ r d parent. MayAsk r d c.args.step.now parent c.args.place.now c.args.asked.now in
     let t = c.args.root.now in
-    let scope : c.inside.result ≡ t.decls ∷ [] = c.inside.ensures ∙ ap (λ (d : List (List Decl)). d ++ c.in_ok-declared.declared ∷ []) c.empty.ensures ∙ ap (λ (ds : List Decl). ds ∷ []) (c.in_ok-declared.ensures {u = tt} ∙ c.decls.ensures) in
-    subst (λ (k : Kind). Below P (Some k) c.inside.result t c.numbers.result.now) (sym c.root_kind.ensures)
+    let scope : c.inside.result ≡ t.decls ∷ [] = c.inside.ensures.adds_the_declarations ∙ ap (λ (d : List (List Decl)). d ++ c.in_ok-declared.declared ∷ []) c.empty.ensures.declares_nothing ∙ ap (λ (ds : List Decl). ds ∷ []) ((c.in_ok-declared.ensures {u = tt}).holds_the_declarations ∙ c.decls.ensures.lends_the_declarations) in
+    subst (λ (k : Kind). Below P (Some k) c.inside.result t c.numbers.result.now) (sym c.root_kind.ensures.kind_of_the_root)
     (subst (λ (d : List (List Decl)). Below P (Some (root_kind c.args.usage)) d t c.numbers.result.now) (sym scope)
     (subst (λ (q : List ℕ). Below P (Some (root_kind c.args.usage)) (t.decls ∷ []) t q) (sym c.numbers.ensures.numbers) c.requires.asked))
 
 pub returns : goal.returns
-returns c =
-    let P : Result ℕ EditRefusal → Option Kind → Scope → Tree → Type 0 = λ x r d parent. Answers r d c.args.step.now parent c.args.place.now c.args.asked.now x in
-    let t = c.args.root.now in
-    let scope : c.inside.result ≡ t.decls ∷ [] = c.inside.ensures ∙ ap (λ (d : List (List Decl)). d ++ c.in_ok-declared.declared ∷ []) c.empty.ensures ∙ ap (λ (ds : List Decl). ds ∷ []) (c.in_ok-declared.ensures {u = tt} ∙ c.decls.ensures) in
-    subst (λ (q : List ℕ). OrMemory (λ x. Below (P x) (Some (root_kind c.args.usage)) (t.decls ∷ []) t q) c.answer_below.result) c.numbers.ensures.numbers
-    (subst (λ (d : List (List Decl)). OrMemory (λ x. Below (P x) (Some (root_kind c.args.usage)) d t c.numbers.result.now) c.answer_below.result) scope
-    (subst (λ (k : Kind). OrMemory (λ x. Below (P x) (Some k) c.inside.result t c.numbers.result.now) c.answer_below.result) c.root_kind.ensures c.answer_below.ensures))
+returns c = record {
+  answers_at_the_place =
+      let P : Result ℕ EditRefusal → Option Kind → Scope → Tree → Type 0 = λ x r d parent. Answers r d c.args.step.now parent c.args.place.now c.args.asked.now x in
+      let t = c.args.root.now in
+      let scope : c.inside.result ≡ t.decls ∷ [] = c.inside.ensures.adds_the_declarations ∙ ap (λ (d : List (List Decl)). d ++ c.in_ok-declared.declared ∷ []) c.empty.ensures.declares_nothing ∙ ap (λ (ds : List Decl). ds ∷ []) ((c.in_ok-declared.ensures {u = tt}).holds_the_declarations ∙ c.decls.ensures.lends_the_declarations) in
+      subst (λ (q : List ℕ). OrMemory (λ x. Below (P x) (Some (root_kind c.args.usage)) (t.decls ∷ []) t q) c.answer_below.result) c.numbers.ensures.numbers
+      (subst (λ (d : List (List Decl)). OrMemory (λ x. Below (P x) (Some (root_kind c.args.usage)) d t c.numbers.result.now) c.answer_below.result) scope
+      (subst (λ (k : Kind). OrMemory (λ x. Below (P x) (Some k) c.inside.result t c.numbers.result.now) c.answer_below.result) c.root_kind.ensures.kind_of_the_root c.answer_below.ensures.answers_below));
+}

@@ -15,25 +15,27 @@ use Rattle.edit_plans.proofs.attributes.retagged.Goals as goal
 
 -- at the root
 pub returns-in_default-split_last : goal.returns-in_default-split_last
-returns-in_default-split_last c =
-    let u = c.args.usage in
-    let t = c.args.root.now in
-    let selector = c.args.selector.now in
-    let steps = selector.steps in
-    let s = c.step-item.result in
-    let element = c.args.element.now in
-    let tag = c.args.tag.now in
-    let sought = c.args.sought.now in
-    let root : c.args.path.now ≡ [] = empty_path c.split_last.result c.args.path.now c.split_last.ensures.below c.in_default-split_last.is in
-    let e = ends_with steps c.as_slice.result.now s c.as_slice.ensures c.in-len1-up.len_at_least c.step-item.is in
-    let sel = subst (λ (p : List ℕ). SelectsPath steps t p) root c.requires.selected in
-    let same : t ≡ element = same_Some t element (subst (λ (p : List ℕ). at p t ≡ Some element) root c.requires.there) in
-    let is : tag ≡ tag_with tag.attrs t = c.requires.tag ∙ ap (tag_with tag.attrs) (sym same) in
-    subst (λ (p : List ℕ). OrMemory (IsRetaggedAt u t selector p element tag.attrs sought) c.root_retagged.result) (sym root)
-    (subst (λ (x : Tree). OrMemory (IsRetaggedAt u t selector [] x tag.attrs sought) c.root_retagged.result) same
-    (or_memory (IsRootRetagged u s tag sought) (IsRetaggedAt u t selector [] t tag.attrs sought) c.root_retagged.result
-    (λ r h. root_retag_is u t selector s tag.attrs sought r (root_alone t steps e.0 s e.1 sel) sel c.requires.ends c.requires.faultless (subst (λ (x : Tree). IsRootRetagged u s x sought r) is h))
-    c.root_retagged.ensures))
+returns-in_default-split_last c = record {
+  answers_the_new_tag =
+      let u = c.args.usage in
+      let t = c.args.root.now in
+      let selector = c.args.selector.now in
+      let steps = selector.steps in
+      let s = c.step-item.result in
+      let element = c.args.element.now in
+      let tag = c.args.tag.now in
+      let sought = c.args.sought.now in
+      let root : c.args.path.now ≡ [] = empty_path c.split_last.result c.args.path.now c.split_last.ensures.below c.in_default-split_last.is in
+      let e = ends_with steps c.as_slice.result.now s c.as_slice.ensures.lends_the_items c.in-len1-up.len_at_least c.step-item.is in
+      let sel = subst (λ (p : List ℕ). SelectsPath steps t p) root c.requires.selected in
+      let same : t ≡ element = same_Some t element (subst (λ (p : List ℕ). at p t ≡ Some element) root c.requires.there) in
+      let is : tag ≡ tag_with tag.attrs t = c.requires.tag ∙ ap (tag_with tag.attrs) (sym same) in
+      subst (λ (p : List ℕ). OrMemory (IsRetaggedAt u t selector p element tag.attrs sought) c.root_retagged.result) (sym root)
+      (subst (λ (x : Tree). OrMemory (IsRetaggedAt u t selector [] x tag.attrs sought) c.root_retagged.result) same
+      (or_memory (IsRootRetagged u s tag sought) (IsRetaggedAt u t selector [] t tag.attrs sought) c.root_retagged.result
+      (λ r h. root_retag_is u t selector s tag.attrs sought r (root_alone t steps e.0 s e.1 sel) sel c.requires.ends c.requires.faultless (subst (λ (x : Tree). IsRootRetagged u s x sought r) is h))
+      c.root_retagged.ensures.answers_the_new_tag_of_the_root));
+}
 
 -- below it
 pub answer-requires-clause-there : goal.answer-requires-clause-there
@@ -44,7 +46,7 @@ answer-requires-clause-there c =
     let j = c.in-Some.child in
     let s = c.step-item.result in
     let at_p : c.args.path.now ≡ q ++ j ∷ [] = (c.in-Some.ensures {u = tt}).parts in
-    let e = ends_with steps c.as_slice.result.now s c.as_slice.ensures c.in-len1-up.len_at_least c.step-item.is in
+    let e = ends_with steps c.as_slice.result.now s c.as_slice.ensures.lends_the_items c.in-len1-up.len_at_least c.step-item.is in
     parent_there t steps e.0 s q j (parent_of t steps e.0 s q j e.1 (subst (λ (p : List ℕ). SelectsPath steps t p) at_p c.requires.selected))
 
 pub answer-requires-clause-asked : goal.answer-requires-clause-asked
@@ -55,29 +57,31 @@ answer-requires-clause-asked c =
     let j = c.in-Some.child in
     let s = c.step-item.result in
     let at_p : c.args.path.now ≡ q ++ j ∷ [] = (c.in-Some.ensures {u = tt}).parts in
-    let e = ends_with steps c.as_slice.result.now s c.as_slice.ensures c.in-len1-up.len_at_least c.step-item.is in
+    let e = ends_with steps c.as_slice.result.now s c.as_slice.ensures.lends_the_items c.in-len1-up.len_at_least c.step-item.is in
     let p = parent_of t steps e.0 s q j e.1 (subst (λ (p : List ℕ). SelectsPath steps t p) at_p c.requires.selected) in
     let there = subst (λ (p : List ℕ). at p t ≡ Some c.args.element.now) at_p c.requires.there in
     tell_at_root c.args.usage t q (λ row d parent. IsSelected row d s parent j × HasRoom q c.args.tag.now) (λ parent at_q. (may_select c.args.usage t steps e.0 s q j p c.requires.faultless.2 parent at_q, tag_room t c.args.element.now c.args.tag.now q j c.args.tag.now.attrs c.requires.low there c.requires.tag))
 
 pub returns : goal.returns
-returns c =
-    let u = c.args.usage in
-    let t = c.args.root.now in
-    let selector = c.args.selector.now in
-    let steps = selector.steps in
-    let q = c.in-Some.place in
-    let j = c.in-Some.child in
-    let s = c.step-item.result in
-    let element = c.args.element.now in
-    let tag = c.args.tag.now in
-    let sought = c.args.sought.now in
-    let at_p : c.args.path.now ≡ q ++ j ∷ [] = (c.in-Some.ensures {u = tt}).parts in
-    let e = ends_with steps c.as_slice.result.now s c.as_slice.ensures c.in-len1-up.len_at_least c.step-item.is in
-    let sel = subst (λ (p : List ℕ). SelectsPath steps t p) at_p c.requires.selected in
-    let there = subst (λ (p : List ℕ). at p t ≡ Some element) at_p c.requires.there in
-    let p = parent_of t steps e.0 s q j e.1 sel in
-    let told = answered_at_root u t q (λ r row d parent. IsRetaggedIn row d s parent j tag sought q r) c.answer.result c.answer.ensures in
-    let answered = subst (λ (x : Tree). OrMemory (λ r. (parent : Tree) → at q t ≡ Some parent → IsRetaggedIn (kind_at u t q) (scope_at q t) s parent j x sought q r) c.answer.result) c.requires.tag told in
-    subst (λ (l : List ℕ). OrMemory (IsRetaggedAt u t selector l element tag.attrs sought) c.answer.result) (sym at_p)
-    (retag_by u t element selector e.0 s q j p tag.attrs sought c.requires.ends c.requires.faultless there sel c.answer.result answered)
+returns c = record {
+  answers_the_new_tag =
+      let u = c.args.usage in
+      let t = c.args.root.now in
+      let selector = c.args.selector.now in
+      let steps = selector.steps in
+      let q = c.in-Some.place in
+      let j = c.in-Some.child in
+      let s = c.step-item.result in
+      let element = c.args.element.now in
+      let tag = c.args.tag.now in
+      let sought = c.args.sought.now in
+      let at_p : c.args.path.now ≡ q ++ j ∷ [] = (c.in-Some.ensures {u = tt}).parts in
+      let e = ends_with steps c.as_slice.result.now s c.as_slice.ensures.lends_the_items c.in-len1-up.len_at_least c.step-item.is in
+      let sel = subst (λ (p : List ℕ). SelectsPath steps t p) at_p c.requires.selected in
+      let there = subst (λ (p : List ℕ). at p t ≡ Some element) at_p c.requires.there in
+      let p = parent_of t steps e.0 s q j e.1 sel in
+      let told = answered_at_root u t q (λ r row d parent. IsRetaggedIn row d s parent j tag sought q r) c.answer.result c.answer.ensures.answers_at_the_place in
+      let answered = subst (λ (x : Tree). OrMemory (λ r. (parent : Tree) → at q t ≡ Some parent → IsRetaggedIn (kind_at u t q) (scope_at q t) s parent j x sought q r) c.answer.result) c.requires.tag told in
+      subst (λ (l : List ℕ). OrMemory (IsRetaggedAt u t selector l element tag.attrs sought) c.answer.result) (sym at_p)
+      (retag_by u t element selector e.0 s q j p tag.attrs sought c.requires.ends c.requires.faultless there sel c.answer.result answered);
+}

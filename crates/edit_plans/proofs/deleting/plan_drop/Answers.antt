@@ -10,39 +10,43 @@ use Rattle.node_select.specs.Selection.{is_attr}
 use Rattle.edit_plans.proofs.deleting.plan_drop.Goals as goal
 
 pub unreachable-requires : goal.unreachable-requires
-unreachable-requires c = selected_there c.args.selector.now.steps c.args.root.now c.args.path c.requires.selected (c.in_default.ensures {u = tt})
+unreachable-requires c = selected_there c.args.selector.now.steps c.args.root.now c.args.path c.requires.selected (c.in_default.ensures {u = tt}).element_at_the_path
 
 pub returns-in_default-find_attr : goal.returns-in_default-find_attr
-returns-in_default-find_attr c =
-    let t = c.args.root.now in
-    let e = c.in-Some.element.now in
-    let p = c.args.path in
-    let uri = c.args.uri.now in
-    let local = c.args.local.now in
-    let there : at p t ≡ Some e = sym (c.in-Some.ensures {u = tt}) in
-    let in_scope = scope_is t e p c.in-Some-at.scope there (c.in-Some-at.ensures {u = tt}) in
-    let place = place_is t e p c.in-Some-at.scope _ uri _ local c.find_attr.result in_scope c.as_str.ensures.letters c.as_str-2.ensures.letters
-    c.find_attr.ensures in
-    let none = none_at_position (is_attr (scope_at p t) uri local) e.attrs (sym place ∙ c.in_default-find_attr.is) in
-    inr (drop_nothing c.args.usage t e c.args.selector.now p uri local c.requires.ends c.requires.selected there none)
+returns-in_default-find_attr c = record {
+  plans_the_drop =
+      let t = c.args.root.now in
+      let e = c.in-Some.element.now in
+      let p = c.args.path in
+      let uri = c.args.uri.now in
+      let local = c.args.local.now in
+      let there : at p t ≡ Some e = sym (c.in-Some.ensures {u = tt}).element_at_the_path in
+      let in_scope = scope_is t e p c.in-Some-at.scope there (c.in-Some-at.ensures {u = tt}).scope_at_the_element in
+      let place = place_is t e p c.in-Some-at.scope _ uri _ local c.find_attr.result in_scope c.as_str.ensures.letters c.as_str-2.ensures.letters
+      c.find_attr.ensures.place_of_the_first in
+      let none = none_at_position (is_attr (scope_at p t) uri local) e.attrs (sym place ∙ c.in_default-find_attr.is) in
+      inr (drop_nothing c.args.usage t e c.args.selector.now p uri local c.requires.ends c.requires.selected there none);
+}
 
 pub returns : goal.returns
-returns c =
-    let t = c.args.root.now in
-    let e = c.in-Some.element.now in
-    let p = c.args.path in
-    let uri = c.args.uri.now in
-    let local = c.args.local.now in
-    let attr = c.index-attrs-place.result in
-    let tag = c.in_ok-tag.tag in
-    let there : at p t ≡ Some e = sym (c.in-Some.ensures {u = tt}) in
-    let in_scope = scope_is t e p c.in-Some-at.scope there (c.in-Some-at.ensures {u = tt}) in
-    let place = place_is t e p c.in-Some-at.scope _ uri _ local c.find_attr.result in_scope c.as_str.ensures.letters c.as_str-2.ensures.letters
-    c.find_attr.ensures in
-    let that = attr_found t e p uri local c.in-Some-find_attr.place attr c.attrs.result.now c.attrs.ensures c.index-attrs-place.is
-    (sym place ∙ c.in-Some-find_attr.is) in
-    let named = c.in_ok-name.ensures {u = tt} ∙ ap (λ (x : Attr). x.name) (sym c.index-attrs-place.is) in
-    let without = ap (λ (x : Tree). x.attrs) (c.in_ok-tag.ensures {u = tt}) in
-    let sought : Sought = record { uri = c.args.uri; local = c.args.local; value = None } in
-    dropped_by c.args.usage t e c.args.selector.now p uri local attr c.in_ok-name.name tag.attrs sought c.retagged-found.result c.dropped.result
-    c.requires.ends c.requires.selected there that named without refl c.retagged-found.ensures c.dropped.ensures
+returns c = record {
+  plans_the_drop =
+      let t = c.args.root.now in
+      let e = c.in-Some.element.now in
+      let p = c.args.path in
+      let uri = c.args.uri.now in
+      let local = c.args.local.now in
+      let attr = c.index-attrs-place.result in
+      let tag = c.in_ok-tag.tag in
+      let there : at p t ≡ Some e = sym (c.in-Some.ensures {u = tt}).element_at_the_path in
+      let in_scope = scope_is t e p c.in-Some-at.scope there (c.in-Some-at.ensures {u = tt}).scope_at_the_element in
+      let place = place_is t e p c.in-Some-at.scope _ uri _ local c.find_attr.result in_scope c.as_str.ensures.letters c.as_str-2.ensures.letters
+      c.find_attr.ensures.place_of_the_first in
+      let that = attr_found t e p uri local c.in-Some-find_attr.place attr c.attrs.result.now c.attrs.ensures.lends_the_attributes c.index-attrs-place.is
+      (sym place ∙ c.in-Some-find_attr.is) in
+      let named = (c.in_ok-name.ensures {u = tt}).makes_an_equal_name ∙ ap (λ (x : Attr). x.name) (sym c.index-attrs-place.is) in
+      let without = ap (λ (x : Tree). x.attrs) (c.in_ok-tag.ensures {u = tt}).tag_without_the_attribute in
+      let sought : Sought = record { uri = c.args.uri; local = c.args.local; value = None } in
+      dropped_by c.args.usage t e c.args.selector.now p uri local attr c.in_ok-name.name tag.attrs sought c.retagged-found.result c.dropped.result
+      c.requires.ends c.requires.selected there that named without refl c.retagged-found.ensures.answers_the_new_tag c.dropped.ensures.drops_if_it_may;
+}

@@ -10,11 +10,13 @@ use Rattle.edit_plans.proofs.Ways.{answered_at_root, tell_at_root}
 use Rattle.edit_plans.proofs.deleting.plan_removal.Goals as goal
 
 pub returns-in_default : goal.returns-in_default
-returns-in_default c =
-    let t = c.args.root.now in
-    let selector = c.args.selector.now in
-    let root : c.args.path ≡ [] = empty_path c.split_last.result c.args.path c.split_last.ensures.below c.in_default.is in
-    inr (delete_by c.args.usage t selector c.args.path (Err refusals.Schema) c.requires.ends c.requires.selected (subst (λ (p : List ℕ). IsRemoval c.args.usage t selector p (Err refusals.Schema)) (sym root) refl))
+returns-in_default c = record {
+  plans_the_removal =
+      let t = c.args.root.now in
+      let selector = c.args.selector.now in
+      let root : c.args.path ≡ [] = empty_path c.split_last.result c.args.path c.split_last.ensures.below c.in_default.is in
+      inr (delete_by c.args.usage t selector c.args.path (Err refusals.Schema) c.requires.ends c.requires.selected (subst (λ (p : List ℕ). IsRemoval c.args.usage t selector p (Err refusals.Schema)) (sym root) refl));
+}
 
 pub answer-found-requires-clause-there : goal.answer-found-requires-clause-there
 answer-found-requires-clause-there c =
@@ -24,7 +26,7 @@ answer-found-requires-clause-there c =
     let j = c.in-Some.child in
     let s = c.step-item.result in
     let at_p : c.args.path ≡ q ++ j ∷ [] = (c.in-Some.ensures {u = tt}).parts in
-    let e = ends_with steps c.as_slice.result.now s c.as_slice.ensures c.in-len1-up.len_at_least c.step-item.is in
+    let e = ends_with steps c.as_slice.result.now s c.as_slice.ensures.lends_the_items c.in-len1-up.len_at_least c.step-item.is in
     parent_there t steps e.0 s q j (parent_of t steps e.0 s q j e.1 (subst (λ (p : List ℕ). SelectsPath steps t p) at_p c.requires.selected))
 
 pub answer-found-requires-clause-asked : goal.answer-found-requires-clause-asked
@@ -35,21 +37,23 @@ answer-found-requires-clause-asked c =
     let j = c.in-Some.child in
     let s = c.step-item.result in
     let at_p : c.args.path ≡ q ++ j ∷ [] = (c.in-Some.ensures {u = tt}).parts in
-    let e = ends_with steps c.as_slice.result.now s c.as_slice.ensures c.in-len1-up.len_at_least c.step-item.is in
+    let e = ends_with steps c.as_slice.result.now s c.as_slice.ensures.lends_the_items c.in-len1-up.len_at_least c.step-item.is in
     let p = parent_of t steps e.0 s q j e.1 (subst (λ (p : List ℕ). SelectsPath steps t p) at_p c.requires.selected) in
     tell_at_root c.args.usage t q (λ row scope parent. IsSelected row scope s parent j) (λ parent there. may_select c.args.usage t steps e.0 s q j p c.requires.faultless.2 parent there)
 
 pub returns : goal.returns
-returns c =
-    let t = c.args.root.now in
-    let selector = c.args.selector.now in
-    let steps = selector.steps in
-    let q = c.in-Some.place in
-    let j = c.in-Some.child in
-    let s = c.step-item.result in
-    let at_p : c.args.path ≡ q ++ j ∷ [] = (c.in-Some.ensures {u = tt}).parts in
-    let e = ends_with steps c.as_slice.result.now s c.as_slice.ensures c.in-len1-up.len_at_least c.step-item.is in
-    let sel = subst (λ (p : List ℕ). SelectsPath steps t p) at_p c.requires.selected in
-    let p = parent_of t steps e.0 s q j e.1 sel in
-    let found = answered_at_root c.args.usage t q (λ r row scope parent. IsRemovedIn row scope s parent j r) c.answer-found.result c.answer-found.ensures in
-    removal_by c.args.usage t selector e.0 s q j p c.requires.ends c.requires.faultless sel c.answer-found.result c.removed.result found (c.removed.ensures ∙ ap (λ (l : List ℕ). made (Remove l) c.answer-found.result) at_p)
+returns c = record {
+  plans_the_removal =
+      let t = c.args.root.now in
+      let selector = c.args.selector.now in
+      let steps = selector.steps in
+      let q = c.in-Some.place in
+      let j = c.in-Some.child in
+      let s = c.step-item.result in
+      let at_p : c.args.path ≡ q ++ j ∷ [] = (c.in-Some.ensures {u = tt}).parts in
+      let e = ends_with steps c.as_slice.result.now s c.as_slice.ensures.lends_the_items c.in-len1-up.len_at_least c.step-item.is in
+      let sel = subst (λ (p : List ℕ). SelectsPath steps t p) at_p c.requires.selected in
+      let p = parent_of t steps e.0 s q j e.1 sel in
+      let found = answered_at_root c.args.usage t q (λ r row scope parent. IsRemovedIn row scope s parent j r) c.answer-found.result c.answer-found.ensures.answers_at_the_place in
+      removal_by c.args.usage t selector e.0 s q j p c.requires.ends c.requires.faultless sel c.answer-found.result c.removed.result found (c.removed.ensures.removes_if_it_may ∙ ap (λ (l : List ℕ). made (Remove l) c.answer-found.result) at_p);
+}

@@ -7,6 +7,8 @@ use Rattle.edit_plans.proofs.SideLemmas.{not_free}
 use Rattle.edit_plans.proofs.gaps.choose_gap.Goals as goal
 
 pub returns-then-not-is_free : goal.returns-then-not-is_free
-returns-then-not-is_free c =
-    not_free Unlawful Invalid (is_named c.args.scope.now c.args.step.now) (is_tested c.args.scope.now c.args.step.now) c.args.step.now.position (kids_of c.args.parent.now) c.args.new.now (FitsIn c.args.row c.args.scope.now c.args.parent.now.content c.args.new.now)
-    (λ f. true_false c.is_free.result (c.is_free.ensures.1 f) c.if-not-is_free.true)
+returns-then-not-is_free c = record {
+  chooses_the_last_gap =
+      not_free Unlawful Invalid (is_named c.args.scope.now c.args.step.now) (is_tested c.args.scope.now c.args.step.now) c.args.step.now.position (kids_of c.args.parent.now) c.args.new.now (FitsIn c.args.row c.args.scope.now c.args.parent.now.content c.args.new.now)
+      (λ f. true_false c.is_free.result (c.is_free.ensures.tells_whether_it_is_free.1 f) c.if-not-is_free.true);
+}

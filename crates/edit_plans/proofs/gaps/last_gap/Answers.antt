@@ -28,18 +28,18 @@ loop-node-preserved c =
           let at = at_elem ns c.loop-node.node-index i xs kid c.node-item.result inv.left c.loop-node-test.true c.node-item.is w.in-Elem.is in
           let lt = at.1 in
           let one_more : Bool → ℕ = λ b. c.loop-node.before + cond b 1 0 in
-          let part = w.part_in-next.ensures in
+          let part = w.part_in-next.ensures.part_of_the_child in
           let step : c.match-node.i ≡ suc i = w.i-is ∙ add-one i in
-          let lawful = lawful_here named tested c.args.step.now.position xs new i c.loop-node.before w.is_at_position-lawful.result inv.within c.requires.named c.requires.tested c.requires.free inv.counted w.is_at_position-lawful.ensures in
-          let valid = fits_is c.args.row scope content new i c.args.itself w.fits-valid.result c.loop-node.prev c.part_in-part.result w.part_in-next.result c.requires.itself c.part_in-part.ensures inv.prev (after_kid c.args.row scope content i kid w.part_in-next.result at.0 part) w.fits-valid.ensures in
+          let lawful = lawful_here named tested c.args.step.now.position xs new i c.loop-node.before w.is_at_position-lawful.result inv.within c.requires.named c.requires.tested c.requires.free inv.counted w.is_at_position-lawful.ensures.tells_whether_it_is_at_the_position in
+          let valid = fits_is c.args.row scope content new i c.args.itself w.fits-valid.result c.loop-node.prev c.part_in-part.result w.part_in-next.result c.requires.itself c.part_in-part.ensures.part_of_the_child inv.prev (after_kid c.args.row scope content i kid w.part_in-next.result at.0 part) w.fits-valid.ensures.tells_whether_it_fits_between in
           record {
             left = rw (w.i-is, add-one, add-one) at.2;
             within = omega arith;
             small = omega arith;
-            counted = count_next named xs i c.match-node.i c.loop-node.before c.match-node.before kid at.0 at.1 inv.counted w.i-is (w.before-is ∙ w.count-before.ensures ∙ ap one_more w.names.ensures.passes_name_test);
-            few = omega (arith, w.before-is, w.count-before.ensures, at_most_one w.names.result);
+            counted = count_next named xs i c.match-node.i c.loop-node.before c.match-node.before kid at.0 at.1 inv.counted w.i-is (w.before-is ∙ w.count-before.ensures.counts_one_more ∙ ap one_more w.names.ensures.passes_name_test);
+            few = omega (arith, w.before-is, w.count-before.ensures.counts_one_more, at_most_one w.names.result);
             prev = before_kid c.args.row scope content i c.match-node.i kid c.match-node.prev step at.0 (w.prev-is ∙ part);
-            plan = plan_at Unlawful Invalid (Lawful named tested c.args.step.now.position xs new) (FitsIn c.args.row scope content new) (i + 1) c.match-node.i (plan_with Invalid c.loop-node.answer i w.is_at_position-lawful.result w.fits-valid.result) c.match-node.answer w.i-is (w.answer-is ∙ w.with_gap-answer.ensures) (plan_more Unlawful Invalid (Lawful named tested c.args.step.now.position xs new) (FitsIn c.args.row scope content new) i c.loop-node.answer w.is_at_position-lawful.result w.fits-valid.result inv.plan lawful valid);
+            plan = plan_at Unlawful Invalid (Lawful named tested c.args.step.now.position xs new) (FitsIn c.args.row scope content new) (i + 1) c.match-node.i (plan_with Invalid c.loop-node.answer i w.is_at_position-lawful.result w.fits-valid.result) c.match-node.answer w.i-is (w.answer-is ∙ w.with_gap-answer.ensures.answers_with_the_gap) (plan_more Unlawful Invalid (Lawful named tested c.args.step.now.position xs new) (FitsIn c.args.row scope content new) i c.loop-node.answer w.is_at_position-lawful.result w.fits-valid.result inv.plan lawful valid);
           })
       | in_default w ↦
           (record {
@@ -54,17 +54,19 @@ loop-node-preserved c =
     ]
 
 pub returns : goal.returns
-returns c =
-    let xs = kids_of c.args.parent.now in
-    let content = c.args.parent.now.content in
-    let new = c.args.new.now in
-    let scope = c.args.scope.now in
-    let named = is_named scope c.args.step.now in
-    let tested = is_tested scope c.args.step.now in
-    let inv = c.loop-node.invariant in
-    let i = c.loop-node.i in
-    let last = at_end c.nodes-node-items.result.now c.loop-node.node-index i xs inv.left c.loop-node-test.false inv.within in
-    let lawful = lawful_here named tested c.args.step.now.position xs new i c.loop-node.before c.is_at_position-lawful-2.result inv.within c.requires.named c.requires.tested c.requires.free inv.counted c.is_at_position-lawful-2.ensures in
-    let valid = fits_is c.args.row scope content new i c.args.itself c.fits-valid-2.result c.loop-node.prev c.part_in-part.result end c.requires.itself c.part_in-part.ensures inv.prev (end_behind c.args.row scope content i last) c.fits-valid-2.ensures in
-    plan_at Unlawful Invalid (Lawful named tested c.args.step.now.position xs new) (FitsIn c.args.row scope content new) (i + 1) _ (plan_with Invalid c.loop-node.answer i c.is_at_position-lawful-2.result c.fits-valid-2.result) c.with_gap.result (ap (λ (n : ℕ). n + 1) (sym last)) c.with_gap.ensures
-    (plan_more Unlawful Invalid (Lawful named tested c.args.step.now.position xs new) (FitsIn c.args.row scope content new) i c.loop-node.answer c.is_at_position-lawful-2.result c.fits-valid-2.result inv.plan lawful valid)
+returns c = record {
+  finds_the_last_gap =
+      let xs = kids_of c.args.parent.now in
+      let content = c.args.parent.now.content in
+      let new = c.args.new.now in
+      let scope = c.args.scope.now in
+      let named = is_named scope c.args.step.now in
+      let tested = is_tested scope c.args.step.now in
+      let inv = c.loop-node.invariant in
+      let i = c.loop-node.i in
+      let last = at_end c.nodes-node-items.result.now c.loop-node.node-index i xs inv.left c.loop-node-test.false inv.within in
+      let lawful = lawful_here named tested c.args.step.now.position xs new i c.loop-node.before c.is_at_position-lawful-2.result inv.within c.requires.named c.requires.tested c.requires.free inv.counted c.is_at_position-lawful-2.ensures.tells_whether_it_is_at_the_position in
+      let valid = fits_is c.args.row scope content new i c.args.itself c.fits-valid-2.result c.loop-node.prev c.part_in-part.result end c.requires.itself c.part_in-part.ensures.part_of_the_child inv.prev (end_behind c.args.row scope content i last) c.fits-valid-2.ensures.tells_whether_it_fits_between in
+      plan_at Unlawful Invalid (Lawful named tested c.args.step.now.position xs new) (FitsIn c.args.row scope content new) (i + 1) _ (plan_with Invalid c.loop-node.answer i c.is_at_position-lawful-2.result c.fits-valid-2.result) c.with_gap.result (ap (λ (n : ℕ). n + 1) (sym last)) c.with_gap.ensures.answers_with_the_gap
+      (plan_more Unlawful Invalid (Lawful named tested c.args.step.now.position xs new) (FitsIn c.args.row scope content new) i c.loop-node.answer c.is_at_position-lawful-2.result c.fits-valid-2.result inv.plan lawful valid);
+}

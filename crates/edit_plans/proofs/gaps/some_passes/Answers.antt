@@ -8,11 +8,13 @@ use Rattle.edit_plans.proofs.gaps.some_passes.Goals as goal
 use Rattle.edit_plans.proofs.gaps.some_passes.Goals.{in-Elem+else-passes, in_default}
 
 pub returns-then-passes : goal.returns-then-passes
-returns-then-passes c =
-    let xs = kids_of c.args.parent.now in
-    let at = at_elem c.nodes-node-items.result.now c.loop-node.node-index c.loop-node.i xs c.in-Elem.kid c.node-item.result c.loop-node.invariant.left c.loop-node-test.true c.node-item.is c.in-Elem.is in
-    let both = c.passes.ensures.0 c.if-passes.true in
-    (λ h. (c.loop-node.i, match_of (is_named c.args.scope.now c.args.step.now) (is_tested c.args.scope.now c.args.step.now) xs c.loop-node.i c.in-Elem.kid at.0 both.0 both.1), λ h. refl)
+returns-then-passes c = record {
+  tells_whether_one_passes =
+      let xs = kids_of c.args.parent.now in
+      let at = at_elem c.nodes-node-items.result.now c.loop-node.node-index c.loop-node.i xs c.in-Elem.kid c.node-item.result c.loop-node.invariant.left c.loop-node-test.true c.node-item.is c.in-Elem.is in
+      let both = c.passes.ensures.tells_whether_it_passes_both.0 c.if-passes.true in
+      (λ h. (c.loop-node.i, match_of (is_named c.args.scope.now c.args.step.now) (is_tested c.args.scope.now c.args.step.now) xs c.loop-node.i c.in-Elem.kid at.0 both.0 both.1), λ h. refl);
+}
 
 pub loop-node-preserved : goal.loop-node-preserved
 loop-node-preserved c =
@@ -29,7 +31,7 @@ loop-node-preserved c =
             left = rw (w.i-is, add-one, add-one) at.2;
             within = omega arith;
             small = omega arith;
-            none = none_more named tested xs c.loop-node.i c.match-node.i w.in-Elem.kid w.i-is at.0 (λ both. true_false w.passes.result (w.passes.ensures.1 both) w.if-passes.false) inv.none;
+            none = none_more named tested xs c.loop-node.i c.match-node.i w.in-Elem.kid w.i-is at.0 (λ both. true_false w.passes.result (w.passes.ensures.tells_whether_it_passes_both.1 both) w.if-passes.false) inv.none;
           })
       | in_default w ↦
           (record {
@@ -41,8 +43,10 @@ loop-node-preserved c =
     ]
 
 pub returns : goal.returns
-returns c =
-    let xs = kids_of c.args.parent.now in
-    let inv = c.loop-node.invariant in
-    let last = at_end c.nodes-node-items.result.now c.loop-node.node-index c.loop-node.i xs inv.left c.loop-node-test.false inv.within in
-    (λ h. absurd (true_false false h refl), λ m. absurd (none_at_all (is_named c.args.scope.now c.args.step.now) (is_tested c.args.scope.now c.args.step.now) xs c.loop-node.i last inv.none m))
+returns c = record {
+  tells_whether_one_passes =
+      let xs = kids_of c.args.parent.now in
+      let inv = c.loop-node.invariant in
+      let last = at_end c.nodes-node-items.result.now c.loop-node.node-index c.loop-node.i xs inv.left c.loop-node-test.false inv.within in
+      (λ h. absurd (true_false false h refl), λ m. absurd (none_at_all (is_named c.args.scope.now c.args.step.now) (is_tested c.args.scope.now c.args.step.now) xs c.loop-node.i last inv.none m));
+}

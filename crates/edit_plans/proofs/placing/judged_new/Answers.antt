@@ -6,14 +6,16 @@ use Rattle.edit_plans.proofs.Ways.{or_memory}
 use Rattle.edit_plans.proofs.placing.judged_new.Goals as goal
 
 pub returns : goal.returns
-returns c =
-    let row = c.args.row in
-    let scope = c.args.scope.now in
-    let new = c.args.new.now in
-    let q = c.args.place.now in
-    let gap = c.args.gap in
-    let xs = others c.args.siblings.now.left_out (kids_of c.args.siblings.now.parent.now) in
-    let F = IsTrue c.in_ok-formed.formed in
-    let G = FormedIn row scope new in
-    or_memory (IsJudgedIn F row scope xs new q gap) (IsJudgedIn G row scope xs new q gap) c.judged.result
-    (λ r h. judged_by F G row scope xs new q gap r (c.in_ok-formed.ensures {u = tt}) h) c.judged.ensures
+returns c = record {
+  judges_the_new_element =
+      let row = c.args.row in
+      let scope = c.args.scope.now in
+      let new = c.args.new.now in
+      let q = c.args.place.now in
+      let gap = c.args.gap in
+      let xs = others c.args.siblings.now.left_out (kids_of c.args.siblings.now.parent.now) in
+      let F = IsTrue c.in_ok-formed.formed in
+      let G = FormedIn row scope new in
+      or_memory (IsJudgedIn F row scope xs new q gap) (IsJudgedIn G row scope xs new q gap) c.judged.result
+      (λ r h. judged_by F G row scope xs new q gap r (c.in_ok-formed.ensures {u = tt}).tells_whether_it_is_formed h) c.judged.ensures.judges_by_the_form;
+}

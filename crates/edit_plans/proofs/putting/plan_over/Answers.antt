@@ -22,14 +22,16 @@ root_exchanged-found-requires-clause-alone c =
     only_the_root t c.args.element steps e.0 e.1.0 e.1.1 (subst (λ (p : List ℕ). SelectsPath steps t p) root c.requires.selected)
 
 pub returns-in_default : goal.returns-in_default
-returns-in_default c =
-    let u = c.args.usage in
-    let t = c.args.root.now in
-    let steps = c.args.steps.now in
-    let new = c.args.element in
-    let root : c.args.path.now ≡ [] = empty_path c.split_last.result c.args.path.now c.split_last.ensures.below c.in_default.is in
-    subst (λ (l : List ℕ). OrMemory (IsTested CannotInsert (LawfulOver steps t new l) u t (Replace l new)) c.replaced.result) (sym root)
-    (root_over u t new steps c.root_exchanged-found.result c.replaced.result c.root_exchanged-found.ensures (c.replaced.ensures ∙ ap (λ (l : List ℕ). made (Replace l new) c.root_exchanged-found.result) root))
+returns-in_default c = record {
+  plans_the_exchange =
+      let u = c.args.usage in
+      let t = c.args.root.now in
+      let steps = c.args.steps.now in
+      let new = c.args.element in
+      let root : c.args.path.now ≡ [] = empty_path c.split_last.result c.args.path.now c.split_last.ensures.below c.in_default.is in
+      subst (λ (l : List ℕ). OrMemory (IsTested CannotInsert (LawfulOver steps t new l) u t (Replace l new)) c.replaced.result) (sym root)
+      (root_over u t new steps c.root_exchanged-found.result c.replaced.result c.root_exchanged-found.ensures.answers_the_new_root (c.replaced.ensures.replaces_if_it_may ∙ ap (λ (l : List ℕ). made (Replace l new) c.root_exchanged-found.result) root));
+}
 
 -- what the code has: the parent and the last step
 pub answer-found-requires-clause-there : goal.answer-found-requires-clause-there
@@ -58,17 +60,19 @@ answer-found-requires-clause-asked c =
     tell_at_root c.args.usage t q (λ row d x. IsSelected row d s x j × HasRoom q c.args.element) (λ parent there. (may_select c.args.usage t steps e.0 s q j p c.requires.faultless.2 parent there, omega arith))
 
 pub returns : goal.returns
-returns c =
-    let u = c.args.usage in
-    let t = c.args.root.now in
-    let steps = c.args.steps.now in
-    let new = c.args.element in
-    let q = c.in-Some.place in
-    let j = c.in-Some.child in
-    let s = c.step-item.result in
-    let at_p : c.args.path.now ≡ q ++ j ∷ [] = (c.in-Some.ensures {u = tt}).parts in
-    let e = ends_with steps steps s refl c.in-len1-up.len_at_least c.step-item.is in
-    let sel = subst (λ (p : List ℕ). SelectsPath steps t p) at_p c.requires.selected in
-    let p = parent_of t steps e.0 s q j e.1 sel in
-    subst (λ (l : List ℕ). OrMemory (IsTested CannotInsert (LawfulOver steps t new l) u t (Replace l new)) c.replaced-2.result) (sym at_p)
-    (over_by u t new steps e.0 s q j p c.requires.faultless sel c.answer-found.result c.replaced-2.result (answered_at_root u t q (λ r row d x. IsExchangedIn row d s x j new q r) c.answer-found.result c.answer-found.ensures) (c.replaced-2.ensures ∙ ap (λ (l : List ℕ). made (Replace l new) c.answer-found.result) at_p))
+returns c = record {
+  plans_the_exchange =
+      let u = c.args.usage in
+      let t = c.args.root.now in
+      let steps = c.args.steps.now in
+      let new = c.args.element in
+      let q = c.in-Some.place in
+      let j = c.in-Some.child in
+      let s = c.step-item.result in
+      let at_p : c.args.path.now ≡ q ++ j ∷ [] = (c.in-Some.ensures {u = tt}).parts in
+      let e = ends_with steps steps s refl c.in-len1-up.len_at_least c.step-item.is in
+      let sel = subst (λ (p : List ℕ). SelectsPath steps t p) at_p c.requires.selected in
+      let p = parent_of t steps e.0 s q j e.1 sel in
+      subst (λ (l : List ℕ). OrMemory (IsTested CannotInsert (LawfulOver steps t new l) u t (Replace l new)) c.replaced-2.result) (sym at_p)
+      (over_by u t new steps e.0 s q j p c.requires.faultless sel c.answer-found.result c.replaced-2.result (answered_at_root u t q (λ r row d x. IsExchangedIn row d s x j new q r) c.answer-found.result c.answer-found.ensures.answers_at_the_place) (c.replaced-2.ensures.replaces_if_it_may ∙ ap (λ (l : List ℕ). made (Replace l new) c.answer-found.result) at_p));
+}

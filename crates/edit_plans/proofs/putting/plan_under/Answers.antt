@@ -20,15 +20,17 @@ answer-gap-requires-clause-asked c =
     tell_at_root u t q (λ row d x. NoClash row d x × HasRoom q c.args.element) (λ parent there. (none_clash u t parent q c.requires.faultless.2 there, c.requires.room))
 
 pub returns : goal.returns
-returns c =
-    let u = c.args.usage in
-    let t = c.args.root.now in
-    let q = c.args.place.now in
-    let new = c.args.element in
-    let steps = c.args.steps.now in
-    let parent = c.requires.parent in
-    let le = c.in-len1-up.len_at_least in
-    let same : c.step-item.result ≡ parent.step = c.step-item.is ∙ last_step_is steps parent.before parent.step c.step-item.result (length steps - 1) parent.are (omega arith) in
-    let placed = subst (λ (s : Step). OrMemory (λ r. Below (λ row d x. IsPlacedIn row d s x new q r) (Some (root_kind u)) (t.decls ∷ []) t q) c.answer-gap.result) same c.answer-gap.ensures in
-    planned u t new q steps parent.before parent.step c.answer-gap.result c.inserted.result parent.are parent.selects c.requires.faultless
-    (answered_at_root u t q (λ r row d x. IsPlacedIn row d parent.step x new q r) c.answer-gap.result placed) c.inserted.ensures
+returns c = record {
+  plans_the_insertion =
+      let u = c.args.usage in
+      let t = c.args.root.now in
+      let q = c.args.place.now in
+      let new = c.args.element in
+      let steps = c.args.steps.now in
+      let parent = c.requires.parent in
+      let le = c.in-len1-up.len_at_least in
+      let same : c.step-item.result ≡ parent.step = c.step-item.is ∙ last_step_is steps parent.before parent.step c.step-item.result (length steps - 1) parent.are (omega arith) in
+      let placed = subst (λ (s : Step). OrMemory (λ r. Below (λ row d x. IsPlacedIn row d s x new q r) (Some (root_kind u)) (t.decls ∷ []) t q) c.answer-gap.result) same c.answer-gap.ensures.answers_at_the_place in
+      planned u t new q steps parent.before parent.step c.answer-gap.result c.inserted.result parent.are parent.selects c.requires.faultless
+      (answered_at_root u t q (λ r row d x. IsPlacedIn row d parent.step x new q r) c.answer-gap.result placed) c.inserted.ensures.inserts_at_the_gap;
+}

@@ -8,16 +8,18 @@ use Rattle.edit_plans.proofs.removing.next_passes.Goals as goal
 use Rattle.edit_plans.proofs.removing.next_passes.Goals.{in-Elem+else-is_next, in_default}
 
 pub returns-then-is_next : goal.returns-then-is_next
-returns-then-is_next c =
-    let xs = kids_of c.args.parent.now in
-    let named = is_named c.args.scope.now c.args.step.now in
-    let tested = is_tested c.args.scope.now c.args.step.now in
-    let inv = c.loop-node.invariant in
-    let at = at_elem c.nodes-node-items.result.now c.loop-node.node-index c.loop-node.i xs c.in-Elem.kid c.node-item.result inv.left c.loop-node-test.true c.node-item.is c.in-Elem.is in
-    let both = c.is_next.ensures.0 c.if-is_next.true in (
-      λ h. next_is named tested xs c.args.child c.loop-node.i c.in-Elem.kid both.0 at.0 both.1 inv.none (sym c.tests.ensures.passes_attribute_test ∙ h),
-      λ m. c.tests.ensures.passes_attribute_test ∙ next_tested named tested xs c.args.child c.loop-node.i c.in-Elem.kid both.0 at.0 both.1 inv.none m,
-    )
+returns-then-is_next c = record {
+  tells_whether_the_next_passes =
+      let xs = kids_of c.args.parent.now in
+      let named = is_named c.args.scope.now c.args.step.now in
+      let tested = is_tested c.args.scope.now c.args.step.now in
+      let inv = c.loop-node.invariant in
+      let at = at_elem c.nodes-node-items.result.now c.loop-node.node-index c.loop-node.i xs c.in-Elem.kid c.node-item.result inv.left c.loop-node-test.true c.node-item.is c.in-Elem.is in
+      let both = c.is_next.ensures.tells_whether_it_is_next.0 c.if-is_next.true in (
+        λ h. next_is named tested xs c.args.child c.loop-node.i c.in-Elem.kid both.0 at.0 both.1 inv.none (sym c.tests.ensures.passes_attribute_test ∙ h),
+        λ m. c.tests.ensures.passes_attribute_test ∙ next_tested named tested xs c.args.child c.loop-node.i c.in-Elem.kid both.0 at.0 both.1 inv.none m,
+      );
+}
 
 pub loop-node-preserved : goal.loop-node-preserved
 loop-node-preserved c =
@@ -34,7 +36,7 @@ loop-node-preserved c =
             left = rw (w.i-is, add-one, add-one) at.2;
             within = omega arith;
             small = omega arith;
-            none = none_more_named named tested xs c.args.child c.loop-node.i c.match-node.i w.in-Elem.kid w.is_next.result w.i-is at.0 w.is_next.ensures w.if-is_next.false inv.none;
+            none = none_more_named named tested xs c.args.child c.loop-node.i c.match-node.i w.in-Elem.kid w.is_next.result w.i-is at.0 w.is_next.ensures.tells_whether_it_is_next w.if-is_next.false inv.none;
           })
       | in_default w ↦
           (record {
@@ -46,8 +48,10 @@ loop-node-preserved c =
     ]
 
 pub returns : goal.returns
-returns c =
-    let xs = kids_of c.args.parent.now in
-    let inv = c.loop-node.invariant in
-    let last = at_end c.nodes-node-items.result.now c.loop-node.node-index c.loop-node.i xs inv.left c.loop-node-test.false inv.within in
-    (λ h. absurd (true_false false h refl), λ m. absurd (no_next (is_named c.args.scope.now c.args.step.now) (is_tested c.args.scope.now c.args.step.now) xs c.args.child c.loop-node.i (omega arith) inv.none m))
+returns c = record {
+  tells_whether_the_next_passes =
+      let xs = kids_of c.args.parent.now in
+      let inv = c.loop-node.invariant in
+      let last = at_end c.nodes-node-items.result.now c.loop-node.node-index c.loop-node.i xs inv.left c.loop-node-test.false inv.within in
+      (λ h. absurd (true_false false h refl), λ m. absurd (no_next (is_named c.args.scope.now c.args.step.now) (is_tested c.args.scope.now c.args.step.now) xs c.args.child c.loop-node.i (omega arith) inv.none m));
+}

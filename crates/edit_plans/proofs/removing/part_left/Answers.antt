@@ -4,7 +4,9 @@ use Rattle.edit_plans.proofs.SideLemmas.{before_kid}
 use Rattle.edit_plans.proofs.removing.part_left.Goals as goal
 
 pub returns : goal.returns
-returns c =
-    let other = c.if-child-eq0.false in
-    let step : c.args.child ≡ suc (c.args.child - 1) = omega (arith, other) in
-    before_kid c.args.row c.args.scope.now c.args.parent.now.content (c.args.child - 1) c.args.child c.in-Some.kid.now c.part_in.result step (sym c.kid.ensures ∙ ap option_copied c.in-Some.is) c.part_in.ensures
+returns c = record {
+  part_before_the_child =
+      let other = c.if-child-eq0.false in
+      let step : c.args.child ≡ suc (c.args.child - 1) = omega (arith, other) in
+      before_kid c.args.row c.args.scope.now c.args.parent.now.content (c.args.child - 1) c.args.child c.in-Some.kid.now c.part_in.result step (sym c.kid.ensures.child_of_that_number ∙ ap option_copied c.in-Some.is) c.part_in.ensures.part_of_the_child;
+}

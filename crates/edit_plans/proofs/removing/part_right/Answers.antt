@@ -6,14 +6,16 @@ use Rattle.edit_plans.proofs.removing.part_right.Goals as goal
 use Rattle.edit_plans.proofs.removing.part_right.Goals.{in-Elem+else-child-i, in_default}
 
 pub returns-then-child-i : goal.returns-then-child-i
-returns-then-child-i c =
-    let xs = kids_of c.args.parent.now in
-    let inv = c.loop-node.invariant in
-    let at = at_elem c.nodes-node-items.result.now c.loop-node.node-index c.loop-node.i xs c.in-Elem.kid c.node-item.result inv.left c.loop-node-test.true c.node-item.is c.in-Elem.is in
-    let past = c.if-child-i.true in
-    let upto = inv.not_past in
-    let same : c.loop-node.i ≡ suc c.args.child = omega arith in
-    right_kid c.args.row c.args.scope.now c.args.parent.now.content c.args.child c.loop-node.i c.in-Elem.kid c.part_in.result same at.0 c.part_in.ensures
+returns-then-child-i c = record {
+  part_behind_the_child =
+      let xs = kids_of c.args.parent.now in
+      let inv = c.loop-node.invariant in
+      let at = at_elem c.nodes-node-items.result.now c.loop-node.node-index c.loop-node.i xs c.in-Elem.kid c.node-item.result inv.left c.loop-node-test.true c.node-item.is c.in-Elem.is in
+      let past = c.if-child-i.true in
+      let upto = inv.not_past in
+      let same : c.loop-node.i ≡ suc c.args.child = omega arith in
+      right_kid c.args.row c.args.scope.now c.args.parent.now.content c.args.child c.loop-node.i c.in-Elem.kid c.part_in.result same at.0 c.part_in.ensures.part_of_the_child;
+}
 
 pub loop-node-preserved : goal.loop-node-preserved
 loop-node-preserved c =
@@ -41,9 +43,11 @@ loop-node-preserved c =
     ]
 
 pub returns : goal.returns
-returns c =
-    let xs = kids_of c.args.parent.now in
-    let inv = c.loop-node.invariant in
-    let last = at_end c.nodes-node-items.result.now c.loop-node.node-index c.loop-node.i xs inv.left c.loop-node-test.false inv.within in
-    let upto = inv.not_past in
-    right_end c.args.row c.args.scope.now c.args.parent.now.content c.args.child (omega arith)
+returns c = record {
+  part_behind_the_child =
+      let xs = kids_of c.args.parent.now in
+      let inv = c.loop-node.invariant in
+      let last = at_end c.nodes-node-items.result.now c.loop-node.node-index c.loop-node.i xs inv.left c.loop-node-test.false inv.within in
+      let upto = inv.not_past in
+      right_end c.args.row c.args.scope.now c.args.parent.now.content c.args.child (omega arith);
+}

@@ -5,10 +5,14 @@ use Rattle.edit_plans.proofs.RemovalLemmas.{none_still, still_by_next}
 use Rattle.edit_plans.proofs.removing.still_selects.Goals as goal
 
 pub returns-in-None : goal.returns-in-None
-returns-in-None c =
-    (λ h. absurd (true_false false h refl), λ h. absurd (none_still c.args.scope.now c.args.step.now (kids_of c.args.parent.now) c.args.child c.in-None.is c.requires h))
+returns-in-None c = record {
+  tells_whether_one_is_still_selected =
+      (λ h. absurd (true_false false h refl), λ h. absurd (none_still c.args.scope.now c.args.step.now (kids_of c.args.parent.now) c.args.child c.in-None.is c.requires h));
+}
 
 pub returns-in-Some : goal.returns-in-Some
-returns-in-Some c =
-    let s = still_by_next c.args.scope.now c.args.step.now (kids_of c.args.parent.now) c.args.child c.in-Some.field-0 c.in-Some.is c.requires in
-    (λ h. s.1 (c.next_passes.ensures.0 h), λ h. c.next_passes.ensures.1 (s.0 h))
+returns-in-Some c = record {
+  tells_whether_one_is_still_selected =
+      let s = still_by_next c.args.scope.now c.args.step.now (kids_of c.args.parent.now) c.args.child c.in-Some.field-0 c.in-Some.is c.requires in
+      (λ h. s.1 (c.next_passes.ensures.tells_whether_the_next_passes.0 h), λ h. c.next_passes.ensures.tells_whether_the_next_passes.1 (s.0 h));
+}

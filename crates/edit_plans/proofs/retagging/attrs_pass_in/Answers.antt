@@ -6,8 +6,10 @@ use Rattle.edit_plans.proofs.TagLemmas.{by_kind}
 use Rattle.edit_plans.proofs.retagging.attrs_pass_in.Goals as goal
 
 pub returns : goal.returns
-returns c =
-    let scope = c.args.scope.now in
-    let tag = c.args.tag.now in
-    by_kind (λ own. IsTrue (attrs_pass own (inside scope tag) tag.attrs)) (IsTrue c.attrs_pass.result) c.args.row (λ kind. kind_of_kid kind scope tag) c.in-Some.row c.in-Some-kind_of.kind c.in-Some.is
-    (search rules) (search rules)
+returns c = record {
+  tells_whether_they_pass =
+      let scope = c.args.scope.now in
+      let tag = c.args.tag.now in
+      by_kind (λ own. IsTrue (attrs_pass own (inside scope tag) tag.attrs)) (IsTrue c.attrs_pass.result) c.args.row (λ kind. kind_of_kid kind scope tag) c.in-Some.row c.in-Some-kind_of.kind c.in-Some.is
+      (search rules) (search rules);
+}

@@ -7,14 +7,20 @@ use Rattle.edit_plans.proofs.TwinLemmas.{marked_by_value, other_kind, unmarked_k
 use Rattle.edit_plans.proofs.siblings.has_mark.Goals as goal
 
 pub returns-in_default : goal.returns-in_default
-returns-in_default c =
-    let none = unmarked_kind c.args.row c.args.scope.now c.args.kid.now (sym c.kind_of_kid.ensures ∙ c.in_default.is) in
-    (λ h. absurd (true_false false h refl), λ h. absurd (none-some (mark c.args.kind (chars c.args.value.now)) (sym none ∙ h)))
+returns-in_default c = record {
+  tells_whether_it_has_the_mark =
+      let none = unmarked_kind c.args.row c.args.scope.now c.args.kid.now (sym c.kind_of_kid.ensures.kind_of_the_child ∙ c.in_default.is) in
+      (λ h. absurd (true_false false h refl), λ h. absurd (none-some (mark c.args.kind (chars c.args.value.now)) (sym none ∙ h)));
+}
 
 pub returns-then-not-is_kind : goal.returns-then-not-is_kind
-returns-then-not-is_kind c =
-    (λ h. absurd (true_false false h refl), λ h. absurd (other_kind c.args.row c.args.scope.now c.args.kid.now c.in-Some.own c.args.kind (chars c.args.value.now) (sym c.kind_of_kid.ensures ∙ c.in-Some.is) (λ same. true_false c.is_kind.result (c.is_kind.ensures.1 same) c.if-not-is_kind.true) h))
+returns-then-not-is_kind c = record {
+  tells_whether_it_has_the_mark =
+      (λ h. absurd (true_false false h refl), λ h. absurd (other_kind c.args.row c.args.scope.now c.args.kid.now c.in-Some.own c.args.kind (chars c.args.value.now) (sym c.kind_of_kid.ensures.kind_of_the_child ∙ c.in-Some.is) (λ same. true_false c.is_kind.result (c.is_kind.ensures.tells_whether_they_are_one.1 same) c.if-not-is_kind.true) h));
+}
 
 pub returns : goal.returns
-returns c =
-    marked_by_value c.args.row c.args.scope.now c.args.kid.now c.in-Some.own c.args.kind c.args.key (chars c.args.value.now) c.has_value.result (sym c.kind_of_kid.ensures ∙ c.in-Some.is) (c.is_kind.ensures.0 c.if-not-is_kind.false) c.requires c.has_value.ensures
+returns c = record {
+  tells_whether_it_has_the_mark =
+      marked_by_value c.args.row c.args.scope.now c.args.kid.now c.in-Some.own c.args.kind c.args.key (chars c.args.value.now) c.has_value.result (sym c.kind_of_kid.ensures.kind_of_the_child ∙ c.in-Some.is) (c.is_kind.ensures.tells_whether_they_are_one.0 c.if-not-is_kind.false) c.requires c.has_value.ensures.tells_whether_it_has_the_value;
+}

@@ -12,7 +12,7 @@ pub returns-then-is_marked-clause-found : goal.returns-then-is_marked-clause-fou
 returns-then-is_marked-clause-found c =
     let xs = kids_of c.args.siblings.now.parent.now in
     let at = at_elem c.nodes-node-items.result.now c.loop-node.node-index c.loop-node.i xs c.in-Elem.kid c.node-item.result c.loop-node.invariant.left c.loop-node-test.true c.node-item.is c.in-Elem.is in
-    let both = c.is_marked.ensures.0 c.if-is_marked.true in
+    let both = c.is_marked.ensures.tells_whether_it_is_marked.0 c.if-is_marked.true in
     (both.0, ap (option_and_then (mark_of c.args.row c.args.scope.now)) at.0 ∙ both.1)
 
 pub loop-node-preserved : goal.loop-node-preserved
@@ -28,7 +28,7 @@ loop-node-preserved c =
             left = rw (w.i-is, add-one, add-one) at.2;
             within = omega arith;
             small = omega arith;
-            none = no_more_marked c.args.row c.args.scope.now xs (mark c.args.kind (chars c.args.value.now)) c.args.siblings.now.left_out c.loop-node.i c.match-node.i w.in-Elem.kid w.i-is at.0 (λ h. true_false w.is_marked.result (w.is_marked.ensures.1 h) w.if-is_marked.false) inv.none;
+            none = no_more_marked c.args.row c.args.scope.now xs (mark c.args.kind (chars c.args.value.now)) c.args.siblings.now.left_out c.loop-node.i c.match-node.i w.in-Elem.kid w.i-is at.0 (λ h. true_false w.is_marked.result (w.is_marked.ensures.tells_whether_it_is_marked.1 h) w.if-is_marked.false) inv.none;
           })
       | in_default w ↦
           (record {

@@ -5,7 +5,9 @@ use Rattle.xml_tree.proofs.Letters.{bytes_eq-chars}
 use Rattle.edit_plans.proofs.siblings.same_text.Goals as goal
 
 pub returns : goal.returns
-returns c =
-    let same = c.eq.ensures ∙ bytes_eq-chars c.args.a.now c.args.b.now c.utf8.a c.utf8.b in
-    let decided = bytes_eq-Decides (chars c.args.a.now) (chars c.args.b.now) in
-    (λ h. decided.0 (sym same ∙ h), λ h. same ∙ decided.1 h)
+returns c = record {
+  tells_equal_characters =
+      let same = c.eq.ensures ∙ bytes_eq-chars c.args.a.now c.args.b.now c.utf8.a c.utf8.b in
+      let decided = bytes_eq-Decides (chars c.args.a.now) (chars c.args.b.now) in
+      (λ h. decided.0 (sym same ∙ h), λ h. same ∙ decided.1 h);
+}

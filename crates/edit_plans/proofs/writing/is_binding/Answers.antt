@@ -3,15 +3,19 @@ use Rattle.std.proofs.lemmas.Str.{chars-nil}
 use Rattle.edit_plans.proofs.writing.is_binding.Goals as goal
 
 pub returns-then-not-is : goal.returns-then-not-is
-returns-then-not-is c =
-    let prefix = c.args.decl.now.prefix in
-    let bound = c.args.decl.now.uri in
-    let some : bytes_eq prefix [] ≡ false = sym (c.is.ensures ∙ ap (bytes_eq prefix) chars-nil) ∙ c.if-not-is.true in
-    c.is-then-not-is.ensures ∙ ap (bytes_eq bound) c.as_str.ensures.letters ∙ sym (ap (λ (b : Bool). not b && bytes_eq bound c.args.uri.now) some)
+returns-then-not-is c = record {
+  tells_whether_it_binds_the_namespace =
+      let prefix = c.args.decl.now.prefix in
+      let bound = c.args.decl.now.uri in
+      let some : bytes_eq prefix [] ≡ false = sym (c.is.ensures.tells_whether_it_has_these ∙ ap (bytes_eq prefix) chars-nil) ∙ c.if-not-is.true in
+      c.is-then-not-is.ensures.tells_whether_it_has_these ∙ ap (bytes_eq bound) c.as_str.ensures.letters ∙ sym (ap (λ (b : Bool). not b && bytes_eq bound c.args.uri.now) some);
+}
 
 pub returns-else-not-is : goal.returns-else-not-is
-returns-else-not-is c =
-    let prefix = c.args.decl.now.prefix in
-    let bound = c.args.decl.now.uri in
-    let none : bytes_eq prefix [] ≡ true = sym (c.is.ensures ∙ ap (bytes_eq prefix) chars-nil) ∙ c.if-not-is.false in
-    ap not c.if-not-is.false ∙ sym (ap (λ (b : Bool). not b && bytes_eq bound c.args.uri.now) none)
+returns-else-not-is c = record {
+  tells_whether_it_binds_the_namespace =
+      let prefix = c.args.decl.now.prefix in
+      let bound = c.args.decl.now.uri in
+      let none : bytes_eq prefix [] ≡ true = sym (c.is.ensures.tells_whether_it_has_these ∙ ap (bytes_eq prefix) chars-nil) ∙ c.if-not-is.false in
+      ap not c.if-not-is.false ∙ sym (ap (λ (b : Bool). not b && bytes_eq bound c.args.uri.now) none);
+}

@@ -13,9 +13,11 @@ bound_everywhere : (c : List (List Decl)) → bound c (chars xml_prefix) ≡ Som
 bound_everywhere c = ap (bound c) letters
 
 pub unreachable-requires : goal.unreachable-requires
-unreachable-requires c = none-some xml_uri (c.in-None.ensures {u = tt} ∙ bound_everywhere c.args.scope.now)
+unreachable-requires c = none-some xml_uri ((c.in-None.ensures {u = tt}).resolves_as_it_is_bound ∙ bound_everywhere c.args.scope.now)
 
 pub returns : goal.returns
-returns c =
-    let is : chars c.in-Some.space.now ≡ xml_uri = same_Some (chars c.in-Some.space.now) xml_uri (c.in-Some.ensures {u = tt} ∙ bound_everywhere c.args.scope.now) in
-    c.is.ensures ∙ ap (bytes_eq c.args.uri.now) is
+returns c = record {
+  tells_whether_it_is_that_of_xml =
+      let is : chars c.in-Some.space.now ≡ xml_uri = same_Some (chars c.in-Some.space.now) xml_uri ((c.in-Some.ensures {u = tt}).resolves_as_it_is_bound ∙ bound_everywhere c.args.scope.now) in
+      c.is.ensures.tells_whether_it_has_these ∙ ap (bytes_eq c.args.uri.now) is;
+}

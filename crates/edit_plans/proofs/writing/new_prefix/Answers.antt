@@ -27,19 +27,25 @@ module _ (c : List (List Decl)) (uri : List ℕ) where
   other_space some is_other = sym (ap (λ (b : Bool). if b then Some xml_prefix else other) is_other) ∙ some_space some
 
 pub returns-then-is : goal.returns-then-is
-returns-then-is c =
-    let uri = c.args.uri.now in
-    ap (λ (s : List ℕ). Some s) (c.in_ok-none.ensures ∙ chars-nil) ∙ no_space c.args.scope.now uri (sym (c.is.ensures ∙ ap (bytes_eq uri) chars-nil) ∙ c.if-is.true)
+returns-then-is c = record {
+  finds_a_prefix =
+      let uri = c.args.uri.now in
+      ap (λ (s : List ℕ). Some s) (c.in_ok-none.ensures.copies_the_text ∙ chars-nil) ∙ no_space c.args.scope.now uri (sym (c.is.ensures.tells_whether_it_has_these ∙ ap (bytes_eq uri) chars-nil) ∙ c.if-is.true);
+}
 
 pub returns-then-is_xml_space : goal.returns-then-is_xml_space
-returns-then-is_xml_space c =
-    let uri = c.args.uri.now in
-    ap (λ (s : List ℕ). Some s) (c.in_ok-xml.ensures ∙ letters)
-    ∙ xml_space c.args.scope.now uri (sym (c.is.ensures ∙ ap (bytes_eq uri) chars-nil) ∙ c.if-is.false) (sym c.is_xml_space.ensures ∙ c.if-is_xml_space.true)
+returns-then-is_xml_space c = record {
+  finds_a_prefix =
+      let uri = c.args.uri.now in
+      ap (λ (s : List ℕ). Some s) (c.in_ok-xml.ensures.copies_the_text ∙ letters)
+      ∙ xml_space c.args.scope.now uri (sym (c.is.ensures.tells_whether_it_has_these ∙ ap (bytes_eq uri) chars-nil) ∙ c.if-is.false) (sym c.is_xml_space.ensures.tells_whether_it_is_that_of_xml ∙ c.if-is_xml_space.true);
+}
 
 pub returns : goal.returns
-returns c =
-    let uri = c.args.uri.now in
-    let all = ap (λ (ds : List Decl). option_map (λ d. d.prefix) (find (is_binding uri) ds)) (c.deref.ensures.value ∙ c.in_ok-bindings.ensures) in
-    let is = all ∙ other_space c.args.scope.now uri (sym (c.is.ensures ∙ ap (bytes_eq uri) chars-nil) ∙ c.if-is.false) (sym c.is_xml_space.ensures ∙ c.if-is_xml_space.false) in
-    subst (λ (o : Option (List ℕ)). IfOk c.bound_prefix.result (λ prefix. prefix ≡ o)) is c.bound_prefix.ensures
+returns c = record {
+  finds_a_prefix =
+      let uri = c.args.uri.now in
+      let all = ap (λ (ds : List Decl). option_map (λ d. d.prefix) (find (is_binding uri) ds)) (c.deref.ensures.value ∙ c.in_ok-bindings.ensures.all_bindings_in_scope) in
+      let is = all ∙ other_space c.args.scope.now uri (sym (c.is.ensures.tells_whether_it_has_these ∙ ap (bytes_eq uri) chars-nil) ∙ c.if-is.false) (sym c.is_xml_space.ensures.tells_whether_it_is_that_of_xml ∙ c.if-is_xml_space.false) in
+      subst (λ (o : Option (List ℕ)). IfOk c.bound_prefix.result (λ prefix. prefix ≡ o)) is c.bound_prefix.ensures.prefix_of_the_first_binding;
+}

@@ -12,22 +12,26 @@ by_letters : (c : List (List Decl)) (uri uri' local local' : List ℕ) (attrs : 
 by_letters c uri uri' local local' attrs o u l is = is ∙ ap (λ (x : List ℕ). position (is_attr c x local') attrs) u ∙ ap (λ (x : List ℕ). position (is_attr c uri x) attrs) l
 
 pub returns-in-None : goal.returns-in-None
-returns-in-None c =
-    let scope = c.args.scope.now in
-    let uri = c.args.uri.now in
-    let local = c.args.local.now in
-    let attrs = c.args.element.now.attrs in
-    let place = by_letters scope uri _ local _ attrs c.find_attr.result c.as_str.ensures.letters c.as_str-2.ensures.letters c.find_attr.ensures in
-    let none = none_at_position (is_attr scope uri local) attrs (sym place ∙ c.in-None.is) in
-    subst (λ (o : Option Name). IfOk c.new_name.result (λ name. name ≡ o)) (sym (ap (λ (found : Option Attr). kept_name found (new_name scope uri local)) none)) c.new_name.ensures
+returns-in-None c = record {
+  name_that_is_written =
+      let scope = c.args.scope.now in
+      let uri = c.args.uri.now in
+      let local = c.args.local.now in
+      let attrs = c.args.element.now.attrs in
+      let place = by_letters scope uri _ local _ attrs c.find_attr.result c.as_str.ensures.letters c.as_str-2.ensures.letters c.find_attr.ensures.place_of_the_first in
+      let none = none_at_position (is_attr scope uri local) attrs (sym place ∙ c.in-None.is) in
+      subst (λ (o : Option Name). IfOk c.new_name.result (λ name. name ≡ o)) (sym (ap (λ (found : Option Attr). kept_name found (new_name scope uri local)) none)) c.new_name.ensures.finds_a_name;
+}
 
 pub returns-in_ok-name-in-Some : goal.returns-in_ok-name-in-Some
-returns-in_ok-name-in-Some c =
-    let scope = c.args.scope.now in
-    let uri = c.args.uri.now in
-    let local = c.args.local.now in
-    let attrs = c.args.element.now.attrs in
-    let attr = c.index-attrs-place.result in
-    let place = by_letters scope uri _ local _ attrs c.find_attr.result c.as_str.ensures.letters c.as_str-2.ensures.letters c.find_attr.ensures in
-    let found = found_at_position (is_attr scope uri local) attrs c.in-Some.place attr (sym place ∙ c.in-Some.is) (subst (λ (xs : List Attr). attr ≡ get_or xs c.in-Some.place attr) c.attrs.ensures c.index-attrs-place.is) in
-    ap (λ (n : Name). Some n) (c.in_ok-name-in-Some.ensures ∙ ap (λ (a : Attr). a.name) (sym c.index-attrs-place.is)) ∙ sym (ap (λ (o : Option Attr). kept_name o (new_name scope uri local)) found)
+returns-in_ok-name-in-Some c = record {
+  name_that_is_written =
+      let scope = c.args.scope.now in
+      let uri = c.args.uri.now in
+      let local = c.args.local.now in
+      let attrs = c.args.element.now.attrs in
+      let attr = c.index-attrs-place.result in
+      let place = by_letters scope uri _ local _ attrs c.find_attr.result c.as_str.ensures.letters c.as_str-2.ensures.letters c.find_attr.ensures.place_of_the_first in
+      let found = found_at_position (is_attr scope uri local) attrs c.in-Some.place attr (sym place ∙ c.in-Some.is) (subst (λ (xs : List Attr). attr ≡ get_or xs c.in-Some.place attr) c.attrs.ensures.lends_the_attributes c.index-attrs-place.is) in
+      ap (λ (n : Name). Some n) (c.in_ok-name-in-Some.ensures.makes_an_equal_name ∙ ap (λ (a : Attr). a.name) (sym c.index-attrs-place.is)) ∙ sym (ap (λ (o : Option Attr). kept_name o (new_name scope uri local)) found);
+}

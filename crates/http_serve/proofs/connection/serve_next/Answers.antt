@@ -8,15 +8,15 @@ returns-in-Err-clause-turn g c = λ open_still. turn_of_fault _ _ _ _ _ _ _ _ _ 
 
 pub returns-in-Err-write_reply_through-clause-turn : goal.returns-in-Err-write_reply_through-clause-turn
 returns-in-Err-write_reply_through-clause-turn g c = λ open_still. turn_of_failed_write _ _ _ _ _ _ _ _ _ (g.L.Line.state c.next_request.new.source) _ c.in-Ok.asked c.in-Some.answered.reply c.in-Some.answered.edit
-    (c.in-Ok.ensures.asks open_still) c.in-Some.ensures c.in-Ok.ensures.only_reads.reads.same_taken c.in-Err-write_reply_through.ensures.only_writes.writes.same_inward c.tell_of.ensures c.in-Err-write_reply_through.ensures.bytes
+    (c.in-Ok.ensures.asks open_still) c.in-Some.ensures.answers_what_was_asked c.in-Ok.ensures.only_reads.reads.same_taken c.in-Err-write_reply_through.ensures.only_writes.writes.same_inward c.tell_of.ensures.told_to_the_watchers c.in-Err-write_reply_through.ensures.bytes
 
 pub returns-then-closes-clause-turn : goal.returns-then-closes-clause-turn
 returns-then-closes-clause-turn g c = λ open_still. turn_of_close _ _ _ _ _ _ _ _ _ (g.L.Line.state c.next_request.new.source) _ c.in-Ok.asked c.in-Some.answered.reply c.in-Some.answered.edit
-    (c.in-Ok.ensures.asks open_still) c.in-Some.ensures c.in-Ok.ensures.only_reads.reads.same_taken c.in-Ok-write_reply_through.ensures.only_writes.writes.same_inward c.tell_of.ensures (sym c.closes.ensures ∙ c.if-closes.true) c.in-Ok-write_reply_through.ensures.bytes
+    (c.in-Ok.ensures.asks open_still) c.in-Some.ensures.answers_what_was_asked c.in-Ok.ensures.only_reads.reads.same_taken c.in-Ok-write_reply_through.ensures.only_writes.writes.same_inward c.tell_of.ensures.told_to_the_watchers (sym c.closes.ensures.tells_whether_it_closes ∙ c.if-closes.true) c.in-Ok-write_reply_through.ensures.bytes
 
 pub returns-clause-turn : goal.returns-clause-turn
 returns-clause-turn g c = λ open_still. turn_of_request _ _ _ _ _ _ _ _ _ (g.L.Line.state c.next_request.new.source) _ c.in-Ok.asked c.in-Some.answered.reply c.in-Some.answered.edit
-    (c.in-Ok.ensures.asks open_still) c.in-Some.ensures c.in-Ok.ensures.only_reads.reads.same_taken c.in-Ok-write_reply_through.ensures.only_writes.writes.same_inward c.tell_of.ensures (sym c.closes.ensures ∙ c.if-closes.false) c.in-Ok-write_reply_through.ensures.bytes
+    (c.in-Ok.ensures.asks open_still) c.in-Some.ensures.answers_what_was_asked c.in-Ok.ensures.only_reads.reads.same_taken c.in-Ok-write_reply_through.ensures.only_writes.writes.same_inward c.tell_of.ensures.told_to_the_watchers (sym c.closes.ensures.tells_whether_it_closes ∙ c.if-closes.false) c.in-Ok-write_reply_through.ensures.bytes
 
 pub returns-clause-goes_on : goal.returns-clause-goes_on
-returns-clause-goes_on g c = λ goes_on. gives_on ℕ (InBytes g.M.Machine.steps) _ _ c.in-Ok.asked _ _ c.in-Some.answered.reply c.in-Some.answered.edit c.in-Ok.ensures.stands c.in-Some.ensures (sym c.closes.ensures ∙ c.if-closes.false)
+returns-clause-goes_on g c = λ goes_on. gives_on ℕ (InBytes g.M.Machine.steps) _ _ c.in-Ok.asked _ _ c.in-Some.answered.reply c.in-Some.answered.edit c.in-Ok.ensures.stands c.in-Some.ensures.answers_what_was_asked (sym c.closes.ensures.tells_whether_it_closes ∙ c.if-closes.false)

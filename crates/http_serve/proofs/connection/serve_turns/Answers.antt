@@ -17,4 +17,4 @@ turns-preserved g c =
     record { so_far = n.0; open_still = n.1.0; below = n.1.1 }
 
 pub returns-in-Some : goal.returns-in-Some
-returns-in-Some g c = at_end _ _ g.met.W.Watchers.more _ _ _ _ _ _ _ _ _ _ _ c.turns.invariant.so_far c.in-Some.ended (c.in-Some.ensures.turn c.turns.invariant.open_still) c.in-Some.ensures.faults c.in-Some.ensures.exchanges
+returns-in-Some g c = record { serves_the_turns = at_end _ _ g.met.W.Watchers.more _ _ _ _ _ _ _ _ _ _ _ c.turns.invariant.so_far c.in-Some.ended (c.in-Some.ensures.turn c.turns.invariant.open_still) c.in-Some.ensures.faults c.in-Some.ensures.exchanges }

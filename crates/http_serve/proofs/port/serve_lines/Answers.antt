@@ -9,15 +9,15 @@ pub connections-preserved : goal.connections-preserved
 connections-preserved g c =
     let i = c.connections.invariant in
     record {
-      so_far = one_connection _ _ g.met.W.Watchers.more _ _ _ _ _ _ _ _ _ _ _ _ _ i.so_far (has_begun ℕ (g.P.Line.state c.connections.port) (g.P.Line.state c.next.new.self) c.in-Ok.begun c.in-Ok.ensures.only_next c.if-not-begun.false) c.serve_line-last.ensures;
+      so_far = one_connection _ _ g.met.W.Watchers.more _ _ _ _ _ _ _ _ _ _ _ _ _ i.so_far (has_begun ℕ (g.P.Line.state c.connections.port) (g.P.Line.state c.next.new.self) c.in-Ok.begun c.in-Ok.ensures.only_next c.if-not-begun.false) c.serve_line-last.ensures.serves_the_line;
       within = omega (arith, c.connections-test.true);
     }
 
 pub returns-in-Err : goal.returns-in-Err
-returns-in-Err g c = next_failed _ _ _ _ _ _ _ _ _ _ _ c.connections.invariant.so_far _ c.connections-test.true c.in-Err.ensures.only_next
+returns-in-Err g c = record { serves_the_port = next_failed _ _ _ _ _ _ _ _ _ _ _ c.connections.invariant.so_far _ c.connections-test.true c.in-Err.ensures.only_next }
 
 pub returns-then-not-begun : goal.returns-then-not-begun
-returns-then-not-begun g c = none_to_come _ _ _ _ _ _ _ _ _ _ _ c.connections.invariant.so_far _ c.connections-test.true (has_ended ℕ (g.P.Line.state c.connections.port) (g.P.Line.state c.next.new.self) c.in-Ok.begun c.in-Ok.ensures.only_next c.if-not-begun.true)
+returns-then-not-begun g c = record { serves_the_port = none_to_come _ _ _ _ _ _ _ _ _ _ _ c.connections.invariant.so_far _ c.connections-test.true (has_ended ℕ (g.P.Line.state c.connections.port) (g.P.Line.state c.next.new.self) c.in-Ok.begun c.in-Ok.ensures.only_next c.if-not-begun.true) }
 
 pub returns : goal.returns
-returns g c = all_served _ _ _ _ _ _ _ _ _ _ _ c.connections.invariant.so_far (omega (arith, c.connections-test.false, c.connections.invariant.within))
+returns g c = record { serves_the_port = all_served _ _ _ _ _ _ _ _ _ _ _ c.connections.invariant.so_far (omega (arith, c.connections-test.false, c.connections.invariant.within)) }

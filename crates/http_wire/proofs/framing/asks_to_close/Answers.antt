@@ -7,19 +7,21 @@ use Rattle.http_wire.proofs.framing.asks_to_close.Goals.{else-is_same_word-via-t
 
 pub returns-then-has_close : goal.returns-then-has_close
 unfolding asks_to_close
-returns-then-has_close c =
-    let tested = sym (c.is_same_word.ensures ∙ ap (λ (l : List ℕ). same_word l (codes "connection")) c.of.ensures) ∙ c.if-is_same_word.true in
-    let one = any_named has_close c.args.buf.now (codes "connection") c.args.headers.now c.fields.header-index _ c.fields-test.true c.fields.invariant tested in
-    let closes = sym (c.has_close.ensures ∙ ap has_close c.of-then-is_same_word.ensures) ∙ c.if-has_close.true in
-    sym (any_from_front has_close c.args.buf.now (codes "connection") c.args.headers.now (c.fields.header-index + 1) (one ∙ closes))
+returns-then-has_close c = record {
+  tells_whether_it_asks_to_close =
+      let tested = sym (c.is_same_word.ensures.tells_whether_they_are_one_word ∙ ap (λ (l : List ℕ). same_word l (codes "connection")) c.of.ensures) ∙ c.if-is_same_word.true in
+      let one = any_named has_close c.args.buf.now (codes "connection") c.args.headers.now c.fields.header-index _ c.fields-test.true c.fields.invariant tested in
+      let closes = sym (c.has_close.ensures.tells_whether_one_is_close ∙ ap has_close c.of-then-is_same_word.ensures) ∙ c.if-has_close.true in
+      sym (any_from_front has_close c.args.buf.now (codes "connection") c.args.headers.now (c.fields.header-index + 1) (one ∙ closes));
+}
 
 pub fields-preserved : goal.fields-preserved
 fields-preserved c =
-    let tested = sym (c.is_same_word.ensures ∙ ap (λ (l : List ℕ). same_word l (codes "connection")) c.of.ensures) in
+    let tested = sym (c.is_same_word.ensures.tells_whether_they_are_one_word ∙ ap (λ (l : List ℕ). same_word l (codes "connection")) c.of.ensures) in
     elim c.else-is_same_word.branch [
       | else-is_same_word-via-then-is_same_word+else-has_close w ↦ (
           let one = any_named has_close c.args.buf.now (codes "connection") c.args.headers.now c.fields.header-index _ c.fields-test.true c.fields.invariant (tested ∙ w.if-is_same_word.true) in
-          one ∙ sym (w.has_close.ensures ∙ ap has_close w.of-then-is_same_word.ensures) ∙ w.if-has_close.false
+          one ∙ sym (w.has_close.ensures.tells_whether_one_is_close ∙ ap has_close w.of-then-is_same_word.ensures) ∙ w.if-has_close.false
           )
       | else-is_same_word-via-else-is_same_word w ↦
           any_other has_close c.args.buf.now (codes "connection") c.args.headers.now c.fields.header-index _ c.fields-test.true c.fields.invariant (tested ∙ w.if-is_same_word.false)

@@ -13,12 +13,12 @@ fields-preserved c =
     let headers = c.args.headers.now in
     let i : ℕ = c.fields.header-index in
     let values : List (List ℕ) = values_of name (map (header_bytes buf) (take i headers)) in
-    let tested = sym (c.is_same_word.ensures ∙ ap (λ (l : List ℕ). same_word l name) c.of.ensures) in
+    let tested = sym (c.is_same_word.ensures.tells_whether_they_are_one_word ∙ ap (λ (l : List ℕ). same_word l name) c.of.ensures) in
     elim c.if-is_same_word.branch [
       | then-is_same_word w ↦ (
           let more = value_named buf name headers i _ c.fields-test.true (tested ∙ w.if-is_same_word.true) in
           let value = ap (λ (v : List ℕ). values ++ v ∷ []) w.of-then-is_same_word.ensures in
-          rw w.found-is (subst (Found w.and-found.result) (value ∙ sym more) (w.and-found.ensures values c.fields.invariant))
+          rw w.found-is (subst (Found w.and-found.result) (value ∙ sym more) (w.and-found.ensures.finds_one_more values c.fields.invariant))
           )
       | else-is_same_word w ↦ (
           let more = value_other buf name headers i _ c.fields-test.true (tested ∙ w.if-is_same_word.false) in

@@ -6,7 +6,9 @@ use Rattle.http_wire.proofs.Fronts.{no_head_without_feed}
 use Rattle.http_wire.proofs.heads.look_on.Goals as goal
 
 pub returns-then-not-contains : goal.returns-then-not-contains
-returns-then-not-contains c =
-    let none : list_any (λ b. b == line_feed) (drop c.args.seen c.args.bytes.now) ≡ false =
-    ap (list_any (λ b. b == line_feed)) (sym (take_rest c.args.bytes.now c.args.seen)) ∙ sym c.contains.ensures.value ∙ c.if-not-contains.true in
-    (no_head_without_feed c.args.bytes.now c.args.seen c.requires.inside c.requires.none none, c.if-bytes-lt-MAX_HEAD.true)
+returns-then-not-contains c = record {
+  front_of_all_bytes =
+      let none : list_any (λ b. b == line_feed) (drop c.args.seen c.args.bytes.now) ≡ false =
+      ap (list_any (λ b. b == line_feed)) (sym (take_rest c.args.bytes.now c.args.seen)) ∙ sym c.contains.ensures.value ∙ c.if-not-contains.true in
+      (no_head_without_feed c.args.bytes.now c.args.seen c.requires.inside c.requires.none none, c.if-bytes-lt-MAX_HEAD.true);
+}

@@ -20,8 +20,8 @@ returns-in-Ok-clause-asks g c =
     let at : IsHeadAt held headers spans c.requires.head = head_at_same c.args.inflow.now held headers spans c.requires.head c.requires.at d.same_head in
     let same = c.bytes.ensures.value in
     let is : c.in-Ok.request ≡ request_of c.args.before c.requires.head c.decode.new.decoder.body =
-    request_at c.args.before held headers spans c.requires.head c.in-Ok.request c.decode.new.decoder.body at (rw same at c.in-Ok.ensures.method) (rw same at c.in-Ok.ensures.target) (rw same at c.in-Ok.ensures.closes) (rw same at c.in-Ok.ensures.fields) (c.in-Ok.ensures.body ∙ c.body.ensures) in
-    rw c.pass.ensures (chunks_whole c.args.before c.args.inflow.now _ c.decode.new.decoder.body held _ headers spans c.in-Whole.end c.in-Ok.request c.requires d is)
+    request_at c.args.before held headers spans c.requires.head c.in-Ok.request c.decode.new.decoder.body at (rw same at c.in-Ok.ensures.method) (rw same at c.in-Ok.ensures.target) (rw same at c.in-Ok.ensures.closes) (rw same at c.in-Ok.ensures.fields) (c.in-Ok.ensures.body ∙ c.body.ensures.lends_the_joined_chunks) in
+    rw c.pass.ensures.lets_the_first_bytes_go (chunks_whole c.args.before c.args.inflow.now _ c.decode.new.decoder.body held _ headers spans c.in-Whole.end c.in-Ok.request c.requires d is)
 
 pub returns-in-Err-clause-asks : goal.returns-in-Err-clause-asks
 returns-in-Err-clause-asks g c =

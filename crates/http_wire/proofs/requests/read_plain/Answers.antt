@@ -32,7 +32,7 @@ returns-in-Ok-clause-asks g c =
     let is : c.in-Ok.request ≡ request_of c.args.before o.head (slice_range held spans.len end) =
     request_at c.args.before held headers spans o.head c.in-Ok.request (slice_range held spans.len end) o.at (rw same at c.in-Ok.ensures.method) (rw same at c.in-Ok.ensures.target) (rw same at c.in-Ok.ensures.closes) (rw same at c.in-Ok.ensures.fields) (rw same at c.in-Ok.ensures.body) in
     asks_after c.args.before c.args.inflow.now held _ _ (Ok (Requested c.in-Ok.request)) c.pass.new.self _ gains
-    (asks_now c.args.before held _ (Requested c.in-Ok.request) c.pass.new.self (rw c.pass.ensures (asks_plain c.args.before held headers spans c.args.len c.in-Ok.request o enough is)))
+    (asks_now c.args.before held _ (Requested c.in-Ok.request) c.pass.new.self (rw c.pass.ensures.lets_the_first_bytes_go (asks_plain c.args.before held headers spans c.args.len c.in-Ok.request o enough is)))
 
 pub returns-in-Err-clause-asks : goal.returns-in-Err-clause-asks
 returns-in-Err-clause-asks g c =

@@ -5,15 +5,19 @@ use Rattle.node_select.proofs.Lists.{first_inside, none_inside}
 use Rattle.node_select.proofs.choice.+find_within.Goals as goal
 
 pub returns-in_default : goal.returns-in_default
-returns-in_default t c =
-    let found = λ (s : List (List Decl)). position (is_attr s (chars c.args.uri.now) (chars c.args.local.now)) c.args.attrs.now in
-    c.attr_place.ensures ∙ ap found (sym (none_inside c.args.scope.now c.args.lists.now c.in_default.len_below))
+returns-in_default t c = record {
+  place_of_the_first_within =
+      let found = λ (s : List (List Decl)). position (is_attr s (chars c.args.uri.now) (chars c.args.local.now)) c.args.attrs.now in
+      c.attr_place.ensures.place_of_the_first_in_scope ∙ ap found (sym (none_inside c.args.scope.now c.args.lists.now c.in_default.len_below));
+}
 
 pub returns : goal.returns
-returns t c =
-    let found = λ (s : List (List Decl)). position (is_attr s (chars c.args.uri.now) (chars c.args.local.now)) c.args.attrs.now in
-    let ls = c.args.lists.now in
-    let rest = map (λ x. x.now) (take (length ls - 1) (drop 1 ls)) in
-    let first = c.inside.ensures ∙ ap (λ (ds : List Decl). c.args.scope.now ++ ds ∷ []) c.declared_in-declared.ensures in
-    c.find_within.ensures ∙ ap (λ (s : List (List Decl)). found (s ++ rest)) first
-    ∙ ap found (first_inside c.args.scope.now ls c.list-item.result c.in-len1-up.len_at_least c.list-item.is)
+returns t c = record {
+  place_of_the_first_within =
+      let found = λ (s : List (List Decl)). position (is_attr s (chars c.args.uri.now) (chars c.args.local.now)) c.args.attrs.now in
+      let ls = c.args.lists.now in
+      let rest = map (λ x. x.now) (take (length ls - 1) (drop 1 ls)) in
+      let first = c.inside.ensures.adds_the_declarations ∙ ap (λ (ds : List Decl). c.args.scope.now ++ ds ∷ []) c.declared_in-declared.ensures.holds_the_declarations in
+      c.find_within.ensures.place_of_the_first_within ∙ ap (λ (s : List (List Decl)). found (s ++ rest)) first
+      ∙ ap found (first_inside c.args.scope.now ls c.list-item.result c.in-len1-up.len_at_least c.list-item.is);
+}

@@ -5,7 +5,9 @@ use Rattle.node_select.specs.Selection.{is_attr}
 use Rattle.node_select.proofs.choice.find_attr.Goals as goal
 
 pub returns : goal.returns
-returns c =
-    let found = λ (s : List (List Decl)) (attrs : List Attr). position (is_attr s (chars c.args.uri.now) (chars c.args.local.now)) attrs in
-    c.find_within.ensures ∙ ap (λ (s : List (List Decl)). found (s ++ map (λ x. x.now) c.lists.result.now) c.attrs.result.now) c.empty.ensures
-    ∙ ap (λ (s : List (List Decl)). found s c.attrs.result.now) c.lists.ensures ∙ ap (found c.args.scope.now) c.attrs.ensures
+returns c = record {
+  place_of_the_first =
+      let found = λ (s : List (List Decl)) (attrs : List Attr). position (is_attr s (chars c.args.uri.now) (chars c.args.local.now)) attrs in
+      c.find_within.ensures.place_of_the_first_within ∙ ap (λ (s : List (List Decl)). found (s ++ map (λ x. x.now) c.lists.result.now) c.attrs.result.now) c.empty.ensures.declares_nothing
+      ∙ ap (λ (s : List (List Decl)). found s c.attrs.result.now) c.lists.ensures.lends_the_lists ∙ ap (found c.args.scope.now) c.attrs.ensures.lends_the_attributes;
+}

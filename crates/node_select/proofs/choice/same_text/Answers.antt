@@ -3,4 +3,4 @@ use Rattle.xml_tree.proofs.Letters.{bytes_eq-chars}
 use Rattle.node_select.proofs.choice.same_text.Goals as goal
 
 pub returns : goal.returns
-returns c = c.eq.ensures ∙ bytes_eq-chars c.args.a.now c.args.b.now c.utf8.a c.utf8.b
+returns c = record { tells_equal_characters = c.eq.ensures ∙ bytes_eq-chars c.args.a.now c.args.b.now c.utf8.a c.utf8.b }

@@ -7,13 +7,15 @@ use Rattle.node_select.proofs.choice.select_child.Goals as goal
 use Rattle.node_select.proofs.choice.select_child.Goals.{in-Elem, then-is_match+else-is_some, else-is_match, in_default}
 
 pub returns-then-is_some : goal.returns-then-is_some
-returns-then-is_some c =
-    let xs = kids_of c.args.element.now in
-    let named = is_named c.args.scope.now c.args.step.now in
-    let tested = is_tested c.args.scope.now c.args.step.now in
-    let at = at_elem c.nodes-node-items.result.now c.loop-node.node-index c.loop-node.i xs c.in-Elem.kid c.node-item.result c.loop-node.invariant.left c.loop-node-test.true c.node-item.is c.in-Elem.is in
-    let m = here named tested c.args.step.now.position xs c.loop-node.i c.loop-node.before c.in-Elem.kid at.0 c.loop-node.invariant.counted in
-    second_is_none named tested c.args.step.now.position xs c.loop-node.i c.loop-node.found (sym c.is_some.ensures ∙ c.if-is_some.true) c.loop-node.invariant.only (m.0 (sym c.is_match.ensures ∙ c.if-is_match.true))
+returns-then-is_some c = record {
+  selects_the_one_that_matches =
+      let xs = kids_of c.args.element.now in
+      let named = is_named c.args.scope.now c.args.step.now in
+      let tested = is_tested c.args.scope.now c.args.step.now in
+      let at = at_elem c.nodes-node-items.result.now c.loop-node.node-index c.loop-node.i xs c.in-Elem.kid c.node-item.result c.loop-node.invariant.left c.loop-node-test.true c.node-item.is c.in-Elem.is in
+      let m = here named tested c.args.step.now.position xs c.loop-node.i c.loop-node.before c.in-Elem.kid at.0 c.loop-node.invariant.counted in
+      second_is_none named tested c.args.step.now.position xs c.loop-node.i c.loop-node.found (sym c.is_some.ensures ∙ c.if-is_some.true) c.loop-node.invariant.only (m.0 (sym c.is_match.ensures.tells_whether_it_matches ∙ c.if-is_match.true));
+}
 
 pub loop-node-preserved : goal.loop-node-preserved
 loop-node-preserved c =
@@ -32,11 +34,11 @@ loop-node-preserved c =
             left = rw (w.i-is, add-one, add-one) at.2;
             within = omega arith;
             small = omega arith;
-            counted = count_next named xs c.loop-node.i c.match-node.i c.loop-node.before c.match-node.before w.in-Elem.kid at.0 at.1 c.loop-node.invariant.counted w.i-is (w.before-is ∙ w.count-before.ensures ∙ ap one_more w.is_named.ensures);
-            few = omega (arith, w.before-is, w.count-before.ensures, at_most_one w.is_named.result);
+            counted = count_next named xs c.loop-node.i c.match-node.i c.loop-node.before c.match-node.before w.in-Elem.kid at.0 at.1 c.loop-node.invariant.counted w.i-is (w.before-is ∙ w.count-before.ensures.counts_one_more ∙ ap one_more w.is_named.ensures.tells_whether_it_passes_the_name);
+            few = omega (arith, w.before-is, w.count-before.ensures.counts_one_more, at_most_one w.is_named.result);
             only = elim w.if-is_match.branch [
-              | then-is_match+else-is_some v ↦ only_hit P c.loop-node.i c.match-node.i c.loop-node.found c.match-node.found w.i-is (w.found-is ∙ v.found-is) (sym v.is_some.ensures ∙ v.if-is_some.false) c.loop-node.invariant.only (m.0 (sym w.is_match.ensures ∙ v.if-is_match.true))
-              | else-is_match v ↦ only_miss P c.loop-node.i c.match-node.i c.loop-node.found c.match-node.found _ w.i-is (w.found-is ∙ v.found-is) c.loop-node.invariant.only m (sym w.is_match.ensures ∙ v.if-is_match.false)
+              | then-is_match+else-is_some v ↦ only_hit P c.loop-node.i c.match-node.i c.loop-node.found c.match-node.found w.i-is (w.found-is ∙ v.found-is) (sym v.is_some.ensures ∙ v.if-is_some.false) c.loop-node.invariant.only (m.0 (sym w.is_match.ensures.tells_whether_it_matches ∙ v.if-is_match.true))
+              | else-is_match v ↦ only_miss P c.loop-node.i c.match-node.i c.loop-node.found c.match-node.found _ w.i-is (w.found-is ∙ v.found-is) c.loop-node.invariant.only m (sym w.is_match.ensures.tells_whether_it_matches ∙ v.if-is_match.false)
             ];
           })
       | in_default w ↦
@@ -51,7 +53,9 @@ loop-node-preserved c =
     ]
 
 pub returns : goal.returns
-returns c =
-    let xs = kids_of c.args.element.now in
-    let end = at_end c.nodes-node-items.result.now c.loop-node.node-index c.loop-node.i xs c.loop-node.invariant.left c.loop-node-test.false c.loop-node.invariant.within in
-    only_is_selected (is_named c.args.scope.now c.args.step.now) (is_tested c.args.scope.now c.args.step.now) c.args.step.now.position xs c.loop-node.i c.loop-node.found end c.loop-node.invariant.only
+returns c = record {
+  selects_the_one_that_matches =
+      let xs = kids_of c.args.element.now in
+      let end = at_end c.nodes-node-items.result.now c.loop-node.node-index c.loop-node.i xs c.loop-node.invariant.left c.loop-node-test.false c.loop-node.invariant.within in
+      only_is_selected (is_named c.args.scope.now c.args.step.now) (is_tested c.args.scope.now c.args.step.now) c.args.step.now.position xs c.loop-node.i c.loop-node.found end c.loop-node.invariant.only;
+}

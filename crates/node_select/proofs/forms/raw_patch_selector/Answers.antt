@@ -7,4 +7,4 @@ use Rattle.node_select.proofs.forms.raw_patch_selector.Goals as goal
 pub returns-clause-room : goal.returns-clause-room
 returns-clause-room c =
     let raw = patch_selector_in c.in_ok-selector.selector in
-    patch_selector_room c.args.text.now raw c.requires (whole_read read_patch_selector c.args.text.now raw c.in_ok-selector.rest.now (c.in_ok-selector.ensures {u = tt}) (sym c.is_empty.ensures ∙ c.if-not-is_empty.false))
+    patch_selector_room c.args.text.now raw c.requires (whole_read read_patch_selector c.args.text.now raw c.in_ok-selector.rest.now (c.in_ok-selector.ensures {u = tt}).reads_a_selector_of_a_patch (sym c.is_empty.ensures ∙ c.if-not-is_empty.false))

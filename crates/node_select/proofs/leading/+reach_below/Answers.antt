@@ -13,11 +13,11 @@ use Rattle.node_select.proofs.leading.+reach_below.Goals as goal
 
 pub unreachable-requires : goal.unreachable-requires
 unreachable-requires t c =
-    among_missing c.args.scope.now (kids_of c.args.element.now) c.step-item.result [] c.in-Some.child (sym c.select_child.ensures ∙ c.in-Some.is) (sym c.kid.ensures ∙ ap option_copied c.in_default-kid.is)
+    among_missing c.args.scope.now (kids_of c.args.element.now) c.step-item.result [] c.in-Some.child (sym c.select_child.ensures.selects_the_one_that_matches ∙ c.in-Some.is) (sym c.kid.ensures.child_of_that_number ∙ ap option_copied c.in_default-kid.is)
 
 pub reach_below-below-requires : goal.reach_below-below-requires
 reach_below-below-requires t c =
-    let there : slice_get (kids_of c.args.element.now) c.in-Some.child ≡ Some c.in-Some-kid.kid.now = sym c.kid.ensures ∙ ap option_copied c.in-Some-kid.is in
+    let there : slice_get (kids_of c.args.element.now) c.in-Some.child ≡ Some c.in-Some-kid.kid.now = sym c.kid.ensures.child_of_that_number ∙ ap option_copied c.in-Some-kid.is in
     let lower = kid_lower c.args.element.now c.in-Some.child c.in-Some-kid.kid.now there in
     let longer = ap (λ (p : List ℕ). length p) (c.in-Some-child.ensures {u = tt}).longer ∙ length-append c.args.path (c.in-Some.child ∷ []) in
     let low = c.requires in
@@ -26,21 +26,23 @@ reach_below-below-requires t c =
 pub overflow_add-result : goal.overflow_add-result
 overflow_add-result t c =
     let rest = take (length c.args.steps.now - 1) (drop 1 c.args.steps.now) in
-    omega (arith, c.reach_below-below.ensures.counted, depth_within rest c.inside-inside.result (kids_of c.in-Some-kid.kid.now), length-take-le (length c.args.steps.now - 1) (drop 1 c.args.steps.now))
+    omega (arith, c.reach_below-below.ensures.reaches_from_the_element.counted, depth_within rest c.inside-inside.result (kids_of c.in-Some-kid.kid.now), length-take-le (length c.args.steps.now - 1) (drop 1 c.args.steps.now))
 
 pub returns : goal.returns
-returns t c =
-    let scope = c.args.scope.now in
-    let kids = kids_of c.args.element.now in
-    let steps = c.args.steps.now in
-    let rest = take (length steps - 1) (drop 1 steps) in
-    let kid = c.in-Some-kid.kid.now in
-    let below = c.reach_below-below.result in
-    let made : Reached = record { steps = 1 + below.steps; path = below.path } in
-    let there : slice_get kids c.in-Some.child ≡ Some kid = sym c.kid.ensures ∙ ap option_copied c.in-Some-kid.is in
-    let one : selected_child scope c.step-item.result kids ≡ Some c.in-Some.child = sym c.select_child.ensures ∙ c.in-Some.is in
-    let scope_is : c.inside-inside.result ≡ inside scope kid = c.inside-inside.ensures ∙ ap (λ (ds : List Decl). scope ++ ds ∷ []) (c.declared_in-declared.ensures ∙ c.decls.ensures) in
-    let on = subst (λ (b : List ℕ). ReachesBelow (inside scope kid) (kids_of kid) rest b below) (c.in-Some-child.ensures {u = tt}).longer
-    (subst (λ (d : List (List Decl)). ReachesBelow d (kids_of kid) rest c.in-Some-child.longer below) scope_is c.reach_below-below.ensures) in
-    subst (λ (l : List Step). ReachesBelow scope kids l c.args.path made) (sym (first_and_rest steps c.step-item.result c.in-len1-up.len_at_least c.step-item.is))
-    (goes_on scope kids c.step-item.result rest c.args.path c.in-Some.child kid below made one there on (omega arith) refl)
+returns t c = record {
+  reaches_from_the_element =
+      let scope = c.args.scope.now in
+      let kids = kids_of c.args.element.now in
+      let steps = c.args.steps.now in
+      let rest = take (length steps - 1) (drop 1 steps) in
+      let kid = c.in-Some-kid.kid.now in
+      let below = c.reach_below-below.result in
+      let made : Reached = record { steps = 1 + below.steps; path = below.path } in
+      let there : slice_get kids c.in-Some.child ≡ Some kid = sym c.kid.ensures.child_of_that_number ∙ ap option_copied c.in-Some-kid.is in
+      let one : selected_child scope c.step-item.result kids ≡ Some c.in-Some.child = sym c.select_child.ensures.selects_the_one_that_matches ∙ c.in-Some.is in
+      let scope_is : c.inside-inside.result ≡ inside scope kid = c.inside-inside.ensures.adds_the_declarations ∙ ap (λ (ds : List Decl). scope ++ ds ∷ []) (c.declared_in-declared.ensures.holds_the_declarations ∙ c.decls.ensures.lends_the_declarations) in
+      let on = subst (λ (b : List ℕ). ReachesBelow (inside scope kid) (kids_of kid) rest b below) (c.in-Some-child.ensures {u = tt}).longer
+      (subst (λ (d : List (List Decl)). ReachesBelow d (kids_of kid) rest c.in-Some-child.longer below) scope_is c.reach_below-below.ensures.reaches_from_the_element) in
+      subst (λ (l : List Step). ReachesBelow scope kids l c.args.path made) (sym (first_and_rest steps c.step-item.result c.in-len1-up.len_at_least c.step-item.is))
+      (goes_on scope kids c.step-item.result rest c.args.path c.in-Some.child kid below made one there on (omega arith) refl);
+}

@@ -12,7 +12,7 @@ use Rattle.node_select.proofs.leading.reach.Goals as goal
 pub overflow_add-result : goal.overflow_add-result
 overflow_add-result c =
     let rest = take (length c.args.steps.now - 1) (drop 1 c.args.steps.now) in
-    omega (arith, c.reach_inside-below.ensures.counted, depth_within rest (c.args.root.now.decls ∷ []) (kids_of c.args.root.now), length-take-le (length c.args.steps.now - 1) (drop 1 c.args.steps.now))
+    omega (arith, c.reach_inside-below.ensures.reaches_from_the_root.counted, depth_within rest (c.args.root.now.decls ∷ []) (kids_of c.args.root.now), length-take-le (length c.args.steps.now - 1) (drop 1 c.args.steps.now))
 
 pub returns-clause-longest : goal.returns-clause-longest
 returns-clause-longest c =
@@ -22,8 +22,8 @@ returns-clause-longest c =
     let rest = take (length steps - 1) (drop 1 steps) in
     let below = c.reach_inside-below.result in
     let made : Reached = record { steps = 1 + below.steps; path = below.path } in
-    let m : IsTrue (matches (is_named [] s) (is_tested [] s) s.position (root ∷ []) 0) = subst (λ (e : List (List Decl)). IsTrue (child_matches (is_named e s) (is_tested e s) s.position 0 (Some root))) c.empty.ensures (sym c.is_match.ensures ∙ c.if-not-is_match.false) in
-    let on = onwards s rest root below made m c.reach_inside-below.ensures (omega arith) refl in
+    let m : IsTrue (matches (is_named [] s) (is_tested [] s) s.position (root ∷ []) 0) = subst (λ (e : List (List Decl)). IsTrue (child_matches (is_named e s) (is_tested e s) s.position 0 (Some root))) c.empty.ensures.declares_nothing (sym c.is_match.ensures.tells_whether_it_matches ∙ c.if-not-is_match.false) in
+    let on = onwards s rest root below made m c.reach_inside-below.ensures.reaches_from_the_root (omega arith) refl in
     subst (λ (l : List Step). IsLongestMatch l root made.steps) (sym (first_and_rest steps s c.in-len1-up.len_at_least c.step-item.is)) on.0
 
 pub returns-clause-selected : goal.returns-clause-selected
@@ -34,6 +34,6 @@ returns-clause-selected c =
     let rest = take (length steps - 1) (drop 1 steps) in
     let below = c.reach_inside-below.result in
     let made : Reached = record { steps = 1 + below.steps; path = below.path } in
-    let m : IsTrue (matches (is_named [] s) (is_tested [] s) s.position (root ∷ []) 0) = subst (λ (e : List (List Decl)). IsTrue (child_matches (is_named e s) (is_tested e s) s.position 0 (Some root))) c.empty.ensures (sym c.is_match.ensures ∙ c.if-not-is_match.false) in
-    let on = onwards s rest root below made m c.reach_inside-below.ensures (omega arith) refl in
+    let m : IsTrue (matches (is_named [] s) (is_tested [] s) s.position (root ∷ []) 0) = subst (λ (e : List (List Decl)). IsTrue (child_matches (is_named e s) (is_tested e s) s.position 0 (Some root))) c.empty.ensures.declares_nothing (sym c.is_match.ensures.tells_whether_it_matches ∙ c.if-not-is_match.false) in
+    let on = onwards s rest root below made m c.reach_inside-below.ensures.reaches_from_the_root (omega arith) refl in
     subst (λ (l : List Step). 0 < made.steps → SelectsPath (take made.steps l) root made.path) (sym (first_and_rest steps s c.in-len1-up.len_at_least c.step-item.is)) on.1

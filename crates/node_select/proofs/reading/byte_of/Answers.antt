@@ -6,4 +6,4 @@ pub byte_len-requires : goal.byte_len-requires
 byte_len-requires c = omega (arith, rest_fits c.args.text.now c.args.all.now c.min-n.result c.requires c.utf8.text, c.well_formed)
 
 pub overflow_sub-result : goal.overflow_sub-result
-overflow_sub-result c = omega (arith, rest_fits c.args.text.now c.args.all.now c.min-n.result c.requires c.utf8.text, c.byte_len.ensures)
+overflow_sub-result c = omega (arith, rest_fits c.args.text.now c.args.all.now c.min-n.result c.requires c.utf8.text, c.byte_len.ensures.counts_the_bytes)

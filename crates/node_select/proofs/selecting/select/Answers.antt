@@ -6,4 +6,4 @@ use Rattle.node_select.proofs.selecting.select.Goals as goal
 pub returns-clause-selected : goal.returns-clause-selected
 returns-clause-selected c =
     let root = c.args.root.now in let steps = c.args.selector.now.steps in
-    subst (λ (o : Option (List ℕ)). (p : List ℕ) → (o ≡ Some p) ↔ SelectsPath steps root p) (sym (c.select_steps.ensures ∙ ap (λ ss. selected_in ss root) c.as_slice.ensures)) (path_is steps root)
+    subst (λ (o : Option (List ℕ)). (p : List ℕ) → (o ≡ Some p) ↔ SelectsPath steps root p) (sym (c.select_steps.ensures.selects_in_the_document ∙ ap (λ ss. selected_in ss root) c.as_slice.ensures.lends_the_items)) (path_is steps root)

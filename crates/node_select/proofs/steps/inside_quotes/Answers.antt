@@ -11,30 +11,34 @@ use Rattle.node_select.proofs.steps.inside_quotes.Goals.{else-loop-test, then-lo
 
 pub loop-init : goal.loop-init
 loop-init c =
-    let first : c.push_all.new.value ≡ c.raw_run.result.0.now = c.in_ok-push_all.ensures ∙ ap (λ (z : List ℕ). z ++ c.raw_run.result.0.now) c.no_text-value.ensures in
+    let first : c.push_all.new.value ≡ c.raw_run.result.0.now = c.in_ok-push_all.ensures.adds_all_characters ∙ ap (λ (z : List ℕ). z ++ c.raw_run.result.0.now) c.no_text-value.ensures.holds_no_characters in
     let all : length c.raw_run.result.1.now - 0 ≡ length c.raw_run.result.1.now = omega arith in
-    rw (first, all) (start reference_follows (read_raw c.args.quote) read_reference plain_value c.args.text.now c.raw_run.result.1.now c.raw_run.result.0.now c.raw_run.ensures)
+    rw (first, all) (start reference_follows (read_raw c.args.quote) read_reference plain_value c.args.text.now c.raw_run.result.1.now c.raw_run.result.0.now c.raw_run.ensures.reads_the_raw_ones_of_a_value)
 
 pub returns-in_err-c : goal.returns-in_err-c
-returns-in_err-c c =
-    let p = err_from_is_err_and c.from_residual-in_err-c.result c.from_residual-in_err-c.ensures.1 in
-    rw (p.1, p.2) (ends reference_follows (read_piece c.args.quote) value_with c.in_err-c.field-0.0 c.loop.value _ c.loop.counter c.loop.rest.now (read_inside_quotes c.args.quote c.args.text.now) c.loop-test.true (sym c.reference_follows.ensures ∙ c.if-not-reference_follows.false)
-    (first_stops read_reference (λ _. read_raw c.args.quote) c.loop.rest.now c.in_err-c.field-0.0 c.in_err-c.ensures) c.loop.invariant)
+returns-in_err-c c = record {
+  reads_up_to_the_quote =
+      let p = err_from_is_err_and c.from_residual-in_err-c.result c.from_residual-in_err-c.ensures.1 in
+      rw (p.1, p.2) (ends reference_follows (read_piece c.args.quote) value_with c.in_err-c.field-0.0 c.loop.value _ c.loop.counter c.loop.rest.now (read_inside_quotes c.args.quote c.args.text.now) c.loop-test.true (sym c.reference_follows.ensures.tells_whether_a_reference_follows ∙ c.if-not-reference_follows.false)
+      (first_stops read_reference (λ _. read_raw c.args.quote) c.loop.rest.now c.in_err-c.field-0.0 c.in_err-c.ensures.reads_a_reference) c.loop.invariant);
+}
 
 join : (front : List ℕ) (x : ℕ) (cs : List ℕ) (pieces : List (ℕ × List ℕ)) → front ++ (x ∷ (cs ++ more_plain pieces)) ≡ (front ++ (x ∷ cs)) ++ more_plain pieces
 join front x cs pieces = sym (append_assoc front (x ∷ cs) (more_plain pieces))
 
 pub loop-preserved : goal.loop-preserved
 loop-preserved c =
-    rw c.in_ok-push_piece.ensures (goes_on reference_follows (read_piece c.args.quote) value_with c.loop.value (c.loop.value ++ (c.in_ok-c.c ∷ c.raw_run-in-loop.result.0.now)) _ c.loop.counter c.loop.rest.now c.raw_run-in-loop.result.1.now (c.in_ok-c.c, c.raw_run-in-loop.result.0.now) (read_inside_quotes c.args.quote c.args.text.now) c.loop-test.true (sym c.reference_follows.ensures ∙ c.if-not-reference_follows.false)
-    (both_ok read_reference (λ _. read_raw c.args.quote) c.loop.rest.now c.in_ok-c.after.now c.raw_run-in-loop.result.1.now c.in_ok-c.c c.raw_run-in-loop.result.0.now c.in_ok-c.ensures c.raw_run-in-loop.ensures)
+    rw c.in_ok-push_piece.ensures.adds_the_piece (goes_on reference_follows (read_piece c.args.quote) value_with c.loop.value (c.loop.value ++ (c.in_ok-c.c ∷ c.raw_run-in-loop.result.0.now)) _ c.loop.counter c.loop.rest.now c.raw_run-in-loop.result.1.now (c.in_ok-c.c, c.raw_run-in-loop.result.0.now) (read_inside_quotes c.args.quote c.args.text.now) c.loop-test.true (sym c.reference_follows.ensures.tells_whether_a_reference_follows ∙ c.if-not-reference_follows.false)
+    (both_ok read_reference (λ _. read_raw c.args.quote) c.loop.rest.now c.in_ok-c.after.now c.raw_run-in-loop.result.1.now c.in_ok-c.c c.raw_run-in-loop.result.0.now c.in_ok-c.ensures.reads_a_reference c.raw_run-in-loop.ensures.reads_the_raw_ones_of_a_value)
     (λ xs. join c.loop.value c.in_ok-c.c c.raw_run-in-loop.result.0.now xs) c.loop.invariant)
 
 none_more : (front : List ℕ) → front ++ [] ≡ front
 none_more front = append-nil front
 
 pub returns : goal.returns
-returns c = elim c.loop-test.branch [
-  | else-loop-test w ↦ rw (none_more c.loop.value) at (is_done reference_follows (read_piece c.args.quote) value_with c.loop.value _ c.loop.counter c.loop.rest.now (read_inside_quotes c.args.quote c.args.text.now) w.loop-test.false c.loop.invariant)
-  | then-loop-test+then-not-reference_follows w ↦ rw (none_more c.loop.value) at (is_stopped reference_follows (read_piece c.args.quote) value_with c.loop.value _ c.loop.counter c.loop.rest.now (read_inside_quotes c.args.quote c.args.text.now) (sym w.reference_follows.ensures ∙ w.if-not-reference_follows.true) c.loop.invariant)
-]
+returns c = record {
+  reads_up_to_the_quote = elim c.loop-test.branch [
+    | else-loop-test w ↦ rw (none_more c.loop.value) at (is_done reference_follows (read_piece c.args.quote) value_with c.loop.value _ c.loop.counter c.loop.rest.now (read_inside_quotes c.args.quote c.args.text.now) w.loop-test.false c.loop.invariant)
+    | then-loop-test+then-not-reference_follows w ↦ rw (none_more c.loop.value) at (is_stopped reference_follows (read_piece c.args.quote) value_with c.loop.value _ c.loop.counter c.loop.rest.now (read_inside_quotes c.args.quote c.args.text.now) (sym w.reference_follows.ensures.tells_whether_a_reference_follows ∙ w.if-not-reference_follows.true) c.loop.invariant)
+  ];
+}

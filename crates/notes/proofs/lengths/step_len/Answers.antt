@@ -5,8 +5,10 @@ use Rattle.notes.proofs.Values.{no_steps, written-decimal, written-step}
 use Rattle.notes.proofs.lengths.step_len.Goals as goal
 
 pub returns : goal.returns
-returns c =
-    let n = c.args.number in let k = c.ilog10.result in
-    let digits : written_len (decimal (suc n)) ≡ k + 1
-    = written-decimal k (suc n) (omega (arith, c.ilog10.ensures.power_le)) (omega (arith, c.ilog10.ensures.next_power_gt)) (omega (arith, c.ranges.number.fits)) in
-    omega (arith, digits, written-step n [], no_steps)
+returns c = record {
+  counts_the_written_step =
+      let n = c.args.number in let k = c.ilog10.result in
+      let digits : written_len (decimal (suc n)) ≡ k + 1
+      = written-decimal k (suc n) (omega (arith, c.ilog10.ensures.power_le)) (omega (arith, c.ilog10.ensures.next_power_gt)) (omega (arith, c.ranges.number.fits)) in
+      omega (arith, digits, written-step n [], no_steps);
+}

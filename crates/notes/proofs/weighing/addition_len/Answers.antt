@@ -8,8 +8,10 @@ use Rattle.notes.proofs.Operations.{addition, valued_stops}
 use Rattle.notes.proofs.weighing.addition_len.Goals as goal
 
 pub returns : goal.returns
-returns c =
-    let ds = c.args.bindings.now in let p = c.args.at.now in let n = c.args.name.now in let v = c.args.value.now in
-    let attrs : c.saturating_add-attrs.result ≡ min (written_len (path_text p) + written_len (print_name n) + 16) 18446744073709551615 = omega arith in
-    valued_stops 18446744073709551615 3 (byte_len (flat_map print_decl ds)) c.saturating_add-attrs.result (written_len (path_text p) + written_len (print_name n) + 16) v
-    c.valued_len.result (byte_len (print (told (codes "d") ds true (SetAttr p n v)))) c.valued_len.ensures attrs (addition ds p n v)
+returns c = record {
+  counts_the_told_addition =
+      let ds = c.args.bindings.now in let p = c.args.at.now in let n = c.args.name.now in let v = c.args.value.now in
+      let attrs : c.saturating_add-attrs.result ≡ min (written_len (path_text p) + written_len (print_name n) + 16) 18446744073709551615 = omega arith in
+      valued_stops 18446744073709551615 3 (byte_len (flat_map print_decl ds)) c.saturating_add-attrs.result (written_len (path_text p) + written_len (print_name n) + 16) v
+      c.valued_len.result (byte_len (print (told (codes "d") ds true (SetAttr p n v)))) c.valued_len.ensures.counts_the_element_with_a_value attrs (addition ds p n v);
+}

@@ -6,7 +6,9 @@ use Rattle.notes.proofs.Operations.{attr-path}
 use Rattle.notes.proofs.weighing.attr_len.Goals as goal
 
 pub returns : goal.returns
-returns c =
-    let p = c.args.at.now in let n = c.args.name.now in
-    let sum : c.saturating_add-2.result ≡ min (written_len (path_text p) + written_len (print_name n) + 2 + 7) 18446744073709551615 = omega arith in
-    sum ∙ ap (λ k. min (k + 7) 18446744073709551615) (sym (attr-path p n))
+returns c = record {
+  counts_the_attribute_path =
+      let p = c.args.at.now in let n = c.args.name.now in
+      let sum : c.saturating_add-2.result ≡ min (written_len (path_text p) + written_len (print_name n) + 2 + 7) 18446744073709551615 = omega arith in
+      sum ∙ ap (λ k. min (k + 7) 18446744073709551615) (sym (attr-path p n));
+}

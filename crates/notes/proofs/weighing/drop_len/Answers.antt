@@ -7,7 +7,9 @@ use Rattle.notes.proofs.Operations.{bare_stops, dropped}
 use Rattle.notes.proofs.weighing.drop_len.Goals as goal
 
 pub returns : goal.returns
-returns c =
-    let ds = c.args.bindings.now in let p = c.args.at.now in let n = c.args.name.now in
-    bare_stops 18446744073709551615 6 (byte_len (flat_map print_decl ds)) c.attr_len.result (written_len (attr_path_text p n) + 7)
-    c.bare_len.result (byte_len (print (told (codes "d") ds false (DropAttr p n)))) c.bare_len.ensures c.attr_len.ensures (dropped ds false p n)
+returns c = record {
+  counts_the_told_drop =
+      let ds = c.args.bindings.now in let p = c.args.at.now in let n = c.args.name.now in
+      bare_stops 18446744073709551615 6 (byte_len (flat_map print_decl ds)) c.attr_len.result (written_len (attr_path_text p n) + 7)
+      c.bare_len.result (byte_len (print (told (codes "d") ds false (DropAttr p n)))) c.bare_len.ensures.counts_the_bare_element c.attr_len.ensures.counts_the_attribute_path (dropped ds false p n);
+}

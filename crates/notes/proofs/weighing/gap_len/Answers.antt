@@ -5,12 +5,16 @@ use Rattle.notes.proofs.Operations.{gap-first, gap-later}
 use Rattle.notes.proofs.weighing.gap_len.Goals as goal
 
 pub returns-then-gap-eq0 : goal.returns-then-gap-eq0
-returns-then-gap-eq0 c =
-    let p = c.args.parent.now in
-    let whole = ap (λ g. byte_len (flat_map print_attr (gap_attrs p g))) c.if-gap-eq0.true ∙ gap-first p in
-    omega (arith, whole)
+returns-then-gap-eq0 c = record {
+  counts_the_attributes_of_the_gap =
+      let p = c.args.parent.now in
+      let whole = ap (λ g. byte_len (flat_map print_attr (gap_attrs p g))) c.if-gap-eq0.true ∙ gap-first p in
+      omega (arith, whole);
+}
 
 pub returns : goal.returns
-returns c =
-    let whole = gap-later c.args.parent.now c.args.gap c.if-gap-eq0.false in
-    omega (arith, whole)
+returns c = record {
+  counts_the_attributes_of_the_gap =
+      let whole = gap-later c.args.parent.now c.args.gap c.if-gap-eq0.false in
+      omega (arith, whole);
+}

@@ -7,7 +7,9 @@ use Rattle.notes.proofs.Operations.{rewriting, valued_stops}
 use Rattle.notes.proofs.weighing.rewriting_len.Goals as goal
 
 pub returns : goal.returns
-returns c =
-    let ds = c.args.bindings.now in let p = c.args.at.now in let n = c.args.name.now in let v = c.args.value.now in
-    valued_stops 18446744073709551615 7 (byte_len (flat_map print_decl ds)) c.attr_len.result (written_len (attr_path_text p n) + 7) v
-    c.valued_len.result (byte_len (print (told (codes "d") ds false (SetAttr p n v)))) c.valued_len.ensures c.attr_len.ensures (rewriting ds p n v)
+returns c = record {
+  counts_the_told_rewriting =
+      let ds = c.args.bindings.now in let p = c.args.at.now in let n = c.args.name.now in let v = c.args.value.now in
+      valued_stops 18446744073709551615 7 (byte_len (flat_map print_decl ds)) c.attr_len.result (written_len (attr_path_text p n) + 7) v
+      c.valued_len.result (byte_len (print (told (codes "d") ds false (SetAttr p n v)))) c.valued_len.ensures.counts_the_element_with_a_value c.attr_len.ensures.counts_the_attribute_path (rewriting ds p n v);
+}

@@ -5,6 +5,8 @@ use Rattle.patch_text.proofs.Listing.{tag-joined}
 use Rattle.patch_text.proofs.notices.last_tag_in.Goals as goal
 
 pub returns : goal.returns
-returns c =
-    let newer = c.args.notes.newer.now in
-    c.last_tag-2.ensures ∙ ap (λ (k : ℕ). tag_after k (map note_in newer)) c.last_tag.ensures ∙ tag-joined c.args.from c.args.notes.older.now newer
+returns c = record {
+  tag_that_all_lead_to =
+      let newer = c.args.notes.newer.now in
+      c.last_tag-2.ensures.tag_that_they_lead_to ∙ ap (λ (k : ℕ). tag_after k (map note_in newer)) c.last_tag.ensures.tag_that_they_lead_to ∙ tag-joined c.args.from c.args.notes.older.now newer;
+}

@@ -4,5 +4,7 @@ use Rattle.patch_text.proofs.Built.{none_told}
 use Rattle.patch_text.proofs.notices.push_documents.Goals as goal
 
 pub returns-then-are_none : goal.returns-then-are_none
-returns-then-are_none c =
-    none_told c.args.mode c.args.names.now.prefix c.args.names.now.sel c.args.from (joined c.args.notes.older.now c.args.notes.newer.now) c.args.notice.now (sym c.are_none.ensures ∙ c.if-are_none.true)
+returns-then-are_none c = record {
+  adds_the_documents_of_the_mode =
+      none_told c.args.mode c.args.names.now.prefix c.args.names.now.sel c.args.from (joined c.args.notes.older.now c.args.notes.newer.now) c.args.notice.now (sym c.are_none.ensures.tells_whether_there_are_none ∙ c.if-are_none.true);
+}

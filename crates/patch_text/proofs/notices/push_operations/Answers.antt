@@ -14,8 +14,10 @@ pub loop-note-preserved : goal.loop-note-preserved
 loop-note-preserved c =
     let old = c.loop-note.document in
     next-put (operation c.args.prefix.now) c.args.notes.now c.loop-note.note-index c.note-item.result c.args.document.now old c.push_elem.new.self c.loop-note-test.true c.note-item.is c.loop-note.invariant
-    (c.in_ok-push_elem.ensures.ok ∙ ap (λ (e : Tree). record old { content = with_elem e old.content }) c.in_ok-operation.ensures)
+    (c.in_ok-push_elem.ensures.ok ∙ ap (λ (e : Tree). record old { content = with_elem e old.content }) c.in_ok-operation.ensures.operation_of_the_note)
 
 pub returns : goal.returns
-returns c =
-    c.loop-note.invariant ∙ ap (λ (ns : List EditNote). with_all (operations c.args.prefix.now (map note_in ns)) c.args.document.now) (take_all c.loop-note.note-index c.args.notes.now c.loop-note-test.false)
+returns c = record {
+  adds_the_operations =
+      c.loop-note.invariant ∙ ap (λ (ns : List EditNote). with_all (operations c.args.prefix.now (map note_in ns)) c.args.document.now) (take_all c.loop-note.note-index c.args.notes.now c.loop-note-test.false);
+}

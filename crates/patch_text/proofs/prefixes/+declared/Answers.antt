@@ -3,14 +3,16 @@ use Rattle.patch_text.proofs.Gaining.{gains-decls, gains-end, gains-next, gains-
 use Rattle.patch_text.proofs.prefixes.+declared.Goals as goal
 
 pub add_element-loop-node-init : goal.add_element-loop-node-init
-add_element-loop-node-init t c = gains-decls c.decls.result.now c.args.element.now.decls c.args.seen.now c.add_decls.new.seen c.decls.ensures c.in_ok-add_decls.ensures
+add_element-loop-node-init t c = gains-decls c.decls.result.now c.args.element.now.decls c.args.seen.now c.add_decls.new.seen c.decls.ensures.lends_the_declarations c.in_ok-add_decls.ensures.gains_their_prefixes
 
 pub add_element-loop-node-preserved : goal.add_element-loop-node-preserved
 add_element-loop-node-preserved t c =
     gains-next prefixes_at (prefixes c.args.element.now.decls) c.nodes-nodes.result.now c.loop-node.node-index c.node-item.result c.args.seen.now c.loop-node.seen c.add_node.new.seen
-    c.loop-node-test.true c.node-item.is c.loop-node.invariant c.in_ok-add_node.ensures
+    c.loop-node-test.true c.node-item.is c.loop-node.invariant c.in_ok-add_node.ensures.gains_the_prefixes_of_the_node
 
 pub add_element-returns : goal.add_element-returns
-add_element-returns t c =
-    gains-nodes (prefixes c.args.element.now.decls) c.nodes-nodes.result.now c.args.element.now.content c.args.seen.now c.loop-node.seen c.nodes-nodes.ensures.content
-    (gains-end prefixes_at (prefixes c.args.element.now.decls) c.nodes-nodes.result.now c.loop-node.node-index c.args.seen.now c.loop-node.seen c.loop-node-test.false c.loop-node.invariant)
+add_element-returns t c = record {
+  gains_the_prefixes_inside =
+      gains-nodes (prefixes c.args.element.now.decls) c.nodes-nodes.result.now c.args.element.now.content c.args.seen.now c.loop-node.seen c.nodes-nodes.ensures.content
+      (gains-end prefixes_at (prefixes c.args.element.now.decls) c.nodes-nodes.result.now c.loop-node.node-index c.args.seen.now c.loop-node.seen c.loop-node-test.false c.loop-node.invariant);
+}

@@ -10,9 +10,11 @@ pub loop-decl-preserved : goal.loop-decl-preserved
 loop-decl-preserved c =
     let d = c.decl-item.result in
     gains-next prefix_alone [] c.args.decls.now c.loop-decl.decl-index d c.args.seen.now c.loop-decl.seen c.insert.new.self c.loop-decl-test.true c.decl-item.is c.loop-decl.invariant
-    (subst (λ (p : List ℕ). Gains (p ∷ []) c.loop-decl.seen c.insert.new.self) c.in_ok-copy.ensures (gains-one c.in_ok-copy.field-0 c.loop-decl.seen c.insert.new.self c.in_ok-_is_new.ensures.updates))
+    (subst (λ (p : List ℕ). Gains (p ∷ []) c.loop-decl.seen c.insert.new.self) c.in_ok-copy.ensures.makes_an_equal_text (gains-one c.in_ok-copy.field-0 c.loop-decl.seen c.insert.new.self c.in_ok-_is_new.ensures.updates))
 
 pub returns : goal.returns
-returns c =
-    subst (λ (l : List (List ℕ)). Gains l c.args.seen.now c.loop-decl.seen) (prefixes-each c.args.decls.now)
-    (gains-end prefix_alone [] c.args.decls.now c.loop-decl.decl-index c.args.seen.now c.loop-decl.seen c.loop-decl-test.false c.loop-decl.invariant)
+returns c = record {
+  gains_their_prefixes =
+      subst (λ (l : List (List ℕ)). Gains l c.args.seen.now c.loop-decl.seen) (prefixes-each c.args.decls.now)
+      (gains-end prefix_alone [] c.args.decls.now c.loop-decl.decl-index c.args.seen.now c.loop-decl.seen c.loop-decl-test.false c.loop-decl.invariant);
+}

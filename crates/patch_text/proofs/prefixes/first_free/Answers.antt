@@ -5,8 +5,10 @@ use Rattle.patch_text.proofs.Gaining.{free-of}
 use Rattle.patch_text.proofs.prefixes.first_free.Goals as goal
 
 pub returns-then-not-contains : goal.returns-then-not-contains
-returns-then-not-contains c = λ ps holds.
-    let off : c.contains.result ≡ false = search rules in
-    let n = c.loop-number.number in
-    let free = free-of ps c.args.seen.now c.in_ok-prefix.prefix (candidate n) c.contains.result holds c.contains.ensures c.in_ok-prefix.ensures off in
-    c.in_ok-prefix.ensures ∙ found_first ps n (omega (arith, c.loop-number-test.true)) free (c.loop-number.invariant ps holds)
+returns-then-not-contains c = record {
+  first_that_is_free = λ ps holds.
+      let off : c.contains.result ≡ false = search rules in
+      let n = c.loop-number.number in
+      let free = free-of ps c.args.seen.now c.in_ok-prefix.prefix (candidate n) c.contains.result holds c.contains.ensures c.in_ok-prefix.ensures.candidate_of_the_number off in
+      c.in_ok-prefix.ensures.candidate_of_the_number ∙ found_first ps n (omega (arith, c.loop-number-test.true)) free (c.loop-number.invariant ps holds);
+}

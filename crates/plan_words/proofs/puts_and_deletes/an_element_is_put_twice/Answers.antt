@@ -2,7 +2,9 @@ use Rattle.plan_words.proofs.Twice.{put_is, put_twice}
 use Rattle.plan_words.proofs.puts_and_deletes.an_element_is_put_twice.Goals as goal
 
 pub returns : goal.returns
-returns c = λ u t selector spot e change ends_so h.
-    let p = put_is u t selector.steps spot e change h in
-    let again = put_twice u t selector.steps e change p in
-    (p.path, (ends_so, p.selects), again.0, again.1)
+returns c = record {
+  plans_the_same_put_again = λ u t selector spot e change ends_so h.
+      let p = put_is u t selector.steps spot e change h in
+      let again = put_twice u t selector.steps e change p in
+      (p.path, (ends_so, p.selects), again.0, again.1);
+}

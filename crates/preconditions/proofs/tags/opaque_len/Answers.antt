@@ -5,7 +5,7 @@ use Rattle.preconditions.proofs.tags.opaque_len.Goals as goal
 
 pub returns-then-not-is_tag_byte-clause-value : goal.returns-then-not-is_tag_byte-clause-value
 returns-then-not-is_tag_byte-clause-value c =
-    sym (prefix_len_is is_tag_byte c.args.text.now c.loop-len.len 0 (omega arith) c.loop-len.invariant (λ _. sym c.is_tag_byte.ensures ∙ c.if-not-is_tag_byte.true))
+    sym (prefix_len_is is_tag_byte c.args.text.now c.loop-len.len 0 (omega arith) c.loop-len.invariant (λ _. sym c.is_tag_byte.ensures.tells_whether_a_tag_may_hold_it ∙ c.if-not-is_tag_byte.true))
 
 pub returns-clause-value : goal.returns-clause-value
 returns-clause-value c =

@@ -5,7 +5,7 @@ use Rattle.preconditions.proofs.tags.read_part.Goals as goal
 
 pub returns-in-None-clause-read : goal.returns-in-None-clause-read
 returns-in-None-clause-read c =
-    part-none c.args.tags.now.items c.args.text.now c.behind_blanks-text.result.now c.behind_blanks-text.ensures.value c.in-None.ensures
+    part-none c.args.tags.now.items c.args.text.now c.behind_blanks-text.result.now c.behind_blanks-text.ensures.value c.in-None.ensures.tag_at_the_front
 
 pub returns-in-None-clause-trimmed : goal.returns-in-None-clause-trimmed
 returns-in-None-clause-trimmed c =
@@ -14,7 +14,7 @@ returns-in-None-clause-trimmed c =
 pub returns-in_ok-push_tag-in-Some-clause-read : goal.returns-in_ok-push_tag-in-Some-clause-read
 returns-in_ok-push_tag-in-Some-clause-read c =
     part-some c.args.tags.now.items c.push_tag.new.tags.items c.args.text.now c.behind_blanks-text.result.now c.in-Some.front.rest.now c.behind_blanks.result.now (tag_of c.in-Some.front.weak c.in-Some.front.opaque.now)
-    c.behind_blanks-text.ensures.value c.in-Some.ensures.0 c.behind_blanks.ensures.value c.in_ok-push_tag-in-Some.ensures
+    c.behind_blanks-text.ensures.value c.in-Some.ensures.tag_at_the_front.0 c.behind_blanks.ensures.value c.in_ok-push_tag-in-Some.ensures.adds_the_tag
 
 pub returns-in_ok-push_tag-in-Some-clause-trimmed : goal.returns-in_ok-push_tag-in-Some-clause-trimmed
 returns-in_ok-push_tag-in-Some-clause-trimmed c =

@@ -13,4 +13,4 @@ returns-then-len-le1-clause-light c = λ light.
 pub returns-clause-light : goal.returns-clause-light
 returns-clause-light c = λ light.
     let items = c.args.notes.now.items in
-    light-is weight (map note_in items) c.is_light.result c.is_light.ensures light (omega (arith, length-map items note_in, c.len.ensures.len, c.len.ensures.within.0, c.requires))
+    light-is weight (map note_in items) c.is_light.result c.is_light.ensures.tells_whether_they_are_light light (omega (arith, length-map items note_in, c.len.ensures.len, c.len.ensures.within.0, c.requires))

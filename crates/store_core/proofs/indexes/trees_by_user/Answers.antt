@@ -14,7 +14,7 @@ loop-doc-preserved-in_ok-insert c =
       finite = tt;
       so_far = ap (λ xs. entered (pairs_in xs) (listed rest)) (c.in_ok-insert.ensures {u = tt}).entries
           ∙ ap (λ (ds : List (List ℕ × Tree)). entered ds (listed rest)) (pairs-insert _ _ es)
-          ∙ ap (λ o. entered (pairs_in es) (cons_option o (listed rest))) (c.in-Some-listed_user.ensures c.in-Some.entry.now.tree)
+          ∙ ap (λ o. entered (pairs_in es) (cons_option o (listed rest))) (c.in-Some-listed_user.ensures.user_whom_it_lists c.in-Some.entry.now.tree)
           ∙ ap (λ xs. entered (pairs_in es) (listed xs)) (sym c.in-Some.ensures.steps)
           ∙ c.loop-doc.invariant.so_far;
     }

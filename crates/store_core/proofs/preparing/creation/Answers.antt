@@ -11,12 +11,14 @@ use Rattle.store_core.specs.Storing.{entry_of}
 use Rattle.store_core.proofs.preparing.creation.Goals as goal
 
 pub returns : goal.returns
-returns c =
-    let n : Note = record { previous = 0; next = c.args.number; bindings = []; change = CreateDocument c.args.root; fresh = false } in
-    let note : note_in c.of_document.result ≡ n = c.of_document.ensures c.args.root in
-    let made : DocId → Note → Entry → List (List ℕ) → Readied = λ d x e us. record { doc = d; note = x; step = Make e; leaves = us; enters = c.args.enters; total = c.args.total } in
-    let d = c.args.doc.now in
-    ap (λ (x : DocId). made x (note_in c.of_document.result) c.in_ok-entry.entry c.empty.result) c.in_ok-doc.ensures
-    ∙ ap (λ (x : Note). made d x c.in_ok-entry.entry c.empty.result) note
-    ∙ ap (λ (x : Entry). made d n x c.empty.result) (c.in_ok-entry.ensures ∙ ap (λ (t : Tree). entry_of c.args.number t) c.in_ok-tree.ensures)
-    ∙ ap (λ (us : List (List ℕ)). made d n (entry_of c.args.number c.args.root) us) c.empty.ensures
+returns c = record {
+  prepares_the_creation =
+      let n : Note = record { previous = 0; next = c.args.number; bindings = []; change = CreateDocument c.args.root; fresh = false } in
+      let note : note_in c.of_document.result ≡ n = c.of_document.ensures.tells_of_the_change_in_any_tree c.args.root in
+      let made : DocId → Note → Entry → List (List ℕ) → Readied = λ d x e us. record { doc = d; note = x; step = Make e; leaves = us; enters = c.args.enters; total = c.args.total } in
+      let d = c.args.doc.now in
+      ap (λ (x : DocId). made x (note_in c.of_document.result) c.in_ok-entry.entry c.empty.result) c.in_ok-doc.ensures.makes_an_equal_name
+      ∙ ap (λ (x : Note). made d x c.in_ok-entry.entry c.empty.result) note
+      ∙ ap (λ (x : Entry). made d n x c.empty.result) (c.in_ok-entry.ensures.made_with_the_number ∙ ap (λ (t : Tree). entry_of c.args.number t) c.in_ok-tree.ensures.makes_an_equal_tree)
+      ∙ ap (λ (us : List (List ℕ)). made d n (entry_of c.args.number c.args.root) us) c.empty.ensures.holds_no_items;
+}

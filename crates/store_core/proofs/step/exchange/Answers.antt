@@ -23,9 +23,11 @@ renew-requires-clause-staged c =
     subst (λ (v : Entry). IsStaged v.tree c.args.note.change c.args.staged) (one-value c.args.doc.now c.args.documents.now.entries r.0 c.in-Some.entry.now r.1 c.in-Some.ensures.value) r.4
 
 pub returns : goal.returns
-returns c =
-    let es = c.args.documents.now.entries in
-    let doc = c.args.doc.now in
-    let w = c.renew.new.entry in
-    let there : lookup (same_id doc) es ≡ Some c.in-Some.entry.now = sym (looked-up doc es) ∙ sym c.in-Some.ensures.value in
-    (c.in-Some.entry.now, w, there, c.renew.ensures, (c.get_mut.follows.holds w).0 ∙ exchanged-in doc es w c.get_mut.ensures.unique, refl)
+returns c = record {
+  renews_the_one_entry =
+      let es = c.args.documents.now.entries in
+      let doc = c.args.doc.now in
+      let w = c.renew.new.entry in
+      let there : lookup (same_id doc) es ≡ Some c.in-Some.entry.now = sym (looked-up doc es) ∙ sym c.in-Some.ensures.value in
+      (c.in-Some.entry.now, w, there, c.renew.ensures.renewed_by_the_edit, (c.get_mut.follows.holds w).0 ∙ exchanged-in doc es w c.get_mut.ensures.unique, refl);
+}

@@ -4,7 +4,7 @@ use Rattle.tree_text.proofs.bodies.read_att_value.Goals as goal
 
 pub returns : goal.returns
 returns c =
-    let answer = body_answers c.args.bytes.now c.read_body.result c.read_body.ensures in
+    let answer = body_answers c.args.bytes.now c.read_body.result c.read_body.ensures.reads_the_body in
     record {
       answer_by_the_grammar = answer;
       chars = body_good c.args.bytes.now c.read_body.result answer;

@@ -3,10 +3,10 @@ use Rattle.tree_text.proofs.Told.{body_not_read, body_ok_told, body_fault_told}
 use Rattle.tree_text.proofs.bodies.read_body.Goals as goal
 
 pub returns-in_default : goal.returns-in_default
-returns-in_default c = sym (body_not_read c.args.bytes.now c.in_default.ensures.cases.0)
+returns-in_default c = record { reads_the_body = sym (body_not_read c.args.bytes.now c.in_default.ensures.cases.0) }
 
 pub returns-in-Ok-all_spelled : goal.returns-in-Ok-all_spelled
-returns-in-Ok-all_spelled c = body_ok_told c.args.bytes.now c.in-Ok.text.now c.deref.result.now c.spelling_of-behind.result.0.now c.spelling_of-behind.result.1 c.in-Ok.ensures.cases.0 c.in-Ok.ensures.cases.1 (c.deref.ensures.value ∙ c.in_ok-all.ensures) c.spelling_of-behind.ensures.part c.spelling_of-behind.ensures.behind c.in-Ok-all_spelled.value c.in-Ok-all_spelled.ensures
+returns-in-Ok-all_spelled c = record { reads_the_body = body_ok_told c.args.bytes.now c.in-Ok.text.now c.deref.result.now c.spelling_of-behind.result.0.now c.spelling_of-behind.result.1 c.in-Ok.ensures.cases.0 c.in-Ok.ensures.cases.1 (c.deref.ensures.value ∙ c.in_ok-all.ensures.characters_of_the_text) c.spelling_of-behind.ensures.part c.spelling_of-behind.ensures.behind c.in-Ok-all_spelled.value c.in-Ok-all_spelled.ensures.reads_it_to_its_end }
 
 pub returns : goal.returns
-returns c = body_fault_told c.args.bytes.now c.in-Ok.text.now c.deref.result.now c.spelling_of-behind.result.0.now c.spelling_of-behind.result.1 c.in-Ok.ensures.cases.0 c.in-Ok.ensures.cases.1 (c.deref.ensures.value ∙ c.in_ok-all.ensures) c.spelling_of-behind.ensures.part c.spelling_of-behind.ensures.behind c.in-Err.stop c.error.result c.in-Err.ensures c.error.ensures
+returns c = record { reads_the_body = body_fault_told c.args.bytes.now c.in-Ok.text.now c.deref.result.now c.spelling_of-behind.result.0.now c.spelling_of-behind.result.1 c.in-Ok.ensures.cases.0 c.in-Ok.ensures.cases.1 (c.deref.ensures.value ∙ c.in_ok-all.ensures.characters_of_the_text) c.spelling_of-behind.ensures.part c.spelling_of-behind.ensures.behind c.in-Err.stop c.error.result c.in-Err.ensures.reads_it_to_its_end c.error.ensures.fault_of_the_stop }

@@ -10,30 +10,34 @@ use Rattle.tree_text.proofs.bodies.spelled.Goals.{else-loop-test, then-loop-test
 
 pub loop-init : goal.loop-init
 loop-init c =
-    let first : c.push_raw.new.value ≡ raw c.plain.result.0.now = c.in_ok-push_raw.ensures ∙ ap (λ (z : List ℕ). z ++ raw c.plain.result.0.now) c.no_text-value.ensures in
+    let first : c.push_raw.new.value ≡ raw c.plain.result.0.now = c.in_ok-push_raw.ensures.adds_the_raw_run ∙ ap (λ (z : List ℕ). z ++ raw c.plain.result.0.now) c.no_text-value.ensures.holds_no_characters in
     let all : length c.plain.result.1.now - 0 ≡ length c.plain.result.1.now = omega arith in
-    rw (first, all) (start reference_follows read_plain read_whole_reference value_of c.args.text.now c.plain.result.1.now c.plain.result.0.now c.plain.ensures)
+    rw (first, all) (start reference_follows read_plain read_whole_reference value_of c.args.text.now c.plain.result.1.now c.plain.result.0.now c.plain.ensures.reads_a_plain_run)
 
 pub returns-in_err-c : goal.returns-in_err-c
-returns-in_err-c c =
-    let p = err_from_is_err_and c.from_residual-in_err-c.result c.from_residual-in_err-c.ensures.1 in
-    rw (p.1, p.2) (ends reference_follows read_spelled_piece value_with c.in_err-c.field-0.0 c.loop.value _ c.loop.counter c.loop.rest.now (read_spelling c.args.text.now) c.loop-test.true (sym c.reference_follows.ensures ∙ c.if-not-reference_follows.false)
-    (first_stops read_whole_reference (λ _. read_plain) c.loop.rest.now c.in_err-c.field-0.0 c.in_err-c.ensures) c.loop.invariant)
+returns-in_err-c c = record {
+  reads_a_spelling =
+      let p = err_from_is_err_and c.from_residual-in_err-c.result c.from_residual-in_err-c.ensures.1 in
+      rw (p.1, p.2) (ends reference_follows read_spelled_piece value_with c.in_err-c.field-0.0 c.loop.value _ c.loop.counter c.loop.rest.now (read_spelling c.args.text.now) c.loop-test.true (sym c.reference_follows.ensures.tells_whether_a_reference_follows ∙ c.if-not-reference_follows.false)
+      (first_stops read_whole_reference (λ _. read_plain) c.loop.rest.now c.in_err-c.field-0.0 c.in_err-c.ensures.reads_a_whole_reference) c.loop.invariant);
+}
 
 join : (front : List ℕ) (x : ℕ) (cs : List ℕ) (pieces : List (ℕ × List ℕ)) → front ++ (x ∷ (raw cs ++ more_value pieces)) ≡ (front ++ (x ∷ raw cs)) ++ more_value pieces
 join front x cs pieces = sym (append_assoc front (x ∷ raw cs) (more_value pieces))
 
 pub loop-preserved : goal.loop-preserved
 loop-preserved c =
-    rw c.in_ok-push_piece.ensures (goes_on reference_follows read_spelled_piece value_with c.loop.value (c.loop.value ++ (c.in_ok-c.c ∷ raw c.plain-in-loop.result.0.now)) _ c.loop.counter c.loop.rest.now c.plain-in-loop.result.1.now (c.in_ok-c.c, c.plain-in-loop.result.0.now) (read_spelling c.args.text.now) c.loop-test.true (sym c.reference_follows.ensures ∙ c.if-not-reference_follows.false)
-    (both_ok read_whole_reference (λ _. read_plain) c.loop.rest.now c.in_ok-c.after.now c.plain-in-loop.result.1.now c.in_ok-c.c c.plain-in-loop.result.0.now c.in_ok-c.ensures c.plain-in-loop.ensures)
+    rw c.in_ok-push_piece.ensures.adds_the_piece (goes_on reference_follows read_spelled_piece value_with c.loop.value (c.loop.value ++ (c.in_ok-c.c ∷ raw c.plain-in-loop.result.0.now)) _ c.loop.counter c.loop.rest.now c.plain-in-loop.result.1.now (c.in_ok-c.c, c.plain-in-loop.result.0.now) (read_spelling c.args.text.now) c.loop-test.true (sym c.reference_follows.ensures.tells_whether_a_reference_follows ∙ c.if-not-reference_follows.false)
+    (both_ok read_whole_reference (λ _. read_plain) c.loop.rest.now c.in_ok-c.after.now c.plain-in-loop.result.1.now c.in_ok-c.c c.plain-in-loop.result.0.now c.in_ok-c.ensures.reads_a_whole_reference c.plain-in-loop.ensures.reads_a_plain_run)
     (λ xs. join c.loop.value c.in_ok-c.c c.plain-in-loop.result.0.now xs) c.loop.invariant)
 
 none_more : (front : List ℕ) → front ++ [] ≡ front
 none_more front = append-nil front
 
 pub returns : goal.returns
-returns c = elim c.loop-test.branch [
-  | else-loop-test w ↦ rw (none_more c.loop.value) at (is_done reference_follows read_spelled_piece value_with c.loop.value _ c.loop.counter c.loop.rest.now (read_spelling c.args.text.now) w.loop-test.false c.loop.invariant)
-  | then-loop-test+then-not-reference_follows w ↦ rw (none_more c.loop.value) at (is_stopped reference_follows read_spelled_piece value_with c.loop.value _ c.loop.counter c.loop.rest.now (read_spelling c.args.text.now) (sym w.reference_follows.ensures ∙ w.if-not-reference_follows.true) c.loop.invariant)
-]
+returns c = record {
+  reads_a_spelling = elim c.loop-test.branch [
+    | else-loop-test w ↦ rw (none_more c.loop.value) at (is_done reference_follows read_spelled_piece value_with c.loop.value _ c.loop.counter c.loop.rest.now (read_spelling c.args.text.now) w.loop-test.false c.loop.invariant)
+    | then-loop-test+then-not-reference_follows w ↦ rw (none_more c.loop.value) at (is_stopped reference_follows read_spelled_piece value_with c.loop.value _ c.loop.counter c.loop.rest.now (read_spelling c.args.text.now) (sym w.reference_follows.ensures.tells_whether_a_reference_follows ∙ w.if-not-reference_follows.true) c.loop.invariant)
+  ];
+}

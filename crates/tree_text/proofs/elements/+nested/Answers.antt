@@ -13,7 +13,7 @@ use Rattle.tree_text.proofs.elements.+nested.Goals.{content-else-loop-test, cont
 
 pub content-loop-init : goal.content-loop-init
 content-loop-init t c = record {
-  filled = begins (read_element c.args.levels (lists c.args.bindings.now) c.args.depth) c.args.element.now c.requires.empty c.args.text.now c.in_ok-start.start.now c.push_run.new.element _ (omega arith) c.in_ok-start.ensures;
+  filled = begins (read_element c.args.levels (lists c.args.bindings.now) c.args.depth) c.args.element.now c.requires.empty c.args.text.now c.in_ok-start.start.now c.push_run.new.element _ (omega arith) c.in_ok-start.ensures.reads_the_run_onto_it;
   back = still c.args.bindings.now c.requires.kept;
 }
 
@@ -23,7 +23,7 @@ content-returns-in_err-after-clause-read t c =
     let inner = read_element c.args.levels (lists c.args.bindings.now) c.args.depth in
     let stop = c.in_err-after.field-0.0 in
     let stops = onto_stops c.args.levels c.args.depth c.loop.element c.loop.rest.now stop (lists c.loop.bindings) (lists c.args.bindings.now) c.loop.invariant.back.same c.in_err-after.ensures.read in
-    rw (p.1, p.2) (ends markup_follows (read_member inner) tree_with stop c.loop.element _ c.loop.counter c.loop.rest.now (read_filled c.args.element.now inner c.args.text.now) c.loop-test.true (sym c.markup_follows.ensures ∙ c.if-not-markup_follows.false)
+    rw (p.1, p.2) (ends markup_follows (read_member inner) tree_with stop c.loop.element _ c.loop.counter c.loop.rest.now (read_filled c.args.element.now inner c.args.text.now) c.loop-test.true (sym c.markup_follows.ensures.tells_whether_markup_follows ∙ c.if-not-markup_follows.false)
     (first_stops (read_markup inner) (λ _. read_chars) c.loop.rest.now stop (valued_fails (with_one c.loop.element) (read_markup inner) c.loop.rest.now stop stops)) c.loop.invariant.filled)
 
 pub content-loop-preserved : goal.content-loop-preserved
@@ -36,9 +36,9 @@ content-loop-preserved t c =
     let so_far = c.loop.invariant in
     let one_read = onto_ok c.args.levels c.args.depth c.loop.element added c.loop.rest.now after (lists c.loop.bindings) (lists c.args.bindings.now) so_far.back.same c.in_ok-after.ensures.read in
     let one = valued_ok (with_one c.loop.element) (read_markup inner c.loop.rest.now) added after one_read in
-    let run = valued_ok (with_chars added) (read_chars after) more left c.in_ok-rest.ensures in
+    let run = valued_ok (with_chars added) (read_chars after) more left c.in_ok-rest.ensures.reads_the_run_onto_it in
     record {
-      filled = goes_on markup_follows (read_member inner) tree_with c.loop.element more _ c.loop.counter c.loop.rest.now left (one.value, run.value) (read_filled c.args.element.now inner c.args.text.now) c.loop-test.true (sym c.markup_follows.ensures ∙ c.if-not-markup_follows.false)
+      filled = goes_on markup_follows (read_member inner) tree_with c.loop.element more _ c.loop.counter c.loop.rest.now left (one.value, run.value) (read_filled c.args.element.now inner c.args.text.now) c.loop-test.true (sym c.markup_follows.ensures.tells_whether_markup_follows ∙ c.if-not-markup_follows.false)
           (both_ok (read_markup inner) (λ _. read_chars) c.loop.rest.now after left one.value run.value one.read run.read)
           (λ xs. piece_more c.loop.element added one.value run.value xs one.made ∙ ap (λ (e : Tree). tree_with e xs) run.made) so_far.filled;
       back = back_again c.args.bindings.now c.loop.bindings c.push_markup.new.bindings so_far.back c.in_ok-after.ensures.back;
@@ -50,7 +50,7 @@ content-returns-clause-read t c =
     let total = read_filled c.args.element.now inner c.args.text.now in
     elim c.loop-test.branch [
       | content-else-loop-test w ↦ is_done markup_follows (read_member inner) tree_with c.loop.element _ c.loop.counter c.loop.rest.now total w.loop-test.false c.loop.invariant.filled
-      | content-then-loop-test+then-not-markup_follows w ↦ is_stopped markup_follows (read_member inner) tree_with c.loop.element _ c.loop.counter c.loop.rest.now total (sym w.markup_follows.ensures ∙ w.if-not-markup_follows.true) c.loop.invariant.filled
+      | content-then-loop-test+then-not-markup_follows w ↦ is_stopped markup_follows (read_member inner) tree_with c.loop.element _ c.loop.counter c.loop.rest.now total (sym w.markup_follows.ensures.tells_whether_markup_follows ∙ w.if-not-markup_follows.true) c.loop.invariant.filled
     ]
 
 pub content-returns-clause-back : goal.content-returns-clause-back
@@ -62,23 +62,23 @@ fill-returns-in_err-judged-clause-read t c =
     let stop = c.in_err-judged.field-0.0 in
     let scope = lists c.args.bindings.now in
     rw (p.1, p.2) (tag_err (c.args.inner + 1) c.args.inner c.args.depth scope c.args.text.now stop refl
-    (misjudged scope (lists c.enter.new.self) c.in_ok-decls.decls.items c.args.text.now c.args.behind.now (tag_in c.args.tag) c.requires.tagged (c.in_ok-decls.ensures ∙ ap decls_of c.deref.ensures.value) c.in_ok-enter.ensures.inside stop c.in_err-judged.ensures))
+    (misjudged scope (lists c.enter.new.self) c.in_ok-decls.decls.items c.args.text.now c.args.behind.now (tag_in c.args.tag) c.requires.tagged (c.in_ok-decls.ensures.declarations_among_them ∙ ap decls_of c.deref.ensures.value) c.in_ok-enter.ensures.inside stop c.in_err-judged.ensures.judges_the_names_of_the_tag))
 
 pub fill-returns-in_err-rest-clause-read : goal.fill-returns-in_err-rest-clause-read
 fill-returns-in_err-rest-clause-read t c =
     let p = err_from_is_err_and c.from_residual-in_err-rest.result c.from_residual-in_err-rest.ensures.1 in
-    let declared = c.in_ok-decls.ensures ∙ ap decls_of c.deref.ensures.value in
+    let declared = c.in_ok-decls.ensures.declarations_among_them ∙ ap decls_of c.deref.ensures.value in
     let scope = lists c.args.bindings.now in
     let here = lists c.enter.new.self in
     let decls = c.in_ok-decls.decls.items in
     let tag = tag_in c.args.tag in
     rw (p.1, p.2) (element_err (c.args.inner + 1) c.args.inner c.args.depth scope here decls c.args.text.now c.args.behind.now tag refl
-    (judged_is scope here decls c.args.text.now c.args.behind.now tag c.requires.tagged declared c.in_ok-enter.ensures.inside ∙ c.in_ok-judged.ensures)
+    (judged_is scope here decls c.args.text.now c.args.behind.now tag c.requires.tagged declared c.in_ok-enter.ensures.inside ∙ c.in_ok-judged.ensures.judges_the_names_of_the_tag)
     declared c.in_ok-enter.ensures.inside c.args.element.now c.in_err-rest.field-0.0 c.in_err-rest.ensures.read)
 
 pub fill-returns : goal.fill-returns
 fill-returns t c =
-    let declared = c.in_ok-decls.ensures ∙ ap decls_of c.deref.ensures.value in
+    let declared = c.in_ok-decls.ensures.declarations_among_them ∙ ap decls_of c.deref.ensures.value in
     let scope = lists c.args.bindings.now in
     let here = lists c.enter.new.self in
     let decls = c.in_ok-decls.decls.items in
@@ -86,8 +86,8 @@ fill-returns t c =
     let inside = c.in_ok-enter.ensures.inside in
     let out = closed c.args.bindings.now c.enter.new.self c.behind_tag.new.bindings c.leave-decls.new.self decls c.leave-decls.result.items inside c.in_ok-rest.ensures.back c.leave-decls.ensures.outside c.leave-decls.ensures.kept in
     record {
-      read = rw c.in_ok-dress.ensures (rw out.0 (element_ok (c.args.inner + 1) c.args.inner c.args.depth scope here decls c.args.text.now c.args.behind.now tag refl
-          (judged_is scope here decls c.args.text.now c.args.behind.now tag c.requires.tagged declared inside ∙ c.in_ok-judged.ensures)
+      read = rw c.in_ok-dress.ensures.adds_the_names_of_the_tag (rw out.0 (element_ok (c.args.inner + 1) c.args.inner c.args.depth scope here decls c.args.text.now c.args.behind.now tag refl
+          (judged_is scope here decls c.args.text.now c.args.behind.now tag c.requires.tagged declared inside ∙ c.in_ok-judged.ensures.judges_the_names_of_the_tag)
           declared inside c.args.element.now c.behind_tag.new.element c.in_ok-rest.rest.now c.requires.bare c.in_ok-rest.ensures.read));
       back = out.1;
     }

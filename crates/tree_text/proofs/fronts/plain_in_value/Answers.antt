@@ -8,5 +8,5 @@ pub returns-clause-len : goal.returns-clause-len
 returns-clause-len c =
     let all = c.args.text.now in
     let len = c.value_len-len in
-    ap length (c.ascii.ensures ∙ len.ensures.bytes) ∙ length-take-le len.result (take c.min.result all) len.ensures.size ∙ len.ensures.len
+    ap length (c.ascii.ensures.lends_the_bytes_in_front ∙ len.ensures.bytes) ∙ length-take-le len.result (take c.min.result all) len.ensures.size ∙ len.ensures.len
     ∙ ap (run_len (is_plain_in_value c.args.quote)) (take_least all 64 c.min.result c.min.ensures)

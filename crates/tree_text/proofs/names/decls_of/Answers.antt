@@ -11,4 +11,4 @@ loop-said-preserved c =
     let one : take (c.loop-said.said-index + 1) c.args.all.now ≡ take c.loop-said.said-index c.args.all.now ++ c.said-item.result ∷ [] =
     take_more c.args.all.now c.loop-said.said-index c.said-item.result c.loop-said-test.true ∙ ap (λ (z : Said). take c.loop-said.said-index c.args.all.now ++ z ∷ []) (sym c.said-item.is)
     in
-    rw one (rw (decls-append (take c.loop-said.said-index c.args.all.now) c.said-item.result) (c.in_ok-push_decl.ensures ∙ ap (λ (z : List Decl). z ++ decls_of (c.said-item.result ∷ [])) c.loop-said.invariant))
+    rw one (rw (decls-append (take c.loop-said.said-index c.args.all.now) c.said-item.result) (c.in_ok-push_decl.ensures.adds_it_if_it_declares ∙ ap (λ (z : List Decl). z ++ decls_of (c.said-item.result ∷ [])) c.loop-said.invariant))

@@ -7,4 +7,4 @@ unfolding chars
 letters = refl
 
 pub returns : goal.returns
-returns c = c.is.ensures ∙ ap (bytes_eq c.args.text.now) letters
+returns c = record { tells_whether_it_is_empty = c.is.ensures.tells_whether_it_has_these ∙ ap (bytes_eq c.args.text.now) letters }

@@ -4,7 +4,7 @@ use Rattle.tree_text.proofs.NumberLemmas.{AreNumbers-insert, numbers-insert-grow
 use Rattle.tree_text.proofs.namespaces.numbered.Goals as goal
 
 is_new : (c : goal.In_ok-insert) → at_text c.args.numbers.now c.in_ok-copy.field-0 ≡ None
-is_new c = ap (at_text c.args.numbers.now) c.in_ok-copy.ensures ∙ sym c.in_default.ensures.value
+is_new c = ap (at_text c.args.numbers.now) c.in_ok-copy.ensures.makes_an_equal_text ∙ sym c.in_default.ensures.value
 
 pub returns-clause-kept : goal.returns-clause-kept
 returns-clause-kept c =

@@ -4,7 +4,7 @@ use Rattle.tree_text.proofs.RunLemmas.{some_read, run_len_le}
 use Rattle.tree_text.proofs.parts.some_spaces.Goals as goal
 
 pub split_at-requires : goal.split_at-requires
-split_at-requires c = omega (arith, run_len_le is_space c.args.text.now, c.spaces_len-len.ensures)
+split_at-requires c = omega (arith, run_len_le is_space c.args.text.now, c.spaces_len-len.ensures.counts_the_spaces)
 
 pub returns-clause-read : goal.returns-clause-read
-returns-clause-read c = some_read is_space c.args.text.now c.split_at.result.0.now c.split_at.result.1.now c.spaces_len-len.result c.spaces_len-len.ensures c.split_at.ensures.front c.split_at.ensures.back (omega (arith, c.if-len-eq0.false))
+returns-clause-read c = some_read is_space c.args.text.now c.split_at.result.0.now c.split_at.result.1.now c.spaces_len-len.result c.spaces_len-len.ensures.counts_the_spaces c.split_at.ensures.front c.split_at.ensures.back (omega (arith, c.if-len-eq0.false))

@@ -13,19 +13,23 @@ loop-init c =
     rw all (start less_follows (read_dropped read_spaces) read_misc (λ _. tt) c.args.text.now c.spaces.result.1.now tt (dropped_ok read_spaces c.args.text.now c.spaces.result.1.now c.spaces.result.0.now c.spaces.ensures.read))
 
 pub returns-in_err-after : goal.returns-in_err-after
-returns-in_err-after c =
-    let p = err_from_is_err_and c.from_residual.result c.from_residual.ensures.1 in
-    rw (p.1, p.2) (ends less_follows (read_sequence read_misc (λ _. read_dropped read_spaces)) nothing_with c.in_err-after.field-0.0 tt _ c.loop.counter c.loop.rest.now (read_epilog c.args.text.now) c.loop-test.true (sym c.less_follows.ensures ∙ c.if-not-less_follows.false)
-    (first_stops read_misc (λ _. read_dropped read_spaces) c.loop.rest.now c.in_err-after.field-0.0 c.in_err-after.ensures) c.loop.invariant)
+returns-in_err-after c = record {
+  reads_the_epilog =
+      let p = err_from_is_err_and c.from_residual.result c.from_residual.ensures.1 in
+      rw (p.1, p.2) (ends less_follows (read_sequence read_misc (λ _. read_dropped read_spaces)) nothing_with c.in_err-after.field-0.0 tt _ c.loop.counter c.loop.rest.now (read_epilog c.args.text.now) c.loop-test.true (sym c.less_follows.ensures.tells_whether_less_follows ∙ c.if-not-less_follows.false)
+      (first_stops read_misc (λ _. read_dropped read_spaces) c.loop.rest.now c.in_err-after.field-0.0 c.in_err-after.ensures.reads_a_misc) c.loop.invariant);
+}
 
 pub loop-preserved : goal.loop-preserved
 loop-preserved c =
-    goes_on less_follows (read_sequence read_misc (λ _. read_dropped read_spaces)) nothing_with tt tt _ c.loop.counter c.loop.rest.now c.spaces-in-loop.result.1.now (tt, tt) (read_epilog c.args.text.now) c.loop-test.true (sym c.less_follows.ensures ∙ c.if-not-less_follows.false)
-    (both_ok read_misc (λ _. read_dropped read_spaces) c.loop.rest.now c.in_ok-after.after.now c.spaces-in-loop.result.1.now tt tt c.in_ok-after.ensures (dropped_ok read_spaces c.in_ok-after.after.now c.spaces-in-loop.result.1.now c.spaces-in-loop.result.0.now c.spaces-in-loop.ensures.read))
+    goes_on less_follows (read_sequence read_misc (λ _. read_dropped read_spaces)) nothing_with tt tt _ c.loop.counter c.loop.rest.now c.spaces-in-loop.result.1.now (tt, tt) (read_epilog c.args.text.now) c.loop-test.true (sym c.less_follows.ensures.tells_whether_less_follows ∙ c.if-not-less_follows.false)
+    (both_ok read_misc (λ _. read_dropped read_spaces) c.loop.rest.now c.in_ok-after.after.now c.spaces-in-loop.result.1.now tt tt c.in_ok-after.ensures.reads_a_misc (dropped_ok read_spaces c.in_ok-after.after.now c.spaces-in-loop.result.1.now c.spaces-in-loop.result.0.now c.spaces-in-loop.ensures.read))
     (λ xs. refl) c.loop.invariant
 
 pub returns : goal.returns
-returns c = elim c.loop-test.branch [
-  | else-loop-test w ↦ is_done less_follows (read_sequence read_misc (λ _. read_dropped read_spaces)) nothing_with tt _ c.loop.counter c.loop.rest.now (read_epilog c.args.text.now) w.loop-test.false c.loop.invariant
-  | then-loop-test+then-not-less_follows w ↦ is_stopped less_follows (read_sequence read_misc (λ _. read_dropped read_spaces)) nothing_with tt _ c.loop.counter c.loop.rest.now (read_epilog c.args.text.now) (sym w.less_follows.ensures ∙ w.if-not-less_follows.true) c.loop.invariant
-]
+returns c = record {
+  reads_the_epilog = elim c.loop-test.branch [
+    | else-loop-test w ↦ is_done less_follows (read_sequence read_misc (λ _. read_dropped read_spaces)) nothing_with tt _ c.loop.counter c.loop.rest.now (read_epilog c.args.text.now) w.loop-test.false c.loop.invariant
+    | then-loop-test+then-not-less_follows w ↦ is_stopped less_follows (read_sequence read_misc (λ _. read_dropped read_spaces)) nothing_with tt _ c.loop.counter c.loop.rest.now (read_epilog c.args.text.now) (sym w.less_follows.ensures.tells_whether_less_follows ∙ w.if-not-less_follows.true) c.loop.invariant
+  ];
+}

@@ -13,19 +13,23 @@ loop-init c =
     rw all (start misc_follows (read_dropped read_spaces) read_prolog_misc (λ _. tt) c.args.text.now c.spaces.result.1.now tt (dropped_ok read_spaces c.args.text.now c.spaces.result.1.now c.spaces.result.0.now c.spaces.ensures.read))
 
 pub returns-in_err-after : goal.returns-in_err-after
-returns-in_err-after c =
-    let p = err_from_is_err_and c.from_residual.result c.from_residual.ensures.1 in
-    rw (p.1, p.2) (ends misc_follows (read_sequence read_prolog_misc (λ _. read_dropped read_spaces)) nothing_with c.in_err-after.field-0.0 tt _ c.loop.counter c.loop.rest.now (read_prolog c.args.text.now) c.loop-test.true (sym c.misc_follows.ensures ∙ c.if-not-misc_follows.false)
-    (first_stops read_prolog_misc (λ _. read_dropped read_spaces) c.loop.rest.now c.in_err-after.field-0.0 c.in_err-after.ensures) c.loop.invariant)
+returns-in_err-after c = record {
+  reads_the_prolog =
+      let p = err_from_is_err_and c.from_residual.result c.from_residual.ensures.1 in
+      rw (p.1, p.2) (ends misc_follows (read_sequence read_prolog_misc (λ _. read_dropped read_spaces)) nothing_with c.in_err-after.field-0.0 tt _ c.loop.counter c.loop.rest.now (read_prolog c.args.text.now) c.loop-test.true (sym c.misc_follows.ensures.tells_whether_a_misc_follows ∙ c.if-not-misc_follows.false)
+      (first_stops read_prolog_misc (λ _. read_dropped read_spaces) c.loop.rest.now c.in_err-after.field-0.0 c.in_err-after.ensures.reads_a_misc_of_the_prolog) c.loop.invariant);
+}
 
 pub loop-preserved : goal.loop-preserved
 loop-preserved c =
-    goes_on misc_follows (read_sequence read_prolog_misc (λ _. read_dropped read_spaces)) nothing_with tt tt _ c.loop.counter c.loop.rest.now c.spaces-in-loop.result.1.now (tt, tt) (read_prolog c.args.text.now) c.loop-test.true (sym c.misc_follows.ensures ∙ c.if-not-misc_follows.false)
-    (both_ok read_prolog_misc (λ _. read_dropped read_spaces) c.loop.rest.now c.in_ok-after.after.now c.spaces-in-loop.result.1.now tt tt c.in_ok-after.ensures (dropped_ok read_spaces c.in_ok-after.after.now c.spaces-in-loop.result.1.now c.spaces-in-loop.result.0.now c.spaces-in-loop.ensures.read))
+    goes_on misc_follows (read_sequence read_prolog_misc (λ _. read_dropped read_spaces)) nothing_with tt tt _ c.loop.counter c.loop.rest.now c.spaces-in-loop.result.1.now (tt, tt) (read_prolog c.args.text.now) c.loop-test.true (sym c.misc_follows.ensures.tells_whether_a_misc_follows ∙ c.if-not-misc_follows.false)
+    (both_ok read_prolog_misc (λ _. read_dropped read_spaces) c.loop.rest.now c.in_ok-after.after.now c.spaces-in-loop.result.1.now tt tt c.in_ok-after.ensures.reads_a_misc_of_the_prolog (dropped_ok read_spaces c.in_ok-after.after.now c.spaces-in-loop.result.1.now c.spaces-in-loop.result.0.now c.spaces-in-loop.ensures.read))
     (λ xs. refl) c.loop.invariant
 
 pub returns : goal.returns
-returns c = elim c.loop-test.branch [
-  | else-loop-test w ↦ is_done misc_follows (read_sequence read_prolog_misc (λ _. read_dropped read_spaces)) nothing_with tt _ c.loop.counter c.loop.rest.now (read_prolog c.args.text.now) w.loop-test.false c.loop.invariant
-  | then-loop-test+then-not-misc_follows w ↦ is_stopped misc_follows (read_sequence read_prolog_misc (λ _. read_dropped read_spaces)) nothing_with tt _ c.loop.counter c.loop.rest.now (read_prolog c.args.text.now) (sym w.misc_follows.ensures ∙ w.if-not-misc_follows.true) c.loop.invariant
-]
+returns c = record {
+  reads_the_prolog = elim c.loop-test.branch [
+    | else-loop-test w ↦ is_done misc_follows (read_sequence read_prolog_misc (λ _. read_dropped read_spaces)) nothing_with tt _ c.loop.counter c.loop.rest.now (read_prolog c.args.text.now) w.loop-test.false c.loop.invariant
+    | then-loop-test+then-not-misc_follows w ↦ is_stopped misc_follows (read_sequence read_prolog_misc (λ _. read_dropped read_spaces)) nothing_with tt _ c.loop.counter c.loop.rest.now (read_prolog c.args.text.now) (sym w.misc_follows.ensures.tells_whether_a_misc_follows ∙ w.if-not-misc_follows.true) c.loop.invariant
+  ];
+}

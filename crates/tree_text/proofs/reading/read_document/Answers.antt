@@ -7,7 +7,7 @@ use Rattle.tree_text.proofs.reading.read_document.Goals as goal
 
 pub returns : goal.returns
 returns c =
-    let read = subst (λ (z : List (List Decl)). Answered (λ answer. answer ≡ text_read c.args.depth z c.args.bytes.now) c.read.result) c.empty.ensures c.read.ensures in
+    let read = subst (λ (z : List (List Decl)). Answered (λ answer. answer ≡ text_read c.args.depth z c.args.bytes.now) c.read.result) c.empty.ensures.declares_nothing c.read.ensures.reads_the_tree_in_the_scope in
     let answer = text_answers c.args.depth [] c.args.bytes.now c.read.result read in
     record {
       answer_by_the_grammar = answer;

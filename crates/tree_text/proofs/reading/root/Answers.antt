@@ -12,13 +12,15 @@ left_over p text [] a h some = absurd cc
 left_over p text (c ∷ cs) a h some = rw h.read refl
 
 pub returns-then-not-is_empty : goal.returns-then-not-is_empty
-returns-then-not-is_empty c =
-    let tree = c.in_ok-root.root in
-    let behind = c.in_ok-root.rest.now in
-    let read = subst (λ (z : List (List Decl)). read_element c.args.depth z 1 c.in_ok-rest-2.rest.now ≡ Ok (tree, behind)) c.in_ok-bindings.ensures.given c.in_ok-root.ensures.read in
-    left_over (read_text c.args.depth c.args.scope.now) c.args.text.now c.in_ok-rest-3.rest.now tree
-    (reads_behind {p = read_mark_if} (record { read = c.mark_if-rest.ensures })
-    (reads_behind {p = read_declaration_if} (record { read = c.in_ok-rest.ensures })
-    (reads_behind {p = read_prolog} (record { read = c.in_ok-rest-2.ensures })
-    (reads_before {p = read_element c.args.depth c.args.scope.now 1} {q = read_epilog} (record { read = read }) (record { read = c.in_ok-rest-3.ensures })))))
-    (sym c.is_empty.ensures ∙ c.if-not-is_empty.true)
+returns-then-not-is_empty c = record {
+  reads_all_of_the_text =
+      let tree = c.in_ok-root.root in
+      let behind = c.in_ok-root.rest.now in
+      let read = subst (λ (z : List (List Decl)). read_element c.args.depth z 1 c.in_ok-rest-2.rest.now ≡ Ok (tree, behind)) c.in_ok-bindings.ensures.given c.in_ok-root.ensures.read in
+      left_over (read_text c.args.depth c.args.scope.now) c.args.text.now c.in_ok-rest-3.rest.now tree
+      (reads_behind {p = read_mark_if} (record { read = c.mark_if-rest.ensures.passes_a_mark_if_it_follows })
+      (reads_behind {p = read_declaration_if} (record { read = c.in_ok-rest.ensures.reads_a_declaration_if_it_follows })
+      (reads_behind {p = read_prolog} (record { read = c.in_ok-rest-2.ensures.reads_the_prolog })
+      (reads_before {p = read_element c.args.depth c.args.scope.now 1} {q = read_epilog} (record { read = read }) (record { read = c.in_ok-rest-3.ensures.reads_the_epilog })))))
+      (sym c.is_empty.ensures ∙ c.if-not-is_empty.true);
+}

@@ -17,4 +17,4 @@ longer total rest word n le some e =
     sym (e ∙ ap (same_letters rest) over ∙ some_left rest some)
 
 pub returns-in_default-matches : goal.returns-in_default-matches
-returns-in_default-matches c = longer (same_letters c.args.text.now c.args.word.now) c.loop-expected.rest.now c.args.word.now c.loop-expected.expected-index c.loop-expected-test.false c.in_default-matches.len_at_least c.loop-expected.invariant
+returns-in_default-matches c = record { tells_whether_the_letters_are_the_same = longer (same_letters c.args.text.now c.args.word.now) c.loop-expected.rest.now c.args.word.now c.loop-expected.expected-index c.loop-expected-test.false c.in_default-matches.len_at_least c.loop-expected.invariant }

@@ -7,4 +7,4 @@ unfolding chars
 nothing = refl
 
 pub returns : goal.returns
-returns c = c.own.ensures ∙ ap chars c.new.ensures.bytes ∙ nothing
+returns c = record { holds_no_characters = c.own.ensures.holds_the_string ∙ ap chars c.new.ensures.bytes ∙ nothing }

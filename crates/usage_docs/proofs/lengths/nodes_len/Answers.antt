@@ -27,5 +27,5 @@ loop-node-preserved c =
     record {
       fits = omega arith;
       counted = next_capped 18446744073709551615 c.loop-node.total (elems_len (listed_nodes scope (n ∷ []))) (elems_len (listed_nodes scope (drop (i + 1) ns))) _
-          (elems_len (listed_nodes scope (drop i ns))) c.saturating_add-total.result _ c.loop-node.invariant.counted c.in_ok-node_len.ensures c.saturating_add-total.ensures next;
+          (elems_len (listed_nodes scope (drop i ns))) c.saturating_add-total.result _ c.loop-node.invariant.counted c.in_ok-node_len.ensures.counts_the_listed_node c.saturating_add-total.ensures next;
     }

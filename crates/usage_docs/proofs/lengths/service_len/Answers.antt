@@ -6,11 +6,13 @@ use Rattle.usage_docs.proofs.LengthLemmas.{plain_service, two_capped}
 use Rattle.usage_docs.proofs.lengths.service_len.Goals as goal
 
 pub returns-then-is_empty : goal.returns-then-is_empty
-returns-then-is_empty c =
-    let root = c.args.outer.now.decls.now in
-    let e = c.args.kid.now in
-    let none : length e.decls ≡ 0 = ap length (sym c.decls-own.ensures) ∙ eqb-true (length c.decls-own.result.now) 0 (sym c.is_empty.ensures ∙ c.if-is_empty.true) in
-    two_capped 18446744073709551615 _ _ _ _ _ _ c.printed_len.ensures c.requires.counted c.saturating_add-whole.ensures (plain_service root e none)
+returns-then-is_empty c = record {
+  counts_the_listed_service =
+      let root = c.args.outer.now.decls.now in
+      let e = c.args.kid.now in
+      let none : length e.decls ≡ 0 = ap length (sym c.decls-own.ensures.lends_the_declarations) ∙ eqb-true (length c.decls-own.result.now) 0 (sym c.is_empty.ensures ∙ c.if-is_empty.true) in
+      two_capped 18446744073709551615 _ _ _ _ _ _ c.printed_len.ensures.counts_the_printed_element c.requires.counted c.saturating_add-whole.ensures (plain_service root e none);
+}
 
 pub hidden_len-requires : goal.hidden_len-requires
 hidden_len-requires c =
@@ -19,19 +21,21 @@ hidden_len-requires c =
 
 pub overflow_sub-whole : goal.overflow_sub-whole
 overflow_sub-whole c =
-    hid_within c.args.outer.now.decls.now c.args.kid.now _ _ _ _ _ _ c.decls-own.ensures (c.deref.ensures.value ∙ c.requires.bindings) c.printed_len.ensures c.requires.counted
-    c.saturating_add-whole.ensures c.if-whole.false c.in_ok-hidden.ensures
+    hid_within c.args.outer.now.decls.now c.args.kid.now _ _ _ _ _ _ c.decls-own.ensures.lends_the_declarations (c.deref.ensures.value ∙ c.requires.bindings) c.printed_len.ensures.counts_the_printed_element c.requires.counted
+    c.saturating_add-whole.ensures c.if-whole.false c.in_ok-hidden.ensures.counts_what_is_hidden
 
 pub overflow_sub-whole-2 : goal.overflow_sub-whole-2
 overflow_sub-whole-2 c =
-    own_within c.args.outer.now.decls.now c.args.kid.now _ _ _ _ _ _ c.decls-own.ensures (c.deref.ensures.value ∙ c.requires.bindings) c.printed_len.ensures c.requires.counted
-    c.saturating_add-whole.ensures c.if-whole.false c.in_ok-hidden.ensures c.decls_len.result c.decls_len.ensures
+    own_within c.args.outer.now.decls.now c.args.kid.now _ _ _ _ _ _ c.decls-own.ensures.lends_the_declarations (c.deref.ensures.value ∙ c.requires.bindings) c.printed_len.ensures.counts_the_printed_element c.requires.counted
+    c.saturating_add-whole.ensures c.if-whole.false c.in_ok-hidden.ensures.counts_what_is_hidden c.decls_len.result c.decls_len.ensures.counts_the_printed_declarations
 
 pub returns : goal.returns
-returns c =
-    let own = c.args.kid.now.decls in
-    let scope : c.with.result ≡ own ∷ [] = c.with.ensures ∙ (λ i. c.empty.ensures i ++ c.decls-own.ensures i ∷ []) in
-    let binds : c.deref-2.result.now ≡ bindings_in (own ∷ []) = c.deref-2.ensures.value ∙ c.in_ok-bindings.ensures ∙ ap bindings_in scope in
-    shown_len c.args.outer.now.decls.now c.args.kid.now _ _ _ _ _ _ c.decls-own.ensures (c.deref.ensures.value ∙ c.requires.bindings) c.printed_len.ensures c.requires.counted
-    c.saturating_add-whole.ensures c.if-whole.false c.in_ok-hidden.ensures c.decls_len.result c.decls_len-2.result c.saturating_add.result
-    c.deref-2.result.now c.decls_len.ensures c.decls_len-2.ensures binds c.saturating_add.ensures
+returns c = record {
+  counts_the_listed_service =
+      let own = c.args.kid.now.decls in
+      let scope : c.with.result ≡ own ∷ [] = c.with.ensures.adds_the_list ∙ (λ i. c.empty.ensures.declares_nothing i ++ c.decls-own.ensures.lends_the_declarations i ∷ []) in
+      let binds : c.deref-2.result.now ≡ bindings_in (own ∷ []) = c.deref-2.ensures.value ∙ c.in_ok-bindings.ensures.all_bindings_in_scope ∙ ap bindings_in scope in
+      shown_len c.args.outer.now.decls.now c.args.kid.now _ _ _ _ _ _ c.decls-own.ensures.lends_the_declarations (c.deref.ensures.value ∙ c.requires.bindings) c.printed_len.ensures.counts_the_printed_element c.requires.counted
+      c.saturating_add-whole.ensures c.if-whole.false c.in_ok-hidden.ensures.counts_what_is_hidden c.decls_len.result c.decls_len-2.result c.saturating_add.result
+      c.deref-2.result.now c.decls_len.ensures.counts_the_printed_declarations c.decls_len-2.ensures.counts_the_printed_declarations binds c.saturating_add.ensures;
+}

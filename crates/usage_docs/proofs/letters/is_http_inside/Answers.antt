@@ -11,6 +11,8 @@ pub loop-node-init : goal.loop-node-init
 loop-node-init c = all_read (address_after (white true)) c.nodes-node-items.result.now Start c.args.element.now.content c.nodes-node-items.ensures.content
 
 pub returns : goal.returns
-returns c =
-    let e : c.loop-node.address ≡ fold (address_after (white true)) Start (text_of c.args.element.now.content) = grind (arith, common_steps) in
-    c.goes_on.ensures ∙ ap is_address e ∙ trimmed_is (text_of c.args.element.now.content)
+returns c = record {
+  tells_whether_the_inside_is_http =
+      let e : c.loop-node.address ≡ fold (address_after (white true)) Start (text_of c.args.element.now.content) = grind (arith, common_steps) in
+      c.goes_on.ensures.tells_whether_it_is_an_address ∙ ap is_address e ∙ trimmed_is (text_of c.args.element.now.content);
+}

@@ -4,6 +4,8 @@ use Rattle.xml_tree.proofs.Letters.{chars_empty}
 use Rattle.usage_docs.proofs.rows.space_of.Goals as goal
 
 pub returns-in-None : goal.returns-in-None
-returns-in-None c =
-    let e = ap (λ o. option_map (λ uri. chars uri.now) o) (sym c.in-None.is) ∙ c.resolve.ensures in
-    chars_empty [] refl ∙ ap (λ (o : Option (List ℕ)). unwrap_or o []) e
+returns-in-None c = record {
+  namespace_of_the_name =
+      let e = ap (λ o. option_map (λ uri. chars uri.now) o) (sym c.in-None.is) ∙ c.resolve.ensures.resolves_as_it_is_bound in
+      chars_empty [] refl ∙ ap (λ (o : Option (List ℕ)). unwrap_or o []) e;
+}

@@ -6,6 +6,8 @@ use Rattle.usage_docs.proofs.UriLemmas.{uris_are}
 use Rattle.usage_docs.proofs.uris.services.Goals as goal
 
 pub returns : goal.returns
-returns c =
-    uris_are (c.in_ok-declared.declared ∷ []) c.nodes.result.now c.args.root.now.content c.nodes.ensures.content
-    ∙ ap (λ (ds : List Decl). filter_map (service_uri (ds ∷ [])) (kids_of c.args.root.now)) (c.in_ok-declared.ensures ∙ c.decls.ensures)
+returns c = record {
+  addresses_in_order =
+      uris_are (c.in_ok-declared.declared ∷ []) c.nodes.result.now c.args.root.now.content c.nodes.ensures.content
+      ∙ ap (λ (ds : List Decl). filter_map (service_uri (ds ∷ [])) (kids_of c.args.root.now)) (c.in_ok-declared.ensures.holds_the_declarations ∙ c.decls.ensures.lends_the_declarations);
+}

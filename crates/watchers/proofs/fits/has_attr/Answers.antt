@@ -5,7 +5,9 @@ use Rattle.watchers.proofs.Found.{names_there}
 use Rattle.watchers.proofs.fits.has_attr.Goals as goal
 
 pub returns-in-Some : goal.returns-in-Some
-returns-in-Some c =
-    let there = names_there c.args.path.now c.args.name.now c.args.root.now c.in-Some.element.now c.names_one.result (sym c.in-Some.ensures)
-    (c.names_one.ensures ∙ ap (λ attrs. list_any (is_named c.args.name.now) attrs) c.attrs.ensures) in
-    (λ h. sym there ∙ h, λ h. there ∙ h)
+returns-in-Some c = record {
+  tells_whether_the_attribute_is_there =
+      let there = names_there c.args.path.now c.args.name.now c.args.root.now c.in-Some.element.now c.names_one.result (sym c.in-Some.ensures.element_at_the_path)
+      (c.names_one.ensures.tells_whether_one_has_the_name ∙ ap (λ attrs. list_any (is_named c.args.name.now) attrs) c.attrs.ensures.lends_the_attributes) in
+      (λ h. sym there ∙ h, λ h. there ∙ h);
+}

@@ -5,9 +5,11 @@ use Rattle.xcap_app.proofs.Ends.{fault_judged, tree_judged}
 use Rattle.xcap_app.proofs.judging.judge.Goals as goal
 
 pub returns-in-Ok : goal.returns-in-Ok
-returns-in-Ok c = tree_judged c.args.usage c.args.text.now c.in-Ok.root c.judge_tree.result c.unwrap_or.result c.in-Ok.ensures.answer_by_the_grammar c.judge_tree.ensures c.unwrap_or.ensures
+returns-in-Ok c = record { judges_the_text = tree_judged c.args.usage c.args.text.now c.in-Ok.root c.judge_tree.result c.unwrap_or.result c.in-Ok.ensures.answer_by_the_grammar c.judge_tree.ensures.judges_the_tree c.unwrap_or.ensures }
 
 pub returns-in-Err-Fault : goal.returns-in-Err-Fault
-returns-in-Err-Fault c =
-    fault_judged c.args.usage c.args.text.now c.read_document.result c.in-Err-Fault.field-0 c.in-Err-Fault.fault c.judge_fault.result c.in-Err-Fault.is c.in-Err-Fault.field-0-is c.read_document.ensures.answer_by_the_grammar
-    (subst (λ (fault : TextFault). FaultVerdict fault c.judge_fault.result) c.in-Err-Fault.fault-is c.judge_fault.ensures)
+returns-in-Err-Fault c = record {
+  judges_the_text =
+      fault_judged c.args.usage c.args.text.now c.read_document.result c.in-Err-Fault.field-0 c.in-Err-Fault.fault c.judge_fault.result c.in-Err-Fault.is c.in-Err-Fault.field-0-is c.read_document.ensures.answer_by_the_grammar
+      (subst (λ (fault : TextFault). FaultVerdict fault c.judge_fault.result) c.in-Err-Fault.fault-is c.judge_fault.ensures.judges_the_fault);
+}

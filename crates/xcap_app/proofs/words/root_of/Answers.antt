@@ -13,4 +13,4 @@ root_is false word root stated is answered = ⊎_elim (λ e. cc) (λ e. cc) answ
 
 pub returns-in-Ok : goal.returns-in-Ok
 unfolding root_of
-returns-in-Ok c = root_is (is_root c.args.word.now) c.args.word.now c.in-Ok.root _ refl c.in-Ok.ensures
+returns-in-Ok c = record { reads_the_root = root_is (is_root c.args.word.now) c.args.word.now c.in-Ok.root _ refl c.in-Ok.ensures.reads_the_root }

@@ -14,8 +14,10 @@ served_there (b ∷ bs) root count a r n some is_root is_count is =
     ∙ ap (λ (k : Option ℕ). served_at (b ∷ bs) (root_of root) k) is_count
 
 pub returns : goal.returns
-returns c =
-    let some : false ≡ (length c.args.address.now == 0) = cc (c.is_empty.ensures, c.if-is_empty.false) in
-    let is_root : Some c.in-Some-2.root ≡ root_of c.args.root.now = cc (c.in-Some-2.is, c.in_ok-root.ensures) in
-    let is_count : Some c.in-Some.count ≡ count_of c.args.count.now = cc (c.in-Some.is, c.in-Some.ensures, c.count_of.ensures) in
-    served_there c.args.address.now c.args.root.now c.args.count.now c.in_ok-address.address c.in-Some-2.root c.in-Some.count some is_root is_count c.in_ok-address.ensures
+returns c = record {
+  reads_a_serve =
+      let some : false ≡ (length c.args.address.now == 0) = cc (c.is_empty.ensures, c.if-is_empty.false) in
+      let is_root : Some c.in-Some-2.root ≡ root_of c.args.root.now = cc (c.in-Some-2.is, c.in_ok-root.ensures.reads_the_root) in
+      let is_count : Some c.in-Some.count ≡ count_of c.args.count.now = cc (c.in-Some.is, c.in-Some.ensures.reads_the_count, c.count_of.ensures.reads_the_count) in
+      served_there c.args.address.now c.args.root.now c.args.count.now c.in_ok-address.address c.in-Some-2.root c.in-Some.count some is_root is_count c.in_ok-address.ensures.copies_the_text;
+}

@@ -4,8 +4,10 @@ use Rattle.xcap_io.proofs.Adding.{adds_both, adds_written}
 use Rattle.xcap_io.proofs.gatherer.put.Goals as goal
 
 pub returns : goal.returns
-returns g c =
-    let none = c.in_ok-flush.ensures.none in let piece = c.args.piece.now in let line = g.S.Line.state in
-    adds_both (line c.args.sink.now) c.args.gatherer.now (line c.flush.new.sink) c.flush.new.gatherer (line c.write_all.new.sink) c.flush.new.gatherer c.write_all.result [] piece c.in_ok-flush.ensures.adds
-    (adds_written (line c.flush.new.sink) (line c.write_all.new.sink) c.flush.new.gatherer c.flush.new.gatherer c.write_all.result piece none
-    (subst (λ h. WritesAll (line c.flush.new.sink).taken (line c.write_all.new.sink).taken c.write_all.result (h ++ piece)) (sym none) c.write_all.ensures.bytes) c.write_all.ensures.only_writes)
+returns g c = record {
+  adds_the_piece_in_order =
+      let none = c.in_ok-flush.ensures.none in let piece = c.args.piece.now in let line = g.S.Line.state in
+      adds_both (line c.args.sink.now) c.args.gatherer.now (line c.flush.new.sink) c.flush.new.gatherer (line c.write_all.new.sink) c.flush.new.gatherer c.write_all.result [] piece c.in_ok-flush.ensures.adds
+      (adds_written (line c.flush.new.sink) (line c.write_all.new.sink) c.flush.new.gatherer c.flush.new.gatherer c.write_all.result piece none
+      (subst (λ h. WritesAll (line c.flush.new.sink).taken (line c.write_all.new.sink).taken c.write_all.result (h ++ piece)) (sym none) c.write_all.ensures.bytes) c.write_all.ensures.only_writes);
+}

@@ -11,7 +11,7 @@ pub returns-clause-what_was_deleted_is_gone : goal.returns-clause-what_was_delet
 returns-clause-what_was_deleted_is_gone c = answered_delete c.server.inside.service c.args.server.now c.respond.new.self c.server.view_is c.args.request.now c.respond.result c.respond.ensures.answers_as_the_machine
 
 pub returns-clause-a_second_put_leaves_every_tree : goal.returns-clause-a_second_put_leaves_every_tree
-returns-clause-a_second_put_leaves_every_tree c = answered_second c.server.inside.service c.args.server.now c.respond.new.self c.server.view_is c.args.request.now c.stands.ensures c.respond.result c.respond.ensures.answers_as_the_machine
+returns-clause-a_second_put_leaves_every_tree c = answered_second c.server.inside.service c.args.server.now c.respond.new.self c.server.view_is c.args.request.now c.stands.ensures.stands_for_a_kept_state c.respond.result c.respond.ensures.answers_as_the_machine
 
 pub returns-clause-closes_as_asked : goal.returns-clause-closes_as_asked
 returns-clause-closes_as_asked c = answered_closes c.server.inside.service c.args.server.now c.respond.new.self c.server.view_is c.args.request.now c.respond.result c.respond.ensures.answers_as_the_machine

@@ -4,10 +4,10 @@ use Rattle.xcap_uri.specs.Cuts.{is_other}
 use Rattle.xcap_uri.proofs.cutting.cut_before.Goals as goal
 
 pub split_at-requires : goal.split_at-requires
-split_at-requires c = omega (arith, run_len_le (is_other c.args.stop) c.args.text.now, c.len_before.ensures)
+split_at-requires c = omega (arith, run_len_le (is_other c.args.stop) c.args.text.now, c.len_before.ensures.counts_up_to_the_stop)
 
 pub returns-clause-front : goal.returns-clause-front
-returns-clause-front c = c.split_at.ensures.front ∙ ap (λ n. take n c.args.text.now) c.len_before.ensures ∙ take_run (is_other c.args.stop) c.args.text.now
+returns-clause-front c = c.split_at.ensures.front ∙ ap (λ n. take n c.args.text.now) c.len_before.ensures.counts_up_to_the_stop ∙ take_run (is_other c.args.stop) c.args.text.now
 
 pub returns-clause-rest : goal.returns-clause-rest
-returns-clause-rest c = c.split_at.ensures.back ∙ ap (λ n. drop n c.args.text.now) c.len_before.ensures ∙ drop_run (is_other c.args.stop) c.args.text.now
+returns-clause-rest c = c.split_at.ensures.back ∙ ap (λ n. drop n c.args.text.now) c.len_before.ensures.counts_up_to_the_stop ∙ drop_run (is_other c.args.stop) c.args.text.now

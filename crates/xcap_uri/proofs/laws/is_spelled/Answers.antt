@@ -4,9 +4,11 @@ use Rattle.xcap_uri.specs.Spelled.{IsOctet}
 use Rattle.xcap_uri.proofs.laws.is_spelled.Goals as goal
 
 pub returns : goal.returns
-returns c =
-    record {
-      utf8 = subst IsUtf8 c.as_str.ensures.bytes c.as_str.utf8;
-      octets = subst (All IsOctet) (c.as_bytes.ensures.value ∙ c.as_str.ensures.bytes) c.are_octets.ensures;
-      letters = ap chars (sym c.as_str.ensures.bytes) ∙ c.as_str.ensures.letters;
-    }
+returns c = record {
+  spelled_by_its_octets =
+      record {
+        utf8 = subst IsUtf8 c.as_str.ensures.bytes c.as_str.utf8;
+        octets = subst (All IsOctet) (c.as_bytes.ensures.value ∙ c.as_str.ensures.bytes) c.are_octets.ensures.each_is_an_octet;
+        letters = ap chars (sym c.as_str.ensures.bytes) ∙ c.as_str.ensures.letters;
+      };
+}

@@ -3,4 +3,4 @@ use Rattle.xcap_uri.proofs.query.escaped_step.Goals as goal
 use Rattle.std.proofs.Common.{sym, ◌∙◌}
 
 pub returns-in-len1-up-clause-step : goal.returns-in-len1-up-clause-step
-returns-in-len1-up-clause-step c = escapes c.args.depth c.c-item.result c.args.rest.now c.in-len1-up.len_at_least c.c-item.is (sym c.is_escapable.ensures ∙ c.if-is_escapable.true)
+returns-in-len1-up-clause-step c = escapes c.args.depth c.c-item.result c.args.rest.now c.in-len1-up.len_at_least c.c-item.is (sym c.is_escapable.ensures.tells_whether_it_is_escaped ∙ c.if-is_escapable.true)

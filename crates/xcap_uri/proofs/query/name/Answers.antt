@@ -10,7 +10,7 @@ use Rattle.xcap_uri.specs.declared.fault.UriFault.TheVariants.{BadQuery}
 use Rattle.xcap_uri.proofs.query.name.Goals as goal
 
 pub split_at-requires : goal.split_at-requires
-split_at-requires c = omega (arith, run_len_le is_name_char c.args.text.now, c.name_len.ensures)
+split_at-requires c = omega (arith, run_len_le is_name_char c.args.text.now, c.name_len.ensures.counts_the_name_characters)
 
 -- a front, and what follows it
 cut_by : (b : Bool) (p : ℕ → Bool) (text front back : List ℕ) (n : ℕ) → true ≡ b → n ≡ run_len p text → front ≡ take n text → back ≡ drop n text → let read : Read (List ℕ) = if b then Ok (front_of p text, after_front p text) else Err (Fault BadQuery) in read ≡ Ok (front, back)
@@ -20,4 +20,4 @@ cut_by b p text front back n begins e f g =
     ∙ ap (λ (x : List ℕ). let z : List ℕ × List ℕ = (front, x) in let r : Read (List ℕ) = Ok z in r) (sym (g ∙ ap (λ k. drop k text) e ∙ drop_run p text))
 
 pub returns : goal.returns
-returns c = cut_by (head_is is_name_start c.args.text.now) is_name_char c.args.text.now _ _ _ c.if-not-begins_name.ensures c.name_len.ensures c.split_at.ensures.front c.split_at.ensures.back
+returns c = record { reads_a_name = cut_by (head_is is_name_start c.args.text.now) is_name_char c.args.text.now _ _ _ c.if-not-begins_name.ensures.tells_whether_a_name_begins c.name_len.ensures.counts_the_name_characters c.split_at.ensures.front c.split_at.ensures.back }

@@ -30,7 +30,7 @@ returns-clause-normal c = λ normal.
 pub returns-clause-taken : goal.returns-clause-taken
 returns-clause-taken c =
     let at = rw c.deref.ensures.value at c.place_of-place.ensures.place in
-    sym (elem_of-place c.args.child c.args.nodes.now.items c.remove_joined-taken.result c.requires.there (rw at at c.remove_joined-taken.ensures.taken)) ∙ c.into_elem.ensures
+    sym (elem_of-place c.args.child c.args.nodes.now.items c.remove_joined-taken.result c.requires.there (rw at at c.remove_joined-taken.ensures.taken)) ∙ c.into_elem.ensures.element_that_it_was
 
 pub returns-clause-rest : goal.returns-clause-rest
 returns-clause-rest c =

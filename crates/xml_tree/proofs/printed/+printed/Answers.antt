@@ -7,11 +7,13 @@ use Rattle.xml_tree.proofs.PrintedNodes.{no_nodes, some_nodes, byte_len-bare, by
 use Rattle.xml_tree.proofs.printed.+printed.Goals as goal
 
 pub printed_len-returns-then-is_empty : goal.printed_len-returns-then-is_empty
-printed_len-returns-then-is_empty t c =
-    let e = c.args.element.now in let ns = c.nodes-nodes.result.now in
-    let none = no_nodes ns e.content c.nodes-nodes.ensures.content (eqb-true (length ns) 0 (sym c.is_empty.ensures ∙ c.if-is_empty.true)) in
-    bare_sum 18446744073709551615 (byte_len (opening e.name e.decls e.attrs)) c.opening_len-opening.result c.saturating_add.result (byte_len (print e))
-    c.opening_len-opening.ensures c.saturating_add.ensures (byte_len-bare e none)
+printed_len-returns-then-is_empty t c = record {
+  counts_the_printed_element =
+      let e = c.args.element.now in let ns = c.nodes-nodes.result.now in
+      let none = no_nodes ns e.content c.nodes-nodes.ensures.content (eqb-true (length ns) 0 (sym c.is_empty.ensures ∙ c.if-is_empty.true)) in
+      bare_sum 18446744073709551615 (byte_len (opening e.name e.decls e.attrs)) c.opening_len-opening.result c.saturating_add.result (byte_len (print e))
+      c.opening_len-opening.ensures.counts_the_opening c.saturating_add.ensures (byte_len-bare e none);
+}
 
 pub printed_len-loop-node-preserved : goal.printed_len-loop-node-preserved
 printed_len-loop-node-preserved t c =
@@ -21,17 +23,19 @@ printed_len-loop-node-preserved t c =
       fits = omega arith;
       counted = next_sum 18446744073709551615 c.loop-node.inside (byte_len (print_node c.node-item.result)) (byte_len (print_content (content_of (drop (i + 1) ns)))) _
           (byte_len (print_content (content_of (drop i ns)))) c.saturating_add-inside.result c.node_len.result
-          c.loop-node.invariant.counted c.node_len.ensures c.saturating_add-inside.ensures next;
+          c.loop-node.invariant.counted c.node_len.ensures.counts_the_printed_node c.saturating_add-inside.ensures next;
     }
 
 pub printed_len-returns : goal.printed_len-returns
-printed_len-returns t c =
-    let e = c.args.element.now in let ns = c.nodes-nodes.result.now in let i = c.loop-node.node-index in
-    let some = some_nodes ns e.content c.nodes-nodes.ensures.normal c.nodes-nodes.ensures.content (λ z. let both = eq-eqb (length ns) 0 z in cc) in
-    let end = ap (λ l. byte_len (print_content (content_of l))) (drop_all i ns c.loop-node-test.false) in
-    let all : byte_len (print_content (content_of ns)) ≡ byte_len (print_content e.content) = ap (λ k. byte_len (print_content k)) c.nodes-nodes.ensures.content in
-    whole_sum 18446744073709551615 (byte_len (opening e.name e.decls e.attrs)) (byte_len (print_content (content_of ns))) (byte_len (print_name e.name))
-    c.name_len.result c.opening_len-opening.result c.loop-node.inside c.saturating_add-2.result c.saturating_add-3.result c.saturating_add-4.result
-    (byte_len (print e)) (byte_len (print_content (content_of (drop i ns))))
-    c.opening_len-opening.ensures c.loop-node.invariant.counted c.loop-node.invariant.fits end (c.name_len.ensures ∙ ap (λ n. min (byte_len (print_name n)) 18446744073709551615) c.name.ensures) c.saturating_add-2.ensures c.saturating_add-3.ensures c.saturating_add-4.ensures
-    (byte_len-whole e some ∙ omega (arith, all, byte_len-closing e.name))
+printed_len-returns t c = record {
+  counts_the_printed_element =
+      let e = c.args.element.now in let ns = c.nodes-nodes.result.now in let i = c.loop-node.node-index in
+      let some = some_nodes ns e.content c.nodes-nodes.ensures.normal c.nodes-nodes.ensures.content (λ z. let both = eq-eqb (length ns) 0 z in cc) in
+      let end = ap (λ l. byte_len (print_content (content_of l))) (drop_all i ns c.loop-node-test.false) in
+      let all : byte_len (print_content (content_of ns)) ≡ byte_len (print_content e.content) = ap (λ k. byte_len (print_content k)) c.nodes-nodes.ensures.content in
+      whole_sum 18446744073709551615 (byte_len (opening e.name e.decls e.attrs)) (byte_len (print_content (content_of ns))) (byte_len (print_name e.name))
+      c.name_len.result c.opening_len-opening.result c.loop-node.inside c.saturating_add-2.result c.saturating_add-3.result c.saturating_add-4.result
+      (byte_len (print e)) (byte_len (print_content (content_of (drop i ns))))
+      c.opening_len-opening.ensures.counts_the_opening c.loop-node.invariant.counted c.loop-node.invariant.fits end (c.name_len.ensures.counts_the_printed_name ∙ ap (λ n. min (byte_len (print_name n)) 18446744073709551615) c.name.ensures.lends_the_name) c.saturating_add-2.ensures c.saturating_add-3.ensures c.saturating_add-4.ensures
+      (byte_len-whole e some ∙ omega (arith, all, byte_len-closing e.name));
+}

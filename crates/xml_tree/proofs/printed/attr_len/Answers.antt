@@ -4,7 +4,9 @@ use Rattle.xml_tree.proofs.PrintLengths.{byte_len-attr}
 use Rattle.xml_tree.proofs.printed.attr_len.Goals as goal
 
 pub returns : goal.returns
-returns c =
-    let attr : Attr = record { name = c.args.name.now; value = c.args.value.now } in
-    let whole = byte_len-attr attr in
-    omega (arith, whole)
+returns c = record {
+  counts_the_printed_attribute =
+      let attr : Attr = record { name = c.args.name.now; value = c.args.value.now } in
+      let whole = byte_len-attr attr in
+      omega (arith, whole);
+}

@@ -8,14 +8,14 @@ pub returns-in_default-clause-apart : goal.returns-in_default-clause-apart
 returns-in_default-clause-apart c = λ normal.
     let ns = c.args.nodes.now in
     let e : suc (c.args.place - 1) ≡ c.args.place = omega arith in
-    subst (λ k. ends_in_text (take k ns) ≡ false) e (ends-take_none (c.args.place - 1) ns (omega arith) (sym c.in_default.ensures))
+    subst (λ k. ends_in_text (take k ns) ≡ false) e (ends-take_none (c.args.place - 1) ns (omega arith) (sym c.in_default.ensures.text_at_that_place))
 
 pub returns-clause-same : goal.returns-clause-same
 returns-clause-same c =
     let ns = c.args.nodes.now in let i = c.args.place - 1 in let zs = c.args.more.now.items in
     let e : suc (c.args.place - 1) ≡ c.args.place = omega arith in
-    ap (λ l. take i ns ++ l) (c.in_ok-insert.ensures.items ∙ ap (λ t. Chars t ∷ zs) c.in_ok-copy.ensures) ∙ take-text i ns zs c.in-Some.text.now (sym c.in-Some.ensures)
+    ap (λ l. take i ns ++ l) (c.in_ok-insert.ensures.items ∙ ap (λ t. Chars t ∷ zs) c.in_ok-copy.ensures.makes_an_equal_text) ∙ take-text i ns zs c.in-Some.text.now (sym c.in-Some.ensures.text_at_that_place)
     ∙ ap (λ k. take k ns ++ zs) e
 
 pub returns-clause-apart : goal.returns-clause-apart
-returns-clause-apart c = λ normal. ends-take_some (c.args.place - 1) c.args.nodes.now c.in-Some.text.now normal (sym c.in-Some.ensures)
+returns-clause-apart c = λ normal. ends-take_some (c.args.place - 1) c.args.nodes.now c.in-Some.text.now normal (sym c.in-Some.ensures.text_at_that_place)

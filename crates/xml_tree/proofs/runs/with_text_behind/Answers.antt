@@ -5,22 +5,22 @@ use Rattle.xml_tree.proofs.RunLemmas.{StartsApart-drop_none, StartsApart-drop_so
 use Rattle.xml_tree.proofs.runs.with_text_behind.Goals as goal
 
 pub returns-in_default-clause-apart : goal.returns-in_default-clause-apart
-returns-in_default-clause-apart c = λ normal. StartsApart-drop_none c.args.place c.args.nodes.now (sym c.in_default.ensures)
+returns-in_default-clause-apart c = λ normal. StartsApart-drop_none c.args.place c.args.nodes.now (sym c.in_default.ensures.text_at_that_place)
 
 pub returns-clause-same : goal.returns-clause-same
 returns-clause-same c =
     let ns = c.args.nodes.now in let i = c.args.place in let zs = c.args.more.now.items in
     let e : i + 1 ≡ suc i = omega arith in
-    ap (λ l. l ++ drop (i + 1) ns) (c.in_ok-push.ensures.items ∙ ap (λ t. zs ++ Chars t ∷ []) c.in_ok-copy.ensures)
+    ap (λ l. l ++ drop (i + 1) ns) (c.in_ok-push.ensures.items ∙ ap (λ t. zs ++ Chars t ∷ []) c.in_ok-copy.ensures.makes_an_equal_text)
     ∙ append_assoc zs (Chars c.in-Some.text.now ∷ []) (drop (i + 1) ns) ∙ ap (λ k. zs ++ Chars c.in-Some.text.now ∷ drop k ns) e
-    ∙ ap (λ l. zs ++ l) (drop-text i ns c.in-Some.text.now (sym c.in-Some.ensures))
+    ∙ ap (λ l. zs ++ l) (drop-text i ns c.in-Some.text.now (sym c.in-Some.ensures.text_at_that_place))
 
 pub returns-clause-within : goal.returns-clause-within
 returns-clause-within c =
-    let there = text_there c.args.place c.args.nodes.now c.in-Some.text.now (sym c.in-Some.ensures) in (omega arith, omega arith)
+    let there = text_there c.args.place c.args.nodes.now c.in-Some.text.now (sym c.in-Some.ensures.text_at_that_place) in (omega arith, omega arith)
 
 pub returns-clause-apart : goal.returns-clause-apart
 returns-clause-apart c = λ normal.
     let ns = c.args.nodes.now in
     let e : suc c.args.place ≡ c.args.place + 1 = omega arith in
-    subst (λ k. StartsApart (drop k ns)) e (StartsApart-drop_some c.args.place ns c.in-Some.text.now normal (sym c.in-Some.ensures))
+    subst (λ k. StartsApart (drop k ns)) e (StartsApart-drop_some c.args.place ns c.in-Some.text.now normal (sym c.in-Some.ensures.text_at_that_place))

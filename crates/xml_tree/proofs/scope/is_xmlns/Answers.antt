@@ -14,6 +14,8 @@ unfolding chars
 letters = refl
 
 pub returns : goal.returns
-returns c =
-    let text : List ℕ = c.args.prefix.now in
-    c.eq.ensures ∙ bytes_eq-chars text xmlns_prefix c.utf8.prefix xmlns_utf8 ∙ ap (bytes_eq (chars text)) letters
+returns c = record {
+  tells_whether_it_is_xmlns =
+      let text : List ℕ = c.args.prefix.now in
+      c.eq.ensures ∙ bytes_eq-chars text xmlns_prefix c.utf8.prefix xmlns_utf8 ∙ ap (bytes_eq (chars text)) letters;
+}

@@ -5,4 +5,4 @@ use Rattle.xml_tree.proofs.scope.xml_uri.Goals as goal
 
 pub returns : goal.returns
 unfolding chars xml_uri
-returns c = refl
+returns c = record { namespace_of_xml = refl }

@@ -8,4 +8,4 @@ pub invariant_of-self : goal.invariant_of-self
 invariant_of-self c =
     let stages : c.self.inside.stage ≡ c.args.self.now.stage = ap (λ (d : Decoding). d.stage) c.self.view_is in
     let next = fits_next c.self.inside.stage c.self.inside.decoded c.args.byte c.self.invariant.2 (ap is_data stages ∙ c.requires.other) in
-    (c.self.invariant.0, c.self.invariant.1, subst (λ (s : Stage). Fits s c.self.inside.decoded) (sym c.next_stage-self-inside.ensures) next)
+    (c.self.invariant.0, c.self.invariant.1, subst (λ (s : Stage). Fits s c.self.inside.decoded) (sym c.next_stage-self-inside.ensures.stage_behind_the_byte) next)

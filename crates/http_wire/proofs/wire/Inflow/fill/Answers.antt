@@ -13,7 +13,7 @@ returns-in-Ok-clause-gains g c =
     let buffer : List ℕ = c.deref_mut-2.result.now in
     let before : slice_range buffer 0 end ≡ c.args.self.now =
     ap (λ (l : List ℕ). slice_range l 0 end) (c.deref_mut-2.ensures.value ∙ with_items_is c.self.inside.buffer c.move_to_front.new.buffer (search (rules, places)))
-    ∙ c.move_to_front.ensures
+    ∙ c.move_to_front.ensures.moves_them_to_the_front
     ∙ ap (λ (l : List ℕ). slice_range l c.self.inside.start c.self.inside.end) c.deref_mut.ensures.value
     ∙ c.self.view_is in
     record {
@@ -35,7 +35,7 @@ returns-in-Err-clause-err g c =
     let buffer : List ℕ = c.deref_mut-2.result.now in
     let before : slice_range buffer 0 end ≡ c.args.self.now =
     ap (λ (l : List ℕ). slice_range l 0 end) (c.deref_mut-2.ensures.value ∙ with_items_is c.self.inside.buffer c.move_to_front.new.buffer (search (rules, places)))
-    ∙ c.move_to_front.ensures
+    ∙ c.move_to_front.ensures.moves_them_to_the_front
     ∙ ap (λ (l : List ℕ). slice_range l c.self.inside.start c.self.inside.end) c.deref_mut.ensures.value
     ∙ c.self.view_is in
     unfilled c.args.self.now buffer _ _ 0 end before (with_items_is (with_items c.self.inside.buffer c.move_to_front.new.buffer) _ (search (rules, places))) (omega arith) (omega arith)

@@ -3,8 +3,10 @@ use Rattle.http_wire.proofs.Buffers.{length-between, between-rest}
 use Rattle.http_wire.proofs.wire.Inflow.pass.Goals as goal
 
 pub returns : goal.returns
-returns c =
-    let start : ℕ = c.self.inside.start in
-    let end : ℕ = c.self.inside.end in
-    let size : length c.args.self.now ≡ end - start = ap length (sym c.self.view_is) ∙ length-between c.self.inside.buffer.items start end (omega arith) (omega arith) in
-    between-rest c.self.inside.buffer.items start end c.args.count (omega (arith, size, c.requires)) ∙ ap (drop c.args.count) c.self.view_is
+returns c = record {
+  lets_the_first_bytes_go =
+      let start : ℕ = c.self.inside.start in
+      let end : ℕ = c.self.inside.end in
+      let size : length c.args.self.now ≡ end - start = ap length (sym c.self.view_is) ∙ length-between c.self.inside.buffer.items start end (omega arith) (omega arith) in
+      between-rest c.self.inside.buffer.items start end c.args.count (omega (arith, size, c.requires)) ∙ ap (drop c.args.count) c.self.view_is;
+}

@@ -6,4 +6,4 @@ pub returns-clause-value : goal.returns-clause-value
 unfolding media_line
 returns-clause-value c =
     let name : c.as_bytes.result.now ≡ media_type c.args.media = c.as_bytes.ensures.value ∙ c.media_type.ensures.value in
-    rw (c.push-3.ensures, c.push-2.ensures, c.push.ensures, name) (simp append_assoc)
+    rw (c.push-3.ensures.adds_the_bytes, c.push-2.ensures.adds_the_bytes, c.push.ensures.adds_the_bytes, name) (simp append_assoc)

@@ -20,8 +20,8 @@ invariant_of-self c =
     let room : Room = record { documents = spare s.documents; services = spare s.services } in
     let seen : Readied = record { doc = p.doc; note = note_in p.note; step = p.step; leaves = p.leaves; enters = p.enters; total = p.total } in
     still-storing s.documents.entries s.services.entries s.last s.total room c.args.self.now seen c.args.prepared c.self.view_is c.prepared.view_is c.self.invariant c.requires
-    c.leave.new.registry.entries c.enter.new.registry.entries c.take-created.new.documents.entries c.take-created.result c.as_slice.result.now c.into_vec.result.items c.take-created.ensures c.as_slice.ensures c.into_vec.ensures
-    c.leave.ensures.left c.enter.ensures
+    c.leave.new.registry.entries c.enter.new.registry.entries c.take-created.new.documents.entries c.take-created.result c.as_slice.result.now c.into_vec.result.items c.take-created.ensures.takes_the_step c.as_slice.ensures.lends_the_items c.into_vec.ensures.hands_out_the_items
+    c.leave.ensures.left c.enter.ensures.enters_these_alone
 
 pub returns-clause-content : goal.returns-clause-content
 returns-clause-content c =
@@ -30,5 +30,5 @@ returns-clause-content c =
     let room : Room = record { documents = spare s.documents; services = spare s.services } in
     let seen : Readied = record { doc = p.doc; note = note_in p.note; step = p.step; leaves = p.leaves; enters = p.enters; total = p.total } in
     holds-next s.documents.entries s.services.entries s.last s.total room c.args.self.now seen c.args.prepared c.self.view_is c.prepared.view_is c.self.invariant c.requires
-    c.leave.new.registry.entries c.enter.new.registry.entries c.take-created.new.documents.entries c.take-created.result c.as_slice.result.now c.into_vec.result.items c.take-created.ensures c.as_slice.ensures c.into_vec.ensures
-    c.leave.ensures.left c.enter.ensures
+    c.leave.new.registry.entries c.enter.new.registry.entries c.take-created.new.documents.entries c.take-created.result c.as_slice.result.now c.into_vec.result.items c.take-created.ensures.takes_the_step c.as_slice.ensures.lends_the_items c.into_vec.ensures.hands_out_the_items
+    c.leave.ensures.left c.enter.ensures.enters_these_alone

@@ -15,7 +15,7 @@ pub returns-in_err-entry-clause-held : goal.returns-in_err-entry-clause-held
 returns-in_err-entry-clause-held c =
     let es = c.self.inside.documents.entries in
     let doc = c.args.doc.now in
-    let none : None ≡ lookup (same_id doc) es = rw c.in_err-entry.was at c.find.ensures in
+    let none : None ≡ lookup (same_id doc) es = rw c.in_err-entry.was at c.find.ensures.entry_of_the_document in
     let same = ap (λ (s : Stored). option_map {U = Tree × ℕ} (λ (h : Held). (h.tree, h.tag)) (document_in held_name s.content.documents doc)) c.self.view_is in
     let told : c.from_residual.result ≡ None = search rules in
     rw told (ap (λ (o : Option Entry). option_map {U = Tree × ℕ} (λ (v : Entry). (v.tree, v.tag)) o) none ∙ sym (tree-and-tag es doc) ∙ same)
@@ -24,7 +24,7 @@ pub returns-clause-held : goal.returns-clause-held
 returns-clause-held c =
     let es = c.self.inside.documents.entries in
     let doc = c.args.doc.now in
-    let there : Some c.in_ok-entry.entry.now ≡ lookup (same_id doc) es = rw c.in_ok-entry.was at c.find.ensures in
+    let there : Some c.in_ok-entry.entry.now ≡ lookup (same_id doc) es = rw c.in_ok-entry.was at c.find.ensures.entry_of_the_document in
     let same = ap (λ (s : Stored). option_map {U = Tree × ℕ} (λ (h : Held). (h.tree, h.tag)) (document_in held_name s.content.documents doc)) c.self.view_is in
     ap (λ (o : Option Entry). option_map {U = Tree × ℕ} (λ (v : Entry). (v.tree, v.tag)) o) there ∙ sym (tree-and-tag es doc) ∙ same
 
@@ -32,5 +32,5 @@ pub returns-clause-low : goal.returns-clause-low
 returns-clause-low c =
     let es = c.self.inside.documents.entries in
     let doc = c.args.doc.now in
-    let there : Some c.in_ok-entry.entry.now ≡ lookup (same_id doc) es = rw c.in_ok-entry.was at c.find.ensures in
+    let there : Some c.in_ok-entry.entry.now ≡ lookup (same_id doc) es = rw c.in_ok-entry.was at c.find.ensures.entry_of_the_document in
     low-entry es c.self.inside.services.entries c.self.inside.last c.self.inside.total doc c.in_ok-entry.entry.now c.self.invariant (sym there)

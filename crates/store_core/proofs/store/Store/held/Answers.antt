@@ -8,10 +8,12 @@ pub unreachable-requires : goal.unreachable-requires
 unreachable-requires c =
     let s = c.self.inside in
     let room : Room = record { documents = spare s.documents; services = spare s.services } in
-    no-entry s.documents.entries s.last room c.args.self.now c.args.doc.now c.self.view_is (rw c.in-None.is at c.find.ensures) c.requires
+    no-entry s.documents.entries s.last room c.args.self.now c.args.doc.now c.self.view_is (rw c.in-None.is at c.find.ensures.entry_of_the_document) c.requires
 
 pub returns : goal.returns
-returns c =
-    let s = c.self.inside in
-    let room : Room = record { documents = spare s.documents; services = spare s.services } in
-    held-as s.documents.entries s.services.entries s.last s.total room c.args.self.now c.args.doc.now c.self.view_is c.self.invariant c.in-Some.entry.now c.in-Some.ensures
+returns c = record {
+  entry_that_is_held =
+      let s = c.self.inside in
+      let room : Room = record { documents = spare s.documents; services = spare s.services } in
+      held-as s.documents.entries s.services.entries s.last s.total room c.args.self.now c.args.doc.now c.self.view_is c.self.invariant c.in-Some.entry.now c.in-Some.ensures.entry_of_the_document;
+}

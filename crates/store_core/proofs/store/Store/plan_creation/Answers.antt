@@ -6,32 +6,36 @@ use Rattle.store_core.proofs.PlanAnswers.{creation-planned, creation-refused, cr
 use Rattle.store_core.proofs.store.Store.plan_creation.Goals as goal
 
 pub returns-in_err-enters : goal.returns-in_err-enters
-returns-in_err-enters c = plans-wanting c.args.self.now.content c.args.doc.now (CreateDocument c.args.root) c.from_residual.result c.from_residual.ensures.1
+returns-in_err-enters c = record { plans_the_creation = plans-wanting c.args.self.now.content c.args.doc.now (CreateDocument c.args.root) c.from_residual.result c.from_residual.ensures.1 }
 
 pub refusal_of_new-requires : goal.refusal_of_new-requires
 refusal_of_new-requires c = c.requires.0
 
 pub returns-in-Some : goal.returns-in-Some
-returns-in-Some c = creation-refused c.args.self.now.content c.args.doc.now c.args.root c.in-Some.refusal (sym (c.in-Some.ensures c.args.root c.document_len-len.ensures (c.as_slice.ensures ∙ c.in_ok-enters.ensures)))
+returns-in-Some c = record { plans_the_creation = creation-refused c.args.self.now.content c.args.doc.now c.args.root c.in-Some.refusal (sym (c.in-Some.ensures.first_reason_against_a_new_one c.args.root c.document_len-len.ensures.counts_the_document (c.as_slice.ensures.lends_the_items ∙ c.in_ok-enters.ensures.addresses_of_the_usage))) }
 
 pub returns-in_err-number : goal.returns-in_err-number
-returns-in_err-number c =
-    let p = err_from_is_err_and c.from_residual-in_err-number.result c.from_residual-in_err-number.ensures.1 in
-    rw (p.1, p.2) (creation-unnumbered c.args.self.now.content c.args.doc.now c.args.root c.in_err-number.field-0.0 (sym (c.refusal_of_new.ensures c.args.root c.document_len-len.ensures (c.as_slice.ensures ∙ c.in_ok-enters.ensures)) ∙ c.in_default.is) c.in_err-number.ensures.err)
+returns-in_err-number c = record {
+  plans_the_creation =
+      let p = err_from_is_err_and c.from_residual-in_err-number.result c.from_residual-in_err-number.ensures.1 in
+      rw (p.1, p.2) (creation-unnumbered c.args.self.now.content c.args.doc.now c.args.root c.in_err-number.field-0.0 (sym (c.refusal_of_new.ensures.first_reason_against_a_new_one c.args.root c.document_len-len.ensures.counts_the_document (c.as_slice.ensures.lends_the_items ∙ c.in_ok-enters.ensures.addresses_of_the_usage)) ∙ c.in_default.is) c.in_err-number.ensures.err);
+}
 
 pub creation-requires : goal.creation-requires
 creation-requires c =
-    let room = creation-room c.args.self.now.content c.args.doc.now c.args.root c.requires.0 (sym (c.refusal_of_new.ensures c.args.root c.document_len-len.ensures (c.as_slice.ensures ∙ c.in_ok-enters.ensures)) ∙ c.in_default.is) in
-    omega (arith, c.document_len-len.ensures, room.1)
+    let room = creation-room c.args.self.now.content c.args.doc.now c.args.root c.requires.0 (sym (c.refusal_of_new.ensures.first_reason_against_a_new_one c.args.root c.document_len-len.ensures.counts_the_document (c.as_slice.ensures.lends_the_items ∙ c.in_ok-enters.ensures.addresses_of_the_usage)) ∙ c.in_default.is) in
+    omega (arith, c.document_len-len.ensures.counts_the_document, room.1)
 
 pub returns-in_err-prepared : goal.returns-in_err-prepared
-returns-in_err-prepared c = plans-wanting c.args.self.now.content c.args.doc.now (CreateDocument c.args.root) c.from_residual-in_err-prepared.result c.from_residual-in_err-prepared.ensures.1
+returns-in_err-prepared c = record { plans_the_creation = plans-wanting c.args.self.now.content c.args.doc.now (CreateDocument c.args.root) c.from_residual-in_err-prepared.result c.from_residual-in_err-prepared.ensures.1 }
 
 pub returns : goal.returns
-returns c =
-    let content = c.args.self.now.content in
-    let free = sym (c.refusal_of_new.ensures c.args.root c.document_len-len.ensures (c.as_slice.ensures ∙ c.in_ok-enters.ensures)) ∙ c.in_default.is in
-    let room = creation-room content c.args.doc.now c.args.root c.requires.0 free in
-    subst (λ (p : Readied). Plans content c.args.doc.now (CreateDocument c.args.root) (Ok p)) (sym c.in_ok-prepared.ensures)
-    (creation-planned content c.args.doc.now c.args.root c.in_ok-number.number c.saturating_add-total.result c.in_ok-enters.enters c.requires free c.in_ok-number.ensures.ok.1 c.in_ok-number.ensures.ok.0 c.in_ok-enters.ensures
-    (omega (arith, room.0, room.1, c.total-sum.ensures, c.document_len-len.ensures, c.saturating_add-total.ensures)))
+returns c = record {
+  plans_the_creation =
+      let content = c.args.self.now.content in
+      let free = sym (c.refusal_of_new.ensures.first_reason_against_a_new_one c.args.root c.document_len-len.ensures.counts_the_document (c.as_slice.ensures.lends_the_items ∙ c.in_ok-enters.ensures.addresses_of_the_usage)) ∙ c.in_default.is in
+      let room = creation-room content c.args.doc.now c.args.root c.requires.0 free in
+      subst (λ (p : Readied). Plans content c.args.doc.now (CreateDocument c.args.root) (Ok p)) (sym c.in_ok-prepared.ensures.prepares_the_creation)
+      (creation-planned content c.args.doc.now c.args.root c.in_ok-number.number c.saturating_add-total.result c.in_ok-enters.enters c.requires free c.in_ok-number.ensures.ok.1 c.in_ok-number.ensures.ok.0 c.in_ok-enters.ensures.addresses_of_the_usage
+      (omega (arith, room.0, room.1, c.total-sum.ensures.sums_their_lengths, c.document_len-len.ensures.counts_the_document, c.saturating_add-total.ensures)));
+}

@@ -15,59 +15,65 @@ held-entry-requires c = asks-held c.args.self.now.content c.args.doc.now c.args.
 
 pub addresses_after-requires : goal.addresses_after-requires
 addresses_after-requires c =
-    let h = c.held-entry.ensures in
+    let h = c.held-entry.ensures.entry_that_is_held in
     subst (λ (t : Tree). Fits t c.args.change) h.2 (asked c.args.self.now.content c.args.doc.now c.args.change h.0 c.requires.edits h.1 c.requires.asks).0
 
 pub returns-in_err-enters : goal.returns-in_err-enters
-returns-in_err-enters c = plans-wanting c.args.self.now.content c.args.doc.now c.args.change c.from_residual.result c.from_residual.ensures.1
+returns-in_err-enters c = record { plans_the_edit = plans-wanting c.args.self.now.content c.args.doc.now c.args.change c.from_residual.result c.from_residual.ensures.1 }
 
 pub returns-in-Some : goal.returns-in-Some
-returns-in-Some c =
-    let h = c.held-entry.ensures in
-    let tree = edited c.held-entry.result.now.tree c.args.change in
-    edit-refused c.args.self.now.content c.args.doc.now c.args.change h.0 tree c.in-Some.refusal c.requires.edits h.1 (ap (λ (t : Tree). edited t c.args.change) (sym h.2))
-    (sym (c.in-Some.ensures tree c.len_after-len.ensures (c.as_slice.ensures ∙ c.in_ok-enters.ensures)))
+returns-in-Some c = record {
+  plans_the_edit =
+      let h = c.held-entry.ensures.entry_that_is_held in
+      let tree = edited c.held-entry.result.now.tree c.args.change in
+      edit-refused c.args.self.now.content c.args.doc.now c.args.change h.0 tree c.in-Some.refusal c.requires.edits h.1 (ap (λ (t : Tree). edited t c.args.change) (sym h.2))
+      (sym (c.in-Some.ensures.first_reason_against_an_edited_one tree c.len_after-len.ensures.counts_the_changed_document (c.as_slice.ensures.lends_the_items ∙ c.in_ok-enters.ensures.addresses_of_the_usage_after_it)));
+}
 
 pub len_after-len-requires-clause-fits : goal.len_after-len-requires-clause-fits
 len_after-len-requires-clause-fits c =
-    let h = c.held-entry.ensures in
+    let h = c.held-entry.ensures.entry_that_is_held in
     subst (λ (t : Tree). Fits t c.args.change) h.2 (asked c.args.self.now.content c.args.doc.now c.args.change h.0 c.requires.edits h.1 c.requires.asks).0
 
 pub refusal_of_edit-requires : goal.refusal_of_edit-requires
-refusal_of_edit-requires c = some-held (document_in held_name c.args.self.now.content.documents c.args.doc.now) c.held-entry.ensures.0 c.held-entry.ensures.1
+refusal_of_edit-requires c = some-held (document_in held_name c.args.self.now.content.documents c.args.doc.now) c.held-entry.ensures.entry_that_is_held.0 c.held-entry.ensures.entry_that_is_held.1
 
 pub returns-in_err-number : goal.returns-in_err-number
-returns-in_err-number c =
-    let h = c.held-entry.ensures in
-    let tree = edited c.held-entry.result.now.tree c.args.change in
-    let p = err_from_is_err_and c.from_residual-in_err-number.result c.from_residual-in_err-number.ensures.1 in
-    rw (p.1, p.2)
-    (edit-unnumbered c.args.self.now.content c.args.doc.now c.args.change h.0 tree c.in_err-number.field-0.0 c.requires.edits h.1 (ap (λ (t : Tree). edited t c.args.change) (sym h.2))
-    (sym (c.refusal_of_edit.ensures tree c.len_after-len.ensures (c.as_slice.ensures ∙ c.in_ok-enters.ensures)) ∙ c.in_default.is) c.in_err-number.ensures.err)
+returns-in_err-number c = record {
+  plans_the_edit =
+      let h = c.held-entry.ensures.entry_that_is_held in
+      let tree = edited c.held-entry.result.now.tree c.args.change in
+      let p = err_from_is_err_and c.from_residual-in_err-number.result c.from_residual-in_err-number.ensures.1 in
+      rw (p.1, p.2)
+      (edit-unnumbered c.args.self.now.content c.args.doc.now c.args.change h.0 tree c.in_err-number.field-0.0 c.requires.edits h.1 (ap (λ (t : Tree). edited t c.args.change) (sym h.2))
+      (sym (c.refusal_of_edit.ensures.first_reason_against_an_edited_one tree c.len_after-len.ensures.counts_the_changed_document (c.as_slice.ensures.lends_the_items ∙ c.in_ok-enters.ensures.addresses_of_the_usage_after_it)) ∙ c.in_default.is) c.in_err-number.ensures.err);
+}
 
 pub total_without-others-requires : goal.total_without-others-requires
-total_without-others-requires c = some-held (document_in held_name c.args.self.now.content.documents c.args.doc.now) c.held-entry.ensures.0 c.held-entry.ensures.1
+total_without-others-requires c = some-held (document_in held_name c.args.self.now.content.documents c.args.doc.now) c.held-entry.ensures.entry_that_is_held.0 c.held-entry.ensures.entry_that_is_held.1
 
 pub noted-requires : goal.noted-requires
 noted-requires c =
-    let h = c.held-entry.ensures in
+    let h = c.held-entry.ensures.entry_that_is_held in
     subst (λ (t : Tree). Fits t c.args.change) h.2 (asked c.args.self.now.content c.args.doc.now c.args.change h.0 c.requires.edits h.1 c.requires.asks).0
 
 pub returns-in_err-prepared : goal.returns-in_err-prepared
-returns-in_err-prepared c = plans-wanting c.args.self.now.content c.args.doc.now c.args.change c.from_residual-in_err-prepared.result c.from_residual-in_err-prepared.ensures.1
+returns-in_err-prepared c = record { plans_the_edit = plans-wanting c.args.self.now.content c.args.doc.now c.args.change c.from_residual-in_err-prepared.result c.from_residual-in_err-prepared.ensures.1 }
 
 pub returns : goal.returns
-returns c =
-    let content = c.args.self.now.content in
-    let doc = c.args.doc.now in
-    let change = c.args.change in
-    let h = c.held-entry.ensures in
-    let v = c.held-entry.result.now in
-    let tree = edited v.tree change in
-    let free = sym (c.refusal_of_edit.ensures tree c.len_after-len.ensures (c.as_slice.ensures ∙ c.in_ok-enters.ensures)) ∙ c.in_default.is in
-    let room = edit-room content doc tree free in
-    let others = c.total_without-others.result in
-    let whole = subst (λ (o : Option Held). IsSomeAnd o (λ x. others + document_len x.tree ≡ total_of content)) h.1 c.total_without-others.ensures.whole in
-    edit-planned content doc change v c.in_ok-number.number c.len_after-len.result c.saturating_add-total.result c.in_ok-enters.enters c.in_ok-prepared.prepared c.requires.asks c.requires.edits h free
-    c.in_ok-number.ensures.ok.1 c.in_ok-number.ensures.ok.0 (omega (arith, c.len_after-len.ensures, room.1)) c.in_ok-enters.ensures
-    (omega (arith, room.0, room.1, whole, ap document_len h.2, c.total_without-others.ensures.others, c.len_after-len.ensures, c.saturating_add-total.ensures)) c.in_ok-prepared.ensures
+returns c = record {
+  plans_the_edit =
+      let content = c.args.self.now.content in
+      let doc = c.args.doc.now in
+      let change = c.args.change in
+      let h = c.held-entry.ensures.entry_that_is_held in
+      let v = c.held-entry.result.now in
+      let tree = edited v.tree change in
+      let free = sym (c.refusal_of_edit.ensures.first_reason_against_an_edited_one tree c.len_after-len.ensures.counts_the_changed_document (c.as_slice.ensures.lends_the_items ∙ c.in_ok-enters.ensures.addresses_of_the_usage_after_it)) ∙ c.in_default.is in
+      let room = edit-room content doc tree free in
+      let others = c.total_without-others.result in
+      let whole = subst (λ (o : Option Held). IsSomeAnd o (λ x. others + document_len x.tree ≡ total_of content)) h.1 c.total_without-others.ensures.whole in
+      edit-planned content doc change v c.in_ok-number.number c.len_after-len.result c.saturating_add-total.result c.in_ok-enters.enters c.in_ok-prepared.prepared c.requires.asks c.requires.edits h free
+      c.in_ok-number.ensures.ok.1 c.in_ok-number.ensures.ok.0 (omega (arith, c.len_after-len.ensures.counts_the_changed_document, room.1)) c.in_ok-enters.ensures.addresses_of_the_usage_after_it
+      (omega (arith, room.0, room.1, whole, ap document_len h.2, c.total_without-others.ensures.others, c.len_after-len.ensures.counts_the_changed_document, c.saturating_add-total.ensures)) c.in_ok-prepared.ensures.notes_the_edit;
+}

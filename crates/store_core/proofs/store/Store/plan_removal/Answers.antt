@@ -14,26 +14,30 @@ pub unreachable-requires : goal.unreachable-requires
 unreachable-requires c = nothing-read (document_in held_name c.args.self.now.content.documents c.args.doc.now) (rw c.in_default.is at c.get.ensures.held) c.requires
 
 pub returns-in_err-number : goal.returns-in_err-number
-returns-in_err-number c =
-    let p = err_from_is_err_and c.from_residual.result c.from_residual.ensures.1 in
-    rw (p.1, p.2) (removal-unnumbered c.args.self.now.content c.args.doc.now c.in_err-number.field-0.0 c.in_err-number.ensures.err)
+returns-in_err-number c = record {
+  plans_the_removal =
+      let p = err_from_is_err_and c.from_residual.result c.from_residual.ensures.1 in
+      rw (p.1, p.2) (removal-unnumbered c.args.self.now.content c.args.doc.now c.in_err-number.field-0.0 c.in_err-number.ensures.err);
+}
 
 pub returns-in_err-leaves : goal.returns-in_err-leaves
-returns-in_err-leaves c = plans-wanting c.args.self.now.content c.args.doc.now RemoveDocument c.from_residual-in_err-leaves.result c.from_residual-in_err-leaves.ensures.1
+returns-in_err-leaves c = record { plans_the_removal = plans-wanting c.args.self.now.content c.args.doc.now RemoveDocument c.from_residual-in_err-leaves.result c.from_residual-in_err-leaves.ensures.1 }
 
 pub total_without-total-requires : goal.total_without-total-requires
 total_without-total-requires c = c.requires
 
 pub returns-in_err-prepared : goal.returns-in_err-prepared
-returns-in_err-prepared c = plans-wanting c.args.self.now.content c.args.doc.now RemoveDocument c.from_residual-in_err-prepared.result c.from_residual-in_err-prepared.ensures.1
+returns-in_err-prepared c = record { plans_the_removal = plans-wanting c.args.self.now.content c.args.doc.now RemoveDocument c.from_residual-in_err-prepared.result c.from_residual-in_err-prepared.ensures.1 }
 
 pub returns : goal.returns
-returns c =
-    let content = c.args.self.now.content in
-    let doc = c.args.doc.now in
-    let h = held-of (document_in held_name content.documents doc) c.in-Some.tree.now c.in-Some.tag c.in-Some.ensures.held in
-    let total = c.total_without-total.result in
-    subst (λ (p : Readied). Plans content doc RemoveDocument (Ok p)) (sym c.in_ok-prepared.ensures)
-    (removal-planned content doc h.0 c.in-Some.tag c.in_ok-number.number total c.in_ok-leaves.leaves c.requires h.1 c.in_ok-number.ensures.ok.1 c.in_ok-number.ensures.ok.0 h.3
-    (c.in_ok-leaves.ensures ∙ ap (λ (t : Tree). addresses_in doc.auid t) (sym h.2))
-    (subst (λ (o : Option Held). IsSomeAnd o (λ x. total + document_len x.tree ≡ total_of content)) h.1 c.total_without-total.ensures.whole))
+returns c = record {
+  plans_the_removal =
+      let content = c.args.self.now.content in
+      let doc = c.args.doc.now in
+      let h = held-of (document_in held_name content.documents doc) c.in-Some.tree.now c.in-Some.tag c.in-Some.ensures.held in
+      let total = c.total_without-total.result in
+      subst (λ (p : Readied). Plans content doc RemoveDocument (Ok p)) (sym c.in_ok-prepared.ensures.prepares_the_removal)
+      (removal-planned content doc h.0 c.in-Some.tag c.in_ok-number.number total c.in_ok-leaves.leaves c.requires h.1 c.in_ok-number.ensures.ok.1 c.in_ok-number.ensures.ok.0 h.3
+      (c.in_ok-leaves.ensures.addresses_of_the_usage ∙ ap (λ (t : Tree). addresses_in doc.auid t) (sym h.2))
+      (subst (λ (o : Option Held). IsSomeAnd o (λ x. total + document_len x.tree ≡ total_of content)) h.1 c.total_without-total.ensures.whole));
+}

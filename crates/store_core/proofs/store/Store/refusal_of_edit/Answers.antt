@@ -9,21 +9,23 @@ pub unreachable-requires : goal.unreachable-requires
 unreachable-requires c =
     let s = c.self.inside in
     let room : Room = record { documents = spare s.documents; services = spare s.services } in
-    no-entry s.documents.entries s.last room c.args.self.now c.args.doc.now c.self.view_is (rw c.in_default.is at c.find.ensures) c.requires
+    no-entry s.documents.entries s.last room c.args.self.now c.args.doc.now c.self.view_is (rw c.in_default.is at c.find.ensures.entry_of_the_document) c.requires
 
 pub overflow_sub-others : goal.overflow_sub-others
 overflow_sub-others c =
     let s = c.self.inside in
     let room : Room = record { documents = spare s.documents; services = spare s.services } in
-    no-longer s.documents.entries s.services.entries s.last s.total room c.args.self.now c.args.doc.now c.self.view_is c.self.invariant c.in-Some.entry.now c.in-Some.ensures
+    no-longer s.documents.entries s.services.entries s.last s.total room c.args.self.now c.args.doc.now c.self.view_is c.self.invariant c.in-Some.entry.now c.in-Some.ensures.entry_of_the_document
 
 pub refused_for-requires : goal.refused_for-requires
 refused_for-requires c = let s = c.self.inside in omega (arith, total-small s.documents.entries s.services.entries s.last s.total c.self.invariant)
 
 pub returns : goal.returns
-returns c = λ t counted own.
-    let s = c.self.inside in
-    let room : Room = record { documents = spare s.documents; services = spare s.services } in
-    c.refused_for.ensures
-    ∙ edit-answer s.documents.entries s.services.entries s.last s.total room c.args.self.now c.args.doc.now c.self.view_is c.self.invariant c.in-Some.entry.now c.in-Some.ensures t c.args.uris.now
-    c.first_taken-place.result c.args.len own c.first_taken-place.ensures counted
+returns c = record {
+  first_reason_against_an_edited_one = λ t counted own.
+      let s = c.self.inside in
+      let room : Room = record { documents = spare s.documents; services = spare s.services } in
+      c.refused_for.ensures.first_reason_against_it
+      ∙ edit-answer s.documents.entries s.services.entries s.last s.total room c.args.self.now c.args.doc.now c.self.view_is c.self.invariant c.in-Some.entry.now c.in-Some.ensures.entry_of_the_document t c.args.uris.now
+      c.first_taken-place.result c.args.len own c.first_taken-place.ensures.place_of_the_first_taken counted;
+}

@@ -9,10 +9,12 @@ pub refused_for-requires : goal.refused_for-requires
 refused_for-requires c = let s = c.self.inside in total-small s.documents.entries s.services.entries s.last s.total c.self.invariant
 
 pub returns : goal.returns
-returns c = λ t counted own.
-    let s = c.self.inside in
-    let room : Room = record { documents = spare s.documents; services = spare s.services } in
-    c.refused_for.ensures
-    ∙ ap (λ (n : ℕ). refused_for c.first_taken-place.result c.args.len (nat_le 1000 n) s.total) c.len-is_full.ensures.len
-    ∙ new-answer s.documents.entries s.services.entries s.last s.total room c.args.self.now c.args.doc.now c.self.view_is c.self.invariant t c.args.uris.now
-    c.first_taken-place.result c.args.len c.requires own c.first_taken-place.ensures counted
+returns c = record {
+  first_reason_against_a_new_one = λ t counted own.
+      let s = c.self.inside in
+      let room : Room = record { documents = spare s.documents; services = spare s.services } in
+      c.refused_for.ensures.first_reason_against_it
+      ∙ ap (λ (n : ℕ). refused_for c.first_taken-place.result c.args.len (nat_le 1000 n) s.total) c.len-is_full.ensures.len
+      ∙ new-answer s.documents.entries s.services.entries s.last s.total room c.args.self.now c.args.doc.now c.self.view_is c.self.invariant t c.args.uris.now
+      c.first_taken-place.result c.args.len c.requires own c.first_taken-place.ensures.place_of_the_first_taken counted;
+}

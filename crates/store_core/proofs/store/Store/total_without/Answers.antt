@@ -9,19 +9,19 @@ pub unreachable-requires : goal.unreachable-requires
 unreachable-requires c =
     let s = c.self.inside in
     let room : Room = record { documents = spare s.documents; services = spare s.services } in
-    no-entry s.documents.entries s.last room c.args.self.now c.args.doc.now c.self.view_is (rw c.in_default.is at c.find.ensures) c.requires
+    no-entry s.documents.entries s.last room c.args.self.now c.args.doc.now c.self.view_is (rw c.in_default.is at c.find.ensures.entry_of_the_document) c.requires
 
 pub overflow_sub-result : goal.overflow_sub-result
 overflow_sub-result c =
     let s = c.self.inside in
     let room : Room = record { documents = spare s.documents; services = spare s.services } in
-    no-longer s.documents.entries s.services.entries s.last s.total room c.args.self.now c.args.doc.now c.self.view_is c.self.invariant c.in-Some.entry.now c.in-Some.ensures
+    no-longer s.documents.entries s.services.entries s.last s.total room c.args.self.now c.args.doc.now c.self.view_is c.self.invariant c.in-Some.entry.now c.in-Some.ensures.entry_of_the_document
 
 pub returns-clause-others : goal.returns-clause-others
 returns-clause-others c =
     let s = c.self.inside in
     let room : Room = record { documents = spare s.documents; services = spare s.services } in
-    others-are s.documents.entries s.services.entries s.last s.total room c.args.self.now c.args.doc.now c.self.view_is c.self.invariant c.in-Some.entry.now c.in-Some.ensures
+    others-are s.documents.entries s.services.entries s.last s.total room c.args.self.now c.args.doc.now c.self.view_is c.self.invariant c.in-Some.entry.now c.in-Some.ensures.entry_of_the_document
 
 pub returns-clause-small : goal.returns-clause-small
 returns-clause-small c = let s = c.self.inside in omega (arith, total-small s.documents.entries s.services.entries s.last s.total c.self.invariant)
@@ -30,4 +30,4 @@ pub returns-clause-whole : goal.returns-clause-whole
 returns-clause-whole c =
     let s = c.self.inside in
     let room : Room = record { documents = spare s.documents; services = spare s.services } in
-    whole-is s.documents.entries s.services.entries s.last s.total room c.args.self.now c.args.doc.now c.self.view_is c.self.invariant c.in-Some.entry.now c.in-Some.ensures
+    whole-is s.documents.entries s.services.entries s.last s.total room c.args.self.now c.args.doc.now c.self.view_is c.self.invariant c.in-Some.entry.now c.in-Some.ensures.entry_of_the_document

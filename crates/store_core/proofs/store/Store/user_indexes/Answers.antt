@@ -15,7 +15,7 @@ returns-clause-trees c =
     let room : Room = record { documents = spare s.documents; services = spare s.services } in
     let shown : IfOk c.collect.result (λ made. made.items ≡ values_of by_user) = search rules in
     IfOk-weaker c.collect.result (λ made. made.items ≡ values_of by_user) (λ made. map (λ e. e.now) made.items ≡ index_trees c.args.self.now.content)
-    (λ made h. trees-listed s.documents.entries s.services.entries s.last s.total c.self.invariant by_user c.in_ok-trees.ensures made.items h room c.args.self.now c.self.view_is) shown
+    (λ made h. trees-listed s.documents.entries s.services.entries s.last s.total c.self.invariant by_user c.in_ok-trees.ensures.trees_that_are_listed made.items h room c.args.self.now c.self.view_is) shown
 
 pub returns-clause-low : goal.returns-clause-low
 returns-clause-low c =
@@ -23,4 +23,4 @@ returns-clause-low c =
     let by_user = c.in_ok-trees.trees.entries in
     let shown : IfOk c.collect.result (λ made. made.items ≡ values_of by_user) = search rules in
     IfOk-weaker c.collect.result (λ made. made.items ≡ values_of by_user) (λ made. All (λ e. height e.now ≤ 64) made.items)
-    (λ made h. trees-low s.documents.entries s.services.entries s.last s.total c.self.invariant by_user c.in_ok-trees.ensures made.items h) shown
+    (λ made h. trees-low s.documents.entries s.services.entries s.last s.total c.self.invariant by_user c.in_ok-trees.ensures.trees_that_are_listed made.items h) shown

@@ -12,4 +12,4 @@ returns-clause-kept c =
     let whole = ap (map (λ ds. ds.items)) c.in_ok-push.ensures.items ∙ map-append _ c.args.self.now.open.items (c.args.decls ∷ []) in
     subst (AreOf c.declare_all.new.self)
     (ap (λ (ds : List Decl). joined around ++ ds) c.deref.ensures.value ∙ sym (joined-more around c.args.decls.items) ∙ ap joined (sym whole))
-    (c.in_ok-declare_all.ensures (joined around) c.requires)
+    (c.in_ok-declare_all.ensures.made_of_all_of_them (joined around) c.requires)

@@ -10,6 +10,6 @@ loop-decls-preserved c =
     record {
       kept = c.in_ok-enter.ensures.kept;
       given = c.in_ok-enter.ensures.inside
-          ∙ ap₂ (λ (front : List (List Decl)) (ds : List Decl). front ++ ds ∷ []) c.loop-decls.invariant.given (c.in_ok-copy_decls.ensures ∙ ap (λ (x : Bor (List Decl)). x.now) c.decls-item.is)
+          ∙ ap₂ (λ (front : List (List Decl)) (ds : List Decl). front ++ ds ∷ []) c.loop-decls.invariant.given (c.in_ok-copy_decls.ensures.copies_the_declarations ∙ ap (λ (x : Bor (List Decl)). x.now) c.decls-item.is)
           ∙ sym (map_more (λ (x : Bor (List Decl)). x.now) all c.loop-decls.decls-index decls c.loop-decls-test.true);
     }

@@ -13,6 +13,6 @@ returns-clause-kept c =
     let decls = c.unwrap-decls.result in
     let popped = c.pop.ensures.items ∙ ap (λ o. c.pop.new.self.items ++ option_to_list o) c.unwrap-decls.ensures in
     let whole : lists c.args.self.now ≡ left ++ decls.items ∷ [] = ap (map (λ ds. ds.items)) popped ∙ map-append _ c.pop.new.self.items (decls ∷ []) in
-    c.forget_all.ensures (joined left)
+    c.forget_all.ensures.made_of_those_before (joined left)
     (subst (AreOf c.args.self.now.namespaces) (ap joined whole ∙ joined-more left decls.items ∙ ap (λ (ds : List Decl). joined left ++ ds) (sym c.deref.ensures.value))
     c.requires.kept)

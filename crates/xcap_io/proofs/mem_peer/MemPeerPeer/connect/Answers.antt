@@ -8,7 +8,7 @@ use Rattle.xcap_io.proofs.mem_peer.MemPeerPeer.connect.Goals as goal
 pub returns-clause-only_connects : goal.returns-clause-only_connects
 returns-clause-only_connects c =
     let new : MemoryPeer = the_view (record c.self.inside { lines = c.begin_next.new.self; until_fault = c.is_failing_call.new.until_fault; addresses = c.add.new.self }) in
-    let begins = c.if-not-begin_next.ensures in
+    let begins = c.if-not-begin_next.ensures.begins_the_next in
     subst (λ (m : MemoryPeer). Connects (peer_state m) (peer_state new) c.args.address.now) c.self.view_is
     (peer_connects (the_view c.self.inside) new c.args.address.now c.self.invariant begins.0 begins.1
-    (c.add.ensures ∙ ap (λ l. l ∷ c.self.inside.addresses.texts) c.as_bytes.ensures.value) refl)
+    (c.add.ensures.remembers_the_address ∙ ap (λ l. l ∷ c.self.inside.addresses.texts) c.as_bytes.ensures.value) refl)

@@ -10,4 +10,4 @@ pub returns-clause-only_next : goal.returns-clause-only_next
 returns-clause-only_next c =
     let new : MemoryPort = the_view (record c.self.inside { lines = c.begin_next.new.self; until_fault = c.is_failing_call.new.until_fault }) in
     subst (λ (m : MemoryPort). OnlyNext {E = Failed} (port_state m) (port_state new) (Ok c.begin_next.result)) c.self.view_is
-    (next_of Failed (the_view c.self.inside) new c.begin_next.result c.begin_next.ensures refl refl)
+    (next_of Failed (the_view c.self.inside) new c.begin_next.result c.begin_next.ensures.begins_the_next refl refl)

@@ -7,19 +7,23 @@ use Rattle.xml_tree.proofs.AroundLemmas.{declared_inside}
 use Rattle.xml_tree.proofs.around.Around.+nearest.Goals as goal
 
 pub returns-in-Some : goal.returns-in-Some
-returns-in-Some t c =
-    let outer = c.in-Within.outer.now in
-    let p = c.args.prefix.now in
-    let own = ap option_copied (sym c.in-Some.is) ∙ c.uri_of.ensures in
-    let here = ap lists_at (sym c.in-Within.is) ∙ c.self.view_is in
-    ap (λ (o : Option (List ℕ)). option_or o (declared (joined outer) p)) own ∙ sym (declared_inside outer c.in-Within.declared.now p)
-    ∙ ap (λ (s : List (List Decl)). declared (joined s) p) here
+returns-in-Some t c = record {
+  finds_what_is_declared =
+      let outer = c.in-Within.outer.now in
+      let p = c.args.prefix.now in
+      let own = ap option_copied (sym c.in-Some.is) ∙ c.uri_of.ensures.last_of_the_prefix in
+      let here = ap lists_at (sym c.in-Within.is) ∙ c.self.view_is in
+      ap (λ (o : Option (List ℕ)). option_or o (declared (joined outer) p)) own ∙ sym (declared_inside outer c.in-Within.declared.now p)
+      ∙ ap (λ (s : List (List Decl)). declared (joined s) p) here;
+}
 
 pub returns-in-None : goal.returns-in-None
-returns-in-None t c =
-    let outer = c.in-Within.outer.now in
-    let p = c.args.prefix.now in
-    let own = ap option_copied (sym c.in-None.is) ∙ c.uri_of.ensures in
-    let here = ap lists_at (sym c.in-Within.is) ∙ c.self.view_is in
-    c.nearest-in-None.ensures ∙ ap (λ (o : Option (List ℕ)). option_or o (declared (joined outer) p)) own ∙ sym (declared_inside outer c.in-Within.declared.now p)
-    ∙ ap (λ (s : List (List Decl)). declared (joined s) p) here
+returns-in-None t c = record {
+  finds_what_is_declared =
+      let outer = c.in-Within.outer.now in
+      let p = c.args.prefix.now in
+      let own = ap option_copied (sym c.in-None.is) ∙ c.uri_of.ensures.last_of_the_prefix in
+      let here = ap lists_at (sym c.in-Within.is) ∙ c.self.view_is in
+      c.nearest-in-None.ensures.finds_what_is_declared ∙ ap (λ (o : Option (List ℕ)). option_or o (declared (joined outer) p)) own ∙ sym (declared_inside outer c.in-Within.declared.now p)
+      ∙ ap (λ (s : List (List Decl)). declared (joined s) p) here;
+}

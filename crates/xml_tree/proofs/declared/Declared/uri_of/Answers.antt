@@ -12,11 +12,13 @@ look_up-requires c =
     subst (λ (ls : List (Bor Decl)). AreInOrder (seen ls)) (sym c.deref.ensures.value) (in_order (seen d.index.items) d.decls.now c.self.invariant)
 
 pub returns : goal.returns
-returns c =
-    let d = c.self.inside in
-    let p = c.args.prefix.now in
-    let some : seen d.index.items ≢ [] = λ none.
-    let empty : length d.index.items ≡ 0 = sym (length-map d.index.items (λ (x : Bor Decl). x.now)) ∙ ap length none in
-    grind (arith, nat_tests, empty, ap length c.deref.ensures.value, c.deref.ensures.len, c.if-is_empty.ensures {u = tt}) in
-    c.look_up.ensures ∙ ap (λ (ls : List (Bor Decl)). declared (seen ls) p) c.deref.ensures.value
-    ∙ declared-index (seen d.index.items) d.decls.now p c.self.invariant some ∙ ap (λ (ds : List Decl). declared ds p) c.self.view_is
+returns c = record {
+  last_of_the_prefix =
+      let d = c.self.inside in
+      let p = c.args.prefix.now in
+      let some : seen d.index.items ≢ [] = λ none.
+      let empty : length d.index.items ≡ 0 = sym (length-map d.index.items (λ (x : Bor Decl). x.now)) ∙ ap length none in
+      grind (arith, nat_tests, empty, ap length c.deref.ensures.value, c.deref.ensures.len, c.if-is_empty.ensures {u = tt}) in
+      c.look_up.ensures.finds_the_prefix ∙ ap (λ (ls : List (Bor Decl)). declared (seen ls) p) c.deref.ensures.value
+      ∙ declared-index (seen d.index.items) d.decls.now p c.self.invariant some ∙ ap (λ (ds : List Decl). declared ds p) c.self.view_is;
+}

@@ -4,4 +4,4 @@ use Rattle.xml_tree.proofs.text.Text.as_str.Goals as goal
 
 pub returns-clause-bytes : goal.returns-clause-bytes
 returns-clause-bytes c =
-    sym (encodes-chars _ c.as_str.utf8) ∙ ap (λ bs. encode_utf8_all (chars bs)) c.as_str.ensures ∙ ap encode_utf8_all c.self.view_is
+    sym (encodes-chars _ c.as_str.utf8) ∙ ap (λ bs. encode_utf8_all (chars bs)) c.as_str.ensures.lends_the_text ∙ ap encode_utf8_all c.self.view_is

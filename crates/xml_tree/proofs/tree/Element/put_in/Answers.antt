@@ -6,10 +6,10 @@ use Rattle.xml_tree.proofs.tree.Element.put_in.Goals as goal
 
 pub returns-clause-ok : goal.returns-clause-ok
 returns-clause-ok c =
-    let done = c.edit_at.ensures in let f = put_kid c.args.gap c.args.element in
+    let done = c.edit_at.ensures.edits_the_element_there in let f = put_kid c.args.gap c.args.element in
     on_ok_weaker c.edit_at.result (λ made. made_at c.args.path.now f done.here done.left c.args.self.now c.edit_at.new.self done.there (sym done.edits.leaves ∙ made ∙ ap f done.edits.shows) done.put) done.edits.met.0
 
 pub returns-clause-err : goal.returns-clause-err
 returns-clause-err c =
-    let done = c.edit_at.ensures in
+    let done = c.edit_at.ensures.edits_the_element_there in
     on_err_weaker c.edit_at.result (λ same. same_at c.args.path.now done.here done.left c.args.self.now c.edit_at.new.self done.there (sym done.edits.leaves ∙ same ∙ done.edits.shows) done.put) done.edits.met.1.0
