@@ -1,3 +1,4 @@
 pub mod Heights
+pub mod Leading
 pub mod Lengths
 pub mod Gathering

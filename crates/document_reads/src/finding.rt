@@ -1,10 +1,10 @@
 //! What an address leads to (RFC 4825, section 6; RFC 4826, sections 4.4.7 and 4.4.8).
-ghost use Rattle.std.specs.Prelude.{◌≡◌, ◌-◌, true, IfOk};
+ghost use Rattle.std.specs.Prelude.{◌≡◌, true, IfOk};
 ghost use Rattle.std.specs.Str.{bytes_eq};
-ghost use Rattle.usage_docs.specs.Services.{index_of_documents};
 ghost use Rattle.usage_docs.specs.Capabilities.{capabilities};
-ghost use Rattle.store_core.specs.Indexes.{index, index_trees};
-ghost use Rattle.machine_words.specs.Resources.{global_resource, if_held, if_within_limit, resource, there, version_of};
+ghost use Rattle.doc_names.specs.declared.doc_id.Auid.TheVariants.{RlsServices};
+ghost use Rattle.store_core.specs.Indexes.{index};
+ghost use Rattle.machine_words.specs.Resources.{LeadsTo, LeadsUnderGlobal, if_held, there, version_of};
 ghost use Rattle.document_reads.specs.Finding.{IsLow, resource_of};
 
 use crate::NoMemory;
@@ -41,8 +41,7 @@ fn held<'a>(store: &'a Store, doc: &DocId) -> Found<'a>
 
 // The index, unless it is beyond its limit. Its tag is the last number given.
 fn index_found<'a>(alloc: Global, store: &'a Store) -> Result<Found<'a>, NoMemory>
-    ensures leads_there { IfOk result (λ f. resource_of f
-        ≡ if_within_limit (index_of_documents (index_trees store.now.content)) (store.now.content.next - 1)) }
+    ensures leads_there { IfOk result (λ f. LeadsUnderGlobal store.now.content RlsServices true (resource_of f)) }
     ensures found_low { IfOk result (λ f. IsLow f) }
 {
     match index_of_services(alloc, store) {
@@ -63,7 +62,7 @@ fn caps_found<'a>(alloc: Global) -> Result<Found<'a>, NoMemory>
 
 // The computed document of a usage whose name is `index`.
 fn computed<'a>(alloc: Global, store: &'a Store, auid: Auid) -> Result<Found<'a>, NoMemory>
-    ensures leads_there { IfOk result (λ f. resource_of f ≡ global_resource store.now.content auid true) }
+    ensures leads_there { IfOk result (λ f. LeadsUnderGlobal store.now.content auid true (resource_of f)) }
     ensures found_low { IfOk result (λ f. IsLow f) }
 {
     match auid {
@@ -76,7 +75,7 @@ fn computed<'a>(alloc: Global, store: &'a Store, auid: Auid) -> Result<Found<'a>
 // A document under `global`.
 #[tactic(auto, unfolding(store_core::specs::Indexes::index))]
 fn global<'a>(alloc: Global, store: &'a Store, doc: &DocId) -> Result<Found<'a>, NoMemory>
-    ensures leads_there { IfOk result (λ f. resource_of f ≡ global_resource store.now.content doc.now.auid (bytes_eq doc.now.name index)) }
+    ensures leads_there { IfOk result (λ f. LeadsUnderGlobal store.now.content doc.now.auid (bytes_eq doc.now.name index) (resource_of f)) }
     ensures found_low { IfOk result (λ f. IsLow f) }
 {
     if !doc.name.is("index") {
@@ -90,7 +89,7 @@ fn global<'a>(alloc: Global, store: &'a Store, doc: &DocId) -> Result<Found<'a>,
 /// # Errors
 /// `NoMemory` for want of memory.
 pub fn resource<'a>(alloc: Global, store: &'a Store, doc: &DocId) -> Result<Found<'a>, NoMemory>
-    ensures leads_there { IfOk result (λ f. resource_of f ≡ resource store.now.content doc.now) }
+    ensures leads_there { IfOk result (λ f. LeadsTo store.now.content doc.now (resource_of f)) }
     ensures found_low { IfOk result (λ f. IsLow f) }
 {
     match &doc.home {

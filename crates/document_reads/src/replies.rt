@@ -1,10 +1,10 @@
 //! Replies with what was found (RFC 4825, section 8.3).
 ghost use Rattle.std.specs.Prelude.{◌≡◌};
+ghost use Rattle.request_terms.specs.Methods.{as_asked};
 ghost use Rattle.machine_words.specs.Answers.{found};
-ghost use Rattle.machine_words.specs.Reading.{as_asked};
 
 use reply_text::{Media, Reply};
-use request_terms::Method;
+use request_terms::{Method, as_asked};
 use xcap_io::Bytes;
 
 /// The reply with a text that was found, or for HEAD the head of that reply. The tag is that of the document, if the text is of one. Takes
@@ -13,8 +13,5 @@ pub fn with_text(tag: Option<u64>, media: Media, text: Bytes, method: Method, cl
     ensures sends_as_asked { result ≡ as_asked method (found tag media text closes) }
 {
     let reply = Reply::with(200, tag, Some(media), text, closes);
-    match method {
-        Method::Head => reply.head_only(),
-        Method::Get | Method::Put | Method::Delete | Method::Other => reply,
-    }
+    as_asked(method, reply)
 }

@@ -5,6 +5,7 @@ use Rattle.std.specs.List.{list_all, AllByRecursion}
 use Rattle.std.specs.Char.{is_digit}
 use Rattle.httparse.specs.Ascii.{line_feed, carriage_return, crlf_bytes}
 use Rattle.httparse.specs.Grammar.{ChunkLine, print_extension, chunk_size, is_ows, is_value_byte}
+use Rattle.http_wire.specs.Limits.{most_body_bytes, most_digits, most_line_bytes, most_trailer_bytes}
 
 -- the bytes of a chunk line in front of its line end: digits, blanks, and an extension behind `;`
 abbrev pub line_text : ChunkLine → List ℕ
@@ -19,15 +20,15 @@ abbrev pub extension_text : Option (List ℕ) → List ℕ
 extension_text None = []
 extension_text (Some text) = text
 
--- each part is of its class, an extension being tabs, spaces, visible bytes and those past ASCII; the whole line has at
--- most 256 bytes
+-- each part is of its class, an extension being tabs, spaces, visible bytes and those past ASCII; the whole line is
+-- within its limit
 pub record IsLine (l : ChunkLine) : Type 0 where
   pub some : 0 < length l.digits
-  pub few : length l.digits ≤ 16
+  pub few : length l.digits ≤ most_digits
   pub digits : IsTrue (list_all (λ b. is_digit b 16) l.digits)
   pub pad : IsTrue (list_all is_ows l.pad)
   pub extension : IsTrue (list_all is_value_byte (extension_text l.extension))
-  pub short : length (print_line l) ≤ 256
+  pub short : length (print_line l) ≤ most_line_bytes
 
 -- chunk = chunk-line bytes CR LF
 pub record Chunk : Type 0 where
@@ -70,13 +71,13 @@ pub record ChunkedBody : Type 0 where
 abbrev pub print_body : ChunkedBody → List ℕ
 print_body c = print_chunks c.chunks ++ (print_line c.last ++ (print_trailers c.trailers ++ crlf_bytes))
 
--- the last line's number is 0, and the trailer lines have at most 16,384 bytes together
+-- the last line's number is 0, and the trailer lines are within their limit together
 pub record IsBody (c : ChunkedBody) : Type 0 where
   pub chunks : AllByRecursion IsChunk c.chunks
   pub last : IsLine c.last
   pub ends : chunk_size c.last ≡ 0
   pub trailers : AllByRecursion IsTrailer c.trailers
-  pub short : length (print_trailers c.trailers) ≤ 16_384
+  pub short : length (print_trailers c.trailers) ≤ most_trailer_bytes
 
 -- the bytes of the chunks, joined
 abbrev pub joined : List Chunk → List ℕ
@@ -95,7 +96,7 @@ abbrev pub MayBecomeBody : List ℕ → Type 0
 MayBecomeBody bytes = (more : List ℕ) × (c : ChunkedBody) × ReadsBody (bytes ++ more) c []
 
 -- the bytes begin with chunks and one more chunk line, and the bytes of the chunks and the number of that line sum to more
--- than 262,144
+-- than a body may have
 pub record PassesLimit (bytes : List ℕ) : Type 0 where
   pub chunks : List Chunk
   pub line : ChunkLine
@@ -103,4 +104,4 @@ pub record PassesLimit (bytes : List ℕ) : Type 0 where
   pub are_chunks : AllByRecursion IsChunk chunks
   pub is_line : IsLine line
   pub reads : bytes ≡ print_chunks chunks ++ (print_line line ++ rest)
-  pub over : 262_144 < length (joined chunks) + chunk_size line
+  pub over : most_body_bytes < length (joined chunks) + chunk_size line

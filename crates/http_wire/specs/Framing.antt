@@ -3,18 +3,19 @@ use Rattle.std.specs.Prelude.{ℕ, ◌==◌, nat_lt, nat_le, Bool, not, ◌&&◌
 use Rattle.std.specs.Str.Parse.{digits_value}
 use Rattle.http_wire.specs.declared.framing.Framing.{Framing}
 use Rattle.http_wire.specs.declared.framing.Framing.TheVariants.{Bad, Coded, TooLong, Length, Chunked}
+use Rattle.http_wire.specs.Limits.{most_body_bytes}
 use Rattle.http_wire.specs.Fields.{same_word, values_of, is_number}
 
 -- HTTP/1.1 wants exactly one `Host`
 unfoldable pub lacks_host : ℕ → List (List ℕ × List ℕ) → Bool
 lacks_host minor fields = (minor == 1) && not (length (values_of (codes "host") fields) == 1)
 
--- by the values of `Content-Length`: a number of at most 262,144, or none for no body
+-- by the values of `Content-Length`: a number within the limit, or none for no body
 unfoldable pub length_by : List (List ℕ) → Framing
 length_by [] = Length 0
 length_by (value ∷ []) =
     if not (is_number value) then Bad
-    else if nat_le (digits_value 10 value) 262_144 then Length (digits_value 10 value) else TooLong
+    else if nat_le (digits_value 10 value) most_body_bytes then Length (digits_value 10 value) else TooLong
 length_by (value ∷ other ∷ more) = Bad
 
 -- by the values of `Transfer-Encoding` and then those of `Content-Length`: the one coding is `chunked`, which HTTP/1.0

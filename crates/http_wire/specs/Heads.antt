@@ -2,12 +2,13 @@
 -- and within this server's limits.
 use Rattle.std.specs.Prelude.{ℕ, ◌≤◌, List, ◌++◌, length}
 use Rattle.httparse.specs.Grammar.{RequestHead, ReadsRequest, print_request}
+use Rattle.http_wire.specs.Limits.{most_field_lines, most_head_bytes}
 
--- the bytes are a head of at most 16,384 bytes and 64 field lines, and then rest
+-- the bytes are a head within the limits, and then rest
 pub record BeginsWithHead (bytes : List ℕ) (head : RequestHead) (rest : List ℕ) : Type 0 where
   pub reads : ReadsRequest bytes head rest
-  pub short : length (print_request head) ≤ 16_384
-  pub few : length head.fields ≤ 64
+  pub short : length (print_request head) ≤ most_head_bytes
+  pub few : length head.fields ≤ most_field_lines
 
 -- no prefix of the bytes is such a head
 abbrev pub HasNoHead : List ℕ → Type 0

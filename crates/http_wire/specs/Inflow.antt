@@ -14,6 +14,7 @@ use Rattle.http_wire.specs.declared.framing.Framing.{Framing}
 use Rattle.http_wire.specs.declared.framing.Framing.TheVariants.{Bad as BadFields, Coded, TooLong as LongBody, Length, Chunked}
 use Rattle.http_wire.specs.declared.decoding.Decoded.{Decoded}
 use Rattle.http_wire.specs.declared.decoding.Decoded.TheVariants.{Whole, TooLong, Bad, Cut}
+use Rattle.http_wire.specs.Limits.{most_body_bytes, most_head_bytes, most_held_bytes}
 use Rattle.http_wire.specs.Heads.{BeginsWithHead, HasNoHead, NeverHasHead}
 use Rattle.http_wire.specs.Framing.{framing}
 use Rattle.http_wire.specs.Decoding.{Decoding, start, is_settled, ReadsOn}
@@ -44,7 +45,7 @@ pub record IsHeadAt (bytes : List ℕ) (headers : List HeaderSpan) (spans : Requ
 -- what the answer on the front of some bytes says
 abbrev pub IsFront : List ℕ → List HeaderSpan → Front → Type 0
 IsFront bytes headers (Head spans) = (head : RequestHead) × IsHeadAt bytes headers spans head
-IsFront bytes headers Open = HasNoHead bytes × (length bytes < 16_384)
+IsFront bytes headers Open = HasNoHead bytes × (length bytes < most_head_bytes)
 IsFront bytes headers Hopeless = NeverHasHead bytes × (0 < length bytes)
 
 -- a head stands at the front, or none however the bytes go on, or none as they have ended
@@ -69,7 +70,7 @@ abbrev pub IsWithinLimit : Framing → Type 0
 IsWithinLimit BadFields = Unit {0}
 IsWithinLimit Coded = Unit {0}
 IsWithinLimit LongBody = Unit {0}
-IsWithinLimit (Length len) = len ≤ 262_144
+IsWithinLimit (Length len) = len ≤ most_body_bytes
 IsWithinLimit Chunked = Unit {0}
 
 -- the bytes begin with a whole body within the limit, and then the rest
@@ -77,7 +78,7 @@ pub record HasBody (raw body rest : List ℕ) : Type 0 where
   pub whole : ChunkedBody
   pub reads : ReadsBody raw whole rest
   pub gives : joined whole.chunks ≡ body
-  pub short : length body ≤ 262_144
+  pub short : length body ≤ most_body_bytes
 
 -- no body lies at the front of the bytes, and the limit isn't passed
 abbrev pub HasNoBodyYet : List ℕ → Type 0
@@ -112,4 +113,4 @@ pub record DecodesSoFar (head : ℕ) (held : List ℕ) (source : Inward) (decode
   pub reads : ReadsOn start raw decoder
   pub split : drop head held ++ read ≡ raw ++ drop (head + used) held'
   pub all : is_settled decoder.stage ≡ false → head + used ≡ length held'
-  pub room : length held' ≤ 278_528
+  pub room : length held' ≤ most_held_bytes

@@ -1,6 +1,6 @@
 -- The items into which the bytes of a connection are cut (RFC 9112, sections 2.2, 6 and 9.3): requests, and what stands
 -- in the place of one. Here the whole list of bytes is at hand, and nothing depends on the pieces that it comes in.
-use Rattle.std.specs.Prelude.{◌≡◌, ℕ, ◌+◌, ◌<◌, ◌≤◌, ◌⊎◌, ◌==◌, Bool, true, ◌||◌, ⊤, List, [], ◌∷◌, ◌++◌, length, map}
+use Rattle.std.specs.Prelude.{◌≡◌, ℕ, ◌+◌, ◌-◌, ◌<◌, ◌≤◌, ◌⊎◌, ◌==◌, Bool, true, ◌||◌, ⊤, List, [], ◌∷◌, ◌++◌, length, map}
 use Rattle.std.specs.Bool.{MatchBool}
 use Rattle.httparse.specs.Grammar.{RequestHead}
 use Rattle.httparse.specs.Spans.{name_and_value}
@@ -8,6 +8,7 @@ use Rattle.http_wire.specs.declared.framing.Framing.{Framing}
 use Rattle.http_wire.specs.declared.framing.Framing.TheVariants.{Bad, Coded, TooLong, Length, Chunked}
 use Rattle.http_wire.specs.declared.request.Field.{Field}
 use Rattle.http_wire.specs.declared.request.Request.{Request}
+use Rattle.http_wire.specs.Limits.{most_body_bytes, most_requests}
 use Rattle.http_wire.specs.Heads.{BeginsWithHead, HasNoHead}
 use Rattle.http_wire.specs.Fields.{asks_to_close}
 use Rattle.http_wire.specs.Framing.{framing}
@@ -22,9 +23,9 @@ pub data Item : Type 0 where
 abbrev pub field_of : List ℕ × List ℕ → Field
 field_of f = record { name = f.0; value = f.1 }
 
--- the reply to a request ends the connection: it is the 1,000th, behind 999 others, or of HTTP/1.0, or it asks for that
+-- the reply to a request ends the connection: it is the last that a connection may have, or of HTTP/1.0, or it asks for that
 abbrev pub ends_after : ℕ → RequestHead → Bool
-ends_after before head = (before == 999) || ((head.minor == 0) || asks_to_close (map name_and_value head.fields))
+ends_after before head = (before == most_requests - 1) || ((head.minor == 0) || asks_to_close (map name_and_value head.fields))
 
 -- the request of that head and body, behind so many requests of the connection
 abbrev pub request_of : ℕ → RequestHead → List ℕ → Request
@@ -59,14 +60,14 @@ pub record AsksWithLength (before : ℕ) (bytes : List ℕ) (request : Request) 
   pub opens : Opens bytes head (Length (length body)) (body ++ rest)
   pub is : request ≡ request_of before head body
 
--- the bytes begin with the request, whose body is chunked and has at most 262,144 bytes, and then rest
+-- the bytes begin with the request, whose body is chunked and within the limit, and then rest
 pub record AsksInChunks (before : ℕ) (bytes : List ℕ) (request : Request) (rest : List ℕ) : Type 0 where
   pub head : RequestHead
   pub behind : List ℕ
   pub body : ChunkedBody
   pub opens : Opens bytes head Chunked behind
   pub reads : ReadsBody behind body rest
-  pub short : length (joined body.chunks) ≤ 262_144
+  pub short : length (joined body.chunks) ≤ most_body_bytes
   pub is : request ≡ request_of before head (joined body.chunks)
 
 -- The bytes begin with a whole request, and then rest.

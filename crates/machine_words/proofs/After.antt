@@ -71,7 +71,7 @@ others_more id (d ∷ ds) new own = by (same_id id d.id) refl (others_more id ds
 
 -- ---- after a change
 
-by_act : (c : Content) (id : DocId) (change : Change) (act : Act) → act_of change ≡ act → content_after_act c id change act ≡ content_after c id change
+pub by_act : (c : Content) (id : DocId) (change : Change) (act : Act) → act_of change ≡ act → content_after_act c id change act ≡ content_after c id change
 by_act c id change act is = ap (λ (a : Act). content_after_act c id change a) (sym is)
 
 pub edited_there : (c : Content) (id : DocId) (change : Change) (h : Held) → act_of change ≡ Edits → document_in held_name c.documents id ≡ Some h → document_in held_name (content_after c id change).documents id ≡ Some (held_after c.next change h)

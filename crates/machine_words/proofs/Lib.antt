@@ -1,5 +1,6 @@
 pub mod Asked
 pub mod Cases
+pub mod Leading
 pub mod OneAnswer
 pub mod Steps
 pub mod Ways
@@ -9,3 +10,4 @@ pub mod After
 pub mod Twice
 pub mod Effects
 pub mod Reasons
+pub mod Addresses

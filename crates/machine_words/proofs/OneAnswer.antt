@@ -42,18 +42,21 @@ use Rattle.http_wire.specs.declared.request.Request.{Request}
 use Rattle.request_terms.specs.Conditions.{IsStop}
 use Rattle.request_terms.proofs.ReadConditions.{one_stop, some_stop}
 use Rattle.request_terms.specs.MediaTypes.{document_media, has_type}
-use Rattle.request_terms.specs.Methods.{method_of, is_reading}
+use Rattle.request_terms.specs.Methods.{as_asked, method_of, is_reading}
 use Rattle.request_terms.specs.Rights.{is_allowed}
 use Rattle.request_terms.specs.declared.method.Method.{Method}
 use Rattle.request_terms.specs.declared.method.Method.TheVariants.{Get, Head, Put, Delete, Other}
 use Rattle.node_texts.specs.Nodes.{encoded, found_text, node_media}
 use Rattle.store_core.specs.Held.{Content}
+use Rattle.store_core.specs.Since.{since}
 use Rattle.machine_words.specs.Answers.{Answer, Behind, BehindConditions, conflict, found, not_allowed, unchanged}
 use Rattle.machine_words.specs.Requests.{ByMethod, ByTarget, ByUser, Deletes, IsAnswer, IsAnswered, Puts, auid_of, fault_status, home_of, is_bindings, is_read_only, Reads, takes}
-use Rattle.machine_words.specs.Reading.{SendsDocument, SendsFound, SendsNode, as_asked}
-use Rattle.machine_words.specs.Resources.{Resource, absent, beyond_limit, there, resource, version_of}
+use Rattle.machine_words.specs.Feeds.{story_answer}
+use Rattle.machine_words.specs.Reading.{SendsDocument, SendsFound, SendsNode}
+use Rattle.machine_words.specs.Resources.{LeadsTo, Resource, absent, beyond_limit, there, version_of}
 use Rattle.machine_words.specs.Fragments.{CutsNode, DeletesNodeIn, PutsAt, PutsElement, PutsElementText, PutsFragment, PutsFrom, PutsNodeIn, PutsNodeOf, PutsValue, PutsValueText, cut_reply, is_there, levels_for, plan_answer, put_planned, scope_for, value_conflict}
 use Rattle.machine_words.specs.Writing.{DeletesDocumentIn, IfStored, PutsBody, PutsDocument, PutsSpelled, PutsText, by_judgement, change_answer, deleted_reply, puts_deeper, put_answer, tag_of, text_conflict}
+use Rattle.machine_words.proofs.Leading.{leads, only_leads, resource}
 
 -- there is an answer of this kind, and each one of it is that
 record IsOne (Is : Answer → Type 0) : Type 0 where
@@ -105,10 +108,14 @@ module _ (method : Method) (request : Request) where
   one_node_sent (there t tag) selector = one_found (encoded (found_text t selector)) tag (node_media selector.end)
 
   one_read : (root : List ℕ) (c : Content) (target : Target) → IsOne (λ a. Reads root c target method request a)
-  one_read root c (Document id) = one_document_sent (resource c id) (document_media id.auid)
-  one_read root c (Node id selector) = one_node_sent (resource c id) selector
+  one_read root c (Document id) =
+      let r = resource c id in
+      one_by (LeadsTo c id) (λ r a. SendsDocument r (document_media id.auid) method request a) r (leads c id) (only_leads c id) (one_document_sent r (document_media id.auid))
+  one_read root c (Node id selector) =
+      let r = resource c id in
+      one_by (LeadsTo c id) (λ r a. SendsNode r selector method request a) r (leads c id) (only_leads c id) (one_node_sent r selector)
   one_read root c (Deep auid home) = one_equal (unchanged (plain 404 request.closes))
-  one_read root c (Feed mode tag id) = one_equal (unchanged (plain 501 request.closes))
+  one_read root c (Feed mode tag id) = one_equal (story_answer root mode tag id (since c id tag) method request)
   one_read root c (ElementFeed tag id selector raw) = one_equal (unchanged (plain 501 request.closes))
   one_read root c (Flat id service) = one_equal (unchanged (plain 501 request.closes))
 

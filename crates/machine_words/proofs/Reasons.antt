@@ -13,6 +13,7 @@ use Rattle.usage_docs.specs.Validity as validity
 use Rattle.usage_docs.specs.declared.judging.Fault.{Fault}
 use Rattle.usage_docs.specs.declared.judging.Fault.TheVariants.{Invalid, Unformed, Repeated}
 use Rattle.usage_docs.specs.declared.keys.Clash.{Clash}
+use Rattle.doc_names.specs.Ids.{id_text}
 use Rattle.doc_names.specs.Usages.{usage_of}
 use Rattle.doc_names.specs.declared.usages.Usage.{Usage}
 use Rattle.doc_names.specs.declared.doc_id.DocId.{DocId}
@@ -23,6 +24,7 @@ use Rattle.node_select.specs.declared.selector.Step.{Step}
 use Rattle.xcap_uri.specs.Ancestors.{ancestor_uri, home_uri}
 use Rattle.xcap_uri.specs.declared.fault.UriFault.{UriFault}
 use Rattle.xcap_uri.specs.declared.fault.UriFault.TheVariants.{OutsideRoot, UnknownAuid, BadShape, BadEscape, BadQuery, UnboundPrefix, BadSelector}
+use Rattle.xcap_uri.specs.declared.target.Mode.{Mode}
 use Rattle.xcap_uri.specs.declared.target.Target.{Target}
 use Rattle.xcap_uri.specs.declared.target.Target.TheVariants.{Document, Node, Deep, Feed, ElementFeed, Flat}
 use Rattle.edit_ops.specs.Changes.{edited}
@@ -39,14 +41,17 @@ use Rattle.plan_words.specs.declared.spot.NoParent.{NoParent}
 use Rattle.plan_words.specs.declared.spot.Spot.{Spot}
 use Rattle.plan_words.specs.declared.spot.Spot.TheVariants.{Over, Under, Beside, Value}
 use Rattle.notes.specs.Notes.{Note}
+use Rattle.patch_words.specs.Notices.{gone_notice}
+use Rattle.patch_text.specs.Modes.{notice_of}
 use Rattle.reply_text.specs.Heads.{Sent, plain}
 use Rattle.reply_text.specs.declared.media_types.Media.{Media}
+use Rattle.reply_text.specs.declared.media_types.Media.TheVariants as medias
 use Rattle.conflict_docs.specs.declared.conflicts.ErrorBody.{ErrorBody}
 use Rattle.conflict_docs.specs.declared.conflicts.ErrorBody.TheVariants as conflicts
 use Rattle.http_wire.specs.declared.request.Request.{Request}
 use Rattle.request_terms.specs.Conditions.{stopped_by}
 use Rattle.request_terms.specs.MediaTypes.{document_media, has_type}
-use Rattle.request_terms.specs.Methods.{method_of, is_reading}
+use Rattle.request_terms.specs.Methods.{as_asked, method_of, is_reading}
 use Rattle.request_terms.specs.Rights.{is_allowed}
 use Rattle.request_terms.specs.declared.conditions.Outcome.{Outcome}
 use Rattle.request_terms.specs.declared.conditions.Outcome.TheVariants.{Unreadable, Go, NotModified, Failed}
@@ -56,14 +61,16 @@ use Rattle.node_texts.specs.Nodes.{encoded, found_text, node_media}
 use Rattle.store_core.specs.Changing.{Act, Makes, Edits, Removes, act_of, against, against_number, against_tree, answered, changing, content_after, document_in, held_name, note_for, only_if, or_else, other_addresses, other_lengths, taken}
 use Rattle.store_core.specs.Held.{Content, Held}
 use Rattle.store_core.specs.Keeping.{addresses_in}
+use Rattle.store_core.specs.Since.{Story, Gone, Unknown, Told, since}
 use Rattle.store_core.specs.declared.refusal.StoreRefusal.{StoreRefusal}
 use Rattle.store_core.specs.declared.refusal.StoreRefusal.TheVariants as refusals
 use Rattle.usage_docs.specs.Services.{document_len}
 use Rattle.machine_words.specs.Answers.{Answer, Behind, BehindConditions, conflict, found, not_allowed, unchanged}
 use Rattle.machine_words.specs.Fragments.{CutsNode, DeletesNodeIn, PutsAt, PutsElementText, PutsFragment, PutsFrom, PutsNodeIn, PutsValueText, cut_reply, is_there, plan_answer, value_conflict}
-use Rattle.machine_words.specs.Reading.{SendsDocument, SendsFound, SendsNode, as_asked}
+use Rattle.machine_words.specs.Feeds.{sends_notice, story_answer}
+use Rattle.machine_words.specs.Reading.{SendsDocument, SendsFound, SendsNode}
 use Rattle.machine_words.specs.Requests.{ByMethod, ByTarget, ByUser, Deletes, IsAnswer, IsAnswered, Puts, Reads, auid_of, fault_status, home_of, is_read_only, takes}
-use Rattle.machine_words.specs.Resources.{Resource, absent, beyond_limit, there, resource, version_of}
+use Rattle.machine_words.specs.Resources.{Resource, absent, beyond_limit, there, version_of}
 use Rattle.machine_words.specs.Writing.{DeletesDocumentIn, IfStored, PutsBody, PutsDocument, PutsSpelled, PutsText, by_judgement, change_answer, deleted_reply, fault_conflict, put_answer, put_change, put_reply, store_answer, tag_of, text_conflict}
 use Rattle.machine_words.proofs.Cases.{either}
 
@@ -271,11 +278,21 @@ module _ (method : Method) (request : Request) (a : Answer) where
   node_so beyond_limit selector is = only request a 507 refl is
   node_so (there t tag) selector is = found_so (encoded (found_text t selector)) tag (node_media selector.end) is
 
+  notice_so : (notice : Tree) → a ≡ sends_notice notice method request → Fine a
+  notice_so notice is =
+      let sent = found None medias.Diff (encode_utf8_all (document_print notice)) request.closes in
+      fine request a (as_asked method sent) (asked_so method sent refl) is
+
+  story_so : (root : List ℕ) (mode : Mode) (tag : ℕ) (id : DocId) (story : Story) → a ≡ story_answer root mode tag id story method request → Fine a
+  story_so root mode tag id Gone is = notice_so (gone_notice root (id_text id) tag) is
+  story_so root mode tag id Unknown is = only request a 410 refl is
+  story_so root mode tag id (Told ns) is = notice_so (notice_of mode root (id_text id) tag ns) is
+
   read_so : (root : List ℕ) (c : Content) (target : Target) → Reads root c target method request a → Fine a
-  read_so root c (Document id) is = document_so (resource c id) (document_media id.auid) is
-  read_so root c (Node id selector) is = node_so (resource c id) selector is
+  read_so root c (Document id) is = document_so is.0 (document_media id.auid) is.2
+  read_so root c (Node id selector) is = node_so is.0 selector is.2
   read_so root c (Deep auid home) is = only request a 404 refl is
-  read_so root c (Feed mode tag id) is = only request a 501 refl is
+  read_so root c (Feed mode tag id) is = story_so root mode tag id (since c id tag) is
   read_so root c (ElementFeed tag id selector raw) is = only request a 501 refl is
   read_so root c (Flat id service) is = only request a 501 refl is
 

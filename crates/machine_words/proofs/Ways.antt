@@ -12,7 +12,7 @@ use Rattle.tree_text.proofs.ProperBodies.{body_good}
 use Rattle.tree_text.proofs.ReadProper.{answer_proper}
 use Rattle.usage_docs.specs.Judging.{Judged}
 use Rattle.usage_docs.specs.declared.judging.Fault.{Fault}
-use Rattle.doc_names.specs.Ids.{IsReadable}
+use Rattle.doc_names.specs.Ids.{IsReadable, id_text}
 use Rattle.doc_names.specs.Usages.{usage_of}
 use Rattle.doc_names.specs.declared.usages.Usage.{Usage}
 use Rattle.doc_names.specs.declared.doc_id.DocId.{DocId}
@@ -23,6 +23,7 @@ use Rattle.xcap_uri.specs.Ancestors.{ancestor_uri, home_uri}
 use Rattle.xcap_uri.specs.Targets.{IsReadableTarget, TargetAnswer}
 use Rattle.xcap_uri.specs.declared.fault.UriFault.{UriFault}
 use Rattle.xcap_uri.specs.declared.fault.UriFault.TheVariants.{OutsideRoot, UnknownAuid, BadShape, BadEscape, BadQuery, UnboundPrefix, BadSelector}
+use Rattle.xcap_uri.specs.declared.target.Mode.{Mode}
 use Rattle.xcap_uri.specs.declared.target.Target.{Target}
 use Rattle.xcap_uri.specs.declared.target.Target.TheVariants.{Document, Node, Deep, Feed, ElementFeed, Flat}
 use Rattle.xcap_uri.proofs.TargetAnswers.{readable_target}
@@ -40,14 +41,17 @@ use Rattle.plan_words.specs.declared.spot.Spot.TheVariants.{Over, Under, Beside,
 use Rattle.plan_words.proofs.StaysProper.{delete_leaves, put_leaves, written_leaves}
 use Rattle.plan_words.proofs.Twice.{deleted_is, put_is, written_change, written_is}
 use Rattle.notes.specs.Notes.{Note}
+use Rattle.patch_words.specs.Notices.{gone_notice}
+use Rattle.patch_text.specs.Modes.{notice_of}
 use Rattle.reply_text.specs.Heads.{Sent, plain}
 use Rattle.reply_text.specs.declared.media_types.Media.{Media}
+use Rattle.reply_text.specs.declared.media_types.Media.TheVariants as medias
 use Rattle.conflict_docs.specs.declared.conflicts.ErrorBody.{ErrorBody}
 use Rattle.conflict_docs.specs.declared.conflicts.ErrorBody.TheVariants as conflicts
 use Rattle.http_wire.specs.declared.request.Request.{Request}
 use Rattle.request_terms.specs.Conditions.{stopped_by}
 use Rattle.request_terms.specs.MediaTypes.{document_media, has_type}
-use Rattle.request_terms.specs.Methods.{method_of, is_reading}
+use Rattle.request_terms.specs.Methods.{as_asked, method_of, is_reading}
 use Rattle.request_terms.specs.Rights.{is_allowed}
 use Rattle.request_terms.specs.declared.conditions.Outcome.{Outcome}
 use Rattle.request_terms.specs.declared.conditions.Outcome.TheVariants.{Unreadable, Go, NotModified, Failed}
@@ -58,13 +62,15 @@ use Rattle.store_core.specs.Asking.{Asks, MayBeFor}
 use Rattle.store_core.specs.Changing.{changing}
 use Rattle.store_core.specs.Held.{Content}
 use Rattle.store_core.specs.Keeping.{IsUsers}
+use Rattle.store_core.specs.Since.{Story, Gone, Unknown, Told, since}
 use Rattle.store_core.specs.declared.refusal.StoreRefusal.{StoreRefusal}
 use Rattle.store_core.specs.declared.refusal.StoreRefusal.TheVariants as refusals
 use Rattle.machine_words.specs.Answers.{Answer, Behind, BehindConditions, conflict, found, not_allowed, unchanged}
 use Rattle.machine_words.specs.Laws.{tells_change}
-use Rattle.machine_words.specs.Reading.{SendsDocument, SendsFound, SendsNode, as_asked}
+use Rattle.machine_words.specs.Feeds.{sends_notice, story_answer}
+use Rattle.machine_words.specs.Reading.{SendsDocument, SendsFound, SendsNode}
 use Rattle.machine_words.specs.Requests.{ByMethod, ByTarget, ByUser, Deletes, IsAnswer, IsAnswered, IsWritableTarget, Puts, auid_of, fault_status, home_of, is_read_only, Reads, takes}
-use Rattle.machine_words.specs.Resources.{Resource, absent, beyond_limit, there, resource, version_of}
+use Rattle.machine_words.specs.Resources.{Resource, absent, beyond_limit, there, version_of}
 use Rattle.machine_words.specs.Fragments.{CutsNode, DeletesNodeIn, PutsAt, PutsElementText, PutsFragment, PutsFrom, PutsNodeIn, PutsValueText, cut_reply, is_there, levels_for, plan_answer, plan_refused, put_planned, scope_for}
 use Rattle.machine_words.specs.Writing.{DeletesDocumentIn, IfStored, PutsBody, PutsDocument, PutsSpelled, PutsText, by_judgement, change_answer, deleted_reply, fault_conflict, put_answer, put_change, put_reply, refused, store_answer, tag_of, text_conflict}
 use Rattle.machine_words.proofs.Asked.{AllSound, asks_to_delete, asks_to_edit, asks_to_put, sound_at, users_write}
@@ -170,11 +176,21 @@ module _ (method : Method) (request : Request) (c : Content) (a : Answer) (quiet
   node_way beyond_limit selector is = only method c request a 507 refl refl is
   node_way (there t tag) selector is = found_way (encoded (found_text t selector)) tag (node_media selector.end) is
 
+  notice_way : (notice : Tree) → a ≡ sends_notice notice method request → Way method request.closes c a
+  notice_way notice is =
+      let sent = found None medias.Diff (encode_utf8_all (document_print notice)) request.closes in
+      stays (as_asked method sent) (quiet (as_asked method sent).status) (asked_closes method sent) is
+
+  story_way : (root : List ℕ) (mode : Mode) (tag : ℕ) (id : DocId) (story : Story) → a ≡ story_answer root mode tag id story method request → Way method request.closes c a
+  story_way root mode tag id Gone is = notice_way (gone_notice root (id_text id) tag) is
+  story_way root mode tag id Unknown is = only method c request a 410 refl refl is
+  story_way root mode tag id (Told ns) is = notice_way (notice_of mode root (id_text id) tag ns) is
+
   reads_way : (root : List ℕ) (target : Target) → Reads root c target method request a → Way method request.closes c a
-  reads_way root (Document id) is = document_way (resource c id) (document_media id.auid) is
-  reads_way root (Node id selector) is = node_way (resource c id) selector is
+  reads_way root (Document id) is = document_way is.0 (document_media id.auid) is.2
+  reads_way root (Node id selector) is = node_way is.0 selector is.2
   reads_way root (Deep auid home) is = only method c request a 404 refl refl is
-  reads_way root (Feed mode tag id) is = only method c request a 501 refl refl is
+  reads_way root (Feed mode tag id) is = story_way root mode tag id (since c id tag) is
   reads_way root (ElementFeed tag id selector raw) is = only method c request a 501 refl refl is
   reads_way root (Flat id service) is = only method c request a 501 refl refl is
 

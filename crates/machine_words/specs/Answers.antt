@@ -49,7 +49,3 @@ tagged status tag closes = sent (parts status (Some tag) None None 0 closes) []
 -- a text of this media type, with a tag where it is one of a document
 abbrev pub found : Option ℕ → Media → List ℕ → Bool → Sent
 found tag m body closes = sent (parts 200 tag None (Some m) (length body) closes) body
-
--- the same without its body, for HEAD (RFC 9110, section 9.3.2)
-abbrev pub head_only : Sent → Sent
-head_only r = record r { body = [] }

@@ -1,6 +1,6 @@
 -- What accepted requests leave where documents are held: those that make a change, which is told as an edit. RFC 4825, sections 8.2.3 and 8.2.4
 -- (a GET of the same address gives what was put) and 8.4 (and nothing once it was deleted); RFC 9110, section 9.2.2 (PUT can be repeated without
--- harm).
+-- harm); RFC 4826, sections 3.2 and 4.2 (keys, by which addresses last).
 use Rattle.std.specs.Prelude.{◌≡◌, ℕ, nat_le, codes, List, [], map, Option, None, Some, IfSome, Ok}
 use Rattle.std.specs.Bool.{MatchBool}
 use Rattle.xml_tree.specs.Tree.{Tree, at}
@@ -12,7 +12,12 @@ use Rattle.node_select.specs.declared.selector.Selector.{Selector}
 use Rattle.plan_words.specs.Attributes.{FindsValue}
 use Rattle.plan_words.specs.Spots.{IsSpotOf}
 use Rattle.plan_words.specs.declared.spot.Spot.{Spot}
+use Rattle.doc_names.specs.Usages.{usage_of}
 use Rattle.doc_names.specs.declared.doc_id.DocId.{DocId}
+use Rattle.doc_names.specs.declared.usages.Usage.{Usage}
+use Rattle.edit_ops.specs.Changes.{edited}
+use Rattle.edit_ops.specs.declared.change.Change.{Change}
+use Rattle.key_laws.specs.KeyWrites.{KeepsKeyAddresses}
 use Rattle.xcap_uri.specs.Targets.{TargetAnswer}
 use Rattle.xcap_uri.specs.declared.target.Target.{Target}
 use Rattle.xcap_uri.specs.declared.target.Target.TheVariants.{Document, Node, Deep, Feed, ElementFeed, Flat}
@@ -132,3 +137,16 @@ abbrev pub SecondPutLeavesTrees : List ℕ → Request → Option Edit → Conte
 SecondPutLeavesTrees root request edit next =
     IfSome edit (λ e. method_of request.method ≡ Put → IsUnconditional request
     → (again : Answer) → IsAnswer root next request again → LeavesTrees next request again)
+
+-- ---- addresses by keys
+
+-- a change from what was held to what is held next: where the document was held, is of this usage and had this tree, and is held next, it then has
+-- the edited tree, and the change leaves what the document's key addresses select
+abbrev pub KeepsAddressesOf : Content → DocId → Change → Content → Type 0
+KeepsAddressesOf c id change next =
+    (usage : Usage) (before after : Tree) (old new : ℕ) → usage_of id.auid ≡ Some usage → version_of c id ≡ Some (before, old) → version_of next id ≡ Some (after, new)
+    → (after ≡ edited before change) × KeepsKeyAddresses usage before change
+
+-- where a change was made
+abbrev pub KeyAddressesStay : Content → Option Edit → Content → Type 0
+KeyAddressesStay c edit next = IfSome edit (λ e. KeepsAddressesOf c e.doc e.note.change next)

@@ -4,24 +4,16 @@ use Rattle.std.specs.Prelude.{◌≡◌, ℕ, true, List, Option, None, Some, en
 use Rattle.tree_text.specs.Printing.{document_print}
 use Rattle.node_select.specs.declared.selector.Selector.{Selector}
 use Rattle.doc_names.specs.declared.doc_id.DocId.{DocId}
-use Rattle.reply_text.specs.Heads.{Sent, plain}
+use Rattle.reply_text.specs.Heads.{plain}
 use Rattle.reply_text.specs.declared.media_types.Media.{Media}
 use Rattle.http_wire.specs.declared.request.Request.{Request}
 use Rattle.request_terms.specs.MediaTypes.{document_media}
+use Rattle.request_terms.specs.Methods.{as_asked}
 use Rattle.request_terms.specs.declared.method.Method.{Method}
-use Rattle.request_terms.specs.declared.method.Method.TheVariants.{Get, Head, Put, Delete, Other}
 use Rattle.node_texts.specs.Nodes.{encoded, found_text, node_media}
 use Rattle.store_core.specs.Held.{Content}
-use Rattle.machine_words.specs.Answers.{Answer, BehindConditions, found, head_only, unchanged}
-use Rattle.machine_words.specs.Resources.{Resource, absent, beyond_limit, there, resource}
-
--- GET's reply, or its head
-abbrev pub as_asked : Method → Sent → Sent
-as_asked Get reply = reply
-as_asked Head reply = head_only reply
-as_asked Put reply = reply
-as_asked Delete reply = reply
-as_asked Other reply = reply
+use Rattle.machine_words.specs.Answers.{Answer, BehindConditions, found, unchanged}
+use Rattle.machine_words.specs.Resources.{LeadsTo, Resource, absent, beyond_limit, there}
 
 -- what is found in a document with this tag is sent, unless a condition stops the request
 abbrev pub SendsFound : Option (List ℕ) → ℕ → Media → Method → Request → Answer → Type 0
@@ -43,7 +35,7 @@ SendsNode (there t tag) selector method request a = SendsFound (encoded (found_t
 
 -- GET or HEAD of a document, and of a node of one
 abbrev pub ReadsDocument : Content → DocId → Method → Request → Answer → Type 0
-ReadsDocument c id method request a = SendsDocument (resource c id) (document_media id.auid) method request a
+ReadsDocument c id method request a = (r : Resource) × LeadsTo c id r × SendsDocument r (document_media id.auid) method request a
 
 abbrev pub ReadsNode : Content → DocId → Selector → Method → Request → Answer → Type 0
-ReadsNode c id selector method request a = SendsNode (resource c id) selector method request a
+ReadsNode c id selector method request a = (r : Resource) × LeadsTo c id r × SendsNode r selector method request a

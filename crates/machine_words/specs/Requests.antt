@@ -22,6 +22,7 @@ use Rattle.request_terms.specs.Methods.{method_of, is_reading}
 use Rattle.request_terms.specs.Rights.{is_allowed}
 use Rattle.store_core.specs.Held.{Content}
 use Rattle.machine_words.specs.Answers.{Answer, unchanged, not_allowed}
+use Rattle.machine_words.specs.Feeds.{ReadsFeed}
 use Rattle.machine_words.specs.Reading.{ReadsDocument, ReadsNode}
 use Rattle.machine_words.specs.Writing.{IfStored, PutsDocument, puts_deeper, DeletesDocument}
 use Rattle.machine_words.specs.Fragments.{PutsNode, DeletesNode, MayBeWritten}
@@ -72,12 +73,12 @@ IsWritableTarget (Flat id service) = Unit {0}
 
 -- ---- by method
 
--- GET and HEAD; feeds and flat lists aren't read yet
+-- GET and HEAD; feeds of elements and flat lists aren't read yet
 abbrev pub Reads : List ℕ → Content → Target → Method → Request → Answer → Type 0
 Reads root c (Document id) method request a = ReadsDocument c id method request a
 Reads root c (Node id selector) method request a = ReadsNode c id selector method request a
 Reads root c (Deep auid home) method request a = a ≡ unchanged (plain 404 request.closes)
-Reads root c (Feed mode tag id) method request a = a ≡ unchanged (plain 501 request.closes)
+Reads root c (Feed mode tag id) method request a = ReadsFeed root c mode tag id method request a
 Reads root c (ElementFeed tag id selector raw) method request a = a ≡ unchanged (plain 501 request.closes)
 Reads root c (Flat id service) method request a = a ≡ unchanged (plain 501 request.closes)
 

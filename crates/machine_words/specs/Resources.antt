@@ -1,6 +1,6 @@
 -- What an address leads to. RFC 4825, section 6: a document. Those under `global` are computed (RFC 4825, section 12, and RFC 4826,
 -- sections 4.4.7 and 4.4.8).
-use Rattle.std.specs.Prelude.{ℕ, ◌-◌, Bool, true, false, Option, None, Some, option_map, nat_lt, if◌then◌else◌}
+use Rattle.std.specs.Prelude.{◌≡◌, ℕ, ◌-◌, Bool, true, false, List, Option, None, Some, option_map, nat_lt, if◌then◌else◌}
 use Rattle.std.specs.Str.{bytes_eq}
 use Rattle.xml_tree.specs.Tree.{Tree}
 use Rattle.usage_docs.specs.Services.{index_of_documents, document_len, index_limit}
@@ -12,7 +12,7 @@ use Rattle.doc_names.specs.declared.doc_id.Home.TheVariants.{Global, User}
 use Rattle.doc_names.specs.declared.doc_id.DocId.{DocId}
 use Rattle.store_core.specs.Changing.{document_in, held_name}
 use Rattle.store_core.specs.Held.{Content, Held}
-use Rattle.store_core.specs.Indexes.{index, index_trees}
+use Rattle.store_core.specs.Indexes.{AreIndexTrees, index}
 
 -- the tree and the tag that the document of this name has now, if it is held
 abbrev pub version_of : Content → DocId → Option (Tree × ℕ)
@@ -31,17 +31,22 @@ if_held (Some (t, tag)) = there t tag
 abbrev pub if_within_limit : Tree → ℕ → Resource
 if_within_limit t tag = if nat_lt index_limit (document_len t) then beyond_limit else there t tag
 
+-- the index of services of what is held
+abbrev pub IsIndexOfServices : Content → Tree → Type 0
+IsIndexOfServices c root = (trees : List Tree) × AreIndexTrees c trees × (root ≡ index_of_documents trees)
+
 -- under `global` there are the index of services, whose tag is the last number given, and the capabilities with the tag 0
-abbrev pub global_resource : Content → Auid → Bool → Resource
-global_resource c ResourceLists is_index = absent
-global_resource c RlsServices false = absent
-global_resource c RlsServices true = if_within_limit (index_of_documents (index_trees c)) (c.next - 1)
-global_resource c XcapCaps false = absent
-global_resource c XcapCaps true = there capabilities 0
+abbrev pub LeadsUnderGlobal : Content → Auid → Bool → Resource → Type 0
+LeadsUnderGlobal c ResourceLists is_index r = r ≡ absent
+LeadsUnderGlobal c RlsServices false r = r ≡ absent
+LeadsUnderGlobal c RlsServices true r = (root : Tree) × IsIndexOfServices c root × (r ≡ if_within_limit root (c.next - 1))
+LeadsUnderGlobal c XcapCaps false r = r ≡ absent
+LeadsUnderGlobal c XcapCaps true r = r ≡ there capabilities 0
 
-abbrev pub resource_in : Content → DocId → Home → Resource
-resource_in c id Global = global_resource c id.auid (bytes_eq id.name index)
-resource_in c id (User xui) = if_held (version_of c id)
+abbrev pub LeadsFrom : Content → DocId → Home → Resource → Type 0
+LeadsFrom c id Global r = LeadsUnderGlobal c id.auid (bytes_eq id.name index) r
+LeadsFrom c id (User xui) r = r ≡ if_held (version_of c id)
 
-abbrev pub resource : Content → DocId → Resource
-resource c id = resource_in c id id.home
+-- what the name of a document leads to
+abbrev pub LeadsTo : Content → DocId → Resource → Type 0
+LeadsTo c id r = LeadsFrom c id id.home r

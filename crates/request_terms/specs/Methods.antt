@@ -1,6 +1,7 @@
 -- What a request asks to be done. RFC 9110, section 9.3; RFC 4825, section 8.
-use Rattle.std.specs.Prelude.{ℕ, Bool, true, false, List, codes, if◌then◌else◌}
+use Rattle.std.specs.Prelude.{ℕ, Bool, true, false, List, [], codes, if◌then◌else◌}
 use Rattle.std.specs.Str.{bytes_eq, chars}
+use Rattle.reply_text.specs.Heads.{Sent}
 use Rattle.request_terms.specs.declared.method.Method.{Method}
 use Rattle.request_terms.specs.declared.method.Method.TheVariants.{Get, Head, Put, Delete, Other}
 
@@ -28,3 +29,17 @@ is_known Head = true
 is_known Put = true
 is_known Delete = true
 is_known Other = false
+
+-- ---- what a method that reads is sent
+
+-- a reply without its body, for HEAD (RFC 9110, section 9.3.2)
+abbrev pub head_only : Sent → Sent
+head_only r = record r { body = [] }
+
+-- GET's reply, or its head
+abbrev pub as_asked : Method → Sent → Sent
+as_asked Get reply = reply
+as_asked Head reply = head_only reply
+as_asked Put reply = reply
+as_asked Delete reply = reply
+as_asked Other reply = reply

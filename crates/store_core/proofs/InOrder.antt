@@ -8,21 +8,30 @@ use Rattle.std.specs.Ordering.{is_eq, match_ordering, nat_cmp, ordering_reverse}
 use Rattle.std.specs.declared.cmp.Ordering.{Ordering}
 use Rattle.std.specs.declared.cmp.Ordering.TheVariants.{Less, Equal, Greater}
 use Rattle.xml_tree.specs.Tree.{Tree}
-use Rattle.store_core.specs.Indexes.{in_order, placed}
 use Rattle.store_core.specs.Listed.{entered}
 
-abbrev Pair : Type 0
+abbrev pub Pair : Type 0
 Pair = List ℕ × Tree
 
-abbrev cmp : List ℕ → List ℕ → Ordering
+abbrev pub cmp : List ℕ → List ℕ → Ordering
 cmp a b = slice_cmp nat_cmp a b
 
 pub equal-texts : (a b : List ℕ) → cmp a b ≡ Equal → a ≡ b
 equal-texts a b h = (bytes_eq-Decides a b).0 (texts_ties a b ∙ ap is_eq h)
 
+-- one more in a list in the order of the names
+abbrev pub placed : Pair → List Pair → List Pair
+placed d [] = d ∷ []
+placed d (e ∷ es) = match_ordering (cmp d.0 e.0) (d ∷ e ∷ es) (d ∷ e ∷ es) (e ∷ placed d es)
+
+-- a list put in that order, one after another; AreByUser (specs/Indexes) says what comes of it
+abbrev pub in_order : List Pair → List Pair
+in_order [] = []
+in_order (d ∷ ds) = placed d (in_order ds)
+
 -- ---- two comparisons
 
-turned : (a b : List ℕ) (o : Ordering) → cmp a b ≡ o → cmp b a ≡ ordering_reverse o
+pub turned : (a b : List ℕ) (o : Ordering) → cmp a b ≡ o → cmp b a ≡ ordering_reverse o
 turned a b o h = nat_list_cmp_total.antisymm b a ∙ ap ordering_reverse h
 
 -- a stands before what b doesn't stand behind
@@ -33,7 +42,7 @@ before a b x Greater h e low = absurd (low refl)
 
 -- ---- two more in order
 
-abbrev put : Ordering → Pair → Pair → List Pair → List Pair → List Pair
+abbrev pub put : Ordering → Pair → Pair → List Pair → List Pair → List Pair
 put o d x xs placed = match_ordering o (d ∷ x ∷ xs) (d ∷ x ∷ xs) (x ∷ placed)
 
 first : (d x : Pair) (xs : List Pair) → cmp d.0 x.0 ≡ Less → placed d (x ∷ xs) ≡ d ∷ x ∷ xs
@@ -117,7 +126,7 @@ module _ (P : Pair → Type 0) where
   placed-step d e es Equal p q a by = (p, (q, a))
   placed-step d e es Greater p q a by = (q, by)
 
-  each-placed : (d : Pair) (es : List Pair) → P d → AllByRecursion P es → AllByRecursion P (placed d es)
+  pub each-placed : (d : Pair) (es : List Pair) → P d → AllByRecursion P es → AllByRecursion P (placed d es)
   each-placed d [] p a = (p, tt)
   each-placed d (e ∷ es) p a = placed-step d e es (cmp d.0 e.0) p a.0 a.1 (each-placed d es p a.1)
 

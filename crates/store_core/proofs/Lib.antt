@@ -4,6 +4,7 @@ pub mod Admits
 pub mod Apart
 pub mod Asked
 pub mod Bridge
+pub mod ByUser
 pub mod Chains
 pub mod Committed
 pub mod Ends
@@ -17,6 +18,7 @@ pub mod Listing
 pub mod PlanAnswers
 pub mod Planning
 pub mod Rings
+pub mod Sorting
 pub mod Services
 pub mod Standing
 pub mod Stored

@@ -16,11 +16,12 @@ use Rattle.doc_names.specs.declared.doc_id.Home.{Home}
 use Rattle.doc_names.specs.declared.doc_id.Home.TheVariants.{Global, User}
 use Rattle.doc_names.specs.declared.doc_id.DocId.{DocId}
 use Rattle.store_core.specs.declared.entry.Entry.{Entry}
-use Rattle.store_core.specs.Indexes.{in_order, index, index_trees, indexed, indexed_by}
+use Rattle.store_core.specs.Indexes.{AreIndexTrees, index, indexed, indexed_by}
 use Rattle.store_core.specs.Keeping.{AreApart}
 use Rattle.store_core.specs.Listed.{entered, listed, pairs_in}
 use Rattle.store_core.specs.Storing.{IsStoring, Room, Stored, content_in, held_in, name_in}
-use Rattle.store_core.proofs.InOrder.{NamesApart, Other, each-in-order, entered-in-order, equal-texts}
+use Rattle.store_core.proofs.ByUser.{index_trees, some-index-trees}
+use Rattle.store_core.proofs.InOrder.{NamesApart, Other, each-in-order, entered-in-order, equal-texts, in_order}
 use Rattle.store_core.proofs.Stored.{known-of}
 
 abbrev Row : Type 0
@@ -137,8 +138,9 @@ module _ (es : List Row) (rs : List (List ℕ × ℕ)) (last total : ℕ) (stori
         ap (map (λ (t : Bor Tree). t.now)) shown ∙ trees-in-pairs made ∙ ap (map (λ (d : Pair). d.1)) (all ∙ listed-in-order)
 
     -- so they are those that the index lists
-    pub trees-listed : (room : Room) (s : Stored) → (let x : Stored = record { content = content_in es last; room = room } in x) ≡ s → map (λ (t : Bor Tree). t.now) trees ≡ index_trees s.content
-    trees-listed room s seen = trees-in-order ∙ ap (λ (x : Stored). index_trees x.content) seen
+    pub trees-listed : (room : Room) (s : Stored) → (let x : Stored = record { content = content_in es last; room = room } in x) ≡ s → AreIndexTrees s.content (map (λ (t : Bor Tree). t.now) trees)
+    trees-listed room s seen =
+        subst (AreIndexTrees s.content) (sym (trees-in-order ∙ ap (λ (x : Stored). index_trees x.content) seen)) (some-index-trees s.content)
 
     pub trees-low : All (λ (t : Bor Tree). height t.now ≤ 64) trees
     trees-low = All-from_recursion (λ (t : Bor Tree). height t.now ≤ 64) trees (low-shown trees (in_order (listed es)) trees-in-order low-in-order)

@@ -13,6 +13,7 @@ use Rattle.edit_ops.specs.Changes.{edited}
 use Rattle.edit_ops.specs.declared.change.Change.{Change}
 use Rattle.edit_ops.specs.declared.change.Change.TheVariants.{CreateDocument, Insert, Replace, Remove, SetAttr, DropAttr, RemoveDocument}
 use Rattle.notes.specs.Notes.{Note, note_of}
+use Rattle.store_core.specs.Limits.{most_bytes, most_bytes_together, most_documents}
 use Rattle.store_core.specs.declared.refusal.StoreRefusal.{StoreRefusal}
 use Rattle.store_core.specs.declared.refusal.StoreRefusal.TheVariants.{ServiceTaken, TooLarge, TooMany, StoreFull, NoNumber}
 use Rattle.store_core.specs.State.{Document, State, created, renewed, retained}
@@ -120,9 +121,9 @@ only_if holds refusal = if holds then Some refusal else None
 abbrev pub against_tree : Content → DocId → Bool → Tree → Option StoreRefusal
 against_tree c id is_new t =
     or_else (option_map (λ clash. ServiceTaken clash) (taken (other_addresses c id) (addresses_in id.auid t)))
-    (or_else (only_if (nat_lt 262144 (document_len t)) (TooLarge (min (document_len t) 18446744073709551615)))
-    (or_else (only_if (is_new && nat_le 1000 (length c.documents)) TooMany)
-    (only_if (nat_lt 33554432 (other_lengths c id + document_len t)) (StoreFull (other_lengths c id + document_len t)))))
+    (or_else (only_if (nat_lt most_bytes (document_len t)) (TooLarge (min (document_len t) 18446744073709551615)))
+    (or_else (only_if (is_new && nat_le most_documents (length c.documents)) TooMany)
+    (only_if (nat_lt most_bytes_together (other_lengths c id + document_len t)) (StoreFull (other_lengths c id + document_len t)))))
 
 -- against the number that it would get: 64 bits don't hold it
 abbrev pub against_number : Content → Option StoreRefusal

@@ -1,8 +1,9 @@
 -- The documents that the index of all services lists. RFC 4826, section 4.4.7: those that users keep under the name `index`.
-use Rattle.std.specs.Prelude.{ℕ, Bool, true, false, List, [], ◌∷◌, map, codes, Option, None, Some}
+use Rattle.std.specs.Prelude.{◌≡◌, ℕ, Bool, true, false, List, map, codes, Option, None, Some}
 use Rattle.std.specs.List.{filter_map}
+use Rattle.std.specs.List.Sorted.{IsSortedByKey, IsStableByKey}
 use Rattle.std.specs.Cmp.Lexicographic.{slice_cmp}
-use Rattle.std.specs.Ordering.{match_ordering, nat_cmp}
+use Rattle.std.specs.Ordering.{nat_cmp}
 use Rattle.std.specs.Str.{bytes_eq, chars}
 use Rattle.xml_tree.specs.Tree.{Tree}
 use Rattle.doc_names.specs.declared.doc_id.Auid.{Auid}
@@ -29,15 +30,11 @@ indexed_by XcapCaps is_index home t = None
 abbrev pub indexed : Held → Option (List ℕ × Tree)
 indexed h = indexed_by h.id.auid (bytes_eq h.id.name index) h.id.home h.tree
 
--- one more in a list in the order of the users' names, by code points
-abbrev pub placed : List ℕ × Tree → List (List ℕ × Tree) → List (List ℕ × Tree)
-placed d [] = d ∷ []
-placed d (e ∷ es) = match_ordering (slice_cmp nat_cmp d.0 e.0) (d ∷ e ∷ es) (d ∷ e ∷ es) (e ∷ placed d es)
-
-abbrev pub in_order : List (List ℕ × Tree) → List (List ℕ × Tree)
-in_order [] = []
-in_order (d ∷ ds) = placed d (in_order ds)
+-- these documents in the order of the users' names, by code point; those of one user stay in their order
+pub record AreByUser (documents ordered : List (List ℕ × Tree)) : Type 0 where
+  pub rises : IsSortedByKey (λ (d : List ℕ × Tree). d.0) (slice_cmp nat_cmp) ordered
+  pub keeps : IsStableByKey (λ (d : List ℕ × Tree). d.0) (slice_cmp nat_cmp) documents ordered
 
 -- the trees that the index lists, by the users' names
-abbrev pub index_trees : Content → List Tree
-index_trees c = map (λ d. d.1) (in_order (filter_map indexed c.documents))
+abbrev pub AreIndexTrees : Content → List Tree → Type 0
+AreIndexTrees c trees = (ordered : List (List ℕ × Tree)) × AreByUser (filter_map indexed c.documents) ordered × (trees ≡ map (λ d. d.1) ordered)

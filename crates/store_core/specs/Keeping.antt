@@ -14,6 +14,7 @@ use Rattle.doc_names.specs.declared.doc_id.Home.{Home}
 use Rattle.doc_names.specs.declared.doc_id.Home.TheVariants.{Global, User}
 use Rattle.edit_ops.specs.Changes.{Fits, edited}
 use Rattle.notes.specs.Notes.{Note, note_of}
+use Rattle.store_core.specs.Limits.{most_bytes, most_bytes_together, most_documents}
 use Rattle.store_core.specs.State.{Document, State, Version, versions}
 
 -- ---- names
@@ -34,7 +35,7 @@ pub record IsSound (usage : Usage) (t : Tree) : Type 0 where
   pub proper : ProperIn [] t
   pub low : height t ≤ 64
   pub faultless : Judged usage t None
-  pub short : document_len t ≤ 262144
+  pub short : document_len t ≤ most_bytes
 
 abbrev pub IsSoundFor : Option Usage → Tree → Type 0
 IsSoundFor None t = ⊥
@@ -77,5 +78,5 @@ pub record Kept (state : State) : Type 0 where
   -- no two versions have one tag, in one document or in two
   pub tags : AreApart (flat_map (λ d. map (λ v. v.tag) (versions d)) state.documents)
   pub services : AreApart (addresses state.documents)
-  pub few : length state.documents ≤ 1000
-  pub room : sum_by (λ d. document_len d.now.tree) state.documents ≤ 33554432
+  pub few : length state.documents ≤ most_documents
+  pub room : sum_by (λ d. document_len d.now.tree) state.documents ≤ most_bytes_together

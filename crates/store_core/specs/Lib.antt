@@ -4,6 +4,7 @@ pub mod Held
 pub mod History
 pub mod Indexes
 pub mod Keeping
+pub mod Limits
 pub mod Listed
 pub mod Preparing
 pub mod Since

@@ -14,6 +14,7 @@ use Rattle.edit_ops.specs.declared.staged.Staged.{Staged}
 use Rattle.notes.specs.Notes.{Note, note_of}
 use Rattle.notes.specs.Recorded.{note_in}
 use Rattle.notes.specs.declared.edit_note.EditNote.{EditNote}
+use Rattle.store_core.specs.Limits.{most_bytes, most_bytes_together}
 use Rattle.store_core.specs.declared.entry.Entry.{Entry}
 use Rattle.store_core.specs.declared.step.Step.{Step}
 use Rattle.store_core.specs.declared.step.Step.TheVariants.{Make, Edit, End}
@@ -32,9 +33,9 @@ use Rattle.store_core.specs.Storing.{IsRenewed, Stored, entry_of}
 abbrev pub refused_for : Option ℕ → ℕ → Bool → ℕ → Option StoreRefusal
 refused_for place len is_full others =
     or_else (option_map (λ clash. ServiceTaken clash) (option_map (λ i. let clash : Clash = record { path = i ∷ []; key = Uri } in clash) place))
-    (or_else (only_if (nat_lt 262144 len) (TooLarge len))
+    (or_else (only_if (nat_lt most_bytes len) (TooLarge len))
     (or_else (only_if is_full TooMany)
-    (only_if (nat_lt 33554432 (others + len)) (StoreFull (others + len)))))
+    (only_if (nat_lt most_bytes_together (others + len)) (StoreFull (others + len)))))
 
 -- ---- a change that has all its memory
 

@@ -6,6 +6,7 @@ use Rattle.doc_names.specs.declared.doc_id.DocId.{DocId}
 use Rattle.edit_ops.specs.Changes.{edited}
 use Rattle.notes.specs.Notes.{Note}
 use Rattle.notes.specs.Operations.{weight}
+use Rattle.store_core.specs.Limits.{most_notes, most_weight}
 
 -- a version: its tag, its tree, and the note of the change that made it from the version before
 pub record Version : Type 0 where
@@ -38,9 +39,9 @@ notes d = reverse (filter_map (λ v. v.note) (versions d))
 
 -- ---- what is retained of the notes, for subscribers that hold an older version
 
--- at most 64 items, which weigh at most 65,536 together
+-- as many items as notes may be retained, which weigh no more than these may
 abbrev pub is_small : {A : Type 0} → (A → ℕ) → List A → Bool
-is_small weight xs = nat_le (length xs) 64 && nat_le (sum_by weight xs) 65536
+is_small weight xs = nat_le (length xs) most_notes && nat_le (sum_by weight xs) most_weight
 
 -- the longest end of the list that is small; its last item is in it whatever that weighs
 abbrev pub small_end : {A : Type 0} → (A → ℕ) → List A → List A

@@ -6,6 +6,7 @@ use Rattle.doc_names.specs.Ids.{IsReadable}
 use Rattle.doc_names.specs.declared.doc_id.DocId.{DocId}
 use Rattle.edit_ops.specs.Changes.{Fits, edited}
 use Rattle.edit_ops.specs.declared.change.Change.{Change}
+use Rattle.store_core.specs.Limits.{most_bytes_together, most_documents}
 use Rattle.store_core.specs.State.{State}
 use Rattle.store_core.specs.Keeping.{AreApart, IsSoundFor, IsUsers, addresses}
 use Rattle.doc_names.specs.Usages.{usage_of}
@@ -19,5 +20,5 @@ SuitsAct m id change Removes = IsSome (document_in document_name m.documents id)
 pub record Suits (m : State) (id : DocId) (change : Change) : Type 0 where
   pub act : SuitsAct m id change (act_of change)
   pub services : AreApart (addresses (after m id change).documents)
-  pub few : length (after m id change).documents ≤ 1000
-  pub room : sum_by (λ d. document_len d.now.tree) (after m id change).documents ≤ 33554432
+  pub few : length (after m id change).documents ≤ most_documents
+  pub room : sum_by (λ d. document_len d.now.tree) (after m id change).documents ≤ most_bytes_together

@@ -14,9 +14,10 @@ use notes::{EditNote, weight};
 use std::alloc::{AllocError, Global};
 use xml_tree::Element;
 
-// How many notes are retained at most, and how much they weigh together at most.
+// How many notes are retained at most.
 const MOST_NOTES: usize = 64;
 
+// How much they weigh together at most.
 const MOST_WEIGHT: usize = 65_536;
 
 pub(crate) type NoteRing = HeapCircularBuffer<EditNote>;

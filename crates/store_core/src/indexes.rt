@@ -3,7 +3,7 @@ ghost use Rattle.std.specs.Prelude.{◌≡◌, ◌≤◌, [], map, All, IfOk, No
 ghost use Rattle.std.specs.Str.{bytes_eq};
 ghost use Rattle.std.specs.Option.{option_map};
 ghost use Rattle.xml_tree.specs.Tree.{Tree, height};
-ghost use Rattle.store_core.specs.Indexes.{index, index_trees, indexed_by, indexed_in};
+ghost use Rattle.store_core.specs.Indexes.{AreIndexTrees, index, indexed_by, indexed_in};
 ghost use Rattle.store_core.specs.Listed.{entered, listed, pairs_in};
 
 use crate::step::Documents;
@@ -68,7 +68,7 @@ impl Store {
     /// # Errors
     /// `NoMemory` for want of memory.
     pub fn user_indexes(&self, alloc: Global) -> Result<Vec<&Element>, NoMemory>
-        ensures trees { IfOk result (λ made. map (λ e. e.now) made.items ≡ index_trees self.now.content) }
+        ensures trees { IfOk result (λ made. AreIndexTrees self.now.content (map (λ e. e.now) made.items)) }
         ensures low { IfOk result (λ made. All (λ e. height e.now ≤ 64) made.items) }
     {
         let trees = trees_by_user(alloc, &self.documents)?;

@@ -1,7 +1,9 @@
 //! Laws of the words: what a store holds of a state follows every change of it, and a kept state stays kept.
-ghost use Rattle.std.specs.Prelude.{◌≡◌, ℕ, ◌<◌, ◌≤◌, Ok};
+ghost use Rattle.std.specs.Prelude.{◌≡◌, ℕ, ◌<◌, ◌≤◌, List, Ok};
+ghost use Rattle.xml_tree.specs.Tree.{Tree};
 ghost use Rattle.store_core.specs.State.{State, first_state};
 ghost use Rattle.store_core.specs.Held.{Content, Stands};
+ghost use Rattle.store_core.specs.Indexes.{AreIndexTrees};
 ghost use Rattle.store_core.specs.Keeping.{Kept};
 ghost use Rattle.store_core.specs.Changing.{after, changing, content_after, document_in, held_name, note_for};
 ghost use Rattle.store_core.specs.Suiting.{Suits};
@@ -38,4 +40,10 @@ pub fn changes_that_are_made_keep_store_and_state()
 /// A law: where a store stands for a kept state, it makes each change that suits the state, while 64 bits hold the next number.
 pub fn changes_that_suit_the_state_are_made()
     ensures made_if_it_suits { (c : Content) (m : State) (id : DocId) (change : Change) → Stands c m → Kept m → Suits m id change → m.next < 18446744073709551616 → changing c id change ≡ Ok (note_for c id change (document_in held_name c.documents id), content_after c id change) }
+{}
+
+/// A law: of what is held there is exactly one list of the trees that the index of services lists.
+pub fn the_index_has_one_list()
+    ensures there_is_a_list { (c : Content) → (trees : List Tree) × AreIndexTrees c trees }
+    ensures lists_are_one { (c : Content) (trees others : List Tree) → AreIndexTrees c trees → AreIndexTrees c others → trees ≡ others }
 {}

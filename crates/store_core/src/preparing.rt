@@ -27,11 +27,13 @@ use std::alloc::{AllocError, Global};
 use usage_docs::{Clash, Key};
 use xml_tree::{Element, List, Path, Text, copy_tree, printed_len};
 
-// How many documents there are at most, how many bytes one has at most, and how many all have together at most.
+// How many documents there are at most.
 const MOST_DOCUMENTS: usize = 1_000;
 
+// How many bytes a printed document has at most.
 const MOST_BYTES: usize = 262_144;
 
+// How many bytes all printed documents have together at most.
 const MOST_BYTES_TOGETHER: u64 = 33_554_432;
 
 // The length of what a printed document has before its root.

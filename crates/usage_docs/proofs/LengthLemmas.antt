@@ -8,12 +8,14 @@ use Rattle.std.specs.Option.{option_or}
 use Rattle.std.specs.Ordering.{match_ordering}
 use Rattle.xml_tree.specs.Tree.{Content, Tree, tree_of}
 use Rattle.xml_tree.specs.Print.{print, print_content, print_decl, opening, ending, is_empty, byte_len}
-use Rattle.xml_tree.specs.Scopes.{AreInOrder, binds, bindings_in, declared, gathered, placed}
+use Rattle.xml_tree.specs.Gathering.{gathered, gathered_bindings, placed}
+use Rattle.xml_tree.specs.Scopes.{AreInOrder, binds, bindings_in, declared}
 use Rattle.xml_tree.specs.declared.names.Attr.{Attr}
 use Rattle.xml_tree.specs.declared.names.Decl.{Decl}
 use Rattle.xml_tree.specs.declared.names.Name.{Name}
 use Rattle.xml_tree.specs.declared.tree.Node.{Node}
 use Rattle.xml_tree.proofs.BindingLaws.{Behind, AreInOrder-placed, AreInOrder-gathered}
+use Rattle.xml_tree.proofs.BindingWords.{gathered_are}
 use Rattle.xml_tree.proofs.ByteOrder.{order, order_same, order_equal}
 use Rattle.xml_tree.proofs.GatheringLemmas.{gathered-append}
 use Rattle.xml_tree.proofs.PrintLengths.{byte_len-append, byte_len-opening}
@@ -159,14 +161,21 @@ all_more (d ∷ ds) g h =
     all_more ds (placed d g) (AreInOrder-placed d g h) ∙ ap (λ (n : ℕ). n + inner) (one_more d ds g h) ∙ sym (grouped (left (d ∷ ds) g) (left ds (d ∷ [])) inner)
     ∙ ap (λ (n : ℕ). left (d ∷ ds) g + n) (sym (all_more ds (d ∷ []) (tt, tt)))
 
--- what is bound inside a child of a root
-pub bound_inside : (root own : List Decl) → decls_len (bindings_in (root ∷ own ∷ [])) ≡ decls_len (kept own (bindings_in (root ∷ []))) + decls_len (bindings_in (own ∷ []))
-bound_inside root own =
-    let inner = decls_len (bindings_in (own ∷ [])) in
+-- what is gathered inside a child of a root
+gathered_inside : (root own : List Decl) → decls_len (gathered_bindings (root ∷ own ∷ [])) ≡ decls_len (kept own (gathered_bindings (root ∷ []))) + decls_len (gathered_bindings (own ∷ []))
+gathered_inside root own =
+    let inner = decls_len (gathered_bindings (own ∷ [])) in
     ap (λ (ds : List Decl). decls_len (filter binds ds)) (gathered-append [] root (own ++ []))
     ∙ all_more (own ++ []) (gathered [] root) (AreInOrder-gathered [] root tt)
     ∙ ap (λ (ds : List Decl). left ds (gathered [] root) + inner) (append-nil own)
     ∙ ap (λ (ds : List Decl). left own (gathered [] ds) + inner) (sym (append-nil root))
+
+-- what is bound there
+pub bound_inside : (root own : List Decl) → decls_len (bindings_in (root ∷ own ∷ [])) ≡ decls_len (kept own (bindings_in (root ∷ []))) + decls_len (bindings_in (own ∷ []))
+bound_inside root own =
+    ap decls_len (sym (gathered_are (root ∷ own ∷ []))) ∙ gathered_inside root own
+    ∙ ap (λ (ds : List Decl). decls_len (kept own ds) + decls_len (gathered_bindings (own ∷ []))) (gathered_are (root ∷ []))
+    ∙ ap (λ (ds : List Decl). decls_len (kept own (bindings_in (root ∷ []))) + decls_len ds) (gathered_are (own ∷ []))
 
 -- ---- a service as the index shows it
 no_decls : (ds : List Decl) → length ds ≡ 0 → ds ≡ []

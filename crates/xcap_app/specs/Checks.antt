@@ -1,8 +1,9 @@
 -- What `check` does with its input and its output, by how it ends. This is the project's own.
-use Rattle.std.specs.Prelude.{◌≡◌, ℕ, ◌<◌, ◌≤◌, List, codes, length, take, Result, MatchResult}
+use Rattle.std.specs.Prelude.{◌≡◌, ℕ, ◌+◌, ◌<◌, ◌≤◌, List, codes, length, take, Result, MatchResult}
 use Rattle.doc_names.specs.declared.usages.Usage.{Usage}
 use Rattle.xcap_io.specs.Causes.{Inward, LineState, Reads, Rose}
 use Rattle.xcap_io.specs.Passing.{Gave, IsEnded}
+use Rattle.store_core.specs.Limits.{most_bytes}
 use Rattle.xcap_app.specs.Telling.{TakesAll, TakesSome}
 use Rattle.xcap_app.specs.Verdicts.{TextVerdict}
 use Rattle.xcap_app.specs.declared.exit.Exit.{Exit}
@@ -33,7 +34,7 @@ pub record GaveAndFailed (bytes : List ℕ) (old new : LineState) : Type 0 where
 pub record GaveText (text : List ℕ) (old new : LineState) : Type 0 where
   pub gave : JustGave text old new
   pub ended : IsEnded new.inward
-  pub fits : length text ≤ 262144
+  pub fits : length text ≤ most_bytes
 
 -- the text that the input gave is judged so
 abbrev pub JudgedBy : Usage → Exit → LineState → LineState → Type 0
@@ -41,7 +42,7 @@ JudgedBy usage exit input input' = (text : List ℕ) × GaveText text input inpu
 
 -- why the input is refused: it has one byte more than a document may have, of which no more are read; or its text is
 abbrev pub Refuses : Usage → Refusal → LineState → LineState → Type 0
-Refuses usage TooLarge input input' = (front : List ℕ) × JustGave front input input' × (length front ≡ 262145)
+Refuses usage TooLarge input input' = (front : List ℕ) × JustGave front input input' × (length front ≡ most_bytes + 1)
 Refuses usage NotUtf8 input input' = JudgedBy usage (Refused NotUtf8) input input'
 Refuses usage (NotWellFormed place) input input' = JudgedBy usage (Refused (NotWellFormed place)) input input'
 Refuses usage Schema input input' = JudgedBy usage (Refused Schema) input input'
@@ -53,11 +54,11 @@ Refuses usage (Unique clash) input input' = JudgedBy usage (Refused (Unique clas
 abbrev pub Examines : Usage → Exit → LineState → LineState → Type 0
 Examines usage Done input input' = JudgedBy usage Done input input'
 Examines usage UsageExit input input' = ⊥
-Examines usage InputFailed input input' = (front : List ℕ) × GaveAndFailed front input input' × (length front ≤ 262144)
+Examines usage InputFailed input input' = (front : List ℕ) × GaveAndFailed front input input' × (length front ≤ most_bytes)
 Examines usage OutputFailed input input' = ⊥
 Examines usage NetworkFailed input input' = ⊥
 Examines usage (Refused refusal) input input' = Refuses usage refusal input input'
-Examines usage OutOfMemory input input' = (front : List ℕ) × JustGave front input input' × (length front ≤ 262145)
+Examines usage OutOfMemory input input' = (front : List ℕ) × JustGave front input input' × (length front ≤ most_bytes + 1)
 
 -- of a valid document `valid` is written and a line end, and of none anything
 abbrev pub Checks : Usage → Exit → LineState → LineState → LineState → LineState → Type 0

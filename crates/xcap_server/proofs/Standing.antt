@@ -7,7 +7,8 @@ use Rattle.store_core.specs.State.{State}
 use Rattle.store_core.specs.Held.{Stands}
 use Rattle.store_core.specs.Keeping.{Kept}
 use Rattle.machine_words.specs.Machine.{Does, KeptStep, answer_as}
-use Rattle.machine_words.specs.Effects.{DeletedIsGone, PutIsThere, SecondPutLeavesTrees}
+use Rattle.machine_words.specs.Effects.{DeletedIsGone, KeyAddressesStay, PutIsThere, SecondPutLeavesTrees}
+use Rattle.machine_words.proofs.Addresses.{addresses_stay}
 use Rattle.machine_words.proofs.Effects.{deleted_is_gone, put_is_there, second_put_leaves}
 use Rattle.machine_words.proofs.Steps.{answer_closes, step_of}
 use Rattle.http_serve.specs.declared.connection.Ended.{Ended}
@@ -98,3 +99,7 @@ module _ (s now s' : ServerState) (is : s ≡ now) (request : Request) where
   pub answered_second : {E : Type 0} → (m : State) × Stands s.content m × Kept m → (r : Result Answered E) → IfOk r (λ a. AnswersRequest s request a.reply s' a.edit) → IfOk r (λ a. SecondPutLeavesTrees now.root request a.edit s'.content)
   answered_second (m, stands, kept) r = of_all (λ a. SecondPutLeavesTrees now.root request a.edit s'.content)
       (λ a does. second_put_leaves now.root now.content s'.content request a.reply a.edit m kept (subst (λ (x : ServerState). Stands x.content m) is stands) does) r
+
+  pub answered_addresses : {E : Type 0} → (m : State) × Stands s.content m × Kept m → (r : Result Answered E) → IfOk r (λ a. AnswersRequest s request a.reply s' a.edit) → IfOk r (λ a. KeyAddressesStay now.content a.edit s'.content)
+  answered_addresses (m, stands, kept) r = of_all (λ a. KeyAddressesStay now.content a.edit s'.content)
+      (λ a does. addresses_stay now.root now.content s'.content request a.reply a.edit m kept (subst (λ (x : ServerState). Stands x.content m) is stands) does) r

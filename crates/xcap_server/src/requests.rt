@@ -1,6 +1,6 @@
 // What a request comes to where documents are held (RFC 4825, section 8): the first line that applies decides.
 // Each function is one line, or hands on to the next. Nothing is changed here.
-ghost use Rattle.std.specs.Prelude.{◌≡◌, ◌≢◌, ℕ, List, not, true, false, None, Some, IsOk, IsTrue, IfOk};
+ghost use Rattle.std.specs.Prelude.{◌≡◌, ◌≢◌, not, true, false, None, Some, IsOk, IsTrue, IfOk};
 ghost use Rattle.doc_names.specs.Usages.{usage_of};
 ghost use Rattle.reply_text.specs.Statuses.{is_status};
 ghost use Rattle.reply_text.specs.Heads.{plain};
@@ -15,6 +15,7 @@ ghost use Rattle.document_writes.specs.Deciding.{Decides};
 
 use crate::targets::{auid_of, home_of, is_read_only, takes};
 use doc_names::Usage;
+use document_feeds::{Feed, get_feed};
 use document_reads::{get_document, get_node};
 use document_writes::{Decision, delete_document, delete_node, put_deeper, put_document, put_node};
 use http_wire::Request;
@@ -39,20 +40,27 @@ fn plain(status: u16, request: &Request) -> Decision
 // The reply to GET and HEAD.
 fn get_target(
     alloc: Global,
+    root: &Root,
     store: &Store,
     target: &Target,
     method: Method,
     request: &Request,
 ) -> Result<Reply, AllocError>
-    ensures replies_as_the_machine { IfOk result (λ reply. (root : List ℕ) → Reads root store.now.content target.now method request.now (unchanged reply)) }
+    ensures replies_as_the_machine { IfOk result (λ reply. Reads root.now store.now.content target.now method request.now (unchanged reply)) }
 {
     match target {
         Target::Document(doc) => get_document(alloc, store, doc, method, request),
         Target::Node(doc, selector) => get_node(alloc, store, doc, selector, method, request),
         Target::Deep(_, _) => Ok(Reply::fixed(404, request.closes)),
-        Target::Feed { .. } | Target::ElementFeed { .. } | Target::Flat { .. } => {
-            Ok(Reply::fixed(501, request.closes))
+        Target::Feed { mode, tag, doc } => {
+            let feed = Feed {
+                mode: *mode,
+                tag: *tag,
+                doc,
+            };
+            get_feed(alloc, root, store, feed, method, request)
         }
+        Target::ElementFeed { .. } | Target::Flat { .. } => Ok(Reply::fixed(501, request.closes)),
     }
 }
 
@@ -148,7 +156,7 @@ fn decide_method(
     ensures holds_the_same { store.new.content ≡ store.old.content }
 {
     if method.reads() {
-        let reply = get_target(alloc, store, target, method, request)?;
+        let reply = get_target(alloc, root, store, target, method, request)?;
         return Ok(Decision::Stays(reply));
     }
     decide_write(alloc, root, store, target, method, request)

@@ -4,7 +4,7 @@ ghost use Rattle.xcap_uri.specs.Targets.{under_root};
 ghost use Rattle.store_core.specs.State.{State};
 ghost use Rattle.store_core.specs.Held.{Stands};
 ghost use Rattle.store_core.specs.Keeping.{Kept};
-ghost use Rattle.machine_words.specs.Effects.{DeletedIsGone, PutIsThere, SecondPutLeavesTrees};
+ghost use Rattle.machine_words.specs.Effects.{DeletedIsGone, KeyAddressesStay, PutIsThere, SecondPutLeavesTrees};
 ghost use Rattle.machine_words.specs.Machine.{KeptStep};
 ghost use Rattle.http_serve.specs.Connections.{ServesLine};
 ghost use Rattle.http_serve.specs.Ports.{ServesPort};
@@ -76,8 +76,9 @@ impl Server {
 /// Answers a request (RFC 4825, section 8). After a PUT that made a change, its address selects
 /// exactly what its body spells, and the same request once more, if it has no condition fields,
 /// leaves every tree and is answered 200, or 507 where no number is left for a change. After a
-/// DELETE that made a change, its address finds nothing. A request whose target lies outside the
-/// root takes no memory.
+/// DELETE that made a change, its address finds nothing. A change leaves what addresses by keys
+/// select, where it moves it, but for keys that it writes itself. A request whose target lies
+/// outside the root takes no memory.
 ///
 /// # Errors
 /// `NoMemory` for want of memory; the server is then as before.
@@ -91,6 +92,8 @@ pub fn answer(server: &mut Server, request: &Request) -> Result<Answered, AllocE
         DeletedIsGone server.old.root request.now answered.edit server.new.content) }
     ensures a_second_put_leaves_every_tree { IfOk result (λ answered.
         SecondPutLeavesTrees server.old.root request.now answered.edit server.new.content) }
+    ensures key_addresses_stay { IfOk result (λ answered.
+        KeyAddressesStay server.old.content answered.edit server.new.content) }
     ensures closes_as_asked { IfOk result (λ answered. answered.reply.closes ≡ request.now.closes) }
     ensures outside_takes_no_memory { under_root server.old.root request.now.target ≡ None → IsOk result }
     ensures same_root { server.new.root ≡ server.old.root }

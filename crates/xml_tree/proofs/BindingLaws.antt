@@ -1,11 +1,12 @@
--- The bindings of a scope: what they bind, and in which order they stand.
+-- What is gathered of a scope: what it binds, and in which order it stands.
 use Rattle.std.proofs.Common.{◌≡◌, Ordering, Less, Equal, Greater, ℕ, Bool, true, false, cond, List, [], ◌∷◌, filter, not, ◌&&◌, Option, Some, None, IsTrue, bytes_eq, refl, sym, ap, ◌∙◌, subst, append-nil}
 use Rattle.std.specs.Cmp.Lexicographic.{bytes_decides, nat_list_cmp_total}
 use Rattle.std.specs.List.{AllByRecursion}
 use Rattle.std.specs.Option.{option_or}
 use Rattle.std.specs.Ordering.{ordering_reverse}
 use Rattle.xml_tree.specs.declared.names.Decl.{Decl}
-use Rattle.xml_tree.specs.Scopes.{AreInOrder, binds, bindings_in, bound, declared, gathered, joined, placed, some_text, xml_prefix}
+use Rattle.xml_tree.specs.Scopes.{AreInOrder, binds, bound, declared, joined, some_text, xml_prefix}
+use Rattle.xml_tree.specs.Gathering.{gathered, gathered_bindings, placed}
 use Rattle.xml_tree.proofs.ByteOrder.{order, order_same, order_equal}
 use Rattle.xml_tree.proofs.ScopeLemmas.{option_or-assoc, option_or-none}
 
@@ -26,7 +27,7 @@ Behind-placed p d (x ∷ ds) h all = by (order d.prefix x.prefix) refl (Behind-p
     by Equal is rest = rw is (h, all.1)
     by Greater is rest = rw is (all.0, rest)
 
-further : (p q : List ℕ) (ds : List Decl) → order p q ≡ Less → Behind q ds → Behind p ds
+pub further : (p q : List ℕ) (ds : List Decl) → order p q ≡ Less → Behind q ds → Behind p ds
 further p q [] h all = tt
 further p q (x ∷ ds) h all = (nat_list_cmp_total.trans p q x.prefix h all.0, further p q ds h all.1)
 
@@ -59,8 +60,8 @@ AreInOrder-filter f (x ∷ ds) h = by (f x) refl (AreInOrder-filter f ds h.1)
     by true is rest = rw is (Behind-filter x.prefix f ds h.0, rest)
     by false is rest = rw is rest
 
-pub AreInOrder-bindings_in : (c : List (List Decl)) → AreInOrder (bindings_in c)
-AreInOrder-bindings_in c = AreInOrder-filter binds (gathered [] (joined c)) (AreInOrder-gathered [] (joined c) tt)
+pub AreInOrder-gathered_bindings : (c : List (List Decl)) → AreInOrder (gathered_bindings c)
+AreInOrder-gathered_bindings c = AreInOrder-filter binds (gathered [] (joined c)) (AreInOrder-gathered [] (joined c) tt)
 
 All-filter : (f : Decl → Bool) (ds : List Decl) → AllByRecursion (λ d. IsTrue (f d)) (filter f ds)
 All-filter f [] = tt
@@ -70,8 +71,8 @@ All-filter f (x ∷ ds) = by (f x) refl (All-filter f ds)
     by true is rest = rw is (is, rest)
     by false is rest = rw is rest
 
-pub binds-bindings_in : (c : List (List Decl)) → AllByRecursion (λ d. IsTrue (binds d)) (bindings_in c)
-binds-bindings_in c = All-filter binds (gathered [] (joined c))
+pub binds-gathered_bindings : (c : List (List Decl)) → AllByRecursion (λ d. IsTrue (binds d)) (gathered_bindings c)
+binds-gathered_bindings c = All-filter binds (gathered [] (joined c))
 
 -- ---- what is declared
 apart : (x : Decl) (p : List ℕ) → order p x.prefix ≡ Less → bytes_eq x.prefix p ≡ false
@@ -138,13 +139,13 @@ declared-binds (x ∷ ds) p other h = by (binds x) refl (bytes_eq x.prefix p) re
         rw (is, e, sole x p ds h.0 e, sole x p (filter binds ds) (Behind-filter x.prefix binds ds h.0) e) (ap (λ u. some_text (Some u)) (sym (unbinding x p other e is)))
     by false is false e rest = rw (is, e, option_or-none (declared ds p)) rest
 
-pub bound-bindings_in : (c : List (List Decl)) (p : List ℕ) → bound (bindings_in c ∷ []) p ≡ bound c p
-bound-bindings_in c p = by (bytes_eq p xml_prefix) refl
+pub bound-gathered_bindings : (c : List (List Decl)) (p : List ℕ) → bound (gathered_bindings c ∷ []) p ≡ bound c p
+bound-gathered_bindings c p = by (bytes_eq p xml_prefix) refl
   where
-    by : (b : Bool) → bytes_eq p xml_prefix ≡ b → bound (bindings_in c ∷ []) p ≡ bound c p
+    by : (b : Bool) → bytes_eq p xml_prefix ≡ b → bound (gathered_bindings c ∷ []) p ≡ bound c p
     by true is = rw is refl
     by false is =
-        rw (is, append-nil (bindings_in c))
+        rw (is, append-nil (gathered_bindings c))
         (declared-binds (gathered [] (joined c)) p is (AreInOrder-gathered [] (joined c) tt)
         ∙ ap some_text (declared-gathered [] (joined c) p tt ∙ option_or-none (declared (joined c) p)))
 
@@ -202,12 +203,12 @@ one_list (d ∷ ds) (e ∷ es) h g b a alike = by (order d.prefix e.prefix) refl
         let uri : d.uri ≡ e.uri = cc in
         λ i. record { prefix = same i; uri = uri i } ∷ rest (tails d e ds es same h.0 g.0 alike) i
 
-pub bindings_in-sole : (c : List (List Decl)) (ds : List Decl) → AreInOrder ds → AllByRecursion (λ d. IsTrue (binds d)) ds → ((p : List ℕ) → bound (ds ∷ []) p ≡ bound c p)
-    → ds ≡ bindings_in c
-bindings_in-sole c ds h b alike = one_list ds (bindings_in c) h (AreInOrder-bindings_in c) b (binds-bindings_in c) (λ p other. under p other)
+pub gathered_bindings-sole : (c : List (List Decl)) (ds : List Decl) → AreInOrder ds → AllByRecursion (λ d. IsTrue (binds d)) ds → ((p : List ℕ) → bound (ds ∷ []) p ≡ bound c p)
+    → ds ≡ gathered_bindings c
+gathered_bindings-sole c ds h b alike = one_list ds (gathered_bindings c) h (AreInOrder-gathered_bindings c) b (binds-gathered_bindings c) (λ p other. under p other)
   where
     plain : (l : List Decl) (p : List ℕ) → bytes_eq p xml_prefix ≡ false → bound (l ∷ []) p ≡ some_text (declared l p)
     plain l p other = rw (other, append-nil l) refl
 
-    under : (p : List ℕ) → bytes_eq p xml_prefix ≡ false → some_text (declared ds p) ≡ some_text (declared (bindings_in c) p)
-    under p other = sym (plain ds p other) ∙ alike p ∙ sym (bound-bindings_in c p) ∙ plain (bindings_in c) p other
+    under : (p : List ℕ) → bytes_eq p xml_prefix ≡ false → some_text (declared ds p) ≡ some_text (declared (gathered_bindings c) p)
+    under p other = sym (plain ds p other) ∙ alike p ∙ sym (bound-gathered_bindings c p) ∙ plain (gathered_bindings c) p other

@@ -1,6 +1,7 @@
 pub mod AroundLemmas
 pub mod AttrLemmas
 pub mod BindingLaws
+pub mod BindingWords
 pub mod ByteOrder
 pub mod Escapes
 pub mod EverywhereLaws

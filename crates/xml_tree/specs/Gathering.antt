@@ -1,9 +1,25 @@
 -- Declarations gathered in a map, by the bytes of their prefixes.
-use Rattle.std.specs.Prelude.{◌≡◌, ◌⊎◌, ℕ, List, [], map, encode_utf8_all}
+use Rattle.std.specs.Prelude.{◌≡◌, ◌⊎◌, ℕ, List, [], ◌∷◌, filter, map, encode_utf8_all}
 use Rattle.std.specs.Borrow.{Bor}
+use Rattle.std.specs.Cmp.Lexicographic.{slice_cmp}
 use Rattle.std.specs.List.{AllByRecursion}
-use Rattle.xml_tree.specs.Scopes.{gathered}
+use Rattle.std.specs.Ordering.{match_ordering, nat_cmp}
+use Rattle.xml_tree.specs.Scopes.{binds, joined}
 use Rattle.xml_tree.specs.declared.names.Decl.{Decl}
+
+-- one declaration more, in a list in the order of the prefixes by code point: it takes the place of the one of its prefix
+abbrev pub placed : Decl → List Decl → List Decl
+placed d [] = d ∷ []
+placed d (x ∷ ds) = match_ordering (slice_cmp nat_cmp d.prefix x.prefix) (d ∷ x ∷ ds) (d ∷ ds) (x ∷ placed d ds)
+
+-- the nearest declaration of each prefix, in the order of the prefixes; these stand in the list before
+abbrev pub gathered : List Decl → List Decl → List Decl
+gathered acc [] = acc
+gathered acc (d ∷ ds) = gathered (placed d acc) ds
+
+-- those of a scope that bind: they are its `bindings_in`
+abbrev pub gathered_bindings : List (List Decl) → List Decl
+gathered_bindings c = filter binds (gathered [] (joined c))
 
 -- the declarations, in the order of the entries
 abbrev pub values_in : List (Bor (List ℕ) × Bor Decl) → List Decl

@@ -1,9 +1,9 @@
 -- Scopes: what prefixes are bound to. Namespaces in XML 1.0, sections 2.2, 3, 5 and 6.
-use Rattle.std.specs.Prelude.{◌≡◌, ℕ, Bool, not, ◌&&◌, codes, List, [], ◌∷◌, ◌++◌, Option, Some, None, option_map, unwrap_or, slice_get, filter, if◌then◌else◌}
+use Rattle.std.specs.Prelude.{◌≡◌, ℕ, Bool, not, ◌&&◌, codes, List, [], ◌∷◌, ◌++◌, Option, Some, None, option_map, unwrap_or, slice_get, filter, filter_map, map, if◌then◌else◌}
 use Rattle.std.specs.Cmp.Lexicographic.{slice_cmp}
 use Rattle.std.specs.List.{AllByRecursion}
 use Rattle.std.specs.Option.{option_or}
-use Rattle.std.specs.Ordering.{match_ordering, nat_cmp}
+use Rattle.std.specs.Ordering.{is_lt, nat_cmp}
 use Rattle.std.specs.Str.{bytes_eq}
 use Rattle.std.specs.declared.cmp.Ordering.TheVariants.{Less}
 use Rattle.xml_tree.specs.Tree.{Tree, kids_of}
@@ -65,25 +65,31 @@ scope_around (n ∷ p) e = scope_at (front (n ∷ p)) e
 
 -- ---- all bindings of a scope, in order
 
--- one declaration more, in a list in the order of the prefixes by code point: it takes the place of the one of its prefix
-abbrev pub placed : Decl → List Decl → List Decl
-placed d [] = d ∷ []
-placed d (x ∷ ds) = match_ordering (slice_cmp nat_cmp d.prefix x.prefix) (d ∷ x ∷ ds) (d ∷ ds) (x ∷ placed d ds)
+-- whether a text stands before another, by code point
+abbrev pub is_before : List ℕ → List ℕ → Bool
+is_before p q = is_lt (slice_cmp nat_cmp p q)
 
--- the nearest declaration of each prefix, in the order of the prefixes; these stand in the list before
-abbrev pub gathered : List Decl → List Decl → List Decl
-gathered acc [] = acc
-gathered acc (d ∷ ds) = gathered (placed d acc) ds
+-- these texts in that order, each once: those before the first of them, itself, and those behind it
+abbrev pub in_order : List (List ℕ) → List (List ℕ)
+in_order [] = []
+in_order (p ∷ ps) = filter (λ q. is_before q p) (in_order ps) ++ p ∷ filter (λ q. is_before p q) (in_order ps)
+
+abbrev pub decl_of : List ℕ → List ℕ → Decl
+decl_of p uri = record { prefix = p; uri = uri }
+
+-- what a prefix is bound to, as a declaration; `xml` is bound anyway
+abbrev pub binding : List (List Decl) → List ℕ → Option Decl
+binding c p = if bytes_eq p xml_prefix then None else option_map (decl_of p) (bound c p)
+
+-- all bindings in scope but that of `xml`: those of the prefixes that are declared, the default first, then by code point
+abbrev pub bindings_in : List (List Decl) → List Decl
+bindings_in c = filter_map (binding c) (in_order (map (λ d. d.prefix) (joined c)))
+
+-- ---- what can be said of such a list
 
 -- whether a declaration binds a prefix that isn't bound anyway
 abbrev pub binds : Decl → Bool
 binds d = not (bytes_eq d.uri []) && not (bytes_eq d.prefix xml_prefix)
-
--- all bindings in scope but that of `xml`: the default first, then the prefixes by code point
-abbrev pub bindings_in : List (List Decl) → List Decl
-bindings_in c = filter binds (gathered [] (joined c))
-
--- ---- what can be said of such a list
 
 -- each prefix stands before those behind it, by code point
 abbrev pub AreInOrder : List Decl → Type 0

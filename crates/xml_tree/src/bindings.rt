@@ -1,7 +1,7 @@
 //! All bindings of a scope, in the order of their prefixes.
 ghost use Rattle.std.specs.Prelude.{◌≡◌, map, filter, IfOk, OnOk};
-ghost use Rattle.xml_tree.specs.Scopes.{bindings_in, binds, gathered};
-ghost use Rattle.xml_tree.specs.Gathering.{AreKeyed, values_in};
+ghost use Rattle.xml_tree.specs.Scopes.{binds};
+ghost use Rattle.xml_tree.specs.Gathering.{AreKeyed, gathered, gathered_bindings, values_in};
 
 use crate::names::Decl;
 use crate::scope::is_xml;
@@ -30,9 +30,9 @@ fn binds(decl: &Decl) -> bool
     !decl.uri.is_empty() && !is_xml(decl.prefix.as_str())
 }
 
-/// All bindings in these lists of declarations, outermost first, without that of `xml`: the default, then the prefixes by code point.
+// All bindings in these lists of declarations, outermost first, without that of `xml`: the default, then the prefixes by code point.
 pub(crate) fn bindings(alloc: Global, lists: &[&[Decl]]) -> Result<Vec<Decl>, AllocError>
-    ensures all_bindings_in_scope { IfOk result (λ made. made.items ≡ bindings_in (map (λ x. x.now) lists.now)) }
+    ensures all_bindings_in_scope { IfOk result (λ made. made.items ≡ gathered_bindings (map (λ x. x.now) lists.now)) }
 {
     let mut found = BTreeMap::new(alloc);
     for list in lists {

@@ -1,7 +1,8 @@
 //! The declarations of an element, with an index where they are many.
 ghost use Rattle.std.specs.Prelude.{◌≡◌, [], map, IfOk};
 ghost use Rattle.std.specs.Option.{option_copied};
-ghost use Rattle.xml_tree.specs.Scopes.{AreInOrder, declared, gathered};
+ghost use Rattle.xml_tree.specs.Gathering.{gathered};
+ghost use Rattle.xml_tree.specs.Scopes.{AreInOrder, declared};
 
 use crate::bindings::gather;
 use crate::names::Decl;

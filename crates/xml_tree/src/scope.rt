@@ -104,6 +104,7 @@ impl<'a> Scope<'a> {
     ///
     /// # Errors
     /// `NoMemory` for want of memory.
+    #[tactic(auto, using(crate::proofs::BindingWords::gathered_are))]
     pub fn bindings(&self, alloc: Global) -> Result<Vec<Decl>, AllocError>
         ensures all_bindings_in_scope { IfOk result (λ made. made.items ≡ bindings_in self.now) }
     {

@@ -1,6 +1,8 @@
-use Rattle.store_core.specs.Indexes.{index_trees}
+use Rattle.std.proofs.Common.{List}
+use Rattle.xml_tree.specs.Tree.{Tree}
+use Rattle.store_core.specs.Indexes.{AreIndexTrees}
 use Rattle.document_reads.proofs.Gathering.{Gathered, shown}
 use Rattle.document_reads.proofs.listing.index_of_services.Given as goal
 
 abbrev pub invariant-loop-root : goal.invariant-loop-root
-invariant-loop-root l = Gathered (index_trees l.store.content) (shown l.root-iterator.rest.items) l.maker
+invariant-loop-root l = (trees : List Tree) × AreIndexTrees l.store.content trees × Gathered trees (shown l.root-iterator.rest.items) l.maker

@@ -1,6 +1,6 @@
 use Rattle.std.proofs.Common.{◌≡◌, [], ◌∷◌, ◌++◌, length, ap, sym, subst, ◌∙◌, eqb-true}
 use Rattle.xml_tree.specs.Scopes.{AreInOrder, bindings_in}
-use Rattle.xml_tree.proofs.BindingLaws.{AreInOrder-bindings_in}
+use Rattle.xml_tree.proofs.BindingWords.{AreInOrder-bindings_in}
 use Rattle.usage_docs.proofs.HiddenLemmas.{hid_within, own_within, shown_len}
 use Rattle.usage_docs.proofs.LengthLemmas.{plain_service, two_capped}
 use Rattle.usage_docs.proofs.lengths.service_len.Goals as goal

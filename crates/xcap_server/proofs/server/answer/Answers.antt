@@ -1,4 +1,4 @@
-use Rattle.xcap_server.proofs.Standing.{answered_closes, answered_delete, answered_put, answered_second, answered_step}
+use Rattle.xcap_server.proofs.Standing.{answered_addresses, answered_closes, answered_delete, answered_put, answered_second, answered_step}
 use Rattle.xcap_server.proofs.server.answer.Goals as goal
 
 pub returns-clause-makes_a_step_of_the_machine : goal.returns-clause-makes_a_step_of_the_machine
@@ -12,6 +12,9 @@ returns-clause-what_was_deleted_is_gone c = answered_delete c.server.inside.serv
 
 pub returns-clause-a_second_put_leaves_every_tree : goal.returns-clause-a_second_put_leaves_every_tree
 returns-clause-a_second_put_leaves_every_tree c = answered_second c.server.inside.service c.args.server.now c.respond.new.self c.server.view_is c.args.request.now c.stands.ensures.stands_for_a_kept_state c.respond.result c.respond.ensures.answers_as_the_machine
+
+pub returns-clause-key_addresses_stay : goal.returns-clause-key_addresses_stay
+returns-clause-key_addresses_stay c = answered_addresses c.server.inside.service c.args.server.now c.respond.new.self c.server.view_is c.args.request.now c.stands.ensures.stands_for_a_kept_state c.respond.result c.respond.ensures.answers_as_the_machine
 
 pub returns-clause-closes_as_asked : goal.returns-clause-closes_as_asked
 returns-clause-closes_as_asked c = answered_closes c.server.inside.service c.args.server.now c.respond.new.self c.server.view_is c.args.request.now c.respond.result c.respond.ensures.answers_as_the_machine

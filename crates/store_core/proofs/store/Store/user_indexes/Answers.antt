@@ -3,7 +3,7 @@ use Rattle.std.proofs.lemmas.Result.{IfOk-weaker}
 use Rattle.std.specs.Map.{values_of}
 use Rattle.indexmap.specs.IndexMap.{spare}
 use Rattle.xml_tree.specs.Tree.{height}
-use Rattle.store_core.specs.Indexes.{index_trees}
+use Rattle.store_core.specs.Indexes.{AreIndexTrees}
 use Rattle.store_core.specs.Storing.{Room}
 use Rattle.store_core.proofs.Listing.{trees-listed, trees-low}
 use Rattle.store_core.proofs.store.Store.user_indexes.Goals as goal
@@ -14,7 +14,7 @@ returns-clause-trees c =
     let by_user = c.in_ok-trees.trees.entries in
     let room : Room = record { documents = spare s.documents; services = spare s.services } in
     let shown : IfOk c.collect.result (λ made. made.items ≡ values_of by_user) = search rules in
-    IfOk-weaker c.collect.result (λ made. made.items ≡ values_of by_user) (λ made. map (λ e. e.now) made.items ≡ index_trees c.args.self.now.content)
+    IfOk-weaker c.collect.result (λ made. made.items ≡ values_of by_user) (λ made. AreIndexTrees c.args.self.now.content (map (λ e. e.now) made.items))
     (λ made h. trees-listed s.documents.entries s.services.entries s.last s.total c.self.invariant by_user c.in_ok-trees.ensures.trees_that_are_listed made.items h room c.args.self.now c.self.view_is) shown
 
 pub returns-clause-low : goal.returns-clause-low

@@ -1,0 +1,60 @@
+//! GET and HEAD of feeds (RFC 5874, section 3; RFC 9110, sections 9.3.1 and 9.3.2).
+ghost use Rattle.std.specs.Prelude.{◌≡◌, None, IfOk};
+ghost use Rattle.reply_text.specs.declared.media_types.Media.TheVariants as medias;
+ghost use Rattle.request_terms.specs.Methods.{as_asked};
+ghost use Rattle.machine_words.specs.Answers.{found, unchanged};
+ghost use Rattle.machine_words.specs.Feeds.{ReadsFeed};
+
+use crate::NoMemory;
+use doc_names::DocId;
+use http_wire::Request;
+use patch_text::{gone_notice, notice};
+use reply_text::{Media, Reply};
+use request_terms::{Method, as_asked};
+use std::alloc::Global;
+use store_core::{Since, Store};
+use xcap_io::Bytes;
+use xcap_uri::{Mode, Root};
+
+/// What a feed is asked for: how changes are told, the tag of the version that is known, and the
+/// document.
+#[derive(Clone, Copy)]
+pub struct Feed<'a> {
+    pub mode: Mode,
+    pub tag: u64,
+    pub doc: &'a DocId,
+}
+
+// The reply with a notice, or for HEAD the head of that reply. It has no tag.
+fn with_notice(notice: Bytes, method: Method, closes: bool) -> Reply
+    ensures sends_the_notice_as_asked { result ≡ as_asked method (found None medias.Diff notice closes) }
+{
+    let reply = Reply::with(200, None, Some(Media::Diff), notice, closes);
+    as_asked(method, reply)
+}
+
+/// The reply to a GET or HEAD of a feed: the notice of the changes of the document since the
+/// version with the tag, or that it is gone, where it isn't held; 410 where the tag is neither its
+/// own nor the one before a change that is retained. Conditions aren't looked at. HEAD gets the
+/// head of GET's reply.
+///
+/// # Errors
+/// `NoMemory` for want of memory.
+pub fn get_feed(
+    alloc: Global,
+    root: &Root,
+    store: &Store,
+    feed: Feed<'_>,
+    method: Method,
+    request: &Request,
+) -> Result<Reply, NoMemory>
+    ensures replies_as_the_machine { IfOk result (λ r. ReadsFeed root.now store.now.content
+        feed.entry.mode feed.entry.tag feed.entry.doc.now method request.now (unchanged r)) }
+{
+    let text = match store.since(feed.doc, feed.tag) {
+        Since::Gone => gone_notice(alloc, root, feed.doc, feed.tag)?,
+        Since::Unknown => return Ok(Reply::fixed(410, request.closes)),
+        Since::Changes(notes) => notice(alloc, feed.mode, root, feed.doc, feed.tag, notes)?,
+    };
+    Ok(with_notice(text, method, request.closes))
+}

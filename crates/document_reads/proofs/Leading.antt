@@ -1,0 +1,18 @@
+-- What the name of the index leads to, by how long it is.
+use Rattle.std.proofs.Common.{◌≡◌, ◌+◌, ◌-◌, ◌<◌, ◌≤◌, ℕ, Bool, cond, sym, ap, subst, arith}
+use Rattle.std.proofs.lemmas.Bool.{le-ltb, lt-ltb}
+use Rattle.xml_tree.specs.Tree.{Tree}
+use Rattle.usage_docs.specs.Services.{document_len, index_limit}
+use Rattle.doc_names.specs.declared.doc_id.Auid.TheVariants.{RlsServices}
+use Rattle.store_core.specs.Held.{Content}
+use Rattle.machine_words.specs.Resources.{IsIndexOfServices, LeadsUnderGlobal, beyond_limit, there}
+
+pub leads_index : (c : Content) (root : Tree) (tag : ℕ) → IsIndexOfServices c root → document_len root ≤ index_limit → tag + 1 ≡ c.next → LeadsUnderGlobal c RlsServices true (there root tag)
+leads_index c root tag is fits next =
+    let same : c.next - 1 ≡ tag = omega (arith, next) in
+    subst (λ (n : ℕ). LeadsUnderGlobal c RlsServices true (there root n)) same
+    (root, is, sym (ap (λ (b : Bool). cond b beyond_limit (there root (c.next - 1))) (le-ltb index_limit (document_len root) fits)))
+
+pub leads_beyond : (c : Content) (root : Tree) → IsIndexOfServices c root → index_limit < document_len root → LeadsUnderGlobal c RlsServices true beyond_limit
+leads_beyond c root is over =
+    (root, is, sym (ap (λ (b : Bool). cond b beyond_limit (there root (c.next - 1))) (lt-ltb index_limit (document_len root) over)))

@@ -1,0 +1,6 @@
+pub mod KindWords
+pub mod Marks
+pub mod StepMarks
+pub mod Along
+pub mod Moving
+pub mod Stable

@@ -1,0 +1,76 @@
+-- Addresses by keys. RFC 4826, sections 3.2 and 4.2, on the attributes that tell an element from its siblings.
+use Rattle.std.specs.Prelude.{◌≡◌, ℕ, List, [], ◌∷◌, Option, None, Some, option_and_then, slice_get}
+use Rattle.std.specs.List.{AllByRecursion}
+use Rattle.xml_tree.specs.Tree.{Tree, kids_of}
+use Rattle.xml_tree.specs.Expanded.{element_name}
+use Rattle.xml_tree.specs.Proper.{ProperIn}
+use Rattle.node_select.specs.Names.{uri_of}
+use Rattle.node_select.specs.declared.selector.NameTest.TheVariants.{Named}
+use Rattle.node_select.specs.declared.selector.Step.{Step}
+use Rattle.node_select.specs.declared.selector.End.TheVariants.{Element}
+use Rattle.node_select.specs.declared.selector.Selector.{Selector}
+use Rattle.doc_names.specs.declared.usages.Usage.{Usage}
+use Rattle.usage_docs.specs.declared.rows.Kind.{Kind}
+use Rattle.usage_docs.specs.declared.rows.Key.{Key}
+use Rattle.usage_docs.specs.Rows.{Scope, kind_by, kind_of, root_kind}
+use Rattle.usage_docs.specs.Keys.{key_of, word}
+use Rattle.usage_docs.specs.Clashes.{inside, Unique}
+
+-- ---- the steps
+
+-- a step that is a kind's name, with a test of that kind's key and no position. The kind is that of a child of some row.
+pub record IsKeyStep (step : Step) : Type 0 where
+  pub row : Kind
+  pub kind : Kind
+  pub key : Key
+  pub uri : List ℕ
+  pub local : List ℕ
+  pub value : List ℕ
+  pub by_name : step.name ≡ Named uri local
+  pub of_kind : kind_by row uri local ≡ Some kind
+  pub of_key : key_of kind ≡ Some key
+  pub anywhere : step.position ≡ None
+  pub by_key : step.test ≡ Some (record { uri = []; local = word key; value = value })
+
+-- the step that is the root's name
+abbrev pub root_step : Tree → Step
+root_step t = record { name = Named (uri_of (element_name (t.decls ∷ []) t.name)) t.name.local; position = None; test = None }
+
+-- the first step is the root's name, and each later one is a key step
+abbrev pub AreKeySteps : Tree → List Step → Type 0
+AreKeySteps t [] = ⊥
+AreKeySteps t (first ∷ later) = (first ≡ root_step t) × AllByRecursion IsKeyStep later
+
+-- ---- kinds along a path
+
+-- among the children of an element of this row, in the scope inside it: each element on the path has a kind
+abbrev pub HaveKinds : Kind → Scope → List Tree → List ℕ → Type 0
+HaveKinds row c kids [] = Unit {0}
+HaveKinds row c kids (i ∷ p) =
+    (kid : Tree) × ((kind : Kind) × ((slice_get kids i ≡ Some kid) × (kind_of row (inside c kid) kid.name ≡ Some kind) × HaveKinds kind (inside c kid) (kids_of kid) p))
+
+-- the kind of the element at a path below an element of this row, with the scope inside it; none where some element on the path has none
+abbrev pub kind_below : Kind → Scope → Tree → List ℕ → Option Kind
+kind_below row c e [] = Some row
+kind_below row c e (i ∷ p) =
+    option_and_then (λ kid. option_and_then (λ kind. kind_below kind (inside c kid) kid p) (kind_of row (inside c kid) kid.name)) (slice_get (kids_of e) i)
+
+-- the kind of the element at a path of a document
+abbrev pub kind_at : Usage → Tree → List ℕ → Option Kind
+kind_at u t p = kind_below (root_kind u) (t.decls ∷ []) t p
+
+-- ---- key addresses
+
+-- the selector is a key address, counted as one of the element at the path: it ends in an element, its first step is the root's name,
+-- each later one is a key step, and all elements on the path have kinds
+pub record IsKeyAddressOf (u : Usage) (t : Tree) (selector : Selector) (p : List ℕ) : Type 0 where
+  pub ends : selector.end ≡ Element
+  pub steps : AreKeySteps t selector.steps
+  pub kinds : HaveKinds (root_kind u) (t.decls ∷ []) (kids_of t) p
+
+-- ---- documents whose addresses by keys last
+
+-- a proper document in which keys are distinct among siblings
+pub record IsKeyed (u : Usage) (t : Tree) : Type 0 where
+  pub unique : Unique u t
+  pub proper : ProperIn [] t

@@ -1,0 +1,2 @@
+pub mod KeyAddresses
+pub mod KeyWrites
