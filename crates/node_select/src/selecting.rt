@@ -21,6 +21,15 @@ pub fn select(alloc: Global, root: &Element, selector: &Selector) -> Option<Path
 /// The element that steps select, from the document on. Memory as for `select`.
 pub fn select_steps(alloc: Global, root: &Element, steps: &[Step]) -> Option<Path>
     requires { height root.now ≤ 64 }
+    ensures selected { (p : List ℕ) → (result ≡ Some p) ↔ SelectsPath steps.now root.now p }
+    ensures selects_in_the_document { result ≡ selected_in steps.now root.now }
+{
+    select_outside(alloc, root, steps)
+}
+
+// The element that steps select where the first is that of the root.
+fn select_outside(alloc: Global, root: &Element, steps: &[Step]) -> Option<Path>
+    requires { height root.now ≤ 64 }
     ensures selects_in_the_document { result ≡ selected_in steps.now root.now }
 {
     let [step, steps @ ..] = steps else {
