@@ -1,10 +1,10 @@
 -- The two sides of a gap, told from the children there; and when no gap is lawful.
 use Rattle.std.specs.Prelude.{◌&&◌, not}
-use Rattle.std.proofs.Common.{◌≡◌, ◌↔◌, ◌≤◌, ◌<◌, ◌+◌, inl, inr, ℕ, zero, suc, Bool, true, false, List, length, take, count_by, Option, Some, None, Result, Err, slice_get, IsTrue, refl, sym, ap, ◌∙◌, subst, arith}
+use Rattle.std.proofs.Common.{◌≡◌, ◌↔◌, ◌≤◌, ◌<◌, ◌+◌, inl, inr, ℕ, zero, suc, Bool, true, false, List, length, take, count_by, Option, Some, None, Result, Ok, Err, slice_get, IsTrue, refl, sym, ap, ◌∙◌, subst, arith}
 use Rattle.std.specs.Option.{ForSome}
 use Rattle.std.proofs.lemmas.Option.{same_Some, none-some, slice_get_within}
 use Rattle.std.proofs.lemmas.Bool.{cases_lt}
-use Rattle.step_laws.specs.Selection.{Matches, is_at_position}
+use Rattle.step_laws.specs.Selection.{IsAtPosition, Matches, is_at_position}
 use Rattle.step_laws.specs.Places.{IsFree, Lawful, PlanIs}
 use Rattle.step_laws.proofs.Selecting.{is_at_position_is}
 use Rattle.step_laws.proofs.GapLaws.{lawful_by_count, lawful_named, lawful_tested, lawful_free}
@@ -112,6 +112,20 @@ module _ {E : Type 0} (unlawful invalid : E) (named tested : Tree → Bool) (pos
 
   pub not_free : (IsFree named tested position xs → ⊥) → PlanIs unlawful invalid (Lawful named tested position xs e) V (length xs + 1) (Err unlawful)
   not_free no_room = none_planned unlawful invalid (Lawful named tested position xs e) V (length xs) (λ k lt l. no_room (lawful_free named tested position xs e k (omega arith) l))
+
+-- ---- the last gap of all, where there is no position
+
+pub last_of_all : {E : Type 0} (unlawful invalid : E) (named tested : Tree → Bool) (position : Option ℕ) (xs : List Tree) (e : Tree) (V : ℕ → Type 0) (many : ℕ) → many ≡ length xs → position ≡ None → IsTrue (named e) → IsTrue (tested e) → IsFree named tested position xs → V many
+    → PlanIs unlawful invalid (Lawful named tested position xs e) V (length xs + 1) (Ok many)
+last_of_all unlawful invalid named tested position xs e V many same none n t free fits =
+    let before = count_by named (take many xs) in
+    let l = lawful_by_count named tested position xs e many before (omega arith) n t free refl in
+    record {
+      within = omega arith;
+      is_lawful = l.0 (subst (λ (p : Option ℕ). IsAtPosition p before) (sym none) tt);
+      is_valid = fits;
+      last = λ k lt lawful valid. omega arith;
+    }
 
 -- ---- whether some child passes both tests
 

@@ -58,13 +58,13 @@ value_by : (kind : Kind) (key : Key) (ats : List Attr) → key_of kind ≡ Some 
 unfolding key_value
 value_by kind key ats k = rw k
 
-pub other_kind : (row : Kind) (c : Scope) (e : Tree) (own kind : Kind) (value : List ℕ) → kind_of_kid row c e ≡ Some own → (own ≡ kind → ⊥) → mark_of row c e ≡ Some (mark kind value) → ⊥
-other_kind row c e own kind value is other h = other (same_Some own kind (sym is ∙ (mark_parts row c e (mark kind value) h).0))
+pub other_value : (row : Kind) (c : Scope) (e : Tree) (kind : Kind) (key : Key) (value : List ℕ) → key_of kind ≡ Some key → (value_of key e.attrs ≡ Some value → ⊥) → mark_of row c e ≡ Some (mark kind value) → ⊥
+other_value row c e kind key value by_key other h = other (sym (value_by kind key e.attrs by_key) ∙ (mark_parts row c e (mark kind value) h).1)
 
-pub marked_by_value : (row : Kind) (c : Scope) (e : Tree) (own kind : Kind) (key : Key) (value : List ℕ) (b : Bool) → kind_of_kid row c e ≡ Some own → own ≡ kind → key_of kind ≡ Some key → IsTrue b ↔ (value_of key e.attrs ≡ Some value) → IsTrue b ↔ (mark_of row c e ≡ Some (mark kind value))
-marked_by_value row c e own kind key value b is same by_key test = (
-  λ h. mark_with row c e kind key value (is ∙ ap (λ (k : Kind). Some k) same) by_key (test.0 h),
-  λ h. test.1 (sym (value_by kind key e.attrs by_key) ∙ (mark_parts row c e (mark kind value) h).1),
+pub marked_by_kind : (row : Kind) (c : Scope) (e : Tree) (own kind : Kind) (key : Key) (value : List ℕ) (b : Bool) → kind_of_kid row c e ≡ Some own → key_of kind ≡ Some key → value_of key e.attrs ≡ Some value → IsTrue b ↔ (own ≡ kind) → IsTrue b ↔ (mark_of row c e ≡ Some (mark kind value))
+marked_by_kind row c e own kind key value b is by_key has test = (
+  λ h. mark_with row c e kind key value (is ∙ ap (λ (k : Kind). Some k) (test.0 h)) by_key has,
+  λ h. test.1 (same_Some own kind (sym is ∙ (mark_parts row c e (mark kind value) h).0)),
 )
 
 -- ---- twins

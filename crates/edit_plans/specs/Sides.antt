@@ -8,7 +8,7 @@ use Rattle.usage_docs.specs.Reading.Parts.{follows}
 use Rattle.usage_docs.specs.Validity.{ValidChild}
 use Rattle.usage_docs.specs.Reading.Gaps.{FollowsGap, part_after, part_before, part_of_kid}
 
--- the part of a child of an element of this row; without a row 0, which is asked of nothing
+-- the part of a child of an element of this row; of one without a row it is 0, and nothing asks for it
 abbrev pub part_in : Option Kind → Scope → Tree → ℕ
 part_in None c e = 0
 part_in (Some row) c e = part_of_kid row c e

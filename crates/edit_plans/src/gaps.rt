@@ -1,5 +1,5 @@
-//! The last gap of an element at which a step selects a new child and the element stays valid: one
-//! pass over the children.
+//! The last gap of an element at which a step selects a new child and the element stays valid: the
+//! one behind all children without more ado, where there is no position; else by one pass over them.
 ghost use Rattle.std.specs.Prelude.{◌≡◌, ◌↔◌, ◌<◌, ◌+◌, ◌^◌, ℕ, IsTrue, IfOk, None, cond, length};
 ghost use Rattle.std.specs.Option.{ForSome};
 ghost use Rattle.step_laws.specs.Selection.{Matches, is_at_position};
@@ -10,6 +10,7 @@ ghost use Rattle.usage_docs.specs.Validity.{ValidChild};
 ghost use Rattle.edit_plans.specs.Sides.{FitsIn, fits_between, part_in};
 ghost use Rattle.edit_plans.specs.declared.gaps.NoGap.TheVariants.{Unlawful, Invalid};
 
+use crate::removing::part_left;
 use node_select::Step;
 use std::alloc::Global;
 use usage_docs::{END, Kind, follows, is_valid_child, part_of};
@@ -86,11 +87,12 @@ pub(crate) fn is_valid_in(
     }
 }
 
-/// Whether a child passes both tests of a step.
+/// Whether a child passes both tests of a step. The test of an attribute comes first, since it is
+/// the one that fewer children pass.
 pub(crate) fn passes(alloc: Global, scope: &Around<'_>, step: &Step, kid: &Element) -> bool
     ensures tells_whether_it_passes_both { IsTrue result ↔ (IsTrue (is_named scope.now step.now kid.now) × IsTrue (is_tested scope.now step.now kid.now)) }
 {
-    step.names(alloc, scope, kid) && step.tests(alloc, scope, kid)
+    step.tests(alloc, scope, kid) && step.names(alloc, scope, kid)
 }
 
 // Whether one that has so many of its name before it is at the position.
@@ -138,7 +140,85 @@ fn is_free(alloc: Global, scope: &Around<'_>, step: &Step, parent: &Element) -> 
     }
 }
 
-// The last gap, where the new child passes both tests, and nothing stands in its way.
+// How many children an element has.
+fn count_kids(parent: &Element) -> usize
+    ensures counts_the_children { result ≡ length (kids_of parent.now) }
+{
+    let mut many: usize = 0;
+    for node in parent.nodes() {
+        if let Node::Elem(_) = node {
+            many += 1;
+        }
+    }
+    many
+}
+
+// Whether a new child may stand behind all children, of which there are so many.
+fn fits_last(
+    alloc: Global,
+    row: Option<Kind>,
+    scope: &Around<'_>,
+    parent: &Element,
+    new: &Element,
+    itself: bool,
+    many: usize,
+) -> bool
+    requires many { many ≡ length (kids_of parent.now) }
+    requires itself { ForSome row (λ kind. IsTrue itself ↔ ValidChild kind scope.now new.now) }
+    ensures tells_whether_it_fits_last { IsTrue result ↔ FitsIn row scope.now parent.now.content new.now many }
+{
+    let part = part_in(alloc, row, scope, new);
+    let left = part_left(alloc, row, scope, parent, many);
+    fits(row, itself, left, part, END)
+}
+
+// Whether a step has no position, and the new child may stand behind all children.
+fn takes_last(
+    alloc: Global,
+    row: Option<Kind>,
+    scope: &Around<'_>,
+    step: &Step,
+    parent: &Element,
+    new: &Element,
+    itself: bool,
+    many: usize,
+) -> bool
+    requires many { many ≡ length (kids_of parent.now) }
+    requires itself { ForSome row (λ kind. IsTrue itself ↔ ValidChild kind scope.now new.now) }
+    ensures fits_in_any_order { IsTrue result → (step.now.position ≡ None) × FitsIn row scope.now parent.now.content new.now many }
+{
+    match step.position {
+        None => fits_last(alloc, row, scope, parent, new, itself, many),
+        Some(_) => false,
+    }
+}
+
+// The last gap, where the new child passes both tests, and nothing stands in its way: the one behind
+// all children, where it is seen to do, else by a pass over them.
+fn greatest_gap(
+    alloc: Global,
+    row: Option<Kind>,
+    scope: &Around<'_>,
+    step: &Step,
+    parent: &Element,
+    new: &Element,
+    itself: bool,
+) -> Result<usize, NoGap>
+    requires named { IsTrue (is_named scope.now step.now new.now) }
+    requires tested { IsTrue (is_tested scope.now step.now new.now) }
+    requires free { IsFree (is_named scope.now step.now) (is_tested scope.now step.now) step.now.position (kids_of parent.now) }
+    requires itself { ForSome row (λ kind. IsTrue itself ↔ ValidChild kind scope.now new.now) }
+    ensures finds_the_greatest_gap { PlanIs Unlawful Invalid (Lawful (is_named scope.now step.now) (is_tested scope.now step.now) step.now.position (kids_of parent.now) new.now)
+        (FitsIn row scope.now parent.now.content new.now) (length (kids_of parent.now) + 1) result }
+{
+    let many = count_kids(parent);
+    if takes_last(alloc, row, scope, step, parent, new, itself, many) {
+        return Ok(many);
+    }
+    last_gap(alloc, row, scope, step, parent, new, itself)
+}
+
+// The same by a pass over the children, which tries each gap.
 fn last_gap(
     alloc: Global,
     row: Option<Kind>,
@@ -202,5 +282,5 @@ pub(crate) fn choose_gap(
         return Ok(Err(NoGap::Unlawful));
     }
     let itself = is_valid_in(alloc, row, scope, new)?;
-    Ok(last_gap(alloc, row, scope, step, parent, new, itself))
+    Ok(greatest_gap(alloc, row, scope, step, parent, new, itself))
 }

@@ -73,7 +73,8 @@ fn still_selects(
     }
 }
 
-/// The part of the child before this one, or the beginning.
+/// The part of the child before this one, or the beginning. There may be no child of this number,
+/// but that behind the last one.
 pub(crate) fn part_left(
     alloc: Global,
     row: Option<Kind>,
@@ -81,7 +82,7 @@ pub(crate) fn part_left(
     parent: &Element,
     child: usize,
 ) -> u8
-    requires { child < length (kids_of parent.now) }
+    requires { child ≤ length (kids_of parent.now) }
     ensures part_before_the_child { ForSome row (λ kind. result ≡ part_before kind scope.now 0 child parent.now.content) }
 {
     if child == 0 {

@@ -28,18 +28,18 @@ module _ {B : Type 0} where
 
 -- ---- the loop that tells them
 
-module _ {B : Type 0} (told_list : B → Option (List Edit)) (faults : B → ℕ) (never_refuses : B → Type 0) (answers : B → Edit → Told → Type 0) (edit : Edit) where
+module _ {B : Type 0} (told_list : B → Option (List Edit)) (faults : B → ℕ) (never_refuses : B → Type 0) (answers : B → Edit → Told → Type 0) (written : B → Option (List ℕ)) (edit : Edit) where
   abbrev Tells : List B → List B → ℕ → Type 0
-  Tells = AreTold told_list faults never_refuses answers edit
+  Tells = AreTold told_list faults never_refuses answers written edit
 
   abbrev SoFar : List B → List B → ℕ → ℕ → Type 0
-  SoFar = AreToldAsFarAs told_list faults never_refuses answers edit
+  SoFar = AreToldAsFarAs told_list faults never_refuses answers written edit
 
   abbrev Keeps : B → B → Type 0
-  Keeps = HasKept told_list faults never_refuses answers edit
+  Keeps = HasKept told_list faults never_refuses answers written edit
 
-  abbrev Leaves : B → Type 0
-  Leaves = HasLeft told_list faults never_refuses answers edit
+  abbrev Leaves : B → B → Type 0
+  Leaves = HasLeft told_list faults never_refuses answers written edit
 
   pub none_told : (old : List B) → SoFar old old 0 0
   none_told old = record {
@@ -58,7 +58,7 @@ module _ {B : Type 0} (told_list : B → Option (List Edit)) (faults : B → ℕ
         subst (λ ns. Tells old ns (left + k)) (sym (up_to_written now i b new lt)) (so_far.goes_on (b ∷ new) k step);
   }
 
-  pub one_left : (old now : List B) (i left : ℕ) (d b : B) (after : List B) → i < length now → d ≡ get_or now i d → Leaves d → after ≡ remove (set now i b) i
+  pub one_left : (old now : List B) (i left : ℕ) (d b : B) (after : List B) → i < length now → d ≡ get_or now i d → Leaves d b → after ≡ remove (set now i b) i
       → SoFar old now i left → SoFar old after i (left + 1)
   one_left old now i left d b after lt is_at gone removed so_far =
       subst (λ ns. SoFar old ns i (left + 1)) (sym (removed ∙ removed_written now i b lt)) (record {
@@ -66,7 +66,7 @@ module _ {B : Type 0} (told_list : B → Option (List Edit)) (faults : B → ℕ
         count = let c = so_far.count in grind (arith, common_steps);
         goes_on = λ new k h.
             let rest = subst (λ ds. Tells ds new k) (behind_removed now i lt) h in
-            let step = subst (λ ds. Tells ds new (k + 1)) (sym (from_here now i d lt)) (inr (k, refl, subst Leaves is_at gone, rest)) in
+            let step = subst (λ ds. Tells ds new (k + 1)) (sym (from_here now i d lt)) (inr (b, k, refl, subst (λ o. Leaves o b) is_at gone, rest)) in
             let e : left + (k + 1) ≡ left + 1 + k = omega arith in
             subst (λ ns. Tells old ns (left + 1 + k)) (ap (λ ts. ts ++ new) (sym (up_to_removed now i lt))) (subst (Tells old (take i now ++ new)) e (so_far.goes_on new (k + 1) step));
       })

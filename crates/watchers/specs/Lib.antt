@@ -1,5 +1,6 @@
 pub mod Held
 pub mod Telling
+pub mod Writing
 pub mod Answers
 pub mod Mirrors
 pub mod Lines

@@ -1,5 +1,5 @@
 //! A watcher that writes a line about each change.
-ghost use Rattle.std.specs.Prelude.{◌≡◌, ⊤, None};
+ghost use Rattle.std.specs.Prelude.{◌≡◌, ⊤, None, Some};
 ghost use Rattle.watchers.specs.Audits.{Audits};
 
 use crate::line::line_of;
@@ -42,6 +42,8 @@ impl<S: Sink + Drop> Watcher for Audit<S> {
     ghost never_refuses = { λ _. ⊥ };
 
     ghost answers = { λ _ _ _. ⊤ };
+
+    ghost written = { λ a. Some (S.state a.sink).taken };
 
     ghost holds = { λ _ _. None };
 

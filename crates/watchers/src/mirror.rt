@@ -141,6 +141,8 @@ impl Watcher for Mirror {
 
     ghost answers = { λ _ _ told. NeverFails told };
 
+    ghost written = { λ _. None };
+
     ghost holds = { held_in };
 
     fn told(&mut self, doc: &DocId, note: &EditNote) -> Told

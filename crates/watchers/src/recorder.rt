@@ -67,6 +67,8 @@ impl Watcher for Recorder {
 
     ghost answers = { λ _ _ told. NeverFails told };
 
+    ghost written = { λ _. None };
+
     ghost holds = { λ _ _. None };
 
     fn told(&mut self, doc: &DocId, note: &EditNote) -> Told

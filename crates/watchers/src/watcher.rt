@@ -5,6 +5,7 @@ ghost use Rattle.xcap_io.specs.Causes.{Rose};
 ghost use Rattle.doc_names.specs.declared.doc_id.DocId.{DocId as TheDocId};
 ghost use Rattle.watchers.specs.Held.{Held};
 ghost use Rattle.watchers.specs.Telling.{with_edit};
+ghost use Rattle.watchers.specs.Writing.{Wrote};
 ghost use Rattle.notes.specs.declared.edit.Edit.{Edit as TheEdit};
 ghost use Rattle.watchers.specs.declared.watcher.Told.{Told as TheAnswer};
 
@@ -37,17 +38,21 @@ pub trait Watcher: Drop {
     /// What it may answer to a change.
     ghost answers: { Self → TheEdit → TheAnswer → Type 0 };
 
+    /// The bytes that it has written, where it writes a line about each change and tells them.
+    ghost written: { Self → Option (List ℕ) };
+
     /// What it holds of a document.
     ghost holds: { Self → TheDocId → Option Held };
 
-    /// Tells it of a change. `Kept` puts the change behind those that it was told. `Failed` comes only where its count of
-    /// faults rose.
+    /// Tells it of a change. `Kept` puts the change behind those that it was told, and the change's line behind the bytes
+    /// that it wrote. `Failed` comes only where its count of faults rose.
     fn told(&mut self, doc: &DocId, note: &EditNote) -> Told
         ensures kept { result ≡ Told.Kept
             → told_list self.new ≡ with_edit (told_list self.old) (record { doc = doc.now; note = note.now }) }
         ensures failed { result ≡ Told.Failed → Rose (faults self.old) (faults self.new) }
         ensures counts { faults self.old ≤ faults self.new }
         ensures never { never_refuses self.old → (result ≡ Told.Kept) × never_refuses self.new }
+        ensures wrote { Wrote (written self.old) (record { doc = doc.now; note = note.now }) result (written self.new) }
         ensures answers { answers self.old (record { doc = doc.now; note = note.now }) result };
 
     /// The tree that it holds of a document, and the number of the change that made it; None for a watcher that holds no

@@ -24,14 +24,16 @@ pub trait Watchers {
     ghost more: { (xs ys : List TheEdit) (a b c : Self) → keeps xs a b → keeps ys b c → keeps (xs ++ ys) a c };
 }
 
-/// Some are listed afterwards, in order, and each of them kept every change; those that may refuse may have left.
+/// Some are listed afterwards, in order, and each of them kept every change; each of the others left at one of them.
+/// It is told what those wrote that write lines, of the others until they left.
 impl Watchers for Vec<Box<dyn Watcher>> {
     ghost keeps = { λ edits old new. AreKept (λ b. (Watcher-box b).told_list b.value) (λ b. (Watcher-box b).faults b.value)
-        (λ b. (Watcher-box b).never_refuses b.value) edits old.items new.items };
+        (λ b. (Watcher-box b).never_refuses b.value) (λ b. (Watcher-box b).answers b.value) (λ b. (Watcher-box b).written b.value)
+        edits old.items new.items };
 
-    ghost none = { λ w. no_round _ _ _ w.items };
+    ghost none = { λ w. no_round _ _ _ _ _ w.items };
 
-    ghost more = { λ xs ys a b c. more_rounds _ _ _ xs ys a.items b.items c.items };
+    ghost more = { λ xs ys a b c. more_rounds _ _ _ _ _ xs ys a.items b.items c.items };
 
     fn tell(&mut self, edit: &Edit) {
         tell_all(self, edit);

@@ -37,7 +37,7 @@ took_all old new bytes none took = took ∙ ap (λ (l : List ℕ). l ++ bytes) n
 
 module _ {W : Type 0} (Keeps : List Edit → W → W → Type 0) where
   input_done : (root : List ℕ) (input input' output output' : LineState) (w w' : W) → input.inward.given ≡ [] → output.taken ≡ []
-      → Replays Keeps root Done input input' output output' w w' → AnswersInput root input' output'
+      → Replays Keeps root Done input input' output output' w w' → AnswersInput Keeps root input' output' w w'
   input_done root input input' output output' w w' none_given none_taken r =
       let s = r.serves in
       let given : s.passed.given ≡ input'.inward.given = sym (took_all input.inward.given input'.inward.given s.passed.given none_given s.gave.behind) in
@@ -48,10 +48,11 @@ module _ {W : Type 0} (Keeps : List Edit → W → W → Type 0) where
         state = r.state;
         edits = s.edits;
         serves = subst (λ (t : Traffic). ServesOne (InBytes (KeptStep root)) fixed closed (first_state 1) t r.state s.edits) is s.serves;
+        told = s.kept;
       }
 
   port_done : (address root : List ℕ) (count : ℕ) (port port' output output' : LineState) (w w' : W) → port.port.begun ≡ none_begun → output.taken ≡ []
-      → Serves Keeps address root count Done port port' output output' w w' → AnswersAll root port port' × (output'.taken ≡ served_line (length (carried port')))
+      → Serves Keeps address root count Done port port' output output' w w' → AnswersAll Keeps root port port' w w' × (output'.taken ≡ served_line (length (carried port')))
   port_done address root count port port' output output' w w' none_yet none_taken (served, s, complete, takes) =
       let v = s.serves in
       let all : carried port' ≡ v.connections = v.all_carried ∙ ap (λ (b : Begun). carried_by b.earlier b.is_present (traffic port) ++ v.connections) none_yet in (
@@ -59,6 +60,7 @@ module _ {W : Type 0} (Keeps : List Edit → W → W → Type 0) where
           state = s.state;
           edits = v.edits;
           serves = subst (λ (l : List Traffic). ServesAll (InBytes (KeptStep root)) fixed (first_state 1) l s.state v.edits port.read_faults port'.read_faults port.write_faults port'.write_faults) (sym all) v.serves;
+          told = v.kept;
         },
         took_all output.taken output'.taken (served_line served.connections) none_taken takes.taken
             ∙ ap served_line (sym v.count)
@@ -66,7 +68,7 @@ module _ {W : Type 0} (Keeps : List Edit → W → W → Type 0) where
       )
 
   by_command : (command : Option Command) (port port' input input' output output' : LineState) (w w' : W) → port.port.begun ≡ none_begun → input.inward.given ≡ [] → output.taken ≡ []
-      → Runs Keeps command Done port port' input input' output output' w w' → IsDone command port port' input' output'
+      → Runs Keeps command Done port port' input input' output output' w w' → IsDone Keeps command port port' input' output' w w'
   by_command None port port' input input' output output' w w' none_yet none_given none_taken r = r.0
   by_command (Some (Replay root)) port port' input input' output output' w w' none_yet none_given none_taken r = input_done root input input' output output' w w' none_given none_taken r.0
   by_command (Some (Serve address root count)) port port' input input' output output' w w' none_yet none_given none_taken r =
@@ -75,11 +77,12 @@ module _ {W : Type 0} (Keeps : List Edit → W → W → Type 0) where
       let judged = r.0.0 in (
         subst (λ (text : List ℕ). TextVerdict usage text Done) (sym (took_all input.inward.given input'.inward.given judged.0 none_given judged.1.gave.consumed.behind)) judged.2,
         took_all output.taken output'.taken (codes "valid\n") none_taken r.0.1.taken,
+        r.2,
       )
 
   -- a run that answered 0
   pub done_by : (command : Option Command) (exit : Exit) (port port' input input' output output' : LineState) (w w' : W) → port.port.begun ≡ none_begun → input.inward.given ≡ [] → output.taken ≡ []
-      → status_of exit ≡ 0 → Runs Keeps command exit port port' input input' output output' w w' → IsDone command port port' input' output'
+      → status_of exit ≡ 0 → Runs Keeps command exit port port' input input' output output' w w' → IsDone Keeps command port port' input' output' w w'
   done_by command exit port port' input input' output output' w w' none_yet none_given none_taken zero r =
       by_command command port port' input input' output output' w w' none_yet none_given none_taken
       (subst (λ (x : Exit). Runs Keeps command x port port' input input' output output' w w') (is_done exit zero) r)

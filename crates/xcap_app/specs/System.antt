@@ -15,22 +15,29 @@ use Rattle.xcap_app.specs.declared.command.Command.{Command}
 use Rattle.xcap_app.specs.declared.command.Command.TheVariants.{Replay, Serve, Check}
 use Rattle.xcap_app.specs.declared.exit.Exit.TheVariants.{Done}
 
--- On all connections of the port the machine of this root answered, from the state without documents whose next number is 1 on,
--- over kept states alone: the bytes taken on each are its replies to the items of the bytes given on it.
-pub record AnswersAll (root : List ℕ) (port port' : LineState) : Type 0 where
-  pub state : State
-  pub edits : List Edit
-  pub serves : ServesAll (InBytes (KeptStep root)) fixed (first_state 1) (carried port') state edits port.read_faults port'.read_faults port.write_faults port'.write_faults
+-- W is the type of the watchers, and `Keeps` says what they are after such changes.
+module _ {W : Type 0} (Keeps : List Edit → W → W → Type 0) where
+  -- On all connections of the port the machine of this root answered, from the state without documents whose next number is 1 on,
+  -- over kept states alone: the bytes taken on each are its replies to the items of the bytes given on it. The watchers were told
+  -- exactly the changes that it made, in order.
+  pub record AnswersAll (root : List ℕ) (port port' : LineState) (watchers watchers' : W) : Type 0 where
+    pub state : State
+    pub edits : List Edit
+    pub serves : ServesAll (InBytes (KeptStep root)) fixed (first_state 1) (carried port') state edits port.read_faults port'.read_faults port.write_faults port'.write_faults
+    pub told : Keeps edits watchers watchers'
 
--- Of the input and the output as one connection, which was closed, the same.
-pub record AnswersInput (root : List ℕ) (input' output' : LineState) : Type 0 where
-  pub state : State
-  pub edits : List Edit
-  pub serves : Serves (InBytes (KeptStep root)) fixed closed (first_state 1) (record { given = input'.inward.given; ended = input'.inward.ended; taken = output'.taken }) state edits
+  -- Of the input and the output as one connection, which was closed, the same.
+  pub record AnswersInput (root : List ℕ) (input' output' : LineState) (watchers watchers' : W) : Type 0 where
+    pub state : State
+    pub edits : List Edit
+    pub serves : Serves (InBytes (KeptStep root)) fixed closed (first_state 1) (record { given = input'.inward.given; ended = input'.inward.ended; taken = output'.taken }) state edits
+    pub told : Keeps edits watchers watchers'
 
--- what was done, by the command that the words spell
-abbrev pub IsDone : Option Command → LineState → LineState → LineState → LineState → Type 0
-IsDone None port port' input' output' = ⊥
-IsDone (Some (Replay root)) port port' input' output' = AnswersInput root input' output'
-IsDone (Some (Serve address root count)) port port' input' output' = AnswersAll root port port' × (output'.taken ≡ served_line (length (carried port')))
-IsDone (Some (Check usage)) port port' input' output' = TextVerdict usage input'.inward.given Done × (output'.taken ≡ codes "valid\n")
+  -- what was done, by the command that the words spell
+  abbrev pub IsDone : Option Command → LineState → LineState → LineState → LineState → W → W → Type 0
+  IsDone None port port' input' output' watchers watchers' = ⊥
+  IsDone (Some (Replay root)) port port' input' output' watchers watchers' = AnswersInput root input' output' watchers watchers'
+  IsDone (Some (Serve address root count)) port port' input' output' watchers watchers' =
+      AnswersAll root port port' watchers watchers' × (output'.taken ≡ served_line (length (carried port')))
+  IsDone (Some (Check usage)) port port' input' output' watchers watchers' =
+      TextVerdict usage input'.inward.given Done × (output'.taken ≡ codes "valid\n") × (watchers' ≡ watchers)

@@ -18,7 +18,7 @@ use xcap_io::{Line, StdSink, StdSource, TcpPeer, TcpPort};
 /// Runs the command that the words spell, as `run` does, over sockets and streams over which nothing has passed yet. Where it
 /// answers 0, what passed over them is what the command says: of `serve`, the bytes that were taken on each socket are the replies
 /// to what was given on it; of `replay`, the same of the input and the output; of `check`, the bytes that were given are a valid
-/// document.
+/// document. The watchers were told exactly the changes that were made, in order.
 pub fn run_on_system<N: Net + Drop, I: Read, O: Write, E: Write, W: Watchers>(
     alloc: Global,
     words: &[String],
@@ -32,9 +32,10 @@ pub fn run_on_system<N: Net + Drop, I: Read, O: Write, E: Write, W: Watchers>(
     requires none_begun { (⟦<TcpPort<N> as Line>⟧.state port.old).port.begun ≡ none_begun }
     requires none_given { (⟦<StdSource<I> as Line>⟧.state input.old).inward.given ≡ [] }
     requires none_taken { (⟦<StdSink<O> as Line>⟧.state output.old).taken ≡ [] }
-    ensures done { result ≡ 0 → IsDone (command_of (map string_bytes words.now))
+    ensures done { result ≡ 0 → IsDone W.keeps (command_of (map string_bytes words.now))
         (⟦<TcpPort<N> as Line>⟧.state port.old) (⟦<TcpPort<N> as Line>⟧.state port.new)
-        (⟦<StdSource<I> as Line>⟧.state input.new) (⟦<StdSink<O> as Line>⟧.state output.new) }
+        (⟦<StdSource<I> as Line>⟧.state input.new) (⟦<StdSink<O> as Line>⟧.state output.new)
+        watchers.old watchers.new }
     ensures ends { (exit : Exit) × (result ≡ status_of exit) × Runs W.keeps (command_of (map string_bytes words.now)) exit
         (⟦<TcpPort<N> as Line>⟧.state port.old) (⟦<TcpPort<N> as Line>⟧.state port.new)
         (⟦<StdSource<I> as Line>⟧.state input.old) (⟦<StdSource<I> as Line>⟧.state input.new)

@@ -3,8 +3,14 @@ use Rattle.std.proofs.Common.{false, refl, sym, ◌∙◌}
 use Rattle.std.proofs.lemmas.Option.{none-some}
 use Rattle.usage_docs.specs.Clashes.{mark}
 use Rattle.edit_plans.proofs.Judging.{true_false}
-use Rattle.edit_plans.proofs.TwinLemmas.{marked_by_value, other_kind, unmarked_kind}
+use Rattle.edit_plans.proofs.TwinLemmas.{marked_by_kind, other_value, unmarked_kind}
 use Rattle.edit_plans.proofs.siblings.has_mark.Goals as goal
+
+pub returns-then-not-has_value : goal.returns-then-not-has_value
+returns-then-not-has_value c = record {
+  tells_whether_it_has_the_mark =
+      (λ h. absurd (true_false false h refl), λ h. absurd (other_value c.args.row c.args.scope.now c.args.kid.now c.args.kind c.args.key (chars c.args.value.now) c.requires (λ has. true_false c.has_value.result (c.has_value.ensures.tells_whether_it_has_the_value.1 has) c.if-not-has_value.true) h));
+}
 
 pub returns-in_default : goal.returns-in_default
 returns-in_default c = record {
@@ -13,14 +19,8 @@ returns-in_default c = record {
       (λ h. absurd (true_false false h refl), λ h. absurd (none-some (mark c.args.kind (chars c.args.value.now)) (sym none ∙ h)));
 }
 
-pub returns-then-not-is_kind : goal.returns-then-not-is_kind
-returns-then-not-is_kind c = record {
-  tells_whether_it_has_the_mark =
-      (λ h. absurd (true_false false h refl), λ h. absurd (other_kind c.args.row c.args.scope.now c.args.kid.now c.in-Some.own c.args.kind (chars c.args.value.now) (sym c.kind_of_kid.ensures.kind_of_the_child ∙ c.in-Some.is) (λ same. true_false c.is_kind.result (c.is_kind.ensures.tells_whether_they_are_one.1 same) c.if-not-is_kind.true) h));
-}
-
 pub returns : goal.returns
 returns c = record {
   tells_whether_it_has_the_mark =
-      marked_by_value c.args.row c.args.scope.now c.args.kid.now c.in-Some.own c.args.kind c.args.key (chars c.args.value.now) c.has_value.result (sym c.kind_of_kid.ensures.kind_of_the_child ∙ c.in-Some.is) (c.is_kind.ensures.tells_whether_they_are_one.0 c.if-not-is_kind.false) c.requires c.has_value.ensures.tells_whether_it_has_the_value;
+      marked_by_kind c.args.row c.args.scope.now c.args.kid.now c.in-Some.own c.args.kind c.args.key (chars c.args.value.now) c.is_kind.result (sym c.kind_of_kid.ensures.kind_of_the_child ∙ c.in-Some.is) c.requires (c.has_value.ensures.tells_whether_it_has_the_value.0 c.if-not-has_value.false) c.is_kind.ensures.tells_whether_they_are_one;
 }

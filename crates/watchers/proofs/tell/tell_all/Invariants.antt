@@ -9,6 +9,7 @@ invariant-watchers g l =
     (λ b. (goal.Watcher-dyn g (b.vtable, b.value)).faults b.value)
     (λ b. (goal.Watcher-dyn g (b.vtable, b.value)).never_refuses b.value)
     (λ b. (goal.Watcher-dyn g (b.vtable, b.value)).answers b.value)
+    (λ b. (goal.Watcher-dyn g (b.vtable, b.value)).written b.value)
     l.edit l.fn.watchers.items l.watchers.items l.kept l.left
 
 abbrev pub decreases-watchers : goal.decreases-watchers
