@@ -37,7 +37,6 @@ fn version_of<'a>(store: &'a Store, doc: &DocId, usage: Usage) -> Option<(&'a El
     ensures version_now { option_map (λ v. (v.0.now, v.1)) result ≡ version_of store.now.content doc.now }
     ensures kept_sound { IfSome result (λ v. IsSound usage v.0.now) }
 {
-    store.stands();
     store.get(doc)
 }
 

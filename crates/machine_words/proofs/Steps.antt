@@ -20,7 +20,7 @@ use Rattle.machine_words.specs.Answers.{Answer, Made}
 use Rattle.machine_words.specs.Machine.{Does, KeptStep, Step, after_answer, answer_as, content_after_answer, told_as}
 use Rattle.machine_words.specs.Requests.{IsAnswer}
 use Rattle.machine_words.specs.Laws.{AllowsOne, ChangesNothing, HasStep, tells_change}
-use Rattle.machine_words.proofs.Asked.{all_sound}
+use Rattle.store_core.proofs.SoundHeld.{all_sound}
 use Rattle.machine_words.proofs.OneAnswer.{one_answer, some_answer}
 use Rattle.machine_words.proofs.Ways.{Way, changes, stays, tells_none, way_of}
 

@@ -73,7 +73,8 @@ use Rattle.machine_words.specs.Requests.{ByMethod, ByTarget, ByUser, Deletes, Is
 use Rattle.machine_words.specs.Resources.{Resource, absent, beyond_limit, there, version_of}
 use Rattle.machine_words.specs.Fragments.{CutsNode, DeletesNodeIn, PutsAt, PutsElementText, PutsFragment, PutsFrom, PutsNodeIn, PutsValueText, cut_reply, is_there, levels_for, plan_answer, plan_refused, put_planned, scope_for}
 use Rattle.machine_words.specs.Writing.{DeletesDocumentIn, IfStored, PutsBody, PutsDocument, PutsSpelled, PutsText, by_judgement, change_answer, deleted_reply, fault_conflict, put_answer, put_change, put_reply, refused, store_answer, tag_of, text_conflict}
-use Rattle.machine_words.proofs.Asked.{AllSound, asks_to_delete, asks_to_edit, asks_to_put, sound_at, users_write}
+use Rattle.store_core.proofs.SoundHeld.{AllSound}
+use Rattle.machine_words.proofs.Asked.{asks_to_delete, asks_to_edit, asks_to_put, sound_at, users_write}
 use Rattle.machine_words.proofs.Named.{writable_target}
 use Rattle.machine_words.proofs.Cases.{either}
 

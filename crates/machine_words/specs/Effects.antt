@@ -12,12 +12,7 @@ use Rattle.node_select.specs.declared.selector.Selector.{Selector}
 use Rattle.plan_words.specs.Attributes.{FindsValue}
 use Rattle.plan_words.specs.Spots.{IsSpotOf}
 use Rattle.plan_words.specs.declared.spot.Spot.{Spot}
-use Rattle.doc_names.specs.Usages.{usage_of}
 use Rattle.doc_names.specs.declared.doc_id.DocId.{DocId}
-use Rattle.doc_names.specs.declared.usages.Usage.{Usage}
-use Rattle.edit_ops.specs.Changes.{edited}
-use Rattle.edit_ops.specs.declared.change.Change.{Change}
-use Rattle.key_laws.specs.KeyWrites.{KeepsKeyAddresses}
 use Rattle.xcap_uri.specs.Targets.{TargetAnswer}
 use Rattle.xcap_uri.specs.declared.target.Target.{Target}
 use Rattle.xcap_uri.specs.declared.target.Target.TheVariants.{Document, Node, Deep, Feed, ElementFeed, Flat}
@@ -28,6 +23,7 @@ use Rattle.request_terms.specs.declared.method.Method.TheVariants.{Put, Delete}
 use Rattle.notes.specs.declared.edit.Edit.{Edit}
 use Rattle.reply_text.specs.Heads.{plain}
 use Rattle.store_core.specs.Held.{Content, Held}
+use Rattle.store_core.specs.KeyAddresses.{KeepsAddressesOf}
 use Rattle.machine_words.specs.Answers.{Answer, unchanged}
 use Rattle.machine_words.specs.Fragments.{levels_for, scope_for}
 use Rattle.machine_words.specs.Machine.{content_after_answer}
@@ -140,13 +136,6 @@ SecondPutLeavesTrees root request edit next =
 
 -- ---- addresses by keys
 
--- a change from what was held to what is held next: where the document was held, is of this usage and had this tree, and is held next, it then has
--- the edited tree, and the change leaves what the document's key addresses select
-abbrev pub KeepsAddressesOf : Content → DocId → Change → Content → Type 0
-KeepsAddressesOf c id change next =
-    (usage : Usage) (before after : Tree) (old new : ℕ) → usage_of id.auid ≡ Some usage → version_of c id ≡ Some (before, old) → version_of next id ≡ Some (after, new)
-    → (after ≡ edited before change) × KeepsKeyAddresses usage before change
-
--- where a change was made
+-- where a change was made, it leaves what the key addresses of its document select
 abbrev pub KeyAddressesStay : Content → Option Edit → Content → Type 0
 KeyAddressesStay c edit next = IfSome edit (λ e. KeepsAddressesOf c e.doc e.note.change next)

@@ -1,21 +1,16 @@
 //! Laws of the machine, each the contract of a function that does nothing.
 ghost use Rattle.std.specs.Prelude.{◌≡◌, ℕ, ◌+◌, ◌≤◌, true, false, List, Option, Ok, IsSome};
-ghost use Rattle.doc_names.specs.declared.doc_id.DocId.{DocId};
-ghost use Rattle.edit_ops.specs.declared.change.Change.{Change};
 ghost use Rattle.http_wire.specs.declared.request.Request.{Request};
-ghost use Rattle.notes.specs.Notes.{Note};
 ghost use Rattle.notes.specs.declared.edit.Edit.{Edit};
 ghost use Rattle.reply_text.specs.Heads.{Sent};
 ghost use Rattle.request_terms.specs.Methods.{method_of};
-ghost use Rattle.store_core.specs.Asking.{Asks};
-ghost use Rattle.store_core.specs.Changing.{changing};
 ghost use Rattle.store_core.specs.Held.{Content, Stands};
 ghost use Rattle.store_core.specs.Keeping.{Kept};
 ghost use Rattle.store_core.specs.State.{State};
 ghost use Rattle.xcap_uri.specs.Targets.{TargetAnswer};
 ghost use Rattle.xcap_uri.specs.declared.target.Target.{Target};
 ghost use Rattle.machine_words.specs.Answers.{Answer};
-ghost use Rattle.machine_words.specs.Effects.{DeletedIsGone, KeepsAddressesOf, KeyAddressesStay, PutIsThere, SecondPutLeavesTrees};
+ghost use Rattle.machine_words.specs.Effects.{DeletedIsGone, KeyAddressesStay, PutIsThere, SecondPutLeavesTrees};
 ghost use Rattle.machine_words.specs.Machine.{Does, KeptStep, Step};
 ghost use Rattle.machine_words.specs.Requests.{IsAnswer, IsWritableTarget};
 ghost use Rattle.machine_words.specs.Laws.{AllowsOne, ChangesNothing, HasStep, tells_change};
@@ -102,15 +97,11 @@ pub fn a_second_put_leaves_every_tree()
         → Does root c request reply next edit → SecondPutLeavesTrees root request edit next }
 {}
 
-/// A law: each change that a store makes of a document that was held, and still is, leaves what
-/// addresses by keys select; so does each change that the machine makes. An address that selected
-/// an element selects it where the change moves it, if it is still there and no key on the way to
-/// it is written or dropped.
+/// A law: each change that the machine makes of a document that was held, and still is, leaves what
+/// addresses by keys select. An address that selected an element selects it where the change moves
+/// it, if it is still there and no key on the way to it is written or dropped.
 pub fn key_addresses_keep_their_elements()
-    ensures store_keeps_them { (c : Content) (m : State) (id : DocId) (change : Change)
-        (note : Note) (next : Content) → Stands c m → Kept m → Asks c id change
-        → changing c id change ≡ Ok (note, next) → KeepsAddressesOf c id change next }
-    ensures machine_keeps_them { (root : List ℕ) (c next : Content) (request : Request) (reply : Sent)
+    ensures keeps_them { (root : List ℕ) (c next : Content) (request : Request) (reply : Sent)
         (edit : Option Edit) (m : State) → Kept m → Stands c m
         → Does root c request reply next edit → KeyAddressesStay c edit next }
 {}

@@ -1,7 +1,9 @@
 -- The first candidate that isn't declared.
 use Rattle.std.proofs.Common.{◌≡◌, ◌≢◌, ◌⊎◌, inl, inr, ℕ, zero, suc, ◌+◌, ◌<◌, ◌≤◌, ◌^◌, Bool, true, false, cond, ◌||◌, List, [], ◌∷◌, ◌++◌, flat_map, map, length, length-append, append-nil, bytes_eq, decimal, refl, sym, ap, ◌∙◌, nat_eq, eqb-true, eq-eqb, arith}
+use Rattle.std.proofs.lemmas.Cmp.{nat_list_eq_equiv}
 use Rattle.std.proofs.lemmas.Fmt.{decimal_injective, decimal_nonempty}
 use Rattle.std.proofs.lemmas.Slice.Eq.{bytes_eq-Decides}
+use Rattle.std.specs.Set.{is_member}
 use Rattle.xml_tree.specs.Tree.{Content, last, more, note, Tree}
 use Rattle.xml_tree.specs.declared.names.Decl.{Decl}
 use Rattle.edit_ops.specs.declared.change.Change.{Change}
@@ -10,7 +12,7 @@ use Rattle.notes.specs.Operations.{told}
 use Rattle.notes.specs.Recorded.{joined, note_in}
 use Rattle.notes.specs.declared.edit_note.EditNote.{EditNote}
 use Rattle.patch_words.specs.Notices.{IsFirstFree, candidate, declarations, declarations_in, declares, first_free, is_declared_in, is_taken, operations, prefix_for}
-use Rattle.patch_text.specs.Declaring.{is_among, prefixes, prefixes_in, prefixes_put, prefixes_told}
+use Rattle.patch_text.specs.Declaring.{prefixes, prefixes_in, prefixes_put, prefixes_told}
 
 -- ---- candidates
 
@@ -29,31 +31,31 @@ or_assoc : (a b c : Bool) → (a || (b || c)) ≡ ((a || b) || c)
 or_assoc true b c = refl
 or_assoc false b c = refl
 
-pub among-append : (p : List ℕ) (xs ys : List (List ℕ)) → is_among (xs ++ ys) p ≡ (is_among xs p || is_among ys p)
+pub among-append : (p : List ℕ) (xs ys : List (List ℕ)) → is_member bytes_eq (xs ++ ys) p ≡ (is_member bytes_eq xs p || is_member bytes_eq ys p)
 among-append p [] ys = refl
-among-append p (x ∷ xs) ys = ap (λ b. bytes_eq x p || b) (among-append p xs ys) ∙ or_assoc (bytes_eq x p) (is_among xs p) (is_among ys p)
+among-append p (x ∷ xs) ys = ap (λ b. bytes_eq p x || b) (among-append p xs ys) ∙ or_assoc (bytes_eq p x) (is_member bytes_eq xs p) (is_member bytes_eq ys p)
 
 -- of operations
 abbrev whole : List Tree → List (List ℕ)
 whole [] = []
 whole (o ∷ os) = (prefixes o.decls ++ prefixes_in o.content) ++ whole os
 
-declared_here : (p : List ℕ) (ds : List Decl) → declares p ds ≡ is_among (prefixes ds) p
+declared_here : (p : List ℕ) (ds : List Decl) → declares p ds ≡ is_member bytes_eq (prefixes ds) p
 declared_here p [] = refl
-declared_here p (d ∷ ds) = ap (λ b. bytes_eq d.prefix p || b) (declared_here p ds)
+declared_here p (d ∷ ds) = λ i. nat_list_eq_equiv.symm d.prefix p i || declared_here p ds i
 
-declared_within : (p : List ℕ) (k : Content) → is_declared_in p k ≡ is_among (prefixes_in k) p
+declared_within : (p : List ℕ) (k : Content) → is_declared_in p k ≡ is_member bytes_eq (prefixes_in k) p
 declared_within p (last t) = refl
 declared_within p (more t n ds ats c rest) =
     (λ i. declared_here p ds i || (declared_within p c i || declared_within p rest i))
-    ∙ ap (λ b. is_among (prefixes ds) p || b) (sym (among-append p (prefixes_in c) (prefixes_in rest))) ∙ sym (among-append p (prefixes ds) (prefixes_in c ++ prefixes_in rest))
+    ∙ ap (λ b. is_member bytes_eq (prefixes ds) p || b) (sym (among-append p (prefixes_in c) (prefixes_in rest))) ∙ sym (among-append p (prefixes ds) (prefixes_in c ++ prefixes_in rest))
 declared_within p (note t x rest) = declared_within p rest
 
-taken_whole : (os : List Tree) (p : List ℕ) → is_taken os p ≡ is_among (whole os) p
+taken_whole : (os : List Tree) (p : List ℕ) → is_taken os p ≡ is_member bytes_eq (whole os) p
 taken_whole [] p = refl
 taken_whole (o ∷ os) p =
     (λ i. (declared_here p o.decls i || declared_within p o.content i) || taken_whole os p i)
-    ∙ ap (λ b. b || is_among (whole os) p) (sym (among-append p (prefixes o.decls) (prefixes_in o.content))) ∙ sym (among-append p (prefixes o.decls ++ prefixes_in o.content) (whole os))
+    ∙ ap (λ b. b || is_member bytes_eq (whole os) p) (sym (among-append p (prefixes o.decls) (prefixes_in o.content))) ∙ sym (among-append p (prefixes o.decls ++ prefixes_in o.content) (whole os))
 
 length-prefixes : (ds : List Decl) → length (prefixes ds) ≡ length ds
 length-prefixes [] = refl
@@ -74,38 +76,38 @@ length-whole (o ∷ os) =
 
 abbrev without : List ℕ → List (List ℕ) → List (List ℕ)
 without p [] = []
-without p (q ∷ qs) = cond (bytes_eq q p) qs (q ∷ without p qs)
+without p (q ∷ qs) = cond (bytes_eq p q) qs (q ∷ without p qs)
 
-length-without : (p : List ℕ) (qs : List (List ℕ)) → is_among qs p ≡ true → suc (length (without p qs)) ≡ length qs
+length-without : (p : List ℕ) (qs : List (List ℕ)) → is_member bytes_eq qs p ≡ true → suc (length (without p qs)) ≡ length qs
 length-without p [] h = cc
-length-without p (q ∷ qs) h = by (bytes_eq q p) refl (length-without p qs)
+length-without p (q ∷ qs) h = by (bytes_eq p q) refl (length-without p qs)
   where
-    by : (b : Bool) → bytes_eq q p ≡ b → (is_among qs p ≡ true → suc (length (without p qs)) ≡ length qs) → suc (length (without p (q ∷ qs))) ≡ suc (length qs)
+    by : (b : Bool) → bytes_eq p q ≡ b → (is_member bytes_eq qs p ≡ true → suc (length (without p qs)) ≡ length qs) → suc (length (without p (q ∷ qs))) ≡ suc (length qs)
     by true e f = rw e refl
     by false e f = rw e (omega (arith, f (rw e at h)))
 
-among-without : (p r : List ℕ) (qs : List (List ℕ)) → p ≢ r → is_among qs r ≡ true → is_among (without p qs) r ≡ true
+among-without : (p r : List ℕ) (qs : List (List ℕ)) → p ≢ r → is_member bytes_eq qs r ≡ true → is_member bytes_eq (without p qs) r ≡ true
 among-without p r [] ne h = h
-among-without p r (q ∷ qs) ne h = by (bytes_eq q p) (bytes_eq q r) refl refl (among-without p r qs ne)
+among-without p r (q ∷ qs) ne h = by (bytes_eq p q) (bytes_eq r q) refl refl (among-without p r qs ne)
   where
-    by : (b c : Bool) → bytes_eq q p ≡ b → bytes_eq q r ≡ c → (is_among qs r ≡ true → is_among (without p qs) r ≡ true) → is_among (without p (q ∷ qs)) r ≡ true
-    by true true e f g = absurd (ne (sym ((bytes_eq-Decides q p).0 e) ∙ (bytes_eq-Decides q r).0 f))
+    by : (b c : Bool) → bytes_eq p q ≡ b → bytes_eq r q ≡ c → (is_member bytes_eq qs r ≡ true → is_member bytes_eq (without p qs) r ≡ true) → is_member bytes_eq (without p (q ∷ qs)) r ≡ true
+    by true true e f g = absurd (ne ((bytes_eq-Decides p q).0 e ∙ sym ((bytes_eq-Decides r q).0 f)))
     by true false e f g = rw e (rw f at h)
     by false true e f g = rw (e, f) refl
     by false false e f g = rw (e, f) (g (rw f at h))
 
-is_none : (left : List (List ℕ)) (p : List ℕ) → length left ≤ 0 → is_among left p ≡ true → ⊥
+is_none : (left : List (List ℕ)) (p : List ℕ) → length left ≤ 0 → is_member bytes_eq left p ≡ true → ⊥
 is_none [] p le h = cc
 is_none (q ∷ qs) p le h = omega arith
 
 module _ (taken : List ℕ → Bool) (bound : ℕ) (room : bound < 2 ^ 64) where
-  free_from : (f k : ℕ) (left : List (List ℕ)) → length left ≤ f → k + f ≤ bound → ((i : ℕ) → k ≤ i → i ≤ bound → taken (candidate i) ≡ true → is_among left (candidate i) ≡ true)
+  free_from : (f k : ℕ) (left : List (List ℕ)) → length left ≤ f → k + f ≤ bound → ((i : ℕ) → k ≤ i → i ≤ bound → taken (candidate i) ≡ true → is_member bytes_eq left (candidate i) ≡ true)
       → (b : Bool) → taken (candidate k) ≡ b → taken (candidate (first_free taken f k)) ≡ false
   free_from zero k left le low h false e = e
   free_from zero k left le low h true e = absurd (is_none left (candidate k) le (h k (omega arith) (omega arith) e))
   free_from (suc f) k left le low h false e = rw e e
   free_from (suc f) k left le low h true e =
-      let there : is_among left (candidate k) ≡ true = h k (omega arith) (omega arith) e in
+      let there : is_member bytes_eq left (candidate k) ≡ true = h k (omega arith) (omega arith) e in
       let shorter : suc (length (without (candidate k) left)) ≡ length left = length-without (candidate k) left there in
       rw e (free_from f (suc k) (without (candidate k) left) (omega arith) (omega arith)
       (λ i le' high m. among-without (candidate k) (candidate i) left (λ s. absurd (omega (arith, candidate-one k i (omega arith) (omega arith) s))) (h i (omega arith) high m))
@@ -136,10 +138,10 @@ is_first_free os room = record {
 -- ---- a search that met a free one
 
 -- so many candidates aren't among fewer prefixes
-few : (n a : ℕ) (left : List (List ℕ)) → a + n < 2 ^ 64 → ((i : ℕ) → a ≤ i → i < a + n → is_among left (candidate i) ≡ true) → n ≤ length left
+few : (n a : ℕ) (left : List (List ℕ)) → a + n < 2 ^ 64 → ((i : ℕ) → a ≤ i → i < a + n → is_member bytes_eq left (candidate i) ≡ true) → n ≤ length left
 few zero a left low h = omega arith
 few (suc n) a left low h =
-    let there : is_among left (candidate a) ≡ true = h a (omega arith) (omega arith) in
+    let there : is_member bytes_eq left (candidate a) ≡ true = h a (omega arith) (omega arith) in
     let shorter : suc (length (without (candidate a) left)) ≡ length left = length-without (candidate a) left there in
     let rest : n ≤ length (without (candidate a) left) = few n (suc a) (without (candidate a) left) (omega arith)
     (λ i ge lt. among-without (candidate a) (candidate i) left (λ s. absurd (omega (arith, candidate-one a i (omega arith) (omega arith) s))) (h i (omega arith) (omega arith))) in
@@ -163,18 +165,18 @@ reached taken (suc f) a k low high free all = by (taken (candidate a)) refl (sid
 last_or_before : (j n : ℕ) → j < n + 1 → (j ≡ n) ⊎ (j < n)
 last_or_before j n h = grind arith
 
-pub among-more : (ps : List (List ℕ)) (n : ℕ) → ((j : ℕ) → j < n → is_among ps (candidate j) ≡ true) → is_among ps (candidate n) ≡ true → (j : ℕ) → j < n + 1 → is_among ps (candidate j) ≡ true
+pub among-more : (ps : List (List ℕ)) (n : ℕ) → ((j : ℕ) → j < n → is_member bytes_eq ps (candidate j) ≡ true) → is_member bytes_eq ps (candidate n) ≡ true → (j : ℕ) → j < n + 1 → is_member bytes_eq ps (candidate j) ≡ true
 among-more ps n before here j lt = by (last_or_before j n lt)
   where
-    by : (j ≡ n) ⊎ (j < n) → is_among ps (candidate j) ≡ true
-    by (inl same) = ap (λ k. is_among ps (candidate k)) same ∙ here
+    by : (j ≡ n) ⊎ (j < n) → is_member bytes_eq ps (candidate j) ≡ true
+    by (inl same) = ap (λ k. is_member bytes_eq ps (candidate k)) same ∙ here
     by (inr less) = before j less
 
-pub found_first : (ps : List (List ℕ)) (k : ℕ) → k < 2 ^ 64 → is_among ps (candidate k) ≡ false → ((j : ℕ) → j < k → is_among ps (candidate j) ≡ true)
-    → candidate k ≡ candidate (first_free (is_among ps) (length ps) 0)
+pub found_first : (ps : List (List ℕ)) (k : ℕ) → k < 2 ^ 64 → is_member bytes_eq ps (candidate k) ≡ false → ((j : ℕ) → j < k → is_member bytes_eq ps (candidate j) ≡ true)
+    → candidate k ≡ candidate (first_free (is_member bytes_eq ps) (length ps) 0)
 found_first ps k room free all =
     let most : k ≤ length ps = few k 0 ps (omega arith) (λ i ge lt. all i (omega arith)) in
-    ap candidate (sym (reached (is_among ps) (length ps) 0 k (omega arith) (omega arith) free (λ j ge lt. all j lt)))
+    ap candidate (sym (reached (is_member bytes_eq ps) (length ps) 0 k (omega arith) (omega arith) free (λ j ge lt. all j lt)))
 
 -- ---- the prefix of a notice
 
@@ -193,8 +195,8 @@ notes_prefixes [] = refl
 notes_prefixes (n ∷ ns) = λ i. told_prefixes n.bindings n.fresh n.change i ++ notes_prefixes ns i
 
 pub prefix-listed : (older newer : List EditNote)
-    → candidate (first_free (is_among (flat_map prefixes_told (older ++ newer))) (length (flat_map prefixes_told (older ++ newer))) 0) ≡ prefix_for (joined older newer)
+    → candidate (first_free (is_member bytes_eq (flat_map prefixes_told (older ++ newer))) (length (flat_map prefixes_told (older ++ newer))) 0) ≡ prefix_for (joined older newer)
 prefix-listed older newer =
     let os = operations [] (joined older newer) in
-    ap (λ ps. candidate (first_free (is_among ps) (length ps) 0)) (sym (notes_prefixes (older ++ newer)))
+    ap (λ ps. candidate (first_free (is_member bytes_eq ps) (length ps) 0)) (sym (notes_prefixes (older ++ newer)))
     ∙ (λ i. candidate (first_free (λ p. sym (taken_whole os p) i) (length-whole os i) 0))

@@ -1,18 +1,20 @@
 -- Sets that gain the prefixes of declarations.
 use Rattle.std.proofs.Common.{◌≡◌, ℕ, Bool, true, false, cond, ◌||◌, List, [], ◌∷◌, ◌++◌, flat_map, length, take, get_or, ◌+◌, ◌<◌, ◌≤◌, subst, bytes_eq, refl, sym, ap, ◌∙◌, append_assoc, append-nil}
+use Rattle.std.proofs.lemmas.Cmp.{nat_list_eq_equiv}
 use Rattle.std.proofs.lemmas.Grind.{flat_map-append}
 use Rattle.std.proofs.lemmas.List.{take_all, take_more}
 use Rattle.std.specs.BTreeSet.{BTreeSet, IsEmpty, Updates, contains}
 use Rattle.std.specs.BTreeMap.{is_at}
 use Rattle.std.specs.Cmp.Lexicographic.{texts_ties}
 use Rattle.std.specs.List.{list_any}
+use Rattle.std.specs.Set.{is_member}
 use Rattle.xml_tree.specs.Tree.{Content, last, more, note}
 use Rattle.xml_tree.specs.Edits.{before}
 use Rattle.xml_tree.specs.Nodes.{content_of}
 use Rattle.xml_tree.specs.declared.names.Decl.{Decl}
 use Rattle.xml_tree.specs.declared.tree.Node.{Node}
 use Rattle.xml_tree.specs.declared.tree.Node.TheVariants.{Elem, Chars, Comment}
-use Rattle.patch_text.specs.Declaring.{Gains, Holds, by_text, is_among, prefixes, prefixes_at, prefixes_in}
+use Rattle.patch_text.specs.Declaring.{Gains, Holds, by_text, prefixes, prefixes_at, prefixes_in}
 use Rattle.patch_text.proofs.FreePrefix.{among-append}
 
 or_swap : (x y o : Bool) → (y || (x || o)) ≡ ((x || y) || o)
@@ -35,20 +37,20 @@ gains-none s k = refl
 pub gains-one : (p : List ℕ) (old new : BTreeSet (List ℕ)) → Updates by_text old new p true → Gains (p ∷ []) old new
 gains-one p old new up k =
     let same = sym (texts_ties p k) in
-    up.0 k ∙ (λ i. cond (same i) true (contains by_text old k)) ∙ or_one (bytes_eq p k) (contains by_text old k)
+    up.0 k ∙ (λ i. cond (same i) true (contains by_text old k)) ∙ or_one (bytes_eq p k) (contains by_text old k) ∙ ap (λ (b : Bool). (b || false) || contains by_text old k) (nat_list_eq_equiv.symm p k)
 
 pub gains-then : (xs ys : List (List ℕ)) (a b c : BTreeSet (List ℕ)) → Gains xs a b → Gains ys b c → Gains (xs ++ ys) a c
 gains-then xs ys a b c h g k =
-    g k ∙ ap (λ z. is_among ys k || z) (h k) ∙ or_swap (is_among xs k) (is_among ys k) (contains by_text a k)
+    g k ∙ ap (λ z. is_member bytes_eq ys k || z) (h k) ∙ or_swap (is_member bytes_eq xs k) (is_member bytes_eq ys k) (contains by_text a k)
     ∙ ap (λ z. z || contains by_text a k) (sym (among-append k xs ys))
 
 pub holds-gained : (ps : List (List ℕ)) (old new : BTreeSet (List ℕ)) → IsEmpty old → Gains ps old new → Holds ps new
 holds-gained ps old new empty gains k =
-    gains k ∙ ap (λ z. is_among ps k || z) (ap (list_any (is_at (by_text k))) empty) ∙ or_none (is_among ps k)
+    gains k ∙ ap (λ z. is_member bytes_eq ps k || z) (ap (list_any (is_at (by_text k))) empty) ∙ or_none (is_member bytes_eq ps k)
 
 -- what isn't found isn't among them
-pub free-of : (ps : List (List ℕ)) (seen : BTreeSet (List ℕ)) (prefix p : List ℕ) (found : Bool) → Holds ps seen → found ≡ contains by_text seen prefix → prefix ≡ p → found ≡ false → is_among ps p ≡ false
-free-of ps seen prefix p found holds is same off = sym (ap (is_among ps) same) ∙ sym (holds prefix) ∙ sym is ∙ off
+pub free-of : (ps : List (List ℕ)) (seen : BTreeSet (List ℕ)) (prefix p : List ℕ) (found : Bool) → Holds ps seen → found ≡ contains by_text seen prefix → prefix ≡ p → found ≡ false → is_member bytes_eq ps p ≡ false
+free-of ps seen prefix p found holds is same off = sym (ap (is_member bytes_eq ps) same) ∙ sym (holds prefix) ∙ sym is ∙ off
 
 -- ---- one item of a list after another, behind others
 

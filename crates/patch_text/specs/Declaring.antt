@@ -2,9 +2,9 @@
 use Rattle.std.specs.Prelude.{◌≡◌, ℕ, Bool, ◌||◌, List, [], ◌++◌, map}
 use Rattle.std.specs.BTreeSet.{BTreeSet, contains}
 use Rattle.std.specs.Cmp.Lexicographic.{slice_cmp}
-use Rattle.std.specs.List.{list_any}
 use Rattle.std.specs.Ordering.{nat_cmp}
 use Rattle.std.specs.declared.cmp.Ordering.{Ordering}
+use Rattle.std.specs.Set.{is_member}
 use Rattle.std.specs.Str.{bytes_eq}
 use Rattle.xml_tree.specs.Tree.{Content, last, more, note}
 use Rattle.xml_tree.specs.declared.names.Decl.{Decl}
@@ -45,9 +45,6 @@ prefixes_put RemoveDocument = []
 abbrev pub prefixes_told : EditNote → List (List ℕ)
 prefixes_told n = prefixes n.bindings ++ prefixes_put n.change
 
-abbrev pub is_among : List (List ℕ) → List ℕ → Bool
-is_among ps p = list_any (λ q. bytes_eq q p) ps
-
 -- ---- as a set of texts
 
 -- the order of texts, by code points
@@ -56,8 +53,8 @@ by_text = slice_cmp nat_cmp
 
 -- a set holds exactly these
 abbrev pub Holds : List (List ℕ) → BTreeSet (List ℕ) → Type 0
-Holds ps seen = (p : List ℕ) → contains by_text seen p ≡ is_among ps p
+Holds ps seen = (p : List ℕ) → contains by_text seen p ≡ is_member bytes_eq ps p
 
 -- the new set holds what the old one does and these, and nothing else
 abbrev pub Gains : List (List ℕ) → BTreeSet (List ℕ) → BTreeSet (List ℕ) → Type 0
-Gains ps old new = (p : List ℕ) → contains by_text new p ≡ (is_among ps p || contains by_text old p)
+Gains ps old new = (p : List ℕ) → contains by_text new p ≡ (is_member bytes_eq ps p || contains by_text old p)

@@ -1,9 +1,11 @@
 //! The prefix of a notice: `d`, or the first of `d1`, `d2` and so on that nothing in its operations
 //! declares.
 ghost use Rattle.std.specs.Prelude.{◌≡◌, ℕ, List, ◌++◌, IfOk, OnOk, flat_map, length};
+ghost use Rattle.std.specs.Set.{is_member};
+ghost use Rattle.std.specs.Str.{bytes_eq};
 ghost use Rattle.notes.specs.Recorded.{joined};
 ghost use Rattle.patch_words.specs.Notices.{candidate, first_free, prefix_for};
-ghost use Rattle.patch_text.specs.Declaring.{Gains, Holds, is_among, prefixes, prefixes_at, prefixes_in, prefixes_put, prefixes_told};
+ghost use Rattle.patch_text.specs.Declaring.{Gains, Holds, prefixes, prefixes_at, prefixes_in, prefixes_put, prefixes_told};
 
 use edit_ops::Change;
 use notes::{EditNote, Notes};
@@ -93,7 +95,7 @@ fn candidate(alloc: Global, number: u64) -> Result<Text, AllocError>
 
 // The first candidate that isn't among these. More than there are numbers don't fit into a memory.
 fn first_free(alloc: Global, seen: &BTreeSet<Text>) -> Result<Text, AllocError>
-    ensures first_that_is_free { (ps : List (List ℕ)) → Holds ps seen.now → IfOk result (λ prefix. prefix ≡ candidate (first_free (is_among ps) (length ps) 0)) }
+    ensures first_that_is_free { (ps : List (List ℕ)) → Holds ps seen.now → IfOk result (λ prefix. prefix ≡ candidate (first_free (is_member bytes_eq ps) (length ps) 0)) }
 {
     for number in 0..u64::MAX {
         let prefix = candidate(alloc, number)?;

@@ -1,6 +1,7 @@
 -- A change that suits the state is refused for want of a number alone.
 use Rattle.std.proofs.Common.{◌≡◌, ◌≢◌, ℕ, ◌+◌, ◌≤◌, nat_lt, nat_le, Bool, true, false, ◌&&◌, ◌||◌, List, [], ◌∷◌, ◌++◌, Option, None, option_map, refl, sym, ap, ◌∙◌, arith}
-use Rattle.std.specs.List.{AllByRecursion, list_any, position_from}
+use Rattle.std.specs.List.{AllByRecursion, position_from}
+use Rattle.std.specs.Set.{is_member}
 use Rattle.std.specs.Str.{bytes_eq}
 use Rattle.std.proofs.lemmas.Bool.Decides.{nat_tests}
 use Rattle.std.proofs.lemmas.Iterator.Adapters.{position_from-zero}
@@ -27,22 +28,22 @@ module _ {X : Type 0} (p : X → Bool) where
   no-place n [] h = refl
   no-place n (x ∷ xs) h = rw h.0 (no-place (n + 1) xs h.1)
 
-unlike : (o uri : List ℕ) (b : Bool) → bytes_eq o uri ≡ b → uri ≢ o → b ≡ false
-unlike o uri true e ne = absurd (ne (sym ((bytes_eq-Decides o uri).0 e)))
+unlike : (o uri : List ℕ) (b : Bool) → bytes_eq uri o ≡ b → uri ≢ o → b ≡ false
+unlike o uri true e ne = absurd (ne ((bytes_eq-Decides uri o).0 e))
 unlike o uri false e ne = refl
 
-pub unlike-all : (uri : List ℕ) (others : List (List ℕ)) → AllByRecursion (λ o. uri ≢ o) others → list_any (λ o. bytes_eq o uri) others ≡ false
+pub unlike-all : (uri : List ℕ) (others : List (List ℕ)) → AllByRecursion (λ o. uri ≢ o) others → is_member bytes_eq others uri ≡ false
 unlike-all uri [] h = refl
-unlike-all uri (o ∷ os) h = ap (λ b. b || list_any (λ x. bytes_eq x uri) os) (unlike o uri (bytes_eq o uri) refl h.0) ∙ unlike-all uri os h.1
+unlike-all uri (o ∷ os) h = ap (λ b. b || is_member bytes_eq os uri) (unlike o uri (bytes_eq uri o) refl h.0) ∙ unlike-all uri os h.1
 
-unlike-each : (others own : List (List ℕ)) → AllByRecursion (λ uri. AllByRecursion (λ o. uri ≢ o) others) own → AllByRecursion (λ uri. list_any (λ o. bytes_eq o uri) others ≡ false) own
+unlike-each : (others own : List (List ℕ)) → AllByRecursion (λ uri. AllByRecursion (λ o. uri ≢ o) others) own → AllByRecursion (λ uri. is_member bytes_eq others uri ≡ false) own
 unlike-each others [] h = tt
 unlike-each others (uri ∷ uris) h = (unlike-all uri others h.0, unlike-each others uris h.1)
 
 -- where no address of the document is one of the others, the test finds none
 pub nothing-taken : (others own : List (List ℕ)) → AllByRecursion (λ uri. AllByRecursion (λ o. uri ≢ o) others) own → taken others own ≡ None
 nothing-taken others own h =
-    let test : List ℕ → Bool = λ uri. list_any (λ o. bytes_eq o uri) others in
+    let test : List ℕ → Bool = λ uri. is_member bytes_eq others uri in
     let clash : ℕ → Clash = λ i. record { path = i ∷ []; key = Uri } in
     ap (λ (i : Option ℕ). option_map clash i) (position_from-zero test own ∙ no-place test 0 own (unlike-each others own h))
 

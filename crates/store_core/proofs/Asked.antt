@@ -46,6 +46,9 @@ found-same : (id : DocId) (h : Held) (ds : List Held) → find (λ e. same_id id
 found-same id h [] found = cc
 found-same id h (d ∷ ds) found = found-step id d h ds (same_id id d.id) refl found (found-same id h ds)
 
+pub found-name : (c : Content) (id : DocId) (h : Held) → document_in held_name c.documents id ≡ Some h → id ≡ h.id
+found-name c id h found = id_exact id h.id (found-same id h c.documents found)
+
 -- ---- what a look-up tells
 
 pub told-there : {A B C : Type 0} (f : A → C) (g : B → C) (o : Option A) (held : Option B) → option_map f o ≡ option_map g held → is_some o ≡ is_some held
@@ -63,7 +66,7 @@ module _ (c : Content) (id : DocId) (t : Tree) (readable : IsReadable id) (users
   asks-by false (Some h) is e = cc
   asks-by true (Some h) is e =
       let P : Held → Type 0 = λ x. Fits x.tree (Replace [] t) × MayBeFor (usage_of x.id.auid) (edited x.tree (Replace [] t)) in
-      let here : P h = (refl, subst (λ (d : DocId). MayBeFor (usage_of d.auid) t) (id_exact id h.id (found-same id h c.documents is)) may) in
+      let here : P h = (refl, subst (λ (d : DocId). MayBeFor (usage_of d.auid) t) (found-name c id h is) may) in
       subst (λ (o : Option Held). IsSomeAnd o P) (sym is) here
 
 may-for : (auid : Auid) (t : Tree) → auid ≡ RlsServices → MayBe usages.RlsServices t → MayBeFor (usage_of auid) t

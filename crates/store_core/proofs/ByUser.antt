@@ -1,5 +1,5 @@
 -- The documents that the index lists, by the users' names: there is one such list, and `in_order` is it.
-use Rattle.std.proofs.Common.{◌≡◌, ℕ, Bool, true, false, cond, List, [], ◌∷◌, filter, filter_map, map, refl, sym, ap, ◌∙◌}
+use Rattle.std.proofs.Common.{◌≡◌, Bool, true, false, cond, List, [], ◌∷◌, filter, filter_map, map, refl, sym, ap, ◌∙◌}
 use Rattle.std.proofs.lemmas.List.Sorted.{ranks_by}
 use Rattle.std.specs.Cmp.{IsStrictWeakOrder}
 use Rattle.std.specs.Cmp.Lexicographic.{nat_list_cmp_total}
@@ -11,7 +11,7 @@ use Rattle.xml_tree.specs.Tree.{Tree}
 use Rattle.store_core.specs.Held.{Content}
 use Rattle.store_core.specs.Indexes.{AreByUser, AreIndexTrees, indexed}
 use Rattle.store_core.proofs.InOrder.{Pair, cmp, each-placed, in_order, placed, put, turned}
-use Rattle.store_core.proofs.Sorting.{From, Rises, from-lower, one-order, rises-sorted, sorted-rises, tied}
+use Rattle.store_core.proofs.Sorting.{Rises, from-lower, one-order, rises-sorted, sorted-rises, tied}
 
 abbrev less : Pair → Pair → Bool
 less x y = is_lt (cmp x.0 y.0)

@@ -1,10 +1,15 @@
 -- What a store keeps after a change that was ready for it.
 use Rattle.std.proofs.Common.{◌≡◌, ℕ, List, Option, None, Some, cond, sym, ap, subst, ◌∙◌}
+use Rattle.std.specs.Set.{is_member}
+use Rattle.std.specs.Str.{bytes_eq}
 use Rattle.doc_names.specs.declared.doc_id.DocId.{DocId}
 use Rattle.store_core.specs.declared.entry.Entry.{Entry}
 use Rattle.store_core.specs.Changing.{content_after}
-use Rattle.store_core.specs.Storing.{IsStoring, Room, Stored, content_in, exchanged, is_among, registered}
+use Rattle.store_core.specs.Held.{Content, Stands}
+use Rattle.store_core.specs.KeyAddresses.{KeepsAddressesOf}
+use Rattle.store_core.specs.Storing.{IsStoring, Room, Stored, content_in, exchanged, registered}
 use Rattle.store_core.specs.Preparing.{IsReady, Readied, Steppable, Stepped}
+use Rattle.store_core.proofs.KeyAddresses.{change_stays}
 use Rattle.store_core.proofs.Stored.{steppable, stored}
 
 module _ (es : List (DocId × Entry)) (rs : List (List ℕ × ℕ)) (last total : ℕ) (room : Room) (s : Stored) (p q : Readied)
@@ -19,13 +24,13 @@ module _ (es : List (DocId × Entry)) (rs : List (List ℕ × ℕ)) (last total 
   may-step = steppable es rs last total p p.step storing ready-here.planned ready-here.planned.step
 
   module _ (left rows : List (List ℕ × ℕ)) (next : List (DocId × Entry)) (created : ℕ) (leaves enters : List (List ℕ)) (stepped : Stepped es p.doc p.note.next p.step created next) (leaving : leaves ≡ p.leaves) (entering : enters ≡ p.enters)
-      (took : (uri : List ℕ) → registered left uri ≡ cond (is_among leaves uri) None (registered rs uri)) (gave : (uri : List ℕ) → registered rows uri ≡ cond (is_among enters uri) (Some created) (registered left uri)) where
+      (took : (uri : List ℕ) → registered left uri ≡ cond (is_member bytes_eq leaves uri) None (registered rs uri)) (gave : (uri : List ℕ) → registered rows uri ≡ cond (is_member bytes_eq enters uri) (Some created) (registered left uri)) where
     exchanges : (uri : List ℕ) → registered rows uri ≡ exchanged p.leaves p.enters created (registered rs uri) uri
     exchanges uri =
         gave uri
-        ∙ ap (λ (o : Option ℕ). cond (is_among enters uri) (Some created) o) (took uri)
-        ∙ ap (λ (us : List (List ℕ)). cond (is_among enters uri) (Some created) (cond (is_among us uri) None (registered rs uri))) leaving
-        ∙ ap (λ (us : List (List ℕ)). cond (is_among us uri) (Some created) (cond (is_among p.leaves uri) None (registered rs uri))) entering
+        ∙ ap (λ (o : Option ℕ). cond (is_member bytes_eq enters uri) (Some created) o) (took uri)
+        ∙ ap (λ (us : List (List ℕ)). cond (is_member bytes_eq enters uri) (Some created) (cond (is_member bytes_eq us uri) None (registered rs uri))) leaving
+        ∙ ap (λ (us : List (List ℕ)). cond (is_member bytes_eq us uri) (Some created) (cond (is_member bytes_eq p.leaves uri) None (registered rs uri))) entering
 
     pub still-storing : IsStoring next rows p.note.next p.total
     still-storing = (stored es rs last total p p.step created next rows storing ready-here.planned ready-here.planned.step stepped exchanges).1
@@ -35,3 +40,8 @@ module _ (es : List (DocId × Entry)) (rs : List (List ℕ × ℕ)) (last total 
         (stored es rs last total p p.step created next rows storing ready-here.planned ready-here.planned.step stepped exchanges).0
         ∙ ap (λ (x : Stored). content_after x.content p.doc p.note.change) seen
         ∙ ap (λ (x : Readied). content_after s.content x.doc x.note.change) same
+
+    pub keeps-addresses : KeepsAddressesOf s.content q.doc q.note.change (content_in next p.note.next)
+    keeps-addresses =
+        let stands : Stands s.content storing.kept.0 = subst (λ (x : Stored). Stands x.content storing.kept.0) seen storing.kept.1 in
+        subst (λ (x : Content). KeepsAddressesOf s.content q.doc q.note.change x) (sym holds-next) (change_stays s.content storing.kept.0 q.doc q.note.change stands storing.kept.2 ready.planned.asks)

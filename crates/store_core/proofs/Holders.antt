@@ -5,10 +5,11 @@ use Rattle.std.proofs.lemmas.List.Concat.{flat_map-append}
 use Rattle.std.proofs.lemmas.List.Folds.{list_any-append}
 use Rattle.std.proofs.lemmas.Slice.Eq.{bytes_eq-Decides}
 use Rattle.std.specs.List.{AllByRecursion, flat_map}
+use Rattle.std.specs.Set.{is_member}
 use Rattle.std.specs.Str.{bytes_eq}
 use Rattle.store_core.specs.Keeping.{AreApart}
 use Rattle.store_core.specs.Changing.{or_else}
-use Rattle.store_core.specs.Storing.{holder_in, is_among, is_others}
+use Rattle.store_core.specs.Storing.{holder_in, is_others}
 use Rattle.store_core.proofs.Admitted.{apart-unmix, unlike-all}
 
 neither-of : (a b : Bool) → (a || b) ≡ false → (a ≡ false) × (b ≡ false)
@@ -17,17 +18,17 @@ neither-of false b h = (refl, h)
 
 -- ---- lists of addresses
 
-among-step : (P : List ℕ → Type 0) (u k : List ℕ) (us : List (List ℕ)) (b : Bool) → bytes_eq u k ≡ b → (b || is_among us k) ≡ true → P u → (is_among us k ≡ true → P k) → P k
-among-step P u k us true e h p by = subst P ((bytes_eq-Decides u k).0 e) p
+among-step : (P : List ℕ → Type 0) (u k : List ℕ) (us : List (List ℕ)) (b : Bool) → bytes_eq k u ≡ b → (b || is_member bytes_eq us k) ≡ true → P u → (is_member bytes_eq us k ≡ true → P k) → P k
+among-step P u k us true e h p by = subst P (sym ((bytes_eq-Decides k u).0 e)) p
 among-step P u k us false e h p by = by h
 
 -- what holds of all holds of one among them
-all-among : (P : List ℕ → Type 0) (us : List (List ℕ)) (k : List ℕ) → is_among us k ≡ true → AllByRecursion P us → P k
+all-among : (P : List ℕ → Type 0) (us : List (List ℕ)) (k : List ℕ) → is_member bytes_eq us k ≡ true → AllByRecursion P us → P k
 all-among P [] k h a = cc
-all-among P (u ∷ us) k h a = among-step P u k us (bytes_eq u k) refl h a.0 (λ g. all-among P us k g a.1)
+all-among P (u ∷ us) k h a = among-step P u k us (bytes_eq k u) refl h a.0 (λ g. all-among P us k g a.1)
 
 -- where addresses are apart, one among some isn't among the others
-pub not-beside : (xs ys zs : List (List ℕ)) (k : List ℕ) → AreApart (xs ++ (ys ++ zs)) → is_among ys k ≡ true → is_among (xs ++ zs) k ≡ false
+pub not-beside : (xs ys zs : List (List ℕ)) (k : List ℕ) → AreApart (xs ++ (ys ++ zs)) → is_member bytes_eq ys k ≡ true → is_member bytes_eq (xs ++ zs) k ≡ false
 not-beside xs ys zs k apart h =
     let P : List ℕ → Type 0 = λ y. AllByRecursion (λ o. y ≢ o) (xs ++ zs) in
     unlike-all k (xs ++ zs) (all-among P ys k h (apart-unmix xs ys zs apart))
@@ -38,10 +39,10 @@ module _ {D : Type 0} (own : D → List (List ℕ)) (number : D → ℕ) where
   abbrev Hold : List D → List ℕ → Option ℕ
   Hold ds k = holder_in own number ds k
 
-  none-holds : (ds : List D) (k : List ℕ) → is_among (flat_map own ds) k ≡ false → Hold ds k ≡ None
+  none-holds : (ds : List D) (k : List ℕ) → is_member bytes_eq (flat_map own ds) k ≡ false → Hold ds k ≡ None
   none-holds [] k h = refl
   none-holds (d ∷ ds) k h =
-      let n = neither-of (is_among (own d) k) (is_among (flat_map own ds) k) (sym (list_any-append (λ o. bytes_eq o k) (own d) (flat_map own ds)) ∙ h) in
+      let n = neither-of (is_member bytes_eq (own d) k) (is_member bytes_eq (flat_map own ds) k) (sym (list_any-append (bytes_eq k) (own d) (flat_map own ds)) ∙ h) in
       ap (λ b. cond b (Some (number d)) (Hold ds k)) n.0 ∙ none-holds ds k n.1
 
   append-step : (d : D) (xs ys : List D) (k : List ℕ) (b : Bool) → Hold (xs ++ ys) k ≡ or_else (Hold xs k) (Hold ys k)
@@ -51,7 +52,7 @@ module _ {D : Type 0} (own : D → List (List ℕ)) (number : D → ℕ) where
 
   holds-append : (xs ys : List D) (k : List ℕ) → Hold (xs ++ ys) k ≡ or_else (Hold xs k) (Hold ys k)
   holds-append [] ys k = refl
-  holds-append (x ∷ xs) ys k = append-step x xs ys k (is_among (own x) k) (holds-append xs ys k)
+  holds-append (x ∷ xs) ys k = append-step x xs ys k (is_member bytes_eq (own x) k) (holds-append xs ys k)
 
   -- one document more
   put-step : (before behind : List D) (n : ℕ) (k : List ℕ) (b : Bool) → (b ≡ true → Hold before k ≡ None) → Hold (before ++ behind) k ≡ or_else (Hold before k) (Hold behind k)
@@ -59,27 +60,27 @@ module _ {D : Type 0} (own : D → List (List ℕ)) (number : D → ℕ) where
   put-step before behind n k true none e = sym (ap (λ o. or_else o (Some n)) (none refl))
   put-step before behind n k false none e = e
 
-  held-more : (before behind : List D) (d : D) (k : List ℕ) → (is_among (own d) k ≡ true → is_among (flat_map own before) k ≡ false)
-      → cond (is_among (own d) k) (Some (number d)) (Hold (before ++ behind) k) ≡ Hold (before ++ d ∷ behind) k
+  held-more : (before behind : List D) (d : D) (k : List ℕ) → (is_member bytes_eq (own d) k ≡ true → is_member bytes_eq (flat_map own before) k ≡ false)
+      → cond (is_member bytes_eq (own d) k) (Some (number d)) (Hold (before ++ behind) k) ≡ Hold (before ++ d ∷ behind) k
   held-more before behind d k apart =
-      put-step before behind (number d) k (is_among (own d) k) (λ h. none-holds before k (apart h)) (holds-append before behind k)
+      put-step before behind (number d) k (is_member bytes_eq (own d) k) (λ h. none-holds before k (apart h)) (holds-append before behind k)
       ∙ sym (holds-append before (d ∷ behind) k)
 
   -- the addresses of a document that is apart from the others
   own-beside : (before behind : List D) (d : D) → AreApart (flat_map own (before ++ d ∷ behind)) → AreApart (flat_map own before ++ (own d ++ flat_map own behind))
   own-beside before behind d apart = subst (λ (xs : List (List ℕ)). AreApart xs) (flat_map-append own before (d ∷ behind)) apart
 
-  own-alone : (before behind : List D) (d : D) (k : List ℕ) → AreApart (flat_map own (before ++ d ∷ behind)) → is_among (own d) k ≡ true → is_among (flat_map own (before ++ behind)) k ≡ false
+  own-alone : (before behind : List D) (d : D) (k : List ℕ) → AreApart (flat_map own (before ++ d ∷ behind)) → is_member bytes_eq (own d) k ≡ true → is_member bytes_eq (flat_map own (before ++ behind)) k ≡ false
   own-alone before behind d k apart h =
-      ap (λ (xs : List (List ℕ)). is_among xs k) (flat_map-append own before behind) ∙ not-beside (flat_map own before) (own d) (flat_map own behind) k (own-beside before behind d apart) h
+      ap (λ (xs : List (List ℕ)). is_member bytes_eq xs k) (flat_map-append own before behind) ∙ not-beside (flat_map own before) (own d) (flat_map own behind) k (own-beside before behind d apart) h
 
-  not-before : (before behind : List D) (k : List ℕ) → is_among (flat_map own (before ++ behind)) k ≡ false → is_among (flat_map own before) k ≡ false
+  not-before : (before behind : List D) (k : List ℕ) → is_member bytes_eq (flat_map own (before ++ behind)) k ≡ false → is_member bytes_eq (flat_map own before) k ≡ false
   not-before before behind k h =
-      (neither-of (is_among (flat_map own before) k) (is_among (flat_map own behind) k)
-      (sym (list_any-append (λ o. bytes_eq o k) (flat_map own before) (flat_map own behind)) ∙ sym (ap (λ (xs : List (List ℕ)). is_among xs k) (flat_map-append own before behind)) ∙ h)).0
+      (neither-of (is_member bytes_eq (flat_map own before) k) (is_member bytes_eq (flat_map own behind) k)
+      (sym (list_any-append (bytes_eq k) (flat_map own before) (flat_map own behind)) ∙ sym (ap (λ (xs : List (List ℕ)). is_member bytes_eq xs k) (flat_map-append own before behind)) ∙ h)).0
 
   -- one document more that is apart from the others
-  pub held-apart : (before behind : List D) (d : D) (k : List ℕ) → AreApart (flat_map own (before ++ d ∷ behind)) → cond (is_among (own d) k) (Some (number d)) (Hold (before ++ behind) k) ≡ Hold (before ++ d ∷ behind) k
+  pub held-apart : (before behind : List D) (d : D) (k : List ℕ) → AreApart (flat_map own (before ++ d ∷ behind)) → cond (is_member bytes_eq (own d) k) (Some (number d)) (Hold (before ++ behind) k) ≡ Hold (before ++ d ∷ behind) k
   held-apart before behind d k apart = held-more before behind d k (λ h. not-before before behind k (own-alone before behind d k apart h))
 
   -- one document less
@@ -87,25 +88,25 @@ module _ {D : Type 0} (own : D → List (List ℕ)) (number : D → ℕ) where
   less-step rest whole n true none e = sym (none refl)
   less-step rest whole n false none e = sym e
 
-  pub held-less : (before behind : List D) (d : D) (k : List ℕ) → AreApart (flat_map own (before ++ d ∷ behind)) → cond (is_among (own d) k) None (Hold (before ++ d ∷ behind) k) ≡ Hold (before ++ behind) k
+  pub held-less : (before behind : List D) (d : D) (k : List ℕ) → AreApart (flat_map own (before ++ d ∷ behind)) → cond (is_member bytes_eq (own d) k) None (Hold (before ++ d ∷ behind) k) ≡ Hold (before ++ behind) k
   held-less before behind d k apart =
-      less-step (Hold (before ++ behind) k) (Hold (before ++ d ∷ behind) k) (number d) (is_among (own d) k)
+      less-step (Hold (before ++ behind) k) (Hold (before ++ d ∷ behind) k) (number d) (is_member bytes_eq (own d) k)
       (λ h. none-holds (before ++ behind) k (own-alone before behind d k apart h))
       (held-apart before behind d k apart)
 
   -- ---- whether another document has an address
 
-  others-step : (mine : Option ℕ) (n : ℕ) (ds : List D) (k : List ℕ) (b : Bool) → is_others mine (Some n) ≡ true → is_others mine (Hold ds k) ≡ is_among (flat_map own ds) k
-      → is_others mine (cond b (Some n) (Hold ds k)) ≡ (b || is_among (flat_map own ds) k)
+  others-step : (mine : Option ℕ) (n : ℕ) (ds : List D) (k : List ℕ) (b : Bool) → is_others mine (Some n) ≡ true → is_others mine (Hold ds k) ≡ is_member bytes_eq (flat_map own ds) k
+      → is_others mine (cond b (Some n) (Hold ds k)) ≡ (b || is_member bytes_eq (flat_map own ds) k)
   others-step mine n ds k true e by = e
   others-step mine n ds k false e by = by
 
   -- among documents that all count as others
-  pub others-hold : (mine : Option ℕ) (ds : List D) (k : List ℕ) → AllByRecursion (λ d. is_others mine (Some (number d)) ≡ true) ds → is_others mine (Hold ds k) ≡ is_among (flat_map own ds) k
+  pub others-hold : (mine : Option ℕ) (ds : List D) (k : List ℕ) → AllByRecursion (λ d. is_others mine (Some (number d)) ≡ true) ds → is_others mine (Hold ds k) ≡ is_member bytes_eq (flat_map own ds) k
   others-hold None [] k a = refl
   others-hold (Some m) [] k a = refl
   others-hold mine (d ∷ ds) k a =
-      others-step mine (number d) ds k (is_among (own d) k) a.0 (others-hold mine ds k a.1) ∙ sym (list_any-append (λ o. bytes_eq o k) (own d) (flat_map own ds))
+      others-step mine (number d) ds k (is_member bytes_eq (own d) k) a.0 (others-hold mine ds k a.1) ∙ sym (list_any-append (bytes_eq k) (own d) (flat_map own ds))
 
   mine-step : (n : ℕ) (rest : Option ℕ) (b c : Bool) → (b ≡ true → c ≡ false) → is_others (Some n) rest ≡ c → is_others (Some n) (cond b (Some n) rest) ≡ c
   mine-step n rest true c alone e = let h = alone refl in grind (arith, nat_tests)
@@ -113,10 +114,10 @@ module _ {D : Type 0} (own : D → List (List ℕ)) (number : D → ℕ) where
 
   -- beside one document
   pub others-hold-beside : (before behind : List D) (d : D) (k : List ℕ) → AreApart (flat_map own (before ++ d ∷ behind)) → AllByRecursion (λ e. is_others (Some (number d)) (Some (number e)) ≡ true) (before ++ behind)
-      → is_others (Some (number d)) (Hold (before ++ d ∷ behind) k) ≡ is_among (flat_map own (before ++ behind)) k
+      → is_others (Some (number d)) (Hold (before ++ d ∷ behind) k) ≡ is_member bytes_eq (flat_map own (before ++ behind)) k
   others-hold-beside before behind d k apart others =
       ap (λ o. is_others (Some (number d)) o) (sym (held-apart before behind d k apart))
-      ∙ mine-step (number d) (Hold (before ++ behind) k) (is_among (own d) k) (is_among (flat_map own (before ++ behind)) k) (own-alone before behind d k apart) (others-hold (Some (number d)) (before ++ behind) k others)
+      ∙ mine-step (number d) (Hold (before ++ behind) k) (is_member bytes_eq (own d) k) (is_member bytes_eq (flat_map own (before ++ behind)) k) (own-alone before behind d k apart) (others-hold (Some (number d)) (before ++ behind) k others)
 
 -- numbers that differ
 pub is-other : (m n : ℕ) → m ≢ n → is_others (Some m) (Some n) ≡ true

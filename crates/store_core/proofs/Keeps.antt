@@ -17,7 +17,7 @@ abbrev holding : Content → Result (Note × Content) StoreRefusal → Content
 holding c (Ok x) = x.1
 holding c (Err refusal) = c
 
-told-next : (o : Option StoreRefusal) (note told : Note) (c next : Content) → answered o note c ≡ Ok (told, next) → c ≡ next
+pub told-next : (o : Option StoreRefusal) (note told : Note) (c next : Content) → answered o note c ≡ Ok (told, next) → c ≡ next
 told-next None note told c next h = ap (holding c) h
 told-next (Some refusal) note told c next h = cc
 

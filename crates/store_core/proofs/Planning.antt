@@ -5,6 +5,8 @@ use Rattle.std.proofs.lemmas.List.{length-map, map-append}
 use Rattle.std.proofs.lemmas.List.Folds.{flat_map-map}
 use Rattle.std.specs.List.{AllByRecursion, flat_map, position}
 use Rattle.std.specs.Map.{lookup}
+use Rattle.std.specs.Set.{is_member}
+use Rattle.std.specs.Str.{bytes_eq}
 use Rattle.xml_tree.specs.Tree.{Tree}
 use Rattle.usage_docs.specs.Services.{document_len}
 use Rattle.usage_docs.specs.declared.keys.Clash.{Clash}
@@ -18,7 +20,7 @@ use Rattle.store_core.specs.declared.refusal.StoreRefusal.TheVariants.{ServiceTa
 use Rattle.store_core.specs.Held.{Content, Held}
 use Rattle.store_core.specs.Keeping.{AreApart, addresses_in}
 use Rattle.store_core.specs.Changing.{against_tree, answered, document_in, held_name, only_if, or_else, other_addresses, other_lengths, taken, without_document}
-use Rattle.store_core.specs.Storing.{IsStoring, Room, Stored, content_in, held_in, holder, is_among, is_others, len_in, number_in, registered, uris_in}
+use Rattle.store_core.specs.Storing.{IsStoring, Room, Stored, content_in, held_in, holder, is_others, len_in, number_in, registered, uris_in}
 use Rattle.store_core.specs.Preparing.{IsHeldAs, refused_for, total_of}
 use Rattle.store_core.proofs.Accepted.{sum-mapped, sum-put}
 use Rattle.store_core.proofs.Apart.{each-append, each-weaker, apart-behind, none-filtered, one-filtered}
@@ -56,13 +58,13 @@ cut-step None n full others false e =
 -- ---- the tests of a tree
 
 -- where a registry tells of each address whether another document has it
-found-so : (c : Content) (id : DocId) (is_new : Bool) (t : Tree) (test : List ℕ → Bool) (full : Bool) (others : ℕ) → ((uri : List ℕ) → is_among (other_addresses c id) uri ≡ test uri)
+found-so : (c : Content) (id : DocId) (is_new : Bool) (t : Tree) (test : List ℕ → Bool) (full : Bool) (others : ℕ) → ((uri : List ℕ) → is_member bytes_eq (other_addresses c id) uri ≡ test uri)
     → full ≡ (is_new && nat_le 1000 (length c.documents)) → others ≡ other_lengths c id
     → refused_for (position test (addresses_in id.auid t)) (min (document_len t) 18446744073709551615) full others ≡ against_tree c id is_new t
 found-so c id is_new t test full others tests fullness lengths =
     let own = addresses_in id.auid t in
     let clash : ℕ → Clash = λ i. record { path = i ∷ []; key = Uri } in
-    let there : List ℕ → Bool = λ uri. is_among (other_addresses c id) uri in
+    let there : List ℕ → Bool = λ uri. is_member bytes_eq (other_addresses c id) uri in
     let same : there ≡ test = λ i uri. tests uri i in
     let n = document_len t in
     let rest : Option Clash → Bool → ℕ → Option StoreRefusal = λ first f o. or_else (option_map (λ (x : Clash). ServiceTaken x) first)
@@ -100,7 +102,7 @@ pub against-new : (es : List Row) (rs : List (List ℕ × ℕ)) (last total : �
 against-new es rs last total id t s missing =
     let all : others-of es id ≡ es = none-filtered (λ (e : Row). same_id id e.0) es (none-found (same_id id) es missing) in
     found-so (content_in es last) id true t (λ uri. is_others None (registered rs uri)) (nat_le 1000 (length es)) total
-    (λ uri. ap (λ (us : List (List ℕ)). is_among us uri) (other-uris es last id ∙ ap (flat_map uris_in) all) ∙ sym (others-hold uris_in number_in None es uri (all-others es)) ∙ ap (λ (o : Option ℕ). is_others None o) (sym (s.addresses uri)))
+    (λ uri. ap (λ (us : List (List ℕ)). is_member bytes_eq us uri) (other-uris es last id ∙ ap (flat_map uris_in) all) ∙ sym (others-hold uris_in number_in None es uri (all-others es)) ∙ ap (λ (o : Option ℕ). is_others None o) (sym (s.addresses uri)))
     (ap (λ (n : ℕ). nat_le 1000 n) (sym (length-map es held_in)))
     (s.sum ∙ sym (other-lens es last id ∙ ap (sum_by len_in) all))
 
@@ -135,7 +137,7 @@ against-held es rs last total id v t s found =
     let held : (uri : List ℕ) → holder (r.before ++ (id, v) ∷ r.behind) uri ≡ registered rs uri = λ uri. ap (λ (ds : List Row). holder ds uri) (sym r.parts) ∙ sym (s.addresses uri) in
     found-so (content_in es last) id false t (λ uri. is_others (Some v.created) (registered rs uri)) false (total - document_len v.tree)
     (λ uri.
-    ap (λ (us : List (List ℕ)). is_among us uri) (other-uris es last id ∙ ap (flat_map uris_in) (others-round es id v r))
+    ap (λ (us : List (List ℕ)). is_member bytes_eq us uri) (other-uris es last id ∙ ap (flat_map uris_in) (others-round es id v r))
     ∙ sym (others-hold-beside uris_in number_in r.before r.behind (id, v) uri apart numbers)
     ∙ ap (λ (o : Option ℕ). is_others (Some v.created) o) (held uri))
     refl

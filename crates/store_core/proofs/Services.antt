@@ -3,6 +3,7 @@ use Rattle.std.proofs.Common.{◌≡◌, ◌≢◌, ℕ, zero, suc, ◌<◌, ◌
 use Rattle.std.proofs.lemmas.Iterator.Adapters.{position_from-zero}
 use Rattle.std.proofs.lemmas.Option.{same_Some}
 use Rattle.std.specs.List.{AllByRecursion, filter_map, list_any, position, position_from}
+use Rattle.std.specs.Set.{is_member}
 use Rattle.std.specs.Str.{bytes_eq}
 use Rattle.std.proofs.lemmas.Slice.Eq.{bytes_eq-Decides}
 use Rattle.xml_tree.specs.Tree.{Tree, kids_of}
@@ -50,16 +51,16 @@ module _ {X : Type 0} (p : X → Bool) where
   not-any [] h = tt
   not-any (x ∷ xs) h = any-step x xs (p x) refl h (not-any xs)
 
-other-bytes : (o uri : List ℕ) → bytes_eq o uri ≡ false → uri ≢ o
-other-bytes o uri h e = let k : bytes_eq o uri ≡ true = (bytes_eq-Decides o uri).1 (sym e) in cc
+other-bytes : (o uri : List ℕ) → bytes_eq uri o ≡ false → uri ≢ o
+other-bytes o uri h e = let k : bytes_eq uri o ≡ true = (bytes_eq-Decides uri o).1 e in cc
 
-others-apart : (uri : List ℕ) (others : List (List ℕ)) → AllByRecursion (λ o. bytes_eq o uri ≡ false) others → AllByRecursion (λ o. uri ≢ o) others
+others-apart : (uri : List ℕ) (others : List (List ℕ)) → AllByRecursion (λ o. bytes_eq uri o ≡ false) others → AllByRecursion (λ o. uri ≢ o) others
 others-apart uri [] h = tt
 others-apart uri (o ∷ os) h = (other-bytes o uri h.0, others-apart uri os h.1)
 
-own-apart-others : (others own : List (List ℕ)) → AllByRecursion (λ uri. list_any (λ o. bytes_eq o uri) others ≡ false) own → AllByRecursion (λ uri. AllByRecursion (λ o. uri ≢ o) others) own
+own-apart-others : (others own : List (List ℕ)) → AllByRecursion (λ uri. is_member bytes_eq others uri ≡ false) own → AllByRecursion (λ uri. AllByRecursion (λ o. uri ≢ o) others) own
 own-apart-others others [] h = tt
-own-apart-others others (uri ∷ uris) h = (others-apart uri others (not-any (λ o. bytes_eq o uri) others h.0), own-apart-others others uris h.1)
+own-apart-others others (uri ∷ uris) h = (others-apart uri others (not-any (bytes_eq uri) others h.0), own-apart-others others uris h.1)
 
 pub none-mapped : {X Y : Type 0} (f : X → Y) (o : Option X) → option_map f o ≡ None → o ≡ None
 none-mapped f None h = refl
@@ -69,7 +70,7 @@ none-mapped f (Some x) h = cc
 pub none-taken : (others own : List (List ℕ)) → taken others own ≡ None → AllByRecursion (λ uri. AllByRecursion (λ o. uri ≢ o) others) own
 none-taken others own h =
     let clash : ℕ → Clash = λ i. record { path = i ∷ []; key = Uri } in
-    let test : List ℕ → Bool = λ uri. list_any (λ o. bytes_eq o uri) others in
+    let test : List ℕ → Bool = λ uri. is_member bytes_eq others uri in
     own-apart-others others own (none-at test 0 own (sym (position_from-zero test own) ∙ none-mapped clash (position test own) h))
 
 -- ---- the addresses of one document

@@ -5,9 +5,12 @@ use Rattle.std.proofs.lemmas.List.Sums.{sum_by-append}
 use Rattle.std.proofs.lemmas.Option.{same_Some}
 use Rattle.std.specs.List.{AllByRecursion, flat_map}
 use Rattle.std.specs.Map.{lookup}
+use Rattle.std.specs.Set.{is_member}
+use Rattle.std.specs.Str.{bytes_eq}
 use Rattle.xml_tree.specs.Tree.{Tree, height}
 use Rattle.usage_docs.specs.Services.{document_len}
 use Rattle.doc_names.specs.Same.{same_id}
+use Rattle.doc_names.specs.Usages.{usage_of}
 use Rattle.doc_names.specs.declared.doc_id.DocId.{DocId}
 use Rattle.edit_ops.specs.Changes.{Fits, edited}
 use Rattle.edit_ops.specs.Staging.{IsStaged}
@@ -21,15 +24,16 @@ use Rattle.store_core.specs.declared.step.Step.{Step}
 use Rattle.store_core.specs.declared.step.Step.TheVariants.{Make, Edit, End}
 use Rattle.store_core.specs.State.{State, first_state, retained}
 use Rattle.store_core.specs.Held.{Content, Held, Stands}
-use Rattle.store_core.specs.Keeping.{AreApart, Kept}
+use Rattle.store_core.specs.Keeping.{AreApart, IsSoundFor, Kept}
 use Rattle.store_core.specs.Changing.{Act, Edits, after, act_of, content_after, content_after_act, document_in, held_after, held_name, with_document}
-use Rattle.store_core.specs.Storing.{IsRenewed, IsStoring, Room, Stored, content_in, exchanged, held_in, holder, is_among, len_in, number_in, registered, uris_in}
+use Rattle.store_core.specs.Storing.{IsRenewed, IsStoring, Room, Stored, content_in, exchanged, held_in, holder, len_in, number_in, registered, uris_in}
 use Rattle.store_core.specs.Preparing.{IsPlanned, IsStepOf, Readied, Steppable, Stepped, total_of}
 use Rattle.store_core.proofs.Accepted.{find-map, sum-first, sum-mapped, sum-put}
 use Rattle.store_core.proofs.Apart.{apart-cut, apart-put, each-append, each-cut, each-left, each-right, each-weaker, one-exchanged, one-filtered}
 use Rattle.store_core.proofs.Asked.{asked}
 use Rattle.store_core.proofs.Keeps.{keeps}
 use Rattle.store_core.proofs.KeptAfter.{kept-first}
+use Rattle.store_core.proofs.SoundHeld.{all_sound, sound_held}
 use Rattle.store_core.proofs.Standing.{map-filtered}
 use Rattle.store_core.proofs.Entries.{Around, Known, around, each-mapped, known, none-found}
 use Rattle.store_core.proofs.Holders.{held-apart, held-less}
@@ -203,8 +207,8 @@ renewed-stored es rs last total p staged kept len v w rows s planned step found 
           reg uri
           ∙ ap (λ (us : List (List ℕ)). exchanged us p.enters w.created (registered rs uri) uri) leaves
           ∙ ap (λ (us : List (List ℕ)). exchanged (uris_in old) us w.created (registered rs uri) uri) enters
-          ∙ ap (λ (o : Option ℕ). cond (is_among (uris_in row) uri) (Some w.created) (cond (is_among (uris_in old) uri) None o)) (s.addresses uri ∙ ap (λ (ds : List Row). holder ds uri) r.parts)
-          ∙ ap (λ (o : Option ℕ). cond (is_among (uris_in row) uri) (Some w.created) o) (held-less uris_in number_in r.before r.behind old uri before-apart)
+          ∙ ap (λ (o : Option ℕ). cond (is_member bytes_eq (uris_in row) uri) (Some w.created) (cond (is_member bytes_eq (uris_in old) uri) None o)) (s.addresses uri ∙ ap (λ (ds : List Row). holder ds uri) r.parts)
+          ∙ ap (λ (o : Option ℕ). cond (is_member bytes_eq (uris_in row) uri) (Some w.created) o) (held-less uris_in number_in r.before r.behind old uri before-apart)
           ∙ held-apart uris_in number_in r.before r.behind row uri apart;
       numbers =
           subst (λ (ns : List ℕ). AreApart ns)
@@ -257,7 +261,7 @@ ended-stored es rs last total p v created rows s planned step found reg =
           reg uri
           ∙ ap (λ (us : List (List ℕ)). exchanged us p.enters created (registered rs uri) uri) leaves
           ∙ ap (λ (us : List (List ℕ)). exchanged (uris_in old) us created (registered rs uri) uri) step.4
-          ∙ ap (λ (o : Option ℕ). cond (is_among (uris_in old) uri) None o) (s.addresses uri ∙ ap (λ (ds : List Row). holder ds uri) r.parts)
+          ∙ ap (λ (o : Option ℕ). cond (is_member bytes_eq (uris_in old) uri) None o) (s.addresses uri ∙ ap (λ (ds : List Row). holder ds uri) r.parts)
           ∙ held-less uris_in number_in r.before r.behind old uri before-apart;
       numbers = subst (λ (ns : List ℕ). AreApart ns) (sym (map-append number_in r.before r.behind)) (apart-cut (map number_in r.before) (number_in old ∷ []) (map number_in r.behind) numbers);
       given = each-cut (λ (e : Row). number_in e ≤ p.note.next) r.before (old ∷ []) r.behind given;
@@ -339,6 +343,11 @@ low-entry es rs last total doc v s found =
     let r = around-of es rs last total doc v s found in
     let P : Row → Type 0 = λ e. height e.1.tree ≤ 64 in
     (each-right P r.before ((doc, v) ∷ r.behind) (subst (λ (ds : List Row). AllByRecursion P ds) r.parts (known-of es rs last total s).low)).0
+
+pub sound-entry : (es : List Row) (rs : List (List ℕ × ℕ)) (last total : ℕ) (doc : DocId) (v : Entry) → IsStoring es rs last total → lookup (same_id doc) es ≡ Some v → IsSoundFor (usage_of doc.auid) v.tree
+sound-entry es rs last total doc v s found =
+    let r = around-of es rs last total doc v s found in
+    sound_held (content_in es last) doc (held_in (doc, v)) (held-found es doc v r) (all_sound (content_in es last) s.kept.0 s.kept.1 s.kept.2)
 
 pub ring-of : (es : List Row) (rs : List (List ℕ × ℕ)) (last total : ℕ) (doc : DocId) (v : Entry) → IsStoring es rs last total → lookup (same_id doc) es ≡ Some v → v.notes.capacity ≡ 64
 ring-of es rs last total doc v s found =

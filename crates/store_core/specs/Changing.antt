@@ -1,7 +1,7 @@
 -- What a change of a document makes of the machine's state and of what a store holds of it, and why it may be refused.
 -- RFC 4825, section 8.5 (a new entity tag for each change); RFC 4826, section 4.4.5 (service addresses are unique over all documents).
 use Rattle.std.specs.Prelude.{ℕ, ◌+◌, nat_lt, nat_le, min, Bool, true, false, not, ◌&&◌, List, [], ◌∷◌, ◌++◌, length, map, sum_by, filter, flat_map, find, position, Option, None, Some, option_map, if◌then◌else◌, Result, Ok, Err}
-use Rattle.std.specs.List.{list_any}
+use Rattle.std.specs.Set.{is_member}
 use Rattle.std.specs.Str.{bytes_eq}
 use Rattle.xml_tree.specs.Tree.{Tree}
 use Rattle.usage_docs.specs.Services.{document_len}
@@ -100,7 +100,7 @@ content_after c id change = content_after_act c id change (act_of change)
 -- the first service whose address another document holds. In a valid document every element child of the root is a service with an
 -- address, so the i-th address is that of the i-th child.
 abbrev pub taken : List (List ℕ) → List (List ℕ) → Option Clash
-taken others own = option_map (λ i. record { path = i ∷ []; key = Uri }) (position (λ uri. list_any (λ other. bytes_eq other uri) others) own)
+taken others own = option_map (λ i. record { path = i ∷ []; key = Uri }) (position (is_member bytes_eq others) own)
 
 -- the addresses of the other documents, and the lengths of their prints together
 abbrev pub other_addresses : Content → DocId → List (List ℕ)

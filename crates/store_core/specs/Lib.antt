@@ -3,6 +3,7 @@ pub mod Changing
 pub mod Held
 pub mod History
 pub mod Indexes
+pub mod KeyAddresses
 pub mod Keeping
 pub mod Limits
 pub mod Listed

@@ -1,8 +1,9 @@
 -- What a store keeps in memory, and what that stands for: the documents in order of creation, and which document holds each service
 -- address. RFC 4826, section 4.4.5 (service addresses are unique over all documents).
 use Rattle.std.specs.Prelude.{◌≡◌, ℕ, ◌+◌, ◌≤◌, ◌==◌, Bool, true, false, not, List, [], ◌∷◌, ◌++◌, map, sum_by, Option, None, Some, if◌then◌else◌}
-use Rattle.std.specs.List.{AllByRecursion, list_any}
+use Rattle.std.specs.List.{AllByRecursion}
 use Rattle.std.specs.Map.{lookup}
+use Rattle.std.specs.Set.{is_member}
 use Rattle.std.specs.Str.{bytes_eq}
 use Rattle.circular_buffer.specs.Buffer.{buffer}
 use Rattle.xml_tree.specs.Tree.{Tree}
@@ -66,15 +67,11 @@ pub record IsRenewed (old : Entry) (number : ℕ) (note : EditNote) (bytes : ℕ
 
 -- ---- who holds an address
 
--- the address is one of these
-abbrev pub is_among : List (List ℕ) → List ℕ → Bool
-is_among uris uri = list_any (λ other. bytes_eq other uri) uris
-
 module _ {D : Type 0} (own : D → List (List ℕ)) (number : D → ℕ) where
   -- the number of the first document that has it
   abbrev pub holder_in : List D → List ℕ → Option ℕ
   holder_in [] uri = None
-  holder_in (d ∷ ds) uri = if is_among (own d) uri then Some (number d) else holder_in ds uri
+  holder_in (d ∷ ds) uri = if is_member bytes_eq (own d) uri then Some (number d) else holder_in ds uri
 
 abbrev pub holder : List (DocId × Entry) → List ℕ → Option ℕ
 holder es uri = holder_in uris_in number_in es uri
@@ -91,7 +88,7 @@ registered rs uri = lookup (bytes_eq uri) rs
 
 -- a registry after some addresses left it and others came in under a number
 abbrev pub exchanged : List (List ℕ) → List (List ℕ) → ℕ → Option ℕ → List ℕ → Option ℕ
-exchanged leaves enters number before uri = if is_among enters uri then Some number else if is_among leaves uri then None else before
+exchanged leaves enters number before uri = if is_member bytes_eq enters uri then Some number else if is_member bytes_eq leaves uri then None else before
 
 -- ---- what always holds of a store
 

@@ -1,9 +1,10 @@
 //! Changes that have all their memory are made.
-ghost use Rattle.std.specs.Prelude.{◌≡◌, Ok};
+ghost use Rattle.std.specs.Prelude.{◌≡◌, Ok, OnOk};
 ghost use Rattle.notes.specs.Recorded.{note_in};
 ghost use Rattle.store_core.specs.declared.refusal.StoreRefusal.TheVariants as refusals;
 ghost use Rattle.store_core.specs.Asking.{Asks};
 ghost use Rattle.store_core.specs.Changing.{changing, content_after};
+ghost use Rattle.store_core.specs.KeyAddresses.{KeepsAddressesOf};
 ghost use Rattle.store_core.specs.Preparing.{IsReady, Steps};
 
 use crate::prepared::Prepared;
@@ -20,6 +21,7 @@ impl Store {
         requires { IsReady self.old prepared }
         ensures content { self.new.content ≡ content_after self.old.content prepared.doc prepared.note.change }
         ensures note { note_in result ≡ prepared.note }
+        ensures keeps_key_addresses { KeepsAddressesOf self.old.content prepared.doc prepared.note.change self.new.content }
     {
         let Prepared {
             doc,
@@ -44,6 +46,7 @@ impl Store {
     pub fn change(&mut self, doc: &DocId, change: Change) -> Result<EditNote, StoreRefusal>
         requires { Asks self.old.content doc.now change }
         ensures makes_the_change_or_refuses { Steps refusals.NoMemory (changing self.old.content doc.now change) note_in result self.old.content self.new.content }
+        ensures keeps_key_addresses { OnOk result (KeepsAddressesOf self.old.content doc.now change self.new.content) }
     {
         let prepared = self.prepare(doc, change)?;
         Ok(self.commit(prepared))

@@ -4,6 +4,7 @@ ghost use Rattle.xml_tree.specs.Tree.{Tree};
 ghost use Rattle.store_core.specs.State.{State, first_state};
 ghost use Rattle.store_core.specs.Held.{Content, Stands};
 ghost use Rattle.store_core.specs.Indexes.{AreIndexTrees};
+ghost use Rattle.store_core.specs.KeyAddresses.{KeepsAddressesOf};
 ghost use Rattle.store_core.specs.Keeping.{Kept};
 ghost use Rattle.store_core.specs.Changing.{after, changing, content_after, document_in, held_name, note_for};
 ghost use Rattle.store_core.specs.Suiting.{Suits};
@@ -40,6 +41,15 @@ pub fn changes_that_are_made_keep_store_and_state()
 /// A law: where a store stands for a kept state, it makes each change that suits the state, while 64 bits hold the next number.
 pub fn changes_that_suit_the_state_are_made()
     ensures made_if_it_suits { (c : Content) (m : State) (id : DocId) (change : Change) → Stands c m → Kept m → Suits m id change → m.next < 18446744073709551616 → changing c id change ≡ Ok (note_for c id change (document_in held_name c.documents id), content_after c id change) }
+{}
+
+/// A law: where a store stands for a kept state, a change that it makes leaves what the document's
+/// key addresses select. An address that selected an element selects it where the change moves it,
+/// if it is still there and no key on the way to it is written or dropped.
+pub fn changes_that_are_made_leave_key_addresses()
+    ensures leaves_what_they_select { (c : Content) (m : State) (id : DocId) (change : Change)
+        (note : Note) (next : Content) → Stands c m → Kept m → Asks c id change
+        → changing c id change ≡ Ok (note, next) → KeepsAddressesOf c id change next }
 {}
 
 /// A law: of what is held there is exactly one list of the trees that the index of services lists.

@@ -1,5 +1,5 @@
 //! Changes of documents: each first takes all its memory, and then can't fail.
-ghost use Rattle.std.specs.Prelude.{◌≡◌, ◌≤◌, ◌+◌, ◌⊎◌, [], ◌∷◌, Err, IfErr, IfOk, IsSome, IsSomeAnd, None, Ok, Some, false, min, true};
+ghost use Rattle.std.specs.Prelude.{◌≡◌, ◌≤◌, ◌+◌, ◌⊎◌, [], ◌∷◌, Err, IfErr, IfOk, IsSome, IsSomeAnd, None, Ok, OnOk, Some, false, min, true};
 ghost use Rattle.xml_tree.specs.Tree.{Tree};
 ghost use Rattle.usage_docs.specs.Services.{document_len};
 ghost use Rattle.usage_docs.specs.declared.rows.Key.TheVariants as keys;
@@ -8,6 +8,7 @@ ghost use Rattle.store_core.specs.declared.refusal.StoreRefusal.TheVariants as r
 ghost use Rattle.store_core.specs.Asking.{Asks};
 ghost use Rattle.store_core.specs.Changing.{Edits, act_of, against_number, against_tree, changing, content_after, document_in, held_name, other_lengths};
 ghost use Rattle.store_core.specs.Keeping.{addresses_in};
+ghost use Rattle.store_core.specs.KeyAddresses.{KeepsAddressesOf};
 ghost use Rattle.edit_ops.specs.Changes.{Fits, edited};
 ghost use Rattle.store_core.specs.Preparing.{IsHeldAs, IsNoted, IsReady, Plans, refused_for, total_of};
 ghost use Rattle.store_core.specs.Storing.{entry_of};
@@ -338,8 +339,10 @@ impl Store {
         ensures same { self.new.content ≡ self.old.content }
         ensures ok { IfOk result (λ p. (p.doc ≡ doc.now) × (changing self.old.content doc.now change ≡ Ok (p.note, content_after self.old.content doc.now change)) × (p.note.change ≡ change)) }
         ensures ready { IfOk result (λ p. IsReady self.new p) }
+        ensures keeps_key_addresses { OnOk result (KeepsAddressesOf self.old.content doc.now change (content_after self.old.content doc.now change)) }
         ensures err { IfErr result (λ e. (changing self.old.content doc.now change ≡ Err e) ⊎ (e ≡ refusals.NoMemory)) }
     {
+        self.stands();
         let prepared = self.plan(doc, change)?;
         self.reserve(prepared.addresses_more())?;
         Ok(prepared)

@@ -1,10 +1,12 @@
 //! Which document has a service address, by the number that the document's creation took (RFC 4826, section 4.4.5).
 ghost use Rattle.std.specs.Prelude.{◌≡◌, ℕ, ◌≤◌, List, position, vec_len, IfOk, Some, None, if◌then◌else◌};
+ghost use Rattle.std.specs.Set.{is_member};
+ghost use Rattle.std.specs.Str.{bytes_eq};
 ghost use Rattle.indexmap.specs.IndexMap.{spare};
 ghost use Rattle.edit_ops.specs.Changes.{Fits, edited};
 ghost use Rattle.usage_docs.specs.Services.{service_uris};
 ghost use Rattle.store_core.specs.Keeping.{addresses_in};
-ghost use Rattle.store_core.specs.Storing.{is_among, is_others, registered};
+ghost use Rattle.store_core.specs.Storing.{is_others, registered};
 
 use doc_names::Auid;
 use edit_ops::{Change, rebuilt};
@@ -97,7 +99,7 @@ pub(crate) fn first_taken(registry: &Registry, uris: &[Text], own: Option<u64>) 
 /// Enters addresses, for which there is room.
 pub(crate) fn enter(registry: &mut Registry, mut uris: Vec<Text>, number: u64)
     requires { vec_len uris ≤ spare registry.old }
-    ensures enters_these_alone { (uri : List ℕ) → registered registry.new.entries uri ≡ (if is_among uris.items uri then Some number else registered registry.old.entries uri) }
+    ensures enters_these_alone { (uri : List ℕ) → registered registry.new.entries uri ≡ (if is_member bytes_eq uris.items uri then Some number else registered registry.old.entries uri) }
 {
     'each: while let Some(uri) = uris.pop() {
         registry.insert(uri, number).unwrap();
@@ -106,7 +108,7 @@ pub(crate) fn enter(registry: &mut Registry, mut uris: Vec<Text>, number: u64)
 
 /// Takes addresses out.
 pub(crate) fn leave(registry: &mut Registry, uris: &[Text])
-    ensures left { (uri : List ℕ) → registered registry.new.entries uri ≡ (if is_among uris.now uri then None else registered registry.old.entries uri) }
+    ensures left { (uri : List ℕ) → registered registry.new.entries uri ≡ (if is_member bytes_eq uris.now uri then None else registered registry.old.entries uri) }
     ensures room { spare registry.old ≤ spare registry.new }
 {
     for uri in uris {

@@ -5,7 +5,8 @@ ghost use Rattle.xml_tree.specs.Tree.{Tree, height};
 ghost use Rattle.usage_docs.specs.Services.{document_len};
 ghost use Rattle.store_core.specs.State.{State};
 ghost use Rattle.store_core.specs.Held.{Stands};
-ghost use Rattle.store_core.specs.Keeping.{Kept};
+ghost use Rattle.store_core.specs.Keeping.{IsSoundFor, Kept};
+ghost use Rattle.doc_names.specs.Usages.{usage_of};
 ghost use Rattle.store_core.specs.Changing.{document_in, held_name};
 
 use crate::NoMemory;
@@ -64,10 +65,12 @@ impl Store {
         })
     }
 
-    /// The tree and the tag of a document: None exactly where it isn't held. Takes no memory.
+    /// The tree and the tag of a document: None exactly where it isn't held. The tree is sound for
+    /// its usage, at most 64 high and at most 262,144 bytes long, printed. Takes no memory.
     pub fn get(&self, doc: &DocId) -> Option<(&Element, u64)>
         ensures held { option_map (λ x. (x.0.now, x.1)) result ≡ option_map {U = Tree × ℕ} (λ h. (h.tree, h.tag)) (document_in held_name self.now.content.documents doc.now) }
         ensures low { IfSome result (λ x. height x.0.now ≤ 64) }
+        ensures sound { IfSome result (λ x. IsSoundFor (usage_of doc.now.auid) x.0.now) }
     {
         let entry = find(&self.documents, doc)?;
         Some((&entry.tree, entry.tag))

@@ -9,22 +9,28 @@ use anyhow::{Context, Result, bail};
 use edit_ops::{Change, NoMemory, apply_change, moved, rebuilt};
 use std::alloc::Global;
 use table_cases::{Field, document, element, first_word, name, path, print};
-use xml_tree::{Element, Name, Path, Text, copy_tree, element_at, equal, print_path};
+use tree_text::read_fragment;
+use xml_tree::{Element, Name, Path, Scope, Text, copy_tree, element_at, equal, print_path};
 
 // ---- the words of a change
 
-// A change at a place; `what` is a number or a name.
-fn change_at(alloc: Global, word: &str, at: Path, what: &str, text: &str) -> Result<Change> {
+// An element is put at a place; `what` is a number where it is put between others.
+fn putting(word: &str, at: Path, what: &str, element: Element) -> Result<Change> {
     Ok(match word {
         "insert" => Change::Insert {
             parent: at,
             gap: what.parse::<usize>().context("no number of a gap")?,
-            element: element(alloc, text)?,
+            element,
         },
-        "replace" => Change::Replace {
-            at,
-            element: element(alloc, text)?,
-        },
+        "replace" => Change::Replace { at, element },
+        _ => bail!("no such change"),
+    })
+}
+
+// A change at a place; `what` is a number or a name.
+fn change_at(alloc: Global, word: &str, at: Path, what: &str, text: &str) -> Result<Change> {
+    Ok(match word {
+        "insert" | "replace" => putting(word, at, what, element(alloc, text)?)?,
         "remove" => Change::Remove { at },
         "set" => Change::SetAttr {
             at,
@@ -51,6 +57,35 @@ pub fn read_change(alloc: Global, text: &str) -> Result<Change> {
     let (place, rest) = first_word(rest);
     let (what, text) = first_word(rest);
     change_at(alloc, word, path(place)?, what, text)
+}
+
+// The scope in which an element is put: inside the one at a place, or around it.
+fn scope_at<'a>(tree: &'a Element, word: &str, at: &Path) -> Result<Scope<'a>> {
+    if word == "insert" {
+        return Scope::at(tree, at).context("nothing is there");
+    }
+    match at.split_last() {
+        Some((parent, _)) => Scope::at(tree, &parent).context("nothing is there"),
+        None => Ok(Scope::empty()),
+    }
+}
+
+/// The change of a tree that a text says, where an element that is put is read in the scope of its
+/// place.
+pub fn read_change_in(alloc: Global, tree: &Element, text: &str) -> Result<Change> {
+    let (word, rest) = first_word(text);
+    let (place, rest) = first_word(rest);
+    let (what, spelled) = first_word(rest);
+    if word != "insert" && word != "replace" {
+        return read_change(alloc, text);
+    }
+    let at = path(place)?;
+    let scope = scope_at(tree, word, &at)?;
+    let Some(depth) = 67usize.checked_sub(scope.depth()) else {
+        bail!("too deep");
+    };
+    let element = read_fragment(alloc, spelled.as_bytes(), &scope, depth)?;
+    putting(word, at, what, element)
 }
 
 // ---- whether a change fits a tree

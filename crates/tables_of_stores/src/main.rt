@@ -1,4 +1,4 @@
-//! A program that judges tables of cases: nodes, changes, notes, watchers and the store. Each word of the command line names a table, a file of one
+//! A program that judges tables of cases: nodes, changes, notes, notices, watchers and the store. Each word of the command line names a table, a file of one
 //! case a line: the inputs and, in its last field, the answer. It makes each call, prints one line a table and each case whose
 //! answer differs, and then ends with the status 1.
 //! The standards are those of the calls.
@@ -7,7 +7,9 @@
 mod changes;
 mod nodes;
 mod noted;
+mod noticed;
 mod store;
+mod viewed;
 mod watching;
 
 use anyhow::{Context, Result};
@@ -22,6 +24,7 @@ fn answer(alloc: Global, table: &str, inputs: &[Field]) -> Result<String> {
         "nodes" | "places" | "homes" | "ancestors" => nodes::answer(alloc, table, inputs),
         "changes" | "moves" => changes::answer(alloc, table, inputs),
         "notes" => noted::answer(alloc, inputs),
+        "notices" => noticed::answer(alloc, inputs),
         "store" => store::answer(alloc, inputs),
         _ => watching::answer(alloc, table, inputs),
     }

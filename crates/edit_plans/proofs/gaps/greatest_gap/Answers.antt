@@ -1,4 +1,3 @@
-use Rattle.std.proofs.Common.{sym, ◌∙◌}
 use Rattle.xml_tree.specs.Tree.{kids_of}
 use Rattle.node_select.specs.Selection.{is_named, is_tested}
 use Rattle.edit_plans.specs.Sides.{FitsIn}

@@ -2,7 +2,7 @@ use Rattle.indexmap.specs.IndexMap.{spare}
 use Rattle.notes.specs.Recorded.{note_in}
 use Rattle.store_core.specs.Preparing.{Readied}
 use Rattle.store_core.specs.Storing.{Room}
-use Rattle.store_core.proofs.Committed.{holds-next, may-step, still-storing}
+use Rattle.store_core.proofs.Committed.{holds-next, keeps-addresses, may-step, still-storing}
 use Rattle.store_core.proofs.store.Store.commit.Goals as goal
 
 pub take-created-requires-clause-fits : goal.take-created-requires-clause-fits
@@ -30,5 +30,15 @@ returns-clause-content c =
     let room : Room = record { documents = spare s.documents; services = spare s.services } in
     let seen : Readied = record { doc = p.doc; note = note_in p.note; step = p.step; leaves = p.leaves; enters = p.enters; total = p.total } in
     holds-next s.documents.entries s.services.entries s.last s.total room c.args.self.now seen c.args.prepared c.self.view_is c.prepared.view_is c.self.invariant c.requires
+    c.leave.new.registry.entries c.enter.new.registry.entries c.take-created.new.documents.entries c.take-created.result c.as_slice.result.now c.into_vec.result.items c.take-created.ensures.takes_the_step c.as_slice.ensures.lends_the_items c.into_vec.ensures.hands_out_the_items
+    c.leave.ensures.left c.enter.ensures.enters_these_alone
+
+pub returns-clause-keeps_key_addresses : goal.returns-clause-keeps_key_addresses
+returns-clause-keeps_key_addresses c =
+    let s = c.self.inside in
+    let p = c.prepared.inside in
+    let room : Room = record { documents = spare s.documents; services = spare s.services } in
+    let seen : Readied = record { doc = p.doc; note = note_in p.note; step = p.step; leaves = p.leaves; enters = p.enters; total = p.total } in
+    keeps-addresses s.documents.entries s.services.entries s.last s.total room c.args.self.now seen c.args.prepared c.self.view_is c.prepared.view_is c.self.invariant c.requires
     c.leave.new.registry.entries c.enter.new.registry.entries c.take-created.new.documents.entries c.take-created.result c.as_slice.result.now c.into_vec.result.items c.take-created.ensures.takes_the_step c.as_slice.ensures.lends_the_items c.into_vec.ensures.hands_out_the_items
     c.leave.ensures.left c.enter.ensures.enters_these_alone

@@ -8,7 +8,7 @@ use Rattle.store_core.specs.Changing.{document_in, held_name}
 use Rattle.store_core.specs.Held.{Held}
 use Rattle.store_core.specs.Storing.{Stored}
 use Rattle.store_core.proofs.Entries.{tree-and-tag}
-use Rattle.store_core.proofs.Stored.{low-entry}
+use Rattle.store_core.proofs.Stored.{low-entry, sound-entry}
 use Rattle.store_core.proofs.store.Store.get.Goals as goal
 
 pub returns-in_err-entry-clause-held : goal.returns-in_err-entry-clause-held
@@ -34,3 +34,10 @@ returns-clause-low c =
     let doc = c.args.doc.now in
     let there : Some c.in_ok-entry.entry.now ≡ lookup (same_id doc) es = rw c.in_ok-entry.was at c.find.ensures.entry_of_the_document in
     low-entry es c.self.inside.services.entries c.self.inside.last c.self.inside.total doc c.in_ok-entry.entry.now c.self.invariant (sym there)
+
+pub returns-clause-sound : goal.returns-clause-sound
+returns-clause-sound c =
+    let es = c.self.inside.documents.entries in
+    let doc = c.args.doc.now in
+    let there : Some c.in_ok-entry.entry.now ≡ lookup (same_id doc) es = rw c.in_ok-entry.was at c.find.ensures.entry_of_the_document in
+    sound-entry es c.self.inside.services.entries c.self.inside.last c.self.inside.total doc c.in_ok-entry.entry.now c.self.invariant (sym there)
