@@ -12,7 +12,6 @@ use Rattle.http_wire.specs.Asking.{WireState, IsNext, IsAsked, Asks, StandsAfter
 use Rattle.http_wire.specs.Items.{Item, asks, bad, too_long, coded, IsFirst}
 use Rattle.http_wire.specs.Serving.{Closes, no_more, last_item, no_memory, GoesOn, told}
 use Rattle.http_wire.proofs.WholeItems.{asks-append}
-use Rattle.notes.specs.declared.edit.Edit.{Edit}
 use Rattle.http_serve.specs.declared.connection.Ended.TheVariants.{Closed, ReadFailed, WriteFailed}
 use Rattle.http_serve.specs.Fixed.{fixed}
 use Rattle.http_serve.specs.Turns.{AnswersAsked, Did, GivesOn, IsFixed, Turn}
@@ -22,17 +21,17 @@ first_item : (before : ℕ) (given : List ℕ) (now : Inward) (item : Item) (hel
 first_item before given now item held (inl each) = inl (λ more. (held ++ more, each more))
 first_item before given now item held (inr (first, ended)) = inr (ended.0, (held, first))
 
-module _ {M : Type 0} where
+module _ {M E : Type 0} where
   -- a fixed reply closes
-  fixed_closes : {A : Type 0} (status : ℕ) (machine next : M) (reply : Sent) (edit : Option Edit) → IsFixed status machine reply edit next → reply.closes ≡ false → A
+  fixed_closes : {A : Type 0} (status : ℕ) (machine next : M) (reply : Sent) (edit : Option E) → IsFixed status machine reply edit next → reply.closes ≡ false → A
   fixed_closes status machine next reply edit is goes_on = absurd (true≢false (sym (ap (λ (r : Sent). r.closes) is.0) ∙ goes_on))
 
   -- the answer to what is no request
-  fixed_answer : (status : ℕ) (machine next : M) (reply : Sent) (edit : Option Edit) → IsFixed status machine reply edit next → (bytes_of reply ≡ fixed status) × (next ≡ machine) × (edit ≡ None)
+  fixed_answer : (status : ℕ) (machine next : M) (reply : Sent) (edit : Option E) → IsFixed status machine reply edit next → (bytes_of reply ≡ fixed status) × (next ≡ machine) × (edit ≡ None)
   fixed_answer status machine next reply edit is = (ap bytes_of is.0, is.2, is.1)
 
-module _ {M : Type 0} (Step : M → Request → List ℕ → M → Option Edit → Type 0) where
-  module _ (before : ℕ) (given : List ℕ) (now : Inward) (machine next : M) (reply : Sent) (edit : Option Edit) (held : List ℕ) where
+module _ {M E : Type 0} (Step : M → Request → List ℕ → M → Option E → Type 0) where
+  module _ (before : ℕ) (given : List ℕ) (now : Inward) (machine next : M) (reply : Sent) (edit : Option E) (held : List ℕ) where
     -- a reply that closes ends the connection
     ends_so : (asked : Asked) → IsAsked before given now asked held → AnswersAsked Step machine asked reply edit next → reply.closes ≡ true → Closes Step fixed before machine given now.ended (bytes_of reply) next edit
     ends_so (Requested request) is (inl (step, same)) closes = last_item (asks request) (inl (λ more. (held ++ more, asks-append before given more request held is))) (sym same ∙ closes) step
@@ -58,9 +57,9 @@ module _ {M : Type 0} (Step : M → Request → List ℕ → M → Option Edit �
     either_so asked true closes is answer = inl (ends_so asked is answer closes)
     either_so asked false closes is answer = inr (held, goes_so asked is answer closes)
 
-module _ {M W : Type 0} (Step : M → Request → List ℕ → M → Option Edit → Type 0) (Keeps : List Edit → W → W → Type 0) (wire wire' : WireState) (machine : M) (old new : LineState) (watchers : W) where
+module _ {M W E : Type 0} (Step : M → Request → List ℕ → M → Option E → Type 0) (Keeps : List E → W → W → Type 0) (wire wire' : WireState) (machine : M) (old new : LineState) (watchers : W) where
   -- a read failed
-  pub turn_of_fault : {E : Type 0} (e : E) → Asks wire.requests wire.held old.inward (Err e) wire'.held new.inward → new.taken ≡ old.taken → Keeps [] watchers watchers
+  pub turn_of_fault : {F : Type 0} (e : F) → Asks wire.requests wire.held old.inward (Err e) wire'.held new.inward → new.taken ≡ old.taken → Keeps [] watchers watchers
       → Turn Step Keeps (Some ReadFailed) wire wire' machine machine old new watchers watchers
   turn_of_fault e a same none = record {
     read = a.read;
@@ -73,10 +72,10 @@ module _ {M W : Type 0} (Step : M → Request → List ℕ → M → Option Edit
   }
 
   -- nothing was left
-  pub turn_of_end : {E : Type 0} (next : M) (asked : Asked) → Asks {E = E} wire.requests wire.held old.inward (Ok asked) wire'.held new.inward → asked ≡ End → new.taken ≡ old.taken → next ≡ machine → Keeps [] watchers watchers
+  pub turn_of_end : {F : Type 0} (next : M) (asked : Asked) → Asks {E = F} wire.requests wire.held old.inward (Ok asked) wire'.held new.inward → asked ≡ End → new.taken ≡ old.taken → next ≡ machine → Keeps [] watchers watchers
       → Turn Step Keeps (Some Closed) wire wire' machine next old new watchers watchers
-  turn_of_end {E = E} next asked first is same stands none =
-      let a : Asks {E = E} wire.requests wire.held old.inward (Ok End) wire'.held new.inward = subst (λ (q : Asked). Asks {E = E} wire.requests wire.held old.inward (Ok q) wire'.held new.inward) is first in
+  turn_of_end {F = F} next asked first is same stands none =
+      let a : Asks {E = F} wire.requests wire.held old.inward (Ok End) wire'.held new.inward = subst (λ (q : Asked). Asks {E = F} wire.requests wire.held old.inward (Ok q) wire'.held new.inward) is first in
       record {
         read = a.read;
         written = [];
@@ -87,7 +86,7 @@ module _ {M W : Type 0} (Step : M → Request → List ℕ → M → Option Edit
         kept = none;
       }
 
-  module _ {E : Type 0} (next : M) (mid : LineState) (watchers' : W) (asked : Asked) (reply : Sent) (edit : Option Edit) (a : Asks {E = E} wire.requests wire.held old.inward (Ok asked) wire'.held mid.inward)
+  module _ {F : Type 0} (next : M) (mid : LineState) (watchers' : W) (asked : Asked) (reply : Sent) (edit : Option E) (a : Asks {E = F} wire.requests wire.held old.inward (Ok asked) wire'.held mid.inward)
       (answer : AnswersAsked Step machine asked reply edit next) (same_taken : mid.taken ≡ old.taken) (same_inward : new.inward ≡ mid.inward) (kept : Keeps (told edit) watchers watchers') where
     abbrev bytes : List ℕ
     bytes = wire.held ++ a.read
@@ -134,12 +133,12 @@ module _ {M W : Type 0} (Step : M → Request → List ℕ → M → Option Edit
     }
 
 -- a wire that gave what is answered without closing goes on
-pub gives_on : {M : Type 0} (E : Type 0) (Step : M → Request → List ℕ → M → Option Edit → Type 0) (old new : WireState) (asked : Asked) (machine next : M) (reply : Sent) (edit : Option Edit)
-    → StandsAfter {E = E} old (Ok asked) new → AnswersAsked Step machine asked reply edit next → reply.closes ≡ false → GivesOn old new
-gives_on E Step old new (Requested request) machine next reply edit stands (inl (step, same)) goes_on = record { requests = stands.0; open_still = stands.1 ∙ sym same ∙ goes_on }
-gives_on E Step old new (Requested request) machine next reply edit stands (inr fix) goes_on = fixed_closes 503 machine next reply edit fix goes_on
-gives_on E Step old new Bad machine next reply edit stands fix goes_on = fixed_closes 400 machine next reply edit fix goes_on
-gives_on E Step old new TooLong machine next reply edit stands fix goes_on = fixed_closes 413 machine next reply edit fix goes_on
-gives_on E Step old new Coded machine next reply edit stands fix goes_on = fixed_closes 501 machine next reply edit fix goes_on
-gives_on E Step old new End machine next reply edit stands answer goes_on = absurd answer
-gives_on E Step old new NoMemory machine next reply edit stands fix goes_on = fixed_closes 503 machine next reply edit fix goes_on
+pub gives_on : {M E : Type 0} (F : Type 0) (Step : M → Request → List ℕ → M → Option E → Type 0) (old new : WireState) (asked : Asked) (machine next : M) (reply : Sent) (edit : Option E)
+    → StandsAfter {E = F} old (Ok asked) new → AnswersAsked Step machine asked reply edit next → reply.closes ≡ false → GivesOn old new
+gives_on F Step old new (Requested request) machine next reply edit stands (inl (step, same)) goes_on = record { requests = stands.0; open_still = stands.1 ∙ sym same ∙ goes_on }
+gives_on F Step old new (Requested request) machine next reply edit stands (inr fix) goes_on = fixed_closes 503 machine next reply edit fix goes_on
+gives_on F Step old new Bad machine next reply edit stands fix goes_on = fixed_closes 400 machine next reply edit fix goes_on
+gives_on F Step old new TooLong machine next reply edit stands fix goes_on = fixed_closes 413 machine next reply edit fix goes_on
+gives_on F Step old new Coded machine next reply edit stands fix goes_on = fixed_closes 501 machine next reply edit fix goes_on
+gives_on F Step old new End machine next reply edit stands answer goes_on = absurd answer
+gives_on F Step old new NoMemory machine next reply edit stands fix goes_on = fixed_closes 503 machine next reply edit fix goes_on

@@ -9,7 +9,6 @@ use Rattle.xcap_io.specs.Histories.{Traffic, carried_by}
 use Rattle.xcap_io.specs.Passing.{Gave, IsTruthful, Took}
 use Rattle.http_wire.specs.declared.request.Request.{Request}
 use Rattle.http_wire.specs.Serving.{Ending, closed, read_failed, write_failed, HasBytes, HaveBytes, IsBounded, Serves, ServesEach, read_failures, write_failures}
-use Rattle.notes.specs.declared.edit.Edit.{Edit}
 use Rattle.http_serve.specs.declared.connection.Ended.{Ended}
 use Rattle.http_serve.specs.declared.connection.Ended.TheVariants.{Closed, ReadFailed, WriteFailed}
 use Rattle.http_serve.specs.declared.port.Served.{Served}
@@ -153,11 +152,11 @@ has_ended E old new false n is = n
 
 -- ---- the loop over connections
 
-module _ {M W : Type 0} (Step : M → Request → List ℕ → M → Option Edit → Type 0) (Keeps : List Edit → W → W → Type 0) where
+module _ {M W E : Type 0} (Step : M → Request → List ℕ → M → Option E → Type 0) (Keeps : List E → W → W → Type 0) where
   -- So many connections were served, the last of which ended so.
   pub record PortSoFar (count : ℕ) (last : Ended) (machine now : M) (old mid : LineState) (watchers watchers' : W) : Type 0 where
     pub connections : List Traffic
-    pub edits : List Edit
+    pub edits : List E
     pub endings : List Ending
     pub many : length connections ≡ count
     pub came : Came old.port.to_come mid.port.to_come connections
@@ -193,7 +192,7 @@ module _ {M W : Type 0} (Step : M → Request → List ℕ → M → Option Edit
     same_peer = refl;
   }
 
-  pub one_connection : (more : (xs ys : List Edit) (a b c : W) → Keeps xs a b → Keeps ys b c → Keeps (xs ++ ys) a c)
+  pub one_connection : (more : (xs ys : List E) (a b c : W) → Keeps xs a b → Keeps ys b c → Keeps (xs ++ ys) a c)
       (count : ℕ) (last ended : Ended) (machine now next : M) (old mid begun new : LineState) (a b c : W)
       → PortSoFar count last machine now old mid a b → Next mid begun → ServesLine Step Keeps ended now next begun new b c → PortSoFar (count + 1) ended machine next old new a c
   one_connection more count last ended machine now next old mid begun new a b c s n v =

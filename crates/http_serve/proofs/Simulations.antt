@@ -3,7 +3,6 @@
 use Rattle.std.proofs.Common.{◌≡◌, ℕ, ◌+◌, inl, inr, Bool, List, [], ◌∷◌, length, Option, refl, sym, subst}
 use Rattle.xcap_io.specs.Causes.{LineState}
 use Rattle.xcap_io.specs.Histories.{Traffic}
-use Rattle.notes.specs.declared.edit.Edit.{Edit}
 use Rattle.http_wire.specs.declared.request.Request.{Request}
 use Rattle.http_wire.specs.Items.{Item, asks, bad, too_long, coded}
 use Rattle.http_wire.specs.Serving.{Answers, Closes, no_more, last_item, no_memory, Ending, closed, read_failed, write_failed, EndsBy, GoesOn, Run, Serves, ServesEach}
@@ -68,9 +67,9 @@ module _ {S M E : Type 0} (Steps : S → Request → List ℕ → S → Option E
       let r = serves_each connections mid s' o.0 others later o.1 rest in
       (r.0, r.1, (ending, others, o.0, first, later, all_endings, all_told, o.2, r.2))
 
-module _ {S M W : Type 0} (Steps : S → Request → List ℕ → S → Option Edit → Type 0) (Step : M → Request → List ℕ → M → Option Edit → Type 0) (Stands : S → M → Type 0)
-    (step : (s s' : S) (m : M) (request : Request) (reply : List ℕ) (edit : Option Edit) → Stands s m → Steps s request reply s' edit → (m' : M) × Stands s' m' × Step m request reply m' edit)
-    (Keeps : List Edit → W → W → Type 0) where
+module _ {S M W E : Type 0} (Steps : S → Request → List ℕ → S → Option E → Type 0) (Step : M → Request → List ℕ → M → Option E → Type 0) (Stands : S → M → Type 0)
+    (step : (s s' : S) (m : M) (request : Request) (reply : List ℕ) (edit : Option E) → Stands s m → Steps s request reply s' edit → (m' : M) × Stands s' m' × Step m request reply m' edit)
+    (Keeps : List E → W → W → Type 0) where
   -- a connection
   pub line_by : (ended : Ended) (s s' : S) (m : M) (old new : LineState) (watchers watchers' : W) → Stands s m → ServesLine Steps Keeps ended s s' old new watchers watchers'
       → (m' : M) × Stands s' m' × ServesLine Step Keeps ended m m' old new watchers watchers'

@@ -10,7 +10,6 @@ use Rattle.http_wire.specs.Asking.{WireState, fresh_wire}
 use Rattle.http_wire.specs.Items.{AsksFor}
 use Rattle.http_wire.specs.Serving.{EndsBy, GoesOn, Run, told}
 use Rattle.http_wire.proofs.Connections.{run_none, run_more, run-append}
-use Rattle.notes.specs.declared.edit.Edit.{Edit}
 use Rattle.http_serve.specs.declared.connection.Ended.{Ended}
 use Rattle.http_serve.specs.Endings.{ending_of, Exchanges, FaultsBy, FaultsSoFar}
 use Rattle.http_serve.specs.Fixed.{fixed}
@@ -23,7 +22,7 @@ open_below : (before : ℕ) (bytes : List ℕ) (request : Request) (rest : List 
 open_below before bytes request rest (inl a) stays = let e = ap (λ (r : Request). r.closes) a.is in grind (arith, nat_tests)
 open_below before bytes request rest (inr a) stays = let e = ap (λ (r : Request). r.closes) a.is in grind (arith, nat_tests)
 
-pub few_requests : {M : Type 0} (Step : M → Request → List ℕ → M → Option Edit → Type 0) (before : ℕ) (machine next : M) (bytes written rest : List ℕ) (edit : Option Edit)
+pub few_requests : {M E : Type 0} (Step : M → Request → List ℕ → M → Option E → Type 0) (before : ℕ) (machine next : M) (bytes written rest : List ℕ) (edit : Option E)
     → before < 1000 → GoesOn Step fixed before machine bytes written next edit rest → before + 1 < 1000
 few_requests Step before machine next bytes written rest edit below g = let e = open_below before bytes g.request rest g.asked g.stays in grind (arith, nat_tests)
 
@@ -34,13 +33,13 @@ exchanges_none line = record { same_holds = refl; same_aside = refl; same_port =
 pub exchanges_on : (old mid new : LineState) → Exchanges old mid → Exchanges mid new → Exchanges old new
 exchanges_on old mid new a b = record { same_holds = b.same_holds ∙ a.same_holds; same_aside = b.same_aside ∙ a.same_aside; same_port = b.same_port ∙ a.same_port; same_peer = b.same_peer ∙ a.same_peer }
 
-module _ {M W : Type 0} (Step : M → Request → List ℕ → M → Option Edit → Type 0) (Keeps : List Edit → W → W → Type 0) where
+module _ {M W E : Type 0} (Step : M → Request → List ℕ → M → Option E → Type 0) (Keeps : List E → W → W → Type 0) where
   -- A connection so far: requests were answered, after each of which it went on.
   pub record SoFar (machine now : M) (wire : WireState) (old mid : LineState) (watchers watchers' : W) : Type 0 where
     pub requests : List Request
     pub given : List ℕ
     pub written : List ℕ
-    pub edits : List Edit
+    pub edits : List E
     pub gave : Gave old.inward mid.inward given
     pub took : Took old.taken mid.taken written
     pub run : Run Step fixed 0 machine given requests written edits now wire.held
@@ -70,7 +69,7 @@ module _ {M W : Type 0} (Step : M → Request → List ℕ → M → Option Edit
         exchanges = exchanges_none line;
       }
 
-  module _ (more : (xs ys : List Edit) (a b c : W) → Keeps xs a b → Keeps ys b c → Keeps (xs ++ ys) a c)
+  module _ (more : (xs ys : List E) (a b c : W) → Keeps xs a b → Keeps ys b c → Keeps (xs ++ ys) a c)
       (machine now next : M) (wire wire' : WireState) (old mid new : LineState) (a b c : W) (so_far : SoFar machine now wire old mid a b) where
     -- the requests so far, in more bytes
     run_on : (bytes : List ℕ) → Run Step fixed 0 machine (so_far.given ++ bytes) so_far.requests so_far.written so_far.edits now (wire.held ++ bytes)

@@ -5,7 +5,6 @@ use Rattle.http_wire.specs.Serving.{Serves}
 use Rattle.xcap_io.specs.Causes.{LineState}
 use Rattle.xcap_io.specs.Histories.{Traffic}
 use Rattle.xcap_io.specs.Passing.{Gave, Took}
-use Rattle.notes.specs.declared.edit.Edit.{Edit}
 use Rattle.http_serve.specs.declared.connection.Ended.{Ended}
 use Rattle.http_serve.specs.Endings.{ending_of, Exchanges, FaultsBy}
 use Rattle.http_serve.specs.Fixed.{fixed}
@@ -13,9 +12,9 @@ use Rattle.http_serve.specs.Fixed.{fixed}
 -- A connection was served: this passed over the line, the bytes that its reads gave, whether the last of them found the end, and
 -- the bytes that its writes handed over; and these changes were told to the watchers, in order. `Keeps` says what watchers are
 -- after such changes.
-pub record ServesLine {M W : Type 0} (Step : M → Request → List ℕ → M → Option Edit → Type 0) (Keeps : List Edit → W → W → Type 0) (ended : Ended) (machine next : M) (old new : LineState) (watchers watchers' : W) : Type 0 where
+pub record ServesLine {M W E : Type 0} (Step : M → Request → List ℕ → M → Option E → Type 0) (Keeps : List E → W → W → Type 0) (ended : Ended) (machine next : M) (old new : LineState) (watchers watchers' : W) : Type 0 where
   pub passed : Traffic
-  pub edits : List Edit
+  pub edits : List E
   pub gave : Gave old.inward new.inward passed.given
   pub found_end : passed.ended ≡ new.inward.ended
   pub took : Took old.taken new.taken passed.taken

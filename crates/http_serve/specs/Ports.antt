@@ -5,7 +5,6 @@ use Rattle.http_wire.specs.Serving.{Ending, closed, HaveBytes, ServesAll}
 use Rattle.xcap_io.specs.Causes.{LineState, Rose}
 use Rattle.xcap_io.specs.Connections.{carried}
 use Rattle.xcap_io.specs.Histories.{Traffic}
-use Rattle.notes.specs.declared.edit.Edit.{Edit}
 use Rattle.http_serve.specs.declared.port.Served.{Served}
 use Rattle.http_serve.specs.declared.port.Stop.{Stop}
 use Rattle.http_serve.specs.declared.port.Stop.TheVariants.{Count, NoMore, PortFailed}
@@ -33,9 +32,9 @@ Came old new connections =
     IfSome old (λ all. (came : List (List ℕ)) × (rest : List (List ℕ)) × (all ≡ came ++ rest) × (new ≡ Some rest) × HaveBytes came connections)
 
 -- So many connections at most were served, over which this passed. `Keeps` says what watchers are after such changes.
-pub record ServesPort {M W : Type 0} (Step : M → Request → List ℕ → M → Option Edit → Type 0) (Keeps : List Edit → W → W → Type 0) (most : ℕ) (served : Served) (machine next : M) (old new : LineState) (watchers watchers' : W) : Type 0 where
+pub record ServesPort {M W E : Type 0} (Step : M → Request → List ℕ → M → Option E → Type 0) (Keeps : List E → W → W → Type 0) (most : ℕ) (served : Served) (machine next : M) (old new : LineState) (watchers watchers' : W) : Type 0 where
   pub connections : List Traffic
-  pub edits : List Edit
+  pub edits : List E
   pub count : length connections ≡ served.connections
   pub came : Came old.port.to_come new.port.to_come connections
   pub all_carried : carried new ≡ carried old ++ connections

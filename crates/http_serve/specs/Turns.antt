@@ -8,19 +8,18 @@ use Rattle.http_wire.specs.Asking.{WireState}
 use Rattle.http_wire.specs.Serving.{EndsBy, GoesOn, told}
 use Rattle.xcap_io.specs.Causes.{LineState}
 use Rattle.xcap_io.specs.Passing.{Gave, Took}
-use Rattle.notes.specs.declared.edit.Edit.{Edit}
 use Rattle.http_serve.specs.declared.connection.Ended.{Ended}
 use Rattle.http_serve.specs.Endings.{ending_of}
 use Rattle.http_serve.specs.Fixed.{fixed, fixed_reply}
 
 -- the fixed reply of this status, which changes nothing
-abbrev pub IsFixed : {M : Type 0} → ℕ → M → Sent → Option Edit → M → Type 0
+abbrev pub IsFixed : {M E : Type 0} → ℕ → M → Sent → Option E → M → Type 0
 IsFixed status machine reply edit next = (reply ≡ fixed_reply status) × (edit ≡ None) × (next ≡ machine)
 
-module _ {M : Type 0} (Step : M → Request → List ℕ → M → Option Edit → Type 0) where
+module _ {M E : Type 0} (Step : M → Request → List ℕ → M → Option E → Type 0) where
   -- How what was asked is answered: a request by the machine, or for want of memory by the fixed 503; nothing is answered
   -- at the end.
-  abbrev pub AnswersAsked : M → Asked → Sent → Option Edit → M → Type 0
+  abbrev pub AnswersAsked : M → Asked → Sent → Option E → M → Type 0
   AnswersAsked machine (Requested request) reply edit next =
       (Step machine request (bytes_of reply) next edit × (reply.closes ≡ request.closes)) ⊎ IsFixed 503 machine reply edit next
   AnswersAsked machine Bad reply edit next = IsFixed 400 machine reply edit next
@@ -31,16 +30,16 @@ module _ {M : Type 0} (Step : M → Request → List ℕ → M → Option Edit �
 
   -- What a turn did behind so many requests, by the bytes given behind them and whether a read found the end: a request was
   -- answered, after which the connection goes on and these bytes are held; or the connection ended.
-  abbrev pub Did : Option Ended → ℕ → M → List ℕ → Bool → List ℕ → M → Option Edit → List ℕ → Type 0
+  abbrev pub Did : Option Ended → ℕ → M → List ℕ → Bool → List ℕ → M → Option E → List ℕ → Type 0
   Did None before machine given end written next edit held = GoesOn Step fixed before machine given written next edit held
   Did (Some ended) before machine given end written next edit held =
       EndsBy Step fixed (ending_of ended) before machine given end written next edit
 
   -- Some bytes were read and some written, and the watchers were told the change, if there was one.
-  pub record Turn {W : Type 0} (Keeps : List Edit → W → W → Type 0) (result : Option Ended) (wire wire' : WireState) (machine next : M) (old new : LineState) (watchers watchers' : W) : Type 0 where
+  pub record Turn {W : Type 0} (Keeps : List E → W → W → Type 0) (result : Option Ended) (wire wire' : WireState) (machine next : M) (old new : LineState) (watchers watchers' : W) : Type 0 where
     pub read : List ℕ
     pub written : List ℕ
-    pub edit : Option Edit
+    pub edit : Option E
     pub gave : Gave old.inward new.inward read
     pub took : Took old.taken new.taken written
     pub did : Did result wire.requests machine (wire.held ++ read) new.inward.ended written next edit wire'.held

@@ -12,7 +12,6 @@ ghost use Rattle.http_serve.specs.Written.{InBytes};
 use crate::buffers::Buffers;
 use crate::machine::{Answered, Machine};
 use http_wire::{Asked, ReadFault, Request, next_request, write_reply_through};
-use notes::Edit;
 use reply_text::Reply;
 use std::alloc::AllocError;
 use watchers::Watchers;
@@ -30,7 +29,7 @@ pub enum Ended {
 }
 
 // The fixed reply of a status.
-fn fixed(status: u16) -> Answered
+fn fixed<E>(status: u16) -> Answered<E>
     requires status { IsTrue (is_status status) }
     requires plain { (status ≢ 304) × (status ≢ 405) × (status ≢ 409) }
     ensures reply { result.reply ≡ fixed_reply status }
@@ -43,7 +42,7 @@ fn fixed(status: u16) -> Answered
 }
 
 // The machine's answer; for want of memory the fixed 503.
-fn answer_request<M: Machine>(machine: &mut M, request: &Request) -> Answered
+fn answer_request<M: Machine>(machine: &mut M, request: &Request) -> Answered<M::Edit>
     ensures answers_as_the_machine { AnswersAsked (InBytes M.steps) machine.old (Asked.Request request.now) result.reply result.edit machine.new }
 {
     match machine.answer(request) {
@@ -53,7 +52,7 @@ fn answer_request<M: Machine>(machine: &mut M, request: &Request) -> Answered
 }
 
 // The answer to what was asked; None at the end of the connection.
-fn answer_to<M: Machine>(machine: &mut M, asked: &Asked) -> Option<Answered>
+fn answer_to<M: Machine>(machine: &mut M, asked: &Asked) -> Option<Answered<M::Edit>>
     ensures answers_what_was_asked { MatchOption result ((asked.now ≡ Asked.End) × (machine.new ≡ machine.old))
         (λ answered. AnswersAsked (InBytes M.steps) machine.old asked.now answered.reply answered.edit machine.new) }
 {
@@ -68,7 +67,7 @@ fn answer_to<M: Machine>(machine: &mut M, asked: &Asked) -> Option<Answered>
 }
 
 // Tells the watchers of a change, if there is one.
-fn tell_of<W: Watchers>(watchers: &mut W, edit: &Option<Edit>)
+fn tell_of<E, W: Watchers<E>>(watchers: &mut W, edit: &Option<E>)
     ensures told_to_the_watchers { W.keeps (told edit.now) watchers.old watchers.new }
 {
     let Some(edit) = edit else {
@@ -79,7 +78,7 @@ fn tell_of<W: Watchers>(watchers: &mut W, edit: &Option<Edit>)
 
 // Reads what is asked next on a wire that isn't spent, answers it, tells the watchers, and replies. None where the connection
 // goes on.
-fn serve_next<M: Machine, L: Source + Sink, W: Watchers>(
+fn serve_next<M: Machine, L: Source + Sink, W: Watchers<M::Edit>>(
     machine: &mut M,
     buffers: &mut Buffers,
     line: &mut L,
@@ -111,7 +110,7 @@ fn serve_next<M: Machine, L: Source + Sink, W: Watchers>(
 }
 
 // The turns of a connection that begins, until one ends it.
-fn serve_turns<M: Machine, L: Source + Sink, W: Watchers>(
+fn serve_turns<M: Machine, L: Source + Sink, W: Watchers<M::Edit>>(
     machine: &mut M,
     buffers: &mut Buffers,
     line: &mut L,
@@ -132,7 +131,7 @@ fn serve_turns<M: Machine, L: Source + Sink, W: Watchers>(
 // replied to, in this order, until a reply closes the connection, its bytes end, or a read or a write fails. What is no
 // request gets its fixed reply, and for want of memory a request gets the fixed 503; both close. After a read that failed
 // there is no further reply. Takes no memory before the first request.
-pub fn serve_line<M: Machine, L: Source + Sink, W: Watchers>(
+pub fn serve_line<M: Machine, L: Source + Sink, W: Watchers<M::Edit>>(
     machine: &mut M,
     buffers: &mut Buffers,
     line: &mut L,

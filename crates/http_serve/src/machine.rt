@@ -2,30 +2,31 @@
 ghost use Rattle.std.specs.Prelude.{◌≡◌, Option, IfOk, OnErr};
 ghost use Rattle.reply_text.specs.Heads.{Sent};
 ghost use Rattle.http_wire.specs.declared.request.Request.{Request as TheRequest};
-ghost use Rattle.notes.specs.declared.edit.Edit.{Edit as TheEdit};
 
 use http_wire::Request;
-use notes::Edit;
 use reply_text::Reply;
 use std::alloc::AllocError;
 
-/// The reply to a request, and the change of a document that the request made, if it made one.
+/// The reply to a request, and what is told of the change that the request made, if it made one.
 #[derive(Drop)]
-pub struct Answered {
+pub struct Answered<E> {
     pub reply: Reply,
-    pub edit: Option<Edit>,
+    pub edit: Option<E>,
 }
 
 /// An object that answers requests, one after the other.
 pub trait Machine {
-    /// Its state, a request, the reply, the state after it, and the change that is told.
-    ghost steps: { Self → TheRequest → Sent → Self → Option TheEdit → Type 0 };
+    /// What is told of a change.
+    type Edit: Drop;
+
+    /// Its state, a request, the reply, the state after it, and what is told of the change.
+    ghost steps: { Self → TheRequest → Sent → Self → Option Self.Edit → Type 0 };
 
     /// Answers a request. The reply closes the connection exactly where the request does.
     ///
     /// # Errors
     /// `NoMemory` for want of memory; the state is then as before.
-    fn answer(&mut self, request: &Request) -> Result<Answered, AllocError>
+    fn answer(&mut self, request: &Request) -> Result<Answered<Self::Edit>, AllocError>
         ensures step { IfOk result (λ answered. steps self.old request.now answered.reply self.new answered.edit) }
         ensures closes { IfOk result (λ answered. answered.reply.closes ≡ request.now.closes) }
         ensures err { OnErr result (self.new ≡ self.old) };

@@ -30,7 +30,7 @@ pub struct Served {
 }
 
 // Serves the next connections of a port, so many at most, one after the other.
-pub fn serve_lines<M: Machine, P: Port, W: Watchers>(
+pub fn serve_lines<M: Machine, P: Port, W: Watchers<M::Edit>>(
     machine: &mut M,
     buffers: &mut Buffers,
     port: &mut P,

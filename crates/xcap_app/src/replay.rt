@@ -7,6 +7,7 @@ ghost use Rattle.xcap_app.specs.Replays.{Replays, ServesInput, exit_of};
 
 use crate::exit::Exit;
 use http_serve::Ended;
+use notes::Edit;
 use std::alloc::Global;
 use watchers::Watchers;
 use xcap_io::{Line, Pair, Sink, Source};
@@ -25,7 +26,7 @@ fn exit_of(ended: Ended) -> Exit
 }
 
 // Serves the one connection of the input and the output.
-fn serve_pair<I: Source, O: Sink, W: Watchers>(
+fn serve_pair<I: Source, O: Sink, W: Watchers<Edit>>(
     server: &mut Server,
     input: &mut I,
     output: &mut O,
@@ -39,7 +40,7 @@ fn serve_pair<I: Source, O: Sink, W: Watchers>(
 }
 
 // Serves the input as one connection, by this server, which is new.
-fn replay_by<I: Source, O: Sink, W: Watchers>(
+fn replay_by<I: Source, O: Sink, W: Watchers<Edit>>(
     server: &mut Server,
     input: &mut I,
     output: &mut O,
@@ -54,7 +55,7 @@ fn replay_by<I: Source, O: Sink, W: Watchers>(
 
 /// Serves the input as one connection, whose replies go to the output, by a new server of this root. It ends with the
 /// connection, or for want of memory before anything was read.
-pub(crate) fn replay<I: Source, O: Sink, W: Watchers>(
+pub(crate) fn replay<I: Source, O: Sink, W: Watchers<Edit>>(
     alloc: Global,
     root: &Root,
     input: &mut I,

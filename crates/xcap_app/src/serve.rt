@@ -8,6 +8,7 @@ ghost use Rattle.xcap_app.specs.Telling.{Prints};
 use crate::exit::Exit;
 use http_serve::Stop;
 use itoa::Buffer;
+use notes::Edit;
 use std::alloc::Global;
 use watchers::Watchers;
 use xcap_io::{Failed, Gatherer, Line, Port, Sink, flush, put};
@@ -38,7 +39,7 @@ fn print_served<O: Sink>(output: &mut O, connections: u64) -> Exit
 }
 
 // Listens at the address and serves the connections that come, so many at most, by this server, which is new.
-fn serve_at<P: Port, O: Sink, W: Watchers>(
+fn serve_at<P: Port, O: Sink, W: Watchers<Edit>>(
     server: &mut Server,
     address: &str,
     count: u64,
@@ -63,7 +64,7 @@ fn serve_at<P: Port, O: Sink, W: Watchers>(
 /// Listens at the address and serves the connections that come, so many at most, by a new server of this root. It ends
 /// with the number of connections on the output, where as many as wanted were served or none was to come; where the
 /// network failed; or for want of memory before it listens.
-pub(crate) fn serve<P: Port, O: Sink, W: Watchers>(
+pub(crate) fn serve<P: Port, O: Sink, W: Watchers<Edit>>(
     alloc: Global,
     address: &str,
     root: &Root,

@@ -13,12 +13,13 @@ use crate::replay::replay;
 use crate::serve::serve;
 use crate::telling::tell_exit;
 use crate::words::command_of;
+use notes::Edit;
 use std::alloc::Global;
 use watchers::Watchers;
 use xcap_io::{Line, Peer, Port, Sink, Source};
 
 // Runs a command.
-fn execute<P: Port, I: Source, O: Sink, W: Watchers>(
+fn execute<P: Port, I: Source, O: Sink, W: Watchers<Edit>>(
     alloc: Global,
     command: &Command,
     port: &mut P,
@@ -49,7 +50,7 @@ fn execute<P: Port, I: Source, O: Sink, W: Watchers>(
 }
 
 // Runs the command that the words spell, if they spell one.
-fn execute_words<P: Port, I: Source, O: Sink, W: Watchers>(
+fn execute_words<P: Port, I: Source, O: Sink, W: Watchers<Edit>>(
     alloc: Global,
     words: &[String],
     port: &mut P,
@@ -71,7 +72,7 @@ fn execute_words<P: Port, I: Source, O: Sink, W: Watchers>(
 /// status to end with. What each command did, by the way it ended, is said by `Runs`; each status has its words on `errors`,
 /// and where `errors` fails, nothing else changes. Words that spell no command are answered 2 and the usage line, and then
 /// nothing else is read, written, begun or told. No command that is built asks the peer.
-pub fn run<P: Port, C: Peer, I: Source, O: Sink, E: Sink, W: Watchers>(
+pub fn run<P: Port, C: Peer, I: Source, O: Sink, E: Sink, W: Watchers<Edit>>(
     alloc: Global,
     words: &[String],
     port: &mut P,

@@ -1,6 +1,7 @@
 -- What was decided and then made is what a request is answered.
 use Rattle.std.proofs.Common.{◌≡◌, sym, ap, subst, ◌∙◌}
 use Rattle.http_wire.specs.declared.request.Request.{Request}
+use Rattle.notes.specs.declared.edit.Edit.{Edit}
 use Rattle.machine_words.specs.Answers.{Answer}
 use Rattle.machine_words.specs.Machine.{answer_as, content_after_answer}
 use Rattle.machine_words.specs.Requests.{IsAnswer}
@@ -11,7 +12,7 @@ use Rattle.document_writes.specs.declared.decision.Decision.{Decision}
 use Rattle.http_serve.specs.declared.machine.Answered.{Answered}
 use Rattle.xcap_server.specs.Servers.{AnswersRequest, ServerState}
 
-pub answered_so : (old new : ServerState) (request : Request) (s : Stored) (d : Decision) (a : Answered) → s.content ≡ old.content → Decides (IsAnswer old.root old.content request) s d
+pub answered_so : (old new : ServerState) (request : Request) (s : Stored) (d : Decision) (a : Answered Edit) → s.content ≡ old.content → Decides (IsAnswer old.root old.content request) s d
     → answer_as a.reply a.edit ≡ answer_of d → new.content ≡ content_after_answer s.content (answer_of d).made → new.root ≡ old.root → AnswersRequest old request a.reply new a.edit
 answered_so old new request s d a same decides gives makes root = record {
   does = record {

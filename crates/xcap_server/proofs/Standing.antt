@@ -74,32 +74,32 @@ module _ {W : Type 0} (Keeps : List Edit → W → W → Type 0) (s now s' : Ser
 
 -- what a request was answered
 module _ (s now s' : ServerState) (is : s ≡ now) (request : Request) where
-  abbrev DoesNow : Answered → Type 0
+  abbrev DoesNow : Answered Edit → Type 0
   DoesNow a = Does now.root now.content request a.reply s'.content a.edit
 
   -- so whatever holds of all that the machine does
-  of_all : {E : Type 0} (P : Answered → Type 0) → ((a : Answered) → DoesNow a → P a) → (r : Result Answered E) → IfOk r (λ a. AnswersRequest s request a.reply s' a.edit) → IfOk r P
+  of_all : {E : Type 0} (P : Answered Edit → Type 0) → ((a : Answered Edit) → DoesNow a → P a) → (r : Result (Answered Edit) E) → IfOk r (λ a. AnswersRequest s request a.reply s' a.edit) → IfOk r P
   of_all P so (Err e) h = tt
   of_all P so (Ok a) h = so a (subst (λ (x : ServerState). Does x.root x.content request a.reply s'.content a.edit) is h.does)
 
-  pub answered_step : {E : Type 0} (r : Result Answered E) → IfOk r (λ a. AnswersRequest s request a.reply s' a.edit)
+  pub answered_step : {E : Type 0} (r : Result (Answered Edit) E) → IfOk r (λ a. AnswersRequest s request a.reply s' a.edit)
       → IfOk r (λ a. (m : State) → Kept m → Stands now.content m → (m' : State) × KeptStep now.root m request a.reply m' a.edit × Stands s'.content m')
   answered_step r = of_all (λ a. (m : State) → Kept m → Stands now.content m → (m' : State) × KeptStep now.root m request a.reply m' a.edit × Stands s'.content m')
       (λ a does m kept stands. step_of now.root now.content s'.content m request a.reply a.edit does kept stands) r
 
-  pub answered_closes : {E : Type 0} (r : Result Answered E) → IfOk r (λ a. AnswersRequest s request a.reply s' a.edit) → IfOk r (λ a. a.reply.closes ≡ request.closes)
+  pub answered_closes : {E : Type 0} (r : Result (Answered Edit) E) → IfOk r (λ a. AnswersRequest s request a.reply s' a.edit) → IfOk r (λ a. a.reply.closes ≡ request.closes)
   answered_closes r = of_all (λ a. a.reply.closes ≡ request.closes) (λ a does. answer_closes now.root now.content request (answer_as a.reply a.edit) does.answers) r
 
-  pub answered_put : {E : Type 0} (r : Result Answered E) → IfOk r (λ a. AnswersRequest s request a.reply s' a.edit) → IfOk r (λ a. PutIsThere now.root now.content request a.edit s'.content)
+  pub answered_put : {E : Type 0} (r : Result (Answered Edit) E) → IfOk r (λ a. AnswersRequest s request a.reply s' a.edit) → IfOk r (λ a. PutIsThere now.root now.content request a.edit s'.content)
   answered_put r = of_all (λ a. PutIsThere now.root now.content request a.edit s'.content) (λ a does. put_is_there now.root now.content s'.content request a.reply a.edit does) r
 
-  pub answered_delete : {E : Type 0} (r : Result Answered E) → IfOk r (λ a. AnswersRequest s request a.reply s' a.edit) → IfOk r (λ a. DeletedIsGone now.root request a.edit s'.content)
+  pub answered_delete : {E : Type 0} (r : Result (Answered Edit) E) → IfOk r (λ a. AnswersRequest s request a.reply s' a.edit) → IfOk r (λ a. DeletedIsGone now.root request a.edit s'.content)
   answered_delete r = of_all (λ a. DeletedIsGone now.root request a.edit s'.content) (λ a does. deleted_is_gone now.root now.content s'.content request a.reply a.edit does) r
 
-  pub answered_second : {E : Type 0} → (m : State) × Stands s.content m × Kept m → (r : Result Answered E) → IfOk r (λ a. AnswersRequest s request a.reply s' a.edit) → IfOk r (λ a. SecondPutLeavesTrees now.root request a.edit s'.content)
+  pub answered_second : {E : Type 0} → (m : State) × Stands s.content m × Kept m → (r : Result (Answered Edit) E) → IfOk r (λ a. AnswersRequest s request a.reply s' a.edit) → IfOk r (λ a. SecondPutLeavesTrees now.root request a.edit s'.content)
   answered_second (m, stands, kept) r = of_all (λ a. SecondPutLeavesTrees now.root request a.edit s'.content)
       (λ a does. second_put_leaves now.root now.content s'.content request a.reply a.edit m kept (subst (λ (x : ServerState). Stands x.content m) is stands) does) r
 
-  pub answered_addresses : {E : Type 0} → (m : State) × Stands s.content m × Kept m → (r : Result Answered E) → IfOk r (λ a. AnswersRequest s request a.reply s' a.edit) → IfOk r (λ a. KeyAddressesStay now.content a.edit s'.content)
+  pub answered_addresses : {E : Type 0} → (m : State) × Stands s.content m × Kept m → (r : Result (Answered Edit) E) → IfOk r (λ a. AnswersRequest s request a.reply s' a.edit) → IfOk r (λ a. KeyAddressesStay now.content a.edit s'.content)
   answered_addresses (m, stands, kept) r = of_all (λ a. KeyAddressesStay now.content a.edit s'.content)
       (λ a does. addresses_stay now.root now.content s'.content request a.reply a.edit m kept (subst (λ (x : ServerState). Stands x.content m) is stands) does) r

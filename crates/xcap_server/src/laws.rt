@@ -13,12 +13,13 @@ ghost use Rattle.http_serve.specs.declared.port.Served.{Served};
 ghost use Rattle.machine_words.specs.Machine.{KeptStep};
 ghost use Rattle.http_serve.specs.Written.{InBytes};
 
+use notes::Edit;
 use watchers::Watchers;
 
 /// Where a line knows all bytes of its connection, as one in memory does, they count as if all had been given: the bytes taken are
 /// the replies to the items of all bytes, and it doesn't matter which of them were read. Where a read failed, those given count.
 /// The same holds of each connection of a port that knows the bytes of those to come.
-pub fn all_bytes_count<W: Watchers>()
+pub fn all_bytes_count<W: Watchers<Edit>>()
     ensures line { (root : List ℕ) (ended : Ended) (m n : State) (old new : LineState) (a b : W) (bytes : List ℕ)
         → old.inward.left ≡ Some bytes → IsTruthful old.inward
         → (served : ServesLine (InBytes (KeptStep root)) W.keeps ended m n old new a b)

@@ -13,6 +13,7 @@ ghost use Rattle.http_serve.specs.Written.{InBytes};
 use crate::service::Service;
 use http_serve::{Answered, Buffers, Ended, Served, serve_line, serve_lines};
 use http_wire::Request;
+use notes::Edit;
 use std::alloc::{AllocError, Global};
 use std::marker::Model;
 use store_core::Store;
@@ -82,7 +83,7 @@ impl Server {
 ///
 /// # Errors
 /// `NoMemory` for want of memory; the server is then as before.
-pub fn answer(server: &mut Server, request: &Request) -> Result<Answered, AllocError>
+pub fn answer(server: &mut Server, request: &Request) -> Result<Answered<Edit>, AllocError>
     ensures makes_a_step_of_the_machine { IfOk result (λ answered. (m : State) → Kept m → Stands server.old.content m
         → (next : State) × KeptStep server.old.root m request.now answered.reply next answered.edit
         × Stands server.new.content next) }
@@ -107,7 +108,7 @@ pub fn answer(server: &mut Server, request: &Request) -> Result<Answered, AllocE
 /// order, until a reply closes the connection, its bytes end, or a read or a write fails. What is no request gets its fixed
 /// reply, and for want of memory a request gets the fixed 503; both close. After a read that failed there is no further
 /// reply. Takes no memory before the first request. Every state on the way is kept.
-pub fn serve_connection<L: Source + Sink, W: Watchers>(
+pub fn serve_connection<L: Source + Sink, W: Watchers<Edit>>(
     server: &mut Server,
     line: &mut L,
     watchers: &mut W,
@@ -122,7 +123,7 @@ pub fn serve_connection<L: Source + Sink, W: Watchers>(
 
 /// Serves the next connections of a port, so many at most, as `serve_connection` does, one after the other. Every state on the
 /// way is kept.
-pub fn serve_port<P: Port, W: Watchers>(
+pub fn serve_port<P: Port, W: Watchers<Edit>>(
     server: &mut Server,
     port: &mut P,
     count: u64,

@@ -71,7 +71,7 @@ impl Service {
     }
 
     // What a request is answered: it is decided, and then the change is made, if there is one.
-    pub(crate) fn respond(&mut self, request: &Request) -> Result<Answered, AllocError>
+    pub(crate) fn respond(&mut self, request: &Request) -> Result<Answered<Edit>, AllocError>
         ensures answers_as_the_machine { IfOk result (λ answered. AnswersRequest self.old request.now answered.reply self.new answered.edit) }
         ensures same_root { self.new.root ≡ self.old.root }
         ensures outside_takes_no_memory { under_root self.old.root request.now.target ≡ None → IsOk result }
@@ -83,7 +83,7 @@ impl Service {
 }
 
 // Makes the change that was decided, if there is one. Takes no memory.
-fn commit(store: &mut Store, decision: Decision) -> Answered
+fn commit(store: &mut Store, decision: Decision) -> Answered<Edit>
     requires ready { IsReadyFor store.old decision }
     ensures gives_the_answer { answer_as result.reply result.edit ≡ answer_of decision }
     ensures makes_the_change { store.new.content ≡ content_after_answer store.old.content (answer_of decision).made }
@@ -107,9 +107,11 @@ fn commit(store: &mut Store, decision: Decision) -> Answered
 impl Machine for Service {
     ghost use Rattle.xcap_server.specs.Servers.{AnswersRequest};
 
+    type Edit = Edit;
+
     ghost steps = { AnswersRequest };
 
-    fn answer(&mut self, request: &Request) -> Result<Answered, AllocError> {
+    fn answer(&mut self, request: &Request) -> Result<Answered<Edit>, AllocError> {
         self.respond(request)
     }
 }
