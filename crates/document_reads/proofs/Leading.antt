@@ -1,10 +1,13 @@
 -- What the name of the index leads to, by how long it is.
-use Rattle.std.proofs.Common.{◌≡◌, ◌+◌, ◌-◌, ◌<◌, ◌≤◌, ℕ, Bool, cond, sym, ap, subst, arith}
+use Rattle.std.proofs.Common.{true, ◌≡◌, ◌+◌, ◌-◌, ◌<◌, ◌≤◌, ℕ, Bool, cond, sym, ap, subst, arith}
 use Rattle.std.proofs.lemmas.Bool.{le-ltb, lt-ltb}
 use Rattle.xml_tree.specs.Tree.{Tree}
 use Rattle.usage_docs.specs.Services.{document_len, index_limit}
+use Rattle.usage_docs.specs.declared.listing.IndexFault.{IndexFault}
+use Rattle.usage_docs.specs.declared.listing.IndexFault.TheVariants.{TooLarge, NoMemory}
 use Rattle.doc_names.specs.declared.doc_id.Auid.TheVariants.{RlsServices}
 use Rattle.store_core.specs.Held.{Content}
+use Rattle.document_reads.specs.Finding.{IsBeyond, IsRefused}
 use Rattle.machine_words.specs.Resources.{IsIndexOfServices, LeadsUnderGlobal, beyond_limit, there}
 
 pub leads_index : (c : Content) (root : Tree) (tag : ℕ) → IsIndexOfServices c root → document_len root ≤ index_limit → tag + 1 ≡ c.next → LeadsUnderGlobal c RlsServices true (there root tag)
@@ -16,3 +19,7 @@ leads_index c root tag is fits next =
 pub leads_beyond : (c : Content) (root : Tree) → IsIndexOfServices c root → index_limit < document_len root → LeadsUnderGlobal c RlsServices true beyond_limit
 leads_beyond c root is over =
     (root, is, sym (ap (λ (b : Bool). cond b beyond_limit (there root (c.next - 1))) (lt-ltb index_limit (document_len root) over)))
+
+pub refused_so : (c : Content) (root : Tree) (fault : IndexFault) → IsIndexOfServices c root → IsBeyond root fault → IsRefused c fault
+refused_so c root (TooLarge len) is over = (root, is, over)
+refused_so c root NoMemory is over = tt

@@ -4,7 +4,8 @@ use Rattle.xml_tree.specs.Tree.{Tree, height}
 use Rattle.usage_docs.specs.Services.{document_len, index_limit}
 use Rattle.usage_docs.specs.declared.listing.IndexFault.{IndexFault}
 use Rattle.usage_docs.specs.declared.listing.IndexFault.TheVariants.{TooLarge, NoMemory}
-use Rattle.machine_words.specs.Resources.{Resource, absent, beyond_limit, there}
+use Rattle.store_core.specs.Held.{Content}
+use Rattle.machine_words.specs.Resources.{IsIndexOfServices, Resource, absent, beyond_limit, there}
 use Rattle.document_reads.specs.declared.finding.Found.{Found}
 use Rattle.document_reads.specs.declared.finding.Found.TheVariants.{Absent, BeyondLimit, Held, Computed}
 
@@ -26,3 +27,8 @@ IsLow (Computed root tag) = height root ≤ 64
 abbrev pub IsBeyond : Tree → IndexFault → Type 0
 IsBeyond t (TooLarge len) = index_limit < document_len t
 IsBeyond t NoMemory = Unit {0}
+
+-- the index of what is held isn't made: where its length is the reason, it is beyond the limit
+abbrev pub IsRefused : Content → IndexFault → Type 0
+IsRefused c (TooLarge len) = (root : Tree) × IsIndexOfServices c root × (index_limit < document_len root)
+IsRefused c NoMemory = Unit {0}

@@ -1,9 +1,9 @@
 //! The index of all services (RFC 4826, sections 4.4.7 and 4.4.8).
 ghost use Rattle.std.specs.Prelude.{◌≤◌, IfErr, IfOk};
-ghost use Rattle.xml_tree.specs.Tree.{Tree, height};
+ghost use Rattle.xml_tree.specs.Tree.{height};
 ghost use Rattle.usage_docs.specs.Services.{document_len, index_limit};
 ghost use Rattle.machine_words.specs.Resources.{IsIndexOfServices};
-ghost use Rattle.document_reads.specs.Finding.{IsBeyond};
+ghost use Rattle.document_reads.specs.Finding.{IsRefused};
 
 use std::alloc::Global;
 use store_core::Store;
@@ -18,7 +18,7 @@ pub fn index_of_services(alloc: Global, store: &Store) -> Result<Element, IndexF
     ensures lists_all { IfOk result (λ root. IsIndexOfServices store.now.content root) }
     ensures within_limit { IfOk result (λ root. document_len root ≤ index_limit) }
     ensures found_low { IfOk result (λ root. height root ≤ 64) }
-    ensures refused_beyond_limit { IfErr result (λ fault. (root : Tree) × IsIndexOfServices store.now.content root × IsBeyond root fault) }
+    ensures refused_beyond_limit { IfErr result (λ fault. IsRefused store.now.content fault) }
 {
     let mut maker = IndexMaker::new(alloc)?;
     for root in store.user_indexes(alloc)? {

@@ -1,16 +1,12 @@
-//! A program that judges tables of cases: nodes, changes, notes, notices, watchers and the store. Each word of the command line names a table, a file of one
-//! case a line: the inputs and, in its last field, the answer. It makes each call, prints one line a table and each case whose
-//! answer differs, and then ends with the status 1.
+//! A program that judges tables of cases: nodes, addresses of homes and ancestors, and the store.
+//! Each word of the command line names a table, a file of one case a line: the inputs and, in its
+//! last field, the answer. It makes each call, prints one line a table and each case whose answer
+//! differs, and then ends with the status 1.
 //! The standards are those of the calls.
 #![tactic(auto)]
 
-mod changes;
 mod nodes;
-mod noted;
-mod noticed;
 mod store;
-mod viewed;
-mod watching;
 
 use anyhow::{Context, Result};
 use std::alloc::Global;
@@ -21,12 +17,8 @@ use table_cases::{Case, Field, Tally, is_case};
 // The answer of a case of a table, from its inputs.
 fn answer(alloc: Global, table: &str, inputs: &[Field]) -> Result<String> {
     match table {
-        "nodes" | "places" | "homes" | "ancestors" => nodes::answer(alloc, table, inputs),
-        "changes" | "moves" => changes::answer(alloc, table, inputs),
-        "notes" => noted::answer(alloc, inputs),
-        "notices" => noticed::answer(alloc, inputs),
         "store" => store::answer(alloc, inputs),
-        _ => watching::answer(alloc, table, inputs),
+        _ => nodes::answer(alloc, table, inputs),
     }
 }
 

@@ -1,3 +1,6 @@
+use Rattle.std.proofs.Common.{subst}
+use Rattle.usage_docs.specs.declared.listing.IndexFault.{IndexFault}
+use Rattle.document_reads.specs.Finding.{IsRefused}
 use Rattle.document_reads.proofs.Leading.{leads_beyond, leads_index}
 use Rattle.document_reads.proofs.finding.index_found.Goals as goal
 
@@ -7,5 +10,6 @@ returns-in-Ok-clause-leads_there c =
 
 pub returns-in-Err-TooLarge-clause-leads_there : goal.returns-in-Err-TooLarge-clause-leads_there
 returns-in-Err-TooLarge-clause-leads_there c =
-    let found = c.in-Err-TooLarge.ensures.refused_beyond_limit in
+    let refused = c.in-Err-TooLarge.ensures.refused_beyond_limit in
+    let found = subst (λ (fault : IndexFault). IsRefused c.args.store.now.content fault) c.in-Err-TooLarge.field-0-is refused in
     leads_beyond c.args.store.now.content found.0 found.1 found.2

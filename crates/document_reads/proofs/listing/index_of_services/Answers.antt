@@ -3,6 +3,7 @@ use Rattle.std.proofs.lemmas.Result.{err_from_is_err_and}
 use Rattle.xml_tree.specs.Tree.{Tree}
 use Rattle.usage_docs.specs.Services.{index_of_documents}
 use Rattle.document_reads.proofs.Gathering.{Gathered, beyond, gathered_more, gathered_none, shown}
+use Rattle.document_reads.proofs.Leading.{refused_so}
 use Rattle.document_reads.proofs.listing.index_of_services.Goals as goal
 
 pub loop-root-init : goal.loop-root-init
@@ -27,4 +28,4 @@ returns-in_err-add-clause-refused_beyond_limit c =
     let before = subst (λ (rs : List (Bor Tree)). Gathered trees (shown rs) c.loop-root.maker) c.in-Some.ensures.steps.0 c.loop-root.invariant.2 in
     let p = err_from_is_err_and c.from_residual-in_err-add.result c.from_residual-in_err-add.ensures.1 in
     rw (p.1, p.2)
-    (index_of_documents trees, (trees, c.loop-root.invariant.1, refl), beyond trees (shown c.next.new.self.rest.items) c.loop-root.maker c.in-Some.root.now c.in_err-add.field-0.0 before c.in_err-add.ensures.refused)
+    (refused_so c.args.store.now.content (index_of_documents trees) c.in_err-add.field-0.0 (trees, c.loop-root.invariant.1, refl) (beyond trees (shown c.next.new.self.rest.items) c.loop-root.maker c.in-Some.root.now c.in_err-add.field-0.0 before c.in_err-add.ensures.refused))

@@ -3,7 +3,6 @@
 ghost use Rattle.edit_ops.specs.Changes.{Fits};
 
 use crate::changes::{fits, read_change_in};
-use crate::nodes::root;
 use crate::viewed::view_of;
 use anyhow::{Result, bail};
 use edit_ops::{Change, apply_change};
@@ -11,8 +10,16 @@ use notes::{EditNote, Notes};
 use patch_text::notice;
 use std::alloc::Global;
 use table_cases::{Field, document, lists_of};
-use xcap_uri::Mode;
+use xcap_uri::{Mode, Root, read_root};
 use xml_tree::Element;
+
+// The root of all addresses in the tables.
+fn root(alloc: Global) -> Result<Root> {
+    match read_root(alloc, "http://xcap.example.com/xcap") {
+        Ok(root) => Ok(root),
+        Err(_) => bail!("no root"),
+    }
+}
 
 fn mode_of(word: &str) -> Result<Mode> {
     Ok(match word {

@@ -73,7 +73,7 @@ fn push_element(
     element: &Element,
 ) -> Result<()> {
     let declared = Declared::new(alloc, element.decls());
-    let inside = around.inside(&declared);
+    let inside = (&*around).inside(&declared);
     push_tag(alloc, view, &inside, element)?;
     let nodes = element.nodes();
     if nodes.is_empty() {
