@@ -2,8 +2,8 @@
 use Rattle.std.specs.Prelude.{◌≢◌, ℕ, List, [], ◌∷◌, ◌++◌, codes, encode_utf8_all, flat_map}
 use Rattle.xml_tree.specs.Tree.{last, Tree, tree_of, more_of}
 use Rattle.xml_tree.specs.Print.{print, text_escape, value_escape}
-use Rattle.xml_tree.specs.declared.names.Name.{Name}
 use Rattle.xml_tree.specs.declared.names.Decl.{Decl}
+use Rattle.xml_tree.specs.Expanded.{name_of}
 use Rattle.conflict_docs.specs.declared.conflicts.ErrorBody.{ErrorBody}
 use Rattle.conflict_docs.specs.declared.conflicts.ErrorBody.TheVariants.{NotUtf8, NotWellFormed, NotXmlFrag, NotXmlAttValue, NoParent, Schema, CannotInsert, CannotDelete, Unique, Constraint}
 
@@ -41,16 +41,13 @@ conflict_bytes body = opening_bytes ++ child_bytes body ++ closing_bytes
 
 -- ---- the same as a tree
 
-abbrev pub name_of : List ℕ → Name
-name_of local = record { prefix = []; local = local }
-
 -- an element of this name, without anything in it
 abbrev pub empty : List ℕ → Tree
-empty local = tree_of (name_of local) [] [] (last [])
+empty local = tree_of (name_of [] local) [] [] (last [])
 
 -- an element with one child and no white space
 abbrev pub around : List ℕ → Tree → Tree
-around local kid = tree_of (name_of local) [] [] (more_of [] kid (last []))
+around local kid = tree_of (name_of [] local) [] [] (more_of [] kid (last []))
 
 -- the child of the root that says what is wrong
 abbrev pub conflict : ErrorBody → Tree
@@ -58,11 +55,11 @@ conflict NotUtf8 = empty (codes "not-utf-8")
 conflict NotWellFormed = empty (codes "not-well-formed")
 conflict NotXmlFrag = empty (codes "not-xml-frag")
 conflict NotXmlAttValue = empty (codes "not-xml-att-value")
-conflict (NoParent uri) = around (codes "no-parent") (tree_of (name_of (codes "ancestor")) [] [] (last uri))
+conflict (NoParent uri) = around (codes "no-parent") (tree_of (name_of [] (codes "ancestor")) [] [] (last uri))
 conflict Schema = empty (codes "schema-validation-error")
 conflict CannotInsert = empty (codes "cannot-insert")
 conflict CannotDelete = empty (codes "cannot-delete")
-conflict (Unique field) = around (codes "uniqueness-failure") (tree_of (name_of (codes "exists")) [] (record { name = name_of (codes "field"); value = field } ∷ []) (last []))
+conflict (Unique field) = around (codes "uniqueness-failure") (tree_of (name_of [] (codes "exists")) [] (record { name = name_of [] (codes "field"); value = field } ∷ []) (last []))
 conflict Constraint = empty (codes "constraint-failure")
 
 -- the default namespace of the document
@@ -70,7 +67,7 @@ abbrev pub error_decls : List Decl
 error_decls = record { prefix = []; uri = codes "urn:ietf:params:xml:ns:xcap-error" } ∷ []
 
 abbrev pub conflict_root : ErrorBody → Tree
-conflict_root body = tree_of (name_of (codes "xcap-error")) error_decls [] (more_of [] (conflict body) (last []))
+conflict_root body = tree_of (name_of [] (codes "xcap-error")) error_decls [] (more_of [] (conflict body) (last []))
 
 -- a document's print: the declaration of XML, a line end, the root
 abbrev pub document_text : Tree → List ℕ

@@ -9,7 +9,7 @@ use Rattle.doc_names.specs.declared.doc_id.Auid.TheVariants.{ResourceLists, RlsS
 use Rattle.doc_names.specs.declared.doc_id.Home.{Home}
 use Rattle.doc_names.specs.declared.doc_id.Home.TheVariants.{Global, User}
 use Rattle.doc_names.specs.declared.doc_id.DocId.{DocId}
-use Rattle.doc_names.specs.Escapes.{part_text, escaped, is_visible}
+use Rattle.doc_names.specs.Escapes.{escaped, is_visible, escaped_part as part_text}
 use Rattle.doc_names.specs.Ids.{home_text, id_text}
 use Rattle.doc_names.specs.Usages.{auid_text}
 use Rattle.doc_names.proofs.Words.{word_letters}

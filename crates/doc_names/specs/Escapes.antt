@@ -17,8 +17,8 @@ abbrev pub escaped : (ℕ → Bool) → List ℕ → List ℕ
 escaped plain octets = flat_map (escaped_octet plain) octets
 
 -- a text as a part of a printed address
-abbrev pub part_text : List ℕ → List ℕ
-part_text text = escaped is_plain (encode_utf8_all text)
+abbrev pub escaped_part : List ℕ → List ℕ
+escaped_part text = escaped is_plain (encode_utf8_all text)
 
 -- the octets that the selector of a notice about an element has as they are: the visible ones of ASCII
 abbrev pub is_visible : ℕ → Bool

@@ -1,11 +1,11 @@
 -- Names of documents. RFC 4825, section 6.2: a usage, then `global` or `users` and a user, then the name of the document.
 use Rattle.std.specs.Prelude.{◌≢◌, ℕ, List, [], ◌++◌, codes}
 use Rattle.std.specs.Str.{chars}
-use Rattle.doc_names.specs.Escapes.{part_text}
 use Rattle.doc_names.specs.Usages.{auid_text}
 use Rattle.doc_names.specs.declared.doc_id.Home.{Home}
 use Rattle.doc_names.specs.declared.doc_id.Home.TheVariants.{Global, User}
 use Rattle.doc_names.specs.declared.doc_id.DocId.{DocId}
+use Rattle.doc_names.specs.Escapes.{escaped_part}
 
 -- the segment behind which the node selector stands
 abbrev pub separator : List ℕ
@@ -26,8 +26,8 @@ IsReadable doc = IsReadableHome doc.home × IsNameable doc.name
 -- the segments of the home, each between slashes
 abbrev pub home_text : Home → List ℕ
 home_text Global = codes "/global/"
-home_text (User xui) = codes "/users/" ++ (part_text xui ++ codes "/")
+home_text (User xui) = codes "/users/" ++ (escaped_part xui ++ codes "/")
 
 -- the printed id: AUID/global/NAME or AUID/users/XUI/NAME, each part escaped
 abbrev pub id_text : DocId → List ℕ
-id_text doc = auid_text doc.auid ++ (home_text doc.home ++ part_text doc.name)
+id_text doc = auid_text doc.auid ++ (home_text doc.home ++ escaped_part doc.name)

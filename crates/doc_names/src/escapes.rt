@@ -1,6 +1,6 @@
 //! Escapes in printed addresses (RFC 3986, section 2.1).
 ghost use Rattle.std.specs.Prelude.{◌≡◌, ◌++◌, OnOk, string_bytes};
-ghost use Rattle.doc_names.specs.Escapes.{escaped, is_visible, part_text};
+ghost use Rattle.doc_names.specs.Escapes.{escaped, is_visible, escaped_part};
 
 use percent_encoding::{
     AsciiSet, CONTROLS, NON_ALPHANUMERIC, ascii_set, percent_encode, utf8_percent_encode,
@@ -38,7 +38,7 @@ const INVISIBLE: AsciiSet = ascii_set!(CONTROLS.add(b' '));
 /// # Errors
 /// `NoMemory` for want of memory.
 pub fn push_part(line: &mut String, text: &Text) -> Result<(), AllocError>
-    ensures adds_the_part { OnOk result (string_bytes line.new ≡ string_bytes line.old ++ part_text text.now) }
+    ensures adds_the_part { OnOk result (string_bytes line.new ≡ string_bytes line.old ++ escaped_part text.now) }
 {
     utf8_percent_encode(text.as_str(), ESCAPED_IN_PARTS).append_to(line)?;
     Ok(())

@@ -1,12 +1,12 @@
 -- What the name of the index leads to, by how long it is.
 use Rattle.std.proofs.Common.{true, ◌≡◌, ◌+◌, ◌-◌, ◌<◌, ◌≤◌, ℕ, Bool, cond, sym, ap, subst, arith}
 use Rattle.std.proofs.lemmas.Bool.{le-ltb, lt-ltb}
+use Rattle.store_core.specs.Held.{Stock as Content}
 use Rattle.xml_tree.specs.Tree.{Tree}
 use Rattle.usage_docs.specs.Services.{document_len, index_limit}
 use Rattle.usage_docs.specs.declared.listing.IndexFault.{IndexFault}
 use Rattle.usage_docs.specs.declared.listing.IndexFault.TheVariants.{TooLarge, NoMemory}
 use Rattle.doc_names.specs.declared.doc_id.Auid.TheVariants.{RlsServices}
-use Rattle.store_core.specs.Held.{Content}
 use Rattle.document_reads.specs.Finding.{IsBeyond, IsRefused}
 use Rattle.machine_words.specs.Resources.{IsIndexOfServices, LeadsUnderGlobal, beyond_limit, there}
 

@@ -1,10 +1,11 @@
 -- What the code finds at an address. RFC 4825, section 6; RFC 4826, sections 4.4.7 and 4.4.8.
 use Rattle.std.specs.Prelude.{◌<◌, ◌≤◌}
+use Rattle.store_core.specs.Held.{Stock}
 use Rattle.xml_tree.specs.Tree.{Tree, height}
+use Rattle.xml_tree.specs.Limits.{most_levels}
 use Rattle.usage_docs.specs.Services.{document_len, index_limit}
 use Rattle.usage_docs.specs.declared.listing.IndexFault.{IndexFault}
 use Rattle.usage_docs.specs.declared.listing.IndexFault.TheVariants.{TooLarge, NoMemory}
-use Rattle.store_core.specs.Held.{Content}
 use Rattle.machine_words.specs.Resources.{IsIndexOfServices, Resource, absent, beyond_limit, there}
 use Rattle.document_reads.specs.declared.finding.Found.{Found}
 use Rattle.document_reads.specs.declared.finding.Found.TheVariants.{Absent, BeyondLimit, Held, Computed}
@@ -20,8 +21,8 @@ resource_of (Computed root tag) = there root tag
 abbrev pub IsLow : Found → Type 0
 IsLow Absent = Unit {0}
 IsLow BeyondLimit = Unit {0}
-IsLow (Held root tag) = height root.now ≤ 64
-IsLow (Computed root tag) = height root ≤ 64
+IsLow (Held root tag) = height root.now ≤ most_levels
+IsLow (Computed root tag) = height root ≤ most_levels
 
 -- an index that can't be made because of its length is beyond the limit
 abbrev pub IsBeyond : Tree → IndexFault → Type 0
@@ -29,6 +30,6 @@ IsBeyond t (TooLarge len) = index_limit < document_len t
 IsBeyond t NoMemory = Unit {0}
 
 -- the index of what is held isn't made: where its length is the reason, it is beyond the limit
-abbrev pub IsRefused : Content → IndexFault → Type 0
+abbrev pub IsRefused : Stock → IndexFault → Type 0
 IsRefused c (TooLarge len) = (root : Tree) × IsIndexOfServices c root × (index_limit < document_len root)
 IsRefused c NoMemory = Unit {0}

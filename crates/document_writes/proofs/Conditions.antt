@@ -1,15 +1,15 @@
 -- What the conditions of a request on a document make of its answer.
 use Rattle.std.proofs.Common.{◌≡◌, ℕ, Bool, true, false, is_some, Option, None, Some, refl, sym, ap, subst, ◌∙◌}
+use Rattle.store_core.specs.Held.{Stock as Content}
 use Rattle.xml_tree.specs.Tree.{Tree}
 use Rattle.edit_ops.specs.declared.change.Change.TheVariants.{RemoveDocument}
 use Rattle.doc_names.specs.declared.doc_id.DocId.{DocId}
 use Rattle.http_wire.specs.declared.request.Request.{Request}
 use Rattle.reply_text.specs.Heads.{Sent, plain}
 use Rattle.request_terms.specs.Conditions.{IsStop}
-use Rattle.store_core.specs.Held.{Content}
 use Rattle.machine_words.specs.Answers.{Answer, BehindConditions, unchanged}
 use Rattle.machine_words.specs.Resources.{version_of}
-use Rattle.machine_words.specs.Writing.{DeletesDocument, DeletesDocumentIn, change_answer, deleted_reply, tag_of}
+use Rattle.machine_words.specs.Writing.{DeletesDocument, DeletesDocumentIn, change_answer, deleted_reply, version_tag as tag_of}
 use Rattle.machine_words.proofs.Cases.{stopped, unstopped}
 
 -- the tag is there where the document is

@@ -12,14 +12,14 @@ use Rattle.http_wire.specs.declared.request.Request.{Request}
 use Rattle.reply_text.specs.Heads.{Sent, plain}
 use Rattle.request_terms.specs.Conditions.{IsStop}
 use Rattle.xcap_uri.specs.Ancestors.{ancestor_uri}
-use Rattle.store_core.specs.Held.{Content}
-use Rattle.store_core.specs.Storing.{Stored}
+use Rattle.store_core.specs.Stored.{Stored}
+use Rattle.store_core.specs.Held.{Stock as Content}
 use Rattle.machine_words.specs.Answers.{Answer, BehindConditions, conflict, unchanged}
 use Rattle.machine_words.specs.Fragments.{CutsNode, DeletesNodeOf, PutsFragment, PutsNodeOf, is_there}
 use Rattle.machine_words.specs.Resources.{version_of}
 use Rattle.machine_words.proofs.Cases.{at_false, at_true, stopped, unstopped}
 use Rattle.document_writes.specs.Deciding.{Decides}
-use Rattle.document_writes.specs.Planning.{IsPlanFor, answer_by}
+use Rattle.document_writes.specs.inner.Planning.{IsPlanFor, answer_by}
 use Rattle.document_writes.specs.declared.decision.Decision.{Decision}
 use Rattle.document_writes.specs.declared.plan.Plan.{Plan}
 use Rattle.document_writes.specs.declared.plan.Plan.TheVariants.{Stops}

@@ -5,15 +5,15 @@ use Rattle.edit_ops.specs.declared.change.Change.{Change}
 use Rattle.notes.specs.Notes.{Note}
 use Rattle.reply_text.specs.Heads.{Sent}
 use Rattle.store_core.specs.Changing.{changing}
-use Rattle.store_core.specs.Held.{Content}
 use Rattle.store_core.specs.Preparing.{Readied}
-use Rattle.store_core.specs.Storing.{Stored}
+use Rattle.store_core.specs.Stored.{Stored}
 use Rattle.store_core.specs.declared.refusal.StoreRefusal.{StoreRefusal}
 use Rattle.store_core.specs.declared.refusal.StoreRefusal.TheVariants.{NoMemory}
+use Rattle.store_core.specs.Held.{Stock as Content}
 use Rattle.machine_words.specs.Answers.{Answer, unchanged}
 use Rattle.machine_words.specs.Writing.{change_answer, refused, store_answer}
 use Rattle.document_writes.specs.Deciding.{Decides, answer_of}
-use Rattle.document_writes.specs.Making.{IsPrepared, IsRefused}
+use Rattle.document_writes.specs.inner.Making.{IsPrepared, IsRefused}
 use Rattle.document_writes.specs.declared.decision.Decision.{Decision}
 use Rattle.document_writes.specs.declared.decision.Decision.TheVariants.{Stays, Changes}
 

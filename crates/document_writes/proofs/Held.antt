@@ -3,8 +3,8 @@ use Rattle.std.proofs.Common.{◌≡◌, ℕ, Bor, Option, Some, IfSome, subst}
 use Rattle.xml_tree.specs.Tree.{Tree}
 use Rattle.doc_names.specs.declared.doc_id.DocId.{DocId}
 use Rattle.doc_names.specs.declared.usages.Usage.{Usage}
-use Rattle.store_core.specs.Held.{Content}
 use Rattle.store_core.specs.Keeping.{IsSound, IsSoundFor}
+use Rattle.store_core.specs.Held.{Stock as Content}
 use Rattle.machine_words.specs.Resources.{version_of}
 
 -- where it is of this usage

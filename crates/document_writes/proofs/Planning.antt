@@ -20,14 +20,14 @@ use Rattle.plan_words.specs.declared.spot.Spot.{Spot}
 use Rattle.plan_words.proofs.StaysProper.{delete_leaves, put_leaves, written_leaves}
 use Rattle.plan_words.proofs.Twice.{deleted_is, put_is, written_change, written_is}
 use Rattle.reply_text.specs.Heads.{Sent}
-use Rattle.store_core.specs.Held.{Content}
 use Rattle.store_core.specs.Keeping.{IsSound}
+use Rattle.store_core.specs.Held.{Stock as Content}
 use Rattle.machine_words.specs.Answers.{Answer, unchanged}
 use Rattle.machine_words.specs.Fragments.{MayBeWritten, plan_answer}
 use Rattle.machine_words.specs.Resources.{version_of}
 use Rattle.machine_words.specs.Writing.{put_reply}
 use Rattle.machine_words.proofs.Asked.{asks_to_edit}
-use Rattle.document_writes.specs.Planning.{AsksBy, IsPlanFor, IsPlanOf, MayBeMade, MayBeMadeBy}
+use Rattle.document_writes.specs.inner.Planning.{AsksBy, IsPlanFor, IsPlanOf, MayBeMade, MayBeMadeBy}
 use Rattle.document_writes.specs.declared.plan.Plan.{Plan}
 use Rattle.document_writes.specs.declared.plan.Plan.TheVariants.{Stops, Makes}
 

@@ -7,11 +7,11 @@ use Rattle.doc_names.specs.declared.doc_id.DocId.{DocId}
 use Rattle.doc_names.specs.declared.usages.Usage.{Usage}
 use Rattle.xml_tree.specs.Tree.{Tree}
 use Rattle.store_core.specs.Asking.{Asks, MayBe, MayBeFor}
-use Rattle.store_core.specs.Held.{Content}
 use Rattle.store_core.specs.Keeping.{IsUsers}
-use Rattle.store_core.specs.Storing.{Stored}
+use Rattle.store_core.specs.Stored.{Stored}
+use Rattle.store_core.specs.Held.{Stock as Content}
 use Rattle.machine_words.specs.Resources.{version_of}
-use Rattle.machine_words.specs.Writing.{change_answer, put_answer, put_change, put_reply, tag_of}
+use Rattle.machine_words.specs.Writing.{change_answer, put_answer, put_change, put_reply, version_tag as tag_of}
 use Rattle.machine_words.proofs.Asked.{asks_to_put}
 use Rattle.document_writes.specs.Deciding.{Decides}
 use Rattle.document_writes.specs.declared.decision.Decision.{Decision}

@@ -17,7 +17,7 @@ use Rattle.plan_words.specs.declared.refusal.EditRefusal.{EditRefusal}
 use Rattle.plan_words.specs.declared.refusal.EditRefusal.TheVariants.{NotFound, CannotDelete, Schema, NoMemory}
 use Rattle.http_wire.specs.declared.request.Request.{Request}
 use Rattle.machine_words.specs.Fragments.{is_there}
-use Rattle.document_writes.specs.Planning.{IsCut, IsPlanOf, MayBeMade}
+use Rattle.document_writes.specs.inner.Planning.{IsCut, IsPlanOf, MayBeMade}
 use Rattle.document_writes.specs.declared.plan.Plan.{Plan}
 use Rattle.document_writes.specs.declared.plan.Plan.TheVariants.{Makes}
 use Rattle.document_writes.proofs.Spelled.{cuts}

@@ -1,5 +1,6 @@
 -- What comes of the body of a PUT of a node, by what it spells.
 use Rattle.std.proofs.Common.{◌≡◌, ℕ, Bool, true, List, Result, Ok, Err, IfOk, refl, sym, subst}
+use Rattle.store_core.specs.Held.{Stock as Content}
 use Rattle.xml_tree.specs.Tree.{Tree}
 use Rattle.conflict_docs.specs.declared.conflicts.ErrorBody.TheVariants as conflicts
 use Rattle.tree_text.specs.Faults.{BodyAnswer, TextAnswer}
@@ -22,12 +23,11 @@ use Rattle.plan_words.specs.declared.spot.Spot.{Spot}
 use Rattle.plan_words.specs.declared.spot.Spot.TheVariants.{Over, Under, Beside, Value}
 use Rattle.http_wire.specs.declared.request.Request.{Request}
 use Rattle.request_terms.specs.MediaTypes.{has_type}
-use Rattle.store_core.specs.Held.{Content}
 use Rattle.machine_words.specs.Answers.{Answer, conflict}
 use Rattle.machine_words.specs.Fragments.{CutsNode, PutsAt, PutsElement, PutsFragment, PutsValue, is_there, levels_for, scope_for, value_conflict}
 use Rattle.machine_words.specs.Writing.{text_conflict}
 use Rattle.machine_words.proofs.Cases.{at_true}
-use Rattle.document_writes.specs.Planning.{IsPlanOf, MayBeMade}
+use Rattle.document_writes.specs.inner.Planning.{IsPlanOf, MayBeMade}
 use Rattle.document_writes.specs.declared.plan.Plan.{Plan}
 use Rattle.document_writes.specs.declared.plan.Plan.TheVariants.{Stops}
 use Rattle.document_writes.proofs.Planning.{Planned, Plans, all_stopped_by, plans_so, planned_so}

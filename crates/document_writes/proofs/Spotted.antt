@@ -19,7 +19,7 @@ use Rattle.plan_words.specs.Spots.{IsSpotOf, SelectNothing}
 use Rattle.plan_words.specs.declared.spot.Spot.{Spot}
 use Rattle.plan_words.specs.declared.spot.Spot.TheVariants.{Over, Under, Beside, Value}
 use Rattle.machine_words.specs.Fragments.{is_there, levels_for, scope_for}
-use Rattle.document_writes.specs.Planning.{LeadsSomewhere}
+use Rattle.document_writes.specs.inner.Planning.{LeadsSomewhere}
 
 -- ---- whether the node is there
 

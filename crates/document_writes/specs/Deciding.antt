@@ -1,7 +1,7 @@
 -- What a request is decided to come to, before anything is changed. RFC 4825, section 8.
 use Rattle.std.specs.Prelude.{◌≡◌, Some}
 use Rattle.store_core.specs.Preparing.{IsReady}
-use Rattle.store_core.specs.Storing.{Stored}
+use Rattle.store_core.specs.Stored.{Stored}
 use Rattle.machine_words.specs.Answers.{Answer, unchanged}
 use Rattle.document_writes.specs.declared.decision.Decision.{Decision}
 use Rattle.document_writes.specs.declared.decision.Decision.TheVariants.{Stays, Changes}

@@ -1,4 +1,2 @@
-pub mod Bodies
 pub mod Deciding
-pub mod Making
-pub mod Planning
+pub mod inner

@@ -5,7 +5,7 @@ ghost use Rattle.xml_tree.specs.Tree.{height};
 ghost use Rattle.conflict_docs.specs.declared.conflicts.ErrorBody.TheVariants as conflicts;
 ghost use Rattle.machine_words.specs.Answers.{conflict};
 ghost use Rattle.machine_words.specs.Writing.{PutsBody, PutsSpelled, PutsText, text_conflict};
-ghost use Rattle.document_writes.specs.Bodies.{Comes};
+ghost use Rattle.document_writes.specs.inner.Bodies.{Comes};
 
 use crate::NoMemory;
 use crate::conflicts::{conflict, fault_conflict};

@@ -7,7 +7,7 @@ ghost use Rattle.store_core.specs.Asking.{Asks, MayBe};
 ghost use Rattle.store_core.specs.Keeping.{IsUsers};
 ghost use Rattle.request_terms.specs.MediaTypes.{document_media};
 ghost use Rattle.machine_words.specs.Resources.{version_of};
-ghost use Rattle.machine_words.specs.Writing.{DeletesDocument, PutsBody, PutsDocument, change_answer, deleted_reply, put_answer, put_change, tag_of};
+ghost use Rattle.machine_words.specs.Writing.{DeletesDocument, PutsBody, PutsDocument, change_answer, deleted_reply, put_answer, put_change, version_tag};
 ghost use Rattle.document_writes.specs.Deciding.{Decides};
 
 use crate::bodies::{Body, body_of};
@@ -25,7 +25,7 @@ use xml_tree::{Element, Path};
 
 // The tag of a document, if it is held.
 fn tag_of(store: &Store, doc: &DocId) -> Option<u64>
-    ensures tag_now { result ≡ tag_of (version_of store.now.content doc.now) }
+    ensures tag_now { result ≡ version_tag (version_of store.now.content doc.now) }
 {
     let (_, tag) = store.get(doc)?;
     Some(tag)
@@ -144,7 +144,7 @@ fn delete_held(
     tag: u64,
     request: &Request,
 ) -> Result<Decision, NoMemory>
-    requires tagged { Some tag ≡ tag_of (version_of store.old.content doc.now) }
+    requires tagged { Some tag ≡ version_tag (version_of store.old.content doc.now) }
     ensures decides_the_removal { IfOk result (λ d. Decides (DeletesDocument store.old.content doc.now request.now) store.new d) }
     ensures holds_the_same { store.new.content ≡ store.old.content }
 {

@@ -15,7 +15,7 @@ ghost use Rattle.machine_words.specs.Answers.{conflict};
 ghost use Rattle.machine_words.specs.Writing.{text_conflict};
 ghost use Rattle.document_writes.specs.declared.plan.Plan.TheVariants.{Stops};
 ghost use Rattle.machine_words.specs.Fragments.{MayBeWritten, PutsAt, PutsElement, PutsFragment, PutsValue, is_there, levels_for, scope_for, value_conflict};
-ghost use Rattle.document_writes.specs.Planning.{IsPlanFor, LeadsSomewhere};
+ghost use Rattle.document_writes.specs.inner.Planning.{IsPlanFor, LeadsSomewhere};
 
 use crate::NoMemory;
 use crate::bodies::{DEPTH, text_conflict};

@@ -4,8 +4,8 @@ ghost use Rattle.store_core.specs.Asking.{Asks};
 ghost use Rattle.machine_words.specs.Answers.{tagged};
 ghost use Rattle.machine_words.specs.Writing.{change_answer, put_reply};
 ghost use Rattle.document_writes.specs.Deciding.{Decides};
-ghost use Rattle.document_writes.specs.Making.{IsPrepared, IsRefused};
-ghost use Rattle.document_writes.specs.Planning.{AsksBy, answer_by};
+ghost use Rattle.document_writes.specs.inner.Making.{IsPrepared, IsRefused};
+ghost use Rattle.document_writes.specs.inner.Planning.{AsksBy, answer_by};
 
 use crate::plan::Plan;
 use crate::refusals::refused;

@@ -11,7 +11,7 @@ ghost use Rattle.machine_words.specs.Fragments.{DeletesNode, DeletesNodeOf, Puts
 ghost use Rattle.machine_words.specs.Resources.{version_of};
 ghost use Rattle.machine_words.specs.Writing.{puts_deeper};
 ghost use Rattle.document_writes.specs.Deciding.{Decides};
-ghost use Rattle.document_writes.specs.Planning.{IsCut, IsPlanFor, IsPlanOf};
+ghost use Rattle.document_writes.specs.inner.Planning.{IsCut, IsPlanFor, IsPlanOf};
 
 use crate::conflicts::no_parent;
 use crate::fragments::put_fragment;

@@ -1,6 +1,6 @@
 //! What a request on a node comes to before the store is asked (RFC 4825, sections 8.2 and 8.4).
 ghost use Rattle.std.specs.Prelude.{IfOk};
-ghost use Rattle.document_writes.specs.Planning.{IsPlanOf};
+ghost use Rattle.document_writes.specs.inner.Planning.{IsPlanOf};
 
 use crate::NoMemory;
 use crate::refusals::unplanned;

@@ -13,7 +13,7 @@ use Rattle.xml_tree.proofs.PrintEdits.{attrs-dropped, attrs-written, content-cut
 use Rattle.edit_ops.specs.declared.change.Change.{Change}
 use Rattle.edit_ops.specs.declared.change.Change.TheVariants.{CreateDocument, Insert, Replace, Remove, SetAttr, DropAttr, RemoveDocument}
 use Rattle.edit_ops.specs.Changes.{edited}
-use Rattle.edit_ops.specs.Lengths.{brought, end_tag_len, lost}
+use Rattle.edit_ops.specs.inner.Lengths.{brought, end_tag_len, lost}
 use Rattle.edit_ops.specs.Rebuilding.{FitsHere, made_here, site}
 use Rattle.edit_ops.proofs.SiteLemmas.{edited_there}
 

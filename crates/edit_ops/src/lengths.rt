@@ -1,13 +1,13 @@
 //! How long the print of a tree is after a change, from its length before: counted from what the
 //! change takes and brings alone.
 ghost use Rattle.std.specs.Prelude.{◌≡◌, ◌<◌, ◌+◌, flat_map, length, min, option_to_list, slice_get, if◌then◌else◌};
+ghost use Rattle.xml_tree.specs.Attributes.{is_written_so};
 ghost use Rattle.std.specs.List.{find};
 ghost use Rattle.xml_tree.specs.Tree.{kids_of};
-ghost use Rattle.xml_tree.specs.Attributes.{is_named};
 ghost use Rattle.xml_tree.specs.Edits.{cut};
 ghost use Rattle.xml_tree.specs.Print.{byte_len, is_empty, print, print_attr};
 ghost use Rattle.edit_ops.specs.Changes.{Fits, edited};
-ghost use Rattle.edit_ops.specs.Lengths.{brought, end_tag_len, lost};
+ghost use Rattle.edit_ops.specs.inner.Lengths.{brought, end_tag_len, lost};
 ghost use Rattle.edit_ops.specs.Rebuilding.{FitsHere};
 
 use crate::change::{Change, site_of};
@@ -59,7 +59,7 @@ fn kid_len(element: &Element, child: usize) -> usize
 // The length of an attribute, where it is there.
 #[tactic(auto, using(crate::proofs::LengthLemmas::one))]
 fn attr_there_len(element: &Element, name: &Name) -> usize
-    ensures counts_the_attribute_there { result ≡ min (byte_len (flat_map print_attr (option_to_list (find (is_named name.now) element.now.attrs)))) usize.MAX }
+    ensures counts_the_attribute_there { result ≡ min (byte_len (flat_map print_attr (option_to_list (find (is_written_so name.now) element.now.attrs)))) usize.MAX }
 {
     match element.attr(name) {
         Some(attr) => attr_len(&attr.name, &attr.value),

@@ -22,8 +22,8 @@ use Rattle.plan_words.specs.Deletions.{FindsNothingAfter, IsDeletePlan}
 use Rattle.plan_words.specs.Plans.{IsTested, OrMemory}
 use Rattle.plan_words.specs.Tags.{with_attrs}
 use Rattle.edit_plans.specs.declared.retagging.Sought.{Sought}
-use Rattle.edit_plans.specs.Asking.{unfound}
-use Rattle.edit_plans.specs.Tested.{AsSought, IsRetaggedAt, IsTestedAs, made}
+use Rattle.edit_plans.specs.inner.Asking.{unfound}
+use Rattle.edit_plans.specs.inner.Tested.{AsSought, IsRetaggedAt, IsTestedAs, made}
 use Rattle.edit_plans.proofs.PlanTag.{drop_plan, dropping_is}
 use Rattle.edit_plans.proofs.TagLemmas.{found_at_position}
 

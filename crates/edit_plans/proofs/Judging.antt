@@ -27,9 +27,9 @@ use Rattle.plan_words.specs.Beside.{ClashesBeside}
 use Rattle.plan_words.specs.Plans.{IsTested, OrMemory, by_fault}
 use Rattle.edit_plans.specs.declared.gaps.NoGap.{NoGap}
 use Rattle.edit_plans.specs.declared.gaps.NoGap.TheVariants.{Unlawful, Invalid}
-use Rattle.edit_plans.specs.Asking.{FormedIn, IsJudgedIn, IsPlacedIn}
-use Rattle.edit_plans.specs.Sides.{FitsIn}
-use Rattle.edit_plans.specs.Tested.{IsJudgedAs, IsTestedAs, IsTold, made}
+use Rattle.edit_plans.specs.inner.Asking.{FormedIn, IsJudgedIn, IsPlacedIn}
+use Rattle.edit_plans.specs.inner.Sides.{FitsIn}
+use Rattle.edit_plans.specs.inner.Tested.{IsJudgedAs, IsTestedAs, IsTold, made}
 
 pub true_false : (b : Bool) → IsTrue b → b ≡ false → ⊥
 true_false b t f = cc

@@ -4,13 +4,13 @@ use Rattle.std.proofs.lemmas.Option.{same_Some}
 use Rattle.doc_names.specs.declared.usages.Usage.{Usage}
 use Rattle.xml_tree.specs.Tree.{Tree, at, kids_of}
 use Rattle.xml_tree.specs.Edits.{cut_out, front, final, put_over, take_in}
-use Rattle.xml_tree.specs.Scopes.{scope_at}
+use Rattle.xml_tree.specs.Scopes.{scope_at, inside}
 use Rattle.xml_tree.proofs.PlaceLaws.{at-append}
 use Rattle.xml_tree.proofs.ScopeLemmas.{scope_at-below}
 use Rattle.node_select.specs.declared.selector.Step.{Step}
 use Rattle.node_select.specs.declared.selector.End.TheVariants as ends
 use Rattle.node_select.specs.declared.selector.Selector.{Selector}
-use Rattle.node_select.specs.Selection.{inside, SelectsAmong, SelectsChild, SelectsPath, Found, has_end}
+use Rattle.node_select.specs.Selection.{SelectsAmong, SelectsChild, SelectsPath, Found, has_end}
 use Rattle.node_select.proofs.Along.{last_step_to, one_path, path_there}
 use Rattle.usage_docs.specs.declared.rows.Kind.{Kind}
 use Rattle.usage_docs.specs.declared.judging.Fault.TheVariants.{Invalid}
@@ -24,7 +24,7 @@ use Rattle.edit_ops.specs.declared.change.Change.TheVariants.{Remove, Replace}
 use Rattle.plan_words.specs.declared.refusal.EditRefusal.{EditRefusal}
 use Rattle.plan_words.specs.declared.refusal.EditRefusal.TheVariants.{CannotInsert, CannotDelete}
 use Rattle.plan_words.specs.Deletions.{FindsNothingAfter, IsDeletePlan, IsPlanFor, IsRemoval}
-use Rattle.plan_words.specs.Kinds.{kind_at}
+use Rattle.usage_docs.specs.Kinds.{kind_at}
 use Rattle.plan_words.specs.Lawful.{LawfulOver}
 use Rattle.plan_words.specs.Plans.{IsTested, OrMemory}
 use Rattle.plan_words.proofs.ClashesAt.{unique_there}
@@ -32,8 +32,8 @@ use Rattle.plan_words.proofs.Exchanged.{first_over, foreign_over, formed_over}
 use Rattle.plan_words.proofs.Removed.{formed_without, unique_without, still_selected}
 use Rattle.plan_words.proofs.StaysSelected.{lawful_over}
 use Rattle.plan_words.proofs.ValidInside.{valid_over, valid_without}
-use Rattle.edit_plans.specs.Asking.{FormedIn, IsExchangedIn, IsRemovedIn, IsSelected, NoClash}
-use Rattle.edit_plans.specs.Tested.{IsTestedAs, made}
+use Rattle.edit_plans.specs.inner.Asking.{FormedIn, IsExchangedIn, IsRemovedIn, IsSelected, NoClash}
+use Rattle.edit_plans.specs.inner.Tested.{IsTestedAs, made}
 use Rattle.edit_plans.proofs.Judging.{judged_from, made_tested}
 use Rattle.edit_plans.proofs.PlanUnder.{last_step_is}
 use Rattle.edit_plans.proofs.SpotLemmas.{parts}

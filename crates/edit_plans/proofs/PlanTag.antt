@@ -7,13 +7,13 @@ use Rattle.xml_tree.specs.Tree.{Tree, at, height, kids_of}
 use Rattle.xml_tree.proofs.PlaceLaws.{height-at}
 use Rattle.xml_tree.specs.Attributes.{with_attr, without_attr}
 use Rattle.xml_tree.specs.Edits.{drop_at, drop_attr, put_over, set_at, write_attr}
-use Rattle.xml_tree.specs.Scopes.{scope_at}
+use Rattle.xml_tree.specs.Scopes.{scope_at, inside}
 use Rattle.xml_tree.specs.declared.names.Attr.{Attr}
 use Rattle.xml_tree.specs.declared.names.Name.{Name}
 use Rattle.node_select.specs.declared.selector.Step.{Step}
 use Rattle.node_select.specs.declared.selector.End.TheVariants as ends
 use Rattle.node_select.specs.declared.selector.Selector.{Selector}
-use Rattle.node_select.specs.Selection.{has_end, inside, is_attr, is_tested, Found, SelectsPath}
+use Rattle.node_select.specs.Selection.{has_end, is_attr, is_tested, Found, SelectsPath}
 use Rattle.node_select.proofs.Along.{one_path, path_there}
 use Rattle.usage_docs.specs.declared.judging.Fault.TheVariants.{Invalid}
 use Rattle.usage_docs.specs.Judging.{Judged}
@@ -24,7 +24,7 @@ use Rattle.plan_words.specs.declared.refusal.EditRefusal.{EditRefusal}
 use Rattle.plan_words.specs.declared.refusal.EditRefusal.TheVariants.{CannotInsert, CannotDelete, NotFound}
 use Rattle.plan_words.specs.Attributes.{FindsValue, IsValuePlan, IsWriting, written_name}
 use Rattle.plan_words.specs.Deletions.{FindsNothingAfter, IsDeletePlan, IsPlanFor}
-use Rattle.plan_words.specs.Kinds.{kind_at}
+use Rattle.usage_docs.specs.Kinds.{kind_at}
 use Rattle.plan_words.specs.Lawful.{LawfulOver}
 use Rattle.plan_words.specs.Plans.{IsTested, OrMemory}
 use Rattle.plan_words.specs.Tags.{AttrsFormed, tag_with, value_in, with_attrs}
@@ -33,8 +33,8 @@ use Rattle.plan_words.proofs.Removed.{no_shorter}
 use Rattle.plan_words.proofs.Reselected.{any_found, found_any, finds, found_from, found_to, only_retag, only_root, scope_retag, selected_retag, selected_root, there_retag}
 use Rattle.plan_words.proofs.Retagged.{first_retag, foreign_retag, formed_retag, valid_retag, valid_root}
 use Rattle.edit_plans.specs.declared.retagging.Sought.{Sought}
-use Rattle.edit_plans.specs.Asking.{HasRoom, IsRetaggedIn, IsRootRetagged, unfound}
-use Rattle.edit_plans.specs.Tested.{AsSought, IsRetaggedAt, IsTestedAs, made}
+use Rattle.edit_plans.specs.inner.Asking.{HasRoom, IsRetaggedIn, IsRootRetagged, unfound}
+use Rattle.edit_plans.specs.inner.Tested.{AsSought, IsRetaggedAt, IsTestedAs, made}
 use Rattle.edit_plans.proofs.Judging.{judged_from, made_tested}
 use Rattle.edit_plans.proofs.PlanAt.{HasParent, child_at}
 

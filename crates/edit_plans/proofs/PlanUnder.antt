@@ -18,7 +18,7 @@ use Rattle.edit_ops.specs.declared.change.Change.{Change}
 use Rattle.edit_ops.specs.declared.change.Change.TheVariants.{Insert}
 use Rattle.plan_words.specs.declared.refusal.EditRefusal.{EditRefusal}
 use Rattle.plan_words.specs.declared.refusal.EditRefusal.TheVariants.{CannotInsert, Schema}
-use Rattle.plan_words.specs.Kinds.{kind_at}
+use Rattle.usage_docs.specs.Kinds.{kind_at}
 use Rattle.plan_words.specs.Lawful.{LawfulGap}
 use Rattle.plan_words.specs.Plans.{IsJudged, OrMemory, by_fault}
 use Rattle.plan_words.specs.Puts.{FromGap, IsInsertion}
@@ -26,9 +26,9 @@ use Rattle.plan_words.proofs.FirstBeside.{first_put, foreign_put}
 use Rattle.plan_words.proofs.FormedBeside.{formed_beside}
 use Rattle.plan_words.proofs.StaysSelected.{lawful_gap}
 use Rattle.plan_words.proofs.ValidBeside.{valid_beside}
-use Rattle.edit_plans.specs.Asking.{FormedIn, FromGapIn, IsJudgedIn, IsPlacedIn}
-use Rattle.edit_plans.specs.Sides.{FitsIn}
-use Rattle.edit_plans.specs.Tested.{IsTold, inserted}
+use Rattle.edit_plans.specs.inner.Asking.{FormedIn, FromGapIn, IsJudgedIn, IsPlacedIn}
+use Rattle.edit_plans.specs.inner.Sides.{FitsIn}
+use Rattle.edit_plans.specs.inner.Tested.{IsTold, inserted}
 use Rattle.edit_plans.proofs.Judging.{judged_from}
 
 same_number : (gap n : ℕ) → ◌≡◌ {A = Result ℕ EditRefusal} (Ok gap) (Ok n) → n ≡ gap

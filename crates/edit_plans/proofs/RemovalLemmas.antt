@@ -14,7 +14,7 @@ use Rattle.usage_docs.specs.Rows.{Scope}
 use Rattle.usage_docs.specs.Reading.Parts.{follows, end}
 use Rattle.usage_docs.specs.Reading.Gaps.{part_before, part_after}
 use Rattle.plan_words.specs.Removals.{StillSelects, ClosesUp}
-use Rattle.edit_plans.specs.Sides.{part_in}
+use Rattle.edit_plans.specs.inner.Sides.{part_in}
 use Rattle.plan_words.proofs.Removed.{get_removed}
 use Rattle.edit_plans.proofs.Judging.{true_false}
 use Rattle.edit_plans.proofs.SideLemmas.{after_end, after_kid}

@@ -5,7 +5,7 @@ use Rattle.xml_tree.specs.Tree.{Tree, kids_of}
 use Rattle.usage_docs.specs.declared.rows.Kind.{Kind}
 use Rattle.usage_docs.specs.Rows.{Scope}
 use Rattle.edit_plans.specs.declared.siblings.Siblings.{Siblings}
-use Rattle.edit_plans.specs.Asking.{NoClash, others}
+use Rattle.edit_plans.specs.inner.Asking.{NoClash, others}
 
 -- all
 pub others_all : (s : Siblings) (parent : Tree) → s.parent.now ≡ parent → s.left_out ≡ None → others s.left_out (kids_of s.parent.now) ≡ kids_of parent

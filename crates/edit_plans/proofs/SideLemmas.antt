@@ -14,7 +14,7 @@ use Rattle.usage_docs.specs.Rows.{Scope}
 use Rattle.usage_docs.specs.Reading.Parts.{follows, end}
 use Rattle.usage_docs.specs.Validity.{ValidChild}
 use Rattle.usage_docs.specs.Reading.Gaps.{FollowsGap, part_of_kid, part_before, part_after}
-use Rattle.edit_plans.specs.Sides.{part_in, fits_between, FitsIn, FitsOver, FitsPlace}
+use Rattle.edit_plans.specs.inner.Sides.{part_in, fits_between, FitsIn, FitsOver, FitsPlace}
 use Rattle.edit_plans.proofs.Judging.{true_false}
 
 -- ---- the children beside a gap

@@ -14,7 +14,7 @@ use Rattle.plan_words.specs.declared.spot.Spot.{Spot}
 use Rattle.plan_words.specs.declared.spot.Spot.TheVariants.{Over, Under, Beside, Value}
 use Rattle.plan_words.specs.Spots.{EndsInAttribute, IsSpotOf, SelectNothing, SelectsParent}
 use Rattle.node_select.specs.declared.leading.Reached.{Reached}
-use Rattle.edit_plans.specs.Reaching.{Reaches}
+use Rattle.edit_plans.specs.inner.Reaching.{Reaches}
 
 whole : {A : Type 0} (xs : List A) → take (length xs) xs ≡ xs
 whole [] = refl

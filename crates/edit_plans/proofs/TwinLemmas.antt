@@ -9,12 +9,12 @@ use Rattle.usage_docs.specs.declared.rows.Key.{Key}
 use Rattle.usage_docs.specs.Rows.{Scope}
 use Rattle.usage_docs.specs.Keys.{key_of, value_of, key_value}
 use Rattle.usage_docs.specs.Clashes.{Mark, mark, mark_of, mark_at, RepeatsAt}
-use Rattle.plan_words.specs.Kinds.{kind_of_kid}
+use Rattle.usage_docs.specs.Kinds.{kind_of_kid}
 use Rattle.plan_words.specs.Beside.{IsTwin, NoTwin}
 use Rattle.edit_plans.specs.declared.siblings.Twin.{Twin}
 use Rattle.plan_words.proofs.ClashesBeside.{one_twin}
 use Rattle.plan_words.proofs.Removed.{get_removed, old_clash}
-use Rattle.edit_plans.specs.Asking.{among, others}
+use Rattle.edit_plans.specs.inner.Asking.{among, others}
 
 -- ---- a mark and its parts
 

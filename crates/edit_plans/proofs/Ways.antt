@@ -2,18 +2,17 @@
 use Rattle.std.proofs.Common.{◌≡◌, inl, inr, ◌-◌, ◌<◌, ◌≤◌, take, drop, get_or, arith, ℕ, List, [], ◌∷◌, ◌++◌, length, Option, Some, None, IsSome, Result, option_and_then, slice_get, refl, sym, ap, ◌∙◌, subst, append-nil}
 use Rattle.std.proofs.lemmas.Option.{same_Some}
 use Rattle.xml_tree.specs.Tree.{Tree, at, kids_of}
-use Rattle.xml_tree.specs.Scopes.{scope_at, scope_below}
+use Rattle.xml_tree.specs.Scopes.{scope_at, scope_below, inside}
 use Rattle.xml_tree.proofs.ScopeLemmas.{scope_at-below}
 use Rattle.doc_names.specs.declared.usages.Usage.{Usage}
 use Rattle.usage_docs.specs.declared.rows.Kind.{Kind}
 use Rattle.usage_docs.specs.Rows.{Scope, root_kind}
-use Rattle.usage_docs.specs.Clashes.{inside}
 use Rattle.plan_words.specs.declared.refusal.EditRefusal.{EditRefusal}
-use Rattle.plan_words.specs.Kinds.{kind_at, kind_of_kid, row_below}
+use Rattle.usage_docs.specs.Kinds.{kind_at, kind_of_kid, row_below}
 use Rattle.plan_words.specs.Plans.{OrMemory}
 use Rattle.plan_words.proofs.Options.{scope_through}
 use Rattle.plan_words.proofs.ValidBeside.{kind_through}
-use Rattle.edit_plans.specs.Parents.{Below}
+use Rattle.edit_plans.specs.inner.Parents.{Below}
 
 -- ---- a document
 

@@ -1,5 +1,1 @@
-pub mod Asking
-pub mod Parents
-pub mod Reaching
-pub mod Sides
-pub mod Tested
+pub mod inner

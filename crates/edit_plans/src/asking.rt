@@ -3,8 +3,8 @@ ghost use Rattle.std.specs.Prelude.{◌≡◌, ◌∷◌, [], Some, IsSome, opti
 ghost use Rattle.xml_tree.specs.Tree.{at};
 ghost use Rattle.usage_docs.specs.Rows.{kind_of, root_kind};
 ghost use Rattle.plan_words.specs.Plans.{OrMemory};
-ghost use Rattle.edit_plans.specs.Asking.{Answers, MayAsk};
-ghost use Rattle.edit_plans.specs.Parents.{Below};
+ghost use Rattle.edit_plans.specs.inner.Asking.{Answers, MayAsk};
+ghost use Rattle.edit_plans.specs.inner.Parents.{Below};
 
 use crate::exchanging::exchanged_in;
 use crate::placing::placed_in;

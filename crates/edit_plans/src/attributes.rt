@@ -6,7 +6,7 @@ ghost use Rattle.node_select.specs.declared.selector.End.TheVariants as ends;
 ghost use Rattle.usage_docs.specs.Judging.{Judged};
 ghost use Rattle.plan_words.specs.Plans.{OrMemory};
 ghost use Rattle.plan_words.specs.Tags.{tag_with};
-ghost use Rattle.edit_plans.specs.Tested.{IsRetaggedAt};
+ghost use Rattle.edit_plans.specs.inner.Tested.{IsRetaggedAt};
 
 use crate::asking::{Asked, answer};
 use crate::retagging::Sought;

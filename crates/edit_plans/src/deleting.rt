@@ -9,7 +9,7 @@ ghost use Rattle.edit_ops.specs.declared.change.Change.TheVariants.{DropAttr, Re
 ghost use Rattle.plan_words.specs.Deletions.{IsDeletePlan};
 ghost use Rattle.plan_words.specs.Plans.{OrMemory};
 ghost use Rattle.plan_words.specs.Tags.{tag_with};
-ghost use Rattle.edit_plans.specs.Tested.{made};
+ghost use Rattle.edit_plans.specs.inner.Tested.{made};
 
 use crate::asking::{Asked, answer};
 use crate::attributes::retagged;

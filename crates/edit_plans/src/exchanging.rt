@@ -3,8 +3,8 @@
 ghost use Rattle.std.specs.Prelude.{◌↔◌, ◌<◌, IsTrue, IfOk, length};
 ghost use Rattle.xml_tree.specs.Tree.{kids_of};
 ghost use Rattle.plan_words.specs.Plans.{OrMemory};
-ghost use Rattle.edit_plans.specs.Asking.{HasRoom, IsExchangedIn, IsSelected};
-ghost use Rattle.edit_plans.specs.Sides.{FitsOver};
+ghost use Rattle.edit_plans.specs.inner.Asking.{HasRoom, IsExchangedIn, IsSelected};
+ghost use Rattle.edit_plans.specs.inner.Sides.{FitsOver};
 
 use crate::gaps::{fits, is_valid_in, part_in, passes};
 use crate::placing::judged_new;

@@ -2,16 +2,16 @@
 //! one behind all children without more ado, where there is no position; else by one pass over them.
 ghost use Rattle.std.specs.Prelude.{◌≡◌, ◌↔◌, ◌<◌, ◌+◌, ◌^◌, ℕ, IsTrue, IfOk, None, cond, length};
 ghost use Rattle.std.specs.Option.{ForSome};
-ghost use Rattle.step_laws.specs.Selection.{Matches, is_at_position};
+ghost use Rattle.step_laws.specs.Selection.{Matches};
 ghost use Rattle.step_laws.specs.Places.{IsFree, Lawful, PlanIs, plan_with};
 ghost use Rattle.xml_tree.specs.Tree.{kids_of};
 ghost use Rattle.node_select.specs.Selection.{is_named, is_tested};
 ghost use Rattle.usage_docs.specs.Validity.{ValidChild};
-ghost use Rattle.edit_plans.specs.Sides.{FitsIn, fits_between, part_in};
+ghost use Rattle.edit_plans.specs.inner.Sides.{FitsIn, fits_between, part_in};
 ghost use Rattle.edit_plans.specs.declared.gaps.NoGap.TheVariants.{Unlawful, Invalid};
 
 use crate::removing::part_left;
-use node_select::Step;
+use node_select::{Step, is_at_position};
 use std::alloc::Global;
 use usage_docs::{END, Kind, follows, is_valid_child, part_of};
 use xml_tree::{Around, Declared, Element, NoMemory, Node};
@@ -93,17 +93,6 @@ pub(crate) fn passes(alloc: Global, scope: &Around<'_>, step: &Step, kid: &Eleme
     ensures tells_whether_it_passes_both { IsTrue result ↔ (IsTrue (is_named scope.now step.now kid.now) × IsTrue (is_tested scope.now step.now kid.now)) }
 {
     step.tests(alloc, scope, kid) && step.names(alloc, scope, kid)
-}
-
-// Whether one that has so many of its name before it is at the position.
-fn is_at_position(position: Option<u64>, before: u64) -> bool
-    requires { before + 1 < 2 ^ 64 }
-    ensures tells_whether_it_is_at_the_position { result ≡ is_at_position position before }
-{
-    match position {
-        None => true,
-        Some(n) => before + 1 == n,
-    }
 }
 
 // One more, if it is.

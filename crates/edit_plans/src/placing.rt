@@ -1,8 +1,8 @@
 //! Where a new element is put under a parent, seen from the parent alone (RFC 4825, section 8.2.3).
-ghost use Rattle.std.specs.Prelude.{◌≡◌, ◌↔◌, ◌≤◌, IsTrue, IfOk, length};
+ghost use Rattle.std.specs.Prelude.{◌↔◌, ◌≤◌, IsTrue, IfOk, length};
 ghost use Rattle.xml_tree.specs.Tree.{kids_of};
 ghost use Rattle.plan_words.specs.Plans.{OrMemory};
-ghost use Rattle.edit_plans.specs.Asking.{FormedIn, HasRoom, IsJudgedIn, IsPlacedIn, NoClash, others};
+ghost use Rattle.edit_plans.specs.inner.Asking.{FormedIn, HasRoom, IsJudgedIn, IsPlacedIn, NoClash, others};
 
 use crate::gaps::{NoGap, choose_gap};
 use crate::siblings::{Siblings, first_beside};

@@ -11,7 +11,7 @@ ghost use Rattle.plan_words.specs.Plans.{IsTested, OrMemory};
 ghost use Rattle.plan_words.specs.Puts.{HasRoomAt, IsInsertion, IsPutPlan};
 ghost use Rattle.plan_words.specs.Spots.{IsSpotOf, SelectsParent};
 ghost use Rattle.plan_words.specs.declared.refusal.EditRefusal.TheVariants.{CannotInsert};
-ghost use Rattle.edit_plans.specs.Tested.{inserted, made};
+ghost use Rattle.edit_plans.specs.inner.Tested.{inserted, made};
 
 use crate::asking::{Asked, answer};
 use crate::roots::root_exchanged;

@@ -7,7 +7,7 @@ ghost use Rattle.node_select.specs.Selection.{SelectsChild, is_named, is_tested}
 ghost use Rattle.usage_docs.specs.Reading.Gaps.{part_before, part_after};
 ghost use Rattle.plan_words.specs.Plans.{OrMemory};
 ghost use Rattle.plan_words.specs.Removals.{ClosesUp, StillSelects};
-ghost use Rattle.edit_plans.specs.Asking.{IsRemovedIn, IsSelected};
+ghost use Rattle.edit_plans.specs.inner.Asking.{IsRemovedIn, IsSelected};
 
 use crate::gaps::part_in;
 use node_select::Step;

@@ -1,12 +1,13 @@
 //! Whether a child may have other attributes, seen from the parent alone: what is asked of its new
 //! tag (RFC 4825, sections 8.2.4 and 8.4).
 ghost use Rattle.std.specs.Prelude.{◌≡◌, ◌↔◌, Some, IsTrue, IfOk, option_map};
+ghost use Rattle.xml_tree.specs.Scopes.{inside};
 ghost use Rattle.std.specs.List.{find};
 ghost use Rattle.std.specs.Option.{option_copied};
-ghost use Rattle.node_select.specs.Selection.{inside, is_attr};
+ghost use Rattle.node_select.specs.Selection.{is_attr};
 ghost use Rattle.plan_words.specs.Plans.{OrMemory};
 ghost use Rattle.plan_words.specs.Tags.{AttrsFormed, AttrsPass, attrs_formed};
-ghost use Rattle.edit_plans.specs.Asking.{HasRoom, IsFoundIn, IsRetaggedIn, IsSelected, unfound};
+ghost use Rattle.edit_plans.specs.inner.Asking.{HasRoom, IsFoundIn, IsRetaggedIn, IsSelected, unfound};
 
 use crate::placing::judged;
 use crate::siblings::Siblings;

@@ -1,12 +1,12 @@
 //! Whether another root may stand in the place of the root, or the root may have other attributes
 //! (RFC 4825, sections 8.2.4 and 8.4).
-ghost use Rattle.std.specs.Prelude.{◌≡◌, ◌≤◌, ◌∷◌, [], ℕ, List};
+ghost use Rattle.std.specs.Prelude.{◌≡◌, ◌≤◌, [], ℕ, List};
 ghost use Rattle.xml_tree.specs.Tree.{height};
 ghost use Rattle.node_select.specs.Selection.{SelectsPath};
 ghost use Rattle.plan_words.specs.Plans.{OrMemory, refusal};
 ghost use Rattle.plan_words.specs.declared.refusal.EditRefusal.TheVariants.{CannotInsert};
-ghost use Rattle.edit_plans.specs.Asking.{IsRootRetagged};
-ghost use Rattle.edit_plans.specs.Tested.{IsTestedAs};
+ghost use Rattle.edit_plans.specs.inner.Asking.{IsRootRetagged};
+ghost use Rattle.edit_plans.specs.inner.Tested.{IsTestedAs};
 
 use crate::retagging::{Sought, is_found_in, unfound};
 use doc_names::Usage;

@@ -7,10 +7,11 @@ ghost use Rattle.usage_docs.specs.Keys.{key_of, value_of};
 ghost use Rattle.usage_docs.specs.Clashes.{RepeatsAt, mark, mark_at, mark_of};
 ghost use Rattle.usage_docs.specs.Reading.Siblings.{IsFirst};
 ghost use Rattle.plan_words.specs.Beside.{ClashesBeside, ClashesInside, IsTwin, NoTwin};
-ghost use Rattle.plan_words.specs.Kinds.{kind_of_kid};
-ghost use Rattle.edit_plans.specs.Asking.{HasRoom, among, others};
+ghost use Rattle.usage_docs.specs.Kinds.{kind_of_kid};
+ghost use Rattle.edit_plans.specs.inner.Asking.{HasRoom, among, others};
 ghost use Rattle.edit_plans.specs.declared.siblings.Twin.{Twin};
 
+use node_select::same_text;
 use std::alloc::Global;
 use usage_docs::{Clash, Key, Kind, clash_below, key_of, kind_of, value_of};
 use xml_tree::{Around, Declared, Element, NoMemory, Node, Path};
@@ -65,13 +66,6 @@ fn kind_of_kid(alloc: Global, row: Kind, scope: &Around<'_>, kid: &Element) -> O
 // Whether two kinds are one.
 fn is_kind(a: Kind, b: Kind) -> bool
     ensures tells_whether_they_are_one { IsTrue result ↔ (a ≡ b) }
-{
-    a == b
-}
-
-// Whether two texts have the same characters.
-fn same_text(a: &str, b: &str) -> bool
-    ensures tells_equal_characters { IsTrue result ↔ (chars a.now ≡ chars b.now) }
 {
     a == b
 }

@@ -4,7 +4,7 @@ ghost use Rattle.xml_tree.specs.Tree.{Tree, height};
 ghost use Rattle.node_select.specs.declared.selector.End.TheVariants as ends;
 ghost use Rattle.node_select.specs.declared.selector.Selector.{Selector};
 ghost use Rattle.plan_words.specs.Spots.{EndsInAttribute, IsSpot};
-ghost use Rattle.edit_plans.specs.Reaching.{Reaches};
+ghost use Rattle.edit_plans.specs.inner.Reaching.{Reaches};
 
 use node_select::{End, Reached, Selector, reach};
 use plan_words::{NoParent, Spot};

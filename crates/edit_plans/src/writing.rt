@@ -15,7 +15,7 @@ ghost use Rattle.plan_words.specs.declared.spot.Spot.TheVariants.{Value};
 ghost use Rattle.node_select.specs.declared.selector.End.TheVariants as ends;
 ghost use Rattle.usage_docs.specs.Judging.{Judged};
 ghost use Rattle.edit_ops.specs.declared.change.Change.TheVariants.{SetAttr};
-ghost use Rattle.edit_plans.specs.Tested.{made};
+ghost use Rattle.edit_plans.specs.inner.Tested.{made};
 
 use crate::attributes::retagged;
 use crate::putting::made;

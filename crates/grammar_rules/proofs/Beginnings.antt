@@ -4,7 +4,7 @@ use Rattle.std.proofs.Common.{◌≡◌, ℕ, Bool, List, [], ◌∷◌, ◌++�
 use Rattle.std.specs.Prelude.{Some}
 use Rattle.std.proofs.lemmas.List.{append_cancel_left}
 use Rattle.grammar_rules.specs.Digits.{Digits}
-use Rattle.grammar_rules.specs.Rules.{Begin, Rule, Split, never, empty, one, word, run, run_without, up_to, number, sequence, either, Each, many, valued, sized, only, marked, judged, trap, optional, between, some_of, name_of, before, behind, quoted}
+use Rattle.grammar_rules.specs.Rules.{Begin, Rule, Split, never, empty, one, word, run, run_without, up_to, number, sequence, either, Each, many, valued, sized, only, marked, judged, trap, optional, between, some_of, before, behind, quoted, name_rule as name_of}
 use Rattle.grammar_rules.proofs.Exact.{Rest}
 use Rattle.grammar_rules.proofs.Fronts.{compare, pass_front, lacks_front, last_front}
 use Rattle.grammar_rules.proofs.Greedy.{digits_front}

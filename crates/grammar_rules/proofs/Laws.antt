@@ -3,7 +3,7 @@ use Rattle.std.proofs.Common.{◌≡◌, ℕ, ◌+◌, ◌<◌, ◌≤◌, Bool,
 use Rattle.std.specs.Prelude.{Some}
 use Rattle.std.proofs.lemmas.List.{length-append, append-nil}
 use Rattle.grammar_rules.specs.Digits.{Digits}
-use Rattle.grammar_rules.specs.Rules.{Begin, Mark, Rule, never, empty, one, word, run, run_without, up_to, number, sequence, either, Each, many, valued, sized, only, atomic, marked, judged, trap, optional, between, some_of, name_of, before, behind, quoted}
+use Rattle.grammar_rules.specs.Rules.{Begin, Mark, Rule, never, empty, one, word, run, run_without, up_to, number, sequence, either, Each, many, valued, sized, only, atomic, marked, judged, trap, optional, between, some_of, before, behind, quoted, name_rule as name_of}
 use Rattle.grammar_rules.proofs.Exact.{Rest, ahead, under}
 
 -- A beginning goes beyond the place of a mark.

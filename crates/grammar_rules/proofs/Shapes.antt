@@ -1,7 +1,7 @@
 -- The shapes that grammars often have are read exactly.
 use Rattle.std.proofs.Common.{◌≡◌, ℕ, ◌<◌, Bool, true, false, List, [], ◌∷◌, ◌++◌, length, ◌⊎◌, inl, inr, ⊎_elim, refl, sym, ap, subst, ◌∙◌, append_assoc}
 use Rattle.std.specs.Prelude.{Some, None}
-use Rattle.grammar_rules.specs.Rules.{Event, Begin, Mark, Rule, empty, word, AllPass, run, run_without, sequence, either, many, valued, optional, between, some_of, name_of, before, behind, quoted}
+use Rattle.grammar_rules.specs.Rules.{Event, Begin, Mark, Rule, empty, word, AllPass, run, run_without, sequence, either, many, valued, optional, between, some_of, before, behind, quoted, name_rule as name_of}
 use Rattle.grammar_rules.specs.Reading.{Reader, read_run, read_run_without, read_optional, read_between, read_some_of, read_name_of, read_before, read_behind, read_quoted}
 use Rattle.grammar_rules.specs.Answers.{Faults}
 use Rattle.grammar_rules.proofs.Exact.{Rest, ahead, Exact, exact_sequence, exact_sequence_if}

@@ -217,8 +217,8 @@ abbrev pub some_of : {Kind : Type 0} → (ℕ → Bool) → Rule Kind (List ℕ)
 some_of p = valued (λ x. x.0 ∷ x.1) (sequence (one p) (λ _. run p))
 
 -- A first character of one class, and any number of another.
-abbrev pub name_of : {Kind : Type 0} → (ℕ → Bool) → (ℕ → Bool) → Rule Kind (List ℕ)
-name_of first others = valued (λ x. x.0 ∷ x.1) (sequence (one first) (λ _. run others))
+abbrev pub name_rule : {Kind : Type 0} → (ℕ → Bool) → (ℕ → Bool) → Rule Kind (List ℕ)
+name_rule first others = valued (λ x. x.0 ∷ x.1) (sequence (one first) (λ _. run others))
 
 -- What stands before something, and what stands behind something.
 abbrev pub before : {Kind A B : Type 0} → Rule Kind A → Rule Kind B → Rule Kind A

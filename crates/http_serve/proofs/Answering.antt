@@ -1,5 +1,6 @@
 -- What was asked and how it was answered, as what a turn of the connection did.
 use Rattle.std.proofs.Common.{◌≡◌, ℕ, ◌⊎◌, inl, inr, Bool, true, false, true≢false, List, [], ◌++◌, take, Option, None, Some, Ok, Err, refl, sym, ap, subst, ◌∙◌}
+use Rattle.std.specs.Prelude.{option_to_list as told}
 use Rattle.reply_text.specs.Heads.{Sent, bytes_of}
 use Rattle.xcap_io.specs.Causes.{Inward, LineState}
 use Rattle.xcap_io.specs.Passing.{Gave, Took}
@@ -10,11 +11,11 @@ use Rattle.http_wire.specs.declared.request.Asked.{Asked}
 use Rattle.http_wire.specs.declared.request.Asked.TheVariants.{Request as Requested, Bad, TooLong, Coded, End, NoMemory}
 use Rattle.http_wire.specs.Asking.{WireState, IsNext, IsAsked, Asks, StandsAfter}
 use Rattle.http_wire.specs.Items.{Item, asks, bad, too_long, coded, IsFirst}
-use Rattle.http_wire.specs.Serving.{Closes, no_more, last_item, no_memory, GoesOn, told}
+use Rattle.http_wire.specs.Serving.{Closes, no_more, last_item, no_memory, GoesOn}
 use Rattle.http_wire.proofs.WholeItems.{asks-append}
 use Rattle.http_serve.specs.declared.connection.Ended.TheVariants.{Closed, ReadFailed, WriteFailed}
 use Rattle.http_serve.specs.Fixed.{fixed}
-use Rattle.http_serve.specs.Turns.{AnswersAsked, Did, GivesOn, IsFixed, Turn}
+use Rattle.http_serve.specs.inner.Turns.{AnswersAsked, Did, GivesOn, IsFixed, Turn}
 
 -- the next item is the first one
 first_item : (before : ℕ) (given : List ℕ) (now : Inward) (item : Item) (held : List ℕ) → IsNext before given now item held → IsFirst before given now.ended item

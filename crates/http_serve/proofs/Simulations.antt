@@ -5,7 +5,7 @@ use Rattle.xcap_io.specs.Causes.{LineState}
 use Rattle.xcap_io.specs.Histories.{Traffic}
 use Rattle.http_wire.specs.declared.request.Request.{Request}
 use Rattle.http_wire.specs.Items.{Item, asks, bad, too_long, coded}
-use Rattle.http_wire.specs.Serving.{Answers, Closes, no_more, last_item, no_memory, Ending, closed, read_failed, write_failed, EndsBy, GoesOn, Run, Serves, ServesEach}
+use Rattle.http_wire.specs.Serving.{Closes, no_more, last_item, no_memory, Ending, closed, read_failed, write_failed, EndsBy, GoesOn, Run, Serves, ServesEach, AnswersItem as Answers}
 use Rattle.http_serve.specs.declared.connection.Ended.{Ended}
 use Rattle.http_serve.specs.declared.port.Served.{Served}
 use Rattle.http_serve.specs.Connections.{ServesLine}

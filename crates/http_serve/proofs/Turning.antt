@@ -2,19 +2,20 @@
 use Rattle.std.proofs.Common.{◌≡◌, ℕ, ◌+◌, ◌<◌, ◌==◌, inl, inr, false, List, [], ◌∷◌, ◌++◌, length, Option, None, Some, refl, sym, ap, subst, ◌∙◌, arith}
 use Rattle.std.proofs.lemmas.Bool.Decides.{nat_tests}
 use Rattle.std.proofs.lemmas.List.{length_push}
+use Rattle.std.specs.Prelude.{option_to_list as told}
 use Rattle.xcap_io.specs.Causes.{LineState}
 use Rattle.xcap_io.specs.Passing.{Gave, Took}
 use Rattle.xcap_io.proofs.Passing.{gave_none, gave_on, took_none, took_on}
 use Rattle.http_wire.specs.declared.request.Request.{Request}
 use Rattle.http_wire.specs.Asking.{WireState, fresh_wire}
 use Rattle.http_wire.specs.Items.{AsksFor}
-use Rattle.http_wire.specs.Serving.{EndsBy, GoesOn, Run, told}
+use Rattle.http_wire.specs.Serving.{EndsBy, GoesOn, Run}
 use Rattle.http_wire.proofs.Connections.{run_none, run_more, run-append}
 use Rattle.http_serve.specs.declared.connection.Ended.{Ended}
 use Rattle.http_serve.specs.Endings.{ending_of, Exchanges, FaultsBy, FaultsSoFar}
 use Rattle.http_serve.specs.Fixed.{fixed}
 use Rattle.http_serve.proofs.Faults.{faults_on}
-use Rattle.http_serve.specs.Turns.{GivesOn, Turn}
+use Rattle.http_serve.specs.inner.Turns.{GivesOn, Turn}
 use Rattle.http_serve.specs.Connections.{ServesLine}
 
 -- a request that keeps the connection isn't the 1,000th

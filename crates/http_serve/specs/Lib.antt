@@ -2,5 +2,5 @@ pub mod Connections
 pub mod Endings
 pub mod Fixed
 pub mod Ports
-pub mod Turns
 pub mod Written
+pub mod inner

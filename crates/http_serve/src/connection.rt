@@ -1,12 +1,11 @@
 //! One connection, served to its end.
-ghost use Rattle.std.specs.Prelude.{◌≡◌, ◌≢◌, false, None, IsTrue, MatchOption};
+ghost use Rattle.std.specs.Prelude.{◌≡◌, ◌≢◌, false, None, IsTrue, MatchOption, option_to_list};
 ghost use Rattle.reply_text.specs.Statuses.{is_status};
 ghost use Rattle.http_wire.specs.Asking.{fresh_wire};
-ghost use Rattle.http_wire.specs.Serving.{told};
 ghost use Rattle.http_serve.specs.Connections.{ServesLine};
 ghost use Rattle.http_serve.specs.Endings.{Exchanges, FaultsSoFar};
 ghost use Rattle.http_serve.specs.Fixed.{fixed_reply};
-ghost use Rattle.http_serve.specs.Turns.{AnswersAsked, GivesOn, Turn};
+ghost use Rattle.http_serve.specs.inner.Turns.{AnswersAsked, GivesOn, Turn};
 ghost use Rattle.http_serve.specs.Written.{InBytes};
 
 use crate::buffers::Buffers;
@@ -68,7 +67,7 @@ fn answer_to<M: Machine>(machine: &mut M, asked: &Asked) -> Option<Answered<M::E
 
 // Tells the watchers of a change, if there is one.
 fn tell_of<E, W: Watchers<E>>(watchers: &mut W, edit: &Option<E>)
-    ensures told_to_the_watchers { W.keeps (told edit.now) watchers.old watchers.new }
+    ensures told_to_the_watchers { W.keeps (option_to_list edit.now) watchers.old watchers.new }
 {
     let Some(edit) = edit else {
         return;

@@ -7,11 +7,12 @@ use Rattle.std.specs.Bool.{⊤}
 use Rattle.std.specs.List.{list_all, AllByRecursion}
 use Rattle.std.specs.Char.{digit_value, is_digit}
 use Rattle.std.specs.Str.Parse.{digits_value, digits_value_after}
+use Rattle.std.specs.Prelude.{unwrap_or}
 use Rattle.httparse.specs.Ascii.{line_feed, carriage_return, semicolon, crlf_bytes}
 use Rattle.httparse.specs.Grammar.{ChunkLine, print_extension, chunk_size, is_ows, is_value_byte}
 use Rattle.http_wire.specs.declared.chunks.Stage.{Stage}
 use Rattle.http_wire.specs.declared.chunks.Stage.TheVariants.{Size, Blank, Extension, SizeEnd, Data, DataEnd, Trailers, Trailer, TrailerEnd, LastEnd, Done, Bad, TooLong}
-use Rattle.http_wire.specs.Chunked.{line_text, print_line, extension_text, IsLine, Chunk, print_chunk, IsChunk, print_chunks, IsTrailer, print_trailer, print_trailers, ChunkedBody, print_body, IsBody, joined, PassesLimit}
+use Rattle.http_wire.specs.Chunked.{line_text, print_line, IsLine, Chunk, print_chunk, IsChunk, print_chunks, IsTrailer, print_trailer, print_trailers, ChunkedBody, print_body, IsBody, PassesLimit, chunk_data as joined}
 
 -- the bytes are whole chunks, which give the body, and then the tail
 pub record Behind (body raw tail : List ℕ) : Type 0 where
@@ -200,7 +201,7 @@ more_extension value len b text body raw at short is =
         few = at.is.few;
         digits = at.is.digits;
         pad = at.is.pad;
-        extension = list_all-push is_value_byte text b (subst (λ (e : Option (List ℕ)). IsTrue (list_all is_value_byte (extension_text e))) at.extended at.is.extension) is;
+        extension = list_all-push is_value_byte text b (subst (λ (e : Option (List ℕ)). IsTrue (list_all is_value_byte (unwrap_or e []))) at.extended at.is.extension) is;
         short = omega (arith, length-append (line_text line) crlf_bytes, long);
       };
       extended = refl;

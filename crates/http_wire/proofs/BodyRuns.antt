@@ -5,11 +5,12 @@ use Rattle.std.proofs.lemmas.List.{append-nil}
 use Rattle.std.specs.List.{list_all, AllByRecursion}
 use Rattle.std.specs.Char.{digit_value, is_digit}
 use Rattle.std.specs.Str.Parse.{digits_value_after}
+use Rattle.std.specs.Prelude.{unwrap_or}
 use Rattle.httparse.specs.Ascii.{line_feed, carriage_return, semicolon, crlf_bytes}
 use Rattle.httparse.specs.Grammar.{ChunkLine, print_extension, chunk_size, is_ows, is_value_byte}
 use Rattle.http_wire.specs.declared.chunks.Stage.{Stage}
 use Rattle.http_wire.specs.declared.chunks.Stage.TheVariants.{Size, Blank, Extension, SizeEnd, Data, Trailers, Trailer, TrailerEnd, LastEnd, Done, Bad, TooLong}
-use Rattle.http_wire.specs.Chunked.{line_text, print_line, extension_text, IsLine, Chunk, print_chunk, IsChunk, print_chunks, is_trailer_byte, IsTrailer, print_trailer, print_trailers, ChunkedBody, print_body, IsBody, joined}
+use Rattle.http_wire.specs.Chunked.{line_text, print_line, IsLine, Chunk, print_chunk, IsChunk, print_chunks, is_trailer_byte, IsTrailer, print_trailer, print_trailers, ChunkedBody, print_body, IsBody, chunk_data as joined}
 use Rattle.http_wire.specs.Decoding.{Decoding, decoding, start, is_settled, is_data, after_digits, after_line, in_trailers, next_stage, next_decoding, ReadsOn}
 use Rattle.http_wire.proofs.Steps.{same_decoding, reads_on, reads_data}
 
@@ -80,7 +81,7 @@ blank_no_digit b is = elim (or_cases (b == 32) (b == 9) is) [
 ]
 
 -- the rest of a chunk line behind its digits
-reads_tail : (s : Stage) (value len : ℕ) (body pad : List ℕ) (extension : Option (List ℕ)) → is_settled s ≡ false → is_data s ≡ false → LikeBlank s value len (length body) → len + length (pad ++ print_extension extension) ≤ 254 → list_all is_ows pad ≡ true → list_all is_value_byte (extension_text extension) ≡ true
+reads_tail : (s : Stage) (value len : ℕ) (body pad : List ℕ) (extension : Option (List ℕ)) → is_settled s ≡ false → is_data s ≡ false → LikeBlank s value len (length body) → len + length (pad ++ print_extension extension) ≤ 254 → list_all is_ows pad ≡ true → list_all is_value_byte (unwrap_or extension []) ≡ true
     → ReadsOn (decoding s body) ((pad ++ print_extension extension) ++ crlf_bytes) (decoding (after_line value (length body) line_feed) body)
 reads_tail s value len body [] None going other like short pads texts =
     move s (SizeEnd value) body carriage_return (line_feed ∷ []) (decoding (after_line value (length body) line_feed) body) going other (like carriage_return refl) (refl, refl)

@@ -1,9 +1,10 @@
 -- How the answers of a wire, one after the other, serve a connection.
 use Rattle.std.proofs.Common.{◌≡◌, ℕ, ◌+◌, false, List, [], ◌∷◌, ◌++◌, length, Option, refl, sym, ap, subst, ◌∙◌, arith, append_assoc}
 use Rattle.std.proofs.lemmas.List.{append-nil}
+use Rattle.std.specs.Prelude.{option_to_list as told}
 use Rattle.http_wire.specs.declared.request.Request.{Request}
 use Rattle.http_wire.specs.Items.{AsksFor}
-use Rattle.http_wire.specs.Serving.{Run, told}
+use Rattle.http_wire.specs.Serving.{Run}
 use Rattle.http_wire.proofs.WholeItems.{asks-append}
 
 -- Requests, one after the other.

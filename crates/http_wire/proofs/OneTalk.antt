@@ -12,7 +12,7 @@ use Rattle.http_wire.specs.declared.framing.Framing.TheVariants.{Bad as BadField
 use Rattle.http_wire.specs.declared.request.Request.{Request}
 use Rattle.http_wire.specs.Framing.{framing}
 use Rattle.http_wire.specs.Heads.{HasNoHead}
-use Rattle.http_wire.specs.Chunked.{ChunkedBody, print_body, ReadsBody, HasNoBody, PassesLimit, joined}
+use Rattle.http_wire.specs.Chunked.{ChunkedBody, print_body, ReadsBody, HasNoBody, PassesLimit, chunk_data as joined}
 use Rattle.http_wire.specs.Decoding.{Decoding, decoding, start}
 use Rattle.http_wire.specs.declared.chunks.Stage.TheVariants.{Done, TooLong}
 use Rattle.http_wire.specs.Items.{Item, asks, bad, too_long, coded, request_of, Opens, Follows, IsFramed, AsksFor, IsBad, no_head, bad_fields, body_cut, no_body, IsTooLong, long_body, long_chunks, FirstItem, SameRest, ends_connection, Talk}

@@ -1,6 +1,6 @@
 -- Chunked bodies (RFC 9112, section 7.1), as this server takes them. Each form is a tree, a printer from the tree to its
 -- bytes, and a fact that says which trees are valid.
-use Rattle.std.specs.Prelude.{◌≡◌, ℕ, ◌+◌, ◌<◌, ◌≤◌, Bool, not, ◌||◌, ◌==◌, List, [], ◌++◌, length, IsTrue, Option, None, Some, flat_map}
+use Rattle.std.specs.Prelude.{◌≡◌, ℕ, ◌+◌, ◌<◌, ◌≤◌, Bool, not, ◌||◌, ◌==◌, List, [], ◌++◌, length, IsTrue, flat_map, unwrap_or}
 use Rattle.std.specs.List.{list_all, AllByRecursion}
 use Rattle.std.specs.Char.{is_digit}
 use Rattle.httparse.specs.Ascii.{line_feed, carriage_return, crlf_bytes}
@@ -15,11 +15,6 @@ line_text l = l.digits ++ (l.pad ++ print_extension l.extension)
 abbrev pub print_line : ChunkLine → List ℕ
 print_line l = line_text l ++ crlf_bytes
 
--- the bytes behind `;`
-abbrev pub extension_text : Option (List ℕ) → List ℕ
-extension_text None = []
-extension_text (Some text) = text
-
 -- each part is of its class, an extension being tabs, spaces, visible bytes and those past ASCII; the whole line is
 -- within its limit
 pub record IsLine (l : ChunkLine) : Type 0 where
@@ -27,7 +22,7 @@ pub record IsLine (l : ChunkLine) : Type 0 where
   pub few : length l.digits ≤ most_digits
   pub digits : IsTrue (list_all (λ b. is_digit b 16) l.digits)
   pub pad : IsTrue (list_all is_ows l.pad)
-  pub extension : IsTrue (list_all is_value_byte (extension_text l.extension))
+  pub extension : IsTrue (list_all is_value_byte (unwrap_or l.extension []))
   pub short : length (print_line l) ≤ most_line_bytes
 
 -- chunk = chunk-line bytes CR LF
@@ -80,8 +75,8 @@ pub record IsBody (c : ChunkedBody) : Type 0 where
   pub short : length (print_trailers c.trailers) ≤ most_trailer_bytes
 
 -- the bytes of the chunks, joined
-abbrev pub joined : List Chunk → List ℕ
-joined chunks = flat_map (λ c. c.bytes) chunks
+abbrev pub chunk_data : List Chunk → List ℕ
+chunk_data chunks = flat_map (λ c. c.bytes) chunks
 
 -- the bytes are that body, and then rest
 abbrev pub ReadsBody : List ℕ → ChunkedBody → List ℕ → Type 0
@@ -104,4 +99,4 @@ pub record PassesLimit (bytes : List ℕ) : Type 0 where
   pub are_chunks : AllByRecursion IsChunk chunks
   pub is_line : IsLine line
   pub reads : bytes ≡ print_chunks chunks ++ (print_line line ++ rest)
-  pub over : most_body_bytes < length (joined chunks) + chunk_size line
+  pub over : most_body_bytes < length (chunk_data chunks) + chunk_size line

@@ -18,7 +18,7 @@ use Rattle.http_wire.specs.Limits.{most_body_bytes, most_head_bytes, most_held_b
 use Rattle.http_wire.specs.Heads.{BeginsWithHead, HasNoHead, NeverHasHead}
 use Rattle.http_wire.specs.Framing.{framing}
 use Rattle.http_wire.specs.Decoding.{Decoding, start, is_settled, ReadsOn}
-use Rattle.http_wire.specs.Chunked.{ChunkedBody, ReadsBody, HasNoBody, MayBecomeBody, PassesLimit, joined}
+use Rattle.http_wire.specs.Chunked.{ChunkedBody, ReadsBody, HasNoBody, MayBecomeBody, PassesLimit, chunk_data}
 
 -- the next bytes of the source were added to those that are held
 pub record Gains (held held' : List ℕ) (source source' : Inward) : Type 0 where
@@ -77,7 +77,7 @@ IsWithinLimit Chunked = Unit {0}
 pub record HasBody (raw body rest : List ℕ) : Type 0 where
   pub whole : ChunkedBody
   pub reads : ReadsBody raw whole rest
-  pub gives : joined whole.chunks ≡ body
+  pub gives : chunk_data whole.chunks ≡ body
   pub short : length body ≤ most_body_bytes
 
 -- no body lies at the front of the bytes, and the limit isn't passed

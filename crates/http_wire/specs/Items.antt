@@ -12,7 +12,7 @@ use Rattle.http_wire.specs.Limits.{most_body_bytes, most_requests}
 use Rattle.http_wire.specs.Heads.{BeginsWithHead, HasNoHead}
 use Rattle.http_wire.specs.Fields.{asks_to_close}
 use Rattle.http_wire.specs.Framing.{framing}
-use Rattle.http_wire.specs.Chunked.{ChunkedBody, ReadsBody, HasNoBody, MayBecomeBody, PassesLimit, joined}
+use Rattle.http_wire.specs.Chunked.{ChunkedBody, ReadsBody, HasNoBody, MayBecomeBody, PassesLimit, chunk_data}
 
 -- An item: a request, or what is answered 400, 413 or 501 in the place of one.
 pub data Item : Type 0 where
@@ -67,8 +67,8 @@ pub record AsksInChunks (before : ℕ) (bytes : List ℕ) (request : Request) (r
   pub body : ChunkedBody
   pub opens : Opens bytes head Chunked behind
   pub reads : ReadsBody behind body rest
-  pub short : length (joined body.chunks) ≤ most_body_bytes
-  pub is : request ≡ request_of before head (joined body.chunks)
+  pub short : length (chunk_data body.chunks) ≤ most_body_bytes
+  pub is : request ≡ request_of before head (chunk_data body.chunks)
 
 -- The bytes begin with a whole request, and then rest.
 abbrev pub AsksFor : ℕ → List ℕ → Request → List ℕ → Type 0

@@ -2,7 +2,7 @@
 -- change is E, and its step says which bytes answer a request, in which state it goes on, and what it tells. `fixed` gives the
 -- bytes of the reply without body that has a status and ends the connection. Of a connection only the bytes count that were
 -- given on it, and whether a read found their end; so this says what was done on a real socket, too.
-use Rattle.std.specs.Prelude.{◌≡◌, ℕ, ◌+◌, ◌<◌, ◌≤◌, ◌⊎◌, ◌^◌, ◌-◌, ⊤, Bool, true, false, List, [], ◌∷◌, ◌++◌, length, take, Option, None, Some}
+use Rattle.std.specs.Prelude.{◌≡◌, ℕ, ◌+◌, ◌<◌, ◌≤◌, ◌⊎◌, ◌^◌, ◌-◌, ⊤, Bool, true, false, List, [], ◌∷◌, ◌++◌, length, take, Option, None, option_to_list}
 use Rattle.xcap_io.specs.Histories.{Traffic}
 use Rattle.http_wire.specs.declared.request.Request.{Request}
 use Rattle.http_wire.specs.Items.{Item, asks, bad, too_long, coded, IsFirst, AsksFor, ends_connection, IsUnfinished}
@@ -11,18 +11,13 @@ use Rattle.http_wire.specs.Items.{Item, asks, bad, too_long, coded, IsFirst, Ask
 pub data Ending : Type 0 where
   closed read_failed write_failed : Ending
 
--- the changes told, of which there is one or none
-abbrev pub told : {E : Type 0} → Option E → List E
-told None = []
-told (Some edit) = edit ∷ []
-
 module _ {M E : Type 0} (Step : M → Request → List ℕ → M → Option E → Type 0) (fixed : ℕ → List ℕ) where
   -- How an item is answered. What is no request has a fixed reply and changes nothing.
-  abbrev pub Answers : M → Item → List ℕ → M → Option E → Type 0
-  Answers machine (asks request) reply next edit = Step machine request reply next edit
-  Answers machine bad reply next edit = (reply ≡ fixed 400) × (next ≡ machine) × (edit ≡ None)
-  Answers machine too_long reply next edit = (reply ≡ fixed 413) × (next ≡ machine) × (edit ≡ None)
-  Answers machine coded reply next edit = (reply ≡ fixed 501) × (next ≡ machine) × (edit ≡ None)
+  abbrev pub AnswersItem : M → Item → List ℕ → M → Option E → Type 0
+  AnswersItem machine (asks request) reply next edit = Step machine request reply next edit
+  AnswersItem machine bad reply next edit = (reply ≡ fixed 400) × (next ≡ machine) × (edit ≡ None)
+  AnswersItem machine too_long reply next edit = (reply ≡ fixed 413) × (next ≡ machine) × (edit ≡ None)
+  AnswersItem machine coded reply next edit = (reply ≡ fixed 501) × (next ≡ machine) × (edit ≡ None)
 
   -- The bytes, behind so many requests, begin with these requests, none of which ends the connection, and then rest. The
   -- machine answers them one after the other; the replies are joined, and the changes told are in order.
@@ -32,7 +27,7 @@ module _ {M E : Type 0} (Step : M → Request → List ℕ → M → Option E �
   Run before machine bytes (request ∷ requests) written edits next rest =
       (behind : List ℕ) × (reply : List ℕ) × (mid : M) × (edit : Option E) × (more : List ℕ) × (later : List E)
       × AsksFor before bytes request behind × (request.closes ≡ false) × Step machine request reply mid edit
-      × (written ≡ reply ++ more) × (edits ≡ told edit ++ later)
+      × (written ≡ reply ++ more) × (edits ≡ option_to_list edit ++ later)
       × Run (before + 1) mid behind requests more later next rest
 
   -- How a connection that was closed ends, behind so many requests, by the bytes given behind them and whether a read found
@@ -42,7 +37,7 @@ module _ {M E : Type 0} (Step : M → Request → List ℕ → M → Option E �
     no_more : given ≡ [] → ended ≡ true → reply ≡ [] → next ≡ machine → edit ≡ None
         → Closes before machine given ended reply next edit
     last_item : (item : Item) → IsFirst before given ended item → ends_connection item ≡ true
-        → Answers machine item reply next edit → Closes before machine given ended reply next edit
+        → AnswersItem machine item reply next edit → Closes before machine given ended reply next edit
     no_memory : (request : Request) (rest : List ℕ) → AsksFor before given request rest → reply ≡ fixed 503
         → next ≡ machine → edit ≡ None → Closes before machine given ended reply next edit
 
@@ -76,7 +71,7 @@ module _ {M E : Type 0} (Step : M → Request → List ℕ → M → Option E �
     pub run : Run 0 machine passed.given requests replies early mid behind
     pub ends : EndsBy ending (length requests) mid behind passed.ended last next edit
     pub wrote : passed.taken ≡ replies ++ last
-    pub all_told : edits ≡ early ++ told edit
+    pub all_told : edits ≡ early ++ option_to_list edit
 
   -- Connections over which this passed, served one after the other, each from the state that the one before left: how each
   -- ended, and all changes told.

@@ -37,7 +37,8 @@ pub enum Named<'b> {
     Repeated,
 }
 
-fn is_same_word(a: &[u8], b: &[u8]) -> bool
+/// Whether two words are equal, whatever the case of their letters.
+pub fn is_same_word(a: &[u8], b: &[u8]) -> bool
     ensures tells_whether_they_are_one_word { result ≡ same_word a.now b.now }
 {
     a.eq_ignore_ascii_case(b)
@@ -161,7 +162,8 @@ pub fn read_framing(buf: &[u8], headers: &[HeaderSpan], version: u8) -> Framing
     framing_by_coding(version, codings, lengths)
 }
 
-fn trim_start(mut bytes: &[u8]) -> &[u8]
+/// What is left of some bytes without the blanks in front.
+pub fn trim_start(mut bytes: &[u8]) -> &[u8]
     ensures trims_the_start { result.now ≡ skip_ows bytes.now }
 {
     'blanks: while let [first, rest @ ..] = bytes
@@ -172,7 +174,8 @@ fn trim_start(mut bytes: &[u8]) -> &[u8]
     bytes
 }
 
-fn trim_end(mut bytes: &[u8]) -> &[u8]
+/// The same without those at the end.
+pub fn trim_end(mut bytes: &[u8]) -> &[u8]
     ensures trims_the_end { result.now ≡ reverse (skip_ows (reverse bytes.now)) }
 {
     'blanks: while let [rest @ .., last] = bytes

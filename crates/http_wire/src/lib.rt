@@ -13,6 +13,8 @@ mod request;
 mod requests;
 mod wire;
 
+// The words and blanks of fields, which the values of other fields are told by too.
+pub use framing::{is_same_word, trim_end, trim_start};
 pub use laws::{bytes_have_one_talk, given_bytes_decide, whole_items_stay};
 pub use replies::{write_reply, write_reply_through};
 pub use request::{Asked, Field, Request};

@@ -7,13 +7,14 @@ use Rattle.step_laws.specs.Selection.{IsAtPosition}
 use Rattle.xml_tree.specs.Tree.{Tree, kids_of}
 use Rattle.xml_tree.specs.Proper.{One, ProperIn}
 use Rattle.xml_tree.proofs.EverywhereLaws.{Everywhere-kid}
+use Rattle.xml_tree.specs.Scopes.{inside}
 use Rattle.node_select.specs.Selection.{is_named, is_tested, SelectsAmong, SelectsChild}
 use Rattle.node_select.specs.declared.selector.Step.{Step}
 use Rattle.usage_docs.specs.declared.rows.Kind.{Kind}
 use Rattle.usage_docs.specs.declared.rows.Key.{Key}
 use Rattle.usage_docs.specs.Keys.{key_of}
 use Rattle.usage_docs.specs.Rows.{Scope, kind_by, kind_of}
-use Rattle.usage_docs.specs.Clashes.{inside, Mark, mark, mark_at, mark_of, RepeatsAt}
+use Rattle.usage_docs.specs.Clashes.{Mark, mark, mark_at, mark_of, RepeatsAt}
 use Rattle.key_laws.specs.KeyAddresses.{HaveKinds, IsKeyStep}
 use Rattle.key_laws.proofs.Marks.{AskFor, AsksFor, marks_along}
 use Rattle.key_laws.proofs.KindWords.{kind_is_by, one_kind}

@@ -3,10 +3,12 @@ use Rattle.std.proofs.Common.{◌≡◌, ℕ, Bool, true, false, cond, List, [],
 use Rattle.std.specs.Str.{bytes_eq}
 use Rattle.std.proofs.lemmas.Slice.Eq.{bytes_eq-Decides}
 use Rattle.std.proofs.lemmas.Option.{same_Some}
+use Rattle.std.specs.Prelude.{filter_map}
+use Rattle.std.specs.List.{flat_map}
 use Rattle.xml_tree.specs.declared.names.Name.{Name}
 use Rattle.usage_docs.specs.declared.rows.Kind.{Kind}
 use Rattle.usage_docs.specs.declared.rows.Kind.TheVariants.{ResourceLists, EntryList, Entry, EntryRef, External, DisplayName, RlsServices, Service, ResourceList, Packages, Package}
-use Rattle.usage_docs.specs.Rows.{Scope, child_named, items_in, kind_by, kind_of, kinds_in, model_of, own_space, space_of, word_of}
+use Rattle.usage_docs.specs.Rows.{Scope, child_named, children_in, items_in, kind_by, kind_in, kind_of, model_of, own_space, space_of, word_of}
 
 -- the kind of that local name
 abbrev word_kind : List ℕ → Option Kind
@@ -35,7 +37,7 @@ found_so w (x ∷ ks) k h = by (bytes_eq w (word_of x)) refl (found_so w ks k) h
 -- a child of a kind has the kind's local name
 pub named_as : (row : Kind) (w : List ℕ) (k : Kind) → child_named row w ≡ Some k → w ≡ word_of k
 unfolding child_named
-named_as row w k h = found_so w (kinds_in (items_in (model_of row))) k h
+named_as row w k h = found_so w (filter_map kind_in (flat_map children_in (items_in (model_of row)))) k h
 
 its_kind : (k : Kind) → word_kind (word_of k) ≡ Some k
 unfolding word_of

@@ -1,13 +1,14 @@
 -- Marks along a path: the kind of each element and the value of its key.
 use Rattle.std.specs.Prelude.{◌≡◌, ℕ, List, [], ◌∷◌, Option, None, Some, option_map, option_and_then, slice_get}
 use Rattle.xml_tree.specs.Tree.{Tree, kids_of}
+use Rattle.xml_tree.specs.Scopes.{inside}
 use Rattle.node_select.specs.declared.selector.NameTest.TheVariants.{Named}
 use Rattle.node_select.specs.declared.selector.Step.{Step}
 use Rattle.usage_docs.specs.declared.rows.Kind.{Kind}
 use Rattle.usage_docs.specs.declared.rows.Key.{Key}
 use Rattle.usage_docs.specs.Rows.{Scope, kind_by}
 use Rattle.usage_docs.specs.Keys.{key_of, word}
-use Rattle.usage_docs.specs.Clashes.{inside, Mark, mark_of}
+use Rattle.usage_docs.specs.Clashes.{Mark, mark_of}
 
 -- the marks of the elements on a path, from the children of an element of this row down; none where one of them has none
 abbrev pub marks_along : Kind → Scope → List Tree → List ℕ → Option (List Mark)

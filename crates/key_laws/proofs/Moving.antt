@@ -5,25 +5,26 @@ use Rattle.std.specs.Str.{bytes_eq}
 use Rattle.std.proofs.lemmas.Bool.{cases_eq, cases_order, le-leb, lt-leb}
 use Rattle.std.proofs.lemmas.Slice.Eq.{bytes_eq-Decides}
 use Rattle.xml_tree.specs.Tree.{Tree, at, kids, kids_of}
-use Rattle.xml_tree.specs.Attributes.{is_named, valued, with_attr, without_attr}
+use Rattle.xml_tree.specs.Attributes.{valued, with_attr, without_attr, is_written_so as is_named}
 use Rattle.xml_tree.specs.Edits.{change_at, cut_kid, drop_attr, final, front, put_kid, write_attr}
 use Rattle.xml_tree.specs.declared.names.Attr.{Attr}
 use Rattle.xml_tree.specs.declared.names.Name.{Name}
 use Rattle.xml_tree.proofs.PathLemmas.{from_there}
 use Rattle.xml_tree.proofs.PlaceLaws.{kids-cut, other_kid, this_kid}
+use Rattle.xml_tree.specs.Scopes.{inside}
 use Rattle.doc_names.specs.declared.usages.Usage.{Usage}
 use Rattle.usage_docs.specs.declared.rows.Kind.{Kind}
 use Rattle.usage_docs.specs.declared.rows.Key.{Key}
 use Rattle.usage_docs.specs.Rows.{Scope, kind_of, root_kind}
 use Rattle.usage_docs.specs.Keys.{is_key, key_of, key_value, value_of, word}
-use Rattle.usage_docs.specs.Clashes.{inside, Mark, mark, mark_of}
+use Rattle.usage_docs.specs.Clashes.{Mark, mark, mark_of}
 use Rattle.edit_ops.specs.declared.change.Change.{Change}
 use Rattle.edit_ops.specs.declared.change.Change.TheVariants.{CreateDocument, Insert, Replace, Remove, SetAttr, DropAttr, RemoveDocument}
 use Rattle.edit_ops.specs.Changes.{Fits, edited}
 use Rattle.edit_ops.specs.Moves.{behind, closed_up, made_room, moved, re_routed, under, unless}
 use Rattle.edit_ops.proofs.MoveLaws.{others_stay}
 use Rattle.edit_ops.proofs.WayLemmas.{behind-other, behind-same, behind-whole, front-apart}
-use Rattle.key_laws.specs.KeyAddresses.{kind_below}
+use Rattle.usage_docs.specs.Kinds.{kind_below}
 use Rattle.key_laws.proofs.Marks.{marks_along}
 use Rattle.key_laws.specs.KeyWrites.{IsKeyOn, WritesKeyOn}
 use Rattle.key_laws.proofs.StepMarks.{mark_says}

@@ -7,7 +7,8 @@ use Rattle.xml_tree.specs.Expanded.{element_name}
 use Rattle.xml_tree.specs.Proper.{ProperIn}
 use Rattle.xml_tree.specs.declared.names.Decl.{Decl}
 use Rattle.xml_tree.specs.declared.names.Name.{Name}
-use Rattle.node_select.specs.Selection.{has_asked, is_named, inside, passes, SelectsAmong, SelectsChild, SelectsPath}
+use Rattle.xml_tree.specs.Scopes.{inside}
+use Rattle.node_select.specs.Selection.{has_asked, is_named, passes, SelectsAmong, SelectsChild, SelectsPath}
 use Rattle.node_select.specs.declared.selector.Step.{Step}
 use Rattle.node_select.specs.declared.selector.Selector.{Selector}
 use Rattle.doc_names.specs.declared.usages.Usage.{Usage}

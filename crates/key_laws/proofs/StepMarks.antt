@@ -9,7 +9,7 @@ use Rattle.std.proofs.lemmas.Option.{same_Some}
 use Rattle.xml_tree.specs.Tree.{Tree}
 use Rattle.xml_tree.specs.Expanded.{attr_name, element_name, same_expanded}
 use Rattle.xml_tree.specs.Proper.{IsAttribute, IsTag}
-use Rattle.xml_tree.specs.Scopes.{bound, some_text, xml_uri}
+use Rattle.xml_tree.specs.Scopes.{bound, some_text, xml_uri, inside}
 use Rattle.xml_tree.specs.declared.names.Attr.{Attr}
 use Rattle.node_select.specs.Names.{is_named_so, uri_of}
 use Rattle.node_select.specs.Selection.{has_asked, is_asked, is_attr, is_named, is_tested, passes}
@@ -20,7 +20,7 @@ use Rattle.usage_docs.specs.declared.rows.Kind.{Kind}
 use Rattle.usage_docs.specs.declared.rows.Key.{Key}
 use Rattle.usage_docs.specs.Rows.{Scope, kind_by, kind_of, space_of}
 use Rattle.usage_docs.specs.Keys.{is_key, key_of, key_value, value_of, word}
-use Rattle.usage_docs.specs.Clashes.{inside, Mark, mark, mark_of}
+use Rattle.usage_docs.specs.Clashes.{Mark, mark, mark_of}
 use Rattle.key_laws.proofs.Marks.{AsksFor}
 use Rattle.key_laws.proofs.KindWords.{kind_is_by, one_name}
 

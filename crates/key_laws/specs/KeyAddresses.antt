@@ -1,9 +1,10 @@
 -- Addresses by keys. RFC 4826, sections 3.2 and 4.2, on the attributes that tell an element from its siblings.
-use Rattle.std.specs.Prelude.{◌≡◌, ℕ, List, [], ◌∷◌, Option, None, Some, option_and_then, slice_get}
+use Rattle.std.specs.Prelude.{◌≡◌, ℕ, List, [], ◌∷◌, None, Some, slice_get}
 use Rattle.std.specs.List.{AllByRecursion}
 use Rattle.xml_tree.specs.Tree.{Tree, kids_of}
 use Rattle.xml_tree.specs.Expanded.{element_name}
 use Rattle.xml_tree.specs.Proper.{ProperIn}
+use Rattle.xml_tree.specs.Scopes.{inside}
 use Rattle.node_select.specs.Names.{uri_of}
 use Rattle.node_select.specs.declared.selector.NameTest.TheVariants.{Named}
 use Rattle.node_select.specs.declared.selector.Step.{Step}
@@ -14,7 +15,7 @@ use Rattle.usage_docs.specs.declared.rows.Kind.{Kind}
 use Rattle.usage_docs.specs.declared.rows.Key.{Key}
 use Rattle.usage_docs.specs.Rows.{Scope, kind_by, kind_of, root_kind}
 use Rattle.usage_docs.specs.Keys.{key_of, word}
-use Rattle.usage_docs.specs.Clashes.{inside, Unique}
+use Rattle.usage_docs.specs.Clashes.{Unique}
 
 -- ---- the steps
 
@@ -48,16 +49,6 @@ abbrev pub HaveKinds : Kind → Scope → List Tree → List ℕ → Type 0
 HaveKinds row c kids [] = Unit {0}
 HaveKinds row c kids (i ∷ p) =
     (kid : Tree) × ((kind : Kind) × ((slice_get kids i ≡ Some kid) × (kind_of row (inside c kid) kid.name ≡ Some kind) × HaveKinds kind (inside c kid) (kids_of kid) p))
-
--- the kind of the element at a path below an element of this row, with the scope inside it; none where some element on the path has none
-abbrev pub kind_below : Kind → Scope → Tree → List ℕ → Option Kind
-kind_below row c e [] = Some row
-kind_below row c e (i ∷ p) =
-    option_and_then (λ kid. option_and_then (λ kind. kind_below kind (inside c kid) kid p) (kind_of row (inside c kid) kid.name)) (slice_get (kids_of e) i)
-
--- the kind of the element at a path of a document
-abbrev pub kind_at : Usage → Tree → List ℕ → Option Kind
-kind_at u t p = kind_below (root_kind u) (t.decls ∷ []) t p
 
 -- ---- key addresses
 

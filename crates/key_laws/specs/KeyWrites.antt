@@ -7,13 +7,14 @@ use Rattle.doc_names.specs.declared.usages.Usage.{Usage}
 use Rattle.usage_docs.specs.declared.rows.Kind.{Kind}
 use Rattle.usage_docs.specs.declared.rows.Key.{Key}
 use Rattle.usage_docs.specs.Keys.{key_of, word}
+use Rattle.usage_docs.specs.Kinds.{kind_at}
 use Rattle.node_select.specs.Selection.{SelectsPath}
 use Rattle.node_select.specs.declared.selector.Selector.{Selector}
 use Rattle.edit_ops.specs.Changes.{edited}
 use Rattle.edit_ops.specs.Moves.{behind, moved}
 use Rattle.edit_ops.specs.declared.change.Change.{Change}
 use Rattle.edit_ops.specs.declared.change.Change.TheVariants.{CreateDocument, Insert, Replace, Remove, SetAttr, DropAttr, RemoveDocument}
-use Rattle.key_laws.specs.KeyAddresses.{IsKeyAddressOf, kind_at}
+use Rattle.key_laws.specs.KeyAddresses.{IsKeyAddressOf}
 
 -- ---- keys that are written
 

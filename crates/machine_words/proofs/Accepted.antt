@@ -38,14 +38,14 @@ use Rattle.request_terms.specs.declared.method.Method.{Method}
 use Rattle.request_terms.specs.declared.method.Method.TheVariants.{Put, Delete}
 use Rattle.node_texts.specs.Nodes.{node_media}
 use Rattle.store_core.specs.Changing.{act_of, against, answered, changing, content_after, document_in, held_name, note_for}
-use Rattle.store_core.specs.Held.{Content, Held}
+use Rattle.store_core.specs.Held.{Held, Stock as Content}
 use Rattle.store_core.specs.declared.refusal.StoreRefusal.{StoreRefusal}
 use Rattle.machine_words.specs.Answers.{Answer, Behind, BehindConditions, Made, not_allowed, unchanged}
 use Rattle.machine_words.specs.Fragments.{CutsNode, DeletesNodeIn, PutsAt, PutsElement, PutsFragment, PutsFrom, PutsNodeIn, PutsValue, cut_reply, is_there, levels_for, plan_answer, put_planned, scope_for}
 use Rattle.machine_words.specs.Machine.{Does, answer_as, told_as}
 use Rattle.machine_words.specs.Requests.{ByMethod, ByTarget, ByUser, Deletes, IsAnswer, IsAnswered, Puts, auid_of, home_of, is_read_only, takes}
 use Rattle.machine_words.specs.Resources.{version_of}
-use Rattle.machine_words.specs.Writing.{DeletesDocumentIn, IfStored, PutsDocument, PutsSpelled, PutsText, by_judgement, change_answer, deleted_reply, put_answer, put_reply, store_answer, tag_of}
+use Rattle.machine_words.specs.Writing.{DeletesDocumentIn, IfStored, PutsDocument, PutsSpelled, PutsText, by_judgement, change_answer, deleted_reply, put_answer, put_reply, store_answer, version_tag as tag_of}
 use Rattle.machine_words.proofs.Steps.{made_change}
 
 -- a request of this method, for this target, is accepted: it makes a change, which is told as this edit, and then this is held

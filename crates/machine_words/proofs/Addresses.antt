@@ -9,7 +9,7 @@ use Rattle.http_wire.specs.declared.request.Request.{Request}
 use Rattle.request_terms.specs.Methods.{method_of}
 use Rattle.request_terms.specs.declared.method.Method.{Method}
 use Rattle.store_core.specs.Asking.{Asks}
-use Rattle.store_core.specs.Held.{Content, Stands}
+use Rattle.store_core.specs.Held.{Stands, Stock as Content}
 use Rattle.store_core.specs.KeyAddresses.{KeepsAddressesOf}
 use Rattle.store_core.specs.Keeping.{Kept}
 use Rattle.store_core.specs.State.{State}

@@ -3,6 +3,7 @@ use Rattle.std.specs.List.{AllByRecursion}
 use Rattle.std.specs.Prelude.{◌≢◌, ◌&&◌, nat_le, nat_lt, min, sum_by, flat_map}
 use Rattle.std.proofs.Common.{◌≡◌, ℕ, ◌+◌, Bool, true, false, List, [], ◌∷◌, length, find, map, Option, None, Some, option_map, refl, sym, ap, subst, ◌∙◌}
 use Rattle.std.proofs.lemmas.Option.{same_Some}
+use Rattle.std.specs.Option.{option_or as or_else}
 use Rattle.xml_tree.specs.Tree.{Tree}
 use Rattle.usage_docs.specs.Services.{document_len}
 use Rattle.doc_names.specs.Same.{same_id}
@@ -11,8 +12,8 @@ use Rattle.doc_names.proofs.SameIds.{id_exact, ids_apart}
 use Rattle.edit_ops.specs.Changes.{edited}
 use Rattle.edit_ops.specs.declared.change.Change.{Change}
 use Rattle.edit_ops.specs.declared.change.Change.TheVariants.{CreateDocument}
-use Rattle.store_core.specs.Changing.{Act, Makes, Edits, act_of, against, against_number, against_tree, content_after, document_in, held_after, held_name, only_if, or_else, other_addresses, other_lengths, taken, without_document}
-use Rattle.store_core.specs.Held.{Content, Held, Stands, held_of}
+use Rattle.store_core.specs.Changing.{Act, Makes, Edits, act_of, against, against_number, against_tree, content_after, document_in, held_after, held_name, only_if, other_addresses, other_lengths, taken, without_document}
+use Rattle.store_core.specs.Held.{Held, Stands, held_of, Stock as Content}
 use Rattle.store_core.specs.Keeping.{AreApart, Kept, addresses_in}
 use Rattle.store_core.specs.State.{Document, State}
 use Rattle.store_core.specs.declared.refusal.StoreRefusal.{StoreRefusal}

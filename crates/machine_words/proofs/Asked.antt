@@ -1,5 +1,5 @@
 -- A tree that is put, a document that is deleted, and a planned change of a node is a change that may be asked for.
-use Rattle.std.proofs.Common.{◌≡◌, ℕ, Bool, true, List, [], is_some, Option, None, Some, option_map, IsSomeAnd, refl, sym, ap, subst}
+use Rattle.std.proofs.Common.{◌≡◌, ℕ, true, List, [], is_some, Option, None, Some, option_map, IsSomeAnd, refl, sym, ap, subst}
 use Rattle.xml_tree.specs.Tree.{Tree}
 use Rattle.doc_names.specs.Ids.{IsReadable}
 use Rattle.doc_names.specs.Usages.{usage_of}
@@ -17,7 +17,7 @@ use Rattle.http_wire.specs.declared.request.Field.{Field}
 use Rattle.request_terms.specs.Rights.{is_allowed}
 use Rattle.store_core.specs.Asking.{Asks, AsksAct, MayBe, MayBeFor}
 use Rattle.store_core.specs.Changing.{Act, Edits, act_of, document_in, held_name}
-use Rattle.store_core.specs.Held.{Content, Held}
+use Rattle.store_core.specs.Held.{Held, Stock as Content}
 use Rattle.store_core.specs.Keeping.{IsSound, IsSoundFor, IsUsers}
 use Rattle.store_core.proofs.Asked.{found-name}
 use Rattle.store_core.proofs.SoundHeld.{AllSound, sound_held}

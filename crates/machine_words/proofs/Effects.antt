@@ -29,7 +29,7 @@ use Rattle.reply_text.specs.Heads.{Sent}
 use Rattle.http_wire.specs.declared.request.Request.{Request}
 use Rattle.request_terms.specs.declared.method.Method.TheVariants.{Put, Delete}
 use Rattle.store_core.specs.Changing.{Edits, act_of, against_tree, content_after, document_in, held_after, held_name}
-use Rattle.store_core.specs.Held.{Content, Held, Stands}
+use Rattle.store_core.specs.Held.{Held, Stands, Stock as Content}
 use Rattle.store_core.specs.Keeping.{AreApart, Kept}
 use Rattle.store_core.specs.State.{State}
 use Rattle.machine_words.specs.Answers.{Answer, Made}

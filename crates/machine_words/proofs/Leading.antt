@@ -9,9 +9,9 @@ use Rattle.doc_names.specs.declared.doc_id.Auid.TheVariants.{ResourceLists, RlsS
 use Rattle.doc_names.specs.declared.doc_id.Home.{Home}
 use Rattle.doc_names.specs.declared.doc_id.Home.TheVariants.{Global, User}
 use Rattle.doc_names.specs.declared.doc_id.DocId.{DocId}
-use Rattle.store_core.specs.Held.{Content}
 use Rattle.store_core.specs.Indexes.{index}
 use Rattle.store_core.proofs.ByUser.{index_trees, one-index-trees, some-index-trees}
+use Rattle.store_core.specs.Held.{Stock as Content}
 use Rattle.machine_words.specs.Resources.{IsIndexOfServices, LeadsFrom, LeadsTo, LeadsUnderGlobal, Resource, absent, if_held, if_within_limit, there, version_of}
 
 -- ---- the index

@@ -47,15 +47,15 @@ use Rattle.request_terms.specs.Rights.{is_allowed}
 use Rattle.request_terms.specs.declared.method.Method.{Method}
 use Rattle.request_terms.specs.declared.method.Method.TheVariants.{Get, Head, Put, Delete, Other}
 use Rattle.node_texts.specs.Nodes.{encoded, found_text, node_media}
-use Rattle.store_core.specs.Held.{Content}
 use Rattle.store_core.specs.Since.{since}
+use Rattle.store_core.specs.Held.{Stock as Content}
 use Rattle.machine_words.specs.Answers.{Answer, Behind, BehindConditions, conflict, found, not_allowed, unchanged}
-use Rattle.machine_words.specs.Requests.{ByMethod, ByTarget, ByUser, Deletes, IsAnswer, IsAnswered, Puts, auid_of, fault_status, home_of, is_bindings, is_read_only, Reads, takes}
+use Rattle.machine_words.specs.Requests.{ByMethod, ByTarget, ByUser, Deletes, IsAnswer, IsAnswered, Puts, auid_of, fault_status, home_of, is_bindings, is_read_only, takes, ReadsTarget as Reads}
 use Rattle.machine_words.specs.Feeds.{story_answer}
 use Rattle.machine_words.specs.Reading.{SendsDocument, SendsFound, SendsNode}
 use Rattle.machine_words.specs.Resources.{LeadsTo, Resource, absent, beyond_limit, there, version_of}
 use Rattle.machine_words.specs.Fragments.{CutsNode, DeletesNodeIn, PutsAt, PutsElement, PutsElementText, PutsFragment, PutsFrom, PutsNodeIn, PutsNodeOf, PutsValue, PutsValueText, cut_reply, is_there, levels_for, plan_answer, put_planned, scope_for, value_conflict}
-use Rattle.machine_words.specs.Writing.{DeletesDocumentIn, IfStored, PutsBody, PutsDocument, PutsSpelled, PutsText, by_judgement, change_answer, deleted_reply, puts_deeper, put_answer, tag_of, text_conflict}
+use Rattle.machine_words.specs.Writing.{DeletesDocumentIn, IfStored, PutsBody, PutsDocument, PutsSpelled, PutsText, by_judgement, change_answer, deleted_reply, puts_deeper, put_answer, text_conflict, version_tag as tag_of}
 use Rattle.machine_words.proofs.Leading.{leads, only_leads, resource}
 
 -- there is an answer of this kind, and each one of it is that

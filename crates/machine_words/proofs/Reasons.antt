@@ -1,6 +1,7 @@
 -- No request is answered 503: neither the store nor a plan has want of memory as its reason against a change.
 use Rattle.std.proofs.Common.{◌≡◌, ℕ, ◌+◌, Bool, true, false, not, ◌==◌, List, [], ◌∷◌, length, is_some, Option, None, Some, option_map, Result, Ok, Err, inl, inr, refl, sym, ap, subst, ◌∙◌, encode_utf8_all}
 use Rattle.std.specs.Prelude.{◌&&◌, nat_le, nat_lt, min}
+use Rattle.std.specs.Option.{option_or as or_else}
 use Rattle.xml_tree.specs.Tree.{Tree, kids_of}
 use Rattle.xml_tree.specs.Edits.{put_in}
 use Rattle.xml_tree.specs.Scopes.{scope_at}
@@ -58,8 +59,8 @@ use Rattle.request_terms.specs.declared.conditions.Outcome.TheVariants.{Unreadab
 use Rattle.request_terms.specs.declared.method.Method.{Method}
 use Rattle.request_terms.specs.declared.method.Method.TheVariants.{Get, Head, Put, Delete, Other}
 use Rattle.node_texts.specs.Nodes.{encoded, found_text, node_media}
-use Rattle.store_core.specs.Changing.{Act, Makes, Edits, Removes, act_of, against, against_number, against_tree, answered, changing, content_after, document_in, held_name, note_for, only_if, or_else, other_addresses, other_lengths, taken}
-use Rattle.store_core.specs.Held.{Content, Held}
+use Rattle.store_core.specs.Changing.{Act, Makes, Edits, Removes, act_of, against, against_number, against_tree, answered, changing, content_after, document_in, held_name, note_for, only_if, other_addresses, other_lengths, taken}
+use Rattle.store_core.specs.Held.{Held, Stock as Content}
 use Rattle.store_core.specs.Keeping.{addresses_in}
 use Rattle.store_core.specs.Since.{Story, Gone, Unknown, Told, since}
 use Rattle.store_core.specs.declared.refusal.StoreRefusal.{StoreRefusal}
@@ -69,9 +70,9 @@ use Rattle.machine_words.specs.Answers.{Answer, Behind, BehindConditions, confli
 use Rattle.machine_words.specs.Fragments.{CutsNode, DeletesNodeIn, PutsAt, PutsElementText, PutsFragment, PutsFrom, PutsNodeIn, PutsValueText, cut_reply, is_there, plan_answer, value_conflict}
 use Rattle.machine_words.specs.Feeds.{sends_notice, story_answer}
 use Rattle.machine_words.specs.Reading.{SendsDocument, SendsFound, SendsNode}
-use Rattle.machine_words.specs.Requests.{ByMethod, ByTarget, ByUser, Deletes, IsAnswer, IsAnswered, Puts, Reads, auid_of, fault_status, home_of, is_read_only, takes}
+use Rattle.machine_words.specs.Requests.{ByMethod, ByTarget, ByUser, Deletes, IsAnswer, IsAnswered, Puts, auid_of, fault_status, home_of, is_read_only, takes, ReadsTarget as Reads}
 use Rattle.machine_words.specs.Resources.{Resource, absent, beyond_limit, there, version_of}
-use Rattle.machine_words.specs.Writing.{DeletesDocumentIn, IfStored, PutsBody, PutsDocument, PutsSpelled, PutsText, by_judgement, change_answer, deleted_reply, fault_conflict, put_answer, put_change, put_reply, store_answer, tag_of, text_conflict}
+use Rattle.machine_words.specs.Writing.{DeletesDocumentIn, IfStored, PutsBody, PutsDocument, PutsSpelled, PutsText, by_judgement, change_answer, deleted_reply, fault_conflict, put_answer, put_change, put_reply, store_answer, text_conflict, version_tag as tag_of}
 use Rattle.machine_words.proofs.Cases.{either}
 
 -- ---- the store

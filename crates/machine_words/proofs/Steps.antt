@@ -11,7 +11,7 @@ use Rattle.http_wire.specs.declared.request.Request.{Request}
 use Rattle.request_terms.specs.Methods.{method_of}
 use Rattle.request_terms.specs.declared.method.Method.{Method}
 use Rattle.store_core.specs.Changing.{Act, Makes, Edits, Removes, act_of, after, after_act, against, answered, changing, content_after, document_in, held_name, note_for}
-use Rattle.store_core.specs.Held.{Content, Held, Stands, content_of}
+use Rattle.store_core.specs.Held.{Held, Stands, Stock as Content, stock_of as content_of}
 use Rattle.store_core.specs.Keeping.{Kept}
 use Rattle.store_core.specs.State.{State}
 use Rattle.store_core.specs.declared.refusal.StoreRefusal.{StoreRefusal}

@@ -2,6 +2,7 @@
 use Rattle.std.specs.Prelude.{nat_le}
 use Rattle.std.specs.Bool.{MatchBool}
 use Rattle.std.proofs.Common.{◌≡◌, ℕ, suc, ◌+◌, ◌-◌, Bool, true, false, List, [], ◌∷◌, ◌++◌, length, find, map, is_some, Option, None, Some, IsSome, option_map, option_and_then, Result, Ok, Err, refl, sym, ap, subst, ◌∙◌}
+use Rattle.std.specs.Option.{option_or as or_else}
 use Rattle.step_laws.specs.Places.{PlanIs}
 use Rattle.xml_tree.specs.Tree.{Tree, at, kids_of}
 use Rattle.xml_tree.specs.Edits.{put_in, put_kid, put_over}
@@ -49,8 +50,8 @@ use Rattle.http_wire.specs.declared.request.Request.{Request}
 use Rattle.request_terms.specs.Conditions.{IsStop}
 use Rattle.request_terms.proofs.ReadConditions.{no_stop}
 use Rattle.request_terms.specs.MediaTypes.{document_media, has_type}
-use Rattle.store_core.specs.Changing.{Act, Edits, act_of, against, against_number, against_tree, answered, changing, content_after, document_in, held_name, note_for, or_else, only_if}
-use Rattle.store_core.specs.Held.{Content, Held}
+use Rattle.store_core.specs.Changing.{Act, Edits, act_of, against, against_number, against_tree, answered, changing, content_after, document_in, held_name, note_for, only_if}
+use Rattle.store_core.specs.Held.{Held, Stock as Content}
 use Rattle.store_core.specs.Keeping.{AreApart}
 use Rattle.store_core.specs.declared.refusal.StoreRefusal.{StoreRefusal}
 use Rattle.store_core.specs.declared.refusal.StoreRefusal.TheVariants.{NoNumber}
@@ -59,7 +60,7 @@ use Rattle.machine_words.specs.Effects.{IsUnconditional, LeavesTrees, trees_of}
 use Rattle.machine_words.specs.Fragments.{PutsAt, PutsElementText, PutsFragment, PutsFrom, PutsNodeOf, PutsValueText, is_there, levels_for, put_planned, scope_for}
 use Rattle.machine_words.specs.Machine.{content_after_answer}
 use Rattle.machine_words.specs.Resources.{version_of}
-use Rattle.machine_words.specs.Writing.{PutsDocument, PutsSpelled, PutsText, by_judgement, change_answer, put_answer, put_change, put_reply, store_answer, tag_of}
+use Rattle.machine_words.specs.Writing.{PutsDocument, PutsSpelled, PutsText, by_judgement, change_answer, put_answer, put_change, put_reply, store_answer, version_tag as tag_of}
 use Rattle.machine_words.proofs.Accepted.{match_true, unstopped_by}
 use Rattle.machine_words.proofs.After.{same_trees}
 use Rattle.machine_words.proofs.Steps.{made_change}

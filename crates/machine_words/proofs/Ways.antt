@@ -60,7 +60,6 @@ use Rattle.request_terms.specs.declared.method.Method.TheVariants.{Get, Head, Pu
 use Rattle.node_texts.specs.Nodes.{encoded, found_text, node_media}
 use Rattle.store_core.specs.Asking.{Asks, MayBeFor}
 use Rattle.store_core.specs.Changing.{changing}
-use Rattle.store_core.specs.Held.{Content}
 use Rattle.store_core.specs.Keeping.{IsUsers}
 use Rattle.store_core.specs.Since.{Story, Gone, Unknown, Told, since}
 use Rattle.store_core.specs.declared.refusal.StoreRefusal.{StoreRefusal}
@@ -69,11 +68,12 @@ use Rattle.machine_words.specs.Answers.{Answer, Behind, BehindConditions, confli
 use Rattle.machine_words.specs.Laws.{tells_change}
 use Rattle.machine_words.specs.Feeds.{sends_notice, story_answer}
 use Rattle.machine_words.specs.Reading.{SendsDocument, SendsFound, SendsNode}
-use Rattle.machine_words.specs.Requests.{ByMethod, ByTarget, ByUser, Deletes, IsAnswer, IsAnswered, IsWritableTarget, Puts, auid_of, fault_status, home_of, is_read_only, Reads, takes}
+use Rattle.machine_words.specs.Requests.{ByMethod, ByTarget, ByUser, Deletes, IsAnswer, IsAnswered, IsWritableTarget, Puts, auid_of, fault_status, home_of, is_read_only, takes, ReadsTarget as Reads}
 use Rattle.machine_words.specs.Resources.{Resource, absent, beyond_limit, there, version_of}
 use Rattle.machine_words.specs.Fragments.{CutsNode, DeletesNodeIn, PutsAt, PutsElementText, PutsFragment, PutsFrom, PutsNodeIn, PutsValueText, cut_reply, is_there, levels_for, plan_answer, plan_refused, put_planned, scope_for}
-use Rattle.machine_words.specs.Writing.{DeletesDocumentIn, IfStored, PutsBody, PutsDocument, PutsSpelled, PutsText, by_judgement, change_answer, deleted_reply, fault_conflict, put_answer, put_change, put_reply, refused, store_answer, tag_of, text_conflict}
+use Rattle.machine_words.specs.Writing.{DeletesDocumentIn, IfStored, PutsBody, PutsDocument, PutsSpelled, PutsText, by_judgement, change_answer, deleted_reply, fault_conflict, put_answer, put_change, put_reply, refused, store_answer, text_conflict, version_tag as tag_of}
 use Rattle.store_core.proofs.SoundHeld.{AllSound}
+use Rattle.store_core.specs.Held.{Stock as Content}
 use Rattle.machine_words.proofs.Asked.{asks_to_delete, asks_to_edit, asks_to_put, sound_at, users_write}
 use Rattle.machine_words.proofs.Named.{writable_target}
 use Rattle.machine_words.proofs.Cases.{either}

@@ -1,9 +1,10 @@
 -- What accepted requests leave where documents are held: those that make a change, which is told as an edit. RFC 4825, sections 8.2.3 and 8.2.4
 -- (a GET of the same address gives what was put) and 8.4 (and nothing once it was deleted); RFC 9110, section 9.2.2 (PUT can be repeated without
 -- harm); RFC 4826, sections 3.2 and 4.2 (keys, by which addresses last).
-use Rattle.std.specs.Prelude.{◌≡◌, ℕ, nat_le, codes, List, [], map, Option, None, Some, IfSome, Ok}
+use Rattle.std.specs.Prelude.{◌≡◌, ℕ, nat_le, codes, List, [], map, Option, None, Some, IfSome, Ok, ◌+◌}
 use Rattle.std.specs.Bool.{MatchBool}
 use Rattle.xml_tree.specs.Tree.{Tree, at}
+use Rattle.xml_tree.specs.Limits.{most_levels, greatest_u64}
 use Rattle.tree_text.specs.Faults.{BodyAnswer, TextAnswer}
 use Rattle.node_select.specs.Selection.{Found, SelectsPath}
 use Rattle.node_select.specs.declared.selector.End.{End}
@@ -22,7 +23,7 @@ use Rattle.request_terms.specs.Rights.{fields_named}
 use Rattle.request_terms.specs.declared.method.Method.TheVariants.{Put, Delete}
 use Rattle.notes.specs.declared.edit.Edit.{Edit}
 use Rattle.reply_text.specs.Heads.{plain}
-use Rattle.store_core.specs.Held.{Content, Held}
+use Rattle.store_core.specs.Held.{Held, Stock}
 use Rattle.store_core.specs.KeyAddresses.{KeepsAddressesOf}
 use Rattle.machine_words.specs.Answers.{Answer, unchanged}
 use Rattle.machine_words.specs.Fragments.{levels_for, scope_for}
@@ -33,14 +34,14 @@ use Rattle.machine_words.specs.Resources.{version_of}
 -- ---- what was put is there
 
 -- the document that is held now has this tag, and is what the body spells
-pub record DocumentIsThere (next : Content) (id : DocId) (tag : ℕ) (body : List ℕ) : Type 0 where
+pub record DocumentIsThere (next : Stock) (id : DocId) (tag : ℕ) (body : List ℕ) : Type 0 where
   pub tree : Tree
-  pub spelled : TextAnswer 64 [] body (Ok tree)
+  pub spelled : TextAnswer most_levels [] body (Ok tree)
   pub held : version_of next id ≡ Some (tree, tag)
 
 -- in the document that is held now and has this tag, the selector selects exactly the element that the body spells in the scope of the spot that
 -- it had before
-pub record ElementIsThere (c next : Content) (id : DocId) (tag : ℕ) (selector : Selector) (body : List ℕ) : Type 0 where
+pub record ElementIsThere (c next : Stock) (id : DocId) (tag : ℕ) (selector : Selector) (body : List ℕ) : Type 0 where
   pub before : Tree
   pub old_tag : ℕ
   pub was_held : version_of c id ≡ Some (before, old_tag)
@@ -55,7 +56,7 @@ pub record ElementIsThere (c next : Content) (id : DocId) (tag : ℕ) (selector 
   pub there : at path after ≡ Some element
 
 -- in the document that is held now and has this tag, the attribute that the selector finds has the value that the body spells
-pub record ValueIsThere (next : Content) (id : DocId) (tag : ℕ) (selector : Selector) (uri local body : List ℕ) : Type 0 where
+pub record ValueIsThere (next : Stock) (id : DocId) (tag : ℕ) (selector : Selector) (uri local body : List ℕ) : Type 0 where
   pub value : List ℕ
   pub spelled : BodyAnswer body (Ok value)
   pub after : Tree
@@ -64,13 +65,13 @@ pub record ValueIsThere (next : Content) (id : DocId) (tag : ℕ) (selector : Se
   pub finds : FindsValue selector.steps uri local after path value
 
 -- by what the selector ends in; bindings are never put
-abbrev pub NodeIsThere : Content → Content → DocId → ℕ → Selector → End → List ℕ → Type 0
+abbrev pub NodeIsThere : Stock → Stock → DocId → ℕ → Selector → End → List ℕ → Type 0
 NodeIsThere c next id tag selector Element body = ElementIsThere c next id tag selector body
 NodeIsThere c next id tag selector (Attribute uri local) body = ValueIsThere next id tag selector uri local body
 NodeIsThere c next id tag selector Namespaces body = ⊥
 
 -- by what was put; it is a document or a node of one
-abbrev pub TargetIsThere : Content → Content → Target → ℕ → List ℕ → Type 0
+abbrev pub TargetIsThere : Stock → Stock → Target → ℕ → List ℕ → Type 0
 TargetIsThere c next (Document id) tag body = DocumentIsThere next id tag body
 TargetIsThere c next (Node id selector) tag body = NodeIsThere c next id tag selector selector.end body
 TargetIsThere c next (Deep auid home) tag body = ⊥
@@ -79,7 +80,7 @@ TargetIsThere c next (ElementFeed known id selector raw) tag body = ⊥
 TargetIsThere c next (Flat id service) tag body = ⊥
 
 -- where a PUT made a change, from what was held before to what is held next, its address means a target, which is there as the body spells it
-abbrev pub PutIsThere : List ℕ → Content → Request → Option Edit → Content → Type 0
+abbrev pub PutIsThere : List ℕ → Stock → Request → Option Edit → Stock → Type 0
 PutIsThere root c request edit next =
     IfSome edit (λ e. method_of request.method ≡ Put
     → (target : Target) × TargetAnswer root request.target (Ok target) × TargetIsThere c next target e.note.next request.body)
@@ -87,13 +88,13 @@ PutIsThere root c request edit next =
 -- ---- what was deleted is gone
 
 -- in the document that is held now and has this tag, the selector finds nothing
-pub record NodeIsGone (next : Content) (id : DocId) (tag : ℕ) (selector : Selector) : Type 0 where
+pub record NodeIsGone (next : Stock) (id : DocId) (tag : ℕ) (selector : Selector) : Type 0 where
   pub after : Tree
   pub held : version_of next id ≡ Some (after, tag)
   pub finds_nothing : Found after selector → ⊥
 
 -- by what was deleted; it is a document or a node of one
-abbrev pub TargetIsGone : Content → Target → ℕ → Type 0
+abbrev pub TargetIsGone : Stock → Target → ℕ → Type 0
 TargetIsGone next (Document id) tag = version_of next id ≡ None
 TargetIsGone next (Node id selector) tag = NodeIsGone next id tag selector
 TargetIsGone next (Deep auid home) tag = ⊥
@@ -102,7 +103,7 @@ TargetIsGone next (ElementFeed known id selector raw) tag = ⊥
 TargetIsGone next (Flat id service) tag = ⊥
 
 -- where a DELETE made a change, its address means a target, at which nothing is held next
-abbrev pub DeletedIsGone : List ℕ → Request → Option Edit → Content → Type 0
+abbrev pub DeletedIsGone : List ℕ → Request → Option Edit → Stock → Type 0
 DeletedIsGone root request edit next =
     IfSome edit (λ e. method_of request.method ≡ Delete
     → (target : Target) × TargetAnswer root request.target (Ok target) × TargetIsGone next target e.note.next)
@@ -118,18 +119,18 @@ pub record IsUnconditional (request : Request) : Type 0 where
 abbrev pub name_and_tree : Held → DocId × Tree
 name_and_tree h = (h.id, h.tree)
 
-abbrev pub trees_of : Content → List (DocId × Tree)
+abbrev pub trees_of : Stock → List (DocId × Tree)
 trees_of c = map name_and_tree c.documents
 
 -- the answer leaves every tree and has the status 200; or, where 64 bits don't hold the next number, it is 507 and changes nothing
-abbrev pub LeavesTrees : Content → Request → Answer → Type 0
+abbrev pub LeavesTrees : Stock → Request → Answer → Type 0
 LeavesTrees c request a =
-    MatchBool (nat_le 18446744073709551616 c.next)
+    MatchBool (nat_le (greatest_u64 + 1) c.next)
     (a ≡ unchanged (plain 507 request.closes))
     ((a.reply.status ≡ 200) × (trees_of (content_after_answer c a.made) ≡ trees_of c))
 
 -- where a PUT without condition fields made a change, the answer to the same request, where that is held then, leaves every tree
-abbrev pub SecondPutLeavesTrees : List ℕ → Request → Option Edit → Content → Type 0
+abbrev pub SecondPutLeavesTrees : List ℕ → Request → Option Edit → Stock → Type 0
 SecondPutLeavesTrees root request edit next =
     IfSome edit (λ e. method_of request.method ≡ Put → IsUnconditional request
     → (again : Answer) → IsAnswer root next request again → LeavesTrees next request again)
@@ -137,5 +138,5 @@ SecondPutLeavesTrees root request edit next =
 -- ---- addresses by keys
 
 -- where a change was made, it leaves what the key addresses of its document select
-abbrev pub KeyAddressesStay : Content → Option Edit → Content → Type 0
+abbrev pub KeyAddressesStay : Stock → Option Edit → Stock → Type 0
 KeyAddressesStay c edit next = IfSome edit (λ e. KeepsAddressesOf c e.doc e.note.change next)

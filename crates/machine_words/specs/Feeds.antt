@@ -13,8 +13,8 @@ use Rattle.request_terms.specs.Methods.{as_asked}
 use Rattle.request_terms.specs.declared.method.Method.{Method}
 use Rattle.patch_words.specs.Notices.{gone_notice}
 use Rattle.patch_text.specs.Modes.{notice_of}
-use Rattle.store_core.specs.Held.{Content}
 use Rattle.store_core.specs.Since.{Story, Gone, Unknown, Told, since}
+use Rattle.store_core.specs.Held.{Stock}
 use Rattle.machine_words.specs.Answers.{Answer, found, unchanged}
 
 -- a notice is sent, without a tag
@@ -28,5 +28,5 @@ story_answer root mode tag id Unknown method request = unchanged (plain 410 requ
 story_answer root mode tag id (Told ns) method request = sends_notice (notice_of mode root (id_text id) tag ns) method request
 
 -- GET or HEAD of a feed
-abbrev pub ReadsFeed : List ℕ → Content → Mode → ℕ → DocId → Method → Request → Answer → Type 0
+abbrev pub ReadsFeed : List ℕ → Stock → Mode → ℕ → DocId → Method → Request → Answer → Type 0
 ReadsFeed root c mode tag id method request a = a ≡ story_answer root mode tag id (since c id tag) method request

@@ -3,9 +3,11 @@
 -- this server's own: the parent, the conditions, the media type, the body, and then the plan.
 use Rattle.std.specs.Prelude.{◌≡◌, ℕ, suc, ◌-◌, Bool, true, false, List, [], length, is_some, Option, None, Some, Result, Ok, Err}
 use Rattle.std.specs.Bool.{MatchBool}
+use Rattle.store_core.specs.Held.{Stock}
 use Rattle.xml_tree.specs.Tree.{Tree}
 use Rattle.xml_tree.specs.Scopes.{scope_around, scope_at}
 use Rattle.xml_tree.specs.declared.names.Decl.{Decl}
+use Rattle.xml_tree.specs.Limits.{most_levels}
 use Rattle.tree_text.specs.Faults.{BodyAnswer, TextAnswer}
 use Rattle.tree_text.specs.declared.fault.TextFault.{TextFault}
 use Rattle.tree_text.specs.declared.fault.ValueFault.{ValueFault}
@@ -32,7 +34,6 @@ use Rattle.reply_text.specs.Heads.{Sent, plain}
 use Rattle.http_wire.specs.declared.request.Request.{Request}
 use Rattle.request_terms.specs.MediaTypes.{has_type}
 use Rattle.xcap_uri.specs.Ancestors.{ancestor_uri}
-use Rattle.store_core.specs.Held.{Content}
 use Rattle.machine_words.specs.Answers.{Answer, BehindConditions, unchanged, conflict, tagged}
 use Rattle.machine_words.specs.Resources.{version_of}
 use Rattle.machine_words.specs.Writing.{change_answer, clash_field, put_reply, puts_deeper, text_conflict}
@@ -56,7 +57,7 @@ plan_refused (Unique clash) closes = conflict (conflicts.Unique (clash_field cla
 plan_refused NoMemory closes = plain 503 closes
 
 -- a planned change is asked of the store, whose note the reply goes by
-abbrev pub plan_answer : Content → DocId → Bool → (Note → Sent) → Result Change EditRefusal → Answer
+abbrev pub plan_answer : Stock → DocId → Bool → (Note → Sent) → Result Change EditRefusal → Answer
 plan_answer c id closes reply (Err why) = unchanged (plan_refused why closes)
 plan_answer c id closes reply (Ok change) = change_answer c id change closes reply
 
@@ -69,11 +70,11 @@ scope_for t (Under q) = scope_at q t
 scope_for t Beside = []
 scope_for t (Value p) = []
 
--- how many levels it may have there: a document has at most 64
+-- how many levels it may have there: a document has at most `most_levels`
 abbrev pub levels_for : Spot → ℕ
-levels_for (Over p) = 64 - length p
-levels_for (Under q) = 64 - suc (length q)
-levels_for Beside = 64
+levels_for (Over p) = most_levels - length p
+levels_for (Under q) = most_levels - suc (length q)
+levels_for Beside = most_levels
 levels_for (Value p) = 0
 
 -- whether the node is there before, so that it is exchanged
@@ -86,7 +87,7 @@ value_conflict values.NotUtf8 = conflicts.NotUtf8
 value_conflict (values.NotValue place) = conflicts.NotXmlAttValue
 
 -- a node of a document that is held with this tree
-module _ (c : Content) (id : DocId) (usage : Usage) (selector : Selector) (t : Tree) where
+module _ (c : Stock) (id : DocId) (usage : Usage) (selector : Selector) (t : Tree) where
   -- the answer to a planned PUT: the node is new, or takes the place of what was there
   abbrev pub put_planned : Request → Result Change EditRefusal → Answer
   put_planned request plan = plan_answer c id request.closes (put_reply (is_there t selector) request.closes) plan
@@ -131,11 +132,11 @@ module _ (c : Content) (id : DocId) (usage : Usage) (selector : Selector) (t : T
   PutsNodeOf root tag request a = (spot : Result Spot NoParent) × IsSpot t selector spot × PutsFrom root tag spot request a
 
 -- a node of a document that is held, or not
-abbrev pub PutsNodeIn : List ℕ → Content → DocId → Usage → Selector → Option (Tree × ℕ) → Request → Answer → Type 0
+abbrev pub PutsNodeIn : List ℕ → Stock → DocId → Usage → Selector → Option (Tree × ℕ) → Request → Answer → Type 0
 PutsNodeIn root c id usage selector None request a = a ≡ puts_deeper root id.auid id.home request
 PutsNodeIn root c id usage selector (Some (t, tag)) request a = PutsNodeOf c id usage selector t root tag request a
 
-abbrev pub PutsNode : List ℕ → Content → DocId → Usage → Selector → Request → Answer → Type 0
+abbrev pub PutsNode : List ℕ → Stock → DocId → Usage → Selector → Request → Answer → Type 0
 PutsNode root c id usage selector request a = PutsNodeIn root c id usage selector (version_of c id) request a
 
 -- ---- DELETE (RFC 4825, section 8.4)
@@ -145,20 +146,20 @@ abbrev pub cut_reply : Bool → Note → Sent
 cut_reply closes note = tagged 200 note.next closes
 
 -- what the selector finds is taken out
-abbrev pub CutsNode : Content → DocId → Usage → Selector → Tree → Request → Answer → Type 0
+abbrev pub CutsNode : Stock → DocId → Usage → Selector → Tree → Request → Answer → Type 0
 CutsNode c id usage selector t request a =
     (plan : Result Change EditRefusal) × IsDeletePlan usage t selector plan × (a ≡ plan_answer c id request.closes (cut_reply request.closes) plan)
 
 -- a node of a document that is held with this tree and this tag
-abbrev pub DeletesNodeOf : Content → DocId → Usage → Selector → Tree → ℕ → Request → Answer → Type 0
+abbrev pub DeletesNodeOf : Stock → DocId → Usage → Selector → Tree → ℕ → Request → Answer → Type 0
 DeletesNodeOf c id usage selector t tag request a =
     MatchBool (is_there t selector)
     (BehindConditions request (Some tag) true false a (CutsNode c id usage selector t request a))
     (a ≡ unchanged (plain 404 request.closes))
 
-abbrev pub DeletesNodeIn : Content → DocId → Usage → Selector → Option (Tree × ℕ) → Request → Answer → Type 0
+abbrev pub DeletesNodeIn : Stock → DocId → Usage → Selector → Option (Tree × ℕ) → Request → Answer → Type 0
 DeletesNodeIn c id usage selector None request a = a ≡ unchanged (plain 404 request.closes)
 DeletesNodeIn c id usage selector (Some (t, tag)) request a = DeletesNodeOf c id usage selector t tag request a
 
-abbrev pub DeletesNode : Content → DocId → Usage → Selector → Request → Answer → Type 0
+abbrev pub DeletesNode : Stock → DocId → Usage → Selector → Request → Answer → Type 0
 DeletesNode c id usage selector request a = DeletesNodeIn c id usage selector (version_of c id) request a

@@ -5,7 +5,7 @@ use Rattle.notes.specs.declared.edit.Edit.{Edit}
 use Rattle.reply_text.specs.Heads.{Sent}
 use Rattle.http_wire.specs.declared.request.Request.{Request}
 use Rattle.store_core.specs.Changing.{after, content_after}
-use Rattle.store_core.specs.Held.{Content, content_of}
+use Rattle.store_core.specs.Held.{Stock, stock_of}
 use Rattle.store_core.specs.Keeping.{Kept}
 use Rattle.store_core.specs.State.{State}
 use Rattle.machine_words.specs.Answers.{Answer, Made}
@@ -27,7 +27,7 @@ answer_as reply edit = record { reply = reply; made = option_map told_as edit }
 -- The step of the machine of this root: in a state, a request is answered by this reply, and then it is in this state, and tells this
 -- change, if one was made.
 pub record Step (root : List ℕ) (m : State) (request : Request) (reply : Sent) (next : State) (edit : Option Edit) : Type 0 where
-  pub answers : IsAnswer root (content_of m) request (answer_as reply edit)
+  pub answers : IsAnswer root (stock_of m) request (answer_as reply edit)
   pub goes_on : next ≡ after_answer m (option_map told_as edit)
 
 -- the same from a kept state to a kept state
@@ -37,11 +37,11 @@ KeptStep root m request reply next edit = Kept m × Step root m request reply ne
 -- ---- the same over what is held alone, which is all that an answer depends on
 
 -- what is held after a change, if one is made
-abbrev pub content_after_answer : Content → Option Made → Content
+abbrev pub content_after_answer : Stock → Option Made → Stock
 content_after_answer c None = c
 content_after_answer c (Some made) = content_after c made.0 made.1.change
 
 -- Where this is held, a request is answered by this reply, this change is told, if one was made, and then this is held.
-pub record Does (root : List ℕ) (c : Content) (request : Request) (reply : Sent) (next : Content) (edit : Option Edit) : Type 0 where
+pub record Does (root : List ℕ) (c : Stock) (request : Request) (reply : Sent) (next : Stock) (edit : Option Edit) : Type 0 where
   pub answers : IsAnswer root c request (answer_as reply edit)
   pub goes_on : next ≡ content_after_answer c (option_map told_as edit)

@@ -1,6 +1,7 @@
 -- Requests that read. RFC 4825, section 8.3 (GET) with the conditions of RFC 9110, section 13. The tag of a node is its document's
 -- (RFC 4825, sections 7.11 and 8.5).
 use Rattle.std.specs.Prelude.{◌≡◌, ℕ, true, List, Option, None, Some, encode_utf8_all}
+use Rattle.store_core.specs.Held.{Stock}
 use Rattle.tree_text.specs.Printing.{document_print}
 use Rattle.node_select.specs.declared.selector.Selector.{Selector}
 use Rattle.doc_names.specs.declared.doc_id.DocId.{DocId}
@@ -11,7 +12,6 @@ use Rattle.request_terms.specs.MediaTypes.{document_media}
 use Rattle.request_terms.specs.Methods.{as_asked}
 use Rattle.request_terms.specs.declared.method.Method.{Method}
 use Rattle.node_texts.specs.Nodes.{encoded, found_text, node_media}
-use Rattle.store_core.specs.Held.{Content}
 use Rattle.machine_words.specs.Answers.{Answer, BehindConditions, found, unchanged}
 use Rattle.machine_words.specs.Resources.{LeadsTo, Resource, absent, beyond_limit, there}
 
@@ -34,8 +34,8 @@ SendsNode beyond_limit selector method request a = a ≡ unchanged (plain 507 re
 SendsNode (there t tag) selector method request a = SendsFound (encoded (found_text t selector)) tag (node_media selector.end) method request a
 
 -- GET or HEAD of a document, and of a node of one
-abbrev pub ReadsDocument : Content → DocId → Method → Request → Answer → Type 0
+abbrev pub ReadsDocument : Stock → DocId → Method → Request → Answer → Type 0
 ReadsDocument c id method request a = (r : Resource) × LeadsTo c id r × SendsDocument r (document_media id.auid) method request a
 
-abbrev pub ReadsNode : Content → DocId → Selector → Method → Request → Answer → Type 0
+abbrev pub ReadsNode : Stock → DocId → Selector → Method → Request → Answer → Type 0
 ReadsNode c id selector method request a = (r : Resource) × LeadsTo c id r × SendsNode r selector method request a

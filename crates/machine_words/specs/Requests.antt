@@ -3,6 +3,7 @@
 -- The order of the lines is this server's own.
 use Rattle.std.specs.Prelude.{◌≡◌, ℕ, Bool, true, false, not, List, Result, Ok, Err}
 use Rattle.std.specs.Bool.{MatchBool}
+use Rattle.store_core.specs.Held.{Stock}
 use Rattle.node_select.specs.declared.selector.End.{End}
 use Rattle.node_select.specs.declared.selector.End.TheVariants.{Element, Attribute, Namespaces}
 use Rattle.xcap_uri.specs.Targets.{TargetAnswer}
@@ -20,7 +21,6 @@ use Rattle.request_terms.specs.declared.method.Method.{Method}
 use Rattle.request_terms.specs.declared.method.Method.TheVariants.{Get, Head, Put, Delete, Other}
 use Rattle.request_terms.specs.Methods.{method_of, is_reading}
 use Rattle.request_terms.specs.Rights.{is_allowed}
-use Rattle.store_core.specs.Held.{Content}
 use Rattle.machine_words.specs.Answers.{Answer, unchanged, not_allowed}
 use Rattle.machine_words.specs.Feeds.{ReadsFeed}
 use Rattle.machine_words.specs.Reading.{ReadsDocument, ReadsNode}
@@ -74,16 +74,16 @@ IsWritableTarget (Flat id service) = Unit {0}
 -- ---- by method
 
 -- GET and HEAD; feeds of elements and flat lists aren't read yet
-abbrev pub Reads : List ℕ → Content → Target → Method → Request → Answer → Type 0
-Reads root c (Document id) method request a = ReadsDocument c id method request a
-Reads root c (Node id selector) method request a = ReadsNode c id selector method request a
-Reads root c (Deep auid home) method request a = a ≡ unchanged (plain 404 request.closes)
-Reads root c (Feed mode tag id) method request a = ReadsFeed root c mode tag id method request a
-Reads root c (ElementFeed tag id selector raw) method request a = a ≡ unchanged (plain 501 request.closes)
-Reads root c (Flat id service) method request a = a ≡ unchanged (plain 501 request.closes)
+abbrev pub ReadsTarget : List ℕ → Stock → Target → Method → Request → Answer → Type 0
+ReadsTarget root c (Document id) method request a = ReadsDocument c id method request a
+ReadsTarget root c (Node id selector) method request a = ReadsNode c id selector method request a
+ReadsTarget root c (Deep auid home) method request a = a ≡ unchanged (plain 404 request.closes)
+ReadsTarget root c (Feed mode tag id) method request a = ReadsFeed root c mode tag id method request a
+ReadsTarget root c (ElementFeed tag id selector raw) method request a = a ≡ unchanged (plain 501 request.closes)
+ReadsTarget root c (Flat id service) method request a = a ≡ unchanged (plain 501 request.closes)
 
 -- feeds and flat lists are read only, so they never come here
-abbrev pub Puts : List ℕ → Content → Target → Usage → Request → Answer → Type 0
+abbrev pub Puts : List ℕ → Stock → Target → Usage → Request → Answer → Type 0
 Puts root c (Document id) usage request a = PutsDocument c id usage request a
 Puts root c (Node id selector) usage request a = PutsNode root c id usage selector request a
 Puts root c (Deep auid home) usage request a = a ≡ puts_deeper root auid home request
@@ -91,7 +91,7 @@ Puts root c (Feed mode tag id) usage request a = ⊥
 Puts root c (ElementFeed tag id selector raw) usage request a = ⊥
 Puts root c (Flat id service) usage request a = ⊥
 
-abbrev pub Deletes : Content → Target → Usage → Request → Answer → Type 0
+abbrev pub Deletes : Stock → Target → Usage → Request → Answer → Type 0
 Deletes c (Document id) usage request a = DeletesDocument c id request a
 Deletes c (Node id selector) usage request a = DeletesNode c id usage selector request a
 Deletes c (Deep auid home) usage request a = a ≡ unchanged (plain 404 request.closes)
@@ -119,31 +119,31 @@ home_of (ElementFeed tag id selector raw) = id.home
 home_of (Flat id service) = id.home
 
 -- by its method, which the target takes
-abbrev pub ByMethod : List ℕ → Content → Target → Method → Request → Answer → Type 0
-ByMethod root c target Get request a = Reads root c target Get request a
-ByMethod root c target Head request a = Reads root c target Head request a
+abbrev pub ByMethod : List ℕ → Stock → Target → Method → Request → Answer → Type 0
+ByMethod root c target Get request a = ReadsTarget root c target Get request a
+ByMethod root c target Head request a = ReadsTarget root c target Head request a
 ByMethod root c target Put request a = IfStored (usage_of (auid_of target)) request a (λ usage. Puts root c target usage request a)
 ByMethod root c target Delete request a = IfStored (usage_of (auid_of target)) request a (λ usage. Deletes c target usage request a)
 ByMethod root c target Other request a = ⊥
 
 -- who may read or write there
-abbrev pub ByUser : List ℕ → Content → Target → Method → Request → Answer → Type 0
+abbrev pub ByUser : List ℕ → Stock → Target → Method → Request → Answer → Type 0
 ByUser root c target method request a =
     MatchBool (is_allowed (not (is_reading method)) (auid_of target) (home_of target) request.fields)
     (ByMethod root c target method request a)
     (a ≡ unchanged (plain 403 request.closes))
 
 -- what the target takes
-abbrev pub ByTarget : List ℕ → Content → Target → Method → Request → Answer → Type 0
+abbrev pub ByTarget : List ℕ → Stock → Target → Method → Request → Answer → Type 0
 ByTarget root c target method request a =
     MatchBool (takes target method)
     (ByUser root c target method request a)
     (a ≡ unchanged (not_allowed (is_read_only target) request.closes))
 
-abbrev pub IsAnswered : List ℕ → Content → Result Target UriFault → Request → Answer → Type 0
+abbrev pub IsAnswered : List ℕ → Stock → Result Target UriFault → Request → Answer → Type 0
 IsAnswered root c (Err fault) request a = a ≡ unchanged (plain (fault_status fault) request.closes)
 IsAnswered root c (Ok target) request a = ByTarget root c target (method_of request.method) request a
 
 -- the answer to a request, under this root, where this is held, by the answer that its target has
-abbrev pub IsAnswer : List ℕ → Content → Request → Answer → Type 0
+abbrev pub IsAnswer : List ℕ → Stock → Request → Answer → Type 0
 IsAnswer root c request a = (read : Result Target UriFault) × TargetAnswer root request.target read × IsAnswered root c read request a

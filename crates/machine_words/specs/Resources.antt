@@ -11,11 +11,11 @@ use Rattle.doc_names.specs.declared.doc_id.Home.{Home}
 use Rattle.doc_names.specs.declared.doc_id.Home.TheVariants.{Global, User}
 use Rattle.doc_names.specs.declared.doc_id.DocId.{DocId}
 use Rattle.store_core.specs.Changing.{document_in, held_name}
-use Rattle.store_core.specs.Held.{Content, Held}
+use Rattle.store_core.specs.Held.{Held, Stock}
 use Rattle.store_core.specs.Indexes.{AreIndexTrees, index}
 
 -- the tree and the tag that the document of this name has now, if it is held
-abbrev pub version_of : Content → DocId → Option (Tree × ℕ)
+abbrev pub version_of : Stock → DocId → Option (Tree × ℕ)
 version_of c id = option_map {U = Tree × ℕ} (λ (h : Held). (h.tree, h.tag)) (document_in held_name c.documents id)
 
 -- nothing; a computed document that would be longer than the limit; or a document with its tag
@@ -32,21 +32,21 @@ abbrev pub if_within_limit : Tree → ℕ → Resource
 if_within_limit t tag = if nat_lt index_limit (document_len t) then beyond_limit else there t tag
 
 -- the index of services of what is held
-abbrev pub IsIndexOfServices : Content → Tree → Type 0
+abbrev pub IsIndexOfServices : Stock → Tree → Type 0
 IsIndexOfServices c root = (trees : List Tree) × AreIndexTrees c trees × (root ≡ index_of_documents trees)
 
 -- under `global` there are the index of services, whose tag is the last number given, and the capabilities with the tag 0
-abbrev pub LeadsUnderGlobal : Content → Auid → Bool → Resource → Type 0
+abbrev pub LeadsUnderGlobal : Stock → Auid → Bool → Resource → Type 0
 LeadsUnderGlobal c ResourceLists is_index r = r ≡ absent
 LeadsUnderGlobal c RlsServices false r = r ≡ absent
 LeadsUnderGlobal c RlsServices true r = (root : Tree) × IsIndexOfServices c root × (r ≡ if_within_limit root (c.next - 1))
 LeadsUnderGlobal c XcapCaps false r = r ≡ absent
 LeadsUnderGlobal c XcapCaps true r = r ≡ there capabilities 0
 
-abbrev pub LeadsFrom : Content → DocId → Home → Resource → Type 0
+abbrev pub LeadsFrom : Stock → DocId → Home → Resource → Type 0
 LeadsFrom c id Global r = LeadsUnderGlobal c id.auid (bytes_eq id.name index) r
 LeadsFrom c id (User xui) r = r ≡ if_held (version_of c id)
 
 -- what the name of a document leads to
-abbrev pub LeadsTo : Content → DocId → Resource → Type 0
+abbrev pub LeadsTo : Stock → DocId → Resource → Type 0
 LeadsTo c id r = LeadsFrom c id id.home r

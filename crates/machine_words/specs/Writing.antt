@@ -4,6 +4,7 @@ use Rattle.std.specs.Prelude.{◌≡◌, ℕ, Bool, true, false, List, [], ◌++
 use Rattle.std.specs.Bool.{MatchBool}
 use Rattle.xml_tree.specs.PathTexts.{path_text}
 use Rattle.xml_tree.specs.Tree.{Tree}
+use Rattle.xml_tree.specs.Limits.{most_levels}
 use Rattle.tree_text.specs.Faults.{TextAnswer}
 use Rattle.tree_text.specs.declared.fault.TextFault.{TextFault}
 use Rattle.tree_text.specs.declared.fault.TextFault.TheVariants as texts
@@ -27,18 +28,18 @@ use Rattle.http_wire.specs.declared.request.Request.{Request}
 use Rattle.request_terms.specs.MediaTypes.{document_media, has_type}
 use Rattle.xcap_uri.specs.Ancestors.{home_uri}
 use Rattle.store_core.specs.Changing.{changing}
-use Rattle.store_core.specs.Held.{Content}
 use Rattle.store_core.specs.declared.refusal.StoreRefusal.{StoreRefusal}
 use Rattle.store_core.specs.declared.refusal.StoreRefusal.TheVariants.{ServiceTaken, TooLarge, TooMany, StoreFull, NoNumber, NoMemory}
+use Rattle.store_core.specs.Held.{Stock}
 use Rattle.machine_words.specs.Answers.{Answer, BehindConditions, unchanged, conflict, tagged}
 use Rattle.machine_words.specs.Resources.{version_of}
 
 -- ---- what stops a request that writes
 
 -- the tag of a document, if it is held
-abbrev pub tag_of : Option (Tree × ℕ) → Option ℕ
-tag_of None = None
-tag_of (Some (t, tag)) = Some tag
+abbrev pub version_tag : Option (Tree × ℕ) → Option ℕ
+version_tag None = None
+version_tag (Some (t, tag)) = Some tag
 
 -- in a usage that stores no documents nothing is written
 abbrev pub IfStored : Option Usage → Request → Answer → (Usage → Type 0) → Type 0
@@ -73,10 +74,6 @@ abbrev pub by_judgement : Option Fault → Bool → Answer → Answer
 by_judgement None closes answer = answer
 by_judgement (Some fault) closes answer = unchanged (conflict (fault_conflict fault) closes)
 
-abbrev pub PutsTree : Usage → Tree → Bool → Answer → Answer → Type 0
-PutsTree usage t closes answer a =
-    (judgement : Option Fault) × Judged usage t judgement × (a ≡ by_judgement judgement closes answer)
-
 -- ---- what the store makes of a change
 
 -- a service address that another document has is a conflict; the limits leave no room (RFC 4918, section 11.5)
@@ -89,12 +86,12 @@ refused NoNumber closes = plain 507 closes
 refused NoMemory closes = plain 503 closes
 
 -- a change that the store refuses, and one that it makes, whose note the reply goes by
-abbrev pub store_answer : DocId → Bool → (Note → Sent) → Result (Note × Content) StoreRefusal → Answer
+abbrev pub store_answer : DocId → Bool → (Note → Sent) → Result (Note × Stock) StoreRefusal → Answer
 store_answer id closes reply (Err refusal) = unchanged (refused refusal closes)
 store_answer id closes reply (Ok (note, next)) = record { reply = reply note; made = Some (id, note) }
 
 -- the answer to a change of a document
-abbrev pub change_answer : Content → DocId → Change → Bool → (Note → Sent) → Answer
+abbrev pub change_answer : Stock → DocId → Change → Bool → (Note → Sent) → Answer
 change_answer c id change closes reply = store_answer id closes reply (changing c id change)
 
 -- what is put is new, or takes the place of what was there; the document's new tag is the number of the change
@@ -109,20 +106,21 @@ put_change true t = Replace [] t
 put_change false t = CreateDocument t
 
 -- the answer to a tree that may be the document
-abbrev pub put_answer : Content → DocId → Bool → Tree → Answer
+abbrev pub put_answer : Stock → DocId → Bool → Tree → Answer
 put_answer c id closes t =
     let exists = is_some (version_of c id) in
     change_answer c id (put_change exists t) closes (put_reply exists closes)
 
--- the answer to a text, which spells a tree or has a fault
+-- the answer to a text, which spells a tree, with its one judgement, or has a fault
 abbrev pub PutsText : Usage → Result Tree TextFault → Bool → (Tree → Answer) → Answer → Type 0
 PutsText usage (Err fault) closes answer a = a ≡ unchanged (conflict (text_conflict conflicts.NotWellFormed fault) closes)
-PutsText usage (Ok t) closes answer a = PutsTree usage t closes (answer t) a
+PutsText usage (Ok t) closes answer a =
+    (judgement : Option Fault) × Judged usage t judgement × (a ≡ by_judgement judgement closes (answer t))
 
--- the answer to a body, by the tree of at most 64 levels that its text spells, or by the text's fault
+-- the answer to a body, by the tree of at most `most_levels` levels that its text spells, or by the text's fault
 abbrev pub PutsSpelled : Usage → Request → (Tree → Answer) → Answer → Type 0
 PutsSpelled usage request answer a =
-    (read : Result Tree TextFault) × TextAnswer 64 [] request.body read × PutsText usage read request.closes answer a
+    (read : Result Tree TextFault) × TextAnswer most_levels [] request.body read × PutsText usage read request.closes answer a
 
 -- the body is of the usage's media type
 abbrev pub PutsBody : Usage → Media → Request → (Tree → Answer) → Answer → Type 0
@@ -131,9 +129,9 @@ PutsBody usage media request answer a =
     (PutsSpelled usage request answer a)
     (a ≡ unchanged (plain 415 request.closes))
 
-abbrev pub PutsDocument : Content → DocId → Usage → Request → Answer → Type 0
+abbrev pub PutsDocument : Stock → DocId → Usage → Request → Answer → Type 0
 PutsDocument c id usage request a =
-    BehindConditions request (tag_of (version_of c id)) (is_some (version_of c id)) false a
+    BehindConditions request (version_tag (version_of c id)) (is_some (version_of c id)) false a
     (PutsBody usage (document_media id.auid) request (put_answer c id request.closes) a)
 
 -- no document lies deeper than a home's own (RFC 4825, section 8.2.1)
@@ -147,10 +145,10 @@ abbrev pub deleted_reply : Bool → Note → Sent
 deleted_reply closes note = plain 200 closes
 
 -- a document that is held, or not
-abbrev pub DeletesDocumentIn : Content → DocId → Option (Tree × ℕ) → Request → Answer → Type 0
+abbrev pub DeletesDocumentIn : Stock → DocId → Option (Tree × ℕ) → Request → Answer → Type 0
 DeletesDocumentIn c id None request a = a ≡ unchanged (plain 404 request.closes)
 DeletesDocumentIn c id (Some (t, tag)) request a =
     BehindConditions request (Some tag) true false a (a ≡ change_answer c id RemoveDocument request.closes (deleted_reply request.closes))
 
-abbrev pub DeletesDocument : Content → DocId → Request → Answer → Type 0
+abbrev pub DeletesDocument : Stock → DocId → Request → Answer → Type 0
 DeletesDocument c id request a = DeletesDocumentIn c id (version_of c id) request a

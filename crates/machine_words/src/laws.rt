@@ -4,7 +4,7 @@ ghost use Rattle.http_wire.specs.declared.request.Request.{Request};
 ghost use Rattle.notes.specs.declared.edit.Edit.{Edit};
 ghost use Rattle.reply_text.specs.Heads.{Sent};
 ghost use Rattle.request_terms.specs.Methods.{method_of};
-ghost use Rattle.store_core.specs.Held.{Content, Stands};
+ghost use Rattle.store_core.specs.Held.{Stands, Stock};
 ghost use Rattle.store_core.specs.Keeping.{Kept};
 ghost use Rattle.store_core.specs.State.{State};
 ghost use Rattle.xcap_uri.specs.Targets.{TargetAnswer};
@@ -19,11 +19,11 @@ ghost use Rattle.machine_words.specs.Laws.{AllowsOne, ChangesNothing, HasStep, t
 /// change or none. So it leaves one thing held; and from each state the machine makes exactly one
 /// step: the reply, the next state, and the edit that is told.
 pub fn each_request_has_one_answer()
-    ensures there_is_an_answer { (root : List ℕ) (c : Content) (request : Request)
+    ensures there_is_an_answer { (root : List ℕ) (c : Stock) (request : Request)
         → (a : Answer) × IsAnswer root c request a }
-    ensures answers_are_one { (root : List ℕ) (c : Content) (request : Request) (a b : Answer)
+    ensures answers_are_one { (root : List ℕ) (c : Stock) (request : Request) (a b : Answer)
         → IsAnswer root c request a → IsAnswer root c request b → a ≡ b }
-    ensures one_thing_is_held { (root : List ℕ) (c : Content) (request : Request)
+    ensures one_thing_is_held { (root : List ℕ) (c : Stock) (request : Request)
         → AllowsOne (Does root c request) }
     ensures there_is_a_step { (root : List ℕ) (m : State) (request : Request)
         → HasStep root m request }
@@ -60,14 +60,14 @@ pub fn every_state_is_kept()
 
 /// A law: a reply closes the connection exactly where its request does.
 pub fn each_reply_closes_as_its_request()
-    ensures closes_alike { (root : List ℕ) (c : Content) (request : Request) (a : Answer)
+    ensures closes_alike { (root : List ℕ) (c : Stock) (request : Request) (a : Answer)
         → IsAnswer root c request a → a.reply.closes ≡ request.closes }
 {}
 
 /// A law: where what is held stands for a kept state, what is done there is a step of the machine
 /// from that state to a kept one, and what is then held stands for that.
 pub fn what_is_held_follows_the_machine()
-    ensures stands_after_the_step { (root : List ℕ) (c next : Content) (m : State)
+    ensures stands_after_the_step { (root : List ℕ) (c next : Stock) (m : State)
         (request : Request) (reply : Sent) (edit : Option Edit)
         → Does root c request reply next edit → Kept m → Stands c m
         → (after : State) × KeptStep root m request reply after edit × Stands next after }
@@ -76,14 +76,14 @@ pub fn what_is_held_follows_the_machine()
 /// A law: after an accepted PUT the address selects exactly what was put, equal to what the body
 /// spells in its place; and the document has the tag that is told.
 pub fn what_was_put_is_there()
-    ensures is_there { (root : List ℕ) (c next : Content) (request : Request) (reply : Sent)
+    ensures is_there { (root : List ℕ) (c next : Stock) (request : Request) (reply : Sent)
         (edit : Option Edit) → Does root c request reply next edit
         → PutIsThere root c request edit next }
 {}
 
 /// A law: after an accepted DELETE the address finds nothing.
 pub fn what_was_deleted_is_gone()
-    ensures is_gone { (root : List ℕ) (c next : Content) (request : Request) (reply : Sent)
+    ensures is_gone { (root : List ℕ) (c next : Stock) (request : Request) (reply : Sent)
         (edit : Option Edit) → Does root c request reply next edit
         → DeletedIsGone root request edit next }
 {}
@@ -92,7 +92,7 @@ pub fn what_was_deleted_is_gone()
 /// tree and is answered 200; or 507, and nothing is changed, exactly where the greatest number has
 /// been given.
 pub fn a_second_put_leaves_every_tree()
-    ensures leaves_trees { (root : List ℕ) (c next : Content) (request : Request) (reply : Sent)
+    ensures leaves_trees { (root : List ℕ) (c next : Stock) (request : Request) (reply : Sent)
         (edit : Option Edit) (m : State) → Kept m → Stands c m
         → Does root c request reply next edit → SecondPutLeavesTrees root request edit next }
 {}
@@ -101,7 +101,7 @@ pub fn a_second_put_leaves_every_tree()
 /// addresses by keys select. An address that selected an element selects it where the change moves
 /// it, if it is still there and no key on the way to it is written or dropped.
 pub fn key_addresses_keep_their_elements()
-    ensures keeps_them { (root : List ℕ) (c next : Content) (request : Request) (reply : Sent)
+    ensures keeps_them { (root : List ℕ) (c next : Stock) (request : Request) (reply : Sent)
         (edit : Option Edit) (m : State) → Kept m → Stands c m
         → Does root c request reply next edit → KeyAddressesStay c edit next }
 {}

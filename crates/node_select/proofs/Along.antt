@@ -3,11 +3,11 @@ use Rattle.std.proofs.Common.{◌≡◌, ℕ, List, [], ◌∷◌, ◌++◌, Opt
 use Rattle.std.proofs.lemmas.Option.{same_Some}
 use Rattle.std.specs.Prelude.{unwrap_or}
 use Rattle.xml_tree.specs.Tree.{Tree, kids_of, at}
-use Rattle.xml_tree.specs.Scopes.{scope_at, scope_below}
+use Rattle.xml_tree.specs.Scopes.{scope_at, scope_below, inside}
 use Rattle.xml_tree.specs.declared.names.Decl.{Decl}
 use Rattle.xml_tree.proofs.ScopeLemmas.{scope_at-below}
 use Rattle.node_select.specs.declared.selector.Step.{Step}
-use Rattle.node_select.specs.Selection.{inside, SelectsChild, SelectsAmong, SelectsPath}
+use Rattle.node_select.specs.Selection.{SelectsChild, SelectsAmong, SelectsPath}
 use Rattle.node_select.specs.LastStep.{Parent}
 use Rattle.node_select.proofs.Reaching.{path_is}
 

@@ -2,8 +2,10 @@
 use Rattle.std.proofs.Common.{◌≡◌, ℕ, Bool, true, false, List, [], ◌∷◌, inl, refl, sym, ap, ◌∙◌, arith}
 use Rattle.std.specs.Prelude.{◌||◌, ◌&&◌, not, ◌==◌}
 use Rattle.std.proofs.lemmas.Bool.{eqb-true, eq-eqb}
+use Rattle.std.specs.Int.{is_in_range as within}
+use Rattle.std.specs.Char.{is_ascii_digit as is_digit, is_ascii_hexdigit as is_hex_digit}
 use Rattle.xml_tree.specs.Characters.{is_char, is_name_start, is_name_char}
-use Rattle.grammar_rules.specs.Digits.{within, is_digit, is_hex_digit, decimal, hexadecimal}
+use Rattle.grammar_rules.specs.Digits.{decimal, hexadecimal}
 use Rattle.grammar_rules.specs.Rules.{word, either, optional, before, behind, number}
 use Rattle.grammar_rules.specs.Reading.{starts, read_word, read_either, read_valued}
 use Rattle.grammar_rules.specs.Answers.{Faults}

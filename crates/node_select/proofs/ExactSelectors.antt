@@ -44,7 +44,7 @@ use Rattle.node_select.specs.readers.Raw
 use Rattle.node_select.specs.readers.Selectors as reader
 use Rattle.node_select.specs.readers.Whole as raw
 use Rattle.node_select.specs.readers.Whole.{meant, selector_read, patch_selector_read}
-use Rattle.node_select.specs.Faults.{marks, byte_of, stop_place, told, IsSelectorAnswer, IsPatchSelectorAnswer}
+use Rattle.node_select.specs.Faults.{marks, byte_of, stop_place, IsSelectorAnswer, IsPatchSelectorAnswer, selector_told as told}
 use Rattle.node_select.proofs.Agreeing.{Agrees, verdict, counted, dropped}
 use Rattle.node_select.proofs.Resolved.{selector_follows, patch_selector_follows}
 use Rattle.node_select.proofs.Judging.{judged_steps, judged_end, judged_selector, judged_patch_end, judged_patch_selector}
@@ -87,7 +87,7 @@ module _ (bindings : List Decl) (default : List ℕ) (on : Bool) where
   step = Grammar.step bindings default
 
   abbrev next_step : Rule Kind Step
-  next_step = Grammar.next_step bindings default
+  next_step = behind (word slash) step
 
   abbrev steps : Rule Kind (List Step)
   steps = Grammar.steps bindings default
@@ -422,7 +422,7 @@ module _ (bindings : List Decl) (default text : List ℕ) where
   abbrev patch_form_of : Bool → Result PatchSelector (Stop Kind)
   patch_form_of on = read_whole (judged_patch_selector bindings default on) (chars text)
 
-  raw_selector_told : (r : Result Raw.RawSelector (Stop Kind)) → raw.told bindings default text r ≡ raw_told text (Raw.selector_of bindings default) (λ n x. Raw.unbound_from bindings n x.0 (Raw.unbound_end bindings x.1)) r
+  raw_selector_told : (r : Result Raw.RawSelector (Stop Kind)) → raw.selector_told_so bindings default text r ≡ raw_told text (Raw.selector_of bindings default) (λ n x. Raw.unbound_from bindings n x.0 (Raw.unbound_end bindings x.1)) r
   raw_selector_told (Ok x) = refl
   raw_selector_told (Err stop) = refl
 

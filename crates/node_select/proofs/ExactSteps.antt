@@ -4,7 +4,7 @@ use Rattle.std.specs.Prelude.{◌&&◌, not, ◌==◌, Some}
 use Rattle.std.proofs.lemmas.List.{append_cancel_left, append-nil, length-append}
 use Rattle.xml_tree.specs.Characters.{is_name_start}
 use Rattle.xml_tree.specs.declared.names.Decl.{Decl}
-use Rattle.grammar_rules.specs.Digits.{is_digit}
+use Rattle.std.specs.Char.{is_ascii_digit as is_digit}
 use Rattle.grammar_rules.specs.Rules.{Event, Begin, Mark, Rule, word, sequence, optional, before, behind, valued, some_of}
 use Rattle.grammar_rules.specs.Reading.{head_is, starts, read_optional}
 use Rattle.grammar_rules.specs.Answers.{Faults}

@@ -15,3 +15,4 @@ pub mod LongestWays
 pub mod Resolving
 pub mod Walked
 pub mod Widths
+pub mod PatchForms

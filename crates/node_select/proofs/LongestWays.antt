@@ -3,10 +3,11 @@ use Rattle.std.proofs.Common.{◌≡◌, ℕ, suc, ◌<◌, ◌≤◌, ◌-◌, 
 use Rattle.step_laws.specs.Selection.{matches}
 use Rattle.xml_tree.specs.Tree.{Tree, kids_of}
 use Rattle.xml_tree.specs.declared.names.Decl.{Decl}
+use Rattle.xml_tree.specs.Scopes.{inside}
 use Rattle.node_select.specs.declared.leading.Reached.{Reached}
 use Rattle.node_select.specs.declared.selector.Step.{Step}
-use Rattle.node_select.specs.LongestWays.{ReachesBelow}
-use Rattle.node_select.specs.Selection.{inside, is_named, is_tested, selected_child, selected_among, depth_among, longest_in, IsLongestMatch, SelectsPath}
+use Rattle.node_select.specs.inner.LongestWays.{ReachesBelow}
+use Rattle.node_select.specs.Selection.{is_named, is_tested, selected_child, selected_among, depth_among, longest_in, IsLongestMatch, SelectsPath}
 use Rattle.node_select.proofs.Reaching.{among_next, depth_next, depth_none, longer, longest_is, path_is, sole_selected}
 
 no_step : (steps : List Step) → take 0 steps ≡ []

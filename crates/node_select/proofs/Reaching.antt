@@ -5,8 +5,9 @@ use Rattle.step_laws.specs.Selection.{Matches, Selects, matches, selected, only_
 use Rattle.step_laws.proofs.Selecting.{matches_is, selected_is}
 use Rattle.xml_tree.specs.Tree.{Tree, kids_of}
 use Rattle.xml_tree.specs.declared.names.Decl.{Decl}
+use Rattle.xml_tree.specs.Scopes.{inside}
 use Rattle.node_select.specs.declared.selector.Step.{Step}
-use Rattle.node_select.specs.Selection.{inside, is_named, is_tested, SelectsChild, SelectsAmong, SelectsPath, IsLongestMatch, selected_child, selected_among, selected_in, deeper, depth_among, longest_in}
+use Rattle.node_select.specs.Selection.{is_named, is_tested, SelectsChild, SelectsAmong, SelectsPath, IsLongestMatch, selected_child, selected_among, selected_in, deeper, depth_among, longest_in}
 
 -- ---- some children and one step
 -- what an answer says of the two steps that it came from

@@ -22,7 +22,7 @@ use Rattle.node_select.specs.Grammar
 use Rattle.node_select.specs.Grammar.{position, value, names_attribute}
 use Rattle.node_select.specs.readers.Words.{slash, star, at_sign, open_bracket, close_bracket, equals_sign, namespaces, text_test}
 use Rattle.node_select.specs.readers.Raw
-use Rattle.node_select.specs.readers.Raw.{RawStep, RawEnd, AtElement, AtAttribute, AtNamespaces, RawPatchEnd, PatchElement, PatchAttribute, PatchChars, RawSelector, RawPatchSelector, first_of, unbound_at, unbound_name, unbound_test, unbound_in, unbound_from, unbound_end, unbound_patch_end, no_end, name_test, widths, slash_width}
+use Rattle.node_select.specs.readers.Raw.{RawStep, RawEnd, AtAttribute, AtNamespaces, RawPatchEnd, PatchAttribute, PatchChars, first_of, unbound_at, unbound_name, unbound_test, unbound_in, unbound_from, unbound_end, unbound_patch_end, no_end, name_test, widths, slash_width}
 use Rattle.node_select.specs.readers.Selectors.{star_follows, read_node_name, position_follows, read_position, read_attribute, read_value, test_follows, read_test, read_step, slash_follows, step_follows, patch_step_follows, read_next_step, read_steps, attribute_follows, read_end, read_selector, read_patch_end, read_patch_selector}
 use Rattle.node_select.specs.Faults.{marks}
 use Rattle.node_select.proofs.Agreeing.{Follows, no_name, if_some, plain, name, valued, sized, left, right, either, optional, sequence, many, first_none}

@@ -10,10 +10,11 @@
 -- A rule spells what its texts mean by the bindings of their prefixes. Where a prefix isn't bound, the name says so.
 use Rattle.std.specs.Prelude.{◌≡◌, ℕ, Bool, true, not, ◌&&◌, nat_le, codes, List, [], ◌∷◌, ◌++◌, length, Option, None, Some, if◌then◌else◌}
 use Rattle.std.specs.Str.{bytes_eq}
+use Rattle.std.specs.Char.{is_ascii_digit}
 use Rattle.xml_tree.specs.Scopes.{xmlns_prefix}
 use Rattle.xml_tree.specs.declared.names.Name.{Name}
 use Rattle.xml_tree.specs.declared.names.Decl.{Decl}
-use Rattle.grammar_rules.specs.Digits.{is_digit, decimal}
+use Rattle.grammar_rules.specs.Digits.{decimal}
 use Rattle.grammar_rules.specs.Rules.{Rule, word, run, number_from, sequence, either, many, valued, only, judged, optional, between, some_of, before, behind, quoted}
 use Rattle.tree_text.specs.declared.kind.Kind.{Kind}
 use Rattle.tree_text.specs.declared.kind.Kind.TheVariants.{Unbound}
@@ -29,7 +30,7 @@ use Rattle.node_select.specs.declared.selector.Selector.{Selector}
 use Rattle.node_select.specs.declared.selector.PatchEnd.{PatchEnd}
 use Rattle.node_select.specs.declared.selector.PatchEnd.TheVariants as patch_ends
 use Rattle.node_select.specs.declared.selector.PatchSelector.{PatchSelector}
-use Rattle.node_select.specs.Names.{is_unbound, element_uri, attr_uri}
+use Rattle.node_select.specs.Names.{is_unbound, name_uri, attr_uri}
 
 -- ---- values and positions
 
@@ -56,7 +57,7 @@ position_of digits = if nat_le (number_from decimal 0 digits) greatest_position 
 
 -- "[" 1*DIGIT "]"
 abbrev pub position : Rule Kind ℕ
-position = behind (word (codes "[")) (before (valued position_of (some_of is_digit)) (word (codes "]")))
+position = behind (word (codes "[")) (before (valued position_of (some_of is_ascii_digit)) (word (codes "]")))
 
 -- `xmlns`, which declares, is no name of an attribute
 abbrev pub names_attribute : Name → Bool
@@ -93,7 +94,7 @@ module _ (bindings : List Decl) (default : List ℕ) where
   -- ---- steps
 
   abbrev pub element_test : Name → NameTest
-  element_test name = Named (element_uri bindings default name) name.local
+  element_test name = Named (name_uri bindings default name) name.local
 
   -- QName / "*"
   abbrev pub node_name : Rule Kind NameTest
@@ -114,11 +115,8 @@ module _ (bindings : List Decl) (default : List ℕ) where
   step = valued step_of (sequence (sequence node_name (λ _. optional position)) (λ _. optional test))
 
   -- step *( "/" step )
-  abbrev pub next_step : Rule Kind Step
-  next_step = behind (word (codes "/")) step
-
   abbrev pub steps : Rule Kind (List Step)
-  steps = valued first_step_of (sequence step (λ _. many next_step))
+  steps = valued first_step_of (sequence step (λ _. many (behind (word (codes "/")) step)))
 
   -- ---- selectors
 

@@ -2,6 +2,6 @@ pub mod Faults
 pub mod Grammar
 pub mod LastStep
 pub mod Names
-pub mod LongestWays
 pub mod readers
 pub mod Selection
+pub mod inner

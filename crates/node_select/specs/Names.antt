@@ -24,17 +24,9 @@ is_named_so uri local name = bytes_eq name.local local && bytes_eq (uri_of name)
 abbrev pub is_unbound : List Decl → Name → Bool
 is_unbound bindings name = not (bytes_eq name.prefix []) && is_none (prefix_uri bindings name.prefix)
 
--- the URI of a prefix that is bound
-abbrev pub uri_at : List Decl → List ℕ → List ℕ
-uri_at bindings p = unwrap_or (prefix_uri bindings p) []
-
--- that of a name, where a name without prefix has this one
+-- that of a name, where a name without prefix has this one: of an element's name the default namespace, of an attribute's none
 abbrev pub name_uri : List Decl → List ℕ → Name → List ℕ
-name_uri bindings none name = if bytes_eq name.prefix [] then none else uri_at bindings name.prefix
-
--- an element's name without prefix is in the default namespace, an attribute's is in none
-abbrev pub element_uri : List Decl → List ℕ → Name → List ℕ
-element_uri bindings default = name_uri bindings default
+name_uri bindings none name = if bytes_eq name.prefix [] then none else unwrap_or (prefix_uri bindings name.prefix) []
 
 abbrev pub attr_uri : List Decl → Name → List ℕ
 attr_uri bindings = name_uri bindings []

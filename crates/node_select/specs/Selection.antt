@@ -1,10 +1,10 @@
 -- What a selector selects in a tree. RFC 4825, section 6.3: each step must match exactly one element child.
 -- Each child is tested by itself, among its siblings; the document has the root element as its one child.
-use Rattle.std.specs.Prelude.{◌≡◌, ◌<◌, ◌≤◌, ℕ, suc, Bool, true, ◌&&◌, List, [], ◌∷◌, ◌++◌, Option, None, Some, IsTrue, length, take, slice_get, option_map, option_and_then, if◌then◌else◌}
+use Rattle.std.specs.Prelude.{◌≡◌, ◌<◌, ◌≤◌, ℕ, suc, Bool, true, ◌&&◌, List, [], ◌∷◌, Option, None, Some, IsTrue, length, take, slice_get, option_map, option_and_then, if◌then◌else◌}
 use Rattle.std.specs.List.{list_any}
 use Rattle.std.specs.Str.{bytes_eq}
 use Rattle.xml_tree.specs.Tree.{Tree, kids_of, at}
-use Rattle.xml_tree.specs.Scopes.{scope_at}
+use Rattle.xml_tree.specs.Scopes.{scope_at, inside}
 use Rattle.xml_tree.specs.Expanded.{Expanded, element_name, attr_name}
 use Rattle.xml_tree.specs.declared.names.Decl.{Decl}
 use Rattle.xml_tree.specs.declared.names.Attr.{Attr}
@@ -19,10 +19,6 @@ use Rattle.node_select.specs.declared.selector.Selector.{Selector}
 use Rattle.node_select.specs.Names.{is_named_so}
 
 -- ---- the two tests of a child, which stands in the scope of its parent
-
--- the scope at a child: its own declarations are the innermost
-abbrev pub inside : List (List Decl) → Tree → List (List Decl)
-inside c kid = c ++ kid.decls ∷ []
 
 -- whether a name passes the name test
 abbrev pub passes : NameTest → Expanded → Bool

@@ -17,7 +17,7 @@ pub struct Bindings {
 impl Model for Bindings {
     ghost use Rattle.std.specs.Prelude.{List};
     ghost use Rattle.xml_tree.specs.declared.names.Decl.{Decl};
-    ghost use Rattle.xml_tree.specs.Tree.{decls_code};
+    ghost use Rattle.xml_tree.specs.inner.Codes.{decls_code};
 
     ghost Value = { List Decl };
 

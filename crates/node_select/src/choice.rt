@@ -1,5 +1,6 @@
 //! Which child of an element a step selects, and which attribute a name means.
-ghost use Rattle.std.specs.Prelude.{◌≡◌, ◌<◌, ◌+◌, ◌++◌, ◌^◌, [], map, chars, position, cond, Some};
+ghost use Rattle.std.specs.Prelude.{◌≡◌, ◌↔◌, ◌<◌, ◌+◌, ◌++◌, ◌^◌, [], IsTrue, map, chars, position, cond, Some};
+ghost use Rattle.xml_tree.specs.Scopes.{inside};
 ghost use Rattle.std.specs.List.{find};
 ghost use Rattle.std.specs.Option.{option_copied};
 ghost use Rattle.std.specs.Str.{bytes_eq};
@@ -7,7 +8,7 @@ ghost use Rattle.xml_tree.specs.Tree.{kids_of};
 ghost use Rattle.xml_tree.specs.Expanded.{element_name, attr_name};
 ghost use Rattle.step_laws.specs.Selection.{is_at_position, child_matches};
 ghost use Rattle.node_select.specs.Names.{is_named_so, uri_of};
-ghost use Rattle.node_select.specs.Selection.{has_asked, is_asked, is_attr, is_named, is_tested, inside, selected_child};
+ghost use Rattle.node_select.specs.Selection.{has_asked, is_asked, is_attr, is_named, is_tested, selected_child};
 
 use crate::selector::{AttrTest, NameTest, Step};
 use std::alloc::Global;
@@ -86,9 +87,10 @@ pub(crate) fn no_uri() -> &'static str
     ""
 }
 
-// Whether two texts have the same characters.
-fn same_text(a: &str, b: &str) -> bool
+/// Whether two texts have the same characters.
+pub fn same_text(a: &str, b: &str) -> bool
     ensures tells_equal_characters { result ≡ bytes_eq (chars a.now) (chars b.now) }
+    ensures holds_for_equal_texts { IsTrue result ↔ (chars a.now ≡ chars b.now) }
 {
     a == b
 }
@@ -179,8 +181,8 @@ fn has_asked(scope: &Around<'_>, test: &AttrTest, attrs: &[Attr]) -> bool
     attrs.iter().any(|attr| is_asked(scope, test, attr))
 }
 
-// Whether one that has so many before it is at the position.
-fn is_at_position(position: Option<u64>, before: u64) -> bool
+/// Whether one that has so many before it is at the position.
+pub fn is_at_position(position: Option<u64>, before: u64) -> bool
     requires { before + 1 < 2 ^ 64 }
     ensures tells_whether_it_is_at_the_position { result ≡ is_at_position position before }
 {
@@ -201,8 +203,29 @@ pub(crate) fn is_match(
     requires { before + 1 < 2 ^ 64 }
     ensures tells_whether_it_matches { result ≡ child_matches (is_named scope.now step.now) (is_tested scope.now step.now) step.now.position before (Some kid.now) }
 {
-    is_named(alloc, scope, step, kid)
-        && (is_at_position(step.position, before) && is_tested(alloc, scope, step, kid))
+    is_match_if(
+        alloc,
+        scope,
+        step,
+        kid,
+        before,
+        is_named(alloc, scope, step, kid),
+    )
+}
+
+// The same, where it was told whether the element has the step's name.
+fn is_match_if(
+    alloc: Global,
+    scope: &Around<'_>,
+    step: &Step,
+    kid: &Element,
+    before: u64,
+    named: bool,
+) -> bool
+    requires { before + 1 < 2 ^ 64 }
+    ensures tells_whether_it_matches { result ≡ child_matches (λ _. named) (is_tested scope.now step.now) step.now.position before (Some kid.now) }
+{
+    named && (is_at_position(step.position, before) && is_tested(alloc, scope, step, kid))
 }
 
 // One more, if it is.
@@ -227,13 +250,14 @@ pub(crate) fn select_child(
     let mut i: usize = 0;
     for node in element.nodes() {
         if let Node::Elem(kid) = node {
-            if is_match(alloc, scope, step, kid, before) {
+            let named = is_named(alloc, scope, step, kid);
+            if is_match_if(alloc, scope, step, kid, before, named) {
                 if found.is_some() {
                     return None;
                 }
                 found = Some(i);
             }
-            before = count(before, is_named(alloc, scope, step, kid));
+            before = count(before, named);
             i += 1;
         }
     }

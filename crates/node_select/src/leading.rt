@@ -1,7 +1,7 @@
 //! How far the steps of a selector lead, in one descent.
 ghost use Rattle.std.specs.Prelude.{◌≡◌, ◌<◌, ◌≤◌, ◌+◌, ◌∷◌, [], length, take};
 ghost use Rattle.xml_tree.specs.Tree.{height, kids_of};
-ghost use Rattle.node_select.specs.LongestWays.{ReachesBelow};
+ghost use Rattle.node_select.specs.inner.LongestWays.{ReachesBelow};
 ghost use Rattle.node_select.specs.Selection.{IsLongestMatch, SelectsPath};
 
 use crate::choice::{declared_in, is_match, select_child};

@@ -18,11 +18,13 @@ mod selector;
 mod steps;
 
 pub use bindings::Bindings;
-pub use choice::{attr_in, find_attr};
+pub use choice::{attr_in, find_attr, is_at_position, same_text};
 pub use fault::SelectorFault;
 pub use laws::paths;
 pub use leading::{Reached, reach};
-pub use reading::{read_patch_selector, read_selector};
-pub use reading_laws::{patch_selectors_have_one_answer, selectors_have_one_answer};
+pub use reading::{read_patch_form, read_patch_selector, read_selector};
+pub use reading_laws::{
+    patch_forms_have_one_answer, patch_selectors_have_one_answer, selectors_have_one_answer,
+};
 pub use selecting::{longest_match, select, select_steps};
-pub use selector::{AttrTest, End, NameTest, PatchEnd, PatchSelector, Selector, Step};
+pub use selector::{AttrTest, End, NameTest, PatchEnd, PatchForm, PatchSelector, Selector, Step};

@@ -1,28 +1,21 @@
 //! Reading selectors.
 ghost use Rattle.std.specs.Prelude.{◌≡◌, ◌+◌, ◌-◌, ◌<◌, ◌^◌, length, map, IfOk, chars, encode_utf8_all};
 ghost use Rattle.tree_text.specs.Memory.{Answered};
-ghost use Rattle.node_select.specs.Faults.{IsPatchSelectorAnswer, IsSelectorAnswer, byte_of};
+ghost use Rattle.node_select.specs.Faults.{IsPatchFormAnswer, IsPatchSelectorAnswer, IsSelectorAnswer, byte_of};
 ghost use Rattle.node_select.specs.readers.Raw.{HasRoom, first_unbound, first_unbound_in_patch, patch_selector_of, selector_of};
-ghost use Rattle.node_select.specs.readers.Views.{patch_selector_in, selector_in, step_in};
+ghost use Rattle.node_select.specs.readers.Views.{patch_end_in, patch_selector_in, selector_in, step_in};
 ghost use Rattle.node_select.specs.readers.Resolving.{Means};
 ghost use Rattle.node_select.specs.readers.Stops.{Tells, TellsUnresolved};
-ghost use Rattle.node_select.specs.readers.Whole.{patch_selector_read, selector_read};
+ghost use Rattle.node_select.specs.readers.Whole.{patch_form_read, patch_selector_read, raw_form_of, selector_read};
 
 use crate::bindings::Bindings;
 use crate::fault::SelectorFault;
 use crate::forms::{raw_patch_selector, raw_selector};
 use crate::meaning::{Unresolved, end, patch_end, steps};
-use crate::raw::{RawPatchSelector, RawSelector};
-use crate::selector::{PatchSelector, Selector};
+use crate::raw::{RawPatchEnd, RawPatchSelector, RawSelector};
+use crate::selector::{PatchForm, PatchSelector, Selector};
 use std::alloc::{AllocError, Global};
-use tree_text::{ReadError, Stop};
-
-// The characters of a text.
-fn decoded(alloc: Global, text: &str) -> Result<Vec<char>, AllocError>
-    ensures characters_of_the_text { IfOk result (λ all. all.items ≡ chars text.now) }
-{
-    text.chars().collect(alloc)
-}
+use tree_text::{ReadError, Stop, decoded};
 
 // How many bytes characters take.
 #[tactic(auto, using(crate::proofs::Bytes::bytes_more))]
@@ -147,6 +140,30 @@ fn patch_selector_of_text(
     }
 }
 
+// What the end of a selector is.
+fn form_of(end: &RawPatchEnd<'_>) -> PatchForm
+    ensures form_of_the_end { result ≡ raw_form_of (patch_end_in end.now) }
+{
+    match end {
+        RawPatchEnd::Element => PatchForm::Element,
+        RawPatchEnd::Attribute(_) => PatchForm::Attribute,
+        RawPatchEnd::Chars(_) => PatchForm::Chars,
+    }
+}
+
+// What a text ends in, as the selector of a patch.
+fn form_of_text(alloc: Global, text: &str) -> Result<Option<PatchForm>, AllocError>
+    ensures form_as_it_is_read { IfOk result (λ form. form ≡ patch_form_read text.now) }
+{
+    let all = decoded(alloc, text)?;
+    match raw_patch_selector(alloc, &all) {
+        Ok(raw) => Ok(Some(form_of(&raw.end))),
+        Err(Stop::Syntax(_)) => Ok(None),
+        Err(Stop::Faulty(_, _)) => Ok(None),
+        Err(Stop::Memory) => Err(AllocError),
+    }
+}
+
 /// The selector that a text spells (RFC 4825, section 6.3). An element's name without prefix is in the namespace `default_uri`, an attribute's
 /// is in none.
 ///
@@ -178,4 +195,16 @@ pub fn read_patch_selector(
     ensures answer_by_the_grammar { Answered (IsPatchSelectorAnswer bindings.now (chars default_uri.now) text.now) result }
 {
     patch_selector_of_text(alloc, text, bindings, default_uri)
+}
+
+/// What the selector of a patch operation that a text spells ends in, told by the text alone: an
+/// element, an attribute or a text (RFC 5261, section 4.1), whether its prefixes are bound or not.
+/// Nothing where it spells none.
+///
+/// # Errors
+/// Want of memory.
+pub fn read_patch_form(alloc: Global, text: &str) -> Result<Option<PatchForm>, AllocError>
+    ensures answer_by_the_grammar { IfOk result (IsPatchFormAnswer text.now) }
+{
+    form_of_text(alloc, text)
 }

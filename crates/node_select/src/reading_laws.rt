@@ -1,11 +1,12 @@
 //! Laws of what is read, each the contract of a function that does nothing.
-ghost use Rattle.std.specs.Prelude.{◌≡◌, ℕ, List, Result};
+ghost use Rattle.std.specs.Prelude.{◌≡◌, ℕ, List, Option, Result};
 ghost use Rattle.xml_tree.specs.declared.names.Decl.{Decl};
-ghost use Rattle.node_select.specs.Faults.{IsPatchSelectorAnswer, IsSelectorAnswer};
+ghost use Rattle.node_select.specs.Faults.{IsPatchFormAnswer, IsPatchSelectorAnswer, IsSelectorAnswer};
 ghost use Rattle.node_select.specs.declared.fault.SelectorFault.{SelectorFault};
+ghost use Rattle.node_select.specs.declared.selector.PatchForm.{PatchForm};
 ghost use Rattle.node_select.specs.declared.selector.PatchSelector.{PatchSelector};
 ghost use Rattle.node_select.specs.declared.selector.Selector.{Selector};
-ghost use Rattle.node_select.specs.readers.Whole.{patch_selector_read, selector_read};
+ghost use Rattle.node_select.specs.readers.Whole.{patch_form_read, patch_selector_read, selector_read};
 
 /// By the grammar each text has one answer, with any bindings and any namespace of unprefixed elements: the selector that it spells, or its one
 /// fault (RFC 4825, section 6.3). It is what reading from left to right gives.
@@ -20,4 +21,10 @@ pub fn patch_selectors_have_one_answer()
     ensures what_is_read_is_the_answer { (bindings : List Decl) (default text : List ℕ) → IsPatchSelectorAnswer bindings default text (patch_selector_read bindings default text) }
     ensures there_is_no_other { (bindings : List Decl) (default text : List ℕ) (a b : Result PatchSelector SelectorFault)
         → IsPatchSelectorAnswer bindings default text a → IsPatchSelectorAnswer bindings default text b → a ≡ b }
+{}
+
+/// And of what the selector of a patch ends in, whatever prefixes are bound.
+pub fn patch_forms_have_one_answer()
+    ensures what_is_read_is_the_answer { (text : List ℕ) → IsPatchFormAnswer text (patch_form_read text) }
+    ensures there_is_no_other { (text : List ℕ) (a b : Option PatchForm) → IsPatchFormAnswer text a → IsPatchFormAnswer text b → a ≡ b }
 {}

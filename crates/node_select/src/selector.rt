@@ -54,6 +54,15 @@ pub enum PatchEnd {
     Chars(Option<u64>),
 }
 
+/// What a patch operation's selector ends in, whatever its names mean.
+#[derive(Clone, Copy, Debug, Drop, PartialEq, Eq)]
+pub enum PatchForm {
+    /// Its steps: it selects an element.
+    Element,
+    Attribute,
+    Chars,
+}
+
 /// A selector of a patch operation.
 #[derive(Debug, Drop)]
 pub struct PatchSelector {

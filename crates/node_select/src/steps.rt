@@ -2,7 +2,7 @@
 ghost use Rattle.std.specs.Prelude.{◌≡◌, ◌+◌, ◌-◌, ◌<◌, ◌^◌, ◌++◌, ◌∷◌, map, Some, option_map, OnOk, Ok};
 ghost use Rattle.grammar_rules.specs.Digits.{decimal};
 ghost use Rattle.std.specs.Str.{bytes_eq};
-ghost use Rattle.grammar_rules.specs.Reading.{starts, read_optional, read_sequence};
+ghost use Rattle.grammar_rules.specs.Reading.{read_optional, read_sequence};
 ghost use Rattle.tree_text.specs.readers.Gives.{Gives};
 ghost use Rattle.tree_text.specs.readers.Views.{name_in};
 ghost use Rattle.node_select.specs.Grammar.{position_of, names_attribute};
@@ -12,7 +12,8 @@ ghost use Rattle.node_select.specs.readers.Views.{follows_in, step_in, test_in};
 use crate::raw::{Form, RawStep, RawTest};
 use std::alloc::{AllocError, Global};
 use tree_text::{
-    Stop, Written, digits, no_text, qname, quote, raw_run, reference, reference_follows, word,
+    Stop, Written, digits, no_text, qname, quote, raw_run, reference, reference_follows, starts,
+    word,
 };
 use xml_tree::Text;
 
@@ -236,20 +237,6 @@ fn step_follows(text: &[char], form: Form) -> bool
     }
 }
 
-// Whether a text begins with a word.
-fn begins_with(text: &[char], word: &[char]) -> bool
-    ensures tells_whether_it_begins_with_the_word { result ≡ starts word.now text.now }
-{
-    let mut rest = text;
-    for &expected in word {
-        match rest {
-            [found, after @ ..] if *found == expected => rest = after,
-            _ => return false,
-        }
-    }
-    true
-}
-
 /// Whether a slash follows.
 pub fn slash_follows(text: &[char]) -> bool
     ensures tells_whether_a_slash_follows { result ≡ slash_follows text.now }
@@ -262,8 +249,8 @@ fn node_step_follows(text: &[char]) -> bool
     ensures tells_whether_a_node_step_follows { result ≡ follows_in Form.Node text.now }
 {
     slash_follows(text)
-        && !(begins_with(text, &['/', '@'])
-            || begins_with(
+        && !(starts(text, &['/', '@'])
+            || starts(
                 text,
                 &['/', 'n', 'a', 'm', 'e', 's', 'p', 'a', 'c', 'e', ':', ':'],
             ))
@@ -274,7 +261,7 @@ fn patch_step_follows(text: &[char]) -> bool
     ensures tells_whether_a_patch_step_follows { result ≡ follows_in Form.Patch text.now }
 {
     slash_follows(text)
-        && !(begins_with(text, &['/', '@']) || begins_with(text, &['/', 't', 'e', 'x', 't', '(']))
+        && !(starts(text, &['/', '@']) || starts(text, &['/', 't', 'e', 'x', 't', '(']))
 }
 
 /// Steps, and what follows them.

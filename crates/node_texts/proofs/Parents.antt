@@ -5,7 +5,8 @@ use Rattle.std.specs.List.{slice_get}
 use Rattle.std.specs.Option.{option_and_then, option_map}
 use Rattle.xml_tree.specs.Tree.{Tree, kids_of}
 use Rattle.xml_tree.specs.declared.names.Decl.{Decl}
-use Rattle.node_select.specs.Selection.{inside, selected_among, selected_child, selected_in}
+use Rattle.xml_tree.specs.Scopes.{inside}
+use Rattle.node_select.specs.Selection.{selected_among, selected_child, selected_in}
 use Rattle.node_select.specs.declared.selector.Step.{Step}
 use Rattle.node_texts.specs.Places.{but_last, element_has_place}
 

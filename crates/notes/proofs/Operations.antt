@@ -1,7 +1,7 @@
 -- The length of each operation's text, from the lengths of its parts.
 use Rattle.std.proofs.Common.{◌≡◌, ℕ, zero, suc, ◌+◌, ◌-◌, Bool, true, false, codes, List, [], ◌∷◌, ◌++◌, flat_map, refl, ap, ◌∙◌, append-nil, min, arith}
 use lib.Utf8.{encode}
-use Rattle.xml_tree.specs.Tree.{last, Tree}
+use Rattle.xml_tree.specs.Tree.{last, Tree, of_kids}
 use Rattle.xml_tree.specs.declared.names.Name.{Name}
 use Rattle.xml_tree.specs.declared.names.Decl.{Decl}
 use Rattle.xml_tree.specs.declared.names.Attr.{Attr}
@@ -9,9 +9,10 @@ use Rattle.xml_tree.specs.Print.{byte_len, print, print_attr, print_content, pri
 use Rattle.xml_tree.proofs.PrintLengths.{ascii, byte_len-append, byte_len-attr, byte_len-closing, byte_len-opening}
 use Rattle.xml_tree.proofs.PrintedNodes.{byte_len-bare, byte_len-whole}
 use Rattle.xml_tree.specs.PathTexts.{path_text, steps_text}
+use Rattle.xml_tree.specs.Expanded.{name_of as in_diff}
 use Rattle.edit_ops.specs.declared.change.Change.TheVariants.{Insert, Replace, Remove, SetAttr, DropAttr}
-use Rattle.notes.specs.Operations.{alone, attr_name_text, attr_path_text, gap_attrs, in_diff, operation_of, plain, pos_attr, sel_attr, told, type_attr}
-use Rattle.notes.specs.Lengths.{bare_len, filled_len, valued_len, written_len}
+use Rattle.notes.specs.Operations.{attr_name_text, attr_path_text, gap_attrs, operation_of, sel_attr, change_told as told, plain_attr as plain}
+use Rattle.notes.specs.inner.Lengths.{bare_len, filled_len, valued_len, written_len}
 use Rattle.notes.proofs.Values.{written-append, written-path, written-quoted, written-steps}
 
 -- ---- attributes
@@ -32,15 +33,15 @@ sel v = let word : byte_len (codes "sel") ≡ 3 = refl in omega (arith, word, at
 sel-alone : (v : List ℕ) → byte_len (flat_map print_attr (sel_attr v ∷ [])) ≡ written_len v + 7
 sel-alone v = one (sel_attr v) ∙ sel v
 
-prepend : byte_len (print_attr (pos_attr (codes "prepend"))) ≡ 14
+prepend : byte_len (print_attr (plain (codes "pos") (codes "prepend"))) ≡ 14
 unfolding encode
 prepend = refl
 
-after : byte_len (print_attr (pos_attr (codes "after"))) ≡ 12
+after : byte_len (print_attr (plain (codes "pos") (codes "after"))) ≡ 12
 unfolding encode
 after = refl
 
-type-of : (n : Name) → byte_len (print_attr (type_attr (attr_name_text n))) ≡ written_len (print_name n) + 9
+type-of : (n : Name) → byte_len (print_attr (plain (codes "type") (attr_name_text n))) ≡ written_len (print_name n) + 9
 unfolding encode
 type-of n =
     let word : byte_len (codes "type") ≡ 4 = refl in
@@ -55,13 +56,13 @@ attr-path p n =
     omega (arith, slash, mark, written-append (path_text p) (codes "/" ++ attr_name_text n), written-append (codes "/") (attr_name_text n), written-append (codes "@") (print_name n))
 
 pub gap-first : (p : List ℕ) → byte_len (flat_map print_attr (gap_attrs p zero)) ≡ written_len (path_text p) + 21
-gap-first p = omega (arith, two (sel_attr (path_text p)) (pos_attr (codes "prepend")), sel (path_text p), prepend)
+gap-first p = omega (arith, two (sel_attr (path_text p)) (plain (codes "pos") (codes "prepend")), sel (path_text p), prepend)
 
 pub gap-behind : (p : List ℕ) (j : ℕ) → byte_len (flat_map print_attr (gap_attrs p (suc j))) ≡ written_len (path_text p) + written_len (steps_text (j ∷ [])) + 19
 gap-behind p j =
     let whole = written-path (p ++ j ∷ []) in
     let steps = written-steps p (j ∷ []) in
-    omega (arith, two (sel_attr (path_text (p ++ j ∷ []))) (pos_attr (codes "after")), sel (path_text (p ++ j ∷ [])), after, whole, steps, written-path p)
+    omega (arith, two (sel_attr (path_text (p ++ j ∷ []))) (plain (codes "pos") (codes "after")), sel (path_text (p ++ j ∷ [])), after, whole, steps, written-path p)
 
 pub gap-later : (p : List ℕ) (g : ℕ) → (g ≡ 0 → ⊥) → byte_len (flat_map print_attr (gap_attrs p g)) ≡ written_len (path_text p) + written_len (steps_text ((g - 1) ∷ [])) + 19
 gap-later p zero h = absurd (h refl)
@@ -83,12 +84,12 @@ bare w ds ats =
     omega (arith, whole, begins, tag w)
 
 filled : (w : List ℕ) (ds : List Decl) (ats : List Attr) (e : Tree)
-    → byte_len (print (operation_of (codes "d") ds w ats (alone e))) ≡ filled_len (byte_len w) (byte_len (flat_map print_decl ds)) (byte_len (flat_map print_attr ats)) (byte_len (print e))
+    → byte_len (print (operation_of (codes "d") ds w ats (of_kids (e ∷ [])))) ≡ filled_len (byte_len w) (byte_len (flat_map print_decl ds)) (byte_len (flat_map print_attr ats)) (byte_len (print e))
 filled w ds ats e =
-    let whole = byte_len-whole (operation_of (codes "d") ds w ats (alone e)) refl in
+    let whole = byte_len-whole (operation_of (codes "d") ds w ats (of_kids (e ∷ []))) refl in
     let begins = byte_len-opening (in_diff (codes "d") w) ds ats in
     let ends = byte_len-closing (in_diff (codes "d") w) in
-    let inside : byte_len (print_content (alone e)) ≡ byte_len (print e) = ap byte_len (append-nil (print e)) in
+    let inside : byte_len (print_content (of_kids (e ∷ []))) ≡ byte_len (print e) = ap byte_len (append-nil (print e)) in
     omega (arith, whole, begins, ends, inside, tag w)
 
 valued : (w : List ℕ) (ds : List Decl) (ats : List Attr) (v : List ℕ)
@@ -133,10 +134,10 @@ pub addition : (ds : List Decl) (p : List ℕ) (n : Name) (v : List ℕ)
     → byte_len (print (told (codes "d") ds true (SetAttr p n v))) ≡ valued_len 3 (byte_len (flat_map print_decl ds)) (written_len (path_text p) + written_len (print_name n) + 16) v
 unfolding encode
 addition ds p n v =
-    let attrs = two (sel_attr (path_text p)) (type_attr (attr_name_text n)) in
-    let both : byte_len (flat_map print_attr (sel_attr (path_text p) ∷ type_attr (attr_name_text n) ∷ [])) ≡ written_len (path_text p) + written_len (print_name n) + 16
+    let attrs = two (sel_attr (path_text p)) (plain (codes "type") (attr_name_text n)) in
+    let both : byte_len (flat_map print_attr (sel_attr (path_text p) ∷ plain (codes "type") (attr_name_text n) ∷ [])) ≡ written_len (path_text p) + written_len (print_name n) + 16
     = omega (arith, attrs, sel (path_text p), type-of n) in
-    valued (codes "add") ds (sel_attr (path_text p) ∷ type_attr (attr_name_text n) ∷ []) v ∙ ap (λ k. valued_len 3 (byte_len (flat_map print_decl ds)) k v) both
+    valued (codes "add") ds (sel_attr (path_text p) ∷ plain (codes "type") (attr_name_text n) ∷ []) v ∙ ap (λ k. valued_len 3 (byte_len (flat_map print_decl ds)) k v) both
 
 -- ---- sums that stop at the greatest number m
 

@@ -7,11 +7,11 @@ use Rattle.std.proofs.lemmas.Grind.{flat_map-append}
 use Rattle.std.specs.Cmp.Lexicographic.{bytes_decides}
 use Rattle.std.specs.Fmt.{decimal}
 use Rattle.xml_tree.specs.declared.names.Name.{Name}
-use Rattle.xml_tree.specs.Print.{byte_len, print_name, quoted, value_escape}
+use Rattle.xml_tree.specs.Print.{byte_len, print_name, value_escape, quoted_text as quoted}
 use Rattle.xml_tree.proofs.Escapes.{encode-value}
 use Rattle.xml_tree.proofs.PrintLengths.{ascii, byte_len-append, byte_len-quoted}
 use Rattle.xml_tree.specs.PathTexts.{path_text, steps_text}
-use Rattle.notes.specs.Lengths.{written_len}
+use Rattle.notes.specs.inner.Lengths.{written_len}
 
 pub written-append : (u v : List ℕ) → written_len (u ++ v) ≡ written_len u + written_len v
 written-append u v = ap byte_len (flat_map-append value_escape u v) ∙ byte_len-append (flat_map value_escape u) (flat_map value_escape v)

@@ -1,4 +1,4 @@
-pub mod Lengths
 pub mod Notes
 pub mod Operations
 pub mod Recorded
+pub mod inner

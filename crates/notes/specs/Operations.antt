@@ -1,37 +1,24 @@
 -- The patch operation of a note, as an element. RFC 5261, sections 4.3 to 4.5; RFC 5874, section 3 has `add`, `replace` and `remove` in its namespace.
 use Rattle.std.specs.Prelude.{ℕ, zero, suc, Bool, true, false, codes, List, [], ◌∷◌, ◌++◌}
-use Rattle.xml_tree.specs.Tree.{Content, last, more_of, Tree, tree_of}
+use Rattle.xml_tree.specs.Tree.{Content, last, Tree, tree_of, of_kids}
 use Rattle.xml_tree.specs.Print.{print, print_name, byte_len}
 use Rattle.xml_tree.specs.declared.names.Name.{Name}
 use Rattle.xml_tree.specs.declared.names.Decl.{Decl}
 use Rattle.xml_tree.specs.declared.names.Attr.{Attr}
 use Rattle.xml_tree.specs.PathTexts.{path_text}
+use Rattle.xml_tree.specs.Expanded.{name_of}
 use Rattle.edit_ops.specs.declared.change.Change.{Change}
 use Rattle.edit_ops.specs.declared.change.Change.TheVariants.{CreateDocument, Insert, Replace, Remove, SetAttr, DropAttr, RemoveDocument}
 use Rattle.notes.specs.Notes.{Note}
 
 -- ---- the parts of an operation
 
--- a name with this prefix
-abbrev pub in_diff : List ℕ → List ℕ → Name
-in_diff prefix local = record { prefix = prefix; local = local }
-
 -- an attribute without prefix
-abbrev pub plain : List ℕ → List ℕ → Attr
-plain local value = record { name = record { prefix = []; local = local }; value = value }
+abbrev pub plain_attr : List ℕ → List ℕ → Attr
+plain_attr local value = record { name = record { prefix = []; local = local }; value = value }
 
 abbrev pub sel_attr : List ℕ → Attr
-sel_attr value = plain (codes "sel") value
-
-abbrev pub pos_attr : List ℕ → Attr
-pos_attr value = plain (codes "pos") value
-
-abbrev pub type_attr : List ℕ → Attr
-type_attr value = plain (codes "type") value
-
--- an element and nothing beside it
-abbrev pub alone : Tree → Content
-alone e = more_of [] e (last [])
+sel_attr value = plain_attr (codes "sel") value
 
 -- the attribute of this name of the element at a path, as a selector; and its name as a type
 abbrev pub attr_name_text : Name → List ℕ
@@ -42,44 +29,44 @@ attr_path_text p name = path_text p ++ (codes "/" ++ attr_name_text name)
 
 -- an operation: a word in the diff's namespace, the note's bindings as declarations, attributes and content
 abbrev pub operation_of : List ℕ → List Decl → List ℕ → List Attr → Content → Tree
-operation_of prefix bindings word attrs content = tree_of (in_diff prefix word) bindings attrs content
+operation_of prefix bindings word attrs content = tree_of (name_of prefix word) bindings attrs content
 
 -- ---- the operation of a change
 
 -- where an element is put: in gap 0 before all nodes of its parent, in another directly behind the element child before it
 abbrev pub gap_attrs : List ℕ → ℕ → List Attr
-gap_attrs parent zero = sel_attr (path_text parent) ∷ pos_attr (codes "prepend") ∷ []
-gap_attrs parent (suc j) = sel_attr (path_text (parent ++ j ∷ [])) ∷ pos_attr (codes "after") ∷ []
+gap_attrs parent zero = sel_attr (path_text parent) ∷ plain_attr (codes "pos") (codes "prepend") ∷ []
+gap_attrs parent (suc j) = sel_attr (path_text (parent ++ j ∷ [])) ∷ plain_attr (codes "pos") (codes "after") ∷ []
 
 -- an attribute that is written: added where it is new, else replaced
 abbrev pub writing : List ℕ → List Decl → List ℕ → Name → List ℕ → Bool → Tree
-writing prefix bindings p name value true = operation_of prefix bindings (codes "add") (sel_attr (path_text p) ∷ type_attr (attr_name_text name) ∷ []) (last value)
+writing prefix bindings p name value true = operation_of prefix bindings (codes "add") (sel_attr (path_text p) ∷ plain_attr (codes "type") (attr_name_text name) ∷ []) (last value)
 writing prefix bindings p name value false = operation_of prefix bindings (codes "replace") (sel_attr (attr_path_text p name) ∷ []) (last value)
 
 -- the operation of a change, with the bindings of its place; a document that is made or removed has none, and an empty `remove` stands here
-abbrev pub told : List ℕ → List Decl → Bool → Change → Tree
-told prefix bindings fresh (CreateDocument root) = operation_of prefix bindings (codes "remove") [] (last [])
-told prefix bindings fresh (Insert parent gap element) = operation_of prefix bindings (codes "add") (gap_attrs parent gap) (alone element)
-told prefix bindings fresh (Replace p element) = operation_of prefix bindings (codes "replace") (sel_attr (path_text p) ∷ []) (alone element)
-told prefix bindings fresh (Remove p) = operation_of prefix bindings (codes "remove") (sel_attr (path_text p) ∷ []) (last [])
-told prefix bindings fresh (SetAttr p name value) = writing prefix bindings p name value fresh
-told prefix bindings fresh (DropAttr p name) = operation_of prefix bindings (codes "remove") (sel_attr (attr_path_text p name) ∷ []) (last [])
-told prefix bindings fresh RemoveDocument = operation_of prefix bindings (codes "remove") [] (last [])
+abbrev pub change_told : List ℕ → List Decl → Bool → Change → Tree
+change_told prefix bindings fresh (CreateDocument root) = operation_of prefix bindings (codes "remove") [] (last [])
+change_told prefix bindings fresh (Insert parent gap element) = operation_of prefix bindings (codes "add") (gap_attrs parent gap) (of_kids (element ∷ []))
+change_told prefix bindings fresh (Replace p element) = operation_of prefix bindings (codes "replace") (sel_attr (path_text p) ∷ []) (of_kids (element ∷ []))
+change_told prefix bindings fresh (Remove p) = operation_of prefix bindings (codes "remove") (sel_attr (path_text p) ∷ []) (last [])
+change_told prefix bindings fresh (SetAttr p name value) = writing prefix bindings p name value fresh
+change_told prefix bindings fresh (DropAttr p name) = operation_of prefix bindings (codes "remove") (sel_attr (attr_path_text p name) ∷ []) (last [])
+change_told prefix bindings fresh RemoveDocument = operation_of prefix bindings (codes "remove") [] (last [])
 
 -- the operation of a note, where the diff's namespace has this prefix
 abbrev pub operation : List ℕ → Note → Tree
-operation prefix n = told prefix n.bindings n.fresh n.change
+operation prefix n = change_told prefix n.bindings n.fresh n.change
 
 -- ---- how much a note weighs
 
 -- the length in bytes of the operation's text with the prefix `d`; a document that is made or removed weighs nothing
 abbrev pub weight_of : List Decl → Bool → Change → ℕ
 weight_of bindings fresh (CreateDocument root) = 0
-weight_of bindings fresh (Insert parent gap element) = byte_len (print (told (codes "d") bindings fresh (Insert parent gap element)))
-weight_of bindings fresh (Replace p element) = byte_len (print (told (codes "d") bindings fresh (Replace p element)))
-weight_of bindings fresh (Remove p) = byte_len (print (told (codes "d") bindings fresh (Remove p)))
-weight_of bindings fresh (SetAttr p name value) = byte_len (print (told (codes "d") bindings fresh (SetAttr p name value)))
-weight_of bindings fresh (DropAttr p name) = byte_len (print (told (codes "d") bindings fresh (DropAttr p name)))
+weight_of bindings fresh (Insert parent gap element) = byte_len (print (change_told (codes "d") bindings fresh (Insert parent gap element)))
+weight_of bindings fresh (Replace p element) = byte_len (print (change_told (codes "d") bindings fresh (Replace p element)))
+weight_of bindings fresh (Remove p) = byte_len (print (change_told (codes "d") bindings fresh (Remove p)))
+weight_of bindings fresh (SetAttr p name value) = byte_len (print (change_told (codes "d") bindings fresh (SetAttr p name value)))
+weight_of bindings fresh (DropAttr p name) = byte_len (print (change_told (codes "d") bindings fresh (DropAttr p name)))
 weight_of bindings fresh RemoveDocument = 0
 
 abbrev pub weight : Note → ℕ

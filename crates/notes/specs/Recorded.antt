@@ -10,8 +10,8 @@ abbrev pub note_in : EditNote → Note
 note_in n = record { previous = n.previous; next = n.next; bindings = n.bindings; change = n.change; fresh = n.fresh }
 
 -- two pieces of a list of notes as one
-abbrev pub joined : List EditNote → List EditNote → List Note
-joined older newer = map note_in (older ++ newer)
+abbrev pub all_notes : List EditNote → List EditNote → List Note
+all_notes older newer = map note_in (older ++ newer)
 
 -- the change is one of the whole document: it makes it or removes it
 abbrev pub IsOfDocument : Change → Type 0

@@ -3,7 +3,7 @@
 ghost use Rattle.std.specs.Prelude.{◌≡◌, [], ◌∷◌, min};
 ghost use Rattle.xml_tree.specs.Print.{byte_len, print_name, print_text};
 ghost use Rattle.xml_tree.specs.PathTexts.{path_text, steps_text};
-ghost use Rattle.notes.specs.Lengths.{written_len};
+ghost use Rattle.notes.specs.inner.Lengths.{written_len};
 
 use xml_tree::{Name, Path, Text};
 

@@ -1,8 +1,8 @@
 //! What a note says of the tree that its change was made in.
 ghost use Rattle.std.specs.Prelude.{◌≡◌, is_none, IfOk, IsSome};
+ghost use Rattle.xml_tree.specs.Attributes.{is_written_so};
 ghost use Rattle.xml_tree.specs.Tree.{at};
 ghost use Rattle.std.specs.List.{find, list_any};
-ghost use Rattle.xml_tree.specs.Attributes.{is_named};
 ghost use Rattle.xml_tree.specs.Edits.{attr_at};
 ghost use Rattle.xml_tree.specs.Scopes.{bindings_in, scope_around, scope_at};
 ghost use Rattle.edit_ops.specs.Changes.{Fits};
@@ -62,13 +62,13 @@ pub(crate) fn bindings_of_place(
 
 // Whether an element has an attribute of this name.
 fn has_attr(element: &Element, name: &Name) -> bool
-    ensures tells_whether_it_has_one { result ≡ list_any (is_named name.now) element.now.attrs }
+    ensures tells_whether_it_has_one { result ≡ list_any (is_written_so name.now) element.now.attrs }
 {
     element.attrs().iter().any(|attr| attr.name.same(name))
 }
 
 fn lacks_attr(element: &Element, name: &Name) -> bool
-    ensures tells_whether_it_has_none { result ≡ is_none (find (is_named name.now) element.now.attrs) }
+    ensures tells_whether_it_has_none { result ≡ is_none (find (is_written_so name.now) element.now.attrs) }
 {
     !has_attr(element, name)
 }

@@ -2,8 +2,8 @@
 ghost use Rattle.std.specs.Prelude.{◌≡◌, ◌+◌, true, false, codes, flat_map, min};
 ghost use Rattle.xml_tree.specs.Print.{byte_len, print, print_attr, print_decl};
 ghost use Rattle.edit_ops.specs.declared.change.Change.TheVariants as change;
-ghost use Rattle.notes.specs.Operations.{attr_path_text, gap_attrs, told, weight};
-ghost use Rattle.notes.specs.Lengths.{bare_len as bare_sum, filled_len as filled_sum, valued_len as valued_sum, written_len};
+ghost use Rattle.notes.specs.Operations.{attr_path_text, gap_attrs, weight, change_told};
+ghost use Rattle.notes.specs.inner.Lengths.{bare_len as bare_sum, filled_len as filled_sum, valued_len as valued_sum, written_len};
 ghost use Rattle.notes.specs.Recorded.{note_in};
 
 use crate::edit_note::EditNote;
@@ -78,20 +78,20 @@ fn gap_len(parent: &Path, gap: usize) -> usize
 }
 
 fn insertion_len(bindings: &[Decl], parent: &Path, gap: usize, element: &Element) -> usize
-    ensures counts_the_told_insertion { result ≡ min (byte_len (print (told (codes "d") bindings.now false (change.Insert parent.now gap element.now)))) usize.MAX }
+    ensures counts_the_told_insertion { result ≡ min (byte_len (print (change_told (codes "d") bindings.now false (change.Insert parent.now gap element.now)))) usize.MAX }
 {
     filled_len(ADD, bindings, gap_len(parent, gap), printed_len(element))
 }
 
 fn replacement_len(bindings: &[Decl], at: &Path, element: &Element) -> usize
-    ensures counts_the_told_replacement { result ≡ min (byte_len (print (told (codes "d") bindings.now false (change.Replace at.now element.now)))) usize.MAX }
+    ensures counts_the_told_replacement { result ≡ min (byte_len (print (change_told (codes "d") bindings.now false (change.Replace at.now element.now)))) usize.MAX }
 {
     let attrs = path_len(at).saturating_add(SEL);
     filled_len(REPLACE, bindings, attrs, printed_len(element))
 }
 
 fn removal_len(bindings: &[Decl], at: &Path) -> usize
-    ensures counts_the_told_removal { result ≡ min (byte_len (print (told (codes "d") bindings.now false (change.Remove at.now)))) usize.MAX }
+    ensures counts_the_told_removal { result ≡ min (byte_len (print (change_told (codes "d") bindings.now false (change.Remove at.now)))) usize.MAX }
 {
     let attrs = path_len(at).saturating_add(SEL);
     bare_len(REMOVE, bindings, attrs)
@@ -107,14 +107,14 @@ fn attr_len(at: &Path, name: &Name) -> usize
 }
 
 fn drop_len(bindings: &[Decl], at: &Path, name: &Name) -> usize
-    ensures counts_the_told_drop { result ≡ min (byte_len (print (told (codes "d") bindings.now false (change.DropAttr at.now name.now)))) usize.MAX }
+    ensures counts_the_told_drop { result ≡ min (byte_len (print (change_told (codes "d") bindings.now false (change.DropAttr at.now name.now)))) usize.MAX }
 {
     bare_len(REMOVE, bindings, attr_len(at, name))
 }
 
 // An attribute that is new.
 fn addition_len(bindings: &[Decl], at: &Path, name: &Name, value: &Text) -> usize
-    ensures counts_the_told_addition { result ≡ min (byte_len (print (told (codes "d") bindings.now true (change.SetAttr at.now name.now value.now)))) usize.MAX }
+    ensures counts_the_told_addition { result ≡ min (byte_len (print (change_told (codes "d") bindings.now true (change.SetAttr at.now name.now value.now)))) usize.MAX }
 {
     let attrs = path_len(at)
         .saturating_add(name_len(name))
@@ -124,13 +124,13 @@ fn addition_len(bindings: &[Decl], at: &Path, name: &Name, value: &Text) -> usiz
 
 // An attribute that was there.
 fn rewriting_len(bindings: &[Decl], at: &Path, name: &Name, value: &Text) -> usize
-    ensures counts_the_told_rewriting { result ≡ min (byte_len (print (told (codes "d") bindings.now false (change.SetAttr at.now name.now value.now)))) usize.MAX }
+    ensures counts_the_told_rewriting { result ≡ min (byte_len (print (change_told (codes "d") bindings.now false (change.SetAttr at.now name.now value.now)))) usize.MAX }
 {
     valued_len(REPLACE, bindings, attr_len(at, name), value)
 }
 
 fn writing_len(bindings: &[Decl], at: &Path, name: &Name, value: &Text, fresh: bool) -> usize
-    ensures counts_the_told_writing { result ≡ min (byte_len (print (told (codes "d") bindings.now fresh (change.SetAttr at.now name.now value.now)))) usize.MAX }
+    ensures counts_the_told_writing { result ≡ min (byte_len (print (change_told (codes "d") bindings.now fresh (change.SetAttr at.now name.now value.now)))) usize.MAX }
 {
     if fresh {
         return addition_len(bindings, at, name, value);

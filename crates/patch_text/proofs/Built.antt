@@ -5,10 +5,11 @@ use Rattle.xml_tree.specs.Tree.{Tree, last, tree_of}
 use Rattle.xml_tree.specs.Edits.{with_elem}
 use Rattle.xml_tree.specs.declared.names.Decl.{Decl}
 use Rattle.xml_tree.specs.declared.names.Attr.{Attr}
+use Rattle.xml_tree.specs.Expanded.{name_of as in_diff}
 use Rattle.notes.specs.Notes.{Note, tag_after}
-use Rattle.notes.specs.Operations.{in_diff, plain}
+use Rattle.notes.specs.Operations.{plain_attr as plain}
 use Rattle.patch_words.specs.Notices.{all_at_once, candidate, diff, diff_uri, document, gone_notice, operations, prefix_for, removed_document, tags_alone}
-use Rattle.patch_text.specs.Lists.{is_none, with_all}
+use Rattle.patch_text.specs.inner.Lists.{is_none, with_all}
 use Rattle.patch_text.specs.Modes.{documents_of, notice_of, told_notes}
 use Rattle.xcap_uri.specs.declared.target.Mode.{Mode}
 use Rattle.xcap_uri.specs.declared.target.Mode.TheVariants.{NoPatching, XcapPatching, Aggregate}

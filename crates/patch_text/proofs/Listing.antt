@@ -3,15 +3,14 @@ use Rattle.std.proofs.Common.{◌≡◌, ℕ, ◌+◌, ◌-◌, ◌<◌, Bool, t
 use Rattle.std.proofs.lemmas.Bool.Decides.{nat_tests}
 use Rattle.std.proofs.lemmas.List.{map-append, take_more}
 use Rattle.xml_tree.specs.Edits.{with_elem}
-use Rattle.xml_tree.specs.Tree.{Content, Tree, last, more_of, tree_of}
+use Rattle.xml_tree.specs.Tree.{Content, Tree, last, more_of, tree_of, of_kids as listed}
 use Rattle.xml_tree.specs.declared.names.Name.{Name}
 use Rattle.xml_tree.specs.declared.names.Decl.{Decl}
 use Rattle.xml_tree.specs.declared.names.Attr.{Attr}
 use Rattle.notes.specs.Notes.{Note, tag_after}
-use Rattle.notes.specs.Recorded.{joined, note_in}
+use Rattle.notes.specs.Recorded.{note_in, all_notes as joined}
 use Rattle.notes.specs.declared.edit_note.EditNote.{EditNote}
-use Rattle.patch_words.specs.Notices.{listed}
-use Rattle.patch_text.specs.Lists.{is_none, with_all}
+use Rattle.patch_text.specs.inner.Lists.{is_none, with_all}
 
 pub all-append : (xs ys : List Tree) (t : Tree) → with_all (xs ++ ys) t ≡ with_all ys (with_all xs t)
 all-append [] ys t = refl

@@ -1,3 +1,2 @@
-pub mod Declaring
-pub mod Lists
 pub mod Modes
+pub mod inner

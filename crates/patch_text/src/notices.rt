@@ -1,13 +1,13 @@
 //! Notices of documents (RFC 5874, section 3).
-ghost use Rattle.std.specs.Prelude.{◌≡◌, [], ◌∷◌, ◌++◌, IfOk, OnOk, chars, false, encode_utf8_all, map};
+ghost use Rattle.std.specs.Prelude.{◌≡◌, [], ◌∷◌, IfOk, OnOk, chars, false, encode_utf8_all, map};
 ghost use Rattle.doc_names.specs.Ids.{id_text};
 ghost use Rattle.tree_text.specs.Printing.{document_print};
 ghost use Rattle.notes.specs.Notes.{tag_after};
 ghost use Rattle.notes.specs.Operations.{operation};
-ghost use Rattle.notes.specs.Recorded.{joined, note_in};
+ghost use Rattle.notes.specs.Recorded.{note_in, all_notes};
 ghost use Rattle.patch_words.specs.Notices.{all_at_once, diff, document, gone_notice, one_by_one, operations, removed_document, tags_alone};
 ghost use Rattle.patch_text.specs.Modes.{documents_of, notice_of, told_notes};
-ghost use Rattle.patch_text.specs.Lists.{is_none, with_all};
+ghost use Rattle.patch_text.specs.inner.Lists.{is_none, with_all};
 
 use crate::operations::operation;
 use crate::parts::{element_of, push_plain, tag_text};
@@ -97,7 +97,7 @@ fn of_all(
     to: u64,
     notes: Notes<'_>,
 ) -> Result<Element, AllocError>
-    ensures document_of_all_notes { IfOk result (λ made. made ≡ document names.now.prefix names.now.sel from to (operations names.now.prefix (joined notes.entry.older.now notes.entry.newer.now))) }
+    ensures document_of_all_notes { IfOk result (λ made. made ≡ document names.now.prefix names.now.sel from to (operations names.now.prefix (all_notes notes.entry.older.now notes.entry.newer.now))) }
 {
     let mut made = tagged(alloc, names, from, to)?;
     push_operations(alloc, &mut made, &names.prefix, notes.older)?;
@@ -140,14 +140,14 @@ fn empty_notice(alloc: Global, prefix: &Text, root: &str) -> Result<Element, All
 
 // Whether there are no notes.
 fn are_none(notes: Notes<'_>) -> bool
-    ensures tells_whether_there_are_none { result ≡ is_none (joined notes.entry.older.now notes.entry.newer.now) }
+    ensures tells_whether_there_are_none { result ≡ is_none (all_notes notes.entry.older.now notes.entry.newer.now) }
 {
     notes.older.is_empty() && notes.newer.is_empty()
 }
 
 // The tag that all notes lead to.
 fn last_tag_in(from: u64, notes: Notes<'_>) -> u64
-    ensures tag_that_all_lead_to { result ≡ tag_after from (joined notes.entry.older.now notes.entry.newer.now) }
+    ensures tag_that_all_lead_to { result ≡ tag_after from (all_notes notes.entry.older.now notes.entry.newer.now) }
 {
     last_tag(last_tag(from, notes.older), notes.newer)
 }
@@ -160,8 +160,8 @@ fn push_tags(
     from: u64,
     notes: Notes<'_>,
 ) -> Result<(), AllocError>
-    requires { is_none (joined notes.older.now notes.newer.now) ≡ false }
-    ensures adds_the_tags_alone { OnOk result (notice.new ≡ with_all (tags_alone names.now.prefix names.now.sel from (joined notes.entry.older.now notes.entry.newer.now)) notice.old) }
+    requires { is_none (all_notes notes.older.now notes.newer.now) ≡ false }
+    ensures adds_the_tags_alone { OnOk result (notice.new ≡ with_all (tags_alone names.now.prefix names.now.sel from (all_notes notes.entry.older.now notes.entry.newer.now)) notice.old) }
 {
     let to = last_tag_in(from, notes);
     let made = tagged(alloc, names, from, to)?;
@@ -176,7 +176,7 @@ fn push_each_in(
     names: &Names,
     notes: Notes<'_>,
 ) -> Result<(), AllocError>
-    ensures adds_a_document_for_each_of_both { OnOk result (notice.new ≡ with_all (one_by_one names.now.prefix names.now.sel (joined notes.entry.older.now notes.entry.newer.now)) notice.old) }
+    ensures adds_a_document_for_each_of_both { OnOk result (notice.new ≡ with_all (one_by_one names.now.prefix names.now.sel (all_notes notes.entry.older.now notes.entry.newer.now)) notice.old) }
 {
     push_each(alloc, notice, names, notes.older)?;
     push_each(alloc, notice, names, notes.newer)?;
@@ -191,8 +191,8 @@ fn push_all(
     from: u64,
     notes: Notes<'_>,
 ) -> Result<(), AllocError>
-    requires { is_none (joined notes.older.now notes.newer.now) ≡ false }
-    ensures adds_the_document_of_all { OnOk result (notice.new ≡ with_all (all_at_once names.now.prefix names.now.sel from (joined notes.entry.older.now notes.entry.newer.now)) notice.old) }
+    requires { is_none (all_notes notes.older.now notes.newer.now) ≡ false }
+    ensures adds_the_document_of_all { OnOk result (notice.new ≡ with_all (all_at_once names.now.prefix names.now.sel from (all_notes notes.entry.older.now notes.entry.newer.now)) notice.old) }
 {
     let to = last_tag_in(from, notes);
     let made = of_all(alloc, names, from, to, notes)?;
@@ -209,7 +209,7 @@ fn push_documents(
     from: u64,
     notes: Notes<'_>,
 ) -> Result<(), AllocError>
-    ensures adds_the_documents_of_the_mode { OnOk result (notice.new ≡ with_all (documents_of mode names.now.prefix names.now.sel from (joined notes.entry.older.now notes.entry.newer.now)) notice.old) }
+    ensures adds_the_documents_of_the_mode { OnOk result (notice.new ≡ with_all (documents_of mode names.now.prefix names.now.sel from (all_notes notes.entry.older.now notes.entry.newer.now)) notice.old) }
 {
     if are_none(notes) {
         return Ok(());
@@ -223,7 +223,7 @@ fn push_documents(
 
 // Those of the notes whose operations a notice has.
 fn told(mode: Mode, notes: Notes<'_>) -> Notes<'_>
-    ensures notes_that_the_mode_tells { joined result.older.now result.newer.now ≡ told_notes mode (joined notes.entry.older.now notes.entry.newer.now) }
+    ensures notes_that_the_mode_tells { all_notes result.older.now result.newer.now ≡ told_notes mode (all_notes notes.entry.older.now notes.entry.newer.now) }
 {
     match mode {
         Mode::NoPatching => Notes {
@@ -250,7 +250,7 @@ pub fn notice(
     from: u64,
     notes: Notes<'_>,
 ) -> Result<Bytes, AllocError>
-    ensures prints_the_notice { IfOk result (λ bytes. bytes ≡ encode_utf8_all (document_print (notice_of mode root.now (id_text doc.now) from (joined notes.entry.older.now notes.entry.newer.now)))) }
+    ensures prints_the_notice { IfOk result (λ bytes. bytes ≡ encode_utf8_all (document_print (notice_of mode root.now (id_text doc.now) from (all_notes notes.entry.older.now notes.entry.newer.now)))) }
 {
     let names = Names {
         prefix: prefix_for(alloc, told(mode, notes))?,

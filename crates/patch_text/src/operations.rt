@@ -4,7 +4,7 @@ ghost use Rattle.edit_ops.specs.declared.change.Change.TheVariants as change;
 ghost use Rattle.xml_tree.specs.PathTexts.{path_text};
 ghost use Rattle.xml_tree.specs.Print.{print_name};
 ghost use Rattle.xml_tree.specs.Tree.{last};
-ghost use Rattle.notes.specs.Operations.{attr_name_text, attr_path_text, gap_attrs, operation, operation_of, sel_attr, told};
+ghost use Rattle.notes.specs.Operations.{attr_name_text, attr_path_text, gap_attrs, operation, operation_of, sel_attr, change_told};
 ghost use Rattle.notes.specs.Recorded.{note_in};
 
 use crate::parts::{element_of, push_plain};
@@ -98,7 +98,7 @@ fn insertion(
     gap: usize,
     element: &Element,
 ) -> Result<Element, AllocError>
-    ensures tells_the_insertion { IfOk result (λ made. made ≡ told prefix.now bindings.now false (change.Insert parent.now gap element.now)) }
+    ensures tells_the_insertion { IfOk result (λ made. made ≡ change_told prefix.now bindings.now false (change.Insert parent.now gap element.now)) }
 {
     let mut made = placed(alloc, prefix, bindings, parent, gap)?;
     made.push_elem(copy_tree(alloc, element)?)?;
@@ -137,7 +137,7 @@ fn replacement(
     at: &Path,
     element: &Element,
 ) -> Result<Element, AllocError>
-    ensures tells_the_replacement { IfOk result (λ made. made ≡ told prefix.now bindings.now false (change.Replace at.now element.now)) }
+    ensures tells_the_replacement { IfOk result (λ made. made ≡ change_told prefix.now bindings.now false (change.Replace at.now element.now)) }
 {
     let sel = print_path(alloc, at)?;
     let mut made = beginning(alloc, prefix, bindings, "replace", sel)?;
@@ -153,7 +153,7 @@ fn removal(
     bindings: &[Decl],
     at: &Path,
 ) -> Result<Element, AllocError>
-    ensures tells_the_removal { IfOk result (λ made. made ≡ told prefix.now bindings.now false (change.Remove at.now)) }
+    ensures tells_the_removal { IfOk result (λ made. made ≡ change_told prefix.now bindings.now false (change.Remove at.now)) }
 {
     let sel = print_path(alloc, at)?;
     beginning(alloc, prefix, bindings, "remove", sel)
@@ -168,7 +168,7 @@ fn writing(
     name: &Name,
     value: &Text,
 ) -> Result<Element, AllocError>
-    ensures tells_the_writing { IfOk result (λ made. made ≡ told prefix.now note.now.bindings note.now.fresh (change.SetAttr at.now name.now value.now)) }
+    ensures tells_the_writing { IfOk result (λ made. made ≡ change_told prefix.now note.now.bindings note.now.fresh (change.SetAttr at.now name.now value.now)) }
 {
     let mut made = written_at(alloc, prefix, note, at, name)?;
     made.push_chars(value.as_str())?;
@@ -184,7 +184,7 @@ fn written_at(
     at: &Path,
     name: &Name,
 ) -> Result<Element, AllocError>
-    ensures tells_where_it_is_written { IfOk result (λ made. made ≡ told prefix.now note.now.bindings note.now.fresh (change.SetAttr at.now name.now [])) }
+    ensures tells_where_it_is_written { IfOk result (λ made. made ≡ change_told prefix.now note.now.bindings note.now.fresh (change.SetAttr at.now name.now [])) }
 {
     let bindings = note.bindings.as_slice();
     if note.fresh {
@@ -206,7 +206,7 @@ fn dropped(
     at: &Path,
     name: &Name,
 ) -> Result<Element, AllocError>
-    ensures tells_the_drop { IfOk result (λ made. made ≡ told prefix.now bindings.now false (change.DropAttr at.now name.now)) }
+    ensures tells_the_drop { IfOk result (λ made. made ≡ change_told prefix.now bindings.now false (change.DropAttr at.now name.now)) }
 {
     let sel = attribute_text(alloc, at, name)?;
     beginning(alloc, prefix, bindings, "remove", sel)

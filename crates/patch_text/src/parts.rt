@@ -1,14 +1,15 @@
 //! Elements and attributes of notices.
 ghost use Rattle.std.specs.Prelude.{◌≡◌, [], ◌∷◌, ◌++◌, IfOk, OnOk, chars, decimal};
+ghost use Rattle.notes.specs.Operations.{plain_attr};
+ghost use Rattle.xml_tree.specs.Expanded.{name_of};
 ghost use Rattle.xml_tree.specs.Tree.{last, tree_of};
-ghost use Rattle.notes.specs.Operations.{in_diff, plain};
 
 use std::alloc::{AllocError, Global};
 use xml_tree::{Attr, Element, Name, Text};
 
 // An element in the namespace of notices, which has this prefix, and nothing in it.
 pub(crate) fn element_of(alloc: Global, prefix: &Text, word: &str) -> Result<Element, AllocError>
-    ensures has_the_word_alone { IfOk result (λ made. made ≡ tree_of (in_diff prefix.now (chars word.now)) [] [] (last [])) }
+    ensures has_the_word_alone { IfOk result (λ made. made ≡ tree_of (name_of prefix.now (chars word.now)) [] [] (last [])) }
 {
     let prefix = prefix.copy(alloc)?;
     let local = Text::from(alloc, word)?;
@@ -23,7 +24,7 @@ pub(crate) fn push_plain(
     word: &str,
     value: Text,
 ) -> Result<(), AllocError>
-    ensures adds_the_plain_attribute { OnOk result (element.new ≡ record element.old { attrs = element.old.attrs ++ plain (chars word.now) value ∷ [] }) }
+    ensures adds_the_plain_attribute { OnOk result (element.new ≡ record element.old { attrs = element.old.attrs ++ plain_attr (chars word.now) value ∷ [] }) }
 {
     let prefix = Text::from(alloc, "")?;
     let local = Text::from(alloc, word)?;

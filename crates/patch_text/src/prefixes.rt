@@ -1,11 +1,12 @@
 //! The prefix of a notice: `d`, or the first of `d1`, `d2` and so on that nothing in its operations
 //! declares.
 ghost use Rattle.std.specs.Prelude.{◌≡◌, ℕ, List, ◌++◌, IfOk, OnOk, flat_map, length};
+ghost use Rattle.notes.specs.Recorded.{all_notes};
 ghost use Rattle.std.specs.Set.{is_member};
 ghost use Rattle.std.specs.Str.{bytes_eq};
-ghost use Rattle.notes.specs.Recorded.{joined};
 ghost use Rattle.patch_words.specs.Notices.{candidate, first_free, prefix_for};
-ghost use Rattle.patch_text.specs.Declaring.{Gains, Holds, prefixes, prefixes_at, prefixes_in, prefixes_put, prefixes_told};
+ghost use Rattle.patch_words.specs.Declaring.{prefixes, prefixes_in};
+ghost use Rattle.patch_text.specs.inner.Declaring.{Gains, Holds, prefixes_at, prefixes_put, prefixes_told};
 
 use edit_ops::Change;
 use notes::{EditNote, Notes};
@@ -108,7 +109,7 @@ fn first_free(alloc: Global, seen: &BTreeSet<Text>) -> Result<Text, AllocError>
 
 // The prefix of a notice with the operations of these notes.
 pub(crate) fn prefix_for(alloc: Global, notes: Notes<'_>) -> Result<Text, AllocError>
-    ensures prefix_of_the_notes { IfOk result (λ prefix. prefix ≡ prefix_for (joined notes.entry.older.now notes.entry.newer.now)) }
+    ensures prefix_of_the_notes { IfOk result (λ prefix. prefix ≡ prefix_for (all_notes notes.entry.older.now notes.entry.newer.now)) }
 {
     let mut seen = BTreeSet::new(alloc);
     add_notes(alloc, &mut seen, notes.older)?;

@@ -1,8 +1,8 @@
 -- What one patch operation makes of a tree, or the first thing that is wrong with it. RFC 5261, sections 4 and 5, as far as it is taken here.
-use Rattle.std.specs.Prelude.{ℕ, zero, suc, ◌+◌, ◌-◌, ◌==◌, Bool, true, false, not, ◌&&◌, ◌||◌, nat_le, codes, encode_utf8_all, List, [], ◌∷◌, ◌++◌, length, Option, None, Some, is_some, option_map, option_and_then, unwrap_or, slice_get, Result, Ok, Err, if◌then◌else◌}
+use Rattle.std.specs.Prelude.{ℕ, zero, suc, ◌+◌, ◌-◌, ◌==◌, Bool, true, false, not, ◌&&◌, ◌||◌, nat_le, codes, List, [], ◌∷◌, ◌++◌, length, Option, None, Some, is_some, option_map, option_and_then, unwrap_or, slice_get, Result, Ok, Err, if◌then◌else◌}
 use Rattle.std.specs.List.{list_all, list_any, find}
 use Rattle.std.specs.Str.{bytes_eq}
-use Rattle.xml_tree.specs.Attributes.{is_named, remove_first, valued}
+use Rattle.xml_tree.specs.Attributes.{remove_first, valued, is_written_so}
 use Rattle.xml_tree.specs.Characters.{is_name, is_space}
 use Rattle.xml_tree.specs.Edits.{change_at, final, front, put_over}
 use Rattle.xml_tree.specs.Expanded.{element_name, attr_name, same_expanded}
@@ -13,14 +13,13 @@ use Rattle.xml_tree.specs.declared.names.Name.{Name}
 use Rattle.xml_tree.specs.declared.names.Decl.{Decl}
 use Rattle.xml_tree.specs.declared.names.Attr.{Attr}
 use Rattle.xml_tree.specs.declared.tree.Node.{Node}
-use Rattle.node_select.specs.readers.Whole.{patch_selector_read}
+use Rattle.xml_tree.specs.Limits.{most_levels}
 use Rattle.node_select.specs.Names.{prefix_uri}
 use Rattle.node_select.specs.Selection.{is_attr, selected_in}
-use Rattle.node_select.specs.declared.fault.SelectorFault.{SelectorFault}
 use Rattle.node_select.specs.declared.selector.PatchEnd.{PatchEnd}
 use Rattle.node_select.specs.declared.selector.PatchEnd.TheVariants.{Element, Attribute, Chars}
 use Rattle.node_select.specs.declared.selector.PatchSelector.{PatchSelector}
-use Rattle.node_select.specs.readers.Raw.{RawPatchSelector, RawPatchEnd, PatchElement, PatchAttribute, PatchChars}
+use Rattle.node_select.specs.readers.Raw.{RawPatchSelector, RawPatchEnd, PatchElement, PatchAttribute, PatchChars, first_unbound_in_patch, patch_selector_of}
 use Rattle.node_select.specs.readers.Selectors.{read_patch_selector}
 use Rattle.grammar_rules.specs.Reading.{Stop, read_whole}
 use Rattle.tree_text.specs.declared.kind.Kind.{Kind}
@@ -56,7 +55,7 @@ word_of local =
 
 -- the value of the attribute of this local name that has no prefix, and so no namespace
 abbrev pub plain_value : List ℕ → List Attr → Option (List ℕ)
-plain_value local ats = option_map (λ a. a.value) (find (is_named (record { prefix = []; local = local })) ats)
+plain_value local ats = option_map (λ a. a.value) (find (is_written_so (record { prefix = []; local = local })) ats)
 
 -- `sel`, `pos`, `type` and `ws` alone have no namespace
 abbrev pub is_known : Attr → Bool
@@ -136,22 +135,23 @@ suits (Remove before after) (PatchChars k) = not (before || after)
 
 -- ---- what its selector selects
 
--- the selector, in the scope at the operation; an unprefixed name has the default namespace there
-abbrev pub selector_in : List (List Decl) → List ℕ → Result PatchSelector SelectorFault
-selector_in c sel = patch_selector_read (bindings_in c) (unwrap_or (bound c []) []) (encode_utf8_all sel)
+-- The selector as its text has it, with the prefixes of its names; none where the text is no selector. A text is read once: what it ends in
+-- and what its names mean are both told of this.
+abbrev pub form_read : Result RawPatchSelector (Stop Kind) → Option RawPatchSelector
+form_read (Ok form) = Some form
+form_read (Err stop) = None
 
--- what the selector ends in, where it is one
-abbrev pub end_read : Result RawPatchSelector (Stop Kind) → Option RawPatchEnd
-end_read (Ok raw) = Some raw.1.1
-end_read (Err stop) = None
+abbrev pub form_of : List ℕ → Option RawPatchSelector
+form_of sel = form_read (read_whole read_patch_selector sel)
 
-abbrev pub end_of : List ℕ → Option RawPatchEnd
-end_of sel = end_read (read_whole read_patch_selector sel)
+-- what it ends in, behind its steps
+abbrev pub end_of : RawPatchSelector → RawPatchEnd
+end_of form = form.1.1
 
--- the selector, where its prefixes are bound
-abbrev pub selector_if_bound : Result PatchSelector SelectorFault → Option PatchSelector
-selector_if_bound (Ok s) = Some s
-selector_if_bound (Err fault) = None
+-- what it means in the scope at the operation, where its prefixes are bound there; an unprefixed name has the default namespace there
+abbrev pub meaning_in : List (List Decl) → RawPatchSelector → Option PatchSelector
+meaning_in c form =
+    if is_some (first_unbound_in_patch (bindings_in c) form) then None else Some (patch_selector_of (bindings_in c) (unwrap_or (bound c []) []) form)
 
 -- the number among the nodes of the k-th text, counted from 1, where i nodes stand before these
 abbrev pub text_number : ℕ → ℕ → List Node → Option ℕ
@@ -285,7 +285,7 @@ scope_of_put After p t = scope_around p t
 -- ---- the rest of the tests, in order, and what is made; c is the scope at the operation
 
 abbrev pub within_depth : Tree → Bool
-within_depth t = nat_le (height t) 64
+within_depth t = nat_le (height t) most_levels
 
 abbrev pub off_root : Position → List ℕ → Bool
 off_root Behind p = true
@@ -353,9 +353,9 @@ applied c o t =
     given (plain_value (codes "sel") o.attrs) Directive (λ sel.
     tested (list_all is_known o.attrs) Directive (
     given (option_and_then (λ w. task_of w (plain_value (codes "pos") o.attrs) (plain_value (codes "type") o.attrs) (plain_value (codes "ws") o.attrs)) (word_of o.name.local)) Directive (λ task.
-    given (end_of sel) Directive (λ end.
-    tested (suits task end) Directive (
-    given (selector_if_bound (selector_in here sel)) Prefix (λ s.
+    given (form_of sel) Directive (λ form.
+    tested (suits task (end_of form)) Directive (
+    given (meaning_in here form) Prefix (λ s.
     tested (is_bound_type here task) Prefix (
     given (located s t) Unlocated (λ spot.
     done here task spot o.content t))))))))

@@ -1,3 +1,4 @@
 pub mod Applied
+pub mod Declaring
 pub mod Notices
 pub mod Replay

@@ -2,11 +2,12 @@
 use Rattle.std.specs.Prelude.{◌≡◌, ℕ, zero, suc, ◌+◌, ◌<◌, Bool, true, false, ◌||◌, codes, decimal, List, [], ◌∷◌, ◌++◌, map, length, if◌then◌else◌}
 use Rattle.std.specs.List.{list_any}
 use Rattle.std.specs.Str.{bytes_eq}
-use Rattle.xml_tree.specs.Tree.{Content, last, more, note, more_of, Tree, tree_of}
+use Rattle.xml_tree.specs.Tree.{Content, last, more, note, Tree, tree_of, of_kids}
 use Rattle.xml_tree.specs.declared.names.Decl.{Decl}
 use Rattle.xml_tree.specs.declared.names.Attr.{Attr}
+use Rattle.xml_tree.specs.Expanded.{name_of}
 use Rattle.notes.specs.Notes.{Note, tag_after}
-use Rattle.notes.specs.Operations.{in_diff, operation, plain}
+use Rattle.notes.specs.Operations.{operation, plain_attr}
 
 -- the namespace of notices (RFC 5874, section 7.2)
 abbrev pub diff_uri : List ℕ
@@ -62,29 +63,24 @@ prefix_for ns = candidate (first_free (is_taken (operations [] ns)) (declaration
 
 -- ---- documents and the whole notice
 
--- elements one behind the other, without white space
-abbrev pub listed : List Tree → Content
-listed [] = last []
-listed (e ∷ es) = more_of [] e (listed es)
-
 abbrev pub tag_attr : List ℕ → ℕ → Attr
-tag_attr word tag = plain word (decimal tag)
+tag_attr word tag = plain_attr word (decimal tag)
 
 -- what became of one document, by its printed id: from one tag to another by these operations
 abbrev pub document : List ℕ → List ℕ → ℕ → ℕ → List Tree → Tree
 document prefix sel from to os =
-    tree_of (in_diff prefix (codes "document")) []
-    (plain (codes "sel") sel ∷ tag_attr (codes "new-etag") to ∷ tag_attr (codes "previous-etag") from ∷ []) (listed os)
+    tree_of (name_of prefix (codes "document")) []
+    (plain_attr (codes "sel") sel ∷ tag_attr (codes "new-etag") to ∷ tag_attr (codes "previous-etag") from ∷ []) (of_kids os)
 
 -- that it was removed
 abbrev pub removed_document : List ℕ → List ℕ → ℕ → Tree
 removed_document prefix sel from =
-    tree_of (in_diff prefix (codes "document")) [] (plain (codes "sel") sel ∷ tag_attr (codes "previous-etag") from ∷ []) (last [])
+    tree_of (name_of prefix (codes "document")) [] (plain_attr (codes "sel") sel ∷ tag_attr (codes "previous-etag") from ∷ []) (last [])
 
 -- the notice: the root's text and a slash, and the documents
 abbrev pub diff : List ℕ → List ℕ → List Tree → Tree
 diff prefix root ds =
-    tree_of (in_diff prefix (codes "xcap-diff")) (record { prefix = prefix; uri = diff_uri } ∷ []) (plain (codes "xcap-root") (root ++ codes "/") ∷ []) (listed ds)
+    tree_of (name_of prefix (codes "xcap-diff")) (record { prefix = prefix; uri = diff_uri } ∷ []) (plain_attr (codes "xcap-root") (root ++ codes "/") ∷ []) (of_kids ds)
 
 -- ---- the notice of a list of notes from a tag on, in each mode; without notes it has no document
 

@@ -5,16 +5,16 @@ use Rattle.std.proofs.lemmas.Option.{same_Some, slice_get-map}
 use Rattle.std.proofs.lemmas.Bool.{cases_order}
 use Rattle.xml_tree.specs.Tree.{Content, Tree, tree_of, kids, kids_of, at}
 use Rattle.xml_tree.specs.Edits.{change, change_at}
-use Rattle.xml_tree.specs.Scopes.{scope_at, scope_below}
+use Rattle.xml_tree.specs.Scopes.{scope_at, scope_below, inside}
 use Rattle.xml_tree.proofs.PlaceLaws.{at-changed, other_kid}
 use Rattle.xml_tree.proofs.ScopeLemmas.{scope_at-below}
 use Rattle.doc_names.specs.declared.usages.Usage.{Usage}
 use Rattle.usage_docs.specs.declared.rows.Kind.{Kind}
 use Rattle.usage_docs.specs.declared.rows.Key.{Key}
 use Rattle.usage_docs.specs.Rows.{Scope, root_kind}
-use Rattle.usage_docs.specs.Clashes.{inside, mark_of, mark_at, RepeatsAt, Clashes, Unique}
+use Rattle.usage_docs.specs.Clashes.{mark_of, mark_at, RepeatsAt, Clashes, Unique}
 use Rattle.plan_words.specs.Lawful.{KeepsTag}
-use Rattle.plan_words.specs.Kinds.{kind_of_kid, kind_below, kind_at}
+use Rattle.usage_docs.specs.Kinds.{kind_of_kid, kind_below, kind_at}
 use Rattle.plan_words.proofs.Options.{came_from, through_kid, scope_through}
 use Rattle.plan_words.proofs.StaysSelected.{keeps_at, kid_changed, answers_stay, scope_stays}
 use Rattle.plan_words.proofs.ValidBeside.{kind_through}

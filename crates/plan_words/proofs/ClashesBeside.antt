@@ -4,11 +4,12 @@ use Rattle.std.proofs.lemmas.Option.{same_Some}
 use Rattle.std.proofs.lemmas.Bool.{cases_order}
 use Rattle.step_laws.proofs.Inserted.{get-insert_before, get-insert_at, get-insert_behind}
 use Rattle.xml_tree.specs.Tree.{Tree, kids_of}
+use Rattle.xml_tree.specs.Scopes.{inside}
 use Rattle.usage_docs.specs.declared.rows.Kind.{Kind}
 use Rattle.usage_docs.specs.declared.rows.Key.{Key}
 use Rattle.usage_docs.specs.Rows.{Scope}
-use Rattle.usage_docs.specs.Clashes.{inside, Mark, mark_of, mark_at, Repeats, RepeatsAt}
-use Rattle.plan_words.specs.Kinds.{kind_of_kid}
+use Rattle.usage_docs.specs.Clashes.{Mark, mark_of, mark_at, Repeats, RepeatsAt}
+use Rattle.usage_docs.specs.Kinds.{kind_of_kid}
 use Rattle.plan_words.specs.Beside.{IsTwin, ClashesInside, ClashesBeside}
 
 module _ (row : Kind) (c : Scope) (kids : List Tree) (new : Tree) (gap : ℕ) (le : gap ≤ length kids) where

@@ -16,7 +16,7 @@ use Rattle.usage_docs.specs.Rows.{Scope, root_kind}
 use Rattle.usage_docs.specs.Clashes.{RepeatsAt, Unique, IsFirstClash}
 use Rattle.usage_docs.specs.Forms.{AllFormed, Constraints, IsNodeFormed}
 use Rattle.usage_docs.specs.Reading.Siblings.{IsFirst}
-use Rattle.plan_words.specs.Kinds.{kind_at}
+use Rattle.usage_docs.specs.Kinds.{kind_at}
 use Rattle.plan_words.specs.Beside.{NoTwin, UniqueInside, ClashesBeside}
 use Rattle.plan_words.proofs.ClashesAt.{unique_there}
 use Rattle.plan_words.proofs.FirstBeside.{first_from, first_to, none_foreign, unique_after}

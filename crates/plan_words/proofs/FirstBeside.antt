@@ -14,7 +14,7 @@ use Rattle.usage_docs.specs.Rows.{Scope}
 use Rattle.usage_docs.specs.Clashes.{RepeatsAt, Clashes, NoLater, Unique, IsFirstClash}
 use Rattle.usage_docs.specs.Reading.Siblings.{IsFirst}
 use Rattle.plan_words.specs.Lawful.{KeepsTag}
-use Rattle.plan_words.specs.Kinds.{kind_at}
+use Rattle.usage_docs.specs.Kinds.{kind_at}
 use Rattle.plan_words.specs.Beside.{IsTwin, NoTwin, ClashesInside, UniqueInside, ClashesBeside}
 use Rattle.plan_words.proofs.ClashesAt.{clash_beside, beside_clash, unique_there}
 use Rattle.plan_words.proofs.ClashesBeside.{beside_from, beside_to, one_twin}

@@ -4,7 +4,7 @@ use Rattle.std.proofs.lemmas.Option.{same_Some}
 use Rattle.std.specs.Option.{ForSome}
 use Rattle.xml_tree.specs.Tree.{Content, last, more, note, Tree, tree_of, kids, kids_of, at}
 use Rattle.xml_tree.specs.Edits.{change, change_at, put, put_in, put_kid}
-use Rattle.xml_tree.specs.Scopes.{scope_at, scope_below}
+use Rattle.xml_tree.specs.Scopes.{scope_at, scope_below, inside}
 use Rattle.xml_tree.specs.declared.names.Attr.{Attr}
 use Rattle.xml_tree.specs.declared.tree.Node.TheVariants.{Elem}
 use Rattle.xml_tree.proofs.ScopeLemmas.{scope_at-below}
@@ -12,11 +12,10 @@ use Rattle.doc_names.specs.declared.usages.Usage.{Usage}
 use Rattle.usage_docs.specs.declared.rows.Kind.{Kind}
 use Rattle.usage_docs.specs.declared.rows.Kind.TheVariants.{ResourceList}
 use Rattle.usage_docs.specs.Rows.{Scope, root_kind}
-use Rattle.usage_docs.specs.Clashes.{inside}
 use Rattle.usage_docs.specs.Texts.{text_of}
 use Rattle.usage_docs.specs.Forms.{trimmed, is_http, is_formed, AllFormed, Constraints, IsNodeFormed}
 use Rattle.plan_words.specs.Lawful.{KeepsTag}
-use Rattle.plan_words.specs.Kinds.{kind_of_kid, kind_below, kind_at}
+use Rattle.usage_docs.specs.Kinds.{kind_of_kid, kind_below, kind_at}
 use Rattle.plan_words.proofs.Options.{came_from, through_kid, scope_through}
 use Rattle.plan_words.proofs.StaysSelected.{keeps_at}
 use Rattle.plan_words.proofs.ValidBeside.{kind_through}

@@ -8,7 +8,7 @@ use Rattle.step_laws.proofs.Edited.{replaced}
 use Rattle.step_laws.proofs.Selecting.{match_alike}
 use Rattle.xml_tree.specs.Tree.{Tree, kids_of, at}
 use Rattle.xml_tree.specs.Edits.{change_at, change_kid, put_over}
-use Rattle.xml_tree.specs.Scopes.{scope_at}
+use Rattle.xml_tree.specs.Scopes.{scope_at, inside}
 use Rattle.xml_tree.specs.declared.names.Decl.{Decl}
 use Rattle.xml_tree.specs.declared.names.Attr.{Attr}
 use Rattle.xml_tree.proofs.PlaceLaws.{at-changed, at-put_over, change_at-append}
@@ -16,7 +16,7 @@ use Rattle.xml_tree.proofs.ScopeLemmas.{scope_at-below}
 use Rattle.node_select.specs.declared.selector.Step.{Step}
 use Rattle.node_select.specs.declared.selector.End.TheVariants as ends
 use Rattle.node_select.specs.declared.selector.Selector.{Selector}
-use Rattle.node_select.specs.Selection.{inside, is_attr, is_named, is_tested, has_end, Found, SelectsChild, SelectsPath}
+use Rattle.node_select.specs.Selection.{is_attr, is_named, is_tested, has_end, Found, SelectsChild, SelectsPath}
 use Rattle.node_select.proofs.Along.{last_step_to, one_path}
 use Rattle.plan_words.specs.Attributes.{FindsValue}
 use Rattle.plan_words.specs.Tags.{value_in, with_attrs}

@@ -3,7 +3,7 @@ use Rattle.std.proofs.Common.{◌≡◌, ◌↔◌, inl, inr, ℕ, List, [], ◌
 use Rattle.doc_names.specs.declared.usages.Usage.{Usage}
 use Rattle.xml_tree.specs.Tree.{Content, last, Tree, kids_of, at}
 use Rattle.xml_tree.specs.Edits.{put_over}
-use Rattle.xml_tree.specs.Scopes.{scope_at}
+use Rattle.xml_tree.specs.Scopes.{scope_at, inside}
 use Rattle.xml_tree.specs.declared.names.Attr.{Attr}
 use Rattle.usage_docs.specs.declared.rows.Kind.{Kind}
 use Rattle.usage_docs.specs.declared.rows.Kind.TheVariants.{ResourceLists, EntryList, Entry, EntryRef, External, DisplayName, RlsServices, Service, ResourceList, Packages, Package}
@@ -11,12 +11,12 @@ use Rattle.usage_docs.specs.declared.rows.Key.{Key}
 use Rattle.usage_docs.specs.declared.keys.Clash.{Clash}
 use Rattle.usage_docs.specs.Rows.{Scope, root_kind}
 use Rattle.usage_docs.specs.Keys.{attrs_pass}
-use Rattle.usage_docs.specs.Clashes.{inside, RepeatsAt, Unique, IsFirstClash}
+use Rattle.usage_docs.specs.Clashes.{RepeatsAt, Unique, IsFirstClash}
 use Rattle.usage_docs.specs.Forms.{Constraints, is_formed}
 use Rattle.usage_docs.specs.Reading.Siblings.{IsFirst}
 use Rattle.usage_docs.specs.Validity.{AllKeep, KeepsRow, Schema}
 use Rattle.plan_words.specs.Beside.{IsTwin, ClashesInside, ClashesBeside}
-use Rattle.plan_words.specs.Kinds.{kind_at}
+use Rattle.usage_docs.specs.Kinds.{kind_at}
 use Rattle.plan_words.specs.Tags.{AttrsFormed, AttrsPass, attrs_formed, tag_with, with_attrs}
 use Rattle.plan_words.proofs.ClashesAt.{mark_of_tag, unique_there, up_one}
 use Rattle.plan_words.proofs.Exchanged.{first_over, foreign_over, formed_over}

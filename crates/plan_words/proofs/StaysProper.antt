@@ -195,25 +195,25 @@ module _ (c : List (List Decl)) (n : Name) (v : List ℕ) where
 
   attrs_with : (ats : List Attr) → AllByRecursion (IsAttribute c) ats → IsAttribute c (attr_of n v) → AllByRecursion (IsAttribute c) (with_attr n v ats)
   attrs_with [] all new = (new, tt)
-  attrs_with (x ∷ ats) all new = by (attributes.is_named n x) refl (attrs_with ats all.1 new)
+  attrs_with (x ∷ ats) all new = by (attributes.is_written_so n x) refl (attrs_with ats all.1 new)
     where
-      by : (b : Bool) → attributes.is_named n x ≡ b → AllByRecursion (IsAttribute c) (with_attr n v ats) → AllByRecursion (IsAttribute c) (with_attr n v (x ∷ ats))
+      by : (b : Bool) → attributes.is_written_so n x ≡ b → AllByRecursion (IsAttribute c) (with_attr n v ats) → AllByRecursion (IsAttribute c) (with_attr n v (x ∷ ats))
       by true e rest = rw e (record { named = all.0.named; other = all.0.other; value = new.value }, all.1)
       by false e rest = rw e (all.0, rest)
 
-  names_kept : (ats : List Attr) (a : Attr) → find (attributes.is_named n) ats ≡ Some a → map (name_in c) (with_attr n v ats) ≡ map (name_in c) ats
+  names_kept : (ats : List Attr) (a : Attr) → find (attributes.is_written_so n) ats ≡ Some a → map (name_in c) (with_attr n v ats) ≡ map (name_in c) ats
   names_kept [] a h = cc
-  names_kept (x ∷ ats) a h = by (attributes.is_named n x) refl (names_kept ats a)
+  names_kept (x ∷ ats) a h = by (attributes.is_written_so n x) refl (names_kept ats a)
     where
-      by : (b : Bool) → attributes.is_named n x ≡ b → (find (attributes.is_named n) ats ≡ Some a → map (name_in c) (with_attr n v ats) ≡ map (name_in c) ats) → map (name_in c) (with_attr n v (x ∷ ats)) ≡ map (name_in c) (x ∷ ats)
+      by : (b : Bool) → attributes.is_written_so n x ≡ b → (find (attributes.is_written_so n) ats ≡ Some a → map (name_in c) (with_attr n v ats) ≡ map (name_in c) ats) → map (name_in c) (with_attr n v (x ∷ ats)) ≡ map (name_in c) (x ∷ ats)
       by true e rest = rw e refl
       by false e rest = rw e (ap (λ (l : List Expanded). name_in c x ∷ l) (rest (rw e at h)))
 
   -- ---- it is new
 
   module _ (uri local : List ℕ) (is : IsTrue (is_attr c uri local (attr_of n v))) where
-    unnamed : (x : Attr) → is_attr c uri local x ≡ false → attributes.is_named n x ≡ false
-    unnamed x other = is_false (attributes.is_named n x) (λ h.
+    unnamed : (x : Attr) → is_attr c uri local x ≡ false → attributes.is_written_so n x ≡ false
+    unnamed x other = is_false (attributes.is_written_so n x) (λ h.
         let same : x.name ≡ n = alike_named x.name n h in
         let z : true ≡ false = sym (subst (λ (m : Name). IsTrue (is_named_so uri local (attr_name c m))) (sym same) is) ∙ other in cc)
 
@@ -252,11 +252,11 @@ among_good c test (x ∷ ats) a all h = by (test x) refl (among_good c test ats 
     by false e rest = rest (rw e at h)
 
 -- what is found by one test is found by its own name
-found_by_name : (test : Attr → Bool) (ats : List Attr) (a : Attr) → find test ats ≡ Some a → IsSome (find (attributes.is_named a.name) ats)
+found_by_name : (test : Attr → Bool) (ats : List Attr) (a : Attr) → find test ats ≡ Some a → IsSome (find (attributes.is_written_so a.name) ats)
 found_by_name test [] a h = cc
-found_by_name test (x ∷ ats) a h = by (test x) refl (attributes.is_named a.name x) refl (found_by_name test ats a)
+found_by_name test (x ∷ ats) a h = by (test x) refl (attributes.is_written_so a.name x) refl (found_by_name test ats a)
   where
-    by : (b : Bool) → test x ≡ b → (d : Bool) → attributes.is_named a.name x ≡ d → (find test ats ≡ Some a → IsSome (find (attributes.is_named a.name) ats)) → IsSome (find (attributes.is_named a.name) (x ∷ ats))
+    by : (b : Bool) → test x ≡ b → (d : Bool) → attributes.is_written_so a.name x ≡ d → (find test ats ≡ Some a → IsSome (find (attributes.is_written_so a.name) ats)) → IsSome (find (attributes.is_written_so a.name) (x ∷ ats))
     by b e true f rest = rw f refl
     by true e false f rest =
         let same : x ≡ a = same_Some x a (rw e at h) in
@@ -327,7 +327,7 @@ tag_written c uri local n v e all may chars tag is meant = by (find (is_attr c u
         let named : a.name ≡ n = same_Some a.name n (sym (ap (λ (o : Option Attr). kept_name o (new_name c uri local)) f) ∙ is) in
         let good = among_good c (is_attr c uri local) e.attrs a tag.attributes f in
         let new : IsAttribute c (attr_of n v) = subst (λ (m : Name). IsAttribute c (attr_of m v)) named (record { named = good.named; other = good.other; value = chars }) in
-        let there = some_attr_is _ (subst (λ (m : Name). IsSome (find (attributes.is_named m) e.attrs)) named (found_by_name (is_attr c uri local) e.attrs a f)) in
+        let there = some_attr_is _ (subst (λ (m : Name). IsSome (find (attributes.is_written_so m) e.attrs)) named (found_by_name (is_attr c uri local) e.attrs a f)) in
         record {
           named = tag.named;
           declarations = tag.declarations;
@@ -353,9 +353,9 @@ last_passes c uri local n v [] a none h = by (is_attr c uri local (attr_of n v))
     by : (b : Bool) → is_attr c uri local (attr_of n v) ≡ b → IsTrue (is_attr c uri local (attr_of n v))
     by true e = e
     by false e = let z : None ≡ Some a = rw e at h in cc
-last_passes c uri local n v (x ∷ ats) a none h = by (is_attr c uri local x) refl (attributes.is_named n x) refl (last_passes c uri local n v ats a)
+last_passes c uri local n v (x ∷ ats) a none h = by (is_attr c uri local x) refl (attributes.is_written_so n x) refl (last_passes c uri local n v ats a)
   where
-    by : (b : Bool) → is_attr c uri local x ≡ b → (d : Bool) → attributes.is_named n x ≡ d
+    by : (b : Bool) → is_attr c uri local x ≡ b → (d : Bool) → attributes.is_written_so n x ≡ d
         → (find (is_attr c uri local) ats ≡ None → find (is_attr c uri local) (with_attr n v ats) ≡ Some a → IsTrue (is_attr c uri local (attr_of n v))) → IsTrue (is_attr c uri local (attr_of n v))
     by true e d f rest = let z : Some x ≡ None = rw e at none in cc
     by false e true f rest =
@@ -458,7 +458,7 @@ distinct_without c test (x ∷ ats) d = by (test x) refl (distinct_without c tes
 drop_leaves : (t e : Tree) (p : List ℕ) (uri local : List ℕ) (a : Attr) → at p t ≡ Some e → find (is_attr (scope_at p t) uri local) e.attrs ≡ Some a → ProperIn [] t → height t ≤ 64 → LeavesProper t (DropAttr p a.name)
 drop_leaves t e p uri local a there that proper low =
     let c = scope_at p t in
-    let test = attributes.is_named a.name in
+    let test = attributes.is_written_so a.name in
     record {
       fits = subst (λ (o : Option Tree). IsSome (option_and_then (λ x. find test x.attrs) o)) (sym there) (found_by_name (is_attr c uri local) e.attrs a that);
       proper = retagged_proper p (drop_attr a.name) (without_attr a.name e.attrs) e t there refl proper (λ tag. record {

@@ -7,12 +7,12 @@ use Rattle.step_laws.proofs.Selecting.{select_alike}
 use Rattle.step_laws.proofs.Edited.{replaced}
 use Rattle.xml_tree.specs.Tree.{Content, last, more, note, Tree, tree_of, kids, kids_of, at}
 use Rattle.xml_tree.specs.Edits.{change, change_at, change_kid, put_in, put_kid, put_over}
-use Rattle.xml_tree.specs.Scopes.{scope_at, scope_below}
+use Rattle.xml_tree.specs.Scopes.{scope_at, scope_below, inside}
 use Rattle.xml_tree.specs.declared.names.Decl.{Decl}
 use Rattle.xml_tree.proofs.PlaceLaws.{at-changed, kids-put, change_at-append}
 use Rattle.xml_tree.proofs.ScopeLemmas.{scope_at-below}
 use Rattle.node_select.specs.declared.selector.Step.{Step}
-use Rattle.node_select.specs.Selection.{inside, is_named, is_tested, SelectsChild, SelectsAmong, SelectsPath}
+use Rattle.node_select.specs.Selection.{is_named, is_tested, SelectsChild, SelectsAmong, SelectsPath}
 use Rattle.node_select.proofs.Along.{last_step_to, last_step_from}
 use Rattle.plan_words.specs.Lawful.{KeepsTag, LawfulGap, LawfulOver}
 

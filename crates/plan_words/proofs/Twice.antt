@@ -169,9 +169,9 @@ alike_named m n h = by (bytes_eq m.prefix n.prefix) refl (bytes_eq m.local n.loc
 -- the attribute is there with its value already
 with_twice : (n : Name) (v : List ℕ) (ats : List Attr) → with_attr n v (with_attr n v ats) ≡ with_attr n v ats
 with_twice n v [] = rw (named_alike n) refl
-with_twice n v (x ∷ ats) = by (attributes.is_named n x) refl (with_twice n v ats)
+with_twice n v (x ∷ ats) = by (attributes.is_written_so n x) refl (with_twice n v ats)
   where
-    by : (b : Bool) → attributes.is_named n x ≡ b → with_attr n v (with_attr n v ats) ≡ with_attr n v ats → with_attr n v (with_attr n v (x ∷ ats)) ≡ with_attr n v (x ∷ ats)
+    by : (b : Bool) → attributes.is_written_so n x ≡ b → with_attr n v (with_attr n v ats) ≡ with_attr n v ats → with_attr n v (with_attr n v (x ∷ ats)) ≡ with_attr n v (x ∷ ats)
     by true e rest = rw e (rw e refl)
     by false e rest = rw e (rw e (ap (λ (l : List Attr). x ∷ l) rest))
 
@@ -193,9 +193,9 @@ module _ (c : List (List Decl)) (uri local : List ℕ) (n : Name) (v : List ℕ)
   -- one that is there keeps its name
   kept_found : (ats : List Attr) (a : Attr) → find means ats ≡ Some a → a.name ≡ n → (b : Attr) × (find means (with_attr n v ats) ≡ Some b) × (b.name ≡ n)
   kept_found [] a h is = cc
-  kept_found (x ∷ ats) a h is = by (means x) refl (attributes.is_named n x) refl (kept_found ats a)
+  kept_found (x ∷ ats) a h is = by (means x) refl (attributes.is_written_so n x) refl (kept_found ats a)
     where
-      by : (b : Bool) → means x ≡ b → (d : Bool) → attributes.is_named n x ≡ d → (find means ats ≡ Some a → a.name ≡ n → (b : Attr) × (find means (with_attr n v ats) ≡ Some b) × (b.name ≡ n)) → (b : Attr) × (find means (with_attr n v (x ∷ ats)) ≡ Some b) × (b.name ≡ n)
+      by : (b : Bool) → means x ≡ b → (d : Bool) → attributes.is_written_so n x ≡ d → (find means ats ≡ Some a → a.name ≡ n → (b : Attr) × (find means (with_attr n v ats) ≡ Some b) × (b.name ≡ n)) → (b : Attr) × (find means (with_attr n v (x ∷ ats)) ≡ Some b) × (b.name ≡ n)
       by true e true d rest = (valued v x, rw d (rw e refl), alike_named x.name n d)
       by true e false d rest =
           let same : x ≡ a = same_Some x a (rw e at h) in
@@ -216,9 +216,9 @@ module _ (c : List (List Decl)) (uri local : List ℕ) (n : Name) (v : List ℕ)
       by : (d : Bool) → means (attr_of n v) ≡ d → b.name ≡ n
       by true e = let same : attr_of n v ≡ b = same_Some (attr_of n v) b (rw e at h) in ap (λ (y : Attr). y.name) (sym same)
       by false e = let z : None ≡ Some b = rw e at h in cc
-  new_found (x ∷ ats) b none h = by (means x) refl (attributes.is_named n x) refl (new_found ats b)
+  new_found (x ∷ ats) b none h = by (means x) refl (attributes.is_written_so n x) refl (new_found ats b)
     where
-      by : (p : Bool) → means x ≡ p → (d : Bool) → attributes.is_named n x ≡ d → (find means ats ≡ None → find means (with_attr n v ats) ≡ Some b → b.name ≡ n) → b.name ≡ n
+      by : (p : Bool) → means x ≡ p → (d : Bool) → attributes.is_written_so n x ≡ d → (find means ats ≡ None → find means (with_attr n v ats) ≡ Some b → b.name ≡ n) → b.name ≡ n
       by true e d e' rest = let z : Some x ≡ None = rw e at none in cc
       by false e true d rest =
           let none' : find means ats ≡ None = rw e at none in

@@ -4,17 +4,16 @@ use Rattle.std.proofs.lemmas.Option.{same_Some}
 use Rattle.std.specs.Option.{ForSome}
 use Rattle.xml_tree.specs.Tree.{Tree, kids_of, at}
 use Rattle.xml_tree.specs.Edits.{put_in}
-use Rattle.xml_tree.specs.Scopes.{scope_at, scope_below}
+use Rattle.xml_tree.specs.Scopes.{scope_at, scope_below, inside}
 use Rattle.xml_tree.proofs.ScopeLemmas.{scope_at-below}
 use Rattle.doc_names.specs.declared.usages.Usage.{Usage}
 use Rattle.usage_docs.specs.declared.rows.Kind.{Kind}
 use Rattle.usage_docs.specs.Rows.{Scope, root_kind}
-use Rattle.usage_docs.specs.Clashes.{inside}
 use Rattle.usage_docs.specs.Validity.{Schema}
 use Rattle.usage_docs.specs.Reading.Gaps.{FollowsGap, FollowsBelow}
 use Rattle.usage_docs.specs.Gaps.{GapThere}
 use Rattle.usage_docs.proofs.GapLemmas.{insertion_by_parts}
-use Rattle.plan_words.specs.Kinds.{kind_of_kid, kind_below, kind_at}
+use Rattle.usage_docs.specs.Kinds.{kind_of_kid, kind_below, kind_at}
 use Rattle.plan_words.proofs.Options.{came_from, through_kid, scope_through}
 
 -- the row down one child

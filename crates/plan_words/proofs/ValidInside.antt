@@ -4,21 +4,20 @@ use Rattle.std.proofs.lemmas.Option.{same_Some}
 use Rattle.std.specs.Option.{ForSome}
 use Rattle.xml_tree.specs.Tree.{Content, last, more, note, more_of, Tree, tree_of, kids, kids_of, at}
 use Rattle.xml_tree.specs.Edits.{before, change, change_at, change_kid, cut, cut_kid, put_over, take_in}
-use Rattle.xml_tree.specs.Scopes.{scope_at, scope_below}
+use Rattle.xml_tree.specs.Scopes.{scope_at, scope_below, inside}
 use Rattle.xml_tree.proofs.PlaceLaws.{change_at-append}
 use Rattle.xml_tree.proofs.ScopeLemmas.{scope_at-below}
 use Rattle.doc_names.specs.declared.usages.Usage.{Usage}
 use Rattle.usage_docs.specs.declared.rows.Kind.{Kind}
 use Rattle.usage_docs.specs.Rows.{Scope, root_kind}
 use Rattle.usage_docs.specs.Reading.Parts.{part_of, follows}
-use Rattle.usage_docs.specs.Clashes.{inside}
 use Rattle.usage_docs.specs.Validity.{AllKeep, KeepsRow, Schema, ValidChild, text_passes}
 use Rattle.usage_docs.proofs.Walking.{kept_walked, walk_kept}
 use Rattle.usage_docs.specs.Reading.Walks.{Walks}
 use Rattle.usage_docs.specs.Reading.Gaps.{part_before, part_after, part_of_kid}
 use Rattle.usage_docs.proofs.BlankTexts.{passes_append}
 use Rattle.plan_words.specs.Lawful.{KeepsTag}
-use Rattle.plan_words.specs.Kinds.{kind_of_kid, kind_below, kind_at}
+use Rattle.usage_docs.specs.Kinds.{kind_of_kid, kind_below, kind_at}
 use Rattle.plan_words.proofs.Options.{came_from, through_kid, scope_through}
 use Rattle.plan_words.proofs.StaysSelected.{keeps_at}
 use Rattle.plan_words.proofs.ValidBeside.{kind_through}

@@ -1,12 +1,13 @@
 -- What is looked at beside a change: the new element and its siblings.
 use Rattle.std.specs.Prelude.{◌≡◌, ◌<◌, ◌≤◌, ◌⊎◌, ℕ, suc, List, [], ◌∷◌, Some}
 use Rattle.xml_tree.specs.Tree.{Tree, kids_of}
+use Rattle.xml_tree.specs.Scopes.{inside}
 use Rattle.usage_docs.specs.declared.rows.Kind.{Kind}
 use Rattle.usage_docs.specs.declared.rows.Key.{Key}
 use Rattle.usage_docs.specs.Rows.{Scope}
 use Rattle.usage_docs.specs.Keys.{key_of}
-use Rattle.usage_docs.specs.Clashes.{inside, Mark, mark_of, mark_at, RepeatsAt}
-use Rattle.plan_words.specs.Kinds.{kind_of_kid}
+use Rattle.usage_docs.specs.Clashes.{Mark, mark_of, mark_at, RepeatsAt}
+use Rattle.usage_docs.specs.Kinds.{kind_of_kid}
 
 -- the i-th of some siblings has the kind and the key of a new one
 pub record IsTwin (row : Kind) (c : Scope) (kids : List Tree) (new : Tree) (i : ℕ) (key : Key) : Type 0 where

@@ -1,7 +1,6 @@
 pub mod Attributes
 pub mod Beside
 pub mod Deletions
-pub mod Kinds
 pub mod Lawful
 pub mod Plans
 pub mod Puts

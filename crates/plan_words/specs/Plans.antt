@@ -4,6 +4,7 @@ use Rattle.std.specs.Prelude.{◌≡◌, ◌⊎◌, ◌≤◌, [], Option, None,
 use Rattle.doc_names.specs.declared.usages.Usage.{Usage}
 use Rattle.xml_tree.specs.Tree.{Tree, height}
 use Rattle.xml_tree.specs.Proper.{ProperIn}
+use Rattle.xml_tree.specs.Limits.{most_levels}
 use Rattle.usage_docs.specs.Judging.{Judged}
 use Rattle.usage_docs.specs.declared.judging.Fault.{Fault}
 use Rattle.usage_docs.specs.declared.judging.Fault.TheVariants.{Invalid, Unformed, Repeated}
@@ -35,8 +36,8 @@ IsJudged u t change result = (fault : Option Fault) × (Judged u (edited t chang
 abbrev pub IsTested : EditRefusal → Type 0 → Usage → Tree → Change → Result Change EditRefusal → Type 0
 IsTested unlawful lawful u t change result = ((result ≡ Err unlawful) × (lawful → ⊥)) ⊎ (lawful × IsJudged u t change result)
 
--- the change is one of the document, and makes a proper one of at most 64 levels
+-- the change is one of the document, and makes a proper one of at most `most_levels` levels
 pub record LeavesProper (t : Tree) (change : Change) : Type 0 where
   pub fits : Fits t change
   pub proper : ProperIn [] (edited t change)
-  pub low : height (edited t change) ≤ 64
+  pub low : height (edited t change) ≤ most_levels

@@ -7,6 +7,7 @@ use Rattle.xml_tree.specs.Tree.{Tree, at, height, kids_of}
 use Rattle.xml_tree.specs.Edits.{put_in}
 use Rattle.xml_tree.specs.Proper.{ProperIn}
 use Rattle.xml_tree.specs.Scopes.{scope_around, scope_at}
+use Rattle.xml_tree.specs.Limits.{most_levels}
 use Rattle.node_select.specs.declared.selector.Step.{Step}
 use Rattle.usage_docs.specs.Validity as usage
 use Rattle.edit_ops.specs.declared.change.Change.{Change}
@@ -41,8 +42,8 @@ IsPutPlan u t steps (Value p) e result = ⊥
 
 -- an element at this spot has no level below the 64th
 abbrev pub HasRoomAt : Spot → Tree → Type 0
-HasRoomAt (Over p) e = length p + height e ≤ 64
-HasRoomAt (Under q) e = length q + suc (height e) ≤ 64
+HasRoomAt (Over p) e = length p + height e ≤ most_levels
+HasRoomAt (Under q) e = length q + suc (height e) ≤ most_levels
 HasRoomAt Beside e = Unit {0}
 HasRoomAt (Value p) e = Unit {0}
 

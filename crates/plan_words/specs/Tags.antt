@@ -9,9 +9,9 @@ use Rattle.usage_docs.specs.declared.rows.Kind.{Kind}
 use Rattle.usage_docs.specs.declared.rows.Kind.TheVariants.{ResourceList}
 use Rattle.usage_docs.specs.Rows.{Scope}
 use Rattle.usage_docs.specs.Keys.{attrs_pass}
-use Rattle.usage_docs.specs.Clashes.{inside}
+use Rattle.xml_tree.specs.Scopes.{inside}
 use Rattle.usage_docs.specs.Forms.{is_formed}
-use Rattle.plan_words.specs.Kinds.{kind_of_kid}
+use Rattle.usage_docs.specs.Kinds.{kind_of_kid}
 
 -- an element with these attributes in place of its own, and its tag alone
 abbrev pub with_attrs : List Attr → Tree → Tree

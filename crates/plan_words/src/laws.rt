@@ -20,7 +20,7 @@ ghost use Rattle.usage_docs.specs.Forms.{Constraints, IsNodeFormed};
 ghost use Rattle.usage_docs.specs.Clashes.{IsFirstClash, Unique};
 ghost use Rattle.usage_docs.specs.Reading.Siblings.{IsFirst};
 ghost use Rattle.plan_words.specs.Lawful.{KeepsTag, LawfulGap, LawfulOver};
-ghost use Rattle.plan_words.specs.Kinds.{kind_at};
+ghost use Rattle.usage_docs.specs.Kinds.{kind_at};
 ghost use Rattle.plan_words.specs.Removals.{ClosesUp, StillSelects};
 ghost use Rattle.plan_words.specs.Beside.{ClashesBeside, NoTwin, UniqueInside};
 ghost use Rattle.plan_words.specs.Tags.{AttrsFormed, AttrsPass, tag_with, with_attrs};

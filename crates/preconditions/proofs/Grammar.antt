@@ -4,8 +4,8 @@ use Rattle.std.specs.List.{AllByRecursion, filter_map, flat_map, cons_option}
 use Rattle.std.specs.Option.{option_map_or, option_to_list, IfSome}
 use Rattle.std.proofs.lemmas.Bool.Decides.{nat_tests}
 use Rattle.preconditions.specs.declared.tags.EntityTag.{EntityTag}
-use Rattle.preconditions.specs.Tags.{AreAll, IsTag, Part, IsPart, SpellsTags, part_text, tag_text, comma_joined, is_tag_byte, is_blank}
-use Rattle.preconditions.specs.Reading.{Place, Before, Letter, Slash, Inside, Behind, tag_of, opaque_front, tags_from, with_tags}
+use Rattle.preconditions.specs.Tags.{AreAll, IsPart, SpellsTags, tag_text, comma_joined, is_tag_byte, ListPart as Part, list_part_text as part_text, is_ows_byte as is_blank}
+use Rattle.preconditions.specs.Reading.{Place, Before, Letter, Slash, Inside, Behind, opaque_front, tags_from, with_tags, entity_tag as tag_of}
 use Rattle.preconditions.proofs.Fronts.{before-blanks, behind-blanks, inside-closed, front-closed}
 
 -- parts, a comma before each
@@ -32,7 +32,7 @@ tag-read false o s h =
     ∙ ap (λ q. with_tags (tag_of false q ∷ []) (tags_from Inside (o ++ 34 ∷ s))) (front-closed o s h)
     ∙ ap (λ m. with_tags (tag_of false o ∷ []) m) (inside-closed o s h)
 
-part-read : (before : List ℕ) (tag : Option EntityTag) (behind : List ℕ) (ps : List Part) → AreAll is_blank before → IfSome tag IsTag → AreAll is_blank behind → tags_from Before ((before ++ (option_map_or tag_text tag [] ++ behind)) ++ rest_text ps) ≡ with_tags (option_to_list tag) (tags_from Behind (rest_text ps))
+part-read : (before : List ℕ) (tag : Option EntityTag) (behind : List ℕ) (ps : List Part) → AreAll is_blank before → IfSome tag (λ t. AreAll is_tag_byte t.opaque) → AreAll is_blank behind → tags_from Before ((before ++ (option_map_or tag_text tag [] ++ behind)) ++ rest_text ps) ≡ with_tags (option_to_list tag) (tags_from Behind (rest_text ps))
 part-read before None behind ps a t b =
     ap (λ s. tags_from Before s) (append_assoc before behind (rest_text ps))
     ∙ before-blanks before (behind ++ rest_text ps) a
@@ -140,7 +140,7 @@ empty-whole ts h =
     }
 
 -- the part of a tag, and the rest behind it
-tag-whole : (t : EntityTag) (s rest : List ℕ) (ts us : List EntityTag) → s ≡ tag_text t ++ rest → ts ≡ t ∷ us → IsTag t → Tail rest us → Whole s ts
+tag-whole : (t : EntityTag) (s rest : List ℕ) (ts us : List EntityTag) → s ≡ tag_text t ++ rest → ts ≡ t ∷ us → AreAll is_tag_byte t.opaque → Tail rest us → Whole s ts
 tag-whole t s rest ts us e g h tail =
     record {
       part = record { before = []; tag = Some t; behind = tail.blanks };

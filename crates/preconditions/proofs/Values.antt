@@ -2,12 +2,13 @@
 use Rattle.std.proofs.Common.{◌≡◌, ◌≢◌, inl, inr, IfOk, IsErrOf, ℕ, Bool, true, false, cond, List, [], ◌∷◌, Option, None, Some, Result, Ok, Err, refl, sym, ap, ◌∙◌, subst}
 use Rattle.std.specs.Str.{bytes_eq}
 use Rattle.std.proofs.lemmas.Slice.Eq.{bytes_eq-Decides}
+use Rattle.xcap_io.specs.Wanting.{StatedOr as Answers}
 use Rattle.preconditions.specs.declared.tags.EntityTag.{EntityTag}
 use Rattle.preconditions.specs.declared.faults.ConditionFault.{ConditionFault}
 use Rattle.preconditions.specs.declared.faults.ConditionFault.TheVariants.{BadCondition, NoMemory}
 use Rattle.preconditions.specs.Tags.{comma_joined}
 use Rattle.preconditions.specs.Fields.{FieldValue, Missing, Star, Tags, Preconditions, Says, SayBoth, ConditionsAnswer}
-use Rattle.preconditions.specs.Reading.{Before, tags_from, listed, text_value, field_value, both, conditions_of, Answers}
+use Rattle.preconditions.specs.Reading.{Before, tags_from, listed, text_value, field_value, both, conditions_of}
 use Rattle.preconditions.proofs.Grammar.{spelled-reads, read-spells}
 
 is-same : (a b : List ℕ) → bytes_eq a b ≡ true → a ≡ b

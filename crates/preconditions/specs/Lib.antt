@@ -1,5 +1,5 @@
 pub mod Fields
 pub mod Reading
 pub mod Tags
-pub mod Values
 pub mod Verdicts
+pub mod inner

@@ -1,27 +1,27 @@
 -- The reading of condition fields, computed from left to right. That it is the grammar's one reading is a law (`fields_have_one_reading`).
-use Rattle.std.specs.Prelude.{◌≡◌, ◌⊎◌, ℕ, ◌==◌, Bool, true, false, if◌then◌else◌, List, [], ◌∷◌, ◌++◌, drop, Option, None, Some, option_map, Result, Ok, Err}
+use Rattle.std.specs.Prelude.{◌≡◌, ℕ, ◌==◌, Bool, true, false, if◌then◌else◌, List, [], ◌∷◌, ◌++◌, drop, Option, None, Some, option_map, Result, Ok, Err}
 use Rattle.std.specs.List.{take_while, prefix_len}
 use Rattle.std.specs.Str.{bytes_eq}
 use Rattle.preconditions.specs.declared.tags.EntityTag.{EntityTag}
 use Rattle.preconditions.specs.declared.faults.ConditionFault.{ConditionFault}
 use Rattle.preconditions.specs.declared.faults.ConditionFault.TheVariants.{BadCondition}
-use Rattle.preconditions.specs.Tags.{is_tag_byte, is_blank, comma_joined}
+use Rattle.preconditions.specs.Tags.{is_tag_byte, comma_joined, is_ows_byte}
 use Rattle.preconditions.specs.Fields.{FieldValue, Missing, Star, Tags, Preconditions}
 
 -- ---- one tag
 
-abbrev pub tag_of : Bool → List ℕ → EntityTag
-tag_of weak opaque = record { weak = weak; opaque = opaque }
+abbrev pub entity_tag : Bool → List ℕ → EntityTag
+entity_tag weak opaque = record { weak = weak; opaque = opaque }
 
 -- what follows the blanks at the front
 abbrev pub behind_blanks : List ℕ → List ℕ
 behind_blanks [] = []
-behind_blanks (c ∷ cs) = if is_blank c then behind_blanks cs else c ∷ cs
+behind_blanks (c ∷ cs) = if is_ows_byte c then behind_blanks cs else c ∷ cs
 
 -- no blank stands at the front
 abbrev pub IsTrimmed : List ℕ → Type 0
 IsTrimmed [] = Unit {0}
-IsTrimmed (c ∷ cs) = is_blank c ≡ false
+IsTrimmed (c ∷ cs) = is_ows_byte c ≡ false
 
 -- the bytes at the front that may stand between quotes
 abbrev pub opaque_front : List ℕ → List ℕ
@@ -37,7 +37,7 @@ abbrev pub closed : List ℕ → Option (List ℕ)
 closed s = behind_byte 34 (drop (prefix_len is_tag_byte s) s)
 
 abbrev pub quoted : Bool → List ℕ → Option (EntityTag × List ℕ)
-quoted weak s = option_map (λ rest. (tag_of weak (opaque_front s), rest)) (closed s)
+quoted weak s = option_map (λ rest. (entity_tag weak (opaque_front s), rest)) (closed s)
 
 abbrev pub behind_slash : List ℕ → Option (EntityTag × List ℕ)
 behind_slash [] = None
@@ -70,19 +70,19 @@ with_tags tags more = option_map (λ ts. tags ++ ts) more
 abbrev pub tags_from : Place → List ℕ → Option (List EntityTag)
 tags_from Before [] = Some []
 tags_from Before (c ∷ cs) =
-    if is_blank c then tags_from Before cs
+    if is_ows_byte c then tags_from Before cs
     else if c == 44 then tags_from Before cs
-    else if c == 34 then with_tags (tag_of false (opaque_front cs) ∷ []) (tags_from Inside cs)
+    else if c == 34 then with_tags (entity_tag false (opaque_front cs) ∷ []) (tags_from Inside cs)
     else if c == 87 then tags_from Letter cs
     else None
 tags_from Letter [] = None
 tags_from Letter (c ∷ cs) = if c == 47 then tags_from Slash cs else None
 tags_from Slash [] = None
-tags_from Slash (c ∷ cs) = if c == 34 then with_tags (tag_of true (opaque_front cs) ∷ []) (tags_from Inside cs) else None
+tags_from Slash (c ∷ cs) = if c == 34 then with_tags (entity_tag true (opaque_front cs) ∷ []) (tags_from Inside cs) else None
 tags_from Inside [] = None
 tags_from Inside (c ∷ cs) = if c == 34 then tags_from Behind cs else if is_tag_byte c then tags_from Inside cs else None
 tags_from Behind [] = Some []
-tags_from Behind (c ∷ cs) = if is_blank c then tags_from Behind cs else if c == 44 then tags_from Before cs else None
+tags_from Behind (c ∷ cs) = if is_ows_byte c then tags_from Behind cs else if c == 44 then tags_from Before cs else None
 
 -- ---- a field
 
@@ -111,7 +111,3 @@ both (Some a) (Some b) = Ok (record { if_match = a; if_none_match = b })
 -- what both fields say, or that one of them can't be read
 abbrev pub conditions_of : List (List ℕ) → List (List ℕ) → Result Preconditions ConditionFault
 conditions_of if_match if_none_match = both (field_value if_match) (field_value if_none_match)
-
--- the stated answer, or this one, which stands for want of memory
-abbrev pub Answers : {T E : Type 0} → E → Result T E → Result T E → Type 0
-Answers memory stated r = (r ≡ stated) ⊎ (r ≡ Err memory)

@@ -9,8 +9,8 @@ abbrev pub is_tag_byte : ℕ → Bool
 is_tag_byte c = c == 33 || (nat_le 35 c && nat_le c 126) || (nat_le 128 c && nat_le c 255)
 
 -- SP / HTAB
-abbrev pub is_blank : ℕ → Bool
-is_blank c = c == 32 || c == 9
+abbrev pub is_ows_byte : ℕ → Bool
+is_ows_byte c = c == 32 || c == 9
 
 -- each byte passes the test
 abbrev pub AreAll : (ℕ → Bool) → List ℕ → Type 0
@@ -20,22 +20,19 @@ AreAll test cs = AllByRecursion (λ c. test c ≡ true) cs
 abbrev pub tag_text : EntityTag → List ℕ
 tag_text t = (if t.weak then (87 ∷ 47 ∷ []) else []) ++ (34 ∷ (t.opaque ++ 34 ∷ []))
 
-abbrev pub IsTag : EntityTag → Type 0
-IsTag t = AreAll is_tag_byte t.opaque
-
 -- what stands between two commas of a list: OWS [ entity-tag ] OWS
-pub record Part : Type 0 where
+pub record ListPart : Type 0 where
   pub before : List ℕ
   pub tag : Option EntityTag
   pub behind : List ℕ
 
-abbrev pub part_text : Part → List ℕ
-part_text p = p.before ++ (option_map_or tag_text p.tag [] ++ p.behind)
+abbrev pub list_part_text : ListPart → List ℕ
+list_part_text p = p.before ++ (option_map_or tag_text p.tag [] ++ p.behind)
 
-pub record IsPart (p : Part) : Type 0 where
-  pub before : AreAll is_blank p.before
-  pub tag : IfSome p.tag IsTag
-  pub behind : AreAll is_blank p.behind
+pub record IsPart (p : ListPart) : Type 0 where
+  pub before : AreAll is_ows_byte p.before
+  pub tag : IfSome p.tag (λ t. AreAll is_tag_byte t.opaque)
+  pub behind : AreAll is_ows_byte p.behind
 
 -- texts with a comma between each two
 abbrev pub comma_joined : List (List ℕ) → List ℕ
@@ -44,7 +41,7 @@ comma_joined (text ∷ texts) = text ++ flat_map (λ t. 44 ∷ t) texts
 
 -- the text is a list of exactly these tags, in order; any part may be empty
 pub record SpellsTags (text : List ℕ) (tags : List EntityTag) : Type 0 where
-  pub parts : List Part
-  pub spelled : text ≡ comma_joined (map part_text parts)
+  pub parts : List ListPart
+  pub spelled : text ≡ comma_joined (map list_part_text parts)
   pub tagged : tags ≡ filter_map (λ p. p.tag) parts
   pub lawful : AllByRecursion IsPart parts

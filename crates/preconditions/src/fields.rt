@@ -1,8 +1,9 @@
 //! The fields `If-Match` and `If-None-Match` (RFC 9110, sections 13.1.1 and 13.1.2).
 ghost use Rattle.std.specs.Prelude.{◌≡◌, ◌++◌, ◌∷◌, [], Some, None, IfOk, IsErrOf, flat_map};
+ghost use Rattle.xcap_io.specs.Wanting.{StatedOr};
 ghost use Rattle.preconditions.specs.Fields.{ConditionsAnswer, SayBoth};
-ghost use Rattle.preconditions.specs.Reading.{text_value, field_value, conditions_of, Answers};
-ghost use Rattle.preconditions.specs.Values.{value_of};
+ghost use Rattle.preconditions.specs.Reading.{text_value, field_value, conditions_of};
+ghost use Rattle.preconditions.specs.inner.Values.{value_of};
 
 use crate::tags::read_tags;
 use crate::{ConditionFault, EntityTag, NoMemory};
@@ -30,7 +31,7 @@ impl Model for Conditions {
 
     ghost Value = { Preconditions };
 
-    ghost use Rattle.preconditions.specs.Values.{value_of};
+    ghost use Rattle.preconditions.specs.inner.Values.{value_of};
 
     ghost view = { λ c. record { if_match = value_of c.if_match; if_none_match = value_of c.if_none_match } };
 }
@@ -95,7 +96,7 @@ fn read_both(
     if_match: &[Bytes],
     if_none_match: &[Bytes],
 ) -> Result<Conditions, ConditionFault>
-    ensures conditions_of_both_or_their_fault { Answers ConditionFault.NoMemory (conditions_of if_match.now if_none_match.now) result }
+    ensures conditions_of_both_or_their_fault { StatedOr ConditionFault.NoMemory (conditions_of if_match.now if_none_match.now) result }
 {
     let if_match = read_field(alloc, if_match)?;
     let if_none_match = read_field(alloc, if_none_match)?;

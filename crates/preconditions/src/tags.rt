@@ -1,8 +1,8 @@
 //! Lists of entity tags (RFC 9110, sections 5.6.1 and 8.8.3).
 ghost use Rattle.std.specs.Prelude.{◌≡◌, ◌≤◌, ◌<◌, ◌++◌, ◌∷◌, [], length, Some, None, IfOk, OnOk, IsErrOf, MatchOption};
 ghost use Rattle.std.specs.List.{prefix_len};
-ghost use Rattle.preconditions.specs.Tags.{is_tag_byte, is_blank};
-ghost use Rattle.preconditions.specs.Reading.{Before, Behind, behind_blanks, IsTrimmed, behind_byte, closed, opaque_front, first_tag, tags_from, with_tags, tag_of};
+ghost use Rattle.preconditions.specs.Tags.{is_tag_byte, is_ows_byte};
+ghost use Rattle.preconditions.specs.Reading.{Before, Behind, behind_blanks, IsTrimmed, behind_byte, closed, opaque_front, first_tag, tags_from, with_tags, entity_tag};
 
 use crate::{ConditionFault, NoMemory};
 use std::alloc::Global;
@@ -26,7 +26,7 @@ struct Front<'a> {
 }
 
 fn is_blank(byte: u8) -> bool
-    ensures tells_whether_it_is_blank { result ≡ is_blank byte }
+    ensures tells_whether_it_is_blank { result ≡ is_ows_byte byte }
 {
     byte == b' ' || byte == b'\t'
 }
@@ -90,7 +90,7 @@ fn quoted(weak: bool, text: &[u8]) -> Option<Front<'_>>
 }
 
 fn first_tag(text: &[u8]) -> Option<Front<'_>>
-    ensures tag_at_the_front { MatchOption result (first_tag text.now ≡ None) (λ f. (first_tag text.now ≡ Some (tag_of f.weak f.opaque.now, f.rest.now)) × (length f.rest.now ≤ length text.now)) }
+    ensures tag_at_the_front { MatchOption result (first_tag text.now ≡ None) (λ f. (first_tag text.now ≡ Some (entity_tag f.weak f.opaque.now, f.rest.now)) × (length f.rest.now ≤ length text.now)) }
 {
     match text {
         [b'"', rest @ ..] => quoted(false, rest),
@@ -106,7 +106,7 @@ fn push_tag(
     weak: bool,
     opaque: &[u8],
 ) -> Result<(), NoMemory>
-    ensures adds_the_tag { OnOk result (tags.new.items ≡ tags.old.items ++ tag_of weak opaque.now ∷ []) }
+    ensures adds_the_tag { OnOk result (tags.new.items ≡ tags.old.items ++ entity_tag weak opaque.now ∷ []) }
 {
     let opaque = Bytes::from(alloc, opaque)?;
     tags.push(EntityTag { weak, opaque })?;

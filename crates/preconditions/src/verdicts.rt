@@ -2,7 +2,7 @@
 ghost use Rattle.std.specs.Prelude.{◌≡◌, decimal};
 ghost use Rattle.std.specs.List.{list_any};
 ghost use Rattle.std.specs.Str.{bytes_eq};
-ghost use Rattle.preconditions.specs.Values.{value_of};
+ghost use Rattle.preconditions.specs.inner.Values.{value_of};
 ghost use Rattle.preconditions.specs.Verdicts.{is_own, is_strongly_own, if_match_holds, if_none_match_holds, verdict_of};
 
 use crate::fields::Field;

@@ -32,14 +32,10 @@ is_known Other = false
 
 -- ---- what a method that reads is sent
 
--- a reply without its body, for HEAD (RFC 9110, section 9.3.2)
-abbrev pub head_only : Sent → Sent
-head_only r = record r { body = [] }
-
--- GET's reply, or its head
+-- GET's reply, or that without its body (RFC 9110, section 9.3.2)
 abbrev pub as_asked : Method → Sent → Sent
 as_asked Get reply = reply
-as_asked Head reply = head_only reply
+as_asked Head reply = record reply { body = [] }
 as_asked Put reply = reply
 as_asked Delete reply = reply
 as_asked Other reply = reply

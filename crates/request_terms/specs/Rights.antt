@@ -10,13 +10,9 @@ use Rattle.doc_names.specs.declared.doc_id.Home.TheVariants.{Global, User}
 use Rattle.http_wire.specs.Fields.{values_of}
 use Rattle.http_wire.specs.declared.request.Field.{Field}
 
--- the fields of a request, each as its name and its value
-abbrev pub pairs : List Field → List (List ℕ × List ℕ)
-pairs fields = map (λ f. (f.name, f.value)) fields
-
 -- the values of the fields of this name, in order
 abbrev pub fields_named : List ℕ → List Field → List (List ℕ)
-fields_named name fields = values_of name (pairs fields)
+fields_named name fields = values_of name (map (λ f. (f.name, f.value)) fields)
 
 -- there is exactly one value, and it is this
 abbrev pub is_only : List ℕ → List (List ℕ) → Bool

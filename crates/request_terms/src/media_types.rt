@@ -1,14 +1,13 @@
 //! The media type of a request's body (RFC 9110, sections 8.3 and 8.4).
-ghost use Rattle.std.specs.Prelude.{◌≡◌, ◌==◌, codes, reverse};
+ghost use Rattle.std.specs.Prelude.{◌≡◌, ◌==◌, codes};
 ghost use Rattle.std.specs.List.{before_first, position};
-ghost use Rattle.httparse.specs.Grammar.{skip_ows, trim_ows};
+ghost use Rattle.httparse.specs.Grammar.{trim_ows};
 ghost use Rattle.request_terms.specs.MediaTypes.{document_media, essence, is_type, has_type};
 ghost use Rattle.request_terms.specs.Rights.{fields_named};
 
-use crate::named::{all_named_are, is_same_word, only_named};
+use crate::named::{all_named_are, only_named};
 use doc_names::Auid;
-use http_wire::{Field, Request};
-use httparse::is_space_or_tab;
+use http_wire::{Field, Request, is_same_word, trim_end, trim_start};
 use reply_text::{Media, media_type};
 
 /// Whether the body of a request is of this type as it was sent: there is exactly one `Content-Type`, which is this one, whatever
@@ -62,28 +61,6 @@ fn trim(bytes: &[u8]) -> &[u8]
     ensures trims_both_ends { result.now ≡ trim_ows bytes.now }
 {
     trim_end(trim_start(bytes))
-}
-
-fn trim_start(mut bytes: &[u8]) -> &[u8]
-    ensures trims_the_start { result.now ≡ skip_ows bytes.now }
-{
-    'blanks: while let [first, rest @ ..] = bytes
-        && is_space_or_tab(*first)
-    {
-        bytes = rest;
-    }
-    bytes
-}
-
-fn trim_end(mut bytes: &[u8]) -> &[u8]
-    ensures trims_the_end { result.now ≡ reverse (skip_ows (reverse bytes.now)) }
-{
-    'blanks: while let [rest @ .., last] = bytes
-        && is_space_or_tab(*last)
-    {
-        bytes = rest;
-    }
-    bytes
 }
 
 /// The media type of a usage's documents. Takes no memory.

@@ -6,7 +6,7 @@ ghost use Rattle.http_wire.specs.Fields.{same_word};
 ghost use Rattle.request_terms.specs.Rights.{fields_named};
 
 use crate::NoMemory;
-use http_wire::Field;
+use http_wire::{Field, is_same_word};
 use std::alloc::Global;
 use xcap_io::Bytes;
 use xml_tree::{List, Text};
@@ -58,13 +58,6 @@ pub fn all_named_are(mut fields: &[Field], name: &[u8], word: &[u8]) -> bool
         fields = rest;
     }
     true
-}
-
-// Whether two words are equal, whatever the case of their letters.
-pub fn is_same_word(a: &[u8], b: &[u8]) -> bool
-    ensures tells_whether_they_are_one_word { result ≡ same_word a.now b.now }
-{
-    a.eq_ignore_ascii_case(b)
 }
 
 // Copies of the values of the fields of that name, in order.

@@ -5,6 +5,7 @@ use Rattle.std.proofs.lemmas.Bool.Decides.{nat_tests}
 use Rattle.std.proofs.lemmas.List.{append-nil, length-map}
 use Rattle.std.proofs.lemmas.List.Concat.{flat_map-append}
 use Rattle.std.proofs.lemmas.List.Sums.{sum_by-append}
+use Rattle.std.specs.Option.{option_or as or_else}
 use Rattle.xml_tree.specs.Tree.{Tree}
 use Rattle.usage_docs.specs.Services.{document_len}
 use Rattle.usage_docs.specs.declared.keys.Clash.{Clash}
@@ -17,10 +18,10 @@ use Rattle.notes.specs.Notes.{note_of}
 use Rattle.store_core.specs.declared.refusal.StoreRefusal.{StoreRefusal}
 use Rattle.store_core.specs.declared.refusal.StoreRefusal.TheVariants.{ServiceTaken, TooLarge, TooMany, StoreFull, NoNumber}
 use Rattle.store_core.specs.State.{Document, State, created, renewed}
-use Rattle.store_core.specs.Held.{Content, Held, Stands, content_of, held_of}
+use Rattle.store_core.specs.Held.{Held, Stands, held_of, Stock as Content, stock_of as content_of}
 use Rattle.store_core.specs.Keeping.{AreApart, IsSoundFor, Kept, addresses, addresses_in}
 use Rattle.doc_names.specs.Usages.{usage_of}
-use Rattle.store_core.specs.Changing.{Act, Makes, Edits, Removes, act_of, after_act, against, against_number, against_tree, answered, changing, content_after, document_in, held_name, note_for, only_if, or_else, other_addresses, other_lengths, taken}
+use Rattle.store_core.specs.Changing.{Act, Makes, Edits, Removes, act_of, after_act, against, against_number, against_tree, answered, changing, content_after, document_in, held_name, note_for, only_if, other_addresses, other_lengths, taken}
 use Rattle.store_core.specs.Suiting.{Suits, SuitsAct}
 use Rattle.store_core.proofs.Apart.{none-filtered, one-exchanged, one-filtered}
 use Rattle.store_core.proofs.KeptAfter.{round}

@@ -6,11 +6,12 @@ use Rattle.std.specs.Str.{bytes_eq}
 use Rattle.std.proofs.lemmas.Bool.Decides.{nat_tests}
 use Rattle.std.proofs.lemmas.Iterator.Adapters.{position_from-zero}
 use Rattle.std.proofs.lemmas.Slice.Eq.{bytes_eq-Decides}
+use Rattle.std.specs.Option.{option_or as or_else}
 use Rattle.usage_docs.specs.declared.keys.Clash.{Clash}
 use Rattle.usage_docs.specs.declared.rows.Key.TheVariants.{Uri}
 use Rattle.store_core.specs.declared.refusal.StoreRefusal.{StoreRefusal}
 use Rattle.store_core.specs.Keeping.{AreApart}
-use Rattle.store_core.specs.Changing.{only_if, or_else, taken}
+use Rattle.store_core.specs.Changing.{only_if, taken}
 use Rattle.store_core.proofs.Apart.{each-append, each-right, apart-behind, apart-cut}
 
 module _ {X : Type 0} where

@@ -13,7 +13,7 @@ use Rattle.edit_ops.specs.declared.change.Change.TheVariants.{CreateDocument, Re
 use Rattle.xml_tree.specs.Tree.{Tree}
 use Rattle.store_core.specs.Asking.{Asks, AsksAct, MayBe, MayBeFor}
 use Rattle.store_core.specs.Changing.{Act, Edits, act_of, document_in, held_name}
-use Rattle.store_core.specs.Held.{Content, Held}
+use Rattle.store_core.specs.Held.{Held, Stock as Content}
 use Rattle.store_core.specs.Keeping.{IsUsers}
 use Rattle.doc_names.specs.Usages.{usage_of}
 use Rattle.doc_names.proofs.SameIds.{id_exact}

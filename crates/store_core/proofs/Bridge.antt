@@ -10,7 +10,7 @@ use Rattle.doc_names.specs.declared.doc_id.DocId.{DocId}
 use Rattle.notes.specs.Notes.{Note}
 use Rattle.notes.specs.Operations.{weight}
 use Rattle.store_core.specs.Changing.{document_in, document_name, held_name}
-use Rattle.store_core.specs.Held.{Content, Held, Stands, held_of}
+use Rattle.store_core.specs.Held.{Held, Stands, held_of, Stock as Content}
 use Rattle.doc_names.specs.Usages.{usage_of}
 use Rattle.store_core.specs.Keeping.{IsKept, Kept}
 use Rattle.store_core.specs.Since.{Told, held_since, notes_from, since, story_of}

@@ -8,10 +8,10 @@ use Rattle.std.specs.Ordering.{is_lt, ordering_reverse}
 use Rattle.std.specs.declared.cmp.Ordering.{Ordering}
 use Rattle.std.specs.declared.cmp.Ordering.TheVariants.{Less, Equal, Greater}
 use Rattle.xml_tree.specs.Tree.{Tree}
-use Rattle.store_core.specs.Held.{Content}
 use Rattle.store_core.specs.Indexes.{AreByUser, AreIndexTrees, indexed}
 use Rattle.store_core.proofs.InOrder.{Pair, cmp, each-placed, in_order, placed, put, turned}
 use Rattle.store_core.proofs.Sorting.{Rises, from-lower, one-order, rises-sorted, sorted-rises, tied}
+use Rattle.store_core.specs.Held.{Stock as Content}
 
 abbrev less : Pair → Pair → Bool
 less x y = is_lt (cmp x.0 y.0)

@@ -5,12 +5,14 @@ use Rattle.std.specs.Str.{bytes_eq}
 use Rattle.doc_names.specs.declared.doc_id.DocId.{DocId}
 use Rattle.store_core.specs.declared.entry.Entry.{Entry}
 use Rattle.store_core.specs.Changing.{content_after}
-use Rattle.store_core.specs.Held.{Content, Stands}
+use Rattle.store_core.specs.Held.{Stands, Stock as Content}
 use Rattle.store_core.specs.KeyAddresses.{KeepsAddressesOf}
-use Rattle.store_core.specs.Storing.{IsStoring, Room, Stored, content_in, exchanged, registered}
-use Rattle.store_core.specs.Preparing.{IsReady, Readied, Steppable, Stepped}
+use Rattle.store_core.specs.inner.Storing.{IsStoring, content_in, exchanged, registered}
+use Rattle.store_core.specs.Preparing.{IsReady, Readied}
 use Rattle.store_core.proofs.KeyAddresses.{change_stays}
 use Rattle.store_core.proofs.Stored.{steppable, stored}
+use Rattle.store_core.specs.Stored.{Room, Stored}
+use Rattle.store_core.specs.inner.Planning.{Stepped, Steppable}
 
 module _ (es : List (DocId × Entry)) (rs : List (List ℕ × ℕ)) (last total : ℕ) (room : Room) (s : Stored) (p q : Readied)
     (seen : (let x : Stored = record { content = content_in es last; room = room } in x) ≡ s) (same : p ≡ q) (storing : IsStoring es rs last total) (ready : IsReady s q) where

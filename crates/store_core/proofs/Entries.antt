@@ -11,11 +11,11 @@ use Rattle.doc_names.specs.Same.{same_id}
 use Rattle.doc_names.specs.declared.doc_id.DocId.{DocId}
 use Rattle.store_core.specs.declared.entry.Entry.{Entry}
 use Rattle.store_core.specs.State.{Document, State}
-use Rattle.store_core.specs.Held.{Content, Held, Stands, held_of}
+use Rattle.store_core.specs.Held.{Held, Stands, held_of, Stock as Content}
 use Rattle.store_core.specs.Keeping.{AreApart, IsKept, IsSoundFor, Kept, addresses, addresses_in}
 use Rattle.doc_names.specs.Usages.{usage_of}
 use Rattle.store_core.specs.Changing.{document_in, held_name}
-use Rattle.store_core.specs.Storing.{content_in, held_in, len_in, name_in, uris_in}
+use Rattle.store_core.specs.inner.Storing.{content_in, held_in, len_in, name_in, uris_in}
 use Rattle.store_core.proofs.Accepted.{sum-mapped}
 use Rattle.store_core.proofs.Apart.{apart-behind, each-weaker}
 use Rattle.doc_names.proofs.SameIds.{other-name, id_exact}

@@ -8,7 +8,7 @@ use Rattle.doc_names.proofs.SameIds.{id_self}
 use Rattle.edit_ops.specs.declared.change.Change.{Change}
 use Rattle.edit_ops.specs.declared.change.Change.TheVariants.{CreateDocument, RemoveDocument}
 use Rattle.store_core.specs.Changing.{Act, Edits, act_of, content_after, content_after_act, document_in, held_after, held_name, without_document}
-use Rattle.store_core.specs.Held.{Content, Held}
+use Rattle.store_core.specs.Held.{Held, Stock as Content}
 
 -- ---- the documents with one exchanged, with one more, and without one
 

@@ -8,8 +8,8 @@ use Rattle.std.specs.List.{AllByRecursion, flat_map}
 use Rattle.std.specs.Set.{is_member}
 use Rattle.std.specs.Str.{bytes_eq}
 use Rattle.store_core.specs.Keeping.{AreApart}
-use Rattle.store_core.specs.Changing.{or_else}
-use Rattle.store_core.specs.Storing.{holder_in, is_others}
+use Rattle.std.specs.Option.{option_or as or_else}
+use Rattle.store_core.specs.inner.Storing.{holder_in, is_others}
 use Rattle.store_core.proofs.Admitted.{apart-unmix, unlike-all}
 
 neither-of : (a b : Bool) → (a || b) ≡ false → (a ≡ false) × (b ≡ false)

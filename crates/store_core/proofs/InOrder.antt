@@ -8,7 +8,7 @@ use Rattle.std.specs.Ordering.{is_eq, match_ordering, nat_cmp, ordering_reverse}
 use Rattle.std.specs.declared.cmp.Ordering.{Ordering}
 use Rattle.std.specs.declared.cmp.Ordering.TheVariants.{Less, Equal, Greater}
 use Rattle.xml_tree.specs.Tree.{Tree}
-use Rattle.store_core.specs.Listed.{entered}
+use Rattle.store_core.specs.inner.Listed.{entered}
 
 abbrev pub Pair : Type 0
 Pair = List ℕ × Tree

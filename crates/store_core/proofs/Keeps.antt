@@ -5,7 +5,7 @@ use Rattle.edit_ops.specs.declared.change.Change.{Change}
 use Rattle.notes.specs.Notes.{Note}
 use Rattle.store_core.specs.declared.refusal.StoreRefusal.{StoreRefusal}
 use Rattle.store_core.specs.State.{State}
-use Rattle.store_core.specs.Held.{Content, Stands}
+use Rattle.store_core.specs.Held.{Stands, Stock as Content}
 use Rattle.store_core.specs.Keeping.{Kept}
 use Rattle.store_core.specs.Asking.{Asks}
 use Rattle.store_core.specs.Changing.{act_of, after, against, answered, changing, content_after, document_in, held_name, note_for}

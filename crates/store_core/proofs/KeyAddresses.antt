@@ -15,7 +15,7 @@ use Rattle.key_laws.proofs.Stable.{after_change}
 use Rattle.notes.specs.Notes.{Note}
 use Rattle.store_core.specs.Asking.{Asks, AsksAct, MayBe, MayBeFor}
 use Rattle.store_core.specs.Changing.{Act, Makes, Edits, Removes, act_of, against, changing, content_after, document_in, held_after, held_name, note_for}
-use Rattle.store_core.specs.Held.{Content, Held, Stands}
+use Rattle.store_core.specs.Held.{Held, Stands, Stock as Content}
 use Rattle.store_core.specs.KeyAddresses.{KeepsAddressesOf}
 use Rattle.store_core.specs.Keeping.{IsSound, IsSoundFor, Kept}
 use Rattle.store_core.specs.State.{State}

@@ -18,11 +18,12 @@ use Rattle.doc_names.specs.declared.doc_id.DocId.{DocId}
 use Rattle.store_core.specs.declared.entry.Entry.{Entry}
 use Rattle.store_core.specs.Indexes.{AreIndexTrees, index, indexed, indexed_by}
 use Rattle.store_core.specs.Keeping.{AreApart}
-use Rattle.store_core.specs.Listed.{entered, listed, pairs_in}
-use Rattle.store_core.specs.Storing.{IsStoring, Room, Stored, content_in, held_in, name_in}
+use Rattle.store_core.specs.inner.Listed.{entered, listed, pairs_in}
+use Rattle.store_core.specs.inner.Storing.{IsStoring, content_in, held_in, name_in}
 use Rattle.store_core.proofs.ByUser.{index_trees, some-index-trees}
 use Rattle.store_core.proofs.InOrder.{NamesApart, Other, each-in-order, entered-in-order, equal-texts, in_order}
 use Rattle.store_core.proofs.Stored.{known-of}
+use Rattle.store_core.specs.Stored.{Room, Stored}
 
 abbrev Row : Type 0
 Row = DocId × Entry

@@ -2,6 +2,7 @@
 use Rattle.std.proofs.Common.{◌≡◌, ℕ, ◌+◌, ◌≤◌, Bool, true, false, List, [], length, sum_by, ◌⊎◌, inl, inr, Option, None, Some, IsSome, option_map, Result, Ok, Err, refl, sym, ap, subst, ◌∙◌, arith}
 use Rattle.std.proofs.lemmas.Option.{same_Some}
 use Rattle.std.specs.Result.{IsErrAnd}
+use Rattle.std.specs.Option.{option_or as or_else}
 use Rattle.xml_tree.specs.Tree.{Tree}
 use Rattle.usage_docs.specs.Services.{document_len}
 use Rattle.doc_names.specs.Same.{same_id}
@@ -16,15 +17,16 @@ use Rattle.store_core.specs.declared.refusal.StoreRefusal.{StoreRefusal}
 use Rattle.store_core.specs.declared.refusal.StoreRefusal.TheVariants.{NoMemory}
 use Rattle.store_core.specs.declared.entry.Entry.{Entry}
 use Rattle.store_core.specs.declared.step.Step.TheVariants.{Make, Edit, End}
-use Rattle.store_core.specs.Held.{Content, Held}
+use Rattle.store_core.specs.Held.{Held, Stock as Content}
 use Rattle.store_core.specs.Keeping.{addresses_in}
 use Rattle.store_core.specs.Asking.{Asks}
-use Rattle.store_core.specs.Changing.{Act, Edits, act_of, against, against_number, against_tree, answered, changing, content_after, document_in, held_name, note_for, or_else, other_lengths}
-use Rattle.store_core.specs.Storing.{Stored, entry_of}
-use Rattle.store_core.specs.Preparing.{IsHeldAs, IsNoted, IsPlanned, IsReady, Plans, Readied, total_of}
+use Rattle.store_core.specs.Changing.{Act, Edits, act_of, against, against_number, against_tree, answered, changing, content_after, document_in, held_name, note_for, other_lengths}
+use Rattle.store_core.specs.Preparing.{IsPlanned, IsReady, Readied, total_of}
 use Rattle.store_core.proofs.Accepted.{passes, unfound}
 use Rattle.store_core.proofs.Apart.{none-filtered}
 use Rattle.store_core.proofs.Planning.{refused-first, refused-last, not-refused-at-all}
+use Rattle.store_core.specs.Stored.{Stored, entry_of}
+use Rattle.store_core.specs.inner.Planning.{IsHeldAs, IsNoted, Plans}
 
 -- ---- any change
 

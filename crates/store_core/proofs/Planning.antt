@@ -7,6 +7,7 @@ use Rattle.std.specs.List.{AllByRecursion, flat_map, position}
 use Rattle.std.specs.Map.{lookup}
 use Rattle.std.specs.Set.{is_member}
 use Rattle.std.specs.Str.{bytes_eq}
+use Rattle.std.specs.Option.{option_or as or_else}
 use Rattle.xml_tree.specs.Tree.{Tree}
 use Rattle.usage_docs.specs.Services.{document_len}
 use Rattle.usage_docs.specs.declared.keys.Clash.{Clash}
@@ -17,11 +18,11 @@ use Rattle.notes.specs.Notes.{Note}
 use Rattle.store_core.specs.declared.entry.Entry.{Entry}
 use Rattle.store_core.specs.declared.refusal.StoreRefusal.{StoreRefusal}
 use Rattle.store_core.specs.declared.refusal.StoreRefusal.TheVariants.{ServiceTaken, TooLarge, TooMany, StoreFull}
-use Rattle.store_core.specs.Held.{Content, Held}
+use Rattle.store_core.specs.Held.{Held, Stock as Content}
 use Rattle.store_core.specs.Keeping.{AreApart, addresses_in}
-use Rattle.store_core.specs.Changing.{against_tree, answered, document_in, held_name, only_if, or_else, other_addresses, other_lengths, taken, without_document}
-use Rattle.store_core.specs.Storing.{IsStoring, Room, Stored, content_in, held_in, holder, is_others, len_in, number_in, registered, uris_in}
-use Rattle.store_core.specs.Preparing.{IsHeldAs, refused_for, total_of}
+use Rattle.store_core.specs.Changing.{against_tree, answered, document_in, held_name, only_if, other_addresses, other_lengths, taken, without_document}
+use Rattle.store_core.specs.inner.Storing.{IsStoring, content_in, held_in, holder, is_others, len_in, number_in, registered, uris_in}
+use Rattle.store_core.specs.Preparing.{total_of}
 use Rattle.store_core.proofs.Accepted.{sum-mapped, sum-put}
 use Rattle.store_core.proofs.Apart.{each-append, each-weaker, apart-behind, none-filtered, one-filtered}
 use Rattle.store_core.proofs.Admitted.{apart-before}
@@ -29,6 +30,8 @@ use Rattle.store_core.proofs.Standing.{map-filtered}
 use Rattle.store_core.proofs.Entries.{Around, each-unmapped, none-found}
 use Rattle.store_core.proofs.Holders.{is-other, others-hold, others-hold-beside}
 use Rattle.store_core.proofs.Stored.{absent-entry, around-of, held-found, known-of, len-of, total-is}
+use Rattle.store_core.specs.Stored.{Room, Stored}
+use Rattle.store_core.specs.inner.Planning.{refused_for, IsHeldAs}
 
 abbrev Row : Type 0
 Row = DocId × Entry

@@ -8,7 +8,8 @@ use Rattle.std.specs.Str.{bytes_eq}
 use Rattle.std.proofs.lemmas.Slice.Eq.{bytes_eq-Decides}
 use Rattle.xml_tree.specs.Tree.{Tree, kids_of}
 use Rattle.xml_tree.specs.declared.names.Attr.{Attr}
-use Rattle.usage_docs.specs.Clashes.{Unique, mark, mark_of, inside}
+use Rattle.xml_tree.specs.Scopes.{inside}
+use Rattle.usage_docs.specs.Clashes.{Unique, mark, mark_of}
 use Rattle.usage_docs.specs.Keys.{attribute_of, key_of, key_value, value_of}
 use Rattle.usage_docs.specs.Rows.{Scope, child_named, kind_of, model_of, own_space, root_kind, space_of, word_of}
 use Rattle.usage_docs.specs.Services.{service_uri, service_uris}

@@ -5,7 +5,7 @@ use Rattle.doc_names.specs.Same.{same_id}
 use Rattle.doc_names.specs.Usages.{usage_of}
 use Rattle.doc_names.specs.declared.doc_id.DocId.{DocId}
 use Rattle.store_core.specs.Changing.{document_in, held_name}
-use Rattle.store_core.specs.Held.{Content, Held, Stands, held_of}
+use Rattle.store_core.specs.Held.{Held, Stands, held_of, Stock as Content}
 use Rattle.store_core.specs.Keeping.{IsKept, IsSoundFor, Kept}
 use Rattle.store_core.specs.State.{Document, State}
 use Rattle.store_core.proofs.Asked.{found-name}

@@ -9,7 +9,7 @@ use Rattle.edit_ops.specs.declared.change.Change.{Change}
 use Rattle.notes.specs.Notes.{Note, note_of}
 use Rattle.notes.specs.Operations.{weight}
 use Rattle.store_core.specs.State.{Document, State, versions, notes, retained, renewed, created}
-use Rattle.store_core.specs.Held.{Content, Held, Stands, content_of, held_of}
+use Rattle.store_core.specs.Held.{Held, Stands, held_of, Stock as Content, stock_of as content_of}
 use Rattle.store_core.specs.Changing.{Act, Makes, Edits, Removes, act_of, after, after_act, content_after, content_after_act, held_after}
 use Rattle.store_core.proofs.Ends.{small_end-push}
 

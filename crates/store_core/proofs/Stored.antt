@@ -23,11 +23,11 @@ use Rattle.store_core.specs.declared.entry.Entry.{Entry}
 use Rattle.store_core.specs.declared.step.Step.{Step}
 use Rattle.store_core.specs.declared.step.Step.TheVariants.{Make, Edit, End}
 use Rattle.store_core.specs.State.{State, first_state, retained}
-use Rattle.store_core.specs.Held.{Content, Held, Stands}
+use Rattle.store_core.specs.Held.{Held, Stands, Stock as Content}
 use Rattle.store_core.specs.Keeping.{AreApart, IsSoundFor, Kept}
 use Rattle.store_core.specs.Changing.{Act, Edits, after, act_of, content_after, content_after_act, document_in, held_after, held_name, with_document}
-use Rattle.store_core.specs.Storing.{IsRenewed, IsStoring, Room, Stored, content_in, exchanged, held_in, holder, len_in, number_in, registered, uris_in}
-use Rattle.store_core.specs.Preparing.{IsPlanned, IsStepOf, Readied, Steppable, Stepped, total_of}
+use Rattle.store_core.specs.inner.Storing.{IsRenewed, IsStoring, content_in, exchanged, held_in, holder, len_in, number_in, registered, uris_in}
+use Rattle.store_core.specs.Preparing.{IsPlanned, IsStepOf, Readied, total_of}
 use Rattle.store_core.proofs.Accepted.{find-map, sum-first, sum-mapped, sum-put}
 use Rattle.store_core.proofs.Apart.{apart-cut, apart-put, each-append, each-cut, each-left, each-right, each-weaker, one-exchanged, one-filtered}
 use Rattle.store_core.proofs.Asked.{asked}
@@ -37,6 +37,8 @@ use Rattle.store_core.proofs.SoundHeld.{all_sound, sound_held}
 use Rattle.store_core.proofs.Standing.{map-filtered}
 use Rattle.store_core.proofs.Entries.{Around, Known, around, each-mapped, known, none-found}
 use Rattle.store_core.proofs.Holders.{held-apart, held-less}
+use Rattle.store_core.specs.Stored.{Room, Stored}
+use Rattle.store_core.specs.inner.Planning.{Stepped, Steppable}
 
 abbrev Row : Type 0
 Row = DocId × Entry

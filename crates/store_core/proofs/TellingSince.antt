@@ -6,14 +6,15 @@ use Rattle.std.specs.Option.{option_map}
 use Rattle.doc_names.specs.Same.{same_id}
 use Rattle.doc_names.specs.declared.doc_id.DocId.{DocId}
 use Rattle.notes.specs.Notes.{Note}
-use Rattle.notes.specs.Recorded.{joined, note_in}
+use Rattle.notes.specs.Recorded.{note_in, all_notes as joined}
 use Rattle.notes.specs.declared.edit_note.EditNote.{EditNote}
 use Rattle.store_core.specs.declared.entry.Entry.{Entry}
 use Rattle.store_core.specs.Changing.{document_in, held_name}
 use Rattle.store_core.specs.Held.{Held}
 use Rattle.store_core.specs.Since.{Story, Gone, Told, held_since, notes_from, since, story_of}
-use Rattle.store_core.specs.Storing.{Stored, held_in}
+use Rattle.store_core.specs.inner.Storing.{held_in}
 use Rattle.store_core.proofs.Entries.{read-as}
+use Rattle.store_core.specs.Stored.{Stored}
 
 -- ---- in two pieces
 

@@ -13,7 +13,7 @@ pub record Held : Type 0 where
   pub notes : List Note
 
 -- what a store holds: the documents in the order of their creation, and the next number
-pub record Content : Type 0 where
+pub record Stock : Type 0 where
   pub documents : List Held
   pub next : ℕ
 
@@ -21,9 +21,9 @@ abbrev pub held_of : Document → Held
 held_of d = record { id = d.id; tag = d.now.tag; tree = d.now.tree; notes = retained (notes d) }
 
 -- what a store holds of a state
-abbrev pub content_of : State → Content
-content_of m = record { documents = map held_of m.documents; next = m.next }
+abbrev pub stock_of : State → Stock
+stock_of m = record { documents = map held_of m.documents; next = m.next }
 
 -- a store with this content stands for the state
-abbrev pub Stands : Content → State → Type 0
-Stands content state = content ≡ content_of state
+abbrev pub Stands : Stock → State → Type 0
+Stands content state = content ≡ stock_of state

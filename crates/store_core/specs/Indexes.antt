@@ -10,7 +10,7 @@ use Rattle.doc_names.specs.declared.doc_id.Auid.{Auid}
 use Rattle.doc_names.specs.declared.doc_id.Auid.TheVariants.{ResourceLists, RlsServices, XcapCaps}
 use Rattle.doc_names.specs.declared.doc_id.Home.{Home}
 use Rattle.doc_names.specs.declared.doc_id.Home.TheVariants.{Global, User}
-use Rattle.store_core.specs.Held.{Content, Held}
+use Rattle.store_core.specs.Held.{Held, Stock}
 
 -- the name that each document of services has which the index lists
 unfoldable pub index : List ℕ
@@ -36,5 +36,5 @@ pub record AreByUser (documents ordered : List (List ℕ × Tree)) : Type 0 wher
   pub keeps : IsStableByKey (λ (d : List ℕ × Tree). d.0) (slice_cmp nat_cmp) documents ordered
 
 -- the trees that the index lists, by the users' names
-abbrev pub AreIndexTrees : Content → List Tree → Type 0
+abbrev pub AreIndexTrees : Stock → List Tree → Type 0
 AreIndexTrees c trees = (ordered : List (List ℕ × Tree)) × AreByUser (filter_map indexed c.documents) ordered × (trees ≡ map (λ d. d.1) ordered)

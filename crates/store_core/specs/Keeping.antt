@@ -3,6 +3,7 @@ use Rattle.std.specs.Prelude.{◌≡◌, ◌≢◌, ℕ, ◌<◌, ◌≤◌, Lis
 use Rattle.std.specs.List.{AllByRecursion}
 use Rattle.xml_tree.specs.Tree.{Tree, height}
 use Rattle.xml_tree.specs.Proper.{ProperIn}
+use Rattle.xml_tree.specs.Limits.{most_levels}
 use Rattle.usage_docs.specs.Judging.{Judged}
 use Rattle.usage_docs.specs.Services.{document_len, service_uris}
 use Rattle.doc_names.specs.declared.usages.Usage.{Usage}
@@ -33,7 +34,7 @@ IsUsers (User xui) = Unit {0}
 -- a tree that may be a document of the usage
 pub record IsSound (usage : Usage) (t : Tree) : Type 0 where
   pub proper : ProperIn [] t
-  pub low : height t ≤ 64
+  pub low : height t ≤ most_levels
   pub faultless : Judged usage t None
   pub short : document_len t ≤ most_bytes
 

@@ -6,10 +6,10 @@ pub mod Indexes
 pub mod KeyAddresses
 pub mod Keeping
 pub mod Limits
-pub mod Listed
 pub mod Preparing
 pub mod Since
 pub mod State
 pub mod Stories
-pub mod Storing
+pub mod Stored
 pub mod Suiting
+pub mod inner

@@ -2,7 +2,7 @@
 use Rattle.std.specs.Prelude.{ℕ, ◌==◌, List, [], ◌∷◌, Option, None, Some, if◌then◌else◌}
 use Rattle.doc_names.specs.declared.doc_id.DocId.{DocId}
 use Rattle.notes.specs.Notes.{Note}
-use Rattle.store_core.specs.Held.{Content, Held}
+use Rattle.store_core.specs.Held.{Held, Stock}
 use Rattle.store_core.specs.Changing.{document_in, held_name}
 
 -- the document isn't held; the tag is neither its own nor the one before a note that is kept; or the notes from that tag on
@@ -24,5 +24,5 @@ abbrev pub held_since : ℕ → Option Held → Story
 held_since tag None = Gone
 held_since tag (Some h) = if h.tag == tag then Told [] else story_of (notes_from tag h.notes)
 
-abbrev pub since : Content → DocId → ℕ → Story
+abbrev pub since : Stock → DocId → ℕ → Story
 since c id tag = held_since tag (document_in held_name c.documents id)

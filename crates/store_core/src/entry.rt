@@ -1,12 +1,13 @@
 //! One document as the store keeps it, with the notes that are retained of its changes (RFC 5874, section 3).
 ghost use Rattle.std.specs.Prelude.{◌≡◌, ◌<◌, ◌++◌, ◌∷◌, [], true, false, length, map, min, nat_le, sum_by, IfOk};
+ghost use Rattle.store_core.specs.Stored.{entry_of};
 ghost use Rattle.edit_ops.specs.Changes.{Fits};
 ghost use Rattle.edit_ops.specs.Staging.{IsStaged};
 ghost use Rattle.notes.specs.Operations.{weight};
 ghost use Rattle.notes.specs.Recorded.{note_in};
 ghost use Rattle.usage_docs.specs.Services.{document_len};
 ghost use Rattle.store_core.specs.State.{is_small, retained};
-ghost use Rattle.store_core.specs.Storing.{IsRenewed, entry_of};
+ghost use Rattle.store_core.specs.inner.Storing.{IsRenewed};
 
 use circular_buffer::HeapCircularBuffer;
 use edit_ops::{Staged, make_staged};

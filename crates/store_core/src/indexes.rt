@@ -4,7 +4,7 @@ ghost use Rattle.std.specs.Str.{bytes_eq};
 ghost use Rattle.std.specs.Option.{option_map};
 ghost use Rattle.xml_tree.specs.Tree.{Tree, height};
 ghost use Rattle.store_core.specs.Indexes.{AreIndexTrees, index, indexed_by, indexed_in};
-ghost use Rattle.store_core.specs.Listed.{entered, listed, pairs_in};
+ghost use Rattle.store_core.specs.inner.Listed.{entered, listed, pairs_in};
 
 use crate::step::Documents;
 use crate::{NoMemory, Store};

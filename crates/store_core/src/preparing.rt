@@ -1,5 +1,6 @@
 //! Changes of documents: each first takes all its memory, and then can't fail.
 ghost use Rattle.std.specs.Prelude.{◌≡◌, ◌≤◌, ◌+◌, ◌⊎◌, [], ◌∷◌, Err, IfErr, IfOk, IsSome, IsSomeAnd, None, Ok, OnOk, Some, false, min, true};
+ghost use Rattle.store_core.specs.inner.Planning.{refused_for, IsHeldAs, IsNoted, Plans};
 ghost use Rattle.xml_tree.specs.Tree.{Tree};
 ghost use Rattle.usage_docs.specs.Services.{document_len};
 ghost use Rattle.usage_docs.specs.declared.rows.Key.TheVariants as keys;
@@ -10,8 +11,8 @@ ghost use Rattle.store_core.specs.Changing.{Edits, act_of, against_number, again
 ghost use Rattle.store_core.specs.Keeping.{addresses_in};
 ghost use Rattle.store_core.specs.KeyAddresses.{KeepsAddressesOf};
 ghost use Rattle.edit_ops.specs.Changes.{Fits, edited};
-ghost use Rattle.store_core.specs.Preparing.{IsHeldAs, IsNoted, IsReady, Plans, refused_for, total_of};
-ghost use Rattle.store_core.specs.Storing.{entry_of};
+ghost use Rattle.store_core.specs.Preparing.{IsReady, total_of};
+ghost use Rattle.store_core.specs.Stored.{entry_of};
 ghost use Rattle.store_core.specs.declared.step.Step.TheVariants as steps;
 ghost use Rattle.notes.specs.Recorded.{note_in};
 

@@ -6,7 +6,7 @@ ghost use Rattle.indexmap.specs.IndexMap.{spare};
 ghost use Rattle.edit_ops.specs.Changes.{Fits, edited};
 ghost use Rattle.usage_docs.specs.Services.{service_uris};
 ghost use Rattle.store_core.specs.Keeping.{addresses_in};
-ghost use Rattle.store_core.specs.Storing.{is_others, registered};
+ghost use Rattle.store_core.specs.inner.Storing.{is_others, registered};
 
 use doc_names::Auid;
 use edit_ops::{Change, rebuilt};

@@ -3,8 +3,8 @@ ghost use Rattle.std.specs.Prelude.{◌≡◌, ◌==◌, ℕ, List, [], map, if�
 ghost use Rattle.std.specs.Option.{option_map};
 ghost use Rattle.doc_names.specs.declared.doc_id.DocId.{DocId};
 ghost use Rattle.notes.specs.Notes.{Note};
-ghost use Rattle.notes.specs.Recorded.{joined, note_in};
-ghost use Rattle.store_core.specs.Held.{Content, Stands};
+ghost use Rattle.notes.specs.Recorded.{note_in, all_notes};
+ghost use Rattle.store_core.specs.Held.{Stands, Stock};
 ghost use Rattle.store_core.specs.History.{IsSince};
 ghost use Rattle.store_core.specs.Keeping.{Kept};
 ghost use Rattle.store_core.specs.Since.{Told, notes_from, since, story_of};
@@ -42,7 +42,7 @@ fn from_tag(notes: &[EditNote], tag: u64) -> Option<&[EditNote]>
 
 // The same, in two pieces of which the older is empty.
 fn from_tag_alone(newer: &[EditNote], tag: u64) -> Option<Notes<'_>>
-    ensures notes_of_one_piece_from_the_tag { option_map (λ found. joined found.older.now found.newer.now) result ≡ notes_from tag (map note_in newer.now) }
+    ensures notes_of_one_piece_from_the_tag { option_map (λ found. all_notes found.older.now found.newer.now) result ≡ notes_from tag (map note_in newer.now) }
 {
     match from_tag(newer, tag) {
         Some(found) => Some(Notes {
@@ -55,7 +55,7 @@ fn from_tag_alone(newer: &[EditNote], tag: u64) -> Option<Notes<'_>>
 
 // The same of notes in two pieces.
 fn from_tag_in<'a>(older: &'a [EditNote], newer: &'a [EditNote], tag: u64) -> Option<Notes<'a>>
-    ensures notes_of_both_from_the_tag { option_map (λ found. joined found.older.now found.newer.now) result ≡ notes_from tag (joined older.now newer.now) }
+    ensures notes_of_both_from_the_tag { option_map (λ found. all_notes found.older.now found.newer.now) result ≡ notes_from tag (all_notes older.now newer.now) }
 {
     match from_tag(older, tag) {
         Some(found) => Some(Notes {
@@ -101,5 +101,5 @@ impl Store {
 /// version with that tag, the notes lead from it to the version that the document has now, through
 /// sound trees, and they are at most 64.
 pub fn notes_since_a_version_lead_from_it()
-    ensures notes_lead_to_what_is_held { (c : Content) (m : State) (id : DocId) (tag : ℕ) (ns : List Note) → Kept m → Stands c m → since c id tag ≡ Told ns → IsSince m id tag ns }
+    ensures notes_lead_to_what_is_held { (c : Stock) (m : State) (id : DocId) (tag : ℕ) (ns : List Note) → Kept m → Stands c m → since c id tag ≡ Told ns → IsSince m id tag ns }
 {}

@@ -7,7 +7,7 @@ ghost use Rattle.doc_names.specs.Same.{same_id};
 ghost use Rattle.edit_ops.specs.Changes.{Fits};
 ghost use Rattle.edit_ops.specs.Staging.{IsStaged};
 ghost use Rattle.store_core.specs.declared.entry.Entry.{Entry as Held};
-ghost use Rattle.store_core.specs.Storing.{IsRenewed};
+ghost use Rattle.store_core.specs.inner.Storing.{IsRenewed};
 
 use crate::entry::{Entry, renew};
 use doc_names::DocId;
@@ -79,7 +79,7 @@ fn end(documents: &mut Documents, doc: &DocId)
 }
 
 impl Step {
-    ghost use Rattle.store_core.specs.Preparing.{Steppable, Stepped};
+    ghost use Rattle.store_core.specs.inner.Planning.{Stepped, Steppable};
 
     /// Does it under a number, and answers the number of the document's creation.
     pub(crate) fn take(self, documents: &mut Documents, doc: DocId, number: u64) -> u64

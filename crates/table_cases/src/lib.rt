@@ -4,13 +4,14 @@
 #![tactic(auto)]
 
 mod fields;
+mod judging;
 mod names;
 mod readings;
 mod tally;
 mod words;
 
 pub use fields::{Field, escaped, is_case, read_fields};
+pub use judging::{Answers, judge_tables};
 pub use names::{home, lists_of, tag, usage};
 pub use readings::{LEVELS, bindings, decls, document, element, name, path, print};
-pub use tally::{Case, Tally};
 pub use words::first_word;

@@ -15,9 +15,9 @@ use xml_tree::Element;
 
 // The root of all addresses in the tables.
 fn root(alloc: Global) -> Result<Root> {
-    match read_root(alloc, "http://xcap.example.com/xcap") {
-        Ok(root) => Ok(root),
-        Err(_) => bail!("no root"),
+    match read_root(alloc, "http://xcap.example.com/xcap")? {
+        Some(root) => Ok(root),
+        None => bail!("no root"),
     }
 }
 

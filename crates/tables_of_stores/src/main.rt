@@ -8,42 +8,26 @@
 mod nodes;
 mod store;
 
-use anyhow::{Context, Result};
+use anyhow::Result;
 use std::alloc::Global;
 use std::process::ExitCode;
-use std::{env, fs};
-use table_cases::{Case, Field, Tally, is_case};
+use table_cases::{Answers, Field, judge_tables};
 
-// The answer of a case of a table, from its inputs.
-fn answer(alloc: Global, table: &str, inputs: &[Field]) -> Result<String> {
-    match table {
-        "store" => store::answer(alloc, inputs),
-        _ => nodes::answer(alloc, table, inputs),
-    }
+// The calls that the tables judge.
+#[derive(Drop)]
+struct Calls {
+    alloc: Global,
 }
 
-// Whether every case of a table is as written.
-fn is_as_written(rt: &HostRuntime, name: &str) -> Result<bool> {
-    let alloc = rt.alloc();
-    let path = format!(in alloc; "{name}.table")?;
-    let text = fs::read_to_string(rt, path.as_str()).context(format_args!("reading {name}"))?;
-    let mut tally = Tally::new(name);
-    for (before, line) in text.as_str().lines().enumerate() {
-        if is_case(line) {
-            let number = before.saturating_add(1);
-            let case = Case::read(alloc, name, number, line)?;
-            tally.judge(rt, number, line, &case, answer(alloc, name, &case.inputs))?;
+impl Answers for Calls {
+    fn answer(&self, table: &str, inputs: &[Field]) -> Result<String> {
+        match table {
+            "store" => store::answer(self.alloc, inputs),
+            _ => nodes::answer(self.alloc, table, inputs),
         }
     }
-    tally.finish(rt)
 }
 
 fn main(rt: HostRuntime) -> Result<ExitCode> {
-    let mut differs = false;
-    for name in env::args(&rt)?.skip(1) {
-        if !is_as_written(&rt, name.as_str())? {
-            differs = true;
-        }
-    }
-    Ok(ExitCode::from(u8::from(differs)))
+    judge_tables(&rt, &Calls { alloc: rt.alloc() })
 }

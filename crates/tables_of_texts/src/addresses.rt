@@ -6,22 +6,20 @@ use doc_names::{Auid, DocId, Home, print_doc_id};
 use std::alloc::Global;
 use table_cases::Field;
 use tree_text::ReadError;
-use xcap_uri::{Mode, Root, RootFault, Target, UriFault, read_root, read_target};
+use xcap_uri::{Mode, Root, Target, UriFault, read_root, read_target};
 
 /// The answers of the tables of addresses.
 pub fn answer(alloc: Global, table: &str, inputs: &[Field]) -> Result<String> {
     match (table, inputs) {
         ("roots", [text]) => parts(alloc, text.text()?),
-        ("targets", [root, target]) => {
-            meaning(alloc, &read_root(alloc, root.text()?)?, target.bytes())
-        }
+        ("targets", [root, target]) => { meaning(alloc, &root_of(alloc, root)?, target.bytes()) }
         ("ids", [root, target]) => {
-            let root = read_root(alloc, root.text()?)?;
+            let root = root_of(alloc, root)?;
             let id = print_doc_id(alloc, &named(alloc, &root, target)?)?;
             Ok(String::from_str(alloc, id.as_str())?)
         }
         ("names", [root, first, second]) => {
-            let root = read_root(alloc, root.text()?)?;
+            let root = root_of(alloc, root)?;
             let first = named(alloc, &root, first)?.copy(alloc)?;
             let is_same = first.same(&named(alloc, &root, second)?);
             Ok(String::from_str(alloc, if is_same { "same" } else { "others" })?)
@@ -32,14 +30,19 @@ pub fn answer(alloc: Global, table: &str, inputs: &[Field]) -> Result<String> {
 
 // The parts of a root, those of a copy, or that there is none.
 fn parts(alloc: Global, text: &str) -> Result<String> {
-    match read_root(alloc, text) {
-        Ok(root) => {
-            let root = root.copy(alloc)?;
-            let (text, authority, path) = (root.text(), root.authority(), root.path());
-            Ok(format!(in alloc; "{text} at {authority} path {path}.")?)
-        }
-        Err(RootFault::NotRoot) => Ok(String::from_str(alloc, "not-root")?),
-        Err(RootFault::NoMemory) => bail!("no memory"),
+    let Some(root) = read_root(alloc, text)? else {
+        return Ok(String::from_str(alloc, "not-root")?);
+    };
+    let root = root.copy(alloc)?;
+    let (text, authority, path) = (root.text(), root.authority(), root.path());
+    Ok(format!(in alloc; "{text} at {authority} path {path}.")?)
+}
+
+// The root that a field spells.
+fn root_of(alloc: Global, field: &Field) -> Result<Root> {
+    match read_root(alloc, field.text()?)? {
+        Some(root) => Ok(root),
+        None => bail!("no root"),
     }
 }
 

@@ -9,24 +9,30 @@ mod selectors;
 mod shown;
 mod texts;
 
-use anyhow::{Context, Result, bail};
+use anyhow::{Result, bail};
 use std::alloc::Global;
 use std::process::ExitCode;
-use std::{env, fs};
-use table_cases::{Case, Field, Tally, is_case};
+use table_cases::{Answers, Field, judge_tables};
 
-// The answer of a case of a table, from its inputs.
-fn answer(alloc: Global, table: &str, inputs: &[Field]) -> Result<String> {
-    match table {
-        "escapes" => same(alloc, inputs),
-        "documents" | "fragments" | "attribute_bodies" | "document_prints" => {
-            texts::answer(alloc, table, inputs)
+// The calls that the tables judge.
+#[derive(Drop)]
+struct Calls {
+    alloc: Global,
+}
+
+impl Answers for Calls {
+    fn answer(&self, table: &str, inputs: &[Field]) -> Result<String> {
+        match table {
+            "escapes" => same(self.alloc, inputs),
+            "documents" | "fragments" | "attribute_bodies" | "document_prints" => {
+                texts::answer(self.alloc, table, inputs)
+            }
+            "selectors" | "patch_selectors" | "selections" | "bindings" | "attributes" => {
+                selectors::answer(self.alloc, table, inputs)
+            }
+            "roots" | "targets" | "ids" | "names" => addresses::answer(self.alloc, table, inputs),
+            _ => bail!("no such table"),
         }
-        "selectors" | "patch_selectors" | "selections" | "bindings" | "attributes" => {
-            selectors::answer(alloc, table, inputs)
-        }
-        "roots" | "targets" | "ids" | "names" => addresses::answer(alloc, table, inputs),
-        _ => bail!("no such table"),
     }
 }
 
@@ -38,28 +44,6 @@ fn same(alloc: Global, inputs: &[Field]) -> Result<String> {
     Ok(String::from_str(alloc, input.text()?)?)
 }
 
-// Whether every case of a table is as written.
-fn is_as_written(rt: &HostRuntime, name: &str) -> Result<bool> {
-    let alloc = rt.alloc();
-    let path = format!(in alloc; "{name}.table")?;
-    let text = fs::read_to_string(rt, path.as_str()).context(format_args!("reading {name}"))?;
-    let mut tally = Tally::new(name);
-    for (before, line) in text.as_str().lines().enumerate() {
-        if is_case(line) {
-            let number = before.saturating_add(1);
-            let case = Case::read(alloc, name, number, line)?;
-            tally.judge(rt, number, line, &case, answer(alloc, name, &case.inputs))?;
-        }
-    }
-    tally.finish(rt)
-}
-
 fn main(rt: HostRuntime) -> Result<ExitCode> {
-    let mut differs = false;
-    for name in env::args(&rt)?.skip(1) {
-        if !is_as_written(&rt, name.as_str())? {
-            differs = true;
-        }
-    }
-    Ok(ExitCode::from(u8::from(differs)))
+    judge_tables(&rt, &Calls { alloc: rt.alloc() })
 }

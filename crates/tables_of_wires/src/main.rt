@@ -1,6 +1,6 @@
-//! A program that judges tables of cases: lines, requests, conditions and replies. Each word of the command line names a table, a file of one
-//! case a line: the inputs and, in its last field, the answer. It makes each call, prints one line a table and each case whose
-//! answer differs, and then ends with the status 1.
+//! A program that judges tables of cases: lines, requests, responses, conditions and replies. Each word of the command line names
+//! a table, a file of one case a line: the inputs and, in its last field, the answer. It makes each call, prints one line a table
+//! and each case whose answer differs, and then ends with the status 1.
 //! The standards are those of the calls.
 #![tactic(auto)]
 
@@ -9,52 +9,36 @@ mod heads;
 mod lines;
 mod replies;
 mod requests;
+mod responses;
 mod streams;
 
-use anyhow::{Context, Result};
-use std::net::Net;
+use anyhow::Result;
 use std::process::ExitCode;
-use std::rt::Files;
-use std::{env, fs};
-use table_cases::{Case, Field, Tally, is_case};
+use table_cases::{Answers, Field, judge_tables};
 
-// The answer of a case of a table, from its inputs.
-fn answer(rt: &(impl Net + Files + AllocGlobal), table: &str, inputs: &[Field]) -> Result<String> {
-    let alloc = rt.alloc();
-    match table {
-        "requests" | "items" | "bodies" | "resets" | "faults" | "chunked" => {
-            requests::answer(alloc, table, inputs)
-        }
-        "methods" | "rights" | "types" | "outcomes" => heads::answer(alloc, table, inputs),
-        "conditions" => conditions::answer(alloc, inputs),
-        "replies" | "conflicts" | "writes" => replies::answer(alloc, table, inputs),
-        "pipes" | "sockets" => streams::answer(rt, table, inputs),
-        _ => lines::answer(alloc, table, inputs),
-    }
+// The calls that the tables judge.
+#[derive(Drop)]
+struct Calls<'a> {
+    rt: &'a HostRuntime,
 }
 
-// Whether every case of a table is as written.
-fn is_as_written(rt: &HostRuntime, name: &str) -> Result<bool> {
-    let alloc = rt.alloc();
-    let path = format!(in alloc; "{name}.table")?;
-    let text = fs::read_to_string(rt, path.as_str()).context(format_args!("reading {name}"))?;
-    let mut tally = Tally::new(name);
-    for (before, line) in text.as_str().lines().enumerate() {
-        if is_case(line) {
-            let number = before.saturating_add(1);
-            let case = Case::read(alloc, name, number, line)?;
-            tally.judge(rt, number, line, &case, answer(rt, name, &case.inputs))?;
+impl Answers for Calls<'_> {
+    fn answer(&self, table: &str, inputs: &[Field]) -> Result<String> {
+        let alloc = self.rt.alloc();
+        match table {
+            "requests" | "items" | "bodies" | "resets" | "faults" | "chunked" => {
+                requests::answer(alloc, table, inputs)
+            }
+            "methods" | "rights" | "types" | "outcomes" => heads::answer(alloc, table, inputs),
+            "responses" | "cut-off" => responses::answer(alloc, table, inputs),
+            "conditions" => conditions::answer(alloc, inputs),
+            "replies" | "conflicts" | "writes" => replies::answer(alloc, table, inputs),
+            "pipes" | "sockets" => streams::answer(self.rt, table, inputs),
+            _ => lines::answer(alloc, table, inputs),
         }
     }
-    tally.finish(rt)
 }
 
 fn main(rt: HostRuntime) -> Result<ExitCode> {
-    let mut differs = false;
-    for name in env::args(&rt)?.skip(1) {
-        if !is_as_written(&rt, name.as_str())? {
-            differs = true;
-        }
-    }
-    Ok(ExitCode::from(u8::from(differs)))
+    judge_tables(&rt, &Calls { rt: &rt })
 }

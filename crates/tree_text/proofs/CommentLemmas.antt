@@ -1,13 +1,13 @@
 -- The inside of a comment, with its line ends read, can stand in a tree.
 use Rattle.std.proofs.Common.{◌≡◌, ℕ, Bool, true, false, cond, List, [], ◌∷◌, length, drop, Result, Ok, Err, refl, sym, ap, subst}
 use Rattle.std.specs.Prelude.{◌&&◌, not, ◌==◌, nat_eq, None, Some}
-use Rattle.std.specs.List.{list_all}
+use Rattle.std.specs.List.{list_all, cons_option as with_char}
 use Rattle.std.proofs.lemmas.Bool.{eqb-true, eq-eqb}
 use Rattle.grammar_rules.specs.Reading.{Stop, Syntax, ◌>>=◌, head_is, starts, read_up_to}
 use Rattle.xml_tree.specs.Characters.{is_char}
 use Rattle.xml_tree.specs.Comments.{is_kept_char, hyphens_apart, is_comment}
 use Rattle.tree_text.specs.declared.kind.Kind.{Kind}
-use Rattle.tree_text.specs.Pieces.{with_char, line_ends}
+use Rattle.tree_text.specs.Pieces.{line_ends}
 use Rattle.tree_text.specs.readers.Words.{dashes}
 
 -- the first character is there, and no hyphen

@@ -2,7 +2,7 @@
 use Rattle.std.proofs.Common.{◌≡◌, Bool, true, false, cond, List, [], ◌∷◌, ◌++◌, refl, ap}
 use Rattle.std.specs.Prelude.{◌&&◌}
 use Rattle.tree_text.specs.declared.said.Said.{Said}
-use Rattle.tree_text.specs.Names.{declares, decl_of, attr_of, decls_of, attrs_of}
+use Rattle.tree_text.specs.Names.{attr_of, decls_of, attrs_of, said_decl as decl_of, is_declaring as declares}
 
 pub no_and : (a : Bool) → a && false ≡ false
 no_and true = refl

@@ -5,7 +5,7 @@ use Rattle.std.proofs.lemmas.List.{length-append, append-nil}
 use Rattle.xml_tree.specs.Characters.{is_name_start, is_name_char, is_space}
 use Rattle.xml_tree.specs.declared.names.Name.{Name}
 use Rattle.xml_tree.specs.declared.names.Decl.{Decl}
-use Rattle.grammar_rules.specs.Rules.{Each, word, sequence, many, optional, name_of, before, behind}
+use Rattle.grammar_rules.specs.Rules.{Each, word, sequence, many, optional, before, behind, name_rule as name_of}
 use Rattle.grammar_rules.proofs.Heads.{uses}
 use Rattle.grammar_rules.proofs.Marks.{Judges}
 use Rattle.tree_text.specs.readers.Words.{colon}
@@ -14,7 +14,7 @@ use Rattle.tree_text.specs.declared.kind.Kind.TheVariants.{Encoded, Doctyped, De
 use Rattle.tree_text.specs.declared.said.Said.{Said}
 use Rattle.tree_text.specs.Kinds.{is_fault, rank, faults}
 use Rattle.tree_text.specs.Pieces.{Tag, qname_of, written}
-use Rattle.tree_text.specs.Names.{inside, is_unbound, is_misnamed, is_repeated, IsWrongSaid, widths, opening, IsWrong}
+use Rattle.tree_text.specs.Names.{is_misnamed, is_repeated, IsWrongSaid, widths, IsWrong, inside_tag as inside, opening_size as opening, is_unbound_in as is_unbound}
 use Rattle.tree_text.specs.readers.Judging.{wrong_said, or_later, first_wrong, first_of_tag, counted_back, tag_fault}
 use Rattle.tree_text.specs.Grammar.{name, qname, spaces, said, tag_end, tag}
 use Rattle.tree_text.proofs.NameLemmas.{prefixed_size}

@@ -17,7 +17,7 @@ use Rattle.tree_text.specs.declared.meanings.Meaning.TheVariants.{Declared, Name
 use Rattle.tree_text.specs.declared.said.Said.{Said}
 use Rattle.tree_text.specs.readers.Bindings.{AreKept, lists, number}
 use Rattle.tree_text.specs.readers.Meanings.{Means, Holds, says, attr_number, same_number}
-use Rattle.tree_text.specs.Names.{declares, decl_of, says_again, is_repeated}
+use Rattle.tree_text.specs.Names.{says_again, is_repeated, said_decl as decl_of, is_declaring as declares}
 use Rattle.tree_text.proofs.NamespaceLemmas.{number_of, attrs_same}
 
 and_swap : (a b : Bool) → a && b ≡ b && a

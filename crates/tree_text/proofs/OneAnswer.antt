@@ -13,7 +13,7 @@ use Rattle.tree_text.specs.declared.kind.Kind.{Kind}
 use Rattle.tree_text.specs.declared.kind.Kind.TheVariants.{Encoded, Doctyped, Depth, Unbound, Repeated}
 use Rattle.tree_text.specs.Kinds.{faults, rank}
 use Rattle.tree_text.specs.Grammar.{document, spelling}
-use Rattle.tree_text.specs.Faults.{place, fault_of, told, TextAnswer, spelling_of, body_told, BodyAnswer}
+use Rattle.tree_text.specs.Faults.{place, fault_of, TextAnswer, spelling_of, body_told, BodyAnswer, text_told as told}
 
 -- the fault of a rank
 by_rank : List ℕ → List ℕ → ℕ → TextFault

@@ -4,7 +4,7 @@ use Rattle.std.specs.List.{list_all}
 use Rattle.std.specs.Prelude.{nat_eq, nat_le, not}
 use Rattle.std.proofs.lemmas.Bool.{and_parts, eqb-true, le-leb, ne_eqb}
 use Rattle.grammar_rules.specs.Reading.{Stop, ◌>>=◌, front_of, after_front, front_without, after_without}
-use Rattle.xml_tree.specs.Characters.{within}
+use Rattle.std.specs.Int.{is_in_range as within}
 use Rattle.xml_tree.specs.Tree.{Content, Tree}
 use Rattle.xml_tree.proofs.Places.{with_text-nil}
 use Rattle.tree_text.specs.declared.kind.Kind.{Kind}

@@ -12,7 +12,7 @@ use Rattle.xml_tree.specs.declared.names.Decl.{Decl}
 use Rattle.xml_tree.specs.declared.names.Attr.{Attr}
 use Rattle.tree_text.specs.readers.Words.{end_start, greater}
 use Rattle.tree_text.specs.declared.kind.Kind.{Kind}
-use Rattle.tree_text.specs.Names.{decls_of, attrs_of, inside, element_of}
+use Rattle.tree_text.specs.Names.{decls_of, attrs_of, element_of, inside_tag as inside}
 use Rattle.tree_text.specs.Pieces.{Tag, written, written_by}
 use Rattle.tree_text.specs.readers.Texts.{read_end_tag, read_behind_tag, read_element}
 use Rattle.tree_text.proofs.ReadFronts.{Reads, reads_sequence, reads_valued, reads_before, reads_behind, reads_word, reads_none}

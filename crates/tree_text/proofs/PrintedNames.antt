@@ -5,7 +5,7 @@ use Rattle.std.specs.List.{list_all}
 use Rattle.grammar_rules.specs.Rules.{AllPass}
 use Rattle.grammar_rules.specs.Reading.{head_is, read_empty, read_behind, read_run, read_valued, read_word, read_quoted}
 use Rattle.xml_tree.specs.Characters.{is_char, is_space, is_name_start, is_name_char, is_name}
-use Rattle.xml_tree.specs.Print.{declaring, print_attr, print_decl, print_name, quoted, value_escape}
+use Rattle.xml_tree.specs.Print.{declaring, print_attr, print_decl, print_name, value_escape, quoted_text as quoted}
 use Rattle.xml_tree.specs.Proper.{is_prefix}
 use Rattle.xml_tree.specs.Scopes.{xmlns_prefix}
 use Rattle.xml_tree.specs.declared.names.Name.{Name}

@@ -6,7 +6,7 @@ use Rattle.std.proofs.lemmas.Bool.Decides.{nat_tests}
 use lib.Utf8.{scalar, scalars}
 use Rattle.xml_tree.specs.Characters.{is_char, is_name_start, is_name_char, is_name}
 use Rattle.xml_tree.specs.Comments.{is_kept_char, hyphens_apart, is_comment}
-use Rattle.xml_tree.specs.Print.{opening, ending, closing, is_empty, print, print_attr, print_comment, print_content, print_decl, print_name, print_text, quoted, text_escape, value_escape}
+use Rattle.xml_tree.specs.Print.{opening, ending, closing, is_empty, print, print_attr, print_comment, print_content, print_decl, print_name, print_text, text_escape, value_escape, quoted_text as quoted}
 use Rattle.xml_tree.specs.Proper.{is_prefix, IsTag, Proper, ProperIn}
 use Rattle.xml_tree.specs.Tree.{Content, last, more, note, Tree}
 use Rattle.xml_tree.specs.declared.names.Name.{Name}

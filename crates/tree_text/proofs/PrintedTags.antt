@@ -19,7 +19,7 @@ use Rattle.grammar_rules.specs.Reading.{Reader, read_judged}
 use Rattle.tree_text.specs.readers.Words.{less}
 use Rattle.tree_text.specs.declared.kind.Kind.{Kind}
 use Rattle.tree_text.specs.declared.said.Said.{Said}
-use Rattle.tree_text.specs.Names.{declares, decl_of, decls_of, attrs_of, is_unbound, is_misnamed, says_again, is_repeated}
+use Rattle.tree_text.specs.Names.{decls_of, attrs_of, is_misnamed, says_again, is_repeated, said_decl as decl_of, is_declaring as declares, is_unbound_in as is_unbound}
 use Rattle.tree_text.specs.readers.Judging.{wrong_said, first_wrong, first_of_tag, counted_back, tag_fault}
 use Rattle.tree_text.specs.Names as names
 use Rattle.tree_text.specs.Pieces.{Tag, tag_of}
@@ -219,7 +219,7 @@ first_none here n ds ats empty size others h =
     let named = is_bound here n h.named in
     let apart = apart_all here ds ats others h.prefixes (apart_attrs here ats others h.names) in
     let well = all_named here ds ats h.declarations (attrs_named here ats others h.attributes) in
-    rw named (none_wrong here [] (said_all ds ats) (names.opening (tag_from n ds ats empty size)) apart well)
+    rw named (none_wrong here [] (said_all ds ats) (names.opening_size (tag_from n ds ats empty size)) apart well)
 
 no_fault : (scope : List (List Decl)) (n : Name) (ds : List Decl) (ats : List Attr) (empty : Bool) (size : ℕ) → Others ats → IsTag (scope ++ ds ∷ []) n ds ats → tag_fault scope (tag_from n ds ats empty size) ≡ None
 no_fault scope n ds ats empty size others h =

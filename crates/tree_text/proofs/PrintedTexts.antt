@@ -16,7 +16,7 @@ use Rattle.xml_tree.specs.declared.names.Decl.{Decl}
 use Rattle.tree_text.specs.declared.fault.TextFault.{TextFault}
 use Rattle.tree_text.specs.declared.fault.ValueFault.{ValueFault}
 use Rattle.tree_text.specs.declared.kind.Kind.{Kind}
-use Rattle.tree_text.specs.Faults.{told, body_told, in_quotes, spelling_of, TextAnswer, BodyAnswer}
+use Rattle.tree_text.specs.Faults.{body_told, in_quotes, spelling_of, TextAnswer, BodyAnswer, text_told as told}
 use Rattle.tree_text.specs.Grammar.{document, spelling}
 use Rattle.tree_text.specs.Kinds.{faults}
 use Rattle.tree_text.specs.Printing.{header, document_print, body_escape, body_print}

@@ -8,9 +8,9 @@ use Rattle.xml_tree.specs.Print.{text_escape, value_escape}
 use Rattle.tree_text.specs.declared.kind.Kind.{Kind}
 use Rattle.tree_text.specs.Printing.{body_escape}
 use Rattle.tree_text.specs.Grammar.{is_raw, is_raw_in}
-use Rattle.tree_text.specs.Pieces.{value_of}
 use Rattle.tree_text.specs.readers.Texts.{read_reference, reference_follows, read_value, read_whole_reference, read_spelling}
 use Rattle.tree_text.proofs.ReadFronts.{Reads, reads_none, reads_more, reads_valued, reads_atomic, AreBetween, between_none, between_more, reads_between}
+use Rattle.tree_text.specs.Pieces.{value_spelled as value_of}
 
 pub both : (a b : Bool) → a && b ≡ true → (a ≡ true) × (b ≡ true)
 both true true h = (refl, refl)

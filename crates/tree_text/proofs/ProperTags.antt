@@ -1,7 +1,7 @@
 -- A tag in which nothing is wrong is proper in its scope.
 use Rattle.std.proofs.Common.{◌≡◌, ℕ, ◌+◌, ◌-◌, ◌≤◌, arith, Bool, true, false, cond, List, [], ◌∷◌, ◌++◌, inl, inr, IsTrue, map, refl, sym, ap, subst, ◌∙◌, append_assoc}
 use Rattle.std.specs.Prelude.{◌&&◌, ◌||◌, ◌≢◌, ◌==◌, not, Option, None, Some, IsSome, is_some}
-use Rattle.std.specs.List.{list_all, list_any, AllByRecursion, IsDistinct}
+use Rattle.std.specs.List.{list_all, list_any, AllByRecursion, IsDistinct, cons_option as with_char}
 use Rattle.std.specs.Str.{bytes_eq}
 use Rattle.xml_tree.specs.Characters.{is_char, is_name_start, is_name_char, is_name}
 use Rattle.xml_tree.specs.Scopes.{bound, xmlns_prefix}
@@ -16,8 +16,8 @@ use Rattle.tree_text.specs.readers.Words.{colon, small_x}
 use Rattle.tree_text.specs.declared.kind.Kind.{Kind}
 use Rattle.tree_text.specs.declared.kind.Kind.TheVariants.{Unbound, Repeated}
 use Rattle.tree_text.specs.declared.said.Said.{Said}
-use Rattle.tree_text.specs.Pieces.{Tag, qname_of, with_char, line_ends, blanks, raw, more_value}
-use Rattle.tree_text.specs.Names.{declares, decl_of, attr_of, decls_of, attrs_of, inside, is_unbound, is_misnamed, says_again, is_repeated, opening, widths, IsWrong}
+use Rattle.tree_text.specs.Pieces.{Tag, qname_of, line_ends, blanks, raw, more_value}
+use Rattle.tree_text.specs.Names.{attr_of, decls_of, attrs_of, is_misnamed, says_again, is_repeated, widths, IsWrong, inside_tag as inside, opening_size as opening, said_decl as decl_of, is_declaring as declares, is_unbound_in as is_unbound}
 use Rattle.tree_text.specs.Grammar.{last_char, name, qname, reference, numbered, entity, is_raw, is_raw_in, value, said, tag}
 use Rattle.tree_text.proofs.JudgeTags.{widths_parts, tag_sizes}
 

@@ -19,7 +19,7 @@ use Rattle.tree_text.specs.declared.kind.Kind.{Kind}
 use Rattle.tree_text.specs.declared.kind.Kind.TheVariants.{Depth}
 use Rattle.tree_text.specs.Pieces.{Markup, Reference, Section, Comment, Instruction, Inner, with_markup, with_pieces}
 use Rattle.tree_text.specs.Kinds.{is_fault, faults}
-use Rattle.tree_text.specs.Names.{IsWrong, inside}
+use Rattle.tree_text.specs.Names.{IsWrong, inside_tag as inside}
 use Rattle.tree_text.specs.Grammar.{is_raw, chars, section, markup, content, tag, end_tag, behind_tag, element, dropped, IsForeign, xml_declaration, prolog, epilog, document}
 use Rattle.tree_text.proofs.JudgeTags.{is_wrong_fault}
 use Rattle.tree_text.proofs.ReadParts.{led_tag}

@@ -2,7 +2,8 @@
 use Rattle.std.proofs.Common.{◌≡◌, ℕ, ◌≤◌, ◌≢◌, Bool, true, false, ◌||◌, refl, sym, ap, ◌∙◌, arith}
 use Rattle.std.specs.Prelude.{nat_eq, nat_le, not}
 use Rattle.std.proofs.lemmas.Bool.{and_parts, eqb-true, leb-true, le-leb, ne_eqb, or_left, true≢false}
-use Rattle.xml_tree.specs.Characters.{within, is_name_start, is_joining, is_name_char}
+use Rattle.std.specs.Int.{is_in_range as within}
+use Rattle.xml_tree.specs.Characters.{is_name_start, is_joining, is_name_char}
 use Rattle.tree_text.specs.Grammar.{is_raw}
 use Rattle.tree_text.specs.readers.Runs.{is_frequent, is_usual}
 

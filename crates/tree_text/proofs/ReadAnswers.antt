@@ -10,7 +10,7 @@ use Rattle.tree_text.specs.declared.fault.ValueFault.TheVariants as bodies
 use Rattle.tree_text.specs.Kinds.{faults}
 use Rattle.tree_text.specs.Grammar.{document}
 use Rattle.tree_text.specs.readers.Texts.{read_text, read_spelling}
-use Rattle.tree_text.specs.Faults.{told, TextAnswer, spelling_of, body_told, BodyAnswer}
+use Rattle.tree_text.specs.Faults.{TextAnswer, spelling_of, body_told, BodyAnswer, text_told as told}
 use Rattle.tree_text.specs.readers.Whole.{text_read, body_read}
 use Rattle.tree_text.proofs.ReadDocuments.{answers_document}
 use Rattle.tree_text.proofs.ReadBodies.{answers_spelling}

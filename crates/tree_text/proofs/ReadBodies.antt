@@ -12,10 +12,10 @@ use Rattle.grammar_rules.proofs.Closed.{exact_atomic}
 use Rattle.grammar_rules.proofs.Tests.{exact_between_run_head}
 use Rattle.grammar_rules.proofs.Whole.{ends, heads_ends, answers_whole}
 use Rattle.tree_text.specs.declared.kind.Kind.{Kind}
-use Rattle.tree_text.specs.Pieces.{value_of}
 use Rattle.tree_text.specs.Grammar.{reference, spelling}
 use Rattle.tree_text.specs.readers.Texts.{read_spelling}
 use Rattle.tree_text.proofs.ReadParts.{closed_reference, starts_reference, quiet_reference, same}
+use Rattle.tree_text.specs.Pieces.{value_spelled as value_of}
 
 module _ (faults : Faults Kind) where
   pub exact_spelling : Exact faults spelling (λ _. ends) read_spelling

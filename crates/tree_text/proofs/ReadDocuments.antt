@@ -6,7 +6,7 @@ use Rattle.std.proofs.lemmas.List.{length-append, append_cancel_right}
 use Rattle.xml_tree.specs.Characters.{is_space, is_name_start}
 use Rattle.xml_tree.specs.Tree.{Tree}
 use Rattle.xml_tree.specs.declared.names.Decl.{Decl}
-use Rattle.grammar_rules.specs.Digits.{is_digit}
+use Rattle.std.specs.Char.{is_ascii_digit as is_digit}
 use Rattle.grammar_rules.specs.Rules.{Begin, Rule, word, either, judged, trap, optional, before, behind}
 use Rattle.grammar_rules.specs.Reading.{Reader, Stop, Syntax, head_is, starts, read_whole, read_word, read_behind, read_before}
 use Rattle.grammar_rules.specs.Answers.{Faults, Answers}

@@ -27,7 +27,7 @@ use Rattle.tree_text.specs.declared.kind.Kind.{Kind}
 use Rattle.tree_text.specs.declared.kind.Kind.TheVariants.{Depth}
 use Rattle.tree_text.specs.Pieces.{Reference, Section, Comment, Inner, line_ends, written, with_pieces}
 use Rattle.tree_text.specs.Kinds.{is_fault, faults}
-use Rattle.tree_text.specs.Names.{IsWrong, inside, element_of}
+use Rattle.tree_text.specs.Names.{IsWrong, element_of, inside_tag as inside}
 use Rattle.tree_text.specs.Grammar.{is_raw, chars, markup, content, end_tag, tag, behind_tag, StartsTag, element}
 use Rattle.tree_text.specs.readers.Texts.{read_name, read_chars, markup_follows, read_content, read_end_tag, read_behind_tag, starts_tag, read_element}
 use Rattle.tree_text.proofs.ReadParts.{exact_spaces, starts_reference, lawful_reference, closed_tag, lawful_tag, quiet_tag, led_tag}

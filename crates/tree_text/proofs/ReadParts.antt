@@ -2,8 +2,9 @@
 use Rattle.std.proofs.Common.{◌≡◌, ℕ, true, false, List, [], ◌∷◌, inl, refl, arith}
 use Rattle.std.specs.Prelude.{◌==◌}
 use Rattle.std.proofs.lemmas.Bool.Decides.{nat_tests}
+use Rattle.std.specs.Char.{is_ascii_digit as is_digit, is_ascii_hexdigit as is_hex_digit}
 use Rattle.xml_tree.specs.Characters.{is_char, is_space, is_name_start, is_name_char}
-use Rattle.grammar_rules.specs.Digits.{decimal, hexadecimal, is_digit, is_hex_digit}
+use Rattle.grammar_rules.specs.Digits.{decimal, hexadecimal}
 use Rattle.grammar_rules.specs.Rules.{word, behind}
 use Rattle.grammar_rules.specs.Answers.{Faults}
 use Rattle.grammar_rules.proofs.Exact.{Rest, ahead, Exact, exact_sequence}
@@ -20,7 +21,7 @@ use Rattle.grammar_rules.proofs.Tests.{exact_either_head, exact_optional_head, e
 use Rattle.grammar_rules.proofs.Spaced.{blank_some_of, Leads, leads_sequence, leads_valued, spaced_run, exact_spaced_many}
 use Rattle.tree_text.specs.readers.Words.{less, greater, empty_end, colon, ampersand, semicolon, hash, small_x, amp, lt, gt, quot, apos, equals_sign}
 use Rattle.tree_text.specs.declared.kind.Kind.{Kind}
-use Rattle.tree_text.specs.Pieces.{value_of, qname_of, said_of, tag_of}
+use Rattle.tree_text.specs.Pieces.{qname_of, said_of, tag_of, value_spelled as value_of}
 use Rattle.tree_text.specs.Grammar.{name, qname, spaces, equals, stands_for, entity, last_char, numbered, reference, is_quote, is_raw_in, value, attribute, said, tag_end, tag}
 use Rattle.tree_text.specs.readers.Texts.{read_name, read_qname, read_spaces, read_equals, read_stands_for, read_entity, read_numbered, read_reference, read_value, read_attribute, read_said, read_tag_end, read_tag}
 

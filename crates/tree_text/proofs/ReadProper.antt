@@ -13,7 +13,7 @@ use Rattle.tree_text.specs.declared.fault.ValueFault.{ValueFault}
 use Rattle.tree_text.specs.declared.fault.ReadError.{ReadError}
 use Rattle.tree_text.specs.Kinds.{faults}
 use Rattle.tree_text.specs.Grammar.{document}
-use Rattle.tree_text.specs.Faults.{told, TextAnswer, BodyAnswer}
+use Rattle.tree_text.specs.Faults.{TextAnswer, BodyAnswer, text_told as told}
 use Rattle.tree_text.specs.Memory.{Answered}
 use Rattle.tree_text.specs.readers.Whole.{text_read, body_read}
 use Rattle.tree_text.proofs.Answering.{answered_so}

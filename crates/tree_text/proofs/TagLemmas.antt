@@ -9,7 +9,7 @@ use Rattle.xml_tree.specs.declared.names.Name.{Name}
 use Rattle.tree_text.specs.declared.said.Said.{Said}
 use Rattle.tree_text.specs.Grammar.{last_char, is_quote, is_raw_in}
 use Rattle.tree_text.specs.Names.{widths}
-use Rattle.tree_text.specs.Pieces.{qname_of, value_of}
+use Rattle.tree_text.specs.Pieces.{qname_of, value_spelled as value_of}
 use Rattle.tree_text.specs.readers.Texts.{colon_follows, reference_follows, read_name, read_qname, read_equals, read_stands_for, read_entity, read_numbered, read_reference, read_value, read_attribute}
 use Rattle.tree_text.proofs.Shrinks.{Shrinks, ok_small, shrinks_one, shrinks_word, shrinks_run, shrinks_number, shrinks_empty, shrinks_sequence, shrinks_valued, shrinks_either, shrinks_many}
 

@@ -11,7 +11,7 @@ use Rattle.tree_text.specs.declared.fault.TextFault.{TextFault}
 use Rattle.tree_text.specs.declared.fault.TextFault.TheVariants as texts
 use Rattle.tree_text.specs.declared.stop.Stop.{Stop as CodeStop}
 use Rattle.tree_text.specs.declared.stop.Stop.TheVariants as stops
-use Rattle.tree_text.specs.Faults.{told, body_told, body_place, place, closing, in_quotes, spelling_of}
+use Rattle.tree_text.specs.Faults.{body_told, body_place, place, in_quotes, spelling_of, text_told as told, closing_len as closing}
 use Rattle.tree_text.specs.declared.fault.ValueFault.{ValueFault}
 use Rattle.tree_text.specs.declared.fault.ValueFault.TheVariants as bodies
 use Rattle.tree_text.specs.declared.fault.ReadError.{ReadError}

@@ -31,16 +31,16 @@ fault_of bytes (Faulty Unbound left) = texts.Namespace (place bytes left)
 fault_of bytes (Faulty Repeated left) = texts.RepeatedAttribute (place bytes left)
 
 -- the tree, or the fault
-abbrev pub told : List ℕ → Result Tree (Stop Kind) → Result Tree TextFault
-told bytes (Ok tree) = Ok tree
-told bytes (Err stop) = Err (fault_of bytes stop)
+abbrev pub text_told : List ℕ → Result Tree (Stop Kind) → Result Tree TextFault
+text_told bytes (Ok tree) = Ok tree
+text_told bytes (Err stop) = Err (fault_of bytes stop)
 
 -- The answer for bytes by the grammar: the tree that they spell and no other, or the first fault. How many more levels than the limit
 -- the grammar is given makes no difference.
 pub record IsTextAnswer (limit : ℕ) (scope : List (List Decl)) (bytes : List ℕ) (answer : Result Tree TextFault) : Type 0 where
   pub stated : Result Tree (Stop Kind)
   pub by_grammar : (n : ℕ) → limit + 1 < n → Answers (faults limit) (document n scope) (chars bytes) stated
-  pub is_told : answer ≡ told bytes stated
+  pub is_told : answer ≡ text_told bytes stated
 
 abbrev pub TextAnswer : ℕ → List (List Decl) → List ℕ → Result Tree TextFault → Type 0
 TextAnswer limit scope bytes answer = (IsUtf8 bytes × IsTextAnswer limit scope bytes answer) ⊎ ((IsUtf8 bytes → ⊥) × (answer ≡ Err texts.NotUtf8))
@@ -53,9 +53,9 @@ all_but_one front [] = None
 all_but_one front (c ∷ []) = Some front
 all_but_one front (c ∷ d ∷ cs) = None
 
--- no quote of this kind
+-- another character than this one
 abbrev pub is_other : ℕ → ℕ → Bool
-is_other quote c = not (c == quote)
+is_other one c = not (c == one)
 
 -- the inside of a body between two quotes of one kind, where that quote stands nowhere else
 abbrev pub in_quotes : List ℕ → Option (List ℕ)
@@ -67,13 +67,13 @@ abbrev pub spelling_of : List ℕ → List ℕ
 spelling_of body = unwrap_or (in_quotes body) body
 
 -- how many bytes stand behind it
-abbrev pub closing : Option (List ℕ) → ℕ
-closing None = 0
-closing (Some inside) = 1
+abbrev pub closing_len : Option (List ℕ) → ℕ
+closing_len None = 0
+closing_len (Some inside) = 1
 
 -- the byte of a body at which this rest of its spelling begins
 abbrev pub body_place : List ℕ → List ℕ → List ℕ → ℕ
-body_place body bytes left = place bytes left - closing (in_quotes body)
+body_place body bytes left = place bytes left - closing_len (in_quotes body)
 
 -- the value, or the fault
 abbrev pub body_told : List ℕ → List ℕ → Result (List ℕ) (Stop Kind) → Result (List ℕ) ValueFault

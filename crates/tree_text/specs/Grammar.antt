@@ -2,23 +2,24 @@
 -- document types. The numbers in brackets are those of the productions of XML, and with an N those of Namespaces in XML. A rule says which
 -- texts it spells, as which values, and what may be met where a text breaks off in it.
 use Rattle.std.specs.Prelude.{◌≡◌, ℕ, zero, suc, ◌+◌, Bool, true, false, ◌&&◌, ◌||◌, ◌==◌, not, List, [], ◌∷◌, codes, Option, Some}
-use Rattle.xml_tree.specs.Characters.{is_char, is_space, is_name_start, is_name_char, within}
+use Rattle.std.specs.Char.{is_ascii_digit, is_ascii_alphabetic}
+use Rattle.xml_tree.specs.Characters.{is_char, is_space, is_name_start, is_name_char}
 use Rattle.xml_tree.specs.Tree.{Content, last, Tree}
 use Rattle.xml_tree.specs.declared.names.Name.{Name}
 use Rattle.xml_tree.specs.declared.names.Decl.{Decl}
-use Rattle.grammar_rules.specs.Digits.{is_digit, decimal, hexadecimal}
-use Rattle.grammar_rules.specs.Rules.{Rule, never, empty, one, word, run, run_without, up_to, number, sequence, either, many, valued, sized, only, atomic, marked, judged, trap, optional, between, some_of, name_of, before, behind, quoted}
+use Rattle.grammar_rules.specs.Digits.{decimal, hexadecimal}
+use Rattle.grammar_rules.specs.Rules.{Rule, never, empty, one, word, run, run_without, up_to, number, sequence, either, many, valued, sized, only, atomic, marked, judged, trap, optional, between, some_of, before, behind, quoted, name_rule}
 use Rattle.tree_text.specs.declared.kind.Kind.{Kind}
 use Rattle.tree_text.specs.declared.kind.Kind.TheVariants.{Encoded, Doctyped, Depth}
 use Rattle.tree_text.specs.declared.said.Said.{Said}
-use Rattle.tree_text.specs.Pieces.{Markup, Reference, Section, Comment, Instruction, Inner, line_ends, value_of, qname_of, written, said_of, Tag, tag_of, same_letters, with_pieces}
-use Rattle.tree_text.specs.Names.{IsWrong, inside, element_of}
+use Rattle.tree_text.specs.Pieces.{Markup, Reference, Section, Comment, Instruction, Inner, line_ends, qname_of, written, said_of, Tag, tag_of, same_letters, with_pieces, value_spelled}
+use Rattle.tree_text.specs.Names.{IsWrong, element_of, inside_tag}
 
 -- ---- names and white space
 
 -- [N4] NCName: a name start and name characters, without colons
 abbrev pub name : Rule Kind (List ℕ)
-name = name_of is_name_start is_name_char
+name = name_rule is_name_start is_name_char
 
 -- [N7] QName: an NCName, or two with `:` between
 abbrev pub qname : Rule Kind Name
@@ -70,7 +71,7 @@ is_raw_in quote c = is_raw c && not (c == quote)
 
 -- [10] AttValue, between its quotes: raw characters and references
 abbrev pub value : ℕ → Rule Kind (List ℕ)
-value quote = valued value_of (between (run (is_raw_in quote)) reference)
+value quote = valued value_spelled (between (run (is_raw_in quote)) reference)
 
 -- ---- tags
 
@@ -150,23 +151,19 @@ abbrev pub element : ℕ → List (List Decl) → ℕ → Rule Kind Tree
 element zero scope depth = never
 element (suc n) scope depth =
     marked (Depth depth) StartsTag
-    (valued element_of (sequence (judged (IsWrong scope) tag) (λ t. behind_tag (element n (inside scope t) (depth + 1)) t.name t.is_empty)))
+    (valued element_of (sequence (judged (IsWrong scope) tag) (λ t. behind_tag (element n (inside_tag scope t) (depth + 1)) t.name t.is_empty)))
 
 -- ---- documents
 
 -- [26] VersionNum: `1.` and digits
 abbrev pub version_number : Rule Kind (Unit {0})
-version_number = dropped (behind (word (codes "1.")) (some_of is_digit))
-
--- [81] EncName: a letter, and letters, digits, `.`, `_` and `-`
-abbrev pub is_letter : ℕ → Bool
-is_letter c = within 65 90 c || within 97 122 c
+version_number = dropped (behind (word (codes "1.")) (some_of is_ascii_digit))
 
 abbrev pub is_encoding_char : ℕ → Bool
-is_encoding_char c = is_letter c || is_digit c || c == 46 || c == 95 || c == 45
+is_encoding_char c = is_ascii_alphabetic c || is_ascii_digit c || c == 46 || c == 95 || c == 45
 
 abbrev pub encoding_name : Rule Kind (List ℕ)
-encoding_name = name_of is_letter is_encoding_char
+encoding_name = name_rule is_ascii_alphabetic is_encoding_char
 
 -- [32] `yes` or `no`
 abbrev pub yes_or_no : Rule Kind (Unit {0})
@@ -214,4 +211,4 @@ document n scope =
 
 -- raw characters and references: a reference that isn't whole is no beginning
 abbrev pub spelling : Rule Kind (List ℕ)
-spelling = valued value_of (between (run is_raw) (atomic reference))
+spelling = valued value_spelled (between (run is_raw) (atomic reference))

@@ -17,12 +17,12 @@ use Rattle.tree_text.specs.Pieces.{Tag, written}
 -- ---- declarations and attributes
 
 -- an attribute named `xmlns`, or with the prefix `xmlns`, is a declaration
-abbrev pub declares : Name → Bool
-declares n = (bytes_eq n.prefix [] && bytes_eq n.local xmlns_prefix) || bytes_eq n.prefix xmlns_prefix
+abbrev pub is_declaring : Name → Bool
+is_declaring n = (bytes_eq n.prefix [] && bytes_eq n.local xmlns_prefix) || bytes_eq n.prefix xmlns_prefix
 
 -- the declaration that one is: `xmlns` declares the default namespace, `xmlns:p` the prefix `p`
-abbrev pub decl_of : Said → Decl
-decl_of s = record { prefix = if bytes_eq s.name.prefix [] then [] else s.name.local; uri = s.value }
+abbrev pub said_decl : Said → Decl
+said_decl s = record { prefix = if bytes_eq s.name.prefix [] then [] else s.name.local; uri = s.value }
 
 abbrev pub attr_of : Said → Attr
 attr_of s = record { name = s.name; value = s.value }
@@ -30,15 +30,15 @@ attr_of s = record { name = s.name; value = s.value }
 -- the declarations of a tag, and its attributes, each in order
 abbrev pub decls_of : List Said → List Decl
 decls_of [] = []
-decls_of (s ∷ ss) = if declares s.name then (decl_of s ∷ decls_of ss) else decls_of ss
+decls_of (s ∷ ss) = if is_declaring s.name then (said_decl s ∷ decls_of ss) else decls_of ss
 
 abbrev pub attrs_of : List Said → List Attr
 attrs_of [] = []
-attrs_of (s ∷ ss) = if declares s.name then attrs_of ss else (attr_of s ∷ attrs_of ss)
+attrs_of (s ∷ ss) = if is_declaring s.name then attrs_of ss else (attr_of s ∷ attrs_of ss)
 
 -- the scope inside a tag
-abbrev pub inside : List (List Decl) → Tag → List (List Decl)
-inside scope t = scope ++ decls_of t.said ∷ []
+abbrev pub inside_tag : List (List Decl) → Tag → List (List Decl)
+inside_tag scope t = scope ++ decls_of t.said ∷ []
 
 -- the element of a tag and of what stands behind it
 abbrev pub element_of : Tag × Content → Tree
@@ -47,19 +47,19 @@ element_of x = tree_of x.0.name (decls_of x.0.said) (attrs_of x.0.said) x.1
 -- ---- what is wrong with a name, in the scope inside its tag
 
 -- a prefix, which isn't bound
-abbrev pub is_unbound : List (List Decl) → Name → Bool
-is_unbound here n = not (bytes_eq n.prefix []) && not (is_some (bound here n.prefix))
+abbrev pub is_unbound_in : List (List Decl) → Name → Bool
+is_unbound_in here n = not (bytes_eq n.prefix []) && not (is_some (bound here n.prefix))
 
 -- a declaration that may not stand, or an attribute with an unbound prefix
 abbrev pub is_misnamed : List (List Decl) → Said → Bool
-is_misnamed here s = if declares s.name then not (may_stand (decl_of s)) else is_unbound here s.name
+is_misnamed here s = if is_declaring s.name then not (may_stand (said_decl s)) else is_unbound_in here s.name
 
 -- two declarations of one prefix, or two attributes of one expanded name
 abbrev pub says_again : List (List Decl) → Said → Said → Bool
 says_again here s e =
-    if declares s.name
-    then (declares e.name && bytes_eq (decl_of e).prefix (decl_of s).prefix)
-    else (not (declares e.name) && same_expanded (attr_name here e.name) (attr_name here s.name))
+    if is_declaring s.name
+    then (is_declaring e.name && bytes_eq (said_decl e).prefix (said_decl s).prefix)
+    else (not (is_declaring e.name) && same_expanded (attr_name here e.name) (attr_name here s.name))
 
 -- one of those before it in the tag is such
 abbrev pub is_repeated : List (List Decl) → List Said → Said → Bool
@@ -81,12 +81,12 @@ widths [] = 0
 widths (s ∷ ss) = s.gap + s.size + widths ss
 
 -- how many characters of a tag stand before its attributes: `<` and the name
-abbrev pub opening : Tag → ℕ
-opening t = suc (length (written t.name))
+abbrev pub opening_size : Tag → ℕ
+opening_size t = suc (length (written t.name))
 
 -- the element's own name is wrong, so many characters before the end of the tag
 pub record IsWrongName (scope : List (List Decl)) (t : Tag) (kind : Kind) (back : ℕ) : Type 0 where
-  pub wrong : is_unbound (inside scope t) t.name ≡ true
+  pub wrong : is_unbound_in (inside_tag scope t) t.name ≡ true
   pub kind_is : kind ≡ Unbound
   pub place : back + 1 ≡ t.size
 
@@ -96,8 +96,8 @@ pub record HasWrongSaid (scope : List (List Decl)) (t : Tag) (kind : Kind) (back
   pub said : Said
   pub later : List Said
   pub among : t.said ≡ earlier ++ said ∷ later
-  pub wrong : IsWrongSaid (inside scope t) earlier said kind
-  pub place : back + (opening t + widths earlier + said.gap) ≡ t.size
+  pub wrong : IsWrongSaid (inside_tag scope t) earlier said kind
+  pub place : back + (opening_size t + widths earlier + said.gap) ≡ t.size
 
 -- A whole tag says of each name in it that is wrong what is wrong with it, at the name.
 abbrev pub IsWrong : List (List Decl) → Tag → Kind → ℕ → Type 0

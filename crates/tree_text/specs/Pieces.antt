@@ -4,6 +4,7 @@ use Rattle.xml_tree.specs.Tree.{Content, Tree}
 use Rattle.xml_tree.specs.Edits.{with_text, with_elem, with_comment}
 use Rattle.xml_tree.specs.declared.names.Name.{Name}
 use Rattle.std.specs.Char.{to_ascii_lowercase}
+use Rattle.std.specs.List.{cons_option}
 use Rattle.grammar_rules.specs.Reading.{head_is}
 use Rattle.tree_text.specs.declared.said.Said.{Said}
 
@@ -11,13 +12,9 @@ use Rattle.tree_text.specs.declared.said.Said.{Said}
 abbrev pub line_char : ℕ → List ℕ → Option ℕ
 line_char c after = if c == 13 then (if head_is (λ d. d == 10) after then None else Some 10) else Some c
 
-abbrev pub with_char : Option ℕ → List ℕ → List ℕ
-with_char None cs = cs
-with_char (Some c) cs = c ∷ cs
-
 abbrev pub line_ends : List ℕ → List ℕ
 line_ends [] = []
-line_ends (c ∷ cs) = with_char (line_char c cs) (line_ends cs)
+line_ends (c ∷ cs) = cons_option (line_char c cs) (line_ends cs)
 
 -- White space in values (XML 1.0, 3.3.3): a tab and an LF that stand raw are read as spaces.
 abbrev pub blank : ℕ → ℕ
@@ -37,8 +34,8 @@ more_value [] = []
 more_value ((c, cs) ∷ pieces) = c ∷ (raw cs ++ more_value pieces)
 
 -- a value: raw characters, and then references with what follows them
-abbrev pub value_of : List ℕ × List (ℕ × List ℕ) → List ℕ
-value_of x = raw x.0 ++ more_value x.1
+abbrev pub value_spelled : List ℕ × List (ℕ × List ℕ) → List ℕ
+value_spelled x = raw x.0 ++ more_value x.1
 
 -- a name without a prefix, or with one
 abbrev pub qname_by : List ℕ → Option (List ℕ) → Name

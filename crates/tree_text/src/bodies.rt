@@ -3,7 +3,7 @@ ghost use Rattle.std.specs.Prelude.{◌≡◌, option_map, IfOk, IsTrue, Ok};
 ghost use Rattle.std.specs.Str.{chars};
 ghost use Rattle.grammar_rules.specs.Reading.{front_of, after_front, read_whole};
 ghost use Rattle.xml_tree.specs.Characters.{all_chars};
-ghost use Rattle.tree_text.specs.Faults.{BodyAnswer, closing, in_quotes, is_other, spelling_of};
+ghost use Rattle.tree_text.specs.Faults.{BodyAnswer, in_quotes, is_other, spelling_of, closing_len};
 ghost use Rattle.tree_text.specs.readers.Gives.{Gives, GivesAll};
 ghost use Rattle.tree_text.specs.Grammar.{is_quote, is_raw};
 ghost use Rattle.tree_text.specs.Memory.{Answered};
@@ -129,7 +129,7 @@ fn in_quotes(body: &[char]) -> Option<&[char]>
 /// The part of a body that spells its value, and how many bytes stand behind it.
 fn spelling_of(body: &[char]) -> (&[char], usize)
     ensures part { result.0.now ≡ spelling_of body.now }
-    ensures behind { result.1 ≡ closing (in_quotes body.now) }
+    ensures behind { result.1 ≡ closing_len (in_quotes body.now) }
 {
     match in_quotes(body) {
         Some(inside) => (inside, 1),

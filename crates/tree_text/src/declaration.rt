@@ -1,8 +1,8 @@
 //! The XML declaration and the byte order mark, which may stand before everything else.
 ghost use Rattle.std.specs.Prelude.{◌≡◌, true, false, option_map, Ok};
-ghost use Rattle.grammar_rules.specs.Digits.{is_digit};
+ghost use Rattle.std.specs.Char.{is_ascii_alphabetic};
 ghost use Rattle.tree_text.specs.readers.Gives.{Gives};
-ghost use Rattle.tree_text.specs.Grammar.{is_letter, is_encoding_char, is_our_encoding};
+ghost use Rattle.tree_text.specs.Grammar.{is_encoding_char, is_our_encoding};
 ghost use Rattle.tree_text.specs.readers.Texts.{letter_follows, read_version_number, read_encoding_name, read_yes_or_no, read_version, read_encoding, read_standalone, read_encoding_if, read_standalone_if, read_xml_declaration, declaration_follows, read_declaration, read_declaration_if, read_mark_if};
 ghost use Rattle.tree_text.specs.readers.Runs.{run_len};
 
@@ -15,7 +15,7 @@ use crate::stop::Stop;
 use crate::values::quote;
 
 fn is_letter(c: char) -> bool
-    ensures tells_whether_it_is_a_letter { result ≡ is_letter c }
+    ensures tells_whether_it_is_a_letter { result ≡ is_ascii_alphabetic c }
 {
     matches!(c, 'A'..='Z' | 'a'..='z')
 }

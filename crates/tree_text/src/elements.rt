@@ -6,7 +6,7 @@ ghost use Rattle.xml_tree.specs.Tree.{last, tree_of};
 ghost use Rattle.tree_text.specs.readers.Bindings.{AreBack, AreKept, lists};
 ghost use Rattle.tree_text.specs.readers.Gives.{Gives, Fails};
 ghost use Rattle.tree_text.specs.readers.Members.{read_chars_onto, read_onto, read_child, read_filled, read_filled_behind};
-ghost use Rattle.tree_text.specs.Names.{attrs_of, opening, widths};
+ghost use Rattle.tree_text.specs.Names.{attrs_of, widths, opening_size};
 ghost use Rattle.tree_text.specs.readers.Judging.{counted_back, first_of_tag};
 ghost use Rattle.tree_text.specs.readers.Texts.{markup_follows, read_tag, read_element};
 ghost use Rattle.tree_text.specs.readers.Views.{name_in, tag_in};
@@ -39,7 +39,7 @@ fn judged<'a>(
 ) -> Result<(), Stop<'a>>
     requires kept { AreKept here.now }
     requires named { name.now ≡ name_in tag.now.written }
-    requires opening { tag.now.opening ≡ opening (tag_in tag.now) }
+    requires opening { tag.now.opening ≡ opening_size (tag_in tag.now) }
     requires sizes { tag.now.opening + widths tag.now.said.items ≤ length text.now }
     ensures judges_the_names_of_the_tag { Gives (λ _. (tag_in tag.now, behind.now)) result (judgement text.now (tag_in tag.now, behind.now) (counted_back tag.now.size (first_of_tag (lists here.now) (tag_in tag.now)))) }
 {
@@ -270,7 +270,7 @@ fn fill<'a>(
     requires kept { AreKept bindings.old }
     requires deep { depth + inner < 1000 }
     requires tagged { read_tag text.now ≡ Ok (tag_in tag, behind.now) }
-    requires opening { tag.opening ≡ opening (tag_in tag) }
+    requires opening { tag.opening ≡ opening_size (tag_in tag) }
     requires sizes { tag.opening + widths tag.said.items ≤ length text.now }
     requires bare { element.old ≡ tree_of (name_in tag.written) [] [] (last []) }
     ensures read { Gives (λ rest. (element.new, rest.now)) result (read_element (inner + 1) (lists bindings.old) depth text.now) }

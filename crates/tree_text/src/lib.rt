@@ -35,13 +35,14 @@ pub use print_laws::{
     prints_are_read_back, prints_spell_what_was_printed, scopes_leave_xmlns_unbound,
 };
 pub use printing::{print_att_value, print_document, print_element};
-pub use reading::{read_document, read_fragment};
+pub use reading::{decoded, read_document, read_fragment};
 pub use reading_laws::{bodies_have_one_answer, texts_have_one_answer};
 
 // The parts that the grammar of selectors shares: words, digits, names, references and the raw characters of values.
 pub use digit_runs::digits;
 pub use kind::Kind;
 pub use parts::word;
+pub use runs::starts;
 pub use stop::Stop;
 pub use texts::{no_text, text_of};
 pub use values::{quote, raw_run, reference, reference_follows};

@@ -3,7 +3,7 @@ ghost use Rattle.std.specs.Prelude.{◌≡◌, ◌+◌, ◌<◌, ◌^◌, List, 
 ghost use Rattle.std.specs.Str.{bytes_eq};
 ghost use Rattle.xml_tree.specs.Scopes.{xml_prefix, xml_uri, xmlns_uri};
 ghost use Rattle.xml_tree.specs.Proper.{may_stand};
-ghost use Rattle.tree_text.specs.Names.{declares, decl_of, decls_of, is_unbound, is_misnamed, is_repeated, widths, opening};
+ghost use Rattle.tree_text.specs.Names.{decls_of, is_misnamed, is_repeated, widths, opening_size, said_decl, is_declaring, is_unbound_in};
 ghost use Rattle.tree_text.specs.readers.Judging.{wrong_said, first_wrong, first_of_tag};
 ghost use Rattle.tree_text.specs.readers.Bindings.{AreKept, lists};
 ghost use Rattle.tree_text.specs.readers.Meanings.{Holds};
@@ -40,7 +40,7 @@ fn is_xmlns_uri(text: &Text) -> bool
 
 /// Whether an attribute of this name is a declaration.
 pub fn declares(name: &Name) -> bool
-    ensures tells_whether_it_declares { result ≡ declares name.now }
+    ensures tells_whether_it_declares { result ≡ is_declaring name.now }
 {
     if is_xmlns(name.prefix.as_str()) {
         return true;
@@ -53,7 +53,7 @@ pub fn declares(name: &Name) -> bool
 
 /// The prefix that a declaration declares.
 pub fn declared_prefix(said: &Said) -> &Text
-    ensures lends_the_prefix { result.now ≡ (decl_of said.now).prefix }
+    ensures lends_the_prefix { result.now ≡ (said_decl said.now).prefix }
 {
     if is_nothing(&said.name.prefix) {
         &said.name.prefix
@@ -64,7 +64,7 @@ pub fn declared_prefix(said: &Said) -> &Text
 
 /// The declaration that one is.
 fn decl_of(alloc: Global, said: &Said) -> Result<Decl, AllocError>
-    ensures declaration_that_it_is { IfOk result (λ decl. decl ≡ decl_of said.now) }
+    ensures declaration_that_it_is { IfOk result (λ decl. decl ≡ said_decl said.now) }
 {
     let prefix = declared_prefix(said).copy(alloc)?;
     let uri = said.value.copy(alloc)?;
@@ -124,7 +124,7 @@ fn may_stand(prefix: &Text, uri: &Text) -> bool
 /// Whether a name has a prefix that isn't bound.
 pub fn is_unbound(here: &Bindings, name: &Name) -> bool
     requires kept { AreKept here.now }
-    ensures tells_whether_it_is_unbound { result ≡ is_unbound (lists here.now) name.now }
+    ensures tells_whether_it_is_unbound { result ≡ is_unbound_in (lists here.now) name.now }
 {
     if is_nothing(&name.prefix) {
         return false;
@@ -238,7 +238,7 @@ pub fn first_of_tag<'a>(
 ) -> Result<Option<(Kind, usize)>, AllocError>
     requires kept { AreKept here.now }
     requires named { name.now ≡ name_in tag.now.written }
-    requires opening { tag.now.opening ≡ opening (tag_in tag.now) }
+    requires opening { tag.now.opening ≡ opening_size (tag_in tag.now) }
     requires fits { tag.now.opening + widths tag.now.said.items < 2 ^ 64 }
     ensures finds_the_first_of_the_tag { IfOk result (λ found. found ≡ first_of_tag (lists here.now) (tag_in tag.now)) }
 {

@@ -1,10 +1,11 @@
 //! Words, white space and names: the parts in which no other rule stands.
 ghost use Rattle.std.specs.Prelude.{◌≡◌, ◌+◌, ◌<◌, [], ◌∷◌, length, IfOk, Ok};
 ghost use Rattle.grammar_rules.specs.Reading.{head_is, after_front, read_word};
-ghost use Rattle.xml_tree.specs.Characters.{is_space, is_name_start, is_name_char, within};
+ghost use Rattle.xml_tree.specs.Characters.{is_space, is_name_start, is_name_char};
 ghost use Rattle.tree_text.specs.readers.Gives.{Gives};
 ghost use Rattle.tree_text.specs.readers.Runs.{run_len};
 ghost use Rattle.tree_text.specs.readers.Texts.{read_name, read_spaces, read_some_spaces, read_equals};
+ghost use Rattle.std.specs.Int.{is_in_range as within};
 
 use crate::stop::Stop;
 use xml_tree::{is_name_char, is_name_start, is_space};

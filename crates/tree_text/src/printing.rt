@@ -1,6 +1,6 @@
 //! Printing documents, elements and bodies.
 ghost use Rattle.std.specs.Prelude.{◌≡◌, ◌∷◌, ◌++◌, IfOk, OnOk, chars, encode_utf8_all, flat_map};
-ghost use Rattle.xml_tree.specs.Print.{closing, declaring, ending, is_empty, opening, print, print_content, print_attr, print_comment, print_decl, print_name, print_node, print_text, quoted, text_escape, value_escape};
+ghost use Rattle.xml_tree.specs.Print.{closing, declaring, ending, is_empty, opening, print, print_content, print_attr, print_comment, print_decl, print_name, print_node, print_text, text_escape, value_escape, quoted_text};
 ghost use Rattle.tree_text.specs.Printing.{header, document_print, body_escape, body_print};
 
 use crate::names::is_nothing;
@@ -70,7 +70,7 @@ fn push_body(out: &mut Text, value: &str) -> Result<(), AllocError>
 /// Adds `=` and a value in quotes.
 #[tactic(auto, using(crate::proofs::PrintLemmas::set_value))]
 fn push_set(out: &mut Text, value: &Text) -> Result<(), AllocError>
-    ensures adds_the_set_value { OnOk result (out.new ≡ out.old ++ 61 ∷ quoted value.now) }
+    ensures adds_the_set_value { OnOk result (out.new ≡ out.old ++ 61 ∷ quoted_text value.now) }
 {
     out.push('=')?;
     out.push('"')?;

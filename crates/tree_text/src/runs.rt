@@ -4,9 +4,9 @@ ghost use Rattle.grammar_rules.specs.Reading.{starts, read_up_to};
 ghost use Rattle.xml_tree.specs.Characters.{is_char};
 ghost use Rattle.tree_text.specs.readers.Gives.{Gives};
 ghost use Rattle.tree_text.specs.Grammar.{is_raw};
-ghost use Rattle.tree_text.specs.Pieces.{line_char, with_char, line_ends, same_letters};
+ghost use Rattle.tree_text.specs.Pieces.{line_char, line_ends, same_letters};
 ghost use Rattle.tree_text.specs.readers.Texts.{read_raw_run};
-ghost use Rattle.std.specs.List.{list_all};
+ghost use Rattle.std.specs.List.{list_all, cons_option};
 ghost use Rattle.tree_text.specs.readers.Runs.{is_no_return, is_usual, without_len};
 ghost use Rattle.tree_text.specs.readers.Words.{section_end};
 
@@ -113,7 +113,7 @@ pub fn up_to<'a>(text: &'a [char], end: &[char]) -> Result<(&'a [char], &'a [cha
 
 /// Adds a raw character of content, which these follow.
 fn push_char(text: &mut Text, c: char, after: &[char]) -> Result<(), AllocError>
-    ensures adds_the_character_as_it_is_read { OnOk result (text.new ≡ text.old ++ with_char (line_char c after.now) []) }
+    ensures adds_the_character_as_it_is_read { OnOk result (text.new ≡ text.old ++ cons_option (line_char c after.now) []) }
 {
     match line_char(c, after) {
         Some(c) => text.push(c),

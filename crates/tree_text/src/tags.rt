@@ -3,7 +3,7 @@ ghost use Rattle.std.specs.Prelude.{◌≡◌, ◌+◌, ◌≤◌, ◌++◌, ◌
 ghost use Rattle.grammar_rules.specs.Reading.{read_quoted, read_valued};
 ghost use Rattle.tree_text.specs.readers.Gives.{Gives};
 ghost use Rattle.tree_text.specs.Grammar.{is_quote};
-ghost use Rattle.tree_text.specs.Names.{widths, opening};
+ghost use Rattle.tree_text.specs.Names.{widths, opening_size};
 ghost use Rattle.tree_text.specs.readers.Texts.{read_value, read_attribute, read_said, read_all_said, said_follows, read_tag_end, read_tag};
 ghost use Rattle.tree_text.specs.readers.Views.{name_in, tag_in};
 
@@ -116,7 +116,7 @@ fn tag_end(text: &[char]) -> Result<(bool, &[char]), Stop<'_>>
 /// A tag, and what follows it.
 pub fn whole_tag(alloc: Global, text: &[char]) -> Result<(Tag<'_>, &[char]), Stop<'_>>
     ensures read { Gives (λ x. (tag_in x.0, x.1.now)) result (read_tag text.now) }
-    ensures opening { IfOk result (λ x. x.0.opening ≡ opening (tag_in x.0)) }
+    ensures opening { IfOk result (λ x. x.0.opening ≡ opening_size (tag_in x.0)) }
     ensures sizes { IfOk result (λ x. x.0.opening + widths x.0.said.items ≤ length text.now) }
 {
     let rest = word(text, &['<'])?;

@@ -3,9 +3,9 @@ ghost use Rattle.std.specs.Prelude.{◌≡◌, ◌+◌, ◌≤◌, ◌<◌, ◌+
 ghost use Rattle.grammar_rules.specs.Reading.{read_one, read_number};
 ghost use Rattle.xml_tree.specs.Characters.{is_char};
 ghost use Rattle.tree_text.specs.readers.Gives.{Gives};
-ghost use Rattle.std.specs.List.{list_all};
+ghost use Rattle.std.specs.List.{list_all, cons_option};
 ghost use Rattle.tree_text.specs.readers.Runs.{is_frequent, is_smooth, run_len, ends_run};
-ghost use Rattle.tree_text.specs.Pieces.{line_char, with_char, blank, raw};
+ghost use Rattle.tree_text.specs.Pieces.{line_char, blank, raw};
 ghost use Rattle.tree_text.specs.readers.Members.{read_blanked};
 ghost use Rattle.tree_text.specs.readers.Views.{digits_of};
 ghost use Rattle.tree_text.specs.Grammar.{last_char, is_quote, is_raw, is_raw_in};
@@ -193,7 +193,7 @@ fn blank(c: char) -> char
 
 /// Adds a raw character of a value, which these follow.
 fn push_raw_char(value: &mut Text, c: char, after: &[char]) -> Result<(), AllocError>
-    ensures adds_the_raw_character { OnOk result (value.new ≡ value.old ++ with_char (option_map blank (line_char c after.now)) []) }
+    ensures adds_the_raw_character { OnOk result (value.new ≡ value.old ++ cons_option (option_map blank (line_char c after.now)) []) }
 {
     match line_char(c, after) {
         Some(c) => value.push(blank(c)),

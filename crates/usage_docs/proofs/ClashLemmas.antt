@@ -11,12 +11,13 @@ use Rattle.xml_tree.specs.declared.names.Decl.{Decl}
 use Rattle.xml_tree.specs.declared.names.Name.{Name}
 use Rattle.xml_tree.specs.declared.tree.Node.{Node}
 use Rattle.xml_tree.specs.declared.tree.Node.TheVariants.{Elem, Chars, Comment}
+use Rattle.xml_tree.specs.Scopes.{inside}
 use Rattle.usage_docs.specs.declared.rows.Kind.{Kind}
 use Rattle.usage_docs.specs.declared.rows.Key.{Key}
 use Rattle.usage_docs.specs.declared.keys.Clash.{Clash}
 use Rattle.usage_docs.specs.Rows.{Scope, kind_of}
 use Rattle.usage_docs.specs.Keys.{key_of, value_of, key_value}
-use Rattle.usage_docs.specs.Clashes.{inside, Mark, mark, mark_of, mark_at, RepeatsAt, NoLater}
+use Rattle.usage_docs.specs.Clashes.{Mark, mark, mark_of, mark_at, RepeatsAt, NoLater}
 use Rattle.usage_docs.specs.Reading.Siblings.{node_kids, marks_of, IsAmong, RepeatsHere, IsFirst, RepeatedKey}
 
 -- ---- an element in the scope inside it

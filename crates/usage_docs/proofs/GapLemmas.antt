@@ -7,7 +7,7 @@ use Rattle.xml_tree.specs.Edits.{put, change, put_in}
 use Rattle.doc_names.specs.declared.usages.Usage.{Usage}
 use Rattle.usage_docs.specs.declared.rows.Kind.{Kind}
 use Rattle.usage_docs.specs.Rows.{Scope, kind_of, root_kind}
-use Rattle.usage_docs.specs.Clashes.{inside}
+use Rattle.xml_tree.specs.Scopes.{inside}
 use Rattle.usage_docs.specs.Validity.{KeepsRow, AllKeep, ValidChild, Schema}
 use Rattle.usage_docs.specs.Reading.Parts.{part_of, follows}
 use Rattle.usage_docs.specs.Reading.Walks.{Walks}

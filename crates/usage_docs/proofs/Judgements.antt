@@ -7,10 +7,11 @@ use Rattle.std.proofs.lemmas.Option.{same_Some}
 use Rattle.std.specs.Cmp.Lexicographic.{bytes_decides}
 use Rattle.xml_tree.specs.Tree.{Content, Tree, kids, kids_of, last, more, note, tree_of}
 use Rattle.xml_tree.specs.declared.names.Attr.{Attr}
-use Rattle.usage_docs.specs.Clashes.{Clashes, IsFirstClash, Mark, NoLater, Repeats, RepeatsAt, inside, mark}
+use Rattle.xml_tree.specs.Scopes.{inside}
+use Rattle.usage_docs.specs.Clashes.{Clashes, IsFirstClash, Mark, NoLater, Repeats, RepeatsAt, mark}
 use Rattle.usage_docs.specs.Forms.{AllFormed, Constraints, is_formed}
 use Rattle.usage_docs.specs.Keys.{attrs_pass, key_of, value_of}
-use Rattle.usage_docs.specs.Rows.{Scope, Child, is_root, items_in, kind_of, model_of, Matches, root_kind}
+use Rattle.usage_docs.specs.Rows.{Scope, Child, is_root, items_in, kind_of, model_of, root_kind, MatchesModel as Matches}
 use Rattle.usage_docs.specs.Reading.Parts.{end, follows, part_in}
 use Rattle.usage_docs.specs.Reading.Siblings.{IsAmong, IsFirst, RepeatedKey, RepeatsHere, marks_of}
 use Rattle.usage_docs.specs.Texts.{text_of}

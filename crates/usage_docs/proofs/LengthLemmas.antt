@@ -8,7 +8,7 @@ use Rattle.std.specs.Option.{option_or}
 use Rattle.std.specs.Ordering.{match_ordering}
 use Rattle.xml_tree.specs.Tree.{Content, Tree, tree_of}
 use Rattle.xml_tree.specs.Print.{print, print_content, print_decl, opening, ending, is_empty, byte_len}
-use Rattle.xml_tree.specs.Gathering.{gathered, gathered_bindings, placed}
+use Rattle.xml_tree.specs.inner.Gathering.{gathered, gathered_bindings, placed}
 use Rattle.xml_tree.specs.Scopes.{AreInOrder, binds, bindings_in, declared}
 use Rattle.xml_tree.specs.declared.names.Attr.{Attr}
 use Rattle.xml_tree.specs.declared.names.Decl.{Decl}

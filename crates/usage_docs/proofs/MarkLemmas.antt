@@ -12,6 +12,7 @@ use Rattle.std.proofs.lemmas.List.Elements.{filter_map-append}
 use Rattle.std.proofs.lemmas.Option.{same_Some}
 use Rattle.xml_tree.specs.Tree.{Tree}
 use Rattle.xml_tree.specs.declared.names.Attr.{Attr}
+use Rattle.xml_tree.specs.Scopes.{inside}
 use Rattle.usage_docs.specs.contracts.keys.KeyedOrd.TheImpl.{cmp-value}
 use Rattle.usage_docs.specs.contracts.rows.KindOrd.TheImpl as kinds
 use Rattle.usage_docs.specs.declared.rows.Kind.{Kind}
@@ -20,7 +21,7 @@ use Rattle.usage_docs.specs.declared.rows.Key.{Key}
 use Rattle.usage_docs.specs.declared.keys.Keyed.{Keyed}
 use Rattle.usage_docs.specs.Keys.{key_of, value_of, key_value}
 use Rattle.usage_docs.specs.Rows.{Scope, kind_of}
-use Rattle.usage_docs.specs.Clashes.{inside, Mark, mark, mark_of}
+use Rattle.usage_docs.specs.Clashes.{Mark, mark, mark_of}
 use Rattle.usage_docs.specs.Reading.Siblings.{marks_of, own_marks, IsAmong, Holds}
 use Rattle.usage_docs.proofs.ClashLemmas.{value_in}
 

@@ -5,8 +5,8 @@ use Rattle.xml_tree.specs.Tree.{Content, last, more, note, Tree, kids}
 use Rattle.xml_tree.specs.Edits.{put, put_in}
 use Rattle.doc_names.specs.declared.usages.Usage.{Usage}
 use Rattle.usage_docs.specs.declared.rows.Kind.{Kind}
-use Rattle.usage_docs.specs.Rows.{Scope, Child, child_of, root_kind, items_in, model_of, Matches}
-use Rattle.usage_docs.specs.Clashes.{inside}
+use Rattle.usage_docs.specs.Rows.{Scope, Child, child_of, root_kind, items_in, model_of, MatchesModel as Matches}
+use Rattle.xml_tree.specs.Scopes.{inside}
 use Rattle.usage_docs.specs.Validity.{Schema, children_of}
 use Rattle.usage_docs.specs.Gaps.{last_of, child_before, child_behind, FitsGap, FitsBelow, GapThere}
 use Rattle.usage_docs.specs.Reading.Gaps.{part_before, part_after, FollowsGap, FollowsBelow}
@@ -124,7 +124,7 @@ module _ (row : Kind) (c : Scope) where
           (let m = f.1 in
           let b = chain_between row m.front it m.back 0 ((matched row (m.front ++ it ∷ m.back)).1 m.fits) in (
             f.0,
-            subst (λ (n : ℕ). IsTrue (follows row n (part_in row it))) (ap (part_or row 0) m.ends ∙ sym (before_is content j 0 l)) b.0,
+            subst (λ (n : ℕ). IsTrue (follows row n (part_in row it))) (ap (part_or row zero) m.ends ∙ sym (before_is content j 0 l)) b.0,
             subst (λ (n : ℕ). IsTrue (follows row (part_in row it) n)) (ap (part_or row end) m.begins ∙ sym (after_is content j)) b.1,
           )),
       λ f.

@@ -1,17 +1,14 @@
 -- Keys are distinct among siblings of one kind. RFC 4826, sections 3.4.5 and 4.4.5 (additional constraints: what has to be unique is
 -- said there in prose; the schemas don't say it).
-use Rattle.std.specs.Prelude.{◌≡◌, ℕ, ◌<◌, ◌⊎◌, List, [], ◌∷◌, ◌++◌, Option, None, Some, option_map, option_and_then, slice_get}
+use Rattle.std.specs.Prelude.{◌≡◌, ℕ, ◌<◌, ◌⊎◌, List, [], ◌∷◌, Option, None, Some, option_map, option_and_then, slice_get}
 use Rattle.xml_tree.specs.Tree.{Tree, kids_of}
+use Rattle.xml_tree.specs.Scopes.{inside}
 use Rattle.doc_names.specs.declared.usages.Usage.{Usage}
 use Rattle.usage_docs.specs.declared.rows.Kind.{Kind}
 use Rattle.usage_docs.specs.declared.rows.Key.{Key}
 use Rattle.usage_docs.specs.declared.keys.Clash.{Clash}
 use Rattle.usage_docs.specs.Rows.{Scope, kind_of, root_kind}
 use Rattle.usage_docs.specs.Keys.{key_of, key_value}
-
--- the scope inside an element, by the scope around it
-abbrev pub inside : Scope → Tree → Scope
-inside c e = c ++ e.decls ∷ []
 
 -- what has to be distinct among siblings: a kind, and the value of its key
 pub record Mark : Type 0 where

@@ -3,9 +3,9 @@ use Rattle.std.specs.Prelude.{◌≡◌, ◌≤◌, ℕ, zero, suc, List, [], �
 use Rattle.std.specs.Option.{ForSome}
 use Rattle.xml_tree.specs.Tree.{Content, Tree, kids_of}
 use Rattle.usage_docs.specs.declared.rows.Kind.{Kind}
-use Rattle.usage_docs.specs.Rows.{Scope, Child, Matches, items_in, model_of, kind_of, child_of}
+use Rattle.usage_docs.specs.Rows.{Scope, Child, items_in, model_of, kind_of, child_of, MatchesModel}
 use Rattle.usage_docs.specs.Validity.{ValidChild, children_of}
-use Rattle.usage_docs.specs.Clashes.{inside}
+use Rattle.xml_tree.specs.Scopes.{inside}
 
 -- the last of some children, if there are any
 abbrev pub last_of : List Child → Option Child
@@ -20,7 +20,7 @@ pub record MayStand (row : Kind) (before : Option Child) (x : Child) (behind : O
   pub back : List Child
   pub ends : last_of front ≡ before
   pub begins : slice_get back 0 ≡ behind
-  pub fits : Matches (items_in (model_of row)) (front ++ x ∷ back)
+  pub fits : MatchesModel (items_in (model_of row)) (front ++ x ∷ back)
 
 -- the child before a gap, and the one behind it, if they are there; gap 0 stands before the first child
 abbrev pub child_before : ℕ → List Child → Option Child

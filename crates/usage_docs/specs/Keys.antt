@@ -1,9 +1,8 @@
 -- The attributes without a namespace (RFC 4826, sections 3.2 and 4.2), which are also the keys of elements (sections 3.4.5 and 4.4.5).
-use Rattle.std.specs.Prelude.{ℕ, Bool, true, false, List, [], Option, None, Some, codes, if◌then◌else◌, ◌&&◌, not, find, is_some, unwrap_or, option_map, option_and_then}
+use Rattle.std.specs.Prelude.{ℕ, Bool, true, false, List, [], Option, None, Some, codes, if◌then◌else◌, ◌&&◌, not, find, is_some, option_map, option_and_then}
 use Rattle.std.specs.Str.{bytes_eq}
 use Rattle.std.specs.List.{list_all}
 use Rattle.std.specs.Option.{option_map_or}
-use Rattle.xml_tree.specs.Scopes.{bound}
 use Rattle.xml_tree.specs.declared.names.Attr.{Attr}
 use Rattle.usage_docs.specs.declared.rows.Kind.{Kind}
 use Rattle.usage_docs.specs.declared.rows.Kind.TheVariants.{ResourceLists, EntryList, Entry, EntryRef, External, DisplayName, RlsServices, Service, ResourceList, Packages, Package}
@@ -11,7 +10,7 @@ use Rattle.usage_docs.specs.declared.rows.Attribute.{Attribute}
 use Rattle.usage_docs.specs.declared.rows.Attribute.TheVariants.{Nothing, May, Must}
 use Rattle.usage_docs.specs.declared.rows.Key.{Key}
 use Rattle.usage_docs.specs.declared.rows.Key.TheVariants.{Name, Uri, Ref, Anchor}
-use Rattle.usage_docs.specs.Rows.{Scope, lists_space, services_space}
+use Rattle.usage_docs.specs.Rows.{Scope, lists_space, services_space, space_of}
 
 -- the local name of the attribute
 unfoldable pub word : Key → List ℕ
@@ -60,17 +59,13 @@ key_value kind ats = option_and_then (λ key. value_of key ats) (key_of kind)
 abbrev pub is_other_space : List ℕ → Bool
 is_other_space space = not (bytes_eq space lists_space) && not (bytes_eq space services_space)
 
--- the namespace of a prefixed attribute; the empty text is none
-abbrev pub space_of_attr : Scope → Attr → List ℕ
-space_of_attr c a = unwrap_or (bound c a.name.prefix) []
-
 -- the local name of the row's own attribute
 abbrev pub is_own_word : Kind → List ℕ → Bool
 is_own_word row local = option_map_or (λ key. bytes_eq local (word key)) (key_of row) false
 
 -- an unprefixed attribute is the row's own; a prefixed one is of a namespace of neither document type
 unfoldable pub attr_passes : Kind → Scope → Attr → Bool
-attr_passes row c a = if bytes_eq a.name.prefix [] then is_own_word row a.name.local else is_other_space (space_of_attr c a)
+attr_passes row c a = if bytes_eq a.name.prefix [] then is_own_word row a.name.local else is_other_space (space_of c a.name)
 
 -- an attribute that has to be there is
 abbrev pub is_met : Attribute → List Attr → Bool

@@ -2,12 +2,13 @@ pub mod Capabilities
 pub mod Clashes
 pub mod Forms
 pub mod Gaps
-pub mod Indexes
 pub mod Judging
 pub mod Keys
+pub mod Kinds
 pub mod Reading
 pub mod Rows
 pub mod Services
 pub mod Texts
 pub mod Validity
 pub mod Words
+pub mod inner

@@ -67,15 +67,15 @@ pub data Child : Type 0 where
   stray : Child
 
 -- the children that one item of a model takes: exactly one of these, at most one, or any number in any mix
-pub data Item : Type 0 where
-  one : List Child → Item
-  opt : List Child → Item
-  any : List Child → Item
+pub data ModelItem : Type 0 where
+  one : List Child → ModelItem
+  opt : List Child → ModelItem
+  any : List Child → ModelItem
 
 -- text alone, or items in order with white space alone for text
 pub data Model : Type 0 where
   text_alone : Model
-  sequence : List Item → Model
+  sequence : List ModelItem → Model
 
 -- what an element of a kind may hold
 unfoldable pub model_of : Kind → Model
@@ -92,7 +92,7 @@ model_of Packages = sequence (any (known Package ∷ foreign ∷ []) ∷ [])
 model_of Package = text_alone
 
 -- its items; text alone leaves no room for children
-abbrev pub items_in : Model → List Item
+abbrev pub items_in : Model → List ModelItem
 items_in text_alone = []
 items_in (sequence items) = items
 
@@ -103,13 +103,13 @@ IsIn (y ∷ ys) x = (y ≡ x) ⊎ IsIn ys x
 
 -- Children in order match the items of a model: each `one` takes a child of its list, each `opt` one or none, each `any` as many as
 -- there are, and none is left.
-pub data Matches : List Item → List Child → Type 0 where
-  ends : Matches [] []
-  takes : {ys : List Child} {items : List Item} {x : Child} {xs : List Child} → IsIn ys x → Matches items xs → Matches (one ys ∷ items) (x ∷ xs)
-  may_take : {ys : List Child} {items : List Item} {x : Child} {xs : List Child} → IsIn ys x → Matches items xs → Matches (opt ys ∷ items) (x ∷ xs)
-  takes_none : {ys : List Child} {items : List Item} {xs : List Child} → Matches items xs → Matches (opt ys ∷ items) xs
-  takes_more : {ys : List Child} {items : List Item} {x : Child} {xs : List Child} → IsIn ys x → Matches (any ys ∷ items) xs → Matches (any ys ∷ items) (x ∷ xs)
-  takes_no_more : {ys : List Child} {items : List Item} {xs : List Child} → Matches items xs → Matches (any ys ∷ items) xs
+pub data MatchesModel : List ModelItem → List Child → Type 0 where
+  ends : MatchesModel [] []
+  takes : {ys : List Child} {items : List ModelItem} {x : Child} {xs : List Child} → IsIn ys x → MatchesModel items xs → MatchesModel (one ys ∷ items) (x ∷ xs)
+  may_take : {ys : List Child} {items : List ModelItem} {x : Child} {xs : List Child} → IsIn ys x → MatchesModel items xs → MatchesModel (opt ys ∷ items) (x ∷ xs)
+  takes_none : {ys : List Child} {items : List ModelItem} {xs : List Child} → MatchesModel items xs → MatchesModel (opt ys ∷ items) xs
+  takes_more : {ys : List Child} {items : List ModelItem} {x : Child} {xs : List Child} → IsIn ys x → MatchesModel (any ys ∷ items) xs → MatchesModel (any ys ∷ items) (x ∷ xs)
+  takes_no_more : {ys : List Child} {items : List ModelItem} {xs : List Child} → MatchesModel items xs → MatchesModel (any ys ∷ items) xs
 
 -- ---- elements by their expanded names
 
@@ -128,17 +128,14 @@ kind_in foreign = None
 kind_in stray = None
 
 -- the kinds that a row's model names, in its order
-abbrev pub children_in : Item → List Child
+abbrev pub children_in : ModelItem → List Child
 children_in (one ys) = ys
 children_in (opt ys) = ys
 children_in (any ys) = ys
 
-abbrev pub kinds_in : List Item → List Kind
-kinds_in items = filter_map kind_in (flat_map children_in items)
-
 -- that of them which has this local name
 unfoldable pub child_named : Kind → List ℕ → Option Kind
-child_named row local = find (λ kind. bytes_eq local (word_of kind)) (kinds_in (items_in (model_of row)))
+child_named row local = find (λ kind. bytes_eq local (word_of kind)) (filter_map kind_in (flat_map children_in (items_in (model_of row))))
 
 -- by namespace and local name
 abbrev pub kind_by : Kind → List ℕ → List ℕ → Option Kind
@@ -148,16 +145,13 @@ kind_by row space local = if bytes_eq space (own_space row) then child_named row
 abbrev pub is_foreign : Kind → List ℕ → Bool
 is_foreign row space = not (bytes_eq space (own_space row)) && not (bytes_eq space [])
 
-abbrev pub child_by : Kind → List ℕ → List ℕ → Child
-child_by row space local = option_map_or known (kind_by row space local) (if is_foreign row space then foreign else stray)
-
 -- the kind of a child, by the row of its parent; foreign elements have none
 unfoldable pub kind_of : Kind → Scope → Name → Option Kind
 kind_of row c n = kind_by row (space_of c n) n.local
 
 -- what it is in its parent
 unfoldable pub child_of : Kind → Scope → Name → Child
-child_of row c n = child_by row (space_of c n) n.local
+child_of row c n = option_map_or known (kind_by row (space_of c n) n.local) (if is_foreign row (space_of c n) then foreign else stray)
 
 -- the name of a document's root
 unfoldable pub is_root : Usage → Scope → Name → Bool

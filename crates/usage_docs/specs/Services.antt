@@ -3,18 +3,18 @@
 use Rattle.std.specs.Prelude.{◌≡◌, ℕ, ◌+◌, ◌<◌, min, Bool, List, [], ◌∷◌, ◌++◌, Option, codes, map, filter, filter_map, flat_map, is_some, option_and_then}
 use Rattle.xml_tree.specs.Tree.{Tree, tree_of, kids_of}
 use Rattle.xml_tree.specs.Nodes.{content_of}
-use Rattle.xml_tree.specs.Scopes.{bindings_in}
+use Rattle.xml_tree.specs.Scopes.{bindings_in, inside}
 use Rattle.xml_tree.specs.Print.{print, byte_len}
 use Rattle.xml_tree.specs.declared.names.Name.{Name}
 use Rattle.xml_tree.specs.declared.names.Decl.{Decl}
 use Rattle.xml_tree.specs.declared.tree.Node.TheVariants.{Elem}
+use Rattle.xml_tree.specs.Limits.{greatest_u64}
 use Rattle.usage_docs.specs.declared.rows.Kind.TheVariants.{RlsServices}
 use Rattle.usage_docs.specs.declared.rows.Key.TheVariants.{Uri}
 use Rattle.usage_docs.specs.declared.listing.IndexFault.{IndexFault}
 use Rattle.usage_docs.specs.declared.listing.IndexFault.TheVariants.{TooLarge, NoMemory}
 use Rattle.usage_docs.specs.Rows.{Scope, kind_of, services_space}
 use Rattle.usage_docs.specs.Keys.{value_of}
-use Rattle.usage_docs.specs.Clashes.{inside}
 
 -- whether a child of a root is a service, in the scope inside the root
 abbrev pub is_service : Scope → Tree → Bool
@@ -75,5 +75,5 @@ index_limit = 16777216
 
 -- no index with these services can be: it would be so long, or there is no memory
 abbrev pub RefusesServices : List Tree → IndexFault → Type 0
-RefusesServices ss (TooLarge len) = (index_limit < index_len ss) × (len ≡ min (index_len ss) 18446744073709551615)
+RefusesServices ss (TooLarge len) = (index_limit < index_len ss) × (len ≡ min (index_len ss) greatest_u64)
 RefusesServices ss NoMemory = Unit {0}

@@ -8,7 +8,7 @@ use Rattle.xml_tree.specs.Tree.{Content, last, more, note, Tree, kids}
 use Rattle.xml_tree.specs.declared.names.Attr.{Attr}
 use Rattle.doc_names.specs.declared.usages.Usage.{Usage}
 use Rattle.usage_docs.specs.declared.rows.Kind.{Kind}
-use Rattle.usage_docs.specs.Rows.{Scope, Child, Model, text_alone, sequence, Matches, model_of, items_in, kind_of, child_of, root_kind, is_root}
+use Rattle.usage_docs.specs.Rows.{Scope, Child, Model, text_alone, sequence, model_of, items_in, kind_of, child_of, root_kind, is_root, MatchesModel}
 use Rattle.usage_docs.specs.Keys.{attrs_pass}
 use Rattle.usage_docs.specs.Texts.{text_of}
 
@@ -32,7 +32,7 @@ children_of row c content = map (λ e. child_of row (c ++ e.decls ∷ []) e.name
 pub record KeepsRow (kind : Kind) (c : Scope) (ats : List Attr) (content : Content) : Type 0 where
   pub attributes : IsTrue (attrs_pass kind c ats)
   pub text : IsTrue (text_passes kind (text_of content))
-  pub children : Matches (items_in (model_of kind)) (children_of kind c content)
+  pub children : MatchesModel (items_in (model_of kind)) (children_of kind c content)
 
 -- so does each element of a kind in the content of an element of this row, however deep
 abbrev pub AllKeep : Kind → Scope → Content → Type 0

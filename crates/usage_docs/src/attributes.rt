@@ -1,8 +1,9 @@
 //! The attributes of the table's elements, and the keys among them (RFC 4826, sections 3.2, 3.4.5, 4.2 and 4.4.5).
 ghost use Rattle.std.specs.Prelude.{◌≡◌, Some, None, IsTrue, chars, option_map, is_some};
+ghost use Rattle.usage_docs.specs.Rows.{space_of};
 ghost use Rattle.std.specs.List.{list_all};
 ghost use Rattle.usage_docs.specs.Words.{is_ascii};
-ghost use Rattle.usage_docs.specs.Keys.{word, attribute_of, key_of, is_key, value_of, key_value, is_other_space, attr_passes, has_needed, attrs_pass, space_of_attr, is_own_word};
+ghost use Rattle.usage_docs.specs.Keys.{word, attribute_of, key_of, is_key, value_of, key_value, is_other_space, attr_passes, has_needed, attrs_pass, is_own_word};
 
 use crate::rows::{Attribute, Key, Kind, is_word, lists_space, services_space};
 use xml_tree::{Around, Attr, Text};
@@ -93,7 +94,7 @@ pub fn key_value<'a>(kind: Kind, attrs: &'a [Attr]) -> Option<&'a str>
 
 // The namespace of a prefixed attribute.
 fn space_of<'a>(scope: &Around<'a>, attr: &Attr) -> &'a str
-    ensures namespace_of_the_attribute { chars result.now ≡ space_of_attr scope.now attr.now }
+    ensures namespace_of_the_attribute { chars result.now ≡ space_of scope.now attr.now.name }
 {
     match scope.resolve(&attr.name.prefix) {
         Some(space) => space,

@@ -1,8 +1,9 @@
 //! The capabilities document (RFC 4825, section 12).
 ghost use Rattle.std.specs.Prelude.{◌≡◌, [], IfOk, IsTrue};
+ghost use Rattle.xml_tree.specs.Tree.{of_kids};
 ghost use Rattle.xml_tree.specs.Print.{print};
 ghost use Rattle.usage_docs.specs.Words.{is_ascii};
-ghost use Rattle.usage_docs.specs.Capabilities.{text_elem, around, row, auids, namespaces, capabilities, capabilities_text};
+ghost use Rattle.usage_docs.specs.Capabilities.{text_elem, around, auids, namespaces, capabilities, capabilities_text};
 
 use crate::making::{declaration, name};
 use std::alloc::Global;
@@ -11,7 +12,7 @@ use xml_tree::{Element, NoMemory};
 // An element of this name, with nothing in it.
 fn empty(alloc: Global, local: &str) -> Result<Element, NoMemory>
     requires { IsTrue (is_ascii local.now) }
-    ensures has_the_name_alone { IfOk result (λ made. made ≡ around local.now (row [])) }
+    ensures has_the_name_alone { IfOk result (λ made. made ≡ around local.now (of_kids [])) }
 {
     Ok(Element::new(alloc, name(alloc, "", local)?))
 }

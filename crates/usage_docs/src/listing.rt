@@ -4,7 +4,7 @@ ghost use Rattle.xml_tree.specs.declared.tree.Node.TheVariants.{Elem};
 ghost use Rattle.usage_docs.specs.declared.listing.IndexFault.TheVariants as IndexFault;
 ghost use Rattle.usage_docs.specs.Services.{is_service, listed_as, listed, index_of};
 ghost use Rattle.usage_docs.specs.Reading.Listing.{listed_nodes};
-ghost use Rattle.usage_docs.specs.Indexes.{len_with};
+ghost use Rattle.usage_docs.specs.inner.Indexes.{len_with};
 
 use crate::lengths::listed_len;
 use crate::making::{declaration, name};
@@ -48,15 +48,16 @@ pub struct IndexMaker {
 
 impl Model for IndexMaker {
     ghost use Rattle.std.specs.Prelude.{List};
+    ghost use Rattle.xml_tree.specs.inner.Codes.{tree_code};
     ghost use Rattle.std.specs.Coded.{coded_list};
-    ghost use Rattle.xml_tree.specs.Tree.{Tree, tree_code};
+    ghost use Rattle.xml_tree.specs.Tree.{Tree};
 
     ghost Value = { List Tree };
 
     ghost coded = { coded_list tree_code };
 
     ghost use Rattle.xml_tree.specs.Tree.{kids_of};
-    ghost use Rattle.usage_docs.specs.Indexes.{IsIndex};
+    ghost use Rattle.usage_docs.specs.inner.Indexes.{IsIndex};
 
     ghost view = { λ m. kids_of m.root };
 

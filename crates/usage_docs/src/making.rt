@@ -1,6 +1,8 @@
 //! Names, declarations and elements made of words of ASCII.
 ghost use Rattle.std.specs.Prelude.{◌≡◌, IfOk, IsTrue};
-ghost use Rattle.usage_docs.specs.Words.{is_ascii, name_of, declaration_of};
+ghost use Rattle.xml_tree.specs.Scopes.{decl_of};
+ghost use Rattle.xml_tree.specs.Expanded.{name_of};
+ghost use Rattle.usage_docs.specs.Words.{is_ascii};
 
 use std::alloc::Global;
 use xml_tree::{Decl, Name, NoMemory, Text};
@@ -29,7 +31,7 @@ pub(crate) fn name(alloc: Global, prefix: &str, local: &str) -> Result<Name, NoM
 pub(crate) fn declaration(alloc: Global, prefix: &str, uri: &str) -> Result<Decl, NoMemory>
     requires prefix { IsTrue (is_ascii prefix.now) }
     requires uri { IsTrue (is_ascii uri.now) }
-    ensures declares_the_prefix { IfOk result (λ made. made ≡ declaration_of prefix.now uri.now) }
+    ensures declares_the_prefix { IfOk result (λ made. made ≡ decl_of prefix.now uri.now) }
 {
     let prefix = text(alloc, prefix)?;
     let uri = text(alloc, uri)?;

@@ -5,4 +5,4 @@ pub mod Answers
 pub mod Mirrors
 pub mod Lines
 pub mod Audits
-pub mod Rounds
+pub mod inner

@@ -3,6 +3,7 @@ use Rattle.std.specs.Prelude.{◌≡◌, ◌≢◌, ℕ, ◌<◌, ◌≤◌, ◌
 use Rattle.std.specs.Option.{option_map}
 use Rattle.std.specs.Map.{lookup}
 use Rattle.xml_tree.specs.Tree.{Tree, height}
+use Rattle.xml_tree.specs.Limits.{most_levels}
 use Rattle.doc_names.specs.Same.{same_id}
 use Rattle.doc_names.specs.declared.doc_id.DocId.{DocId}
 use Rattle.edit_ops.specs.Changes.{Fits, edited}
@@ -21,9 +22,9 @@ held_of h = (h.tree, h.number)
 abbrev pub held_in : List (DocId × Holding) → DocId → Option Held
 held_in entries doc = option_map held_of (lookup (same_id doc) entries)
 
--- a tree is held where it has at most 64 levels, and else nothing is
+-- a tree is held where it has at most `most_levels` levels, and else nothing is
 abbrev pub HoldsLow : Tree → ℕ → Option Held → Type 0
-HoldsLow t number held = ((height t ≤ 64) × (held ≡ Some (t, number))) ⊎ ((64 < height t) × (held ≡ None))
+HoldsLow t number held = ((height t ≤ most_levels) × (held ≡ Some (t, number))) ⊎ ((most_levels < height t) × (held ≡ None))
 
 -- a tree that is held is edited where the change fits it; and else nothing is held
 abbrev pub HoldsEdited : Change → ℕ → Option Held → Option Held → Type 0

@@ -1,7 +1,7 @@
 //! Whether a change is one of a tree.
 ghost use Rattle.std.specs.Prelude.{◌≡◌, ◌↔◌, ◌≤◌, IsSome, IsSomeAnd, IsTrue, length};
+ghost use Rattle.xml_tree.specs.Attributes.{is_written_so};
 ghost use Rattle.std.specs.List.{list_any};
-ghost use Rattle.xml_tree.specs.Attributes.{is_named};
 ghost use Rattle.xml_tree.specs.Edits.{attr_at};
 ghost use Rattle.xml_tree.specs.Tree.{at, kids_of};
 ghost use Rattle.edit_ops.specs.Changes.{Fits};
@@ -25,7 +25,7 @@ fn has_gap(root: &Element, parent: &Path, gap: usize) -> bool
 }
 
 fn names_one(attrs: &[Attr], name: &Name) -> bool
-    ensures tells_whether_one_has_the_name { result ≡ list_any (is_named name.now) attrs.now }
+    ensures tells_whether_one_has_the_name { result ≡ list_any (is_written_so name.now) attrs.now }
 {
     attrs.iter().any(|attr| attr.name.same(name))
 }

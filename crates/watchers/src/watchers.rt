@@ -1,6 +1,6 @@
 //! Several watchers, told of changes as one.
 ghost use Rattle.std.specs.Prelude.{[], ◌∷◌, ◌++◌, List};
-ghost use Rattle.watchers.specs.Rounds.{more_rounds, no_round};
+ghost use Rattle.watchers.specs.inner.Rounds.{more_rounds, no_round};
 ghost use Rattle.watchers.specs.Telling.{AreKept};
 
 use crate::tell::tell_all;

@@ -13,7 +13,7 @@ use Rattle.http_serve.specs.Written.{InBytes}
 use Rattle.http_serve.specs.Endings.{FaultsBy}
 use Rattle.http_serve.specs.declared.connection.Ended.{Ended}
 use Rattle.http_serve.specs.declared.connection.Ended.TheVariants.{Closed, ReadFailed, WriteFailed}
-use Rattle.xcap_app.specs.Frames.{JustRead, JustWritten, joined}
+use Rattle.xcap_app.specs.Frames.{JustRead, JustWritten, both_lines as joined}
 use Rattle.xcap_app.specs.Replays.{ServesInput}
 
 just_read : (input output input' output' : LineState) → Through input output input' output' → JustRead input input'

@@ -14,7 +14,7 @@ use Rattle.xcap_io.specs.Passing.{Took}
 use Rattle.xcap_app.specs.Exits.{status_of}
 use Rattle.xcap_app.specs.Replays.{Replays}
 use Rattle.xcap_app.specs.Runs.{Runs}
-use Rattle.xcap_app.specs.Serves.{Serves, served_line}
+use Rattle.xcap_app.specs.Serves.{served_line, ServesCommand as Serves}
 use Rattle.xcap_app.specs.System.{AnswersAll, AnswersInput, IsDone}
 use Rattle.xcap_app.specs.Verdicts.{TextVerdict}
 use Rattle.xcap_app.specs.declared.command.Command.{Command}

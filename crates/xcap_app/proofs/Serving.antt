@@ -1,6 +1,6 @@
 -- How `serve` and `replay` end, by what the port, the input and the output did.
 use Rattle.std.proofs.Common.{◌≡◌, ℕ, List, [], inr, refl, sym, subst, arith}
-use Rattle.store_core.specs.Held.{Content, Stands}
+use Rattle.store_core.specs.Held.{Stands, Stock as Content}
 use Rattle.store_core.specs.Keeping.{Kept}
 use Rattle.store_core.specs.State.{State, first_state}
 use Rattle.store_core.proofs.KeptAfter.{kept-first}
@@ -15,7 +15,7 @@ use Rattle.http_serve.specs.declared.connection.Ended.TheVariants.{Closed, ReadF
 use Rattle.http_serve.specs.declared.port.Served.{Served}
 use Rattle.http_serve.specs.declared.port.Stop.TheVariants.{PortFailed}
 use Rattle.xcap_app.specs.Replays.{Replays, ServesInput, exit_of}
-use Rattle.xcap_app.specs.Serves.{IsComplete, Serves, ServesAddress, served_line}
+use Rattle.xcap_app.specs.Serves.{IsComplete, ServesAddress, served_line, ServesCommand as Serves}
 use Rattle.xcap_app.specs.Telling.{Prints}
 use Rattle.xcap_app.specs.declared.exit.Exit.{Exit}
 use Rattle.xcap_app.specs.declared.exit.Exit.TheVariants.{Done, Usage, InputFailed, OutputFailed, NetworkFailed, Refused, OutOfMemory}

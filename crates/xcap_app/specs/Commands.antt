@@ -5,18 +5,9 @@ use Rattle.std.specs.Str.{bytes_eq}
 use Rattle.doc_names.specs.declared.usages.Usage.{Usage}
 use Rattle.doc_names.specs.declared.usages.Usage.TheVariants.{ResourceLists, RlsServices}
 use Rattle.xcap_uri.specs.Numerals.{numeral_of}
-use Rattle.xcap_uri.specs.Roots.{is_root}
+use Rattle.xcap_uri.specs.Roots.{root_of}
 use Rattle.xcap_app.specs.declared.command.Command.{Command}
 use Rattle.xcap_app.specs.declared.command.Command.TheVariants.{Replay, Serve, Check}
-
-unfoldable pub replay_word : List ℕ
-replay_word = codes "replay"
-
-unfoldable pub serve_word : List ℕ
-serve_word = codes "serve"
-
-unfoldable pub check_word : List ℕ
-check_word = codes "check"
 
 unfoldable pub lists_word : List ℕ
 lists_word = codes "resource-lists"
@@ -25,31 +16,23 @@ unfoldable pub services_word : List ℕ
 services_word = codes "rls-services"
 
 -- AUID: the usage that a word names
-abbrev pub usage_of : List ℕ → Option Usage
-usage_of word =
+abbrev pub usage_named : List ℕ → Option Usage
+usage_named word =
     if bytes_eq word lists_word then Some ResourceLists
     else if bytes_eq word services_word then Some RlsServices
     else None
 
--- ROOT: the root that a word is
-unfoldable pub root_of : List ℕ → Option (List ℕ)
-root_of word = if is_root word then Some word else None
-
--- a number of at most 1,000,000
-abbrev pub at_most_a_million : ℕ → Option ℕ
-at_most_a_million n = if nat_le n 1000000 then Some n else None
-
 -- COUNT: a numeral of at most 1,000,000
 unfoldable pub count_of : List ℕ → Option ℕ
-count_of word = option_and_then at_most_a_million (numeral_of word)
+count_of word = option_and_then (λ n. if nat_le n 1000000 then Some n else None) (numeral_of word)
 
--- `replay ROOT`
+-- `replay ROOT`, where ROOT is a root
 abbrev pub replay_of : List ℕ → Option Command
 replay_of root = option_map (λ r. Replay r) (root_of root)
 
 -- `check AUID`
 abbrev pub check_of : List ℕ → Option Command
-check_of word = option_map (λ usage. Check usage) (usage_of word)
+check_of word = option_map (λ usage. Check usage) (usage_named word)
 
 -- an address, a root and a number, where all are there
 abbrev pub served_at : List ℕ → Option (List ℕ) → Option ℕ → Option Command
@@ -64,12 +47,12 @@ serve_of (c ∷ cs) root count = served_at (c ∷ cs) (root_of root) (count_of c
 
 unfoldable pub of_two : List ℕ → List ℕ → Option Command
 of_two name word =
-    if bytes_eq name replay_word then replay_of word
-    else if bytes_eq name check_word then check_of word
+    if bytes_eq name (codes "replay") then replay_of word
+    else if bytes_eq name (codes "check") then check_of word
     else None
 
 unfoldable pub of_four : List ℕ → List ℕ → List ℕ → List ℕ → Option Command
-of_four name address root count = if bytes_eq name serve_word then serve_of address root count else None
+of_four name address root count = if bytes_eq name (codes "serve") then serve_of address root count else None
 
 -- the command that words spell, if they spell one
 abbrev pub command_of : List (List ℕ) → Option Command

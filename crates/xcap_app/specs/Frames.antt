@@ -21,8 +21,8 @@ pub record JustWritten (old new : LineState) : Type 0 where
   pub same_peer : new.peer ≡ old.peer
 
 -- an input and an output as one line: it gives what the one gives, and takes what the other takes
-abbrev pub joined : LineState → LineState → LineState
-joined input output = record {
+abbrev pub both_lines : LineState → LineState → LineState
+both_lines input output = record {
   inward = input.inward;
   taken = output.taken;
   read_faults = input.read_faults;

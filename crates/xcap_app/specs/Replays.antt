@@ -9,7 +9,7 @@ use Rattle.http_serve.specs.Connections.{ServesLine}
 use Rattle.http_serve.specs.Written.{InBytes}
 use Rattle.http_serve.specs.declared.connection.Ended.{Ended}
 use Rattle.http_serve.specs.declared.connection.Ended.TheVariants.{Closed, ReadFailed, WriteFailed}
-use Rattle.xcap_app.specs.Frames.{JustRead, JustWritten, joined}
+use Rattle.xcap_app.specs.Frames.{JustRead, JustWritten, both_lines}
 use Rattle.xcap_app.specs.declared.exit.Exit.{Exit}
 use Rattle.xcap_app.specs.declared.exit.Exit.TheVariants.{Done, Usage, InputFailed, OutputFailed, NetworkFailed, Refused, OutOfMemory}
 
@@ -26,7 +26,7 @@ module _ {W : Type 0} (Keeps : List Edit → W → W → Type 0) where
   pub record ServesInput (root : List ℕ) (before : State) (ended : Ended) (input input' output output' : LineState) (watchers watchers' : W) : Type 0 where
     pub state : State
     pub kept : Kept state
-    pub serves : ServesLine (InBytes (KeptStep root)) Keeps ended before state (joined input output) (joined input' output') watchers watchers'
+    pub serves : ServesLine (InBytes (KeptStep root)) Keeps ended before state (both_lines input output) (both_lines input' output') watchers watchers'
     pub just_read : JustRead input input'
     pub just_written : JustWritten output output'
 

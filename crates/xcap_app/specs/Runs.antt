@@ -4,11 +4,11 @@ use Rattle.notes.specs.declared.edit.Edit.{Edit}
 use Rattle.xcap_io.specs.Causes.{LineState}
 use Rattle.xcap_app.specs.Checks.{Checks}
 use Rattle.xcap_app.specs.Replays.{Replays}
-use Rattle.xcap_app.specs.Serves.{Serves}
 use Rattle.xcap_app.specs.declared.command.Command.{Command}
 use Rattle.xcap_app.specs.declared.command.Command.TheVariants.{Replay, Serve, Check}
 use Rattle.xcap_app.specs.declared.exit.Exit.{Exit}
 use Rattle.xcap_app.specs.declared.exit.Exit.TheVariants.{Done, Usage, InputFailed, OutputFailed, NetworkFailed, Refused, OutOfMemory}
+use Rattle.xcap_app.specs.Serves.{ServesCommand}
 
 -- how a run ends whose words spell no command; want of memory may come before that is known
 abbrev pub EndsUnspelled : Exit → Type 0
@@ -29,6 +29,6 @@ module _ {W : Type 0} (Keeps : List Edit → W → W → Type 0) where
   Runs (Some (Replay root)) exit port port' input input' output output' watchers watchers' =
       Replays Keeps root exit input input' output output' watchers watchers' × (port' ≡ port)
   Runs (Some (Serve address root count)) exit port port' input input' output output' watchers watchers' =
-      Serves Keeps (encode_utf8_all address) root count exit port port' output output' watchers watchers' × (input' ≡ input)
+      ServesCommand Keeps (encode_utf8_all address) root count exit port port' output output' watchers watchers' × (input' ≡ input)
   Runs (Some (Check usage)) exit port port' input input' output output' watchers watchers' =
       Checks usage exit input input' output output' × (port' ≡ port) × (watchers' ≡ watchers)

@@ -25,10 +25,6 @@ IsComplete Count = Unit {0}
 IsComplete NoMore = Unit {0}
 IsComplete PortFailed = ⊥
 
--- the port doesn't listen: its count of faults rose, and nothing else changed
-abbrev pub CannotListen : LineState → LineState → Type 0
-CannotListen port port' = (port' ≡ with_port_faults port port'.port.faults) × Rose port.port.faults port'.port.faults
-
 -- W is the type of the watchers, and `Keeps` says what they are after such changes.
 module _ {W : Type 0} (Keeps : List Edit → W → W → Type 0) where
   -- The port listens at the address, and the connections that came were served, so many at most, by the machine of this root
@@ -40,18 +36,18 @@ module _ {W : Type 0} (Keeps : List Edit → W → W → Type 0) where
 
   -- All connections were served, and their number was written, or some of that where the output failed; or the port doesn't
   -- listen or failed to begin a connection, and nothing was written; or memory was wanted, and nothing was done.
-  abbrev pub Serves : List ℕ → List ℕ → ℕ → Exit → LineState → LineState → LineState → LineState → W → W → Type 0
-  Serves address root count Done port port' output output' watchers watchers' =
+  abbrev pub ServesCommand : List ℕ → List ℕ → ℕ → Exit → LineState → LineState → LineState → LineState → W → W → Type 0
+  ServesCommand address root count Done port port' output output' watchers watchers' =
       (served : Served) × ServesAddress address root count served port port' watchers watchers' × IsComplete served.stop
       × TakesAll (served_line served.connections) output output'
-  Serves address root count Usage port port' output output' watchers watchers' = ⊥
-  Serves address root count InputFailed port port' output output' watchers watchers' = ⊥
-  Serves address root count OutputFailed port port' output output' watchers watchers' =
+  ServesCommand address root count Usage port port' output output' watchers watchers' = ⊥
+  ServesCommand address root count InputFailed port port' output output' watchers watchers' = ⊥
+  ServesCommand address root count OutputFailed port port' output output' watchers watchers' =
       (served : Served) × ServesAddress address root count served port port' watchers watchers' × IsComplete served.stop
       × TakesSome (served_line served.connections) output output'
-  Serves address root count NetworkFailed port port' output output' watchers watchers' =
-      ((CannotListen port port' × (watchers' ≡ watchers))
+  ServesCommand address root count NetworkFailed port port' output output' watchers watchers' =
+      ((((port' ≡ with_port_faults port port'.port.faults) × Rose port.port.faults port'.port.faults) × (watchers' ≡ watchers))
       ⊎ ((served : Served) × ServesAddress address root count served port port' watchers watchers' × (served.stop ≡ PortFailed)))
       × (output' ≡ output)
-  Serves address root count (Refused refusal) port port' output output' watchers watchers' = ⊥
-  Serves address root count OutOfMemory port port' output output' watchers watchers' = (port' ≡ port) × (output' ≡ output) × (watchers' ≡ watchers)
+  ServesCommand address root count (Refused refusal) port port' output output' watchers watchers' = ⊥
+  ServesCommand address root count OutOfMemory port port' output output' watchers watchers' = (port' ≡ port) × (output' ≡ output) × (watchers' ≡ watchers)

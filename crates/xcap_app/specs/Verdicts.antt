@@ -9,6 +9,7 @@ use Rattle.usage_docs.specs.declared.judging.Fault.{Fault}
 use Rattle.usage_docs.specs.declared.judging.Fault.TheVariants.{Invalid, Unformed, Repeated}
 use Rattle.doc_names.specs.declared.usages.Usage.{Usage}
 use Rattle.xml_tree.specs.Tree.{Tree}
+use Rattle.xml_tree.specs.Limits.{most_levels}
 use Rattle.xcap_app.specs.declared.exit.Exit.{Exit}
 use Rattle.xcap_app.specs.declared.exit.Exit.TheVariants as exits
 use Rattle.xcap_app.specs.declared.refusal.Refusal.TheVariants as refusals
@@ -37,8 +38,8 @@ abbrev pub AnswerVerdict : Usage → Result Tree TextFault → Exit → Type 0
 AnswerVerdict usage (Ok t) exit = TreeVerdict usage t exit
 AnswerVerdict usage (Err fault) exit = FaultVerdict fault exit
 
--- What is said of a text, by the one answer of the grammar: the tree of at most 64 levels that it spells, or its first fault.
+-- What is said of a text, by the one answer of the grammar: the tree of at most `most_levels` levels that it spells, or its first fault.
 pub record TextVerdict (usage : Usage) (text : List ℕ) (exit : Exit) : Type 0 where
   pub answer : Result Tree TextFault
-  pub by_grammar : TextAnswer 64 [] text answer
+  pub by_grammar : TextAnswer most_levels [] text answer
   pub verdict : AnswerVerdict usage answer exit

@@ -2,7 +2,7 @@
 ghost use Rattle.std.specs.Prelude.{◌≡◌, []};
 ghost use Rattle.xcap_io.specs.Causes.{OnlyWrites};
 ghost use Rattle.xcap_io.specs.Streams.{WritesAll};
-ghost use Rattle.xcap_app.specs.Serves.{Serves, served_line};
+ghost use Rattle.xcap_app.specs.Serves.{served_line, ServesCommand};
 ghost use Rattle.xcap_app.specs.Telling.{Prints};
 
 use crate::exit::Exit;
@@ -48,7 +48,7 @@ fn serve_at<P: Port, O: Sink, W: Watchers<Edit>>(
     watchers: &mut W,
 ) -> Exit
     requires { server.old.content ≡ record { documents = []; next = 1 } }
-    ensures serves_at_the_address { Serves W.keeps address.now server.old.root count result
+    ensures serves_at_the_address { ServesCommand W.keeps address.now server.old.root count result
         (P.state port.old) (P.state port.new) (O.state output.old) (O.state output.new) watchers.old watchers.new }
 {
     if let Err(Failed) = port.listen(address) {
@@ -73,7 +73,7 @@ pub(crate) fn serve<P: Port, O: Sink, W: Watchers<Edit>>(
     output: &mut O,
     watchers: &mut W,
 ) -> Exit
-    ensures serves_by_a_new_server { Serves W.keeps address.now root.now count result
+    ensures serves_by_a_new_server { ServesCommand W.keeps address.now root.now count result
         (P.state port.old) (P.state port.new) (O.state output.old) (O.state output.new) watchers.old watchers.new }
 {
     let Ok(mut server) = Server::new(alloc, root, 1) else {

@@ -1,11 +1,11 @@
 // The words of the command line.
 ghost use Rattle.std.specs.Prelude.{◌≡◌, IfOk, map, string_bytes};
-ghost use Rattle.xcap_app.specs.Commands.{check_of, command_of, count_of, of_four, of_two, replay_of, root_of, serve_of, usage_of};
+ghost use Rattle.xcap_app.specs.Commands.{check_of, command_of, count_of, of_four, of_two, replay_of, serve_of, usage_named};
 
 use crate::command::Command;
 use doc_names::Usage;
 use std::alloc::{AllocError, Global};
-use xcap_uri::{Root, RootFault, numeral, read_root};
+use xcap_uri::{numeral, read_root};
 use xml_tree::Text;
 
 // The greatest COUNT.
@@ -26,7 +26,7 @@ fn count_of(word: &str) -> Option<u64>
 // The usage that a word names.
 #[tactic(auto, unfolding(crate::specs::Commands::lists_word, crate::specs::Commands::services_word))]
 fn usage_of(word: &str) -> Option<Usage>
-    ensures names_the_usage { result ≡ usage_of word.now }
+    ensures names_the_usage { result ≡ usage_named word.now }
 {
     if word == "resource-lists" {
         return Some(Usage::ResourceLists);
@@ -37,23 +37,11 @@ fn usage_of(word: &str) -> Option<Usage>
     None
 }
 
-// The root that a word is.
-#[tactic(auto, unfolding(crate::specs::Commands::root_of))]
-fn root_of(alloc: Global, word: &str) -> Result<Option<Root>, AllocError>
-    ensures reads_the_root { IfOk result (λ root. root ≡ root_of word.now) }
-{
-    match read_root(alloc, word) {
-        Ok(root) => Ok(Some(root)),
-        Err(RootFault::NotRoot) => Ok(None),
-        Err(RootFault::NoMemory) => Err(AllocError),
-    }
-}
-
 // What `replay` and a word spell.
 fn replay_of(alloc: Global, root: &str) -> Result<Option<Command>, AllocError>
     ensures reads_a_replay { IfOk result (λ command. command ≡ replay_of root.now) }
 {
-    match root_of(alloc, root)? {
+    match read_root(alloc, root)? {
         Some(root) => Ok(Some(Command::Replay { root })),
         None => Ok(None),
     }
@@ -82,7 +70,7 @@ fn serve_of(
     let Some(count) = count_of(count) else {
         return Ok(None);
     };
-    let Some(root) = root_of(alloc, root)? else {
+    let Some(root) = read_root(alloc, root)? else {
         return Ok(None);
     };
     let address = Text::from(alloc, address)?;
@@ -94,7 +82,7 @@ fn serve_of(
 }
 
 // What two words spell.
-#[tactic(auto, unfolding(crate::specs::Commands::of_two, crate::specs::Commands::replay_word, crate::specs::Commands::check_word))]
+#[tactic(auto, unfolding(crate::specs::Commands::of_two))]
 fn of_two(alloc: Global, name: &str, word: &str) -> Result<Option<Command>, AllocError>
     ensures reads_two_words { IfOk result (λ command. command ≡ of_two name.now word.now) }
 {
@@ -108,7 +96,7 @@ fn of_two(alloc: Global, name: &str, word: &str) -> Result<Option<Command>, Allo
 }
 
 // What four words spell.
-#[tactic(auto, unfolding(crate::specs::Commands::of_four, crate::specs::Commands::serve_word))]
+#[tactic(auto, unfolding(crate::specs::Commands::of_four))]
 fn of_four(
     alloc: Global,
     name: &str,

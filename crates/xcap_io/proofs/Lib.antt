@@ -1,6 +1,5 @@
 pub mod Adding
 pub mod Beginning
-pub mod Exchanging
 pub mod Lines
 pub mod Pairing
 pub mod Passing

@@ -7,7 +7,7 @@ use Rattle.xcap_io.specs.Histories.{Traffic}
 pub record Inward : Type 0 where
   -- the bytes that reads will give from here on: a line in memory tells them, a real stream or socket doesn't
   pub left : Option (List ℕ)
-  -- the bytes that reads have given so far, of a port on its present connection alone
+  -- the bytes that reads have given so far, of a port or a peer on its present connection alone
   pub given : List ℕ
   -- whether the last read that didn't fail found the end of the input
   pub ended : Bool
@@ -16,8 +16,8 @@ pub record Inward : Type 0 where
 abbrev pub inward_of : Traffic → Inward
 inward_of now = record { left = None; given = now.given; ended = now.ended }
 
--- The connections that have begun on a port: what passed over each one that ended, and whether one is present. What passed
--- over the present one is what the line has given and taken.
+-- The connections that have begun on a port or a peer: what passed over each one that ended, and whether one is present. What
+-- passed over the present one is what the line has given and taken.
 pub record Begun : Type 0 where
   pub earlier : List Traffic
   pub is_present : Bool
@@ -33,23 +33,14 @@ pub record PortState : Type 0 where
   -- how often `listen` and `next` have failed
   pub faults : ℕ
 
--- A connection of a peer that ended: the address that it was begun at, and the bytes that were taken on it.
-pub record Exchange : Type 0 where
-  pub address : List ℕ
-  pub taken : List ℕ
-
--- The connections that a peer has begun: those that ended, and the address of the present one, if there is one.
--- What was taken on the present one is what the line has taken.
-pub record Dialled : Type 0 where
-  pub earlier : List Exchange
-  pub present : Option (List ℕ)
-
 -- What a peer is beside a source and a sink.
 pub record PeerState : Type 0 where
   -- the bytes that each connection still to come will give, where the peer tells them
   pub to_come : Option (List (List ℕ))
-  -- the connections that have begun, where the peer tells them
-  pub begun : Option Dialled
+  -- the connections that have begun
+  pub begun : Begun
+  -- the address that each of them was begun at, the latest first
+  pub addresses : List (List ℕ)
   -- how often `connect` has failed
   pub faults : ℕ
 
@@ -67,7 +58,7 @@ no_port = record { listening = None; to_come = None; begun = none_begun; faults 
 
 -- of a line that is no peer
 abbrev pub no_peer : PeerState
-no_peer = record { to_come = None; begun = None; faults = 0 }
+no_peer = record { to_come = None; begun = none_begun; addresses = []; faults = 0 }
 
 -- What a line that works through two others doesn't show of one of them: of an input what it has taken and its count of
 -- failed writes, of an output what has come in over it and its count of failed reads; of both their connections, and how
@@ -84,7 +75,7 @@ pub record Aside : Type 0 where
 -- A line at one moment.
 pub record LineState : Type 0 where
   pub inward : Inward
-  -- the bytes that writes have handed over so far, of a port on its present connection alone
+  -- the bytes that writes have handed over so far, of a port or a peer on its present connection alone
   pub taken : List ℕ
   -- how often a read, and a write, has failed
   pub read_faults : ℕ

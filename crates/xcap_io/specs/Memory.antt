@@ -1,6 +1,6 @@
 -- Lines in memory, and ports and peers made of them, as their callers see them. This is the project's own.
 use Rattle.std.specs.Prelude.{◌≡◌, ◌≢◌, ℕ, zero, suc, ◌+◌, ◌-◌, ◌^◌, ◌<◌, ◌≤◌, ◌==◌, min, List, [], ◌∷◌, ◌++◌, length, map, take, drop, Bool, true, false, Option, None, Some, Result, Ok, Err, option_map, unwrap_or, IsErr, ◌⊎◌, slice_index_or, slice_set}
-use Rattle.xcap_io.specs.Causes.{Begun, Exchange, Dialled, LineState, no_port, no_peer}
+use Rattle.xcap_io.specs.Causes.{Begun, LineState, no_port, no_peer}
 use Rattle.xcap_io.specs.Histories.{Traffic}
 
 -- A line in memory.
@@ -191,22 +191,13 @@ pub record MemoryPeer : Type 0 where
   pub addresses : List (List ℕ)
   pub faults : ℕ
 
--- the connections at these addresses, the latest first, and the lines: each address with what its line took
-abbrev pub exchanges : List (List ℕ) → List MemoryLine → List Exchange
-exchanges [] lines = []
-exchanges (address ∷ before) lines = exchanges before lines ++ record { address = address; taken = (line_at lines (length before)).taken } ∷ []
-
--- the connections that a peer in memory has begun
-abbrev pub lines_dialled : List (List ℕ) → List MemoryLine → Dialled
-lines_dialled [] lines = record { earlier = []; present = None }
-lines_dialled (address ∷ before) lines = record { earlier = exchanges before lines; present = Some address }
-
 -- a peer in memory as a line
 abbrev pub peer_state : MemoryPeer → LineState
 peer_state m = record (lines_state m.lines) {
   peer = record {
     to_come = Some (lines_to_come m.lines);
-    begun = Some (lines_dialled m.addresses m.lines.lines);
+    begun = lines_begun m.lines.lines m.lines.present;
+    addresses = m.addresses;
     faults = m.faults;
   };
 }

@@ -1,6 +1,6 @@
 //! Sources and sinks of bytes, ports and peers with their connections, in memory and over real streams and sockets.
-//! Upward: each line tells the bytes that its reads gave and its writes handed over, a port on each connection; bytes given are
-//! the next ones left where that is known, and a failure comes only with a count that rose.
+//! Upward: each line tells the bytes that its reads gave and its writes handed over, a port and a peer on each connection; bytes
+//! given are the next ones left where that is known, and a failure comes only with a count that rose.
 //! The model is the project's own; no standard defines it.
 #![tactic(auto)]
 
@@ -17,6 +17,7 @@ mod pair;
 mod remembered;
 mod std_streams;
 mod tcp;
+mod tcp_peer;
 mod writing;
 
 pub use bytes::Bytes;
@@ -29,5 +30,6 @@ pub use mem_port::MemPort;
 pub use pair::Pair;
 pub use std::alloc::AllocError as NoMemory;
 pub use std_streams::{StdSink, StdSource};
-pub use tcp::{TcpPeer, TcpPort};
+pub use tcp::TcpPort;
+pub use tcp_peer::TcpPeer;
 pub use writing::write_all;

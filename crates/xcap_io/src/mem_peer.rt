@@ -14,7 +14,7 @@ use crate::remembered::Remembered;
 use crate::{Failed, Line, MemLine, Peer, Sink, Source};
 use std::marker::Model;
 
-/// A peer whose connections are lines in memory. It tells them all, the address of each, and what was taken on it.
+/// A peer whose connections are lines in memory. It tells them all, the address of each, and what passed over it.
 #[derive(Drop)]
 pub struct MemPeer {
     lines: MemLines,
@@ -24,8 +24,7 @@ pub struct MemPeer {
 }
 
 impl Model for MemPeer {
-    ghost use Rattle.std.specs.Prelude.{◌≡◌, length};
-    ghost use Rattle.xcap_io.specs.Memory.{MemoryPeer, next_number};
+    ghost use Rattle.xcap_io.specs.Memory.{MemoryPeer};
 
     ghost Value = { MemoryPeer };
 
@@ -35,8 +34,6 @@ impl Model for MemPeer {
       addresses = m.addresses.texts;
       faults = m.faults;
     } };
-
-    ghost invariant = { λ m. length m.addresses.texts ≡ next_number m.lines.present };
 }
 
 impl MemPeer {

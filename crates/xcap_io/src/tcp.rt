@@ -1,9 +1,10 @@
-// Real sockets. These few lines are the trusted edge: no contract says that what a call of the system gives came over the
-// network, or that what it takes goes there. Which bytes each call gave and took, and on which connection, is told.
+// Connections that come in over real sockets, and what those that go out share with them. These few lines are the trusted edge:
+// no contract says that what a call of the system gives came over the network, or that what it takes goes there. Which bytes each
+// call gave and took, and on which connection, is told.
 ghost use Rattle.std.specs.Prelude.{◌≡◌, ◌<◌, ◌≤◌, [], None, Some, false, length, take, IfOk, OnOk, OnErr, IsSome, IfSome, IsTrue, MatchResult};
 ghost use Rattle.std.specs.Io.{ReadsAtMost};
-ghost use Rattle.xcap_io.specs.Causes.{Counts, OnlyReads, OnlyWrites, inward_of, no_inward, no_port, no_peer, none_begun};
-ghost use Rattle.xcap_io.specs.Connections.{Listens, OnlyConnects, OnlyNext, carried};
+ghost use Rattle.xcap_io.specs.Causes.{Counts, OnlyReads, OnlyWrites, inward_of, no_inward, no_peer, none_begun};
+ghost use Rattle.xcap_io.specs.Connections.{Listens, OnlyNext, carried};
 ghost use Rattle.xcap_io.specs.Histories.{with_given, with_taken};
 ghost use Rattle.xcap_io.specs.Memory.{latest};
 ghost use Rattle.xcap_io.specs.Passing.{ReadGave, WriteTook};
@@ -13,9 +14,9 @@ ghost use Rattle.xcap_io.specs.Streams.{WritesSome};
 use crate::line::fault;
 use crate::log::Log;
 use crate::remembered::Remembered;
-use crate::{Failed, Line, Peer, Port, Sink, Source};
+use crate::{Failed, Line, Port, Sink, Source};
 use std::io::{Read, Write};
-use std::net::{Net, OpenListener, OpenStream, TcpListener, TcpStream};
+use std::net::{Net, OpenListener, OpenStream, TcpListener};
 
 /// Connections that come in over TCP. It tells what passed over each, where it listens, and its counts of faults; not what is
 /// still to come. A want of memory inside a call is a fault like any other.
@@ -76,58 +77,8 @@ impl<N: Net + Drop> Line for TcpPort<N> {
     } };
 }
 
-/// Connections that go out over TCP. It tells what passed over all of them together, and its counts of faults.
-/// A want of memory inside a call is a fault like any other.
-#[derive(Drop)]
-pub struct TcpPeer<N: Net + Drop> {
-    net: N,
-    stream: Option<N::Stream>,
-    log: Log,
-    read_faults: u64,
-    write_faults: u64,
-    faults: u64,
-}
-
-impl<N: Net + Drop> TcpPeer<N> {
-    /// A peer with no connection yet.
-    pub fn new(net: N) -> TcpPeer<N>
-        ensures nothing_passed { ⟦<TcpPeer<N> as Line>⟧.state result ≡ record {
-          inward = no_inward;
-          taken = [];
-          read_faults = 0;
-          write_faults = 0;
-          holds = [];
-          aside = [];
-          port = no_port;
-          peer = no_peer;
-        } }
-    {
-        TcpPeer {
-            net,
-            stream: None,
-            log: Log::new(),
-            read_faults: 0,
-            write_faults: 0,
-            faults: 0,
-        }
-    }
-}
-
-impl<N: Net + Drop> Line for TcpPeer<N> {
-    ghost state = { λ p. record {
-      inward = inward_of p.log.history.now;
-      taken = p.log.history.now.taken;
-      read_faults = p.read_faults;
-      write_faults = p.write_faults;
-      holds = [];
-      aside = [];
-      port = no_port;
-      peer = record no_peer { faults = p.faults };
-    } };
-}
-
 // One read of the present connection. Where there is none, or the read failed, that is counted.
-fn read_from<S: Read>(
+pub(crate) fn read_from<S: Read>(
     stream: &mut Option<S>,
     log: &mut Log,
     faults: &mut u64,
@@ -153,7 +104,7 @@ fn read_from<S: Read>(
 }
 
 // One write to the present connection. Where there is none, or the write failed, or it took nothing, that is counted.
-fn write_to<S: Write>(
+pub(crate) fn write_to<S: Write>(
     stream: &mut Option<S>,
     log: &mut Log,
     faults: &mut u64,
@@ -192,7 +143,7 @@ fn accept_next<L: OpenListener>(listener: &Option<L>) -> Option<L::Stream>
 }
 
 // Writes are few and large here, so none waits in the system for more. A socket that can't do so works all the same.
-fn send_at_once<S: OpenStream>(stream: &S) {
+pub(crate) fn send_at_once<S: OpenStream>(stream: &S) {
     let _ = stream.set_nodelay(true);
 }
 
@@ -272,59 +223,6 @@ impl<N: Net + Drop> Port for TcpPort<N> {
                 Ok(true)
             }
             None => Err(fault(&mut self.faults)),
-        }
-    }
-}
-
-impl<N: Net + Drop> Source for TcpPeer<N> {
-    fn read(&mut self, buf: &mut [u8]) -> Result<usize, Failed>
-        requires { 0 < length buf.old }
-        ensures bound { ReadsAtMost result buf.new }
-        ensures bytes { ReadGave (⟦<TcpPeer<N> as Line>⟧.state self.old).inward
-            (⟦<TcpPeer<N> as Line>⟧.state self.new).inward result buf.new }
-        ensures only_reads { OnlyReads
-            (⟦<TcpPeer<N> as Line>⟧.state self.old) (⟦<TcpPeer<N> as Line>⟧.state self.new) result }
-        ensures from_stream { ReadsStream N.Stream.remaining self.old.stream self.new.stream result buf.new }
-    {
-        read_from(&mut self.stream, &mut self.log, &mut self.read_faults, buf)
-    }
-}
-
-impl<N: Net + Drop> Sink for TcpPeer<N> {
-    fn write(&mut self, piece: &[u8]) -> Result<usize, Failed>
-        requires { 0 < length piece.now }
-        ensures bound { WritesSome result piece.now }
-        ensures bytes { WriteTook (⟦<TcpPeer<N> as Line>⟧.state self.old).taken
-            (⟦<TcpPeer<N> as Line>⟧.state self.new).taken result piece.now }
-        ensures only_writes { OnlyWrites
-            (⟦<TcpPeer<N> as Line>⟧.state self.old) (⟦<TcpPeer<N> as Line>⟧.state self.new) result }
-        ensures to_stream { WritesStream N.Stream.contents self.old.stream self.new.stream result piece.now }
-    {
-        write_to(
-            &mut self.stream,
-            &mut self.log,
-            &mut self.write_faults,
-            piece,
-        )
-    }
-}
-
-impl<N: Net + Drop> Peer for TcpPeer<N> {
-    fn connect(&mut self, address: &str) -> Result<(), Failed>
-        ensures only_connects { OnlyConnects
-            (⟦<TcpPeer<N> as Line>⟧.state self.old) (⟦<TcpPeer<N> as Line>⟧.state self.new) result address.now }
-        ensures begun { OnOk result (IsSome self.new.stream) }
-        ensures ended { OnErr result (self.new.stream ≡ None) }
-    {
-        // The present connection is closed first.
-        self.stream = None;
-        match TcpStream::connect(&self.net, address) {
-            Ok(stream) => {
-                send_at_once(&stream);
-                self.stream = Some(stream);
-                Ok(())
-            }
-            Err(_) => Err(fault(&mut self.faults)),
         }
     }
 }

@@ -5,8 +5,8 @@ use Rattle.notes.specs.declared.edit.Edit.{Edit}
 use Rattle.machine_words.specs.Answers.{Answer}
 use Rattle.machine_words.specs.Machine.{answer_as, content_after_answer}
 use Rattle.machine_words.specs.Requests.{IsAnswer}
-use Rattle.store_core.specs.Held.{Content}
-use Rattle.store_core.specs.Storing.{Stored}
+use Rattle.store_core.specs.Stored.{Stored}
+use Rattle.store_core.specs.Held.{Stock as Content}
 use Rattle.document_writes.specs.Deciding.{Decides, answer_of}
 use Rattle.document_writes.specs.declared.decision.Decision.{Decision}
 use Rattle.http_serve.specs.declared.machine.Answered.{Answered}

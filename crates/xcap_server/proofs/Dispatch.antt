@@ -14,10 +14,10 @@ use Rattle.request_terms.specs.Methods.{method_of, is_reading}
 use Rattle.request_terms.specs.Rights.{is_allowed}
 use Rattle.request_terms.specs.declared.method.Method.{Method}
 use Rattle.request_terms.specs.declared.method.Method.TheVariants.{Get, Head, Put, Delete, Other}
-use Rattle.store_core.specs.Held.{Content}
-use Rattle.store_core.specs.Storing.{Stored}
+use Rattle.store_core.specs.Stored.{Stored}
+use Rattle.store_core.specs.Held.{Stock as Content}
 use Rattle.machine_words.specs.Answers.{Answer, not_allowed, unchanged}
-use Rattle.machine_words.specs.Requests.{ByMethod, ByTarget, ByUser, Deletes, IsAnswer, Puts, auid_of, fault_status, home_of, is_read_only, Reads, takes}
+use Rattle.machine_words.specs.Requests.{ByMethod, ByTarget, ByUser, Deletes, IsAnswer, Puts, auid_of, fault_status, home_of, is_read_only, takes, ReadsTarget as Reads}
 use Rattle.machine_words.proofs.Cases.{at_false, at_true, not_stored, stored}
 use Rattle.document_writes.specs.Deciding.{Decides}
 use Rattle.document_writes.specs.declared.decision.Decision.{Decision}

@@ -1,15 +1,15 @@
 -- A server as its callers see it, and what it answers to a request. RFC 4825, section 8.
 use Rattle.std.specs.Prelude.{◌≡◌, ℕ, List, Option}
+use Rattle.store_core.specs.Held.{Stock}
 use Rattle.reply_text.specs.Heads.{Sent}
 use Rattle.http_wire.specs.declared.request.Request.{Request}
 use Rattle.notes.specs.declared.edit.Edit.{Edit}
-use Rattle.store_core.specs.Held.{Content}
 use Rattle.machine_words.specs.Machine.{Does}
 
 -- its root, and what it holds
 pub record ServerState : Type 0 where
   pub root : List ℕ
-  pub content : Content
+  pub content : Stock
 
 -- It answers a request by this reply, tells this change, if it made one, and then holds what is left, under the same root.
 pub record AnswersRequest (old : ServerState) (request : Request) (reply : Sent) (new : ServerState) (edit : Option Edit) : Type 0 where

@@ -10,7 +10,7 @@ ghost use Rattle.request_terms.specs.Rights.{is_allowed};
 ghost use Rattle.request_terms.specs.declared.method.Method.TheVariants as methods;
 ghost use Rattle.store_core.specs.Keeping.{IsUsers};
 ghost use Rattle.machine_words.specs.Answers.{unchanged};
-ghost use Rattle.machine_words.specs.Requests.{ByMethod, ByTarget, ByUser, Deletes, IsAnswer, IsWritableTarget, Puts, auid_of, fault_status, home_of, Reads, takes};
+ghost use Rattle.machine_words.specs.Requests.{ByMethod, ByTarget, ByUser, Deletes, IsAnswer, IsWritableTarget, Puts, auid_of, fault_status, home_of, takes, ReadsTarget};
 ghost use Rattle.document_writes.specs.Deciding.{Decides};
 
 use crate::targets::{auid_of, home_of, is_read_only, takes};
@@ -46,7 +46,7 @@ fn get_target(
     method: Method,
     request: &Request,
 ) -> Result<Reply, AllocError>
-    ensures replies_as_the_machine { IfOk result (λ reply. Reads root.now store.now.content target.now method request.now (unchanged reply)) }
+    ensures replies_as_the_machine { IfOk result (λ reply. ReadsTarget root.now store.now.content target.now method request.now (unchanged reply)) }
 {
     match target {
         Target::Document(doc) => get_document(alloc, store, doc, method, request),

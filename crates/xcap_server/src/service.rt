@@ -29,7 +29,7 @@ pub(crate) struct Service {
 impl Model for Service {
     ghost use Rattle.xcap_server.specs.Servers.{ServerState};
     ghost use Rattle.std.specs.Coded.{codes};
-    ghost use Rattle.xml_tree.specs.Tree.{tree_code};
+    ghost use Rattle.xml_tree.specs.inner.Codes.{tree_code};
     ghost use Rattle.doc_names.specs.contracts.doc_id.DocId as d;
     ghost use Rattle.edit_ops.specs.contracts.change.Change as c;
 

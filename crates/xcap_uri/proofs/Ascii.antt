@@ -4,12 +4,12 @@ use Rattle.std.proofs.lemmas.Bool.{and_parts, and_from, eqb-true}
 use Rattle.std.proofs.lemmas.Bool.Decides.{nat_tests}
 use Rattle.std.proofs.lemmas.Str.{encodes-chars, encodes-IsAscii}
 use Rattle.std.specs.Char.{is_ascii}
-use Rattle.std.specs.List.{list_all}
+use Rattle.std.specs.List.{list_all, onto_first as with_first}
 use Rattle.std.specs.Str.{IsAscii, IsUtf8, chars}
 use lib.Utf8.{encodes}
 use Rattle.doc_names.proofs.Words.{word_letters}
-use Rattle.xcap_uri.specs.Cuts.{pieces, with_first}
-use Rattle.xcap_uri.specs.Roots.{slash, is_authority_char, is_segment_char, is_some_of, path_in, is_root, path_of}
+use Rattle.xcap_uri.specs.Cuts.{pieces}
+use Rattle.xcap_uri.specs.Roots.{slash, is_authority_char, is_segment_char, is_some_of, path_in, path_of, is_root_text as is_root}
 use Rattle.xcap_uri.proofs.RootAnswers.{Parts, root_parts}
 
 -- the octets of a text of ASCII

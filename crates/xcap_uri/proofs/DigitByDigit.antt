@@ -2,7 +2,8 @@
 use Rattle.std.proofs.Common.{◌≡◌, ℕ, ◌+◌, ◌-◌, ◌*◌, ◌≤◌, ◌<◌, Bool, cond, true, false, ◌&&◌, nat_le, List, [], ◌∷◌, Option, None, Some, refl, ◌∙◌, sym, arith}
 use Rattle.std.proofs.lemmas.Bool.{leb-true, leb-false, le-leb, lt-leb}
 use Rattle.std.specs.List.{list_all}
-use Rattle.grammar_rules.specs.Digits.{decimal, is_digit}
+use Rattle.std.specs.Char.{is_ascii_digit as is_digit}
+use Rattle.grammar_rules.specs.Digits.{decimal}
 use Rattle.grammar_rules.specs.Rules.{number_from}
 use Rattle.xcap_uri.specs.Numerals.{begins_with_digit, number_behind, numeral_of}
 

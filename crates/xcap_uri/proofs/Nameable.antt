@@ -2,7 +2,7 @@
 use Rattle.std.proofs.Common.{◌≡◌, ◌≢◌, ℕ, Bool, true, false, List, [], ◌∷◌, Option, None, Some, ap, IfSome, option_map, Result, Ok, Err, IfOk, refl, sym, ◌∙◌, true≢false, subst, ◌⊎◌, ⊎_elim, if◌then◌else◌}
 use Rattle.std.proofs.lemmas.Bool.{or_parts}
 use Rattle.std.specs.Cmp.Lexicographic.{bytes_decides}
-use Rattle.std.specs.List.{list_any}
+use Rattle.std.specs.List.{list_any, join_with_byte as joined}
 use Rattle.std.specs.Str.{bytes_eq}
 use Rattle.xml_tree.specs.declared.names.Decl.{Decl}
 use Rattle.doc_names.specs.declared.doc_id.Auid.{Auid}
@@ -15,13 +15,13 @@ use Rattle.xcap_uri.specs.declared.shape.Shape.{Shape}
 use Rattle.xcap_uri.specs.declared.shape.Shape.TheVariants.{Whole, Part, Below, Changes, PartChanges, FlatList}
 use Rattle.xcap_uri.specs.declared.target.Mode.{Mode}
 use Rattle.xcap_uri.specs.declared.target.Target.{Target}
-use Rattle.xcap_uri.specs.Cuts.{joined, before, behind, pieces}
+use Rattle.xcap_uri.specs.Cuts.{before, behind, pieces}
 use Rattle.xcap_uri.specs.readers.Escapes.{text_read, optional_text_read}
 use Rattle.xcap_uri.specs.Gives.{UriError, ◌>>=◌}
 use Rattle.doc_names.specs.Ids.{IsNameable, IsReadable, IsReadableHome}
 use Rattle.xcap_uri.specs.readers.Queries.{optional_bindings_read}
 use Rattle.xcap_uri.specs.Roots.{slash}
-use Rattle.xcap_uri.specs.Shapes.{doc_of, tag_of}
+use Rattle.xcap_uri.specs.Shapes.{doc_of, tag_spelled as tag_of}
 use Rattle.xcap_uri.specs.readers.Shapes as Shapes
 use Rattle.xcap_uri.specs.Targets.{raw_text, question, IsReadableTarget, under_root}
 use Rattle.xcap_uri.specs.readers.Targets.{segments_read, path_read, target_of, part_read, about_element, rest_read, under_read, target_read}

@@ -1,10 +1,11 @@
 -- Texts cut into pieces, one cut at a time.
 use Rattle.std.proofs.Common.{◌≡◌, ℕ, Bool, true, false, not, ◌==◌, nat_eq, List, [], ◌∷◌, ◌++◌, Option, None, Some, unwrap_or, length, suc, ◌<◌, ◌≤◌, refl, sym, ap, ◌∙◌, arith}
 use Rattle.std.proofs.lemmas.Bool.{eqb-true, eq-eqb}
-use Rattle.std.specs.List.{list_all}
+use Rattle.std.specs.List.{list_all, onto_first as with_first}
+use Rattle.tree_text.specs.Faults.{is_other}
 use Rattle.grammar_rules.specs.Reading.{after_front}
 use Rattle.grammar_rules.specs.Rules.{AllPass}
-use Rattle.xcap_uri.specs.Cuts.{after, is_other, before, behind, behind_first, pieces, with_first}
+use Rattle.xcap_uri.specs.Cuts.{after, before, behind, behind_first, pieces}
 use Rattle.xcap_uri.specs.Roots.{is_some_of}
 
 -- a test, either way

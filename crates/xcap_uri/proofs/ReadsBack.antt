@@ -7,6 +7,7 @@ use Rattle.std.specs.Cmp.Lexicographic.{bytes_decides}
 use Rattle.std.specs.Fmt.{digit_glyph}
 use Rattle.std.specs.List.{list_all}
 use Rattle.std.specs.Str.{bytes_eq, chars, IsUtf8, IsAscii}
+use Rattle.tree_text.specs.Faults.{is_other}
 use Rattle.grammar_rules.specs.Rules.{AllPass}
 use Rattle.percent_encoding.specs.Percent.{percent_decode, percent_encode_byte}
 use Rattle.doc_names.specs.declared.doc_id.Auid.{Auid}
@@ -17,15 +18,15 @@ use Rattle.doc_names.specs.declared.doc_id.DocId.{DocId}
 use Rattle.xcap_uri.specs.Gives.{UriError}
 use Rattle.xcap_uri.specs.declared.shape.Shape.TheVariants.{Whole}
 use Rattle.xcap_uri.specs.declared.target.Target.TheVariants.{Document}
-use Rattle.xcap_uri.specs.Cuts.{pieces, is_other}
+use Rattle.xcap_uri.specs.Cuts.{pieces}
 use Rattle.xcap_uri.specs.Escapes.{has_whole_escapes}
 use Rattle.xcap_uri.specs.readers.Escapes.{text_read}
-use Rattle.doc_names.specs.Escapes.{escaped, escaped_octet, is_plain, part_text}
+use Rattle.doc_names.specs.Escapes.{escaped, escaped_octet, is_plain, escaped_part as part_text}
 use Rattle.doc_names.specs.Ids.{IsNameable, IsReadable, IsReadableHome, home_text, id_text}
 use Rattle.doc_names.specs.Usages.{auid_text}
-use Rattle.xcap_uri.specs.Roots.{slash, path_in, is_root, path_of}
+use Rattle.xcap_uri.specs.Roots.{slash, path_in, path_of, is_root_text as is_root}
 use Rattle.xcap_uri.specs.readers.Shapes.{is_empty, shape_of}
-use Rattle.xcap_uri.specs.Spelled.{IsOctet, IsSpelled, IsSpelledHome}
+use Rattle.xcap_uri.specs.inner.Spelled.{IsOctet, IsSpelled, IsSpelledHome}
 use Rattle.xcap_uri.specs.Targets.{under, under_root, question}
 use Rattle.xcap_uri.specs.readers.Targets.{target_read, rest_read, segments_read, path_read}
 use Rattle.doc_names.specs.Ids.{separator}

@@ -3,13 +3,14 @@ use Rattle.std.proofs.Common.{◌≡◌, ◌↔◌, ◌⊎◌, inl, inr, ⊎_eli
 use Rattle.std.proofs.lemmas.Bool.{and_parts, and_from, eqb-true, le-leb, leb-true, true≢false}
 use Rattle.std.proofs.lemmas.List.{append-nil}
 use Rattle.std.specs.Cmp.Lexicographic.{bytes_decides}
-use Rattle.std.specs.List.{list_all}
+use Rattle.std.specs.List.{list_all, join_with_byte as joined}
 use Rattle.std.specs.Option.{option_or}
 use Rattle.std.specs.Str.{bytes_eq}
+use Rattle.tree_text.specs.Faults.{is_other}
 use Rattle.grammar_rules.specs.Reading.{after_front}
 use Rattle.grammar_rules.specs.Rules.{AllPass}
-use Rattle.xcap_uri.specs.Cuts.{after, before, behind, is_other, pieces, joined}
-use Rattle.xcap_uri.specs.Roots.{slash, is_authority_char, is_segment_char, is_some_of, path_in, IsRoot, is_scheme, are_parts, is_root, third, authority_of, path_of}
+use Rattle.xcap_uri.specs.Cuts.{after, before, behind, pieces}
+use Rattle.xcap_uri.specs.Roots.{slash, is_authority_char, is_segment_char, is_some_of, path_in, IsRoot, is_scheme, are_parts, third, authority_of, path_of, is_root_text as is_root}
 use Rattle.xcap_uri.specs.readers.Roots.{behind_scheme, are_authority_and_segments, has_form, reads_as_root}
 use Rattle.xcap_uri.proofs.Pieces.{on_test, pieces_behind, pieces_cut, pieces_one, pieces_more, after_append, front_there}
 use Rattle.xcap_uri.proofs.Separated.{joined_pieces}

@@ -2,10 +2,11 @@
 use Rattle.std.proofs.Common.{◌≡◌, ◌≢◌, ℕ, Bool, true, false, List, [], ◌∷◌, Option, None, Some, Result, Ok, Err, refl, sym, ap, subst, ◌∙◌, true≢false, if◌then◌else◌}
 use Rattle.std.specs.Cmp.Lexicographic.{bytes_decides}
 use Rattle.std.specs.Str.{bytes_eq, chars}
+use Rattle.std.specs.List.{join_with_byte as joined}
 use Rattle.percent_encoding.specs.Percent.{percent_decode}
 use Rattle.doc_names.specs.Ids.{separator}
 use Rattle.tree_text.specs.declared.fault.ReadError.TheVariants.{Fault}
-use Rattle.xcap_uri.specs.Cuts.{joined, pieces}
+use Rattle.xcap_uri.specs.Cuts.{pieces}
 use Rattle.xcap_uri.specs.Escapes.{stands_for_text, StandsFor, StandForOptional}
 use Rattle.xcap_uri.specs.Gives.{UriError, ◌>>=◌}
 use Rattle.xcap_uri.specs.Roots.{slash}

@@ -14,9 +14,9 @@ use Rattle.doc_names.specs.declared.usages.Usage.TheVariants as usages
 use Rattle.doc_names.specs.Usages.{usage_of}
 use Rattle.tree_text.specs.declared.fault.ReadError.TheVariants.{Fault}
 use Rattle.xcap_uri.specs.Gives.{UriError}
-use Rattle.xcap_uri.specs.Shapes.{auid_word, mode_word, tag_of, doc_of, in_home, in_feed, Names, whole, part, below, changes, part_changes, flat_list, BeginRightly, AreNamed}
+use Rattle.xcap_uri.specs.Shapes.{auid_word, mode_word, doc_of, in_home, in_feed, Names, whole, part, below, changes, part_changes, flat_list, BeginRightly, AreNamed, tag_spelled as tag_of}
 use Rattle.xcap_uri.specs.readers.Shapes as reader
-use Rattle.xcap_uri.specs.Words.{resource_lists, rls_services, xcap_caps, global, users, feed, flat, element, no_patching, xcap_patching, aggregate}
+use Rattle.xcap_uri.specs.Words.{resource_lists, rls_services, xcap_caps, global, users, feed, flat, no_patching, xcap_patching, aggregate, element_word as element}
 use Rattle.xcap_uri.specs.declared.fault.UriFault.TheVariants.{BadShape, UnknownAuid}
 use Rattle.xcap_uri.specs.declared.shape.Shape.{Shape}
 use Rattle.xcap_uri.specs.declared.shape.Shape.TheVariants.{Whole, Part, Below, Changes, PartChanges, FlatList}

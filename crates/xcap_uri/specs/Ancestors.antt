@@ -5,18 +5,18 @@ use Rattle.xml_tree.specs.Tree.{Tree}
 use Rattle.node_select.specs.Selection.{selected_in, longest_in}
 use Rattle.xml_tree.specs.PathTexts.{path_text}
 use Rattle.node_select.specs.declared.selector.Step.{Step}
-use Rattle.doc_names.specs.Escapes.{part_text}
 use Rattle.doc_names.specs.Ids.{id_text}
 use Rattle.doc_names.specs.Usages.{auid_text}
 use Rattle.doc_names.specs.declared.doc_id.Auid.{Auid}
 use Rattle.doc_names.specs.declared.doc_id.Home.{Home}
 use Rattle.doc_names.specs.declared.doc_id.Home.TheVariants.{Global, User}
 use Rattle.doc_names.specs.declared.doc_id.DocId.{DocId}
+use Rattle.doc_names.specs.Escapes.{escaped_part}
 
 -- the URI of a home: the root, the usage, and `global` or `users` and the user
 abbrev pub home_uri : List ℕ → Auid → Home → List ℕ
 home_uri root auid Global = root ++ (codes "/" ++ (auid_text auid ++ codes "/global"))
-home_uri root auid (User xui) = root ++ (codes "/" ++ (auid_text auid ++ (codes "/users/" ++ part_text xui)))
+home_uri root auid (User xui) = root ++ (codes "/" ++ (auid_text auid ++ (codes "/users/" ++ escaped_part xui)))
 
 -- the URI of a document
 abbrev pub document_uri : List ℕ → DocId → List ℕ

@@ -1,9 +1,8 @@
 -- Texts cut at one character: the front, what is behind, all pieces.
-use Rattle.std.specs.Prelude.{ℕ, Bool, not, ◌==◌, nat_eq, List, [], ◌∷◌, ◌++◌, Option, None, Some, if◌then◌else◌}
+use Rattle.std.specs.Prelude.{ℕ, ◌==◌, nat_eq, List, [], ◌∷◌, Option, None, Some, if◌then◌else◌}
+use Rattle.std.specs.List.{onto_first}
+use Rattle.tree_text.specs.Faults.{is_other}
 use Rattle.grammar_rules.specs.Reading.{front_of, after_front}
-
-abbrev pub is_other : ℕ → ℕ → Bool
-is_other stop b = not (b == stop)
 
 abbrev pub behind_first : List ℕ → Option (List ℕ)
 behind_first [] = None
@@ -17,20 +16,10 @@ before stop text = front_of (is_other stop) text
 abbrev pub behind : ℕ → List ℕ → Option (List ℕ)
 behind stop text = behind_first (after_front (is_other stop) text)
 
-abbrev pub with_first : ℕ → List (List ℕ) → List (List ℕ)
-with_first b [] = (b ∷ []) ∷ []
-with_first b (piece ∷ pieces) = (b ∷ piece) ∷ pieces
-
 -- the pieces between the `stop`s: one more than there are `stop`s
 abbrev pub pieces : ℕ → List ℕ → List (List ℕ)
 pieces stop [] = [] ∷ []
-pieces stop (b ∷ bs) = if b == stop then [] ∷ pieces stop bs else with_first b (pieces stop bs)
-
--- pieces with a `stop` between each two
-abbrev pub joined : ℕ → List (List ℕ) → List ℕ
-joined stop [] = []
-joined stop (piece ∷ []) = piece
-joined stop (piece ∷ next ∷ pieces) = piece ++ (stop ∷ joined stop (next ∷ pieces))
+pieces stop (b ∷ bs) = if b == stop then [] ∷ pieces stop bs else onto_first b (pieces stop bs)
 
 -- what follows a front of a text, where the text begins with it
 abbrev pub after : List ℕ → List ℕ → Option (List ℕ)

@@ -8,10 +8,6 @@ use Rattle.xcap_uri.specs.declared.fault.UriFault.{UriFault}
 abbrev pub UriError : Type 0
 UriError = ReadError UriFault
 
--- the stated answer, or this one, which stands for want of memory
-abbrev pub Answers : {T E : Type 0} → E → Result T E → Result T E → Type 0
-Answers memory stated r = (r ≡ stated) ⊎ (r ≡ Err memory)
-
 -- the stated answer, seen so, or want of memory
 abbrev pub Gives : {X Y : Type 0} → (X → Y) → Result X UriError → Result Y UriError → Type 0
 Gives view (Ok x) stated = stated ≡ Ok (view x)

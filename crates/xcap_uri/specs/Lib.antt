@@ -8,6 +8,6 @@ pub mod Queries
 pub mod readers
 pub mod Roots
 pub mod Shapes
-pub mod Spelled
 pub mod Targets
 pub mod Words
+pub mod inner

@@ -5,13 +5,11 @@
 --     segment   = 1*( ALPHA / DIGIT / "-" / "." / "_" / "~" )
 --
 -- with at most 256 octets. Neither an authority nor a segment has a `/`, so a text is a root by its pieces between the slashes.
-use Rattle.std.specs.Prelude.{◌≡◌, ◌⊎◌, ◌≤◌, ℕ, Bool, true, false, ◌&&◌, ◌||◌, ◌==◌, nat_le, List, [], ◌∷◌, ◌++◌, codes, length, drop, flat_map, Result, Ok, Err, if◌then◌else◌}
+use Rattle.std.specs.Prelude.{◌≡◌, ◌⊎◌, ◌≤◌, ℕ, Bool, true, false, ◌&&◌, ◌||◌, ◌==◌, nat_le, List, [], ◌∷◌, ◌++◌, codes, length, drop, flat_map, if◌then◌else◌, Option, Some, None}
 use Rattle.std.specs.List.{list_any, list_all}
 use Rattle.std.specs.Char.{is_ascii_alphanumeric}
 use Rattle.std.specs.Str.{bytes_eq}
 use Rattle.xcap_uri.specs.Cuts.{pieces}
-use Rattle.xcap_uri.specs.declared.fault.RootFault.{RootFault}
-use Rattle.xcap_uri.specs.declared.fault.RootFault.TheVariants.{NotRoot}
 
 -- `/`
 abbrev pub slash : ℕ
@@ -57,8 +55,8 @@ are_parts (scheme ∷ [] ∷ authority ∷ segments) = is_scheme scheme && is_so
 are_parts _ = false
 
 -- the text is a root
-abbrev pub is_root : List ℕ → Bool
-is_root text = nat_le (length text) 256 && are_parts (pieces slash text)
+abbrev pub is_root_text : List ℕ → Bool
+is_root_text text = nat_le (length text) 256 && are_parts (pieces slash text)
 
 -- the third piece
 abbrev pub third : List (List ℕ) → List ℕ
@@ -72,6 +70,6 @@ authority_of root = third (pieces slash root)
 abbrev pub path_of : List ℕ → List ℕ
 path_of root = path_in (drop 3 (pieces slash root))
 
--- what reading a root answers
-abbrev pub root_read : List ℕ → Result (List ℕ) RootFault
-root_read text = if is_root text then Ok text else Err NotRoot
+-- the root that a text is, if it is one
+unfoldable pub root_of : List ℕ → Option (List ℕ)
+root_of text = if is_root_text text then Some text else None

@@ -10,7 +10,7 @@ use Rattle.doc_names.specs.declared.doc_id.DocId.{DocId}
 use Rattle.doc_names.specs.declared.usages.Usage.{Usage}
 use Rattle.doc_names.specs.Usages.{auid_text, usage_of}
 use Rattle.xcap_uri.specs.Numerals.{numeral_of}
-use Rattle.xcap_uri.specs.Words.{global, users, feed, flat, element, no_patching, xcap_patching, aggregate}
+use Rattle.xcap_uri.specs.Words.{global, users, feed, flat, no_patching, xcap_patching, aggregate, element_word}
 use Rattle.xcap_uri.specs.declared.target.Mode.{Mode}
 use Rattle.xcap_uri.specs.declared.target.Mode.TheVariants.{NoPatching, XcapPatching, Aggregate}
 use Rattle.xcap_uri.specs.declared.shape.Shape.{Shape}
@@ -34,8 +34,8 @@ mode_word XcapPatching = xcap_patching
 mode_word Aggregate = aggregate
 
 -- the number of a tag, which is a numeral
-abbrev pub tag_of : List ℕ → Option ℕ
-tag_of text = numeral_of (encode_utf8_all text)
+abbrev pub tag_spelled : List ℕ → Option ℕ
+tag_spelled text = numeral_of (encode_utf8_all text)
 
 -- ---- what they name
 
@@ -60,10 +60,10 @@ pub data Names (segments : List (List ℕ)) (selector : Option (List ℕ)) : Sha
   below : (auid : Auid) (home : Home) (name next : List ℕ) (more : List (List ℕ)) → segments ≡ in_home auid home (name ∷ next ∷ more) → Names segments selector (Below auid home)
   -- the notice about a document of a stored usage has a mode, and no selector
   changes : (mode : Mode) (tag : ℕ) (digits : List ℕ) (auid : Auid) (usage : Usage) (xui name : List ℕ) → segments ≡ in_feed (mode_word mode) digits auid xui name
-      → tag_of digits ≡ Some tag → usage_of auid ≡ Some usage → selector ≡ None → Names segments selector (Changes mode tag (doc_of auid (User xui) name))
+      → tag_spelled digits ≡ Some tag → usage_of auid ≡ Some usage → selector ≡ None → Names segments selector (Changes mode tag (doc_of auid (User xui) name))
   -- the notice about an element has `element` in place of the mode, and a selector, which isn't empty
-  part_changes : (tag : ℕ) (digits : List ℕ) (auid : Auid) (usage : Usage) (xui name text : List ℕ) → segments ≡ in_feed element digits auid xui name
-      → tag_of digits ≡ Some tag → usage_of auid ≡ Some usage → selector ≡ Some text → text ≢ [] → Names segments selector (PartChanges tag (doc_of auid (User xui) name) text)
+  part_changes : (tag : ℕ) (digits : List ℕ) (auid : Auid) (usage : Usage) (xui name text : List ℕ) → segments ≡ in_feed element_word digits auid xui name
+      → tag_spelled digits ≡ Some tag → usage_of auid ≡ Some usage → selector ≡ Some text → text ≢ [] → Names segments selector (PartChanges tag (doc_of auid (User xui) name) text)
   -- `~flat`, a user, a name and the address of a service, without selector: the flat list of that service
   flat_list : (xui name service : List ℕ) → segments ≡ flat ∷ xui ∷ name ∷ service ∷ [] → selector ≡ None → Names segments selector (FlatList (doc_of RlsServices (User xui) name) service)
 

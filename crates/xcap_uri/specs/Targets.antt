@@ -2,6 +2,7 @@
 use Rattle.std.specs.Prelude.{◌≡◌, ◌≢◌, ℕ, Bool, true, false, List, [], ◌∷◌, ◌++◌, encode_utf8_all, Option, None, Some, option_and_then, Result, Ok, Err, if◌then◌else◌}
 use Rattle.std.specs.Option.{option_or}
 use Rattle.std.specs.Str.{chars}
+use Rattle.std.specs.List.{join_with_byte}
 use Rattle.xml_tree.specs.declared.names.Decl.{Decl}
 use Rattle.node_select.specs.Faults.{IsSelectorAnswer}
 use Rattle.node_select.specs.declared.fault.SelectorFault.{SelectorFault}
@@ -9,7 +10,7 @@ use Rattle.node_select.specs.declared.fault.SelectorFault.TheVariants as selecto
 use Rattle.node_select.specs.declared.selector.Selector.{Selector}
 use Rattle.node_select.specs.declared.selector.End.{End}
 use Rattle.node_select.specs.declared.selector.End.TheVariants as ends
-use Rattle.xcap_uri.specs.Cuts.{after, before, behind, pieces, joined}
+use Rattle.xcap_uri.specs.Cuts.{after, before, behind, pieces}
 use Rattle.xcap_uri.specs.Escapes.{StandsFor, StandForOptional}
 use Rattle.doc_names.specs.Escapes.{escaped, is_visible}
 use Rattle.doc_names.specs.Ids.{IsReadable, IsReadableHome, separator}
@@ -47,7 +48,7 @@ under_root root target = option_or (under root target) (under (path_of root) tar
 -- behind it
 abbrev pub AreSegments : List (List ℕ) → List (List ℕ) → Option (List ℕ) → Type 0
 AreSegments [] texts selector = (texts ≡ []) × (selector ≡ None)
-AreSegments (segment ∷ segments) [] selector = StandsFor segment separator × (selector ≡ Some (joined slash segments))
+AreSegments (segment ∷ segments) [] selector = StandsFor segment separator × (selector ≡ Some (join_with_byte slash segments))
 AreSegments (segment ∷ segments) (text ∷ texts) selector = StandsFor segment text × (text ≢ separator) × AreSegments segments texts selector
 
 -- a path is cut at its slashes
@@ -66,9 +67,9 @@ raw_text (Some selector) query = escaped is_visible (with_query selector query)
 
 -- ---- last: the selector
 
-abbrev pub fault_of : SelectorFault → UriFault
-fault_of (selectors.BadSelector place) = BadSelector
-fault_of (selectors.UnboundPrefix place) = UnboundPrefix
+abbrev pub target_fault : SelectorFault → UriFault
+target_fault (selectors.BadSelector place) = BadSelector
+target_fault (selectors.UnboundPrefix place) = UnboundPrefix
 
 -- the answer that the selector of a part has, with these bindings; unprefixed elements are in the namespace of the usage
 abbrev pub IsPartAnswer : List Decl → Auid → List ℕ → Result Selector SelectorFault → Type 0
@@ -77,7 +78,7 @@ IsPartAnswer bindings auid text = IsSelectorAnswer bindings (chars (namespace_of
 -- the part of a document, or the selector's fault
 abbrev pub node_of : DocId → Result Selector SelectorFault → Result Target UriFault
 node_of doc (Ok selector) = Ok (Node doc selector)
-node_of doc (Err fault) = Err (fault_of fault)
+node_of doc (Err fault) = Err (target_fault fault)
 
 -- a notice is about an element, and about nothing else
 abbrev pub is_element : End → Bool
@@ -88,7 +89,7 @@ is_element ends.Namespaces = false
 -- the notice about a part, or the selector's fault
 abbrev pub element_feed_of : ℕ → DocId → List ℕ → Result Selector SelectorFault → Result Target UriFault
 element_feed_of tag doc raw (Ok selector) = if is_element selector.end then Ok (ElementFeed tag doc selector raw) else Err BadSelector
-element_feed_of tag doc raw (Err fault) = Err (fault_of fault)
+element_feed_of tag doc raw (Err fault) = Err (target_fault fault)
 
 -- what a shape means, with these bindings and what stands behind the separator
 abbrev pub Means : List Decl → List ℕ → Shape → Result Target UriFault → Type 0

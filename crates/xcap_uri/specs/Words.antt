@@ -27,8 +27,8 @@ abbrev pub flat : List ℕ
 flat = chars (codes "~flat")
 
 -- what stands for a mode in the address of a notice about an element
-abbrev pub element : List ℕ
-element = chars (codes "element")
+abbrev pub element_word : List ℕ
+element_word = chars (codes "element")
 
 -- the three modes, as RFC 5875 names them in section 4.3
 abbrev pub no_patching : List ℕ

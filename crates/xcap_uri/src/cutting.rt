@@ -1,6 +1,7 @@
 //! Octets cut at the characters that delimit the parts of an address (RFC 3986, section 3).
 ghost use Rattle.std.specs.Prelude.{◌≡◌, option_map};
-ghost use Rattle.xcap_uri.specs.Cuts.{after, before, behind, is_other};
+ghost use Rattle.tree_text.specs.Faults.{is_other};
+ghost use Rattle.xcap_uri.specs.Cuts.{after, before, behind};
 ghost use Rattle.tree_text.specs.readers.Runs.{run_len};
 ghost use Rattle.grammar_rules.specs.Reading.{after_front};
 

@@ -1,7 +1,7 @@
 //! Escapes in parts of addresses (RFC 3986, section 2.1).
 ghost use Rattle.std.specs.Prelude.{◌≡◌, option_map};
 ghost use Rattle.xcap_uri.specs.Escapes.{has_whole_escapes};
-ghost use Rattle.xcap_uri.specs.Gives.{Answers};
+ghost use Rattle.xcap_io.specs.Wanting.{StatedOr};
 ghost use Rattle.xcap_uri.specs.readers.Escapes.{optional_text_read, text_read};
 
 use crate::fault::UriFault;
@@ -36,7 +36,7 @@ fn has_whole_escapes(part: &[u8]) -> bool
 /// `BadEscape` exactly where a `%` isn't followed by two hexadecimal digits, or the octets aren't UTF-8; `NoMemory` for want of memory.
 #[tactic(auto, using(crate::proofs::Escaped::read_as_text, crate::proofs::Escaped::read_as_no_text, crate::proofs::Escaped::read_as_no_escapes))]
 pub fn read_part(alloc: Global, part: &[u8]) -> Result<Text, ReadError<UriFault>>
-    ensures reads_the_part { Answers ReadError.NoMemory (text_read part.now) result }
+    ensures reads_the_part { StatedOr ReadError.NoMemory (text_read part.now) result }
 {
     if !has_whole_escapes(part) {
         return Err(ReadError::Fault(UriFault::BadEscape));
@@ -59,7 +59,7 @@ pub fn read_optional_part(
     alloc: Global,
     part: Option<&[u8]>,
 ) -> Result<Option<Text>, ReadError<UriFault>>
-    ensures reads_the_part_if_it_is_there { Answers ReadError.NoMemory (optional_text_read (option_map (λ x. x.now) part.entry)) result }
+    ensures reads_the_part_if_it_is_there { StatedOr ReadError.NoMemory (optional_text_read (option_map (λ x. x.now) part.entry)) result }
 {
     match part {
         None => Ok(None),

@@ -1,23 +1,10 @@
-//! Why a text is no root, and why a target is refused.
+//! Why a target is refused.
 ghost use Rattle.std.specs.Prelude.{◌≡◌};
-ghost use Rattle.xcap_uri.specs.declared.fault.RootFault.TheVariants as roots;
 ghost use Rattle.xcap_uri.specs.readers.Targets.{error_of};
 
 use node_select::SelectorFault;
-use std::alloc::{AllocError, AllocFailed};
 use thiserror::Error;
 use tree_text::ReadError;
-
-/// Why a text is no root.
-#[derive(Clone, Copy, Debug, Drop, PartialEq, Eq, Error)]
-pub enum RootFault {
-    /// The text isn't the URI of a root.
-    #[error("not a root")]
-    NotRoot,
-    /// Want of memory.
-    #[error("out of memory")]
-    NoMemory,
-}
 
 /// Why a target is refused. Of several faults the first one in this order is told: `OutsideRoot`, `BadEscape`, then `BadShape` or
 /// `UnknownAuid`, then `BadQuery`, then `BadSelector` or `UnboundPrefix`.
@@ -44,22 +31,6 @@ pub enum UriFault {
     /// The text behind the separator is no selector.
     #[error("bad selector")]
     BadSelector,
-}
-
-impl From<AllocError> for RootFault {
-    ghost from_gives = { λ _ e. e ≡ roots.NoMemory };
-
-    fn from(_error: AllocError) -> Self {
-        RootFault::NoMemory
-    }
-}
-
-impl<T: Drop> From<AllocFailed<T>> for RootFault {
-    ghost from_gives = { λ _ e. e ≡ roots.NoMemory };
-
-    fn from(_error: AllocFailed<T>) -> Self {
-        RootFault::NoMemory
-    }
 }
 
 /// What an error of the selector says of the target.

@@ -4,8 +4,8 @@ ghost use Rattle.xml_tree.specs.declared.names.Decl.{Decl};
 ghost use Rattle.tree_text.specs.Memory.{Answered};
 ghost use Rattle.doc_names.specs.Ids.{IsReadable, id_text};
 ghost use Rattle.xcap_uri.specs.Queries.{IsQuery};
-ghost use Rattle.xcap_uri.specs.Roots.{IsRoot, authority_of, is_root, path_of, slash};
-ghost use Rattle.xcap_uri.specs.Spelled.{IsOctet, IsSpelled, IsSpelledHome};
+ghost use Rattle.xcap_uri.specs.Roots.{IsRoot, authority_of, path_of, slash, is_root_text};
+ghost use Rattle.xcap_uri.specs.inner.Spelled.{IsOctet, IsSpelled, IsSpelledHome};
 ghost use Rattle.xcap_uri.specs.Targets.{IsReadableTarget, TargetAnswer};
 ghost use Rattle.xcap_uri.specs.declared.fault.UriFault.{UriFault};
 ghost use Rattle.xcap_uri.specs.declared.target.Target.{Target};
@@ -69,5 +69,5 @@ pub fn queries_have_one_reading()
 /// A text is a root by its pieces between the slashes exactly where the grammar spells it as one, with this authority and this path and no
 /// others (RFC 4825, section 6.1).
 pub fn roots_are_spelled_by_the_grammar()
-    ensures root_by_its_pieces_alone { (text authority path : List ℕ) → IsRoot text authority path ↔ ((is_root text ≡ true) × (authority ≡ authority_of text) × (path ≡ path_of text)) }
+    ensures root_by_its_pieces_alone { (text authority path : List ℕ) → IsRoot text authority path ↔ ((is_root_text text ≡ true) × (authority ≡ authority_of text) × (path ≡ path_of text)) }
 {}

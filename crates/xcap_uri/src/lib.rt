@@ -16,7 +16,7 @@ mod shape;
 mod target;
 
 pub use ancestors::{ancestor_uri, home_uri};
-pub use fault::{RootFault, UriFault};
+pub use fault::UriFault;
 pub use laws::{
     printed_id_reads_back, queries_have_one_reading, roots_are_spelled_by_the_grammar,
     targets_have_one_answer,

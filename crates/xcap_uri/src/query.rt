@@ -1,19 +1,20 @@
 //! Queries of addresses (RFC 4825, section 6.4): rows of `xmlns()` parts, which bind prefixes.
-ghost use Rattle.std.specs.Prelude.{◌≡◌, ◌<◌, ◌+◌, ◌^◌, ◌∷◌, chars, length, option_map, IfOk};
+ghost use Rattle.std.specs.Prelude.{◌≡◌, ◌<◌, ◌+◌, ◌^◌, ◌∷◌, chars, length, option_map};
+ghost use Rattle.xcap_io.specs.Wanting.{StatedOr};
 ghost use Rattle.std.specs.Str.{bytes_eq};
 ghost use Rattle.grammar_rules.specs.Reading.{after_front, head_is};
 ghost use Rattle.xml_tree.specs.Characters.{is_name_char, is_name_start, is_space};
 ghost use Rattle.tree_text.specs.readers.Runs.{run_len};
 ghost use Rattle.xcap_uri.specs.Cuts.{after};
-ghost use Rattle.xcap_uri.specs.Gives.{Answers, Gives};
+ghost use Rattle.xcap_uri.specs.Gives.{Gives};
 ghost use Rattle.xcap_uri.specs.Queries.{is_blank, is_bracket_or_caret};
 ghost use Rattle.xcap_uri.specs.readers.Queries.{bindings_read, equals_past, is_reserved, item_read, optional_bindings_read, prefix_read, free_prefix_read, uri_chars, uri_read};
 ghost use Rattle.xcap_uri.specs.readers.UriSteps.{IsShorter, StepsTo, item_in};
 
 use crate::fault::UriFault;
 use node_select::Bindings;
-use std::alloc::{AllocError, Global};
-use tree_text::{ReadError, no_text, text_of};
+use std::alloc::Global;
+use tree_text::{ReadError, decoded, no_text, text_of};
 use xml_tree::{Text, is_name_char, is_name_start, is_space};
 
 // What comes next in the URI of an item.
@@ -267,7 +268,7 @@ fn read_item(alloc: Global, text: &[char]) -> Result<Item<'_>, ReadError<UriFaul
 
 // The bindings of a query.
 fn read_items(alloc: Global, text: &[char]) -> Result<Bindings, ReadError<UriFault>>
-    ensures reads_all_items { Answers ReadError.NoMemory (bindings_read text.now) result }
+    ensures reads_all_items { StatedOr ReadError.NoMemory (bindings_read text.now) result }
 {
     let mut bindings = Bindings::none(alloc);
     let mut rest = past_blanks(text);
@@ -290,7 +291,7 @@ fn read_items(alloc: Global, text: &[char]) -> Result<Bindings, ReadError<UriFau
 /// # Errors
 /// `BadQuery` exactly where the query isn't a row of items, `NoMemory` for want of memory.
 pub fn read_query(alloc: Global, query: &Option<Text>) -> Result<Bindings, ReadError<UriFault>>
-    ensures reads_the_query { Answers ReadError.NoMemory (optional_bindings_read query.now) result }
+    ensures reads_the_query { StatedOr ReadError.NoMemory (optional_bindings_read query.now) result }
 {
     match query {
         None => Ok(Bindings::none(alloc)),
@@ -299,11 +300,4 @@ pub fn read_query(alloc: Global, query: &Option<Text>) -> Result<Bindings, ReadE
             read_items(alloc, &text)
         }
     }
-}
-
-// The characters of a text.
-fn decoded(alloc: Global, text: &str) -> Result<Vec<char>, AllocError>
-    ensures characters_of_the_text { IfOk result (λ all. all.items ≡ chars text.now) }
-{
-    text.chars().collect(alloc)
 }

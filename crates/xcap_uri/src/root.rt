@@ -2,12 +2,10 @@
 ghost use Rattle.std.specs.Prelude.{◌≡◌, true, IfOk, chars, option_map, Some};
 ghost use Rattle.std.specs.List.{list_all};
 ghost use Rattle.xcap_uri.specs.Cuts.{pieces};
-ghost use Rattle.xcap_uri.specs.Gives.{Answers};
-ghost use Rattle.xcap_uri.specs.Roots.{authority_of, is_authority_char, is_root, is_segment_char, is_some_of, path_of, root_read, slash};
+ghost use Rattle.xcap_uri.specs.Roots.{authority_of, is_authority_char, is_segment_char, is_some_of, path_of, root_of, slash, is_root_text};
 ghost use Rattle.xcap_uri.specs.readers.Roots.{are_authority_and_segments, behind_scheme};
 
 use crate::cutting::{after, cut, cut_before};
-use crate::fault::RootFault;
 use std::alloc::{AllocError, Global};
 use std::marker::Model;
 use tree_text::no_text;
@@ -26,20 +24,20 @@ pub struct Root {
 
 impl Model for Root {
     ghost use Rattle.std.specs.Prelude.{◌≡◌, ℕ, List, true};
-    ghost use Rattle.xcap_uri.specs.Roots.{authority_of, is_root, path_of};
+    ghost use Rattle.xcap_uri.specs.Roots.{authority_of, is_root_text, path_of};
 
     ghost Value = { List ℕ };
 
     ghost view = { λ r. r.text };
 
-    ghost invariant = { λ r. (is_root r.text ≡ true) × (r.authority ≡ authority_of r.text) × (r.path ≡ path_of r.text) };
+    ghost invariant = { λ r. (is_root_text r.text ≡ true) × (r.authority ≡ authority_of r.text) × (r.path ≡ path_of r.text) };
 }
 
 impl Root {
     /// The text of the root. Takes no memory.
     pub fn text(&self) -> &str
         ensures text { chars result.now ≡ self.now }
-        ensures root { is_root self.now ≡ true }
+        ensures root { is_root_text self.now ≡ true }
     {
         self.text.as_str()
     }
@@ -54,7 +52,7 @@ impl Root {
     /// Its path: empty, or segments with a slash in front of each. Takes no memory.
     pub fn path(&self) -> &str
         ensures path { chars result.now ≡ path_of self.now }
-        ensures root { is_root self.now ≡ true }
+        ensures root { is_root_text self.now ≡ true }
     {
         self.path.as_str()
     }
@@ -184,7 +182,7 @@ fn letters(alloc: Global, octets: &[u8]) -> Result<Text, AllocError>
 // The root of a text that is one, with what follows its scheme.
 #[tactic(auto, using(crate::proofs::RootAnswers::authority_behind, crate::proofs::RootAnswers::path_behind))]
 fn make_root(alloc: Global, text: &[u8], rest: &[u8]) -> Result<Root, AllocError>
-    requires root { is_root text.now ≡ true }
+    requires root { is_root_text text.now ≡ true }
     requires rest { behind_scheme text.now ≡ Some rest.now }
     ensures root_of_the_text { IfOk result (λ made. made ≡ text.now) }
 {
@@ -199,24 +197,24 @@ fn make_root(alloc: Global, text: &[u8], rest: &[u8]) -> Result<Root, AllocError
     })
 }
 
-/// The root that a text is.
+/// The root that a text is, if it is one.
 ///
 /// # Errors
-/// `NotRoot` exactly where the text isn't a root, `NoMemory` for want of memory.
-#[tactic(auto, using(crate::proofs::RootAnswers::read_as_root))]
-pub fn read_root(alloc: Global, text: &str) -> Result<Root, RootFault>
-    ensures reads_the_root { Answers RootFault.NoMemory (root_read text.now) result }
+/// `AllocError` for want of memory.
+#[tactic(auto, unfolding(crate::specs::Roots::root_of), using(crate::proofs::RootAnswers::read_as_root))]
+pub fn read_root(alloc: Global, text: &str) -> Result<Option<Root>, AllocError>
+    ensures reads_the_root { IfOk result (λ root. root ≡ root_of text.now) }
 {
     let text = text.as_bytes();
     let Some(rest) = behind_scheme(text) else {
-        return Err(RootFault::NotRoot);
+        return Ok(None);
     };
     if text.len() > GREATEST_LENGTH {
-        return Err(RootFault::NotRoot);
+        return Ok(None);
     }
     if !are_authority_and_segments(rest) {
-        return Err(RootFault::NotRoot);
+        return Ok(None);
     }
     let root = make_root(alloc, text, rest)?;
-    Ok(root)
+    Ok(Some(root))
 }

@@ -2,8 +2,8 @@
 //! server's own, what changed and the flat list of a service.
 ghost use Rattle.std.specs.Prelude.{◌≡◌, IfOk};
 ghost use Rattle.std.specs.List.{list_any};
-ghost use Rattle.xcap_uri.specs.Gives.{Answers};
-ghost use Rattle.xcap_uri.specs.Shapes.{doc_of, tag_of};
+ghost use Rattle.xcap_io.specs.Wanting.{StatedOr};
+ghost use Rattle.xcap_uri.specs.Shapes.{doc_of, tag_spelled};
 ghost use Rattle.xcap_uri.specs.readers.Shapes.{auid_of, changes, changes_or_part, document, feed_shape, flat_shape, in_home, in_usage, is_empty, mode_of, named, of_usage, of_user, part_changes, shape_of, stored_auid_of, stored_doc};
 
 use crate::fault::UriFault;
@@ -78,7 +78,7 @@ fn mode_of(name: &Text) -> Option<Mode>
 
 // The number of a tag.
 fn tag_of(text: &Text) -> Option<u64>
-    ensures number_of_the_tag { result ≡ tag_of text.now }
+    ensures number_of_the_tag { result ≡ tag_spelled text.now }
 {
     numeral(text.as_str().as_bytes())
 }
@@ -106,7 +106,7 @@ fn in_home(
     rest: &[Text],
     selector: Option<Text>,
 ) -> Result<Shape, ReadError<UriFault>>
-    ensures names_what_is_in_the_home { Answers ReadError.NoMemory (in_home auid home rest.now selector) result }
+    ensures names_what_is_in_the_home { StatedOr ReadError.NoMemory (in_home auid home rest.now selector) result }
 {
     match rest {
         [] => Err(ReadError::Fault(UriFault::BadShape)),
@@ -125,7 +125,7 @@ fn of_user(
     rest: &[Text],
     selector: Option<Text>,
 ) -> Result<Shape, ReadError<UriFault>>
-    ensures names_what_the_user_has { Answers ReadError.NoMemory (of_user auid rest.now selector) result }
+    ensures names_what_the_user_has { StatedOr ReadError.NoMemory (of_user auid rest.now selector) result }
 {
     match rest {
         [] => Err(ReadError::Fault(UriFault::BadShape)),
@@ -143,7 +143,7 @@ fn in_usage(
     rest: &[Text],
     selector: Option<Text>,
 ) -> Result<Shape, ReadError<UriFault>>
-    ensures names_what_is_in_the_usage { Answers ReadError.NoMemory (in_usage auid rest.now selector) result }
+    ensures names_what_is_in_the_usage { StatedOr ReadError.NoMemory (in_usage auid rest.now selector) result }
 {
     match rest {
         [] => Err(ReadError::Fault(UriFault::BadShape)),
@@ -240,7 +240,7 @@ fn feed_shape(
     rest: &[Text],
     selector: Option<Text>,
 ) -> Result<Shape, ReadError<UriFault>>
-    ensures names_the_feed { Answers ReadError.NoMemory (feed_shape rest.now selector) result }
+    ensures names_the_feed { StatedOr ReadError.NoMemory (feed_shape rest.now selector) result }
 {
     match rest {
         [mode, tag, auid, tree, xui, name] => {
@@ -272,7 +272,7 @@ fn flat_shape(
     rest: &[Text],
     selector: Option<Text>,
 ) -> Result<Shape, ReadError<UriFault>>
-    ensures names_what_is_flat { Answers ReadError.NoMemory (flat_shape rest.now selector) result }
+    ensures names_what_is_flat { StatedOr ReadError.NoMemory (flat_shape rest.now selector) result }
 {
     match (rest, selector) {
         ([xui, name, service], None) => {
@@ -290,7 +290,7 @@ fn of_usage(
     rest: &[Text],
     selector: Option<Text>,
 ) -> Result<Shape, ReadError<UriFault>>
-    ensures names_what_the_usage_has { Answers ReadError.NoMemory (of_usage auid rest.now selector) result }
+    ensures names_what_the_usage_has { StatedOr ReadError.NoMemory (of_usage auid rest.now selector) result }
 {
     match auid {
         None => Err(ReadError::Fault(UriFault::UnknownAuid)),
@@ -304,7 +304,7 @@ fn named(
     segments: &[Text],
     selector: Option<Text>,
 ) -> Result<Shape, ReadError<UriFault>>
-    ensures names_by_its_segments { Answers ReadError.NoMemory (named segments.now selector) result }
+    ensures names_by_its_segments { StatedOr ReadError.NoMemory (named segments.now selector) result }
 {
     match segments {
         [] => Err(ReadError::Fault(UriFault::UnknownAuid)),
@@ -343,7 +343,7 @@ pub fn shape_of(
     segments: &[Text],
     selector: Option<Text>,
 ) -> Result<Shape, ReadError<UriFault>>
-    ensures shape_of_the_segments { Answers ReadError.NoMemory (shape_of segments.now selector) result }
+    ensures shape_of_the_segments { StatedOr ReadError.NoMemory (shape_of segments.now selector) result }
 {
     if has_empty(segments) {
         return Err(ReadError::Fault(UriFault::BadShape));

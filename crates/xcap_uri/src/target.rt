@@ -2,7 +2,7 @@
 ghost use Rattle.std.specs.Prelude.{◌≡◌, ◌++◌, None, Err, option_map, IfOk, OnOk, string_bytes};
 ghost use Rattle.doc_names.specs.Escapes.{escaped, is_visible};
 ghost use Rattle.xcap_uri.specs.Roots.{path_of};
-ghost use Rattle.xcap_uri.specs.Gives.{Answers};
+ghost use Rattle.xcap_io.specs.Wanting.{StatedOr};
 ghost use Rattle.tree_text.specs.Memory.{Answered};
 ghost use Rattle.xcap_uri.specs.Targets.{IsReadableTarget, TargetAnswer, raw_text, under, under_root, with_query};
 ghost use Rattle.xcap_uri.specs.readers.Targets.{about_element, part_read, rest_read, target_of, target_read};
@@ -96,7 +96,7 @@ fn part(
     auid: Auid,
     text: &Text,
 ) -> Result<Selector, ReadError<UriFault>>
-    ensures reads_the_selector { Answers ReadError.NoMemory (part_read bindings.now auid text.now) result }
+    ensures reads_the_selector { StatedOr ReadError.NoMemory (part_read bindings.now auid text.now) result }
 {
     match read_selector(alloc, text.as_str(), bindings, auid.namespace()) {
         Ok(selector) => Ok(selector),
@@ -153,7 +153,7 @@ fn target_of(
     bindings: &Bindings,
     raw: Text,
 ) -> Result<Target, ReadError<UriFault>>
-    ensures target_of_the_shape { Answers ReadError.NoMemory (target_of shape bindings.now raw) result }
+    ensures target_of_the_shape { StatedOr ReadError.NoMemory (target_of shape bindings.now raw) result }
 {
     match shape {
         Shape::Whole(doc) => Ok(Target::Document(doc)),
@@ -179,7 +179,7 @@ fn target_of(
 
 // What stands under the root.
 fn read_rest(alloc: Global, rest: &[u8]) -> Result<Target, ReadError<UriFault>>
-    ensures reads_what_is_under_the_root { Answers ReadError.NoMemory (rest_read rest.now) result }
+    ensures reads_what_is_under_the_root { StatedOr ReadError.NoMemory (rest_read rest.now) result }
 {
     let (path, raw_query) = cut(rest, b'?');
     let (segments, raw_selector) = read_path(alloc, path)?;
@@ -193,7 +193,7 @@ fn read_rest(alloc: Global, rest: &[u8]) -> Result<Target, ReadError<UriFault>>
 
 // What stands under the root, or that nothing does.
 fn read(alloc: Global, root: &Root, target: &[u8]) -> Result<Target, ReadError<UriFault>>
-    ensures answer { Answers ReadError.NoMemory (target_read root.now target.now) result }
+    ensures answer { StatedOr ReadError.NoMemory (target_read root.now target.now) result }
     ensures outside { under_root root.now target.now ≡ None → result ≡ Err (ReadError.Fault UriFault.OutsideRoot) }
 {
     match under_root(root, target) {

@@ -6,7 +6,7 @@ use Rattle.std.specs.Option.{option_or}
 use Rattle.std.specs.Ordering.{ordering_reverse}
 use Rattle.xml_tree.specs.declared.names.Decl.{Decl}
 use Rattle.xml_tree.specs.Scopes.{AreInOrder, binds, bound, declared, joined, some_text, xml_prefix}
-use Rattle.xml_tree.specs.Gathering.{gathered, gathered_bindings, placed}
+use Rattle.xml_tree.specs.inner.Gathering.{gathered, gathered_bindings, placed}
 use Rattle.xml_tree.proofs.ByteOrder.{order, order_same, order_equal}
 use Rattle.xml_tree.proofs.ScopeLemmas.{option_or-assoc, option_or-none}
 

@@ -7,7 +7,7 @@ use Rattle.std.specs.Option.{option_or}
 use Rattle.std.specs.Ordering.{is_lt, ordering_reverse}
 use Rattle.xml_tree.specs.declared.names.Decl.{Decl}
 use Rattle.xml_tree.specs.Scopes.{AreInOrder, binding, bindings_in, binds, bound, decl_of, declared, in_order, is_before, joined, some_text, xml_prefix, xml_uri}
-use Rattle.xml_tree.specs.Gathering.{gathered_bindings}
+use Rattle.xml_tree.specs.inner.Gathering.{gathered_bindings}
 use Rattle.xml_tree.proofs.BindingLaws.{Behind, gathered_bindings-sole}
 use Rattle.xml_tree.proofs.ByteOrder.{order, order_equal}
 use Rattle.xml_tree.proofs.ScopeLemmas.{option_or-none}

@@ -3,7 +3,7 @@ use Rattle.std.proofs.Common.{◌≡◌, ℕ, zero, suc, ◌+◌, ◌≤◌, max
 use Rattle.std.specs.List.{slice_get}
 use Rattle.xml_tree.specs.Tree.{Content, last, more, note, Tree, tree_of, kids, kids_of, at, height, content_height}
 use Rattle.xml_tree.specs.Edits.{put, cut, change, change_at, put_in, put_kid, put_over, take_in, cut_kid}
-use Rattle.xml_tree.specs.Falls.{content_height-before}
+use Rattle.xml_tree.specs.inner.Falls.{content_height-before}
 use Rattle.xml_tree.proofs.PlaceLaws.{height-at}
 
 -- ---- of a content

@@ -6,7 +6,7 @@ use Rattle.std.specs.Option.{option_or}
 use Rattle.std.specs.Ordering.{is_lt, ordering_index, ordering_reverse}
 use Rattle.std.proofs.lemmas.List.Sorted.{searchable_from_sorted}
 use Rattle.xml_tree.specs.declared.names.Decl.{Decl}
-use Rattle.xml_tree.specs.Gathering.{IsIndex}
+use Rattle.xml_tree.specs.inner.Gathering.{IsIndex}
 use Rattle.xml_tree.specs.Scopes.{AreInOrder, declared}
 use Rattle.xml_tree.proofs.BindingLaws.{AreInOrder-gathered, declared-gathered, sole}
 use Rattle.xml_tree.proofs.ByteOrder.{order, order_same, order_equal}

@@ -3,7 +3,7 @@ use Rattle.std.proofs.Common.{◌≡◌, ℕ, zero, suc, ◌+◌, ◌≤◌, Boo
 use Rattle.std.specs.List.{slice_get, find}
 use Rattle.std.specs.Cmp.Lexicographic.{bytes_decides}
 use Rattle.xml_tree.specs.Tree.{Content, last, more, note, more_of, Tree, tree_of, kids, kids_of, at}
-use Rattle.xml_tree.specs.Attributes.{is_named, valued, with_attr, without_attr}
+use Rattle.xml_tree.specs.Attributes.{valued, with_attr, without_attr, is_written_so as is_named}
 use Rattle.xml_tree.specs.Edits.{before, change, change_at, change_kid, cut, put}
 use Rattle.xml_tree.specs.Print.{byte_len, is_empty, opening, print, print_attr, print_comment, print_content, print_name, print_text}
 use Rattle.xml_tree.specs.declared.names.Name.{Name}

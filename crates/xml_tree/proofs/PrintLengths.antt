@@ -6,7 +6,7 @@ use Rattle.std.specs.Cmp.Lexicographic.{bytes_decides}
 use Rattle.xml_tree.specs.declared.names.Name.{Name}
 use Rattle.xml_tree.specs.declared.names.Decl.{Decl}
 use Rattle.xml_tree.specs.declared.names.Attr.{Attr}
-use Rattle.xml_tree.specs.Print.{byte_len, closing, declaring, opening, print_attr, print_comment, print_decl, print_name, print_text, quoted, text_escape, value_escape}
+use Rattle.xml_tree.specs.Print.{byte_len, closing, declaring, opening, print_attr, print_comment, print_decl, print_name, print_text, text_escape, value_escape, quoted_text as quoted}
 use Rattle.xml_tree.proofs.ScopeLemmas.{drop_item}
 use Rattle.xml_tree.proofs.Escapes.{encode-text, encode-value}
 

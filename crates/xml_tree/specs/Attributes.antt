@@ -9,8 +9,8 @@ abbrev pub same_name : Name → Name → Bool
 same_name a b = bytes_eq a.prefix b.prefix && bytes_eq a.local b.local
 
 -- whether an attribute has this name
-abbrev pub is_named : Name → Attr → Bool
-is_named n a = same_name a.name n
+abbrev pub is_written_so : Name → Attr → Bool
+is_written_so n a = same_name a.name n
 
 -- the attribute with another value
 abbrev pub valued : List ℕ → Attr → Attr
@@ -39,11 +39,11 @@ change_item (suc i) f (y ∷ ys) = y ∷ change_item i f ys
 
 -- the attribute of this name gets the value, at its place; where there is none, one stands behind the others
 abbrev pub with_attr : Name → List ℕ → List Attr → List Attr
-with_attr n v ats = change_first (is_named n) (valued v) (record { name = n; value = v }) ats
+with_attr n v ats = change_first (is_written_so n) (valued v) (record { name = n; value = v }) ats
 
 -- without the attribute of this name
 abbrev pub without_attr : Name → List Attr → List Attr
-without_attr n ats = remove_first (is_named n) ats
+without_attr n ats = remove_first (is_written_so n) ats
 
 -- the i-th attribute gets the value
 abbrev pub with_value : ℕ → List ℕ → List Attr → List Attr

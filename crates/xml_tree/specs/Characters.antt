@@ -1,11 +1,8 @@
 -- The classes of characters, and names. XML 1.0, fifth edition, sections 2.2 and 2.3; Namespaces in XML 1.0, section 3.
--- Each class stands beside its production: `#x9` is `c == 0x9`, and `[#x20-#xD7FF]` is `within 0x20 0xD7FF c`.
-use Rattle.std.specs.Prelude.{ℕ, Bool, false, ◌&&◌, ◌||◌, ◌==◌, nat_le, List, [], ◌∷◌}
+-- Each class stands beside its production: `#x9` is `c == 0x9`, and `[#x20-#xD7FF]` is `within 0x20 0xD7FF c`, both ends included.
+use Rattle.std.specs.Prelude.{ℕ, Bool, false, ◌&&◌, ◌||◌, ◌==◌, List, [], ◌∷◌}
 use Rattle.std.specs.List.{list_all}
-
--- the character lies between two others, both included
-abbrev pub within : ℕ → ℕ → ℕ → Bool
-within low high c = nat_le low c && nat_le c high
+use Rattle.std.specs.Int.{is_in_range as within}
 
 -- [2] Char ::= #x9 | #xA | #xD | [#x20-#xD7FF] | [#xE000-#xFFFD] | [#x10000-#x10FFFF]
 abbrev pub is_char : ℕ → Bool

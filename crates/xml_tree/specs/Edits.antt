@@ -2,7 +2,7 @@
 use Rattle.std.specs.Prelude.{ℕ, zero, suc, List, [], ◌∷◌, ◌++◌, Option, IsSomeAnd, option_and_then}
 use Rattle.std.specs.List.{find}
 use Rattle.xml_tree.specs.Tree.{Content, last, more, note, more_of, Tree, tree_of, at}
-use Rattle.xml_tree.specs.Attributes.{is_named, with_attr, without_attr, with_value}
+use Rattle.xml_tree.specs.Attributes.{with_attr, without_attr, with_value, is_written_so}
 use Rattle.xml_tree.specs.declared.names.Name.{Name}
 use Rattle.xml_tree.specs.declared.names.Attr.{Attr}
 
@@ -132,7 +132,7 @@ TextsMeetAt p t = IsSomeAnd (at (front p) t) (λ parent. TextsMeet (final p) par
 
 -- the attribute of this name of the element at the path
 abbrev pub attr_at : List ℕ → Name → Tree → Option Attr
-attr_at p n t = option_and_then (λ e. find (is_named n) e.attrs) (at p t)
+attr_at p n t = option_and_then (λ e. find (is_written_so n) e.attrs) (at p t)
 
 -- an attribute of the element at the path is written, or taken out
 abbrev pub set_at : List ℕ → Name → List ℕ → Tree → Tree

@@ -5,6 +5,10 @@ use Rattle.xml_tree.specs.Scopes.{bound}
 use Rattle.xml_tree.specs.declared.names.Name.{Name}
 use Rattle.xml_tree.specs.declared.names.Decl.{Decl}
 
+-- the name with this prefix and this local part
+abbrev pub name_of : List ℕ → List ℕ → Name
+name_of prefix local = record { prefix = prefix; local = local }
+
 -- a namespace name, or none, and a local name
 pub record Expanded : Type 0 where
   pub uri : Option (List ℕ)

@@ -95,15 +95,15 @@ abbrev pub text_at : ℕ → List Node → Option (List ℕ)
 text_at i ns = option_and_then text_of (slice_get ns i)
 
 -- two texts one behind the other, where both are there
-abbrev pub joined : Option (List ℕ) → Option (List ℕ) → Option (List ℕ)
-joined None u = None
-joined (Some t) None = None
-joined (Some t) (Some u) = Some (t ++ u)
+abbrev pub text_of_both : Option (List ℕ) → Option (List ℕ) → Option (List ℕ)
+text_of_both None u = None
+text_of_both (Some t) None = None
+text_of_both (Some t) (Some u) = Some (t ++ u)
 
 -- the texts directly before and behind the i-th node, joined, where both nodes there are texts
 abbrev pub joined_beside : ℕ → List Node → Option (List ℕ)
 joined_beside zero ns = None
-joined_beside (suc i) ns = joined (text_at i ns) (text_at (suc (suc i)) ns)
+joined_beside (suc i) ns = text_of_both (text_at i ns) (text_at (suc (suc i)) ns)
 
 -- without the i-th node; the texts beside it are exchanged for one, where one is given
 abbrev pub removed_joined : ℕ → Option (List ℕ) → List Node → List Node

@@ -24,8 +24,8 @@ abbrev pub print_text : List ℕ → List ℕ
 print_text t = flat_map text_escape t
 
 -- a value in its quotes
-abbrev pub quoted : List ℕ → List ℕ
-quoted v = 34 ∷ (flat_map value_escape v ++ 34 ∷ [])
+abbrev pub quoted_text : List ℕ → List ℕ
+quoted_text v = 34 ∷ (flat_map value_escape v ++ 34 ∷ [])
 
 -- a name: the prefix and a colon, where there is a prefix, and the local name
 abbrev pub print_name : Name → List ℕ
@@ -37,10 +37,10 @@ declaring p = if bytes_eq p [] then codes "xmlns" else (codes "xmlns:" ++ p)
 
 -- a declaration and an attribute: a space, the name, `=` and the value
 abbrev pub print_decl : Decl → List ℕ
-print_decl d = 32 ∷ (declaring d.prefix ++ 61 ∷ quoted d.uri)
+print_decl d = 32 ∷ (declaring d.prefix ++ 61 ∷ quoted_text d.uri)
 
 abbrev pub print_attr : Attr → List ℕ
-print_attr a = 32 ∷ (print_name a.name ++ 61 ∷ quoted a.value)
+print_attr a = 32 ∷ (print_name a.name ++ 61 ∷ quoted_text a.value)
 
 -- `<`, the name, the declarations and the attributes
 abbrev pub opening : Name → List Decl → List Attr → List ℕ

@@ -3,11 +3,11 @@ use Rattle.std.specs.Prelude.{◌≡◌, ℕ, suc, ◌<◌, ◌≤◌, List, [],
 use Rattle.std.specs.List.{find}
 use Rattle.std.specs.declared.alloc.Global.{Global}
 use Rattle.xml_tree.specs.Tree.{Content, Tree}
-use Rattle.xml_tree.specs.Attributes.{is_named}
 use Rattle.xml_tree.specs.Nodes.{joined_beside, nodes_of, place}
 use Rattle.xml_tree.specs.declared.names.Attr.{Attr}
 use Rattle.xml_tree.specs.declared.names.Name.{Name}
 use Rattle.xml_tree.specs.declared.tree.Node.{Node}
+use Rattle.xml_tree.specs.Attributes.{is_written_so}
 
 -- a vector without items that has room for so many
 abbrev pub HasRoom : {A : Type 0} → ℕ → Vec A Global → Type 0
@@ -19,7 +19,7 @@ HasNodeRoom e room = HasRoom (suc (length (nodes_of e.content))) room
 
 -- it has room for the attributes of an element and one more, where none of them has this name
 abbrev pub HasAttrRoom : Name → Tree → Vec Attr Global → Type 0
-HasAttrRoom n e room = (room.items ≡ []) × (find (is_named n) e.attrs ≡ None → length e.attrs < vec_capacity room)
+HasAttrRoom n e room = (room.items ≡ []) × (find (is_written_so n) e.attrs ≡ None → length e.attrs < vec_capacity room)
 
 -- the texts directly before and behind the i-th element child, joined, where both are there
 abbrev pub joined_around : ℕ → Content → Option (List ℕ)

@@ -63,6 +63,10 @@ abbrev pub scope_around : List ℕ → Tree → List (List Decl)
 scope_around [] e = []
 scope_around (n ∷ p) e = scope_at (front (n ∷ p)) e
 
+-- the scope inside an element, by the scope around it
+abbrev pub inside : List (List Decl) → Tree → List (List Decl)
+inside c e = c ++ e.decls ∷ []
+
 -- ---- all bindings of a scope, in order
 
 -- whether a text stands before another, by code point

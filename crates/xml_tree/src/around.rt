@@ -31,14 +31,14 @@ impl<'a> Model for Around<'a> {
     ghost use Rattle.std.specs.Prelude.{List, length};
     ghost use Rattle.std.specs.Coded.{coded_list};
     ghost use Rattle.std.proofs.Common.{arith, length-append};
-    ghost use Rattle.xml_tree.specs.Tree.{decls_code};
+    ghost use Rattle.xml_tree.specs.inner.Codes.{decls_code};
     ghost use Rattle.xml_tree.specs.declared.names.Decl.{Decl};
 
     ghost Value = { List (List Decl) };
 
     ghost coded = { coded_list decls_code };
 
-    ghost use Rattle.xml_tree.specs.Around.{lists_at};
+    ghost use Rattle.xml_tree.specs.inner.Around.{lists_at};
 
     ghost view = { λ a. lists_at a.place };
 

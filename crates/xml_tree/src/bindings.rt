@@ -1,7 +1,7 @@
 //! All bindings of a scope, in the order of their prefixes.
 ghost use Rattle.std.specs.Prelude.{◌≡◌, map, filter, IfOk, OnOk};
 ghost use Rattle.xml_tree.specs.Scopes.{binds};
-ghost use Rattle.xml_tree.specs.Gathering.{AreKeyed, gathered, gathered_bindings, values_in};
+ghost use Rattle.xml_tree.specs.inner.Gathering.{AreKeyed, gathered, gathered_bindings, values_in};
 
 use crate::names::Decl;
 use crate::scope::is_xml;

@@ -1,7 +1,7 @@
 //! The declarations of an element, with an index where they are many.
 ghost use Rattle.std.specs.Prelude.{◌≡◌, [], map, IfOk};
 ghost use Rattle.std.specs.Option.{option_copied};
-ghost use Rattle.xml_tree.specs.Gathering.{gathered};
+ghost use Rattle.xml_tree.specs.inner.Gathering.{gathered};
 ghost use Rattle.xml_tree.specs.Scopes.{AreInOrder, declared};
 
 use crate::bindings::gather;
@@ -25,8 +25,8 @@ pub struct Declared<'a> {
 
 impl<'a> Model for Declared<'a> {
     ghost use Rattle.std.specs.Prelude.{List, map};
-    ghost use Rattle.xml_tree.specs.Tree.{decls_code};
-    ghost use Rattle.xml_tree.specs.Gathering.{IsIndex};
+    ghost use Rattle.xml_tree.specs.inner.Codes.{decls_code};
+    ghost use Rattle.xml_tree.specs.inner.Gathering.{IsIndex};
     ghost use Rattle.xml_tree.specs.declared.names.Decl.{Decl};
 
     ghost Value = { List Decl };

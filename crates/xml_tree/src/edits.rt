@@ -1,8 +1,8 @@
 //! Edits of one element, and of the element at a path. Each says the whole new tree.
 ghost use Rattle.std.specs.Prelude.{◌≡◌, ◌<◌, ◌≤◌, length, Some, None, IsSome, IsSomeAnd, IfOk, IfErr, OnOk, OnErr, option_map, slice_get};
+ghost use Rattle.xml_tree.specs.Attributes.{is_written_so};
 ghost use Rattle.std.specs.List.{find, remove};
 ghost use Rattle.std.specs.Option.{option_copied};
-ghost use Rattle.xml_tree.specs.Attributes.{is_named};
 ghost use Rattle.xml_tree.specs.Tree.{at, kids_of};
 ghost use Rattle.xml_tree.specs.Edits.{TextsMeet, TextsMeetAt, attr_at, change_attr, cut_kid, cut_out, drop_at, drop_attr, put_in, put_kid, put_over, set_at, take_in, write_attr};
 ghost use Rattle.xml_tree.specs.Nodes.{exchange_nodes, nodes_of};
@@ -69,7 +69,7 @@ impl Element {
 impl Element {
     /// The attribute of this prefix and local name, lent: None where there is none. Takes no memory.
     pub fn attr(&self, name: &Name) -> Option<&Attr>
-        ensures attribute_of_the_name { option_copied result ≡ find (is_named name.now) self.now.attrs }
+        ensures attribute_of_the_name { option_copied result ≡ find (is_written_so name.now) self.now.attrs }
     {
         attr_of(&self.attrs, name)
     }
@@ -99,10 +99,10 @@ impl Element {
     #[tactic(auto, using(crate::proofs::AttrLemmas::by_place))]
     pub fn set_attr(&mut self, name: Name, value: Text) -> Result<Option<Text>, AllocError>
         ensures old { IfOk result
-            (λ old. old ≡ option_map (λ attr. attr.value) (find (is_named name) self.old.attrs)) }
+            (λ old. old ≡ option_map (λ attr. attr.value) (find (is_written_so name) self.old.attrs)) }
         ensures ok { OnOk result (self.new ≡ write_attr name value self.old) }
         ensures err { OnErr result (self.new ≡ self.old) }
-        ensures only_for_new { OnErr result (find (is_named name) self.old.attrs ≡ None) }
+        ensures only_for_new { OnErr result (find (is_written_so name) self.old.attrs ≡ None) }
     {
         let place = place_of_attr(&self.attrs, &name);
         if place < self.attrs.len() {
@@ -115,7 +115,7 @@ impl Element {
     /// Takes out the attribute of this prefix and local name: None where there is none. Takes no memory.
     #[tactic(auto, using(crate::proofs::AttrLemmas::by_place))]
     pub fn drop_attr(&mut self, name: &Name) -> Option<Attr>
-        ensures taken { result ≡ find (is_named name.now) self.old.attrs }
+        ensures taken { result ≡ find (is_written_so name.now) self.old.attrs }
         ensures new { self.new ≡ drop_attr name.now self.old }
     {
         let place = place_of_attr(&self.attrs, name);
@@ -235,10 +235,10 @@ impl Element {
             path,
             |here: &mut Element| -> Result<Option<Text>, AllocError>
                 ensures old { IfOk result
-                    (λ old. old ≡ option_map (λ attr. attr.value) (find (is_named name) here.old.attrs)) }
+                    (λ old. old ≡ option_map (λ attr. attr.value) (find (is_written_so name) here.old.attrs)) }
                 ensures ok { OnOk result (here.new ≡ write_attr name value here.old) }
                 ensures err { OnErr result (here.new ≡ here.old) }
-                ensures only_for_new { OnErr result (find (is_named name) here.old.attrs ≡ None) }
+                ensures only_for_new { OnErr result (find (is_written_so name) here.old.attrs ≡ None) }
             { here.set_attr(name, value) },
         )
     }
@@ -252,7 +252,7 @@ impl Element {
         self.edit_at(
             path,
             |here: &mut Element| -> Option<Attr>
-                ensures taken { result ≡ find (is_named name.entry.now) here.old.attrs }
+                ensures taken { result ≡ find (is_written_so name.entry.now) here.old.attrs }
                 ensures new { here.new ≡ drop_attr name.entry.now here.old }
             { here.drop_attr(name) },
         )

@@ -2,7 +2,7 @@
 ghost use Rattle.std.specs.Prelude.{◌≡◌, ◌↔◌, ◌≤◌, length, IsTrue, IfOk};
 ghost use Rattle.std.specs.List.{find};
 ghost use Rattle.std.specs.Option.{option_copied};
-ghost use Rattle.xml_tree.specs.Attributes.{first_place, is_named, same_name};
+ghost use Rattle.xml_tree.specs.Attributes.{first_place, same_name, is_written_so};
 
 use crate::text::Text;
 use std::alloc::{AllocError, Global};
@@ -94,7 +94,7 @@ impl Attr {
 
 // The first attribute of this name.
 pub(crate) fn attr_of<'a>(attrs: &'a [Attr], name: &Name) -> Option<&'a Attr>
-    ensures first_of_the_name { option_copied result ≡ find (is_named name.now) attrs.now }
+    ensures first_of_the_name { option_copied result ≡ find (is_written_so name.now) attrs.now }
 {
     for attr in attrs {
         if attr.name.same(name) {
@@ -106,7 +106,7 @@ pub(crate) fn attr_of<'a>(attrs: &'a [Attr], name: &Name) -> Option<&'a Attr>
 
 // The place of the first attribute of this name, or the number of attributes.
 pub(crate) fn place_of_attr(attrs: &[Attr], name: &Name) -> usize
-    ensures place { result ≡ first_place (is_named name.now) attrs.now }
+    ensures place { result ≡ first_place (is_written_so name.now) attrs.now }
     ensures within { result ≤ length attrs.now }
 {
     for (i, attr) in attrs.iter().enumerate() {

@@ -6,7 +6,7 @@ ghost use Rattle.std.specs.Option.{option_copied};
 ghost use Rattle.xml_tree.specs.Tree.{kids};
 ghost use Rattle.xml_tree.specs.Edits.{TextsMeet, cut, put, with_comment, with_elem, with_text};
 ghost use Rattle.xml_tree.specs.Nodes.{AreNormal, content_of, ends_in_text, gap_place, joined_beside, place, removed_joined, text_at};
-ghost use Rattle.xml_tree.specs.Lending.{LendsKid};
+ghost use Rattle.xml_tree.specs.inner.Lending.{LendsKid};
 ghost use Rattle.xml_tree.specs.Rooms.{HasRoom};
 
 use crate::text::Text;

@@ -1,6 +1,6 @@
 //! The length of the print of an element. It is counted from the tree, and nothing is printed.
 ghost use Rattle.std.specs.Prelude.{◌≡◌, flat_map, length, min};
-ghost use Rattle.xml_tree.specs.Print.{byte_len, declaring, opening, print, print_attr, print_comment, print_decl, print_name, print_node, quoted, text_escape, value_escape};
+ghost use Rattle.xml_tree.specs.Print.{byte_len, declaring, opening, print, print_attr, print_comment, print_decl, print_name, print_node, text_escape, value_escape, quoted_text};
 
 use crate::names::{Attr, Decl, Name};
 use crate::references::{text_reference, value_reference};
@@ -52,7 +52,7 @@ pub fn value_len(value: &[u8]) -> usize
 // The length of a value in its quotes.
 #[tactic(auto, using(crate::proofs::PrintLengths::lengths))]
 fn quoted_len(value: &Text) -> usize
-    ensures counts_the_quoted_value { result ≡ min (byte_len (quoted value.now)) usize.MAX }
+    ensures counts_the_quoted_value { result ≡ min (byte_len (quoted_text value.now)) usize.MAX }
 {
     value_len(value.as_str().as_bytes()).saturating_add(2)
 }

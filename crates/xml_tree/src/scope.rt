@@ -26,7 +26,7 @@ pub struct Scope<'a> {
 impl<'a> Model for Scope<'a> {
     ghost use Rattle.std.specs.Prelude.{◌≤◌, List, map, take};
     ghost use Rattle.std.specs.Coded.{coded_list};
-    ghost use Rattle.xml_tree.specs.Tree.{decls_code};
+    ghost use Rattle.xml_tree.specs.inner.Codes.{decls_code};
     ghost use Rattle.xml_tree.specs.declared.names.Decl.{Decl};
 
     ghost Value = { List (List Decl) };

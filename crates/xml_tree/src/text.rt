@@ -16,7 +16,7 @@ pub struct Text {
 
 impl Model for Text {
     ghost use Rattle.std.specs.Prelude.{ℕ, List, chars, IsUtf8};
-    ghost use Rattle.xml_tree.specs.Spelled.{bytes_of};
+    ghost use Rattle.xml_tree.specs.inner.Spelled.{bytes_of};
 
     ghost Value = { List ℕ };
 

@@ -1,6 +1,6 @@
 //! The bytes of a text: a few stand in place, more have memory of their own.
 ghost use Rattle.std.specs.Prelude.{◌≡◌, ◌++◌, encode_utf8, string_bytes, [], IfOk, OnOk, OnErr};
-ghost use Rattle.xml_tree.specs.Spelled.{bytes_of};
+ghost use Rattle.xml_tree.specs.inner.Spelled.{bytes_of};
 
 use arrayvec::ArrayString;
 use std::alloc::{AllocError, Global};

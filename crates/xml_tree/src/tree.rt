@@ -31,7 +31,8 @@ pub struct Element {
 }
 
 impl Model for Element {
-    ghost use Rattle.xml_tree.specs.Tree.{Tree, tree_code, tree_of, height};
+    ghost use Rattle.xml_tree.specs.Tree.{Tree, tree_of, height};
+    ghost use Rattle.xml_tree.specs.inner.Codes.{tree_code};
 
     ghost Value = { Tree };
 
@@ -46,7 +47,7 @@ impl Model for Element {
     ghost size = { height };
 
     ghost use Rattle.std.proofs.Common.{arith};
-    ghost use Rattle.xml_tree.specs.Falls.{most_le-content_height};
+    ghost use Rattle.xml_tree.specs.inner.Falls.{most_le-content_height};
 
     ghost size_decreases = { λ e h. omega (arith, most_le-content_height e.nodes.items) };
 }
@@ -239,7 +240,7 @@ impl Element {
 /// What kind of node it is.
 impl Node {
     ghost use Rattle.std.specs.Borrow.{sem};
-    ghost use Rattle.xml_tree.specs.Lending.{LendsElem};
+    ghost use Rattle.xml_tree.specs.inner.Lending.{LendsElem};
     ghost use Rattle.xml_tree.specs.Nodes.{elem_of, is_text, node_with, text_of};
 
     pub(crate) fn elem_mut(&mut self) -> &mut Element

@@ -12,7 +12,7 @@ use Rattle.node_select.specs.declared.selector.Selector.{Selector}
 use Rattle.node_select.specs.declared.selector.PatchEnd.{PatchEnd}
 use Rattle.node_select.specs.declared.selector.PatchEnd.TheVariants as patch_ends
 use Rattle.node_select.specs.declared.selector.PatchSelector.{PatchSelector}
-use Rattle.node_select.specs.Names.{is_unbound, element_uri, attr_uri}
+use Rattle.node_select.specs.Names.{is_unbound, name_uri, attr_uri}
 
 -- a step: its name, none for `*`; its position; how many characters these have; its test, an attribute's name and its value; and how many
 -- characters the whole step has
@@ -96,7 +96,7 @@ unbound_patch_end bindings (PatchChars position) n = None
 
 abbrev pub name_test : List Decl → List ℕ → Option Name → NameTest
 name_test bindings default None = Any
-name_test bindings default (Some name) = Named (element_uri bindings default name) name.local
+name_test bindings default (Some name) = Named (name_uri bindings default name) name.local
 
 abbrev pub attr_test : List Decl → Name × List ℕ → AttrTest
 attr_test bindings test = record { uri = attr_uri bindings test.0; local = test.0.local; value = test.1 }

@@ -2,7 +2,7 @@
 -- whether a repetition goes on.
 use Rattle.std.specs.Prelude.{ℕ, Bool, not, ◌&&◌, ◌||◌, ◌==◌, codes, List, ◌++◌, Option, None, Some}
 use Rattle.xml_tree.specs.declared.names.Name.{Name}
-use Rattle.grammar_rules.specs.Digits.{is_digit}
+use Rattle.std.specs.Char.{is_ascii_digit}
 use Rattle.grammar_rules.specs.Reading.{Reader, head_is, starts, read_word, read_sequence, read_either, read_many, read_valued, read_sized, read_only, read_optional, read_between, read_some_of, read_before, read_behind, read_quoted}
 use Rattle.tree_text.specs.declared.kind.Kind.{Kind}
 use Rattle.tree_text.specs.Grammar.{is_quote}
@@ -24,7 +24,7 @@ abbrev pub position_follows : List ℕ → Bool
 position_follows t = head_is (λ c. c == 91) t && not (starts (open_bracket ++ at_sign) t)
 
 abbrev pub read_position : Reader Kind ℕ
-read_position = read_behind (read_word open_bracket) (read_before (read_valued position_of (read_some_of is_digit)) (read_word close_bracket))
+read_position = read_behind (read_word open_bracket) (read_before (read_valued position_of (read_some_of is_ascii_digit)) (read_word close_bracket))
 
 abbrev pub read_attribute : Reader Kind Name
 read_attribute = read_behind (read_word at_sign) (read_only names_attribute read_qname)

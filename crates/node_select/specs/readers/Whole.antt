@@ -7,9 +7,11 @@ use Rattle.xml_tree.specs.declared.names.Decl.{Decl}
 use Rattle.node_select.specs.declared.fault.SelectorFault.{SelectorFault}
 use Rattle.node_select.specs.declared.fault.SelectorFault.TheVariants.{BadSelector, UnboundPrefix}
 use Rattle.node_select.specs.declared.selector.Selector.{Selector}
+use Rattle.node_select.specs.declared.selector.PatchForm.{PatchForm}
+use Rattle.node_select.specs.declared.selector.PatchForm.TheVariants as forms
 use Rattle.node_select.specs.declared.selector.PatchSelector.{PatchSelector}
 use Rattle.node_select.specs.Faults.{byte_of, stop_place}
-use Rattle.node_select.specs.readers.Raw.{RawSelector, RawPatchSelector, selector_of, patch_selector_of, first_unbound, first_unbound_in_patch}
+use Rattle.node_select.specs.readers.Raw.{RawSelector, RawPatchEnd, RawPatchSelector, PatchElement, PatchAttribute, PatchChars, selector_of, patch_selector_of, first_unbound, first_unbound_in_patch}
 use Rattle.node_select.specs.readers.Selectors.{read_selector, read_patch_selector}
 
 -- the first unbound prefix, or the selector that the names mean
@@ -18,9 +20,9 @@ meant text None value = Ok value
 meant text (Some n) value = Err (UnboundPrefix (byte_of text n))
 
 -- what the form of a text says, where reading answers this: it is no selector, or names decide
-abbrev pub told : List Decl → List ℕ → List ℕ → Result RawSelector (Stop Kind) → Result Selector SelectorFault
-told bindings default text (Ok raw) = meant text (first_unbound bindings raw) (selector_of bindings default raw)
-told bindings default text (Err stop) = Err (BadSelector (stop_place text stop))
+abbrev pub selector_told_so : List Decl → List ℕ → List ℕ → Result RawSelector (Stop Kind) → Result Selector SelectorFault
+selector_told_so bindings default text (Ok raw) = meant text (first_unbound bindings raw) (selector_of bindings default raw)
+selector_told_so bindings default text (Err stop) = Err (BadSelector (stop_place text stop))
 
 abbrev pub patch_told : List Decl → List ℕ → List ℕ → Result RawPatchSelector (Stop Kind) → Result PatchSelector SelectorFault
 patch_told bindings default text (Ok raw) = meant text (first_unbound_in_patch bindings raw) (patch_selector_of bindings default raw)
@@ -28,7 +30,20 @@ patch_told bindings default text (Err stop) = Err (BadSelector (stop_place text 
 
 -- a selector, with these bindings and this namespace of unprefixed elements
 abbrev pub selector_read : List Decl → List ℕ → List ℕ → Result Selector SelectorFault
-selector_read bindings default text = told bindings default text (read_whole read_selector (chars text))
+selector_read bindings default text = selector_told_so bindings default text (read_whole read_selector (chars text))
 
 abbrev pub patch_selector_read : List Decl → List ℕ → List ℕ → Result PatchSelector SelectorFault
 patch_selector_read bindings default text = patch_told bindings default text (read_whole read_patch_selector (chars text))
+
+-- what the selector of a patch ends in, if the text is one
+abbrev pub raw_form_of : RawPatchEnd → PatchForm
+raw_form_of PatchElement = forms.Element
+raw_form_of (PatchAttribute name) = forms.Attribute
+raw_form_of (PatchChars position) = forms.Chars
+
+abbrev pub raw_form_told : Result RawPatchSelector (Stop Kind) → Option PatchForm
+raw_form_told (Ok raw) = Some (raw_form_of raw.1.1)
+raw_form_told (Err stop) = None
+
+abbrev pub patch_form_read : List ℕ → Option PatchForm
+patch_form_read text = raw_form_told (read_whole read_patch_selector (chars text))

@@ -5,7 +5,7 @@ use Rattle.tree_text.specs.declared.kind.Kind.{Kind}
 use Rattle.tree_text.specs.declared.kind.Kind.TheVariants.{Unbound, Repeated}
 use Rattle.tree_text.specs.declared.said.Said.{Said}
 use Rattle.tree_text.specs.Pieces.{Tag}
-use Rattle.tree_text.specs.Names.{inside, is_unbound, is_misnamed, is_repeated, opening}
+use Rattle.tree_text.specs.Names.{is_misnamed, is_repeated, inside_tag, opening_size, is_unbound_in}
 
 -- what is wrong with one: Unbound comes first
 abbrev pub wrong_said : List (List Decl) → List Said → Said → Option Kind
@@ -22,7 +22,7 @@ first_wrong here earlier at [] = None
 first_wrong here earlier at (s ∷ later) = or_later (wrong_said here earlier s) (at + s.gap) (first_wrong here (earlier ++ s ∷ []) (at + (s.gap + s.size)) later)
 
 abbrev pub first_of_tag : List (List Decl) → Tag → Option (Kind × ℕ)
-first_of_tag here t = if is_unbound here t.name then Some (Unbound, 1) else first_wrong here [] (opening t) t.said
+first_of_tag here t = if is_unbound_in here t.name then Some (Unbound, 1) else first_wrong here [] (opening_size t) t.said
 
 -- counted back from the end of the tag
 abbrev pub counted_back : ℕ → Option (Kind × ℕ) → Option (Kind × ℕ)
@@ -30,4 +30,4 @@ counted_back size None = None
 counted_back size (Some found) = Some (found.0, size - found.1)
 
 abbrev pub tag_fault : List (List Decl) → Tag → Option (Kind × ℕ)
-tag_fault scope t = counted_back t.size (first_of_tag (inside scope t) t)
+tag_fault scope t = counted_back t.size (first_of_tag (inside_tag scope t) t)

@@ -11,7 +11,7 @@ use Rattle.tree_text.specs.declared.meanings.Meaning.TheVariants.{Declared, Name
 use Rattle.tree_text.specs.declared.said.Said.{Said}
 use Rattle.tree_text.specs.contracts.meanings.MeaningOrd.TheImpl.{cmp-value}
 use Rattle.tree_text.specs.readers.Bindings.{lists, number}
-use Rattle.tree_text.specs.Names.{declares, decl_of}
+use Rattle.tree_text.specs.Names.{said_decl, is_declaring}
 
 -- the number of the namespace of an attribute of this name
 abbrev pub attr_number : Bindings → Name → Option ℕ
@@ -26,13 +26,13 @@ same_number (Some n) (Some m) = n == m
 
 -- this is what one says
 abbrev pub Means : Bindings → Said → Meaning → Type 0
-Means here s (Declared prefix) = (declares s.name ≡ true) × (prefix.now ≡ (decl_of s).prefix)
-Means here s (Named local n) = (declares s.name ≡ false) × (local.now ≡ s.name.local) × (option_map Some n ≡ option_map (number here.namespaces) (attr_name (lists here) s.name).uri)
+Means here s (Declared prefix) = (is_declaring s.name ≡ true) × (prefix.now ≡ (said_decl s).prefix)
+Means here s (Named local n) = (is_declaring s.name ≡ false) × (local.now ≡ s.name.local) × (option_map Some n ≡ option_map (number here.namespaces) (attr_name (lists here) s.name).uri)
 
 -- whether one says this
 abbrev pub says : Bindings → Meaning → Said → Bool
-says here (Declared prefix) s = declares s.name && bytes_eq (decl_of s).prefix prefix.now
-says here (Named local n) s = not (declares s.name) && (same_number (attr_number here s.name) n && bytes_eq s.name.local local.now)
+says here (Declared prefix) s = is_declaring s.name && bytes_eq (said_decl s).prefix prefix.now
+says here (Named local n) s = not (is_declaring s.name) && (same_number (attr_number here s.name) n && bytes_eq s.name.local local.now)
 
 -- a set holds exactly what these say
 abbrev pub Holds : Bindings → List Said → BTreeSet Meaning → Type 0

@@ -1,7 +1,7 @@
 -- How much of a text stands in front of what ends it.
 use Rattle.std.specs.Prelude.{◌≡◌, ℕ, ◌+◌, ◌-◌, Bool, List, [], ◌∷◌, length, if◌then◌else◌, ◌==◌, ◌&&◌, ◌||◌, not, nat_le, chars}
 use Rattle.grammar_rules.specs.Reading.{head_is, starts}
-use Rattle.xml_tree.specs.Characters.{within}
+use Rattle.std.specs.Int.{is_in_range as within}
 
 -- the characters of a class
 abbrev pub run_len : (ℕ → Bool) → List ℕ → ℕ

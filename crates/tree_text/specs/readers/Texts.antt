@@ -1,20 +1,21 @@
 -- Reading functions, one for each rule of the grammar: they read from left to right, and a test of what comes next tells which
 -- member of a choice is read, and whether a repetition goes on.
 use Rattle.std.specs.Prelude.{drop, ℕ, zero, suc, ◌+◌, Bool, true, false, ◌&&◌, ◌||◌, ◌==◌, not, List, [], ◌∷◌, ◌++◌, Option, None, Some, if◌then◌else◌}
+use Rattle.std.specs.Char.{is_ascii_digit, is_ascii_alphabetic}
 use Rattle.xml_tree.specs.Characters.{is_char, is_space, is_name_start, is_name_char}
 use Rattle.xml_tree.specs.Tree.{Content, last, Tree}
 use Rattle.xml_tree.specs.declared.names.Name.{Name}
 use Rattle.xml_tree.specs.declared.names.Decl.{Decl}
-use Rattle.grammar_rules.specs.Digits.{is_digit, decimal, hexadecimal}
+use Rattle.grammar_rules.specs.Digits.{decimal, hexadecimal}
 use Rattle.grammar_rules.specs.Reading.{Reader, head_is, starts, spaced, read_never, read_empty, read_one, read_word, read_run, read_run_without, read_up_to, read_number, read_sequence, read_either, read_many, read_valued, read_sized, read_only, read_atomic, read_marked, read_judged, read_trap, read_optional, read_between, read_some_of, read_name_of, read_before, read_behind, read_quoted}
 use Rattle.tree_text.specs.readers.Words.{less, greater, empty_end, end_start, equals_sign, colon, ampersand, semicolon, hash, small_x, amp, lt, gt, quot, apos, comment_start, dashes, section_start, section_end, instruction_start, instruction_end, declaration_start, version, one_dot, encoding, standalone, yes, not_alone, bang, bang_bracket, doctype, byte_order_mark}
 use Rattle.tree_text.specs.declared.kind.Kind.{Kind}
 use Rattle.tree_text.specs.declared.kind.Kind.TheVariants.{Encoded, Doctyped, Depth}
 use Rattle.tree_text.specs.declared.said.Said.{Said}
-use Rattle.tree_text.specs.Pieces.{Markup, Reference, Section, Comment, Instruction, Inner, line_ends, value_of, qname_of, written, said_of, Tag, tag_of, with_pieces}
-use Rattle.tree_text.specs.Names.{inside, element_of}
+use Rattle.tree_text.specs.Pieces.{Markup, Reference, Section, Comment, Instruction, Inner, line_ends, qname_of, written, said_of, Tag, tag_of, with_pieces, value_spelled}
+use Rattle.tree_text.specs.Names.{element_of, inside_tag}
 use Rattle.tree_text.specs.readers.Judging.{tag_fault}
-use Rattle.tree_text.specs.Grammar.{last_char, is_quote, is_raw, is_raw_in, is_target, is_letter, is_encoding_char, is_our_encoding}
+use Rattle.tree_text.specs.Grammar.{last_char, is_quote, is_raw, is_raw_in, is_target, is_encoding_char, is_our_encoding}
 
 -- ---- names and white space
 
@@ -68,7 +69,7 @@ abbrev pub reference_follows : List ℕ → Bool
 reference_follows = head_is (λ c. c == 38)
 
 abbrev pub read_value : ℕ → Reader Kind (List ℕ)
-read_value quote = read_valued value_of (read_between reference_follows (read_raw quote) read_reference)
+read_value quote = read_valued value_spelled (read_between reference_follows (read_raw quote) read_reference)
 
 -- ---- tags
 
@@ -155,15 +156,15 @@ starts_tag (c ∷ cs) = c == 60 && head_is is_name_start cs
 abbrev pub read_element : ℕ → List (List Decl) → ℕ → Reader Kind Tree
 read_element zero scope depth = read_marked (Depth depth) starts_tag (read_behind (read_word less) (read_behind read_name read_never))
 read_element (suc n) scope depth =
-    read_valued element_of (read_sequence (read_judged (tag_fault scope) read_tag) (λ t. read_behind_tag (read_element n (inside scope t) (depth + 1)) t.name t.is_empty))
+    read_valued element_of (read_sequence (read_judged (tag_fault scope) read_tag) (λ t. read_behind_tag (read_element n (inside_tag scope t) (depth + 1)) t.name t.is_empty))
 
 -- ---- documents
 
 abbrev pub read_version_number : Reader Kind (Unit {0})
-read_version_number = read_dropped (read_behind (read_word one_dot) (read_some_of is_digit))
+read_version_number = read_dropped (read_behind (read_word one_dot) (read_some_of is_ascii_digit))
 
 abbrev pub read_encoding_name : Reader Kind (List ℕ)
-read_encoding_name = read_name_of is_letter is_encoding_char
+read_encoding_name = read_name_of is_ascii_alphabetic is_encoding_char
 
 abbrev pub read_yes_or_no : Reader Kind (Unit {0})
 read_yes_or_no = read_either (head_is (λ c. c == 121)) (read_word yes) (read_word not_alone)
@@ -253,4 +254,4 @@ abbrev pub read_whole_reference : Reader Kind ℕ
 read_whole_reference = read_atomic read_reference
 
 abbrev pub read_spelling : Reader Kind (List ℕ)
-read_spelling = read_valued value_of (read_between reference_follows read_plain read_whole_reference)
+read_spelling = read_valued value_spelled (read_between reference_follows read_plain read_whole_reference)

@@ -12,14 +12,14 @@ use Rattle.tree_text.specs.declared.fault.ValueFault.{ValueFault}
 use Rattle.tree_text.specs.declared.fault.ValueFault.TheVariants as bodies
 use Rattle.tree_text.specs.declared.stop.Stop.{Stop}
 use Rattle.tree_text.specs.declared.stop.Stop.TheVariants as stops
-use Rattle.tree_text.specs.Faults.{place, fault_of, told, spelling_of, body_told}
+use Rattle.tree_text.specs.Faults.{place, fault_of, spelling_of, body_told, text_told}
 use Rattle.tree_text.specs.readers.Texts.{read_text, read_spelling}
 
 -- ---- documents and fragments
 
 -- with so many levels at most and in this scope
 abbrev pub text_read : ℕ → List (List Decl) → List ℕ → Result Tree TextFault
-text_read limit scope bytes = if is_utf8 bytes then told bytes (read_whole (read_text limit scope) (chars bytes)) else Err texts.NotUtf8
+text_read limit scope bytes = if is_utf8 bytes then text_told bytes (read_whole (read_text limit scope) (chars bytes)) else Err texts.NotUtf8
 
 -- the error that the code makes of why it stopped
 abbrev pub FaultOf : List ℕ → Stop → ReadError TextFault → Type 0

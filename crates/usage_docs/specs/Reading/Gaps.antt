@@ -4,7 +4,7 @@ use Rattle.std.specs.Option.{ForSome}
 use Rattle.xml_tree.specs.Tree.{Content, last, more, note, Tree, kids_of}
 use Rattle.usage_docs.specs.declared.rows.Kind.{Kind}
 use Rattle.usage_docs.specs.Rows.{Scope, kind_of}
-use Rattle.usage_docs.specs.Clashes.{inside}
+use Rattle.xml_tree.specs.Scopes.{inside}
 use Rattle.usage_docs.specs.Validity.{ValidChild}
 use Rattle.usage_docs.specs.Reading.Parts.{part_of, follows, end}
 

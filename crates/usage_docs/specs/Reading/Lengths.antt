@@ -4,6 +4,7 @@ use Rattle.std.specs.Str.{bytes_eq}
 use Rattle.xml_tree.specs.Print.{print_decl, byte_len}
 use Rattle.xml_tree.specs.Scopes.{bindings_in, declared}
 use Rattle.xml_tree.specs.declared.names.Decl.{Decl}
+use Rattle.xml_tree.specs.Limits.{greatest_u64}
 use Rattle.usage_docs.specs.declared.lengths.Outer.{Outer}
 
 -- the printed length of declarations
@@ -21,4 +22,4 @@ binding_of p bs = filter (λ b. bytes_eq p b.prefix) bs
 -- what is kept of a root is what it binds, and the length of that
 pub record CountsFrom (outer : Outer) : Type 0 where
   pub bindings : outer.bindings.items ≡ bindings_in (outer.decls.now ∷ [])
-  pub counted : outer.len ≡ min (decls_len (bindings_in (outer.decls.now ∷ []))) 18446744073709551615
+  pub counted : outer.len ≡ min (decls_len (bindings_in (outer.decls.now ∷ []))) greatest_u64

@@ -6,6 +6,7 @@ use Rattle.xml_tree.specs.Tree.{Tree, kids_of}
 use Rattle.xml_tree.specs.declared.names.Attr.{Attr}
 use Rattle.xml_tree.specs.declared.tree.Node.{Node}
 use Rattle.xml_tree.specs.declared.tree.Node.TheVariants.{Elem, Chars, Comment}
+use Rattle.xml_tree.specs.Scopes.{inside}
 use Rattle.usage_docs.specs.contracts.keys.KeyedOrd.TheImpl.{cmp-value}
 use Rattle.usage_docs.specs.declared.rows.Kind.{Kind}
 use Rattle.usage_docs.specs.declared.rows.Key.{Key}
@@ -13,7 +14,7 @@ use Rattle.usage_docs.specs.declared.keys.Clash.{Clash}
 use Rattle.usage_docs.specs.declared.keys.Keyed.{Keyed}
 use Rattle.usage_docs.specs.Rows.{Scope, kind_of}
 use Rattle.usage_docs.specs.Keys.{key_of, value_of, key_value}
-use Rattle.usage_docs.specs.Clashes.{inside, Mark, mark, mark_of, RepeatsAt, NoLater}
+use Rattle.usage_docs.specs.Clashes.{Mark, mark, mark_of, RepeatsAt, NoLater}
 
 -- the elements among nodes
 abbrev pub node_kids : List Node → List Tree

@@ -5,7 +5,7 @@ use Rattle.xml_tree.specs.Tree.{Content, last, more, note}
 use Rattle.xml_tree.specs.declared.tree.Node.{Node}
 use Rattle.xml_tree.specs.declared.tree.Node.TheVariants.{Elem, Chars, Comment}
 use Rattle.usage_docs.specs.declared.rows.Kind.{Kind}
-use Rattle.usage_docs.specs.Rows.{Scope, Matches, model_of, items_in, kind_of}
+use Rattle.usage_docs.specs.Rows.{Scope, model_of, items_in, kind_of, MatchesModel}
 use Rattle.usage_docs.specs.Reading.Parts.{part_of, follows, end}
 use Rattle.usage_docs.specs.Texts.{text_of}
 use Rattle.usage_docs.specs.Validity.{text_passes, children_of, KeepsRow, AllKeep, ValidChild}
@@ -23,7 +23,7 @@ Walks row c before (more t n ds ats k rest) =
 
 -- the content of an element of this row is what the row says
 abbrev pub HoldsRow : Kind → Scope → Content → Type 0
-HoldsRow row c content = IsTrue (text_passes row (text_of content)) × Matches (items_in (model_of row)) (children_of row c content) × AllKeep row c content
+HoldsRow row c content = IsTrue (text_passes row (text_of content)) × MatchesModel (items_in (model_of row)) (children_of row c content) × AllKeep row c content
 
 -- ---- node by node
 

@@ -4,8 +4,8 @@ use Rattle.std.specs.List.{list_any}
 use Rattle.std.specs.Str.{bytes_eq}
 use Rattle.tree_text.specs.declared.fault.ReadError.TheVariants.{Fault}
 use Rattle.xcap_uri.specs.Gives.{UriError}
-use Rattle.xcap_uri.specs.Shapes.{doc_of, tag_of}
-use Rattle.xcap_uri.specs.Words.{resource_lists, rls_services, xcap_caps, global, users, feed, flat, element, no_patching, xcap_patching, aggregate}
+use Rattle.xcap_uri.specs.Shapes.{doc_of, tag_spelled}
+use Rattle.xcap_uri.specs.Words.{resource_lists, rls_services, xcap_caps, global, users, feed, flat, no_patching, xcap_patching, aggregate, element_word}
 use Rattle.doc_names.specs.declared.doc_id.Auid.{Auid}
 use Rattle.doc_names.specs.declared.doc_id.Auid.TheVariants.{ResourceLists, RlsServices, XcapCaps}
 use Rattle.doc_names.specs.declared.doc_id.Home.{Home}
@@ -91,11 +91,11 @@ abbrev pub changes_or_part : List ℕ → Option ℕ → Option DocId → Option
 changes_or_part mode None doc selector = Err (Fault BadShape)
 changes_or_part mode (Some tag) None selector = Err (Fault BadShape)
 changes_or_part mode (Some tag) (Some doc) selector =
-    if bytes_eq mode element then part_changes tag doc selector else changes (mode_of mode) tag doc selector
+    if bytes_eq mode element_word then part_changes tag doc selector else changes (mode_of mode) tag doc selector
 
 -- behind `~feed`: a mode or `element`, a tag, a stored usage, `users`, a user and a name
 abbrev pub feed_shape : List (List ℕ) → Option (List ℕ) → Result Shape UriError
-feed_shape (mode ∷ tag ∷ auid ∷ tree ∷ xui ∷ name ∷ []) selector = changes_or_part mode (tag_of tag) (stored_doc auid tree xui name) selector
+feed_shape (mode ∷ tag ∷ auid ∷ tree ∷ xui ∷ name ∷ []) selector = changes_or_part mode (tag_spelled tag) (stored_doc auid tree xui name) selector
 feed_shape _ selector = Err (Fault BadShape)
 
 -- behind `~flat`: a user, a name and the address of a service, without separator

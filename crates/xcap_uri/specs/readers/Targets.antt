@@ -1,6 +1,7 @@
 -- Targets, read from left to right.
 use Rattle.std.specs.Prelude.{ℕ, List, [], ◌∷◌, encode_utf8_all, Option, None, Some, Result, Ok, Err, if◌then◌else◌}
 use Rattle.std.specs.Str.{bytes_eq, chars}
+use Rattle.std.specs.List.{join_with_byte}
 use Rattle.xml_tree.specs.declared.names.Decl.{Decl}
 use Rattle.node_select.specs.readers.Whole.{selector_read}
 use Rattle.node_select.specs.declared.fault.SelectorFault.{SelectorFault}
@@ -12,11 +13,11 @@ use Rattle.tree_text.specs.declared.fault.ReadError.TheVariants.{Fault, NoMemory
 use Rattle.doc_names.specs.Ids.{separator}
 use Rattle.doc_names.specs.Usages.{namespace_of}
 use Rattle.doc_names.specs.declared.doc_id.Auid.{Auid}
-use Rattle.xcap_uri.specs.Cuts.{before, behind, pieces, joined}
+use Rattle.xcap_uri.specs.Cuts.{before, behind, pieces}
 use Rattle.xcap_uri.specs.Gives.{UriError, ◌>>=◌}
 use Rattle.xcap_uri.specs.readers.Queries.{optional_bindings_read}
 use Rattle.xcap_uri.specs.Roots.{slash}
-use Rattle.xcap_uri.specs.Targets.{question, under_root, fault_of, raw_text}
+use Rattle.xcap_uri.specs.Targets.{question, under_root, raw_text, target_fault}
 use Rattle.xcap_uri.specs.readers.Escapes.{text_read, optional_text_read}
 use Rattle.xcap_uri.specs.readers.Shapes.{shape_of}
 use Rattle.xcap_uri.specs.declared.fault.UriFault.TheVariants.{OutsideRoot, BadSelector}
@@ -31,7 +32,7 @@ segments_read [] = Ok ([], None)
 segments_read (segment ∷ segments) =
     text_read segment >>= λ text.
     if bytes_eq text separator
-    then Ok ([], Some (joined slash segments))
+    then Ok ([], Some (join_with_byte slash segments))
     else (segments_read segments >>= λ x. Ok (text ∷ x.0, x.1))
 
 -- a raw path cut into its segments
@@ -41,12 +42,12 @@ path_read path = segments_read (pieces slash path)
 -- ---- the selector
 
 abbrev pub error_of : ReadError SelectorFault → UriError
-error_of (Fault fault) = Fault (fault_of fault)
+error_of (Fault fault) = Fault (target_fault fault)
 error_of NoMemory = NoMemory
 
 abbrev pub as_target_part : Result Selector SelectorFault → Result Selector UriError
 as_target_part (Ok selector) = Ok selector
-as_target_part (Err fault) = Err (Fault (fault_of fault))
+as_target_part (Err fault) = Err (Fault (target_fault fault))
 
 -- the selector of a part of a document
 abbrev pub part_read : List Decl → Auid → List ℕ → Result Selector UriError

@@ -1,6 +1,6 @@
 use Rattle.std.proofs.Common.{Option, Some, Ok, true, refl, subst}
 use Rattle.machine_words.specs.Fragments.{CutsNode}
-use Rattle.document_writes.specs.Planning.{IsCut}
+use Rattle.document_writes.specs.inner.Planning.{IsCut}
 use Rattle.document_writes.specs.declared.plan.Plan.{Plan}
 use Rattle.document_writes.proofs.Decided.{plan_unstopped, there}
 use Rattle.document_writes.proofs.nodes.plan_delete_in.Goals as goal

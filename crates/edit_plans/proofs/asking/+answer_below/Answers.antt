@@ -4,11 +4,11 @@ use Rattle.xml_tree.specs.Tree.{Tree, at, kids_of}
 use Rattle.xml_tree.specs.declared.names.Decl.{Decl}
 use Rattle.xml_tree.specs.declared.names.Name.{Name}
 use Rattle.usage_docs.specs.declared.rows.Kind.{Kind}
-use Rattle.usage_docs.specs.Clashes.{inside}
+use Rattle.xml_tree.specs.Scopes.{inside}
 use Rattle.usage_docs.specs.Rows.{Scope, kind_of}
 use Rattle.plan_words.specs.declared.refusal.EditRefusal.{EditRefusal}
-use Rattle.edit_plans.specs.Asking.{Answers, MayAsk}
-use Rattle.edit_plans.specs.Parents.{Below}
+use Rattle.edit_plans.specs.inner.Asking.{Answers, MayAsk}
+use Rattle.edit_plans.specs.inner.Parents.{Below}
 use Rattle.edit_plans.proofs.Ways.{below_here, below_next, empty_way, here_below, next_below, or_memory, there_next, way_parts}
 use Rattle.edit_plans.proofs.asking.+answer_below.Goals as goal
 

@@ -5,8 +5,8 @@ use Rattle.usage_docs.specs.declared.rows.Kind.{Kind}
 use Rattle.usage_docs.specs.Rows.{Scope, root_kind}
 use Rattle.plan_words.specs.declared.refusal.EditRefusal.{EditRefusal}
 use Rattle.plan_words.specs.Plans.{OrMemory}
-use Rattle.edit_plans.specs.Asking.{Answers, MayAsk}
-use Rattle.edit_plans.specs.Parents.{Below}
+use Rattle.edit_plans.specs.inner.Asking.{Answers, MayAsk}
+use Rattle.edit_plans.specs.inner.Parents.{Below}
 use Rattle.edit_plans.proofs.asking.answer.Goals as goal
 
 pub answer_below-requires-clause-asked : goal.answer_below-requires-clause-asked

@@ -1,7 +1,7 @@
 use Rattle.std.proofs.Common.{sym, subst}
 use Rattle.plan_words.specs.Plans.{OrMemory}
 use Rattle.edit_plans.specs.declared.asking.Asked.{Asked}
-use Rattle.edit_plans.specs.Asking.{Answers}
+use Rattle.edit_plans.specs.inner.Asking.{Answers}
 use Rattle.edit_plans.proofs.asking.answer_in.Goals as goal
 
 pub returns-in-Exchange : goal.returns-in-Exchange

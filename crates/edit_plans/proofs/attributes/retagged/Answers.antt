@@ -3,11 +3,11 @@ use Rattle.std.proofs.lemmas.Option.{same_Some}
 use Rattle.xml_tree.specs.Tree.{Tree, at}
 use Rattle.xml_tree.specs.Scopes.{scope_at}
 use Rattle.node_select.specs.Selection.{SelectsPath}
-use Rattle.plan_words.specs.Kinds.{kind_at}
+use Rattle.usage_docs.specs.Kinds.{kind_at}
 use Rattle.plan_words.specs.Plans.{OrMemory}
 use Rattle.plan_words.specs.Tags.{tag_with}
-use Rattle.edit_plans.specs.Asking.{HasRoom, IsRootRetagged, IsRetaggedIn, IsSelected}
-use Rattle.edit_plans.specs.Tested.{IsRetaggedAt}
+use Rattle.edit_plans.specs.inner.Asking.{HasRoom, IsRootRetagged, IsRetaggedIn, IsSelected}
+use Rattle.edit_plans.specs.inner.Tested.{IsRetaggedAt}
 use Rattle.edit_plans.proofs.PlanAt.{empty_path, ends_with, may_select, parent_of, parent_there}
 use Rattle.edit_plans.proofs.PlanTag.{retag_by, root_alone, root_retag_is, tag_room}
 use Rattle.edit_plans.proofs.Ways.{answered_at_root, or_memory, tell_at_root}

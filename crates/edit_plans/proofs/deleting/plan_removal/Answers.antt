@@ -3,8 +3,8 @@ use Rattle.node_select.specs.Selection.{SelectsPath}
 use Rattle.edit_ops.specs.declared.change.Change.TheVariants.{Remove}
 use Rattle.plan_words.specs.declared.refusal.EditRefusal.TheVariants as refusals
 use Rattle.plan_words.specs.Deletions.{IsRemoval}
-use Rattle.edit_plans.specs.Asking.{IsRemovedIn, IsSelected}
-use Rattle.edit_plans.specs.Tested.{made}
+use Rattle.edit_plans.specs.inner.Asking.{IsRemovedIn, IsSelected}
+use Rattle.edit_plans.specs.inner.Tested.{made}
 use Rattle.edit_plans.proofs.PlanAt.{delete_by, empty_path, ends_with, may_select, parent_of, parent_there, removal_by}
 use Rattle.edit_plans.proofs.Ways.{answered_at_root, tell_at_root}
 use Rattle.edit_plans.proofs.deleting.plan_removal.Goals as goal

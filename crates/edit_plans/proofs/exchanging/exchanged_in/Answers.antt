@@ -1,7 +1,7 @@
 use Rattle.std.proofs.Common.{inl, inr, List, remove, refl, subst}
 use Rattle.xml_tree.specs.Tree.{Tree, kids_of}
 use Rattle.plan_words.specs.Plans.{OrMemory}
-use Rattle.edit_plans.specs.Asking.{FormedIn, IsExchangedIn, IsJudgedIn}
+use Rattle.edit_plans.specs.inner.Asking.{FormedIn, IsExchangedIn, IsJudgedIn}
 use Rattle.edit_plans.proofs.Judging.{true_false}
 use Rattle.edit_plans.proofs.SiblingLemmas.{clean_by, gap_without, others_without}
 use Rattle.edit_plans.proofs.Ways.{or_memory}

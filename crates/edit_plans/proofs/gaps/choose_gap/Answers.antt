@@ -1,6 +1,6 @@
 use Rattle.xml_tree.specs.Tree.{kids_of}
 use Rattle.node_select.specs.Selection.{is_named, is_tested}
-use Rattle.edit_plans.specs.Sides.{FitsIn}
+use Rattle.edit_plans.specs.inner.Sides.{FitsIn}
 use Rattle.edit_plans.specs.declared.gaps.NoGap.TheVariants.{Unlawful, Invalid}
 use Rattle.edit_plans.proofs.Judging.{true_false}
 use Rattle.edit_plans.proofs.SideLemmas.{not_free}

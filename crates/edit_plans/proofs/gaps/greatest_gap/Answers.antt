@@ -1,6 +1,6 @@
 use Rattle.xml_tree.specs.Tree.{kids_of}
 use Rattle.node_select.specs.Selection.{is_named, is_tested}
-use Rattle.edit_plans.specs.Sides.{FitsIn}
+use Rattle.edit_plans.specs.inner.Sides.{FitsIn}
 use Rattle.edit_plans.specs.declared.gaps.NoGap.TheVariants.{Unlawful, Invalid}
 use Rattle.edit_plans.proofs.SideLemmas.{last_of_all}
 use Rattle.edit_plans.proofs.gaps.greatest_gap.Goals as goal

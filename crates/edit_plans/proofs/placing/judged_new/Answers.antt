@@ -1,6 +1,6 @@
 use Rattle.std.proofs.Common.{IsTrue}
 use Rattle.xml_tree.specs.Tree.{kids_of}
-use Rattle.edit_plans.specs.Asking.{FormedIn, IsJudgedIn, others}
+use Rattle.edit_plans.specs.inner.Asking.{FormedIn, IsJudgedIn, others}
 use Rattle.edit_plans.proofs.Judging.{judged_by}
 use Rattle.edit_plans.proofs.Ways.{or_memory}
 use Rattle.edit_plans.proofs.placing.judged_new.Goals as goal

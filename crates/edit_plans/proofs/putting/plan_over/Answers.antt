@@ -4,11 +4,11 @@ use Rattle.edit_ops.specs.declared.change.Change.TheVariants.{Replace}
 use Rattle.plan_words.specs.declared.refusal.EditRefusal.TheVariants.{CannotInsert}
 use Rattle.plan_words.specs.Lawful.{LawfulOver}
 use Rattle.plan_words.specs.Plans.{IsTested, OrMemory}
-use Rattle.edit_plans.specs.Tested.{made}
+use Rattle.edit_plans.specs.inner.Tested.{made}
 use Rattle.edit_plans.proofs.PlanTag.{only_the_root, root_over}
 use Rattle.edit_plans.proofs.SpotLemmas.{last_parts}
 use Rattle.edit_plans.proofs.PlanAt.{empty_path, ends_with, may_select, over_by, parent_of, parent_there}
-use Rattle.edit_plans.specs.Asking.{HasRoom, IsExchangedIn, IsSelected}
+use Rattle.edit_plans.specs.inner.Asking.{HasRoom, IsExchangedIn, IsSelected}
 use Rattle.edit_plans.proofs.Ways.{answered_at_root, tell_at_root}
 use Rattle.edit_plans.proofs.putting.plan_over.Goals as goal
 

@@ -2,8 +2,8 @@ use Rattle.std.proofs.Common.{◌≡◌, ◌-◌, ◌∷◌, [], Some, length, �
 use Rattle.node_select.specs.declared.selector.Step.{Step}
 use Rattle.usage_docs.specs.Rows.{root_kind}
 use Rattle.plan_words.specs.Plans.{OrMemory}
-use Rattle.edit_plans.specs.Asking.{HasRoom, IsPlacedIn, NoClash}
-use Rattle.edit_plans.specs.Parents.{Below}
+use Rattle.edit_plans.specs.inner.Asking.{HasRoom, IsPlacedIn, NoClash}
+use Rattle.edit_plans.specs.inner.Parents.{Below}
 use Rattle.edit_plans.proofs.PlanAt.{none_clash}
 use Rattle.edit_plans.proofs.PlanUnder.{parent_is_there, planned, last_step_is}
 use Rattle.edit_plans.proofs.Ways.{answered_at_root, tell_at_root}

@@ -1,5 +1,5 @@
 use Rattle.std.proofs.Common.{IsTrue, rules}
-use Rattle.plan_words.specs.Kinds.{kind_of_kid}
+use Rattle.usage_docs.specs.Kinds.{kind_of_kid}
 use Rattle.plan_words.specs.Tags.{attrs_formed}
 use Rattle.edit_plans.proofs.TagLemmas.{by_kind}
 use Rattle.edit_plans.proofs.retagging.attrs_formed_in.Goals as goal

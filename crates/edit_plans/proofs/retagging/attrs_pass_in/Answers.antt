@@ -1,7 +1,7 @@
 use Rattle.std.proofs.Common.{IsTrue, rules}
-use Rattle.usage_docs.specs.Clashes.{inside}
+use Rattle.xml_tree.specs.Scopes.{inside}
 use Rattle.usage_docs.specs.Keys.{attrs_pass}
-use Rattle.plan_words.specs.Kinds.{kind_of_kid}
+use Rattle.usage_docs.specs.Kinds.{kind_of_kid}
 use Rattle.edit_plans.proofs.TagLemmas.{by_kind}
 use Rattle.edit_plans.proofs.retagging.attrs_pass_in.Goals as goal
 

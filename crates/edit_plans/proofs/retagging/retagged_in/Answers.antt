@@ -2,7 +2,7 @@ use Rattle.std.proofs.Common.{inl, inr, List, remove, refl, ap, subst, Err, IsTr
 use Rattle.xml_tree.specs.Tree.{Tree, kids_of}
 use Rattle.plan_words.specs.Plans.{OrMemory}
 use Rattle.plan_words.specs.Tags.{AttrsFormed}
-use Rattle.edit_plans.specs.Asking.{IsJudgedIn, IsRetaggedIn}
+use Rattle.edit_plans.specs.inner.Asking.{IsJudgedIn, IsRetaggedIn}
 use Rattle.edit_plans.proofs.Judging.{judged_by, true_false}
 use Rattle.edit_plans.proofs.SiblingLemmas.{clean_by, gap_without, others_without}
 use Rattle.edit_plans.proofs.Ways.{or_memory}

@@ -3,7 +3,7 @@ use Rattle.xml_tree.specs.Tree.{kids_of}
 use Rattle.usage_docs.specs.declared.keys.Clash.{Clash}
 use Rattle.usage_docs.specs.Reading.Siblings.{IsFirst}
 use Rattle.plan_words.specs.Beside.{ClashesInside}
-use Rattle.edit_plans.specs.Asking.{others}
+use Rattle.edit_plans.specs.inner.Asking.{others}
 use Rattle.plan_words.proofs.FirstBeside.{first_in_new, first_behind, no_first}
 use Rattle.edit_plans.proofs.TwinLemmas.{none_before, twin_at}
 use Rattle.edit_plans.proofs.siblings.first_beside.Goals as goal

@@ -3,7 +3,7 @@ use Rattle.std.proofs.Common.{◌≡◌, IfSome, Option, Some, ℕ, sym, ap, ◌
 use Rattle.xml_tree.specs.Tree.{kids_of}
 use Rattle.usage_docs.specs.Keys.{value_of}
 use Rattle.usage_docs.specs.Clashes.{mark, mark_at}
-use Rattle.edit_plans.specs.Asking.{others}
+use Rattle.edit_plans.specs.inner.Asking.{others}
 use Rattle.edit_plans.proofs.TwinLemmas.{mark_among, mark_with, no_twin_marked, no_twin_unmarked, twin_is, unmarked_key, unmarked_kind, unmarked_value}
 use Rattle.edit_plans.proofs.siblings.twin_of.Goals as goal
 

@@ -1,10 +1,18 @@
-use Rattle.std.proofs.Common.{ℕ, ◌+◌, Bool, cond, sym, ◌∙◌, ap, add-one, arith}
-use Rattle.xml_tree.specs.Tree.{kids_of}
+use Rattle.std.proofs.Common.{ℕ, ◌+◌, ◌≡◌, Bool, List, Some, cond, sym, ◌∙◌, ap, add-one, arith}
+use Rattle.xml_tree.specs.Tree.{Tree, kids_of}
+use Rattle.xml_tree.specs.declared.names.Decl.{Decl}
+use Rattle.node_select.specs.declared.selector.Step.{Step}
+use Rattle.step_laws.specs.Selection.{child_matches}
 use Rattle.step_laws.proofs.OnePass.{only_is_selected, second_is_none}
 use Rattle.node_select.specs.Selection.{MatchesChild, is_named, is_tested}
 use Rattle.node_select.proofs.Walked.{at_elem, at_other, at_end, count_next, here, only_hit, only_miss, at_most_one, no_element}
 use Rattle.node_select.proofs.choice.select_child.Goals as goal
-use Rattle.node_select.proofs.choice.select_child.Goals.{in-Elem, then-is_match+else-is_some, else-is_match, in_default}
+use Rattle.node_select.proofs.choice.select_child.Goals.{in-Elem, then-is_match_if+else-is_some, else-is_match_if, in_default}
+
+-- what a child that was tested by its name matches
+matched : (s : List (List Decl)) (step : Step) (before : ℕ) (kid : Tree) (named r : Bool) → named ≡ is_named s step kid → r ≡ child_matches (λ _. named) (is_tested s step) step.position before (Some kid)
+    → child_matches (is_named s step) (is_tested s step) step.position before (Some kid) ≡ r
+matched s step before kid named r same is = sym (is ∙ ap (λ b. child_matches (λ _. b) (is_tested s step) step.position before (Some kid)) same)
 
 pub returns-then-is_some : goal.returns-then-is_some
 returns-then-is_some c = record {
@@ -14,7 +22,7 @@ returns-then-is_some c = record {
       let tested = is_tested c.args.scope.now c.args.step.now in
       let at = at_elem c.nodes-node-items.result.now c.loop-node.node-index c.loop-node.i xs c.in-Elem.kid c.node-item.result c.loop-node.invariant.left c.loop-node-test.true c.node-item.is c.in-Elem.is in
       let m = here named tested c.args.step.now.position xs c.loop-node.i c.loop-node.before c.in-Elem.kid at.0 c.loop-node.invariant.counted in
-      second_is_none named tested c.args.step.now.position xs c.loop-node.i c.loop-node.found (sym c.is_some.ensures ∙ c.if-is_some.true) c.loop-node.invariant.only (m.0 (sym c.is_match.ensures.tells_whether_it_matches ∙ c.if-is_match.true));
+      second_is_none named tested c.args.step.now.position xs c.loop-node.i c.loop-node.found (sym c.is_some.ensures ∙ c.if-is_some.true) c.loop-node.invariant.only (m.0 (matched c.args.scope.now c.args.step.now c.loop-node.before c.in-Elem.kid _ _ c.is_named-named.ensures.tells_whether_it_passes_the_name c.is_match_if.ensures.tells_whether_it_matches ∙ c.if-is_match_if.true));
 }
 
 pub loop-node-preserved : goal.loop-node-preserved
@@ -34,11 +42,11 @@ loop-node-preserved c =
             left = rw (w.i-is, add-one, add-one) at.2;
             within = omega arith;
             small = omega arith;
-            counted = count_next named xs c.loop-node.i c.match-node.i c.loop-node.before c.match-node.before w.in-Elem.kid at.0 at.1 c.loop-node.invariant.counted w.i-is (w.before-is ∙ w.count-before.ensures.counts_one_more ∙ ap one_more w.is_named.ensures.tells_whether_it_passes_the_name);
-            few = omega (arith, w.before-is, w.count-before.ensures.counts_one_more, at_most_one w.is_named.result);
-            only = elim w.if-is_match.branch [
-              | then-is_match+else-is_some v ↦ only_hit P c.loop-node.i c.match-node.i c.loop-node.found c.match-node.found w.i-is (w.found-is ∙ v.found-is) (sym v.is_some.ensures ∙ v.if-is_some.false) c.loop-node.invariant.only (m.0 (sym w.is_match.ensures.tells_whether_it_matches ∙ v.if-is_match.true))
-              | else-is_match v ↦ only_miss P c.loop-node.i c.match-node.i c.loop-node.found c.match-node.found _ w.i-is (w.found-is ∙ v.found-is) c.loop-node.invariant.only m (sym w.is_match.ensures.tells_whether_it_matches ∙ v.if-is_match.false)
+            counted = count_next named xs c.loop-node.i c.match-node.i c.loop-node.before c.match-node.before w.in-Elem.kid at.0 at.1 c.loop-node.invariant.counted w.i-is (w.before-is ∙ w.count-before.ensures.counts_one_more ∙ ap one_more w.is_named-named.ensures.tells_whether_it_passes_the_name);
+            few = omega (arith, w.before-is, w.count-before.ensures.counts_one_more, at_most_one w.is_named-named.result);
+            only = elim w.if-is_match_if.branch [
+              | then-is_match_if+else-is_some v ↦ only_hit P c.loop-node.i c.match-node.i c.loop-node.found c.match-node.found w.i-is (w.found-is ∙ v.found-is) (sym v.is_some.ensures ∙ v.if-is_some.false) c.loop-node.invariant.only (m.0 (matched c.args.scope.now c.args.step.now c.loop-node.before w.in-Elem.kid _ _ w.is_named-named.ensures.tells_whether_it_passes_the_name w.is_match_if.ensures.tells_whether_it_matches ∙ v.if-is_match_if.true))
+              | else-is_match_if v ↦ only_miss P c.loop-node.i c.match-node.i c.loop-node.found c.match-node.found _ w.i-is (w.found-is ∙ v.found-is) c.loop-node.invariant.only m (matched c.args.scope.now c.args.step.now c.loop-node.before w.in-Elem.kid _ _ w.is_named-named.ensures.tells_whether_it_passes_the_name w.is_match_if.ensures.tells_whether_it_matches ∙ v.if-is_match_if.false)
             ];
           })
       | in_default w ↦

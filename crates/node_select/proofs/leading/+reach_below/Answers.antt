@@ -2,10 +2,11 @@ use Rattle.std.proofs.Common.{◌≡◌, ◌+◌, ◌-◌, ◌++◌, ◌∷◌, 
 use Rattle.std.specs.Option.{option_copied}
 use Rattle.xml_tree.specs.Tree.{kids_of}
 use Rattle.xml_tree.specs.declared.names.Decl.{Decl}
+use Rattle.xml_tree.specs.Scopes.{inside}
 use Rattle.node_select.specs.declared.leading.Reached.{Reached}
 use Rattle.node_select.specs.declared.selector.Step.{Step}
-use Rattle.node_select.specs.LongestWays.{ReachesBelow}
-use Rattle.node_select.specs.Selection.{inside, selected_child}
+use Rattle.node_select.specs.inner.LongestWays.{ReachesBelow}
+use Rattle.node_select.specs.Selection.{selected_child}
 use Rattle.node_select.proofs.LongestWays.{first_and_rest, goes_on}
 use Rattle.node_select.proofs.Reaching.{among_missing, depth_within, length-take-le}
 use Rattle.node_select.proofs.Walked.{kid_lower}

@@ -1,6 +1,6 @@
 use Rattle.std.proofs.Common.{◌≡◌, ◌+◌, ◌≤◌, drop, min}
 use Rattle.xml_tree.specs.PathTexts.{path_text, steps_text}
-use Rattle.notes.specs.Lengths.{written_len}
+use Rattle.notes.specs.inner.Lengths.{written_len}
 use Rattle.notes.proofs.lengths.path_len.Given as goal
 
 abbrev pub invariant-loop-number : goal.invariant-loop-number

@@ -1,6 +1,6 @@
 use Rattle.std.proofs.Common.{◌≡◌, ◌+◌, suc, [], arith}
 use Rattle.std.specs.Fmt.{decimal}
-use Rattle.notes.specs.Lengths.{written_len}
+use Rattle.notes.specs.inner.Lengths.{written_len}
 use Rattle.notes.proofs.Values.{no_steps, written-decimal, written-step}
 use Rattle.notes.proofs.lengths.step_len.Goals as goal
 

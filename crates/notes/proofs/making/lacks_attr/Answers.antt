@@ -1,5 +1,5 @@
 use Rattle.std.proofs.Common.{not, sym, ap, ◌∙◌}
-use Rattle.xml_tree.specs.Attributes.{is_named}
+use Rattle.xml_tree.specs.Attributes.{is_written_so as is_named}
 use Rattle.notes.proofs.Around.{none-found}
 use Rattle.notes.proofs.making.lacks_attr.Goals as goal
 

@@ -2,9 +2,9 @@ use Rattle.std.proofs.Common.{◌≡◌, ◌+◌, min, true, codes, flat_map, ar
 use Rattle.xml_tree.specs.Print.{byte_len, print, print_decl, print_name}
 use Rattle.xml_tree.specs.PathTexts.{path_text}
 use Rattle.edit_ops.specs.declared.change.Change.TheVariants.{SetAttr}
-use Rattle.notes.specs.Operations.{told}
-use Rattle.notes.specs.Lengths.{written_len}
+use Rattle.notes.specs.inner.Lengths.{written_len}
 use Rattle.notes.proofs.Operations.{addition, valued_stops}
+use Rattle.notes.specs.Operations.{change_told as told}
 use Rattle.notes.proofs.weighing.addition_len.Goals as goal
 
 pub returns : goal.returns

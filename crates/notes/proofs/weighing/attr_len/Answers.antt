@@ -1,7 +1,7 @@
 use Rattle.std.proofs.Common.{◌≡◌, ◌+◌, min, sym, ap, ◌∙◌, arith}
 use Rattle.xml_tree.specs.Print.{print_name}
 use Rattle.xml_tree.specs.PathTexts.{path_text}
-use Rattle.notes.specs.Lengths.{written_len}
+use Rattle.notes.specs.inner.Lengths.{written_len}
 use Rattle.notes.proofs.Operations.{attr-path}
 use Rattle.notes.proofs.weighing.attr_len.Goals as goal
 

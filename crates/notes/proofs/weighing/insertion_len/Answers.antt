@@ -1,7 +1,7 @@
 use Rattle.std.proofs.Common.{false, codes, flat_map}
 use Rattle.xml_tree.specs.Print.{byte_len, print, print_attr, print_decl}
 use Rattle.edit_ops.specs.declared.change.Change.TheVariants.{Insert}
-use Rattle.notes.specs.Operations.{gap_attrs, told}
+use Rattle.notes.specs.Operations.{gap_attrs, change_told as told}
 use Rattle.notes.proofs.Operations.{filled_stops, insertion}
 use Rattle.notes.proofs.weighing.insertion_len.Goals as goal
 

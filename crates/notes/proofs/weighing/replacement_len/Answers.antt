@@ -2,9 +2,9 @@ use Rattle.std.proofs.Common.{◌≡◌, ◌+◌, min, false, codes, flat_map, a
 use Rattle.xml_tree.specs.Print.{byte_len, print, print_decl}
 use Rattle.xml_tree.specs.PathTexts.{path_text}
 use Rattle.edit_ops.specs.declared.change.Change.TheVariants.{Replace}
-use Rattle.notes.specs.Operations.{told}
-use Rattle.notes.specs.Lengths.{written_len}
+use Rattle.notes.specs.inner.Lengths.{written_len}
 use Rattle.notes.proofs.Operations.{filled_stops, replacement}
+use Rattle.notes.specs.Operations.{change_told as told}
 use Rattle.notes.proofs.weighing.replacement_len.Goals as goal
 
 pub returns : goal.returns

@@ -1,8 +1,8 @@
 use Rattle.std.proofs.Common.{◌+◌, false, codes, flat_map}
 use Rattle.xml_tree.specs.Print.{byte_len, print, print_decl}
 use Rattle.edit_ops.specs.declared.change.Change.TheVariants.{SetAttr}
-use Rattle.notes.specs.Operations.{attr_path_text, told}
-use Rattle.notes.specs.Lengths.{written_len}
+use Rattle.notes.specs.Operations.{attr_path_text, change_told as told}
+use Rattle.notes.specs.inner.Lengths.{written_len}
 use Rattle.notes.proofs.Operations.{rewriting, valued_stops}
 use Rattle.notes.proofs.weighing.rewriting_len.Goals as goal
 

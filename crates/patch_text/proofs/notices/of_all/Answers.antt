@@ -1,5 +1,6 @@
 use Rattle.std.proofs.Common.{[], ◌∷◌, codes}
-use Rattle.notes.specs.Operations.{in_diff, operation, plain}
+use Rattle.xml_tree.specs.Expanded.{name_of as in_diff}
+use Rattle.notes.specs.Operations.{operation, plain_attr as plain}
 use Rattle.patch_words.specs.Notices.{tag_attr}
 use Rattle.patch_text.proofs.Listing.{two-put}
 use Rattle.patch_text.proofs.notices.of_all.Goals as goal

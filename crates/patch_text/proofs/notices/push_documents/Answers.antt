@@ -1,5 +1,5 @@
 use Rattle.std.proofs.Common.{sym, ◌∙◌}
-use Rattle.notes.specs.Recorded.{joined}
+use Rattle.notes.specs.Recorded.{all_notes as joined}
 use Rattle.patch_text.proofs.Built.{none_told}
 use Rattle.patch_text.proofs.notices.push_documents.Goals as goal
 

@@ -6,7 +6,7 @@ use Rattle.notes.specs.Operations.{operation}
 use Rattle.notes.specs.Recorded.{note_in}
 use Rattle.notes.specs.declared.edit_note.EditNote.{EditNote}
 use Rattle.patch_words.specs.Notices.{operations}
-use Rattle.patch_text.specs.Lists.{with_all}
+use Rattle.patch_text.specs.inner.Lists.{with_all}
 use Rattle.patch_text.proofs.Listing.{next-put}
 use Rattle.patch_text.proofs.notices.push_operations.Goals as goal
 

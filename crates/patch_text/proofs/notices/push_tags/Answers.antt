@@ -1,5 +1,5 @@
 use Rattle.std.proofs.Common.{ℕ, [], ap, ◌∙◌}
-use Rattle.notes.specs.Recorded.{joined}
+use Rattle.notes.specs.Recorded.{all_notes as joined}
 use Rattle.patch_words.specs.Notices.{document}
 use Rattle.patch_text.proofs.Built.{tags_told}
 use Rattle.patch_text.proofs.notices.push_tags.Goals as goal

@@ -1,5 +1,6 @@
 use Rattle.std.proofs.Common.{◌++◌, flat_map, take}
-use Rattle.patch_text.specs.Declaring.{Gains, prefixes, prefixes_at}
+use Rattle.patch_words.specs.Declaring.{prefixes}
+use Rattle.patch_text.specs.inner.Declaring.{Gains, prefixes_at}
 use Rattle.patch_text.proofs.prefixes.+declared.Given as goal
 
 abbrev pub invariant-add_element-loop-node : goal.invariant-add_element-loop-node

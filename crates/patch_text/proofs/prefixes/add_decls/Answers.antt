@@ -1,5 +1,5 @@
 use Rattle.std.proofs.Common.{List, ℕ, [], ◌∷◌, subst}
-use Rattle.patch_text.specs.Declaring.{Gains}
+use Rattle.patch_text.specs.inner.Declaring.{Gains}
 use Rattle.patch_text.proofs.Gaining.{gains-end, gains-next, gains-none, gains-one, prefix_alone, prefixes-each}
 use Rattle.patch_text.proofs.prefixes.add_decls.Goals as goal
 

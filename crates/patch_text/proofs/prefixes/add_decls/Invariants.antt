@@ -1,5 +1,5 @@
 use Rattle.std.proofs.Common.{flat_map, take}
-use Rattle.patch_text.specs.Declaring.{Gains}
+use Rattle.patch_text.specs.inner.Declaring.{Gains}
 use Rattle.patch_text.proofs.Gaining.{prefix_alone}
 use Rattle.patch_text.proofs.prefixes.add_decls.Given as goal
 

@@ -1,5 +1,5 @@
 use Rattle.std.proofs.Common.{flat_map, take}
-use Rattle.patch_text.specs.Declaring.{Gains, prefixes_told}
+use Rattle.patch_text.specs.inner.Declaring.{Gains, prefixes_told}
 use Rattle.patch_text.proofs.prefixes.add_notes.Given as goal
 
 abbrev pub invariant-loop-note : goal.invariant-loop-note

@@ -2,9 +2,9 @@ use Rattle.std.proofs.Common.{◌≡◌, ℕ, List, ◌++◌, flat_map, length, 
 use Rattle.std.proofs.lemmas.Grind.{flat_map-append}
 use Rattle.std.proofs.lemmas.Result.{IfOk-weaker}
 use Rattle.std.specs.Set.{is_member}
-use Rattle.notes.specs.Recorded.{joined}
+use Rattle.notes.specs.Recorded.{all_notes as joined}
 use Rattle.patch_words.specs.Notices.{candidate, first_free, prefix_for}
-use Rattle.patch_text.specs.Declaring.{Gains, prefixes_told}
+use Rattle.patch_text.specs.inner.Declaring.{Gains, prefixes_told}
 use Rattle.patch_text.proofs.FreePrefix.{prefix-listed}
 use Rattle.patch_text.proofs.Gaining.{gains-then, holds-gained}
 use Rattle.patch_text.proofs.prefixes.prefix_for.Goals as goal

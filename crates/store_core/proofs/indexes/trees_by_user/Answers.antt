@@ -1,7 +1,7 @@
 use Rattle.std.proofs.Common.{List, ℕ, sym, ap, ◌∙◌}
 use Rattle.std.specs.List.{cons_option}
 use Rattle.xml_tree.specs.Tree.{Tree}
-use Rattle.store_core.specs.Listed.{entered, listed, pairs_in}
+use Rattle.store_core.specs.inner.Listed.{entered, listed, pairs_in}
 use Rattle.store_core.proofs.Listing.{pairs-insert}
 use Rattle.store_core.proofs.indexes.trees_by_user.Goals as goal
 

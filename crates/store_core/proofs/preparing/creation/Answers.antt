@@ -7,7 +7,7 @@ use Rattle.notes.specs.Recorded.{note_in}
 use Rattle.store_core.specs.declared.entry.Entry.{Entry}
 use Rattle.store_core.specs.declared.step.Step.TheVariants.{Make}
 use Rattle.store_core.specs.Preparing.{Readied}
-use Rattle.store_core.specs.Storing.{entry_of}
+use Rattle.store_core.specs.Stored.{entry_of}
 use Rattle.store_core.proofs.preparing.creation.Goals as goal
 
 pub returns : goal.returns

@@ -1,6 +1,6 @@
 use Rattle.std.proofs.Common.{ℕ, ◌+◌, cond, take, Option, None, ap, ◌∙◌, arith}
 use Rattle.std.specs.Str.{bytes_eq}
-use Rattle.store_core.specs.Storing.{registered}
+use Rattle.store_core.specs.inner.Storing.{registered}
 use Rattle.store_core.proofs.Registering.{more-last, taken-more}
 use Rattle.store_core.proofs.registry.leave.Goals as goal
 

@@ -1,7 +1,7 @@
 use Rattle.std.proofs.Common.{◌≡◌, ℕ, ◌-◌, List, [], ◌∷◌, ◌++◌, length, sym, ap, ◌∙◌, append_assoc, arith}
 use Rattle.std.proofs.lemmas.List.{append-nil}
 use Rattle.std.proofs.lemmas.Result.{err_from_is_err_and}
-use Rattle.tree_text.specs.Pieces.{value_of, raw, more_value}
+use Rattle.tree_text.specs.Pieces.{raw, more_value, value_spelled as value_of}
 use Rattle.tree_text.specs.readers.Members.{read_spelled_piece, value_with}
 use Rattle.tree_text.specs.readers.Texts.{read_whole_reference, read_plain, reference_follows, read_spelling}
 use Rattle.tree_text.proofs.Loops.{start, both_ok, first_stops, goes_on, ends, is_done, is_stopped}

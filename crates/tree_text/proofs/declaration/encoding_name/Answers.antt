@@ -1,5 +1,6 @@
 use Rattle.std.proofs.Common.{sym, ◌∙◌}
-use Rattle.tree_text.specs.Grammar.{is_letter, is_encoding_char}
+use Rattle.std.specs.Char.{is_ascii_alphabetic as is_letter}
+use Rattle.tree_text.specs.Grammar.{is_encoding_char}
 use Rattle.tree_text.proofs.RunLemmas.{name_read}
 use Rattle.tree_text.proofs.declaration.encoding_name.Goals as goal
 

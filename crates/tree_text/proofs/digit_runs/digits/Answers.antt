@@ -1,5 +1,5 @@
 use Rattle.std.proofs.Common.{sym, ◌∙◌, arith}
-use Rattle.grammar_rules.specs.Digits.{is_digit}
+use Rattle.std.specs.Char.{is_ascii_digit as is_digit}
 use Rattle.tree_text.proofs.RunLemmas.{some_read, none_read, run_len_le}
 use Rattle.tree_text.proofs.digit_runs.digits.Goals as goal
 

@@ -1,5 +1,5 @@
 use Rattle.std.proofs.Common.{◌≡◌, ◌+◌, drop}
-use Rattle.grammar_rules.specs.Digits.{is_digit}
+use Rattle.std.specs.Char.{is_ascii_digit as is_digit}
 use Rattle.tree_text.specs.readers.Runs.{run_len}
 use Rattle.tree_text.proofs.digit_runs.digits_len.Given as goal
 

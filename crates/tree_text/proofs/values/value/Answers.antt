@@ -2,7 +2,7 @@ use Rattle.std.proofs.Common.{◌≡◌, ℕ, ◌-◌, List, [], ◌∷◌, ◌+
 use Rattle.std.proofs.lemmas.List.{append-nil}
 use Rattle.std.proofs.lemmas.Result.{err_from_is_err_and}
 use Rattle.grammar_rules.specs.Reading.{read_many}
-use Rattle.tree_text.specs.Pieces.{value_of, raw, more_value}
+use Rattle.tree_text.specs.Pieces.{raw, more_value, value_spelled as value_of}
 use Rattle.tree_text.specs.readers.Members.{read_piece, value_with}
 use Rattle.tree_text.specs.readers.Texts.{read_reference, read_raw, reference_follows, read_value}
 use Rattle.tree_text.proofs.Loops.{finish, start, valued_ok, both_ok, first_stops, goes_on, ends, is_done, is_stopped}

@@ -4,9 +4,10 @@ use Rattle.std.proofs.lemmas.Result.{IfOk-weaker}
 use Rattle.xml_tree.specs.Tree.{kids_of}
 use Rattle.xml_tree.specs.declared.names.Attr.{Attr}
 use Rattle.xml_tree.specs.declared.tree.Node.{Node}
+use Rattle.xml_tree.specs.Scopes.{inside}
 use Rattle.usage_docs.specs.declared.keys.Clash.{Clash}
 use Rattle.usage_docs.specs.Rows.{Scope}
-use Rattle.usage_docs.specs.Clashes.{inside, Mark, RepeatsAt}
+use Rattle.usage_docs.specs.Clashes.{Mark, RepeatsAt}
 use Rattle.usage_docs.specs.Reading.Siblings.{node_kids, Holds, marks_of, own_marks, IsFirst, RepeatsHere, RepeatedKey}
 use Rattle.usage_docs.proofs.ClashLemmas.{scope_is, kind_is, at_none, at_here, at_below, kids_are, there_is, count_elem, count_other, found, passed, none_at_end}
 use Rattle.usage_docs.proofs.MarkLemmas.{by_kind, without_kind, none_yet, next_held}

@@ -1,6 +1,6 @@
 use Rattle.std.proofs.Common.{arith, refl}
 use Rattle.watchers.proofs.Turns.{one_kept, one_left, all_told}
-use Rattle.watchers.specs.Rounds.{one_round}
+use Rattle.watchers.specs.inner.Rounds.{one_round}
 use Rattle.watchers.proofs.tell.tell_all.Goals as goal
 
 pub watchers-preserved-then-tell : goal.watchers-preserved-then-tell

@@ -1,6 +1,7 @@
 use Rattle.std.proofs.Common.{◌≡◌, ℕ, false, List, [], ◌∷◌, length, Option, Some, ap, ◌∙◌}
 use Rattle.std.specs.Prelude.{chars, ◌==◌}
-use Rattle.xcap_app.specs.Commands.{count_of, root_of, serve_of, served_at}
+use Rattle.xcap_uri.specs.Roots.{root_of}
+use Rattle.xcap_app.specs.Commands.{count_of, serve_of, served_at}
 use Rattle.xcap_app.specs.declared.command.Command.TheVariants.{Serve}
 use Rattle.xcap_app.proofs.words.serve_of.Goals as goal
 

@@ -1,6 +1,6 @@
 use Rattle.std.proofs.Common.{◌≡◌, ◌+◌, drop}
 use Rattle.tree_text.specs.readers.Runs.{run_len}
-use Rattle.xcap_uri.specs.Cuts.{is_other}
+use Rattle.tree_text.specs.Faults.{is_other}
 use Rattle.xcap_uri.proofs.cutting.len_before.Given as goal
 
 abbrev pub invariant-loop-b : goal.invariant-loop-b

@@ -1,16 +1,16 @@
-use Rattle.std.proofs.Common.{Ok, Err, inl, sym, ap, ◌∙◌}
+use Rattle.std.proofs.Common.{Some, None, sym, ap, ◌∙◌}
 use Rattle.std.proofs.lemmas.Bool.{cond-false}
-use Rattle.xcap_uri.specs.Roots.{is_root}
+use Rattle.xcap_uri.specs.Roots.{root_of, is_root_text as is_root}
 use Rattle.xcap_uri.specs.readers.Roots.{behind_scheme}
-use Rattle.xcap_uri.specs.declared.fault.RootFault.TheVariants.{NotRoot}
 use Rattle.xcap_uri.proofs.RootAnswers.{no_root, some_root}
 use Rattle.xcap_uri.proofs.root.read_root.Goals as goal
 
 pub returns-in_default : goal.returns-in_default
+unfolding root_of
 returns-in_default c = record {
   reads_the_root =
       let text = c.args.text.now in
-      inl (sym (cond-false (is_root text) (Ok text) (Err NotRoot) (no_root text (ap behind_scheme (sym c.as_bytes-text.ensures.value) ∙ sym c.in_default.ensures.rest_behind_the_scheme))));
+      sym (cond-false (is_root text) (Some text) None (no_root text (ap behind_scheme (sym c.as_bytes-text.ensures.value) ∙ sym c.in_default.ensures.rest_behind_the_scheme)));
 }
 
 pub make_root-requires-clause-root : goal.make_root-requires-clause-root

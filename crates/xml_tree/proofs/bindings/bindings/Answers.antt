@@ -1,6 +1,6 @@
 use Rattle.std.proofs.Common.{◌+◌, drop, map, sym, ap, ◌∙◌}
 use Rattle.xml_tree.specs.Scopes.{joined}
-use Rattle.xml_tree.specs.Gathering.{gathered, values_in}
+use Rattle.xml_tree.specs.inner.Gathering.{gathered, values_in}
 use Rattle.xml_tree.proofs.ScopeLemmas.{drop_item}
 use Rattle.xml_tree.proofs.GatheringLemmas.{gathered-append}
 use Rattle.xml_tree.proofs.bindings.bindings.Goals as goal

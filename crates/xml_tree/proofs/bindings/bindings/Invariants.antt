@@ -1,6 +1,6 @@
 use Rattle.std.proofs.Common.{◌≡◌, drop, map, []}
 use Rattle.xml_tree.specs.Scopes.{joined}
-use Rattle.xml_tree.specs.Gathering.{AreKeyed, gathered, values_in}
+use Rattle.xml_tree.specs.inner.Gathering.{AreKeyed, gathered, values_in}
 use Rattle.xml_tree.proofs.bindings.bindings.Given as goal
 
 abbrev pub invariant-loop-list : goal.invariant-loop-list

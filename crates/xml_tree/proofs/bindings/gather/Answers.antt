@@ -1,5 +1,5 @@
 use Rattle.std.proofs.Common.{◌+◌, drop, sym, ap, ◌∙◌}
-use Rattle.xml_tree.specs.Gathering.{gathered, values_in}
+use Rattle.xml_tree.specs.inner.Gathering.{gathered, values_in}
 use Rattle.xml_tree.proofs.ScopeLemmas.{drop_item}
 use Rattle.xml_tree.proofs.GatheringLemmas.{values-insert, AreKeyed-insert}
 use Rattle.xml_tree.proofs.bindings.gather.Goals as goal

@@ -1,6 +1,6 @@
 use Rattle.std.proofs.Common.{List, Bor, ◌++◌, ap, ◌∙◌}
 use Rattle.xml_tree.specs.declared.names.Decl.{Decl}
-use Rattle.xml_tree.specs.Gathering.{gathered, values_in}
+use Rattle.xml_tree.specs.inner.Gathering.{gathered, values_in}
 use Rattle.xml_tree.proofs.GatheringLemmas.{values_in-values_of}
 use Rattle.xml_tree.proofs.IndexLemmas.{seen}
 use Rattle.xml_tree.proofs.declared.index_of.Goals as goal

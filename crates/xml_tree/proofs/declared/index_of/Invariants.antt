@@ -1,5 +1,5 @@
 use Rattle.std.proofs.Common.{◌≡◌, ◌++◌, [], map}
-use Rattle.xml_tree.specs.Gathering.{gathered}
+use Rattle.xml_tree.specs.inner.Gathering.{gathered}
 use Rattle.xml_tree.proofs.declared.index_of.Given as goal
 
 abbrev pub invariant-loop-decl : goal.invariant-loop-decl

@@ -1,5 +1,5 @@
 use Rattle.std.proofs.Common.{◌≡◌, drop, find}
-use Rattle.xml_tree.specs.Attributes.{is_named}
+use Rattle.xml_tree.specs.Attributes.{is_written_so as is_named}
 use Rattle.xml_tree.proofs.names.attr_of.Given as goal
 
 abbrev pub invariant-loop-attr : goal.invariant-loop-attr

@@ -1,7 +1,7 @@
 use Rattle.indexmap.specs.IndexMap.{spare}
 use Rattle.notes.specs.Recorded.{note_in}
 use Rattle.store_core.specs.Preparing.{Readied}
-use Rattle.store_core.specs.Storing.{Room}
+use Rattle.store_core.specs.Stored.{Room}
 use Rattle.store_core.proofs.Committed.{holds-next, keeps-addresses, may-step, still-storing}
 use Rattle.store_core.proofs.store.Store.commit.Goals as goal
 

@@ -6,7 +6,7 @@ use Rattle.doc_names.specs.Same.{same_id}
 use Rattle.store_core.specs.declared.entry.Entry.{Entry}
 use Rattle.store_core.specs.Changing.{document_in, held_name}
 use Rattle.store_core.specs.Held.{Held}
-use Rattle.store_core.specs.Storing.{Stored}
+use Rattle.store_core.specs.Stored.{Stored}
 use Rattle.store_core.proofs.Entries.{tree-and-tag}
 use Rattle.store_core.proofs.Stored.{low-entry, sound-entry}
 use Rattle.store_core.proofs.store.Store.get.Goals as goal

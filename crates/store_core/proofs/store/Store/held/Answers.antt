@@ -1,5 +1,5 @@
 use Rattle.indexmap.specs.IndexMap.{spare}
-use Rattle.store_core.specs.Storing.{Room}
+use Rattle.store_core.specs.Stored.{Room}
 use Rattle.store_core.proofs.Planning.{held-as}
 use Rattle.store_core.proofs.Stored.{no-entry}
 use Rattle.store_core.proofs.store.Store.held.Goals as goal

@@ -1,8 +1,9 @@
 use Rattle.std.proofs.Common.{Ok, sym, subst, ◌∙◌, arith}
 use Rattle.std.proofs.lemmas.Result.{err_from_is_err_and}
 use Rattle.edit_ops.specs.declared.change.Change.TheVariants.{CreateDocument}
-use Rattle.store_core.specs.Preparing.{Plans, Readied}
+use Rattle.store_core.specs.Preparing.{Readied}
 use Rattle.store_core.proofs.PlanAnswers.{creation-planned, creation-refused, creation-room, creation-unnumbered, plans-wanting}
+use Rattle.store_core.specs.inner.Planning.{Plans}
 use Rattle.store_core.proofs.store.Store.plan_creation.Goals as goal
 
 pub returns-in_err-enters : goal.returns-in_err-enters

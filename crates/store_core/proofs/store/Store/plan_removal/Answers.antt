@@ -6,8 +6,9 @@ use Rattle.edit_ops.specs.declared.change.Change.TheVariants.{RemoveDocument}
 use Rattle.store_core.specs.Held.{Held}
 use Rattle.store_core.specs.Keeping.{addresses_in}
 use Rattle.store_core.specs.Changing.{document_in, held_name}
-use Rattle.store_core.specs.Preparing.{Plans, Readied, total_of}
+use Rattle.store_core.specs.Preparing.{Readied, total_of}
 use Rattle.store_core.proofs.PlanAnswers.{held-of, nothing-read, plans-wanting, removal-planned, removal-unnumbered}
+use Rattle.store_core.specs.inner.Planning.{Plans}
 use Rattle.store_core.proofs.store.Store.plan_removal.Goals as goal
 
 pub unreachable-requires : goal.unreachable-requires

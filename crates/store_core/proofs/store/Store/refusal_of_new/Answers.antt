@@ -1,7 +1,7 @@
 use Rattle.std.proofs.Common.{ℕ, nat_le, ap, ◌∙◌}
 use Rattle.indexmap.specs.IndexMap.{spare}
-use Rattle.store_core.specs.Preparing.{refused_for}
-use Rattle.store_core.specs.Storing.{Room}
+use Rattle.store_core.specs.inner.Planning.{refused_for}
+use Rattle.store_core.specs.Stored.{Room}
 use Rattle.store_core.proofs.Planning.{new-answer, total-small}
 use Rattle.store_core.proofs.store.Store.refusal_of_new.Goals as goal
 

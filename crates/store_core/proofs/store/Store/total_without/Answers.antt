@@ -1,6 +1,6 @@
 use Rattle.std.proofs.Common.{arith}
 use Rattle.indexmap.specs.IndexMap.{spare}
-use Rattle.store_core.specs.Storing.{Room}
+use Rattle.store_core.specs.Stored.{Room}
 use Rattle.store_core.proofs.Planning.{no-longer, others-are, total-small, whole-is}
 use Rattle.store_core.proofs.Stored.{no-entry}
 use Rattle.store_core.proofs.store.Store.total_without.Goals as goal

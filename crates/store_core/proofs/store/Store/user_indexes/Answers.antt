@@ -4,7 +4,7 @@ use Rattle.std.specs.Map.{values_of}
 use Rattle.indexmap.specs.IndexMap.{spare}
 use Rattle.xml_tree.specs.Tree.{height}
 use Rattle.store_core.specs.Indexes.{AreIndexTrees}
-use Rattle.store_core.specs.Storing.{Room}
+use Rattle.store_core.specs.Stored.{Room}
 use Rattle.store_core.proofs.Listing.{trees-listed, trees-low}
 use Rattle.store_core.proofs.store.Store.user_indexes.Goals as goal
 

@@ -1,6 +1,6 @@
 use Rattle.std.proofs.Common.{List, Option, ℕ, ap, sym, ◌∙◌}
 use Rattle.std.specs.Option.{option_copied, option_or}
-use Rattle.xml_tree.specs.Around.{lists_at}
+use Rattle.xml_tree.specs.inner.Around.{lists_at}
 use Rattle.xml_tree.specs.Scopes.{declared, joined}
 use Rattle.xml_tree.specs.declared.names.Decl.{Decl}
 use Rattle.xml_tree.proofs.AroundLemmas.{declared_inside}

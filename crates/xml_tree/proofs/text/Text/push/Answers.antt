@@ -1,6 +1,6 @@
 use Rattle.std.proofs.Common.{encode_utf8, subst, OnOk, chars, ◌≡◌, ◌++◌}
 use Rattle.std.proofs.lemmas.Str.{IsUtf8-had}
-use Rattle.xml_tree.specs.Spelled.{bytes_of}
+use Rattle.xml_tree.specs.inner.Spelled.{bytes_of}
 use Rattle.xml_tree.proofs.TextGrows.{kept, said, one, one_utf8}
 use Rattle.xml_tree.proofs.text.Text.push.Goals as goal
 

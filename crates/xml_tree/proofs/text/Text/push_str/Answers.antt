@@ -1,5 +1,5 @@
 use Rattle.std.proofs.lemmas.Str.{IsUtf8-had}
-use Rattle.xml_tree.specs.Spelled.{bytes_of}
+use Rattle.xml_tree.specs.inner.Spelled.{bytes_of}
 use Rattle.xml_tree.proofs.TextGrows.{kept, said}
 use Rattle.xml_tree.proofs.text.Text.push_str.Goals as goal
 

@@ -1,0 +1,68 @@
+-- What a request on a node comes to before the store is asked. RFC 4825, sections 8.2 and 8.4.
+use Rattle.std.specs.Prelude.{◌≡◌, ◌≢◌, Bool, true, false, Option, None, Some, Result, Ok, Err, IsSome}
+use Rattle.xml_tree.specs.Tree.{Tree, at}
+use Rattle.doc_names.specs.declared.doc_id.DocId.{DocId}
+use Rattle.doc_names.specs.declared.usages.Usage.{Usage}
+use Rattle.usage_docs.specs.Judging.{Judged}
+use Rattle.edit_ops.specs.Changes.{edited}
+use Rattle.edit_ops.specs.declared.change.Change.{Change}
+use Rattle.plan_words.specs.Plans.{LeavesProper}
+use Rattle.plan_words.specs.declared.refusal.EditRefusal.{EditRefusal}
+use Rattle.plan_words.specs.declared.refusal.EditRefusal.TheVariants.{NoMemory}
+use Rattle.plan_words.specs.declared.spot.Spot.{Spot}
+use Rattle.plan_words.specs.declared.spot.Spot.TheVariants.{Over, Under, Beside, Value}
+use Rattle.node_select.specs.declared.selector.Selector.{Selector}
+use Rattle.http_wire.specs.declared.request.Request.{Request}
+use Rattle.store_core.specs.Asking.{Asks}
+use Rattle.store_core.specs.Held.{Stock}
+use Rattle.machine_words.specs.Answers.{Answer, unchanged}
+use Rattle.machine_words.specs.Fragments.{CutsNode, is_there, plan_refused}
+use Rattle.machine_words.specs.Writing.{change_answer, put_reply}
+use Rattle.document_writes.specs.declared.plan.Plan.{Plan}
+use Rattle.document_writes.specs.declared.plan.Plan.TheVariants.{Stops, Makes}
+
+-- ---- the element that a spot names
+
+-- it is there
+abbrev pub LeadsSomewhere : Tree → Spot → Type 0
+LeadsSomewhere t (Over p) = IsSome (at p t)
+LeadsSomewhere t (Under q) = IsSome (at q t)
+LeadsSomewhere t Beside = Unit {0}
+LeadsSomewhere t (Value p) = IsSome (at p t)
+
+-- ---- plans
+
+-- a change of a document that is held with this tree: one of the tree, which leaves a document of the usage, if it isn't too long
+pub record MayBeMade (usage : Usage) (t : Tree) (change : Change) : Type 0 where
+  pub leaves : LeavesProper t change
+  pub faultless : Judged usage (edited t change) None
+
+abbrev pub MayBeMadeBy : Usage → Tree → Plan → Type 0
+MayBeMadeBy usage t (Stops reply) = Unit {0}
+MayBeMadeBy usage t (Makes change exists) = MayBeMade usage t change
+
+-- the store may be asked for its change
+abbrev pub AsksBy : Stock → DocId → Plan → Type 0
+AsksBy c id (Stops reply) = Unit {0}
+AsksBy c id (Makes change exists) = Asks c id change
+
+-- what is answered where this is held: the reply alone, or what the store makes of the change
+abbrev pub answer_by : Stock → DocId → Bool → Plan → Answer
+answer_by c id closes (Stops reply) = unchanged reply
+answer_by c id closes (Makes change exists) = change_answer c id change closes (put_reply exists closes)
+
+-- whatever is held, its answer is of this kind
+pub record IsPlanFor (usage : Usage) (t : Tree) (id : DocId) (closes : Bool) (Is : Stock → Answer → Type 0) (plan : Plan) : Type 0 where
+  pub answers : (c : Stock) → Is c (answer_by c id closes plan)
+  pub may_be_made : MayBeMadeBy usage t plan
+
+-- it is the planned change, or the reply that says why there is none, which is not want of memory
+abbrev pub IsPlanOf : Result Change EditRefusal → Bool → Bool → Plan → Type 0
+IsPlanOf (Ok change) exists closes plan = plan ≡ Makes change exists
+IsPlanOf (Err why) exists closes plan = (plan ≡ Stops (plan_refused why closes)) × (why ≢ NoMemory)
+
+-- it is the plan of a DELETE of what the selector finds, by all but the conditions; there is none where nothing is found
+abbrev pub IsCut : Usage → Tree → Selector → Request → Option Plan → Type 0
+IsCut usage t selector request None = is_there t selector ≡ false
+IsCut usage t selector request (Some plan) =
+    (is_there t selector ≡ true) × ((id : DocId) → IsPlanFor usage t id request.closes (λ c a. CutsNode c id usage selector t request a) plan)

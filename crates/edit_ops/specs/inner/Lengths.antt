@@ -1,0 +1,35 @@
+-- What a change takes from the print of the element that it is made in, and what it brings, in bytes.
+use Rattle.std.specs.Prelude.{ℕ, ◌+◌, flat_map, option_to_list, slice_get, if◌then◌else◌}
+use Rattle.std.specs.List.{find}
+use Rattle.xml_tree.specs.Tree.{Tree, kids_of}
+use Rattle.xml_tree.specs.Edits.{cut, final}
+use Rattle.xml_tree.specs.Print.{byte_len, is_empty, print, print_attr, print_name}
+use Rattle.xml_tree.specs.declared.names.Name.{Name}
+use Rattle.xml_tree.specs.Attributes.{is_written_so}
+use Rattle.edit_ops.specs.declared.change.Change.{Change}
+use Rattle.edit_ops.specs.declared.change.Change.TheVariants.{CreateDocument, Insert, Replace, Remove, SetAttr, DropAttr, RemoveDocument}
+
+-- by how much `>` and an end tag of this name are longer than `/>`
+abbrev pub end_tag_len : Name → ℕ
+end_tag_len n = byte_len (print_name n) + 2
+
+-- the child or the attribute that goes, where it is there; with the last node the end tag goes, too
+abbrev pub lost : Change → Tree → ℕ
+lost (CreateDocument root) e = 0
+lost (Insert parent gap element) e = 0
+lost (Replace p element) e = byte_len (print e)
+lost (Remove p) e =
+    byte_len (flat_map print (option_to_list (slice_get (kids_of e) (final p)))) + (if is_empty (cut (final p) e.content) then end_tag_len e.name else 0)
+lost (SetAttr p name value) e = byte_len (flat_map print_attr (option_to_list (find (is_written_so name) e.attrs)))
+lost (DropAttr p name) e = byte_len (flat_map print_attr (option_to_list (find (is_written_so name) e.attrs)))
+lost RemoveDocument e = 0
+
+-- the child, the other element or the attribute that comes; with the first node comes an end tag
+abbrev pub brought : Change → Tree → ℕ
+brought (CreateDocument root) e = 0
+brought (Insert parent gap element) e = byte_len (print element) + (if is_empty e.content then end_tag_len e.name else 0)
+brought (Replace p element) e = byte_len (print element)
+brought (Remove p) e = 0
+brought (SetAttr p name value) e = byte_len (print_attr (record { name = name; value = value }))
+brought (DropAttr p name) e = 0
+brought RemoveDocument e = 0

@@ -1,0 +1,10 @@
+pub mod Fronts
+pub mod Answering
+pub mod KnownBytes
+pub mod Lengths
+pub mod Lines
+pub mod OneMeaning
+pub mod Quoting
+pub mod RootLetters
+pub mod Visible
+pub mod Understanding

@@ -1,0 +1,27 @@
+use Rattle.std.proofs.Common.{◌∷◌, [], map, take, List, ℕ, ◌++◌, ap, sym, subst, ◌∙◌}
+use Rattle.httparse.specs.Spans.{header_bytes}
+use Rattle.http_wire.specs.Fields.{same_word, values_of}
+use Rattle.http_exchange.specs.Fields.{Found}
+use Rattle.http_wire.proofs.FieldSteps.{value_named, value_other}
+use Rattle.http_exchange.proofs.fields.find.Goals as goal
+use Rattle.http_exchange.proofs.fields.find.Goals.{then-is_same_word, else-is_same_word}
+
+pub fields-preserved : goal.fields-preserved
+fields-preserved c =
+    let buf : List ℕ = c.args.buf.now in
+    let name : List ℕ = c.args.name.now in
+    let headers = c.args.headers.now in
+    let i : ℕ = c.fields.header-index in
+    let values : List (List ℕ) = values_of name (map (header_bytes buf) (take i headers)) in
+    let tested = sym (c.is_same_word.ensures.tells_whether_they_are_one_word ∙ ap (λ (l : List ℕ). same_word l name) c.of.ensures) in
+    elim c.if-is_same_word.branch [
+      | then-is_same_word w ↦ (
+          let more = value_named buf name headers i _ c.fields-test.true (tested ∙ w.if-is_same_word.true) in
+          let value = ap (λ (v : List ℕ). values ++ v ∷ []) w.of-then-is_same_word.ensures in
+          rw w.found-is (subst (Found w.and-found.result) (value ∙ sym more) (w.and-found.ensures.finds_one_more values c.fields.invariant))
+          )
+      | else-is_same_word w ↦ (
+          let more = value_other buf name headers i _ c.fields-test.true (tested ∙ w.if-is_same_word.false) in
+          rw w.found-is (subst (Found c.fields.found) (sym more) c.fields.invariant)
+          )
+    ]

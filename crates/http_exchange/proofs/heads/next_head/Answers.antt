@@ -1,0 +1,20 @@
+use Rattle.std.proofs.Common.{refl, arith}
+use Rattle.xcap_io.proofs.Lines.{reads_none}
+use Rattle.http_wire.proofs.ItemLemmas.{gains_none, gains_on}
+use Rattle.http_exchange.proofs.Fronts.{no_head_in_none}
+use Rattle.http_exchange.proofs.heads.next_head.Goals as goal
+
+pub looking-init : goal.looking-init
+looking-init g c = record {
+  gains = gains_none _ _;
+  reads = reads_none _;
+  no_fault = refl;
+  inside = omega arith;
+  none = no_head_in_none;
+}
+
+pub returns-in_err-fill-in-Open-clause-gains : goal.returns-in_err-fill-in-Open-clause-gains
+returns-in_err-fill-in-Open-clause-gains g c = gains_on _ _ _ _ _ _ c.looking.invariant.gains c.in_err-fill-in-Open.ensures.gains
+
+pub returns-then-not-branch-clause-gains : goal.returns-then-not-branch-clause-gains
+returns-then-not-branch-clause-gains g c = gains_on _ _ _ _ _ _ c.looking.invariant.gains c.in_ok-fill-in-Open.ensures.gains

@@ -1,0 +1,10 @@
+pub mod Limits
+pub mod Stops
+pub mod Heads
+pub mod Fields
+pub mod Tags
+pub mod Extents
+pub mod Inflow
+pub mod Responses
+pub mod Requests
+pub mod Understood

@@ -1,0 +1,50 @@
+-- Why reading stops, and what the source's count of failed reads says of that. This is the project's own.
+use Rattle.std.specs.Prelude.{◌≡◌, ℕ, ⊤, Result, Ok, Err}
+use Rattle.xcap_io.specs.Causes.{Rose}
+use Rattle.http_exchange.specs.declared.fault.Stop.{Stop}
+use Rattle.http_exchange.specs.declared.fault.Stop.TheVariants as stops
+use Rattle.http_exchange.specs.declared.fault.ResponseFault.{ResponseFault}
+use Rattle.http_exchange.specs.declared.fault.ResponseFault.TheVariants as faults
+
+-- the fault of a response that a stop becomes
+abbrev pub fault_of : Stop → ResponseFault
+fault_of stops.ReadFailed = faults.ReadFailed
+fault_of stops.NoMemory = faults.NoMemory
+
+-- the count rose where a read failed, and else it stayed
+abbrev pub CountsStop : {T : Type 0} → ℕ → ℕ → Result T Stop → Type 0
+CountsStop before now (Ok x) = now ≡ before
+CountsStop before now (Err stops.ReadFailed) = Rose before now
+CountsStop before now (Err stops.NoMemory) = now ≡ before
+
+-- the same of what stands in the place of a response
+abbrev pub CountsFault : {T : Type 0} → ℕ → ℕ → Result T ResponseFault → Type 0
+CountsFault before now (Ok x) = now ≡ before
+CountsFault before now (Err faults.ReadFailed) = Rose before now
+CountsFault before now (Err faults.NoMemory) = now ≡ before
+CountsFault before now (Err faults.Head) = now ≡ before
+CountsFault before now (Err faults.Coding) = now ≡ before
+CountsFault before now (Err faults.Length) = now ≡ before
+CountsFault before now (Err (faults.TooLong n)) = now ≡ before
+CountsFault before now (Err (faults.Short have wanted)) = now ≡ before
+
+-- What an answer says: where a read failed, that something lacks; where memory ran out, nothing; and else what it says itself.
+abbrev pub ByCause : {T : Type 0} → Result T ResponseFault → Type 0 → (Result T ResponseFault → Type 0) → Type 0
+ByCause (Ok x) Lacks Said = Said (Ok x)
+ByCause (Err faults.ReadFailed) Lacks Said = Lacks
+ByCause (Err faults.NoMemory) Lacks Said = ⊤
+ByCause (Err faults.Head) Lacks Said = Said (Err faults.Head)
+ByCause (Err faults.Coding) Lacks Said = Said (Err faults.Coding)
+ByCause (Err faults.Length) Lacks Said = Said (Err faults.Length)
+ByCause (Err (faults.TooLong n)) Lacks Said = Said (Err (faults.TooLong n))
+ByCause (Err (faults.Short have wanted)) Lacks Said = Said (Err (faults.Short have wanted))
+
+-- the fault is one that the fields of a head show
+abbrev pub IsOfFields : ResponseFault → Type 0
+IsOfFields faults.Coding = ⊤
+IsOfFields faults.Length = ⊤
+IsOfFields (faults.TooLong n) = ⊤
+IsOfFields faults.ReadFailed = ⊥
+IsOfFields faults.NoMemory = ⊥
+IsOfFields faults.Head = ⊥
+IsOfFields (faults.Short have wanted) = ⊥

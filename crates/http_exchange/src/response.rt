@@ -1,0 +1,82 @@
+// A response, read from a connection that ends behind it.
+ghost use Rattle.std.specs.Prelude.{◌+◌, Option, length, Ok};
+ghost use Rattle.xcap_io.specs.Causes.{Reads};
+ghost use Rattle.http_exchange.specs.Stops.{CountsFault};
+ghost use Rattle.http_exchange.specs.Responses.{Answers, GivesBody};
+
+use crate::ResponseFault;
+use crate::extents::{Extent, MAX_BODY, read_extent};
+use crate::heads::{MAX_FIELDS, next_head};
+use crate::inflow::Inflow;
+use crate::tags::read_tag;
+use httparse::spans::EMPTY_HEADER_SPAN;
+use std::alloc::Global;
+use xcap_io::{Bytes, Line, Source};
+use xml_tree::Text;
+
+/// A response with its whole body.
+#[derive(Debug, Drop)]
+pub struct Response {
+    pub status: u16,
+    /// What stands between the quotes of its entity tag, if it has one that is UTF-8.
+    pub tag: Option<Text>,
+    pub body: Bytes,
+}
+
+// The body that goes so far, from the bytes held on.
+fn read_body<S: Source>(
+    alloc: Global,
+    source: &mut S,
+    mut inflow: Inflow,
+    extent: Extent,
+) -> Result<Bytes, ResponseFault>
+    ensures gives { GivesBody extent inflow (S.state source.old).inward (S.state source.new).inward result }
+    ensures reads { Reads (S.state source.old) (S.state source.new) }
+    ensures counts { CountsFault (S.state source.old).read_faults (S.state source.new).read_faults result }
+{
+    match extent {
+        Extent::Empty => Ok(Bytes::new(alloc)),
+        Extent::Exactly(len) => {
+            if !inflow.hold(source, len)? {
+                return Err(ResponseFault::Short(inflow.len() as u64, len as u64));
+            }
+            Ok(inflow.into_front(len))
+        }
+        Extent::ToEnd => {
+            if inflow.hold(source, MAX_BODY + 1)? {
+                return Err(ResponseFault::TooLong(MAX_BODY as u64 + 1));
+            }
+            let len = inflow.len();
+            Ok(inflow.into_front(len))
+        }
+    }
+}
+
+/// The response that the bytes of a connection begin with, however the reads cut them (RFC 9112). Its body goes as far as its
+/// length says, or to the end of the bytes; a 204 and a 304 have none.
+///
+/// # Errors
+/// `ReadFailed` where a read failed before the bytes given decided; the source's count of such faults rose. `NoMemory` for want
+/// of memory. Else the first of these that applies: `Head` where there is no head of at most 16,384 bytes and 64 field lines,
+/// `Coding`, `Length`, `TooLong` for a body of more than 16,777,216 bytes, `Short`.
+pub fn read_response<S: Source>(alloc: Global, source: &mut S) -> Result<Response, ResponseFault>
+    ensures answers { Answers (S.state source.old).inward (S.state source.new).inward result }
+    ensures reads { Reads (S.state source.old) (S.state source.new) }
+    ensures counts { CountsFault (S.state source.old).read_faults (S.state source.new).read_faults result }
+{
+    let mut inflow = Inflow::new(alloc);
+    let mut headers = [EMPTY_HEADER_SPAN; MAX_FIELDS];
+    let Some(spans) = next_head(source, &mut inflow, &mut headers)? else {
+        return Err(ResponseFault::Head);
+    };
+    let fields = &headers[..spans.headers];
+    let extent = read_extent(inflow.bytes(), fields, spans.code)?;
+    let tag = read_tag(alloc, inflow.bytes(), fields)?;
+    inflow.pass(spans.len);
+    let body = read_body(alloc, source, inflow, extent)?;
+    Ok(Response {
+        status: spans.code,
+        tag,
+        body,
+    })
+}

@@ -1,0 +1,51 @@
+-- One turn of a connection: what is asked next is answered, told and replied to. RFC 9112, sections 9.3 and 9.6.
+use Rattle.std.specs.Prelude.{◌≡◌, ℕ, ◌+◌, ◌⊎◌, Bool, false, List, ◌++◌, Option, None, Some, option_to_list}
+use Rattle.reply_text.specs.Heads.{Sent, bytes_of}
+use Rattle.http_wire.specs.declared.request.Request.{Request}
+use Rattle.http_wire.specs.declared.request.Asked.{Asked}
+use Rattle.http_wire.specs.declared.request.Asked.TheVariants.{Request as Requested, Bad, TooLong, Coded, End, NoMemory}
+use Rattle.http_wire.specs.Asking.{WireState}
+use Rattle.http_wire.specs.Serving.{EndsBy, GoesOn}
+use Rattle.xcap_io.specs.Causes.{LineState}
+use Rattle.xcap_io.specs.Passing.{Gave, Took}
+use Rattle.http_serve.specs.declared.connection.Ended.{Ended}
+use Rattle.http_serve.specs.Endings.{ending_of}
+use Rattle.http_serve.specs.Fixed.{fixed, fixed_reply}
+
+-- the fixed reply of this status, which changes nothing
+abbrev pub IsFixed : {M E : Type 0} → ℕ → M → Sent → Option E → M → Type 0
+IsFixed status machine reply edit next = (reply ≡ fixed_reply status) × (edit ≡ None) × (next ≡ machine)
+
+module _ {M E : Type 0} (Step : M → Request → List ℕ → M → Option E → Type 0) where
+  -- How what was asked is answered: a request by the machine, or for want of memory by the fixed 503; nothing is answered
+  -- at the end.
+  abbrev pub AnswersAsked : M → Asked → Sent → Option E → M → Type 0
+  AnswersAsked machine (Requested request) reply edit next =
+      (Step machine request (bytes_of reply) next edit × (reply.closes ≡ request.closes)) ⊎ IsFixed 503 machine reply edit next
+  AnswersAsked machine Bad reply edit next = IsFixed 400 machine reply edit next
+  AnswersAsked machine TooLong reply edit next = IsFixed 413 machine reply edit next
+  AnswersAsked machine Coded reply edit next = IsFixed 501 machine reply edit next
+  AnswersAsked machine NoMemory reply edit next = IsFixed 503 machine reply edit next
+  AnswersAsked machine End reply edit next = ⊥
+
+  -- What a turn did behind so many requests, by the bytes given behind them and whether a read found the end: a request was
+  -- answered, after which the connection goes on and these bytes are held; or the connection ended.
+  abbrev pub Did : Option Ended → ℕ → M → List ℕ → Bool → List ℕ → M → Option E → List ℕ → Type 0
+  Did None before machine given end written next edit held = GoesOn Step fixed before machine given written next edit held
+  Did (Some ended) before machine given end written next edit held =
+      EndsBy Step fixed (ending_of ended) before machine given end written next edit
+
+  -- Some bytes were read and some written, and the watchers were told the change, if there was one.
+  pub record Turn {W : Type 0} (Keeps : List E → W → W → Type 0) (result : Option Ended) (wire wire' : WireState) (machine next : M) (old new : LineState) (watchers watchers' : W) : Type 0 where
+    pub read : List ℕ
+    pub written : List ℕ
+    pub edit : Option E
+    pub gave : Gave old.inward new.inward read
+    pub took : Took old.taken new.taken written
+    pub did : Did result wire.requests machine (wire.held ++ read) new.inward.ended written next edit wire'.held
+    pub kept : Keeps (option_to_list edit) watchers watchers'
+
+-- A wire that gave a request which doesn't close goes on.
+pub record GivesOn (old new : WireState) : Type 0 where
+  pub requests : new.requests ≡ old.requests + 1
+  pub open_still : new.spent ≡ false

@@ -1,0 +1,5 @@
+use Rattle.patch_laws.proofs.Stated.{all_made, one_made}
+use Rattle.patch_laws.proofs.laws.operations_make_changes.Goals as goal
+
+pub returns : goal.returns
+returns c = record { one = one_made; all = all_made }

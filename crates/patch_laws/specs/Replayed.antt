@@ -1,0 +1,35 @@
+-- What is said of notices and of those who apply them.
+use Rattle.std.specs.Prelude.{◌≡◌, ◌≢◌, ℕ, true, false, encode_utf8_all, Ok, None, Some, List, [], ◌∷◌}
+use Rattle.std.specs.List.{AllByRecursion}
+use Rattle.std.specs.Str.{bytes_eq}
+use Rattle.xml_tree.specs.Proper.{ProperIn}
+use Rattle.xml_tree.specs.Scopes.{xml_prefix}
+use Rattle.xml_tree.specs.Tree.{Tree}
+use Rattle.tree_text.specs.Faults.{TextAnswer}
+use Rattle.tree_text.specs.Printing.{document_print}
+use Rattle.notes.specs.Notes.{Note}
+use Rattle.patch_words.specs.Notices.{declares}
+use Rattle.patch_words.specs.Replay.{Held, Answer, Same, Patched, is_notice}
+use Rattle.patch_laws.specs.Premises.{IsSound}
+
+-- the prefix of a notice: not the default, not `xml`, and none that an operation of these notes declares
+pub record IsPrefixFor (prefix : List ℕ) (ns : List Note) : Type 0 where
+  pub some : prefix ≢ []
+  pub other : bytes_eq prefix xml_prefix ≡ false
+  pub free : AllByRecursion (λ n. declares prefix n.bindings ≡ false) ns
+
+-- what the notice of these notes answers
+abbrev pub answer_for : List Note → Answer
+answer_for [] = Same
+answer_for (n ∷ ns) = Patched
+
+-- the bytes of the notice's text are by the grammar this tree, of 67 levels at most; it has the form of a notice, and is proper
+pub record IsReadBack (notice : Tree) : Type 0 where
+  pub read : TextAnswer 67 [] (encode_utf8_all (document_print notice)) (Ok notice)
+  pub form : is_notice notice ≡ true
+  pub proper : ProperIn [] notice
+
+-- what a replica may hold: nothing, or a tree with its tag
+abbrev pub HoldsSound : Held → Type 0
+HoldsSound None = Unit {0}
+HoldsSound (Some h) = IsSound h.1

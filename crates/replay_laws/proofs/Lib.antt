@@ -1,0 +1,3 @@
+mod Letters
+mod OneVersion
+mod Present

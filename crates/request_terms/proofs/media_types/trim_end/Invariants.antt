@@ -1,9 +1,0 @@
-use Rattle.std.proofs.Common.{◌≡◌, length, reverse}
-use Rattle.httparse.specs.Grammar.{skip_ows}
-use Rattle.request_terms.proofs.media_types.trim_end.Given as goal
-
-abbrev pub invariant-blanks : goal.invariant-blanks
-invariant-blanks l = skip_ows (reverse l.bytes) ≡ skip_ows (reverse l.fn.bytes)
-
-abbrev pub decreases-blanks : goal.decreases-blanks
-decreases-blanks l = length l.bytes

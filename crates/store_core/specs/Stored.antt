@@ -1,0 +1,21 @@
+-- What contracts see of a store, and the entry that a new document gets.
+use Rattle.std.specs.Prelude.{ℕ, []}
+use Rattle.circular_buffer.specs.Buffer.{buffer}
+use Rattle.xml_tree.specs.Tree.{Tree}
+use Rattle.usage_docs.specs.Services.{document_len}
+use Rattle.store_core.specs.declared.entry.Entry.{Entry}
+use Rattle.store_core.specs.Held.{Stock}
+
+-- how many documents, and how many service addresses, it can take in without memory
+pub record Room : Type 0 where
+  pub documents : ℕ
+  pub services : ℕ
+
+-- what it holds, and its room
+pub record Stored : Type 0 where
+  pub content : Stock
+  pub room : Room
+
+-- the entry of a document that is made with this number
+abbrev pub entry_of : ℕ → Tree → Entry
+entry_of number t = record { created = number; tag = number; tree = t; len = document_len t; notes = buffer [] 64 }

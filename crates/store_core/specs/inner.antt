@@ -1,0 +1,4 @@
+-- What private functions and proofs speak of. No clause of a public call needs it.
+pub mod Listed
+pub mod Planning
+pub mod Storing

@@ -1,0 +1,66 @@
+-- How a change is planned: why a tree is refused, by what was found of it; what planning answers; what a step makes of the entries.
+use Rattle.std.specs.Prelude.{◌≡◌, ℕ, ◌+◌, nat_lt, Bool, not, List, [], ◌∷◌, ◌++◌, map, filter, ◌⊎◌, Option, None, Some, option_map, Result, Ok, Err, if◌then◌else◌}
+use Rattle.std.specs.Map.{lookup}
+use Rattle.std.specs.Option.{option_or}
+use Rattle.usage_docs.specs.Services.{document_len}
+use Rattle.usage_docs.specs.declared.keys.Clash.{Clash}
+use Rattle.usage_docs.specs.declared.rows.Key.TheVariants.{Uri}
+use Rattle.doc_names.specs.Same.{same_id}
+use Rattle.doc_names.specs.declared.doc_id.DocId.{DocId}
+use Rattle.edit_ops.specs.Changes.{Fits}
+use Rattle.edit_ops.specs.Staging.{IsStaged}
+use Rattle.edit_ops.specs.declared.change.Change.{Change}
+use Rattle.edit_ops.specs.declared.staged.Staged.{Staged}
+use Rattle.notes.specs.Notes.{note_of}
+use Rattle.notes.specs.Recorded.{note_in}
+use Rattle.notes.specs.declared.edit_note.EditNote.{EditNote}
+use Rattle.store_core.specs.Limits.{most_bytes, most_bytes_together}
+use Rattle.store_core.specs.declared.entry.Entry.{Entry}
+use Rattle.store_core.specs.declared.step.Step.{Step}
+use Rattle.store_core.specs.declared.step.Step.TheVariants.{Make, Edit, End}
+use Rattle.store_core.specs.declared.refusal.StoreRefusal.{StoreRefusal}
+use Rattle.store_core.specs.declared.refusal.StoreRefusal.TheVariants.{ServiceTaken, TooLarge, TooMany, StoreFull, NoMemory}
+use Rattle.store_core.specs.Held.{Held, Stock}
+use Rattle.store_core.specs.Keeping.{addresses_in}
+use Rattle.store_core.specs.Changing.{changing, document_in, held_name, only_if}
+use Rattle.store_core.specs.inner.Storing.{IsRenewed}
+use Rattle.store_core.specs.Preparing.{Readied, IsPlanned}
+
+-- the place among its services of the first address that another document has; its length; whether a document more would be too many;
+-- and the lengths of the other documents together
+abbrev pub refused_for : Option ℕ → ℕ → Bool → ℕ → Option StoreRefusal
+refused_for place len is_full others =
+    option_or (option_map (λ clash. ServiceTaken clash) (option_map (λ i. let clash : Clash = record { path = i ∷ []; key = Uri } in clash) place))
+    (option_or (only_if (nat_lt most_bytes len) (TooLarge len))
+    (option_or (only_if is_full TooMany)
+    (only_if (nat_lt most_bytes_together (others + len)) (StoreFull (others + len)))))
+
+-- a document is held with the tree, the tag and the length of this entry
+abbrev pub IsHeldAs : Stock → DocId → Entry → Type 0
+IsHeldAs c doc v = (h : Held) × (document_in held_name c.documents doc ≡ Some h) × (h.tree ≡ v.tree) × (h.tag ≡ v.tag) × (v.len ≡ document_len v.tree)
+
+-- an edit of what this entry holds, with its note and its memory, before the store has the room for it
+abbrev pub IsNoted : DocId → Entry → ℕ → Change → ℕ → List (List ℕ) → ℕ → Readied → Type 0
+IsNoted doc v number change len enters total p =
+    (note : EditNote) × (staged : Staged) × (note_in note ≡ note_of v.tag number v.tree change) × IsStaged v.tree change staged
+    × (p ≡ record { doc = doc; note = note_in note; step = Edit staged note len; leaves = addresses_in doc.auid v.tree; enters = enters; total = total })
+
+-- what planning a change answers: the change with its memory, as it was asked for; or the reason against it, or want of memory
+unfoldable pub Plans : Stock → DocId → Change → Result Readied StoreRefusal → Type 0
+Plans c doc change (Ok p) = (p.doc ≡ doc) × (p.note.change ≡ change) × IsPlanned c p
+Plans c doc change (Err e) = (changing c doc change ≡ Err e) ⊎ (e ≡ NoMemory)
+
+-- the number is that under which the document's addresses are entered
+abbrev pub Stepped : List (DocId × Entry) → DocId → ℕ → Step → ℕ → List (DocId × Entry) → Type 0
+Stepped old doc number (Make entry) created new = (new ≡ old ++ (doc, entry) ∷ []) × (created ≡ entry.created)
+Stepped old doc number (Edit staged kept len) created new =
+    (v : Entry) × (w : Entry) × (lookup (same_id doc) old ≡ Some v) × IsRenewed v number kept len w × (new ≡ map (λ e. if same_id doc e.0 then (e.0, w) else e) old)
+    × (created ≡ w.created)
+Stepped old doc number End created new = new ≡ filter (λ e. not (same_id doc e.0)) old
+
+-- what a step wants of the entries
+abbrev pub Steppable : List (DocId × Entry) → DocId → Step → Type 0
+Steppable old doc (Make entry) = lookup (same_id doc) old ≡ None
+Steppable old doc (Edit staged kept len) =
+    (v : Entry) × (lookup (same_id doc) old ≡ Some v) × (v.notes.capacity ≡ 64) × Fits v.tree kept.change × IsStaged v.tree kept.change staged
+Steppable old doc End = Unit {0}

@@ -1,0 +1,90 @@
+-- What a store keeps in memory, and what that stands for: the documents in order of creation, and which document holds each service
+-- address. RFC 4826, section 4.4.5 (service addresses are unique over all documents).
+use Rattle.std.specs.Prelude.{◌≡◌, ℕ, ◌+◌, ◌≤◌, ◌==◌, Bool, true, false, not, List, [], ◌∷◌, ◌++◌, map, sum_by, Option, None, Some, if◌then◌else◌}
+use Rattle.std.specs.List.{AllByRecursion}
+use Rattle.std.specs.Map.{lookup}
+use Rattle.std.specs.Set.{is_member}
+use Rattle.std.specs.Str.{bytes_eq}
+use Rattle.edit_ops.specs.Changes.{edited}
+use Rattle.usage_docs.specs.Services.{document_len}
+use Rattle.doc_names.specs.declared.doc_id.DocId.{DocId}
+use Rattle.notes.specs.Recorded.{note_in}
+use Rattle.notes.specs.declared.edit_note.EditNote.{EditNote}
+use Rattle.store_core.specs.declared.entry.Entry.{Entry}
+use Rattle.store_core.specs.State.{State, retained}
+use Rattle.store_core.specs.Held.{Held, Stands, Stock}
+use Rattle.store_core.specs.Keeping.{AreApart, Kept, addresses_in}
+
+-- ---- its documents
+
+-- a document by its entry
+abbrev pub held_in : DocId × Entry → Held
+held_in e = record { id = e.0; tag = e.1.tag; tree = e.1.tree; notes = map note_in e.1.notes.items }
+
+-- all documents, and the number behind the last one given
+abbrev pub content_in : List (DocId × Entry) → ℕ → Stock
+content_in es last = record { documents = map held_in es; next = last + 1 }
+
+abbrev pub name_in : DocId × Entry → DocId
+name_in e = e.0
+
+abbrev pub uris_in : DocId × Entry → List (List ℕ)
+uris_in e = addresses_in e.0.auid e.1.tree
+
+abbrev pub len_in : DocId × Entry → ℕ
+len_in e = document_len e.1.tree
+
+-- the number that its creation took
+abbrev pub number_in : DocId × Entry → ℕ
+number_in e = e.1.created
+
+-- the entry of a document after the edit of a note, which is kept, and which left so many bytes
+pub record IsRenewed (old : Entry) (number : ℕ) (note : EditNote) (bytes : ℕ) (new : Entry) : Type 0 where
+  pub created : new.created ≡ old.created
+  pub tag : new.tag ≡ number
+  pub tree : new.tree ≡ edited old.tree note.change
+  pub len : new.len ≡ bytes
+  pub notes : map note_in new.notes.items ≡ retained (map note_in old.notes.items ++ note_in note ∷ [])
+  pub capacity : new.notes.capacity ≡ 64
+
+-- ---- who holds an address
+
+module _ {D : Type 0} (own : D → List (List ℕ)) (number : D → ℕ) where
+  -- the number of the first document that has it
+  abbrev pub holder_in : List D → List ℕ → Option ℕ
+  holder_in [] uri = None
+  holder_in (d ∷ ds) uri = if is_member bytes_eq (own d) uri then Some (number d) else holder_in ds uri
+
+abbrev pub holder : List (DocId × Entry) → List ℕ → Option ℕ
+holder es uri = holder_in uris_in number_in es uri
+
+-- the holder is another document than the one with this number, if that is one
+abbrev pub is_others : Option ℕ → Option ℕ → Bool
+is_others own None = false
+is_others None (Some n) = true
+is_others (Some m) (Some n) = not (m == n)
+
+-- an address in a registry
+abbrev pub registered : List (List ℕ × ℕ) → List ℕ → Option ℕ
+registered rs uri = lookup (bytes_eq uri) rs
+
+-- a registry after some addresses left it and others came in under a number
+abbrev pub exchanged : List (List ℕ) → List (List ℕ) → ℕ → Option ℕ → List ℕ → Option ℕ
+exchanged leaves enters number before uri = if is_member bytes_eq enters uri then Some number else if is_member bytes_eq leaves uri then None else before
+
+-- ---- what always holds of a store
+
+pub record IsStoring (es : List (DocId × Entry)) (rs : List (List ℕ × ℕ)) (last total : ℕ) : Type 0 where
+  -- it stands for a state that is kept
+  pub kept : (m : State) × Stands (content_in es last) m × Kept m
+  -- its registry tells of each address which document has it
+  pub addresses : (uri : List ℕ) → registered rs uri ≡ holder es uri
+  -- each creation took a number of its own, which was given
+  pub numbers : AreApart (map number_in es)
+  pub given : AllByRecursion (λ e. number_in e ≤ last) es
+  -- the total is that of its documents' lengths
+  pub sum : total ≡ sum_by len_in es
+  -- each document has room for the notes that may be retained
+  pub rings : AllByRecursion (λ e. e.1.notes.capacity ≡ 64) es
+  -- the length that is kept of each is the one that it has
+  pub lens : AllByRecursion (λ e. e.1.len ≡ len_in e) es

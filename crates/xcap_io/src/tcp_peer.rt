@@ -1,0 +1,131 @@
+// Connections that go out over real sockets. Like those that come in they are the trusted edge: no contract says that what a
+// call of the system gives came over the network, or that what it takes goes there.
+ghost use Rattle.std.specs.Prelude.{◌≡◌, ◌<◌, [], None, false, length, OnOk, OnErr, IsSome};
+ghost use Rattle.std.specs.Io.{ReadsAtMost};
+ghost use Rattle.xcap_io.specs.Causes.{OnlyReads, OnlyWrites, inward_of, no_inward, no_port, no_peer};
+ghost use Rattle.xcap_io.specs.Connections.{OnlyConnects, asked};
+ghost use Rattle.xcap_io.specs.Passing.{ReadGave, WriteTook};
+ghost use Rattle.xcap_io.specs.Sockets.{ReadsStream, WritesStream};
+ghost use Rattle.xcap_io.specs.Streams.{WritesSome};
+
+use crate::line::fault;
+use crate::log::Log;
+use crate::remembered::Remembered;
+use crate::tcp::{read_from, send_at_once, write_to};
+use crate::{Failed, Line, Peer, Sink, Source};
+use std::net::{Net, TcpStream};
+
+/// Connections that go out over TCP. It tells the address of each, what passed over it, and its counts of faults; not what is
+/// left. A want of memory inside a call is a fault like any other.
+#[derive(Drop)]
+pub struct TcpPeer<N: Net + Drop> {
+    net: N,
+    stream: Option<N::Stream>,
+    log: Log,
+    addresses: Remembered,
+    read_faults: u64,
+    write_faults: u64,
+    faults: u64,
+}
+
+impl<N: Net + Drop> TcpPeer<N> {
+    /// A peer with no connection yet.
+    pub fn new(net: N) -> TcpPeer<N>
+        ensures nothing_passed { ⟦<TcpPeer<N> as Line>⟧.state result ≡ record {
+          inward = no_inward;
+          taken = [];
+          read_faults = 0;
+          write_faults = 0;
+          holds = [];
+          aside = [];
+          port = no_port;
+          peer = no_peer;
+        } }
+    {
+        TcpPeer {
+            net,
+            stream: None,
+            log: Log::new(),
+            addresses: Remembered::new(),
+            read_faults: 0,
+            write_faults: 0,
+            faults: 0,
+        }
+    }
+}
+
+impl<N: Net + Drop> Line for TcpPeer<N> {
+    ghost state = { λ p. record {
+      inward = inward_of p.log.history.now;
+      taken = p.log.history.now.taken;
+      read_faults = p.read_faults;
+      write_faults = p.write_faults;
+      holds = [];
+      aside = [];
+      port = no_port;
+      peer = record {
+        to_come = None;
+        begun = record { earlier = p.log.history.earlier; is_present = p.log.history.is_present };
+        addresses = p.addresses.texts;
+        faults = p.faults;
+      };
+    } };
+}
+
+impl<N: Net + Drop> Source for TcpPeer<N> {
+    fn read(&mut self, buf: &mut [u8]) -> Result<usize, Failed>
+        requires { 0 < length buf.old }
+        ensures bound { ReadsAtMost result buf.new }
+        ensures bytes { ReadGave (⟦<TcpPeer<N> as Line>⟧.state self.old).inward
+            (⟦<TcpPeer<N> as Line>⟧.state self.new).inward result buf.new }
+        ensures only_reads { OnlyReads
+            (⟦<TcpPeer<N> as Line>⟧.state self.old) (⟦<TcpPeer<N> as Line>⟧.state self.new) result }
+        ensures from_stream { ReadsStream N.Stream.remaining self.old.stream self.new.stream result buf.new }
+    {
+        read_from(&mut self.stream, &mut self.log, &mut self.read_faults, buf)
+    }
+}
+
+impl<N: Net + Drop> Sink for TcpPeer<N> {
+    fn write(&mut self, piece: &[u8]) -> Result<usize, Failed>
+        requires { 0 < length piece.now }
+        ensures bound { WritesSome result piece.now }
+        ensures bytes { WriteTook (⟦<TcpPeer<N> as Line>⟧.state self.old).taken
+            (⟦<TcpPeer<N> as Line>⟧.state self.new).taken result piece.now }
+        ensures only_writes { OnlyWrites
+            (⟦<TcpPeer<N> as Line>⟧.state self.old) (⟦<TcpPeer<N> as Line>⟧.state self.new) result }
+        ensures to_stream { WritesStream N.Stream.contents self.old.stream self.new.stream result piece.now }
+    {
+        write_to(
+            &mut self.stream,
+            &mut self.log,
+            &mut self.write_faults,
+            piece,
+        )
+    }
+}
+
+impl<N: Net + Drop> Peer for TcpPeer<N> {
+    fn connect(&mut self, address: &str) -> Result<(), Failed>
+        ensures only_connects { OnlyConnects
+            (⟦<TcpPeer<N> as Line>⟧.state self.old) (⟦<TcpPeer<N> as Line>⟧.state self.new) result address.now }
+        ensures begun { OnOk result (IsSome self.new.stream) }
+        ensures ended { OnErr result (self.new.stream ≡ None) }
+        ensures none_present { OnErr result ((⟦<TcpPeer<N> as Line>⟧.state self.new).peer.begun
+            ≡ record { earlier = asked (⟦<TcpPeer<N> as Line>⟧.state self.old); is_present = false }) }
+    {
+        // The present connection is closed first.
+        self.stream = None;
+        self.log.end();
+        match TcpStream::connect(&self.net, address) {
+            Ok(stream) => {
+                send_at_once(&stream);
+                self.stream = Some(stream);
+                self.addresses.add(address.as_bytes());
+                self.log.begin();
+                Ok(())
+            }
+            Err(_) => Err(fault(&mut self.faults)),
+        }
+    }
+}

@@ -1,6 +1,0 @@
-use Rattle.std.proofs.Common.{rules}
-use Rattle.std.proofs.lemmas.Str.{chars_from_encodes}
-use Rattle.xcap_uri.proofs.query.decoded.Goals as goal
-
-pub returns : goal.returns
-returns c = record { characters_of_the_text = search (rules, chars_from_encodes) }

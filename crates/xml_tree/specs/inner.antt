@@ -1,0 +1,7 @@
+-- What private functions and proofs speak of. No clause of a public call needs it.
+pub mod Around
+pub mod Codes
+pub mod Falls
+pub mod Gathering
+pub mod Lending
+pub mod Spelled
