@@ -1,5 +1,5 @@
 -- Plans of requests on nodes: what is answered by them, and that their changes may be made.
-use Rattle.std.proofs.Common.{◌≡◌, inl, inr, ℕ, Bool, List, Option, Some, Result, Ok, Err, IfOk, IsTrue, refl, sym, subst}
+use Rattle.std.proofs.Common.{◌≡◌, ℕ, Bool, List, Option, Some, Result, Ok, Err, IfOk, IsTrue, refl, sym, subst}
 use Rattle.xml_tree.specs.Characters.{all_chars}
 use Rattle.xml_tree.specs.Tree.{Tree}
 use Rattle.doc_names.specs.Usages.{usage_of}
@@ -11,11 +11,9 @@ use Rattle.node_select.specs.declared.selector.Selector.{Selector}
 use Rattle.edit_ops.specs.declared.change.Change.{Change}
 use Rattle.plan_words.specs.Attributes.{IsAttrPlan, IsWritable}
 use Rattle.plan_words.specs.Deletions.{IsDeletePlan}
-use Rattle.plan_words.specs.Plans.{OrMemory}
 use Rattle.plan_words.specs.Puts.{HasRoomAt, IsProperAt, IsPutPlan}
 use Rattle.plan_words.specs.Spots.{EndsInAttribute, IsSpotOf}
 use Rattle.plan_words.specs.declared.refusal.EditRefusal.{EditRefusal}
-use Rattle.plan_words.specs.declared.refusal.EditRefusal.TheVariants.{NoMemory}
 use Rattle.plan_words.specs.declared.spot.Spot.{Spot}
 use Rattle.plan_words.proofs.StaysProper.{delete_leaves, put_leaves, written_leaves}
 use Rattle.plan_words.proofs.Twice.{deleted_is, put_is, written_change, written_is}
@@ -58,19 +56,14 @@ module _ (usage : Usage) (t : Tree) (closes : Bool) (Is : Content → DocId → 
 abbrev pub Planned : (Result Change EditRefusal → Type 0) → Bool → Bool → Content → DocId → Answer → Type 0
 Planned IsPlan exists closes c id a = (r : Result Change EditRefusal) × IsPlan r × (a ≡ plan_answer c id closes (put_reply exists closes) r)
 
-same_error : (why : EditRefusal) → ◌≡◌ {A = Result Change EditRefusal} (Err why) (Err NoMemory) → why ≡ NoMemory
-same_error why is = cc
-
 module _ (usage : Usage) (t : Tree) (closes exists : Bool) (IsPlan : Result Change EditRefusal → Type 0) (may : (change : Change) → IsPlan (Ok change) → MayBeMade usage t change) where
-  one_so : (r : Result Change EditRefusal) (plan : Plan) → OrMemory IsPlan r → IsPlanOf r exists closes plan → Plans usage t closes (Planned IsPlan exists closes) plan
-  one_so (Ok change) plan (inl e) is id = cc
-  one_so (Ok change) plan (inr p) is id =
+  one_so : (r : Result Change EditRefusal) (plan : Plan) → IsPlan r → IsPlanOf r exists closes plan → Plans usage t closes (Planned IsPlan exists closes) plan
+  one_so (Ok change) plan p is id =
       subst (λ (x : Plan). IsPlanFor usage t id closes (λ c a. Planned IsPlan exists closes c id a) x) (sym is) (record { answers = λ c. (Ok change, p, refl); may_be_made = may change p })
-  one_so (Err why) plan (inl e) is id = absurd (is.1 (same_error why e))
-  one_so (Err why) plan (inr p) is id =
-      subst (λ (x : Plan). IsPlanFor usage t id closes (λ c a. Planned IsPlan exists closes c id a) x) (sym is.0) (record { answers = λ c. (Err why, p, refl); may_be_made = tt })
+  one_so (Err why) plan p is id =
+      subst (λ (x : Plan). IsPlanFor usage t id closes (λ c a. Planned IsPlan exists closes c id a) x) (sym is) (record { answers = λ c. (Err why, p, refl); may_be_made = tt })
 
-  pub planned_so : {E : Type 0} (r : Result Change EditRefusal) (plan : Result Plan E) → OrMemory IsPlan r → IfOk plan (IsPlanOf r exists closes) → IfOk plan (Plans usage t closes (Planned IsPlan exists closes))
+  pub planned_so : {E : Type 0} (r : Result Change EditRefusal) (plan : Result Plan E) → IsPlan r → IfOk plan (IsPlanOf r exists closes) → IfOk plan (Plans usage t closes (Planned IsPlan exists closes))
   planned_so r (Ok plan) p is = one_so r plan p is
   planned_so r (Err e) p is = tt
 

@@ -12,9 +12,9 @@ use Rattle.node_texts.specs.Nodes.{found_text}
 use Rattle.edit_ops.specs.declared.change.Change.{Change}
 use Rattle.edit_ops.specs.declared.change.Change.TheVariants.{Remove, DropAttr}
 use Rattle.plan_words.specs.Deletions.{FindsNothingAfter, IsDeletePlan, IsPlanFor, IsRemoval}
-use Rattle.plan_words.specs.Plans.{IsTested, OrMemory, by_fault}
+use Rattle.plan_words.specs.Plans.{IsTested, by_fault}
 use Rattle.plan_words.specs.declared.refusal.EditRefusal.{EditRefusal}
-use Rattle.plan_words.specs.declared.refusal.EditRefusal.TheVariants.{NotFound, CannotDelete, Schema, NoMemory}
+use Rattle.plan_words.specs.declared.refusal.EditRefusal.TheVariants.{NotFound, CannotDelete, Schema}
 use Rattle.http_wire.specs.declared.request.Request.{Request}
 use Rattle.machine_words.specs.Fragments.{is_there}
 use Rattle.document_writes.specs.inner.Planning.{IsCut, IsPlanOf, MayBeMade}
@@ -54,31 +54,29 @@ no_error change why is = cc
 -- by the law on what is found, and where a planned change may be made
 module _ (texts : (root : Tree) (selector : Selector) → IsSome (found_text root selector) ↔ Found root selector)
     (u : Usage) (t : Tree) (selector : Selector) (request : Request) (may : (change : Change) → IsDeletePlan u t selector (Ok change) → MayBeMade u t change) where
-  absent : OrMemory (IsDeletePlan u t selector) (Err NotFound) → is_there t selector ≡ false
-  absent (inl e) = let z : ◌≡◌ {A = Result Change EditRefusal} (Err NotFound) (Err NoMemory) = e in cc
-  absent (inr (inl h)) = by (is_there t selector) refl
+  absent : IsDeletePlan u t selector (Err NotFound) → is_there t selector ≡ false
+  absent (inl h) = by (is_there t selector) refl
     where
       by : (b : Bool) → is_there t selector ≡ b → is_there t selector ≡ false
       by true is = absurd (h.1 ((texts t selector).0 is))
       by false is = is
-  absent (inr (inr h)) = absurd (found_never u t selector h.0.path h.0.element selector.end h.1)
+  absent (inr h) = absurd (found_never u t selector h.0.path h.0.element selector.end h.1)
 
-  present : (r : Result Change EditRefusal) → (r ≡ Err NotFound → ⊥) → (r ≡ Err NoMemory → ⊥) → OrMemory (IsDeletePlan u t selector) r → is_there t selector ≡ true
-  present r found had (inl e) = absurd (had e)
-  present r found had (inr (inl h)) = absurd (found h.0)
-  present r found had (inr (inr h)) = (texts t selector).1 h.0
+  present : (r : Result Change EditRefusal) → (r ≡ Err NotFound → ⊥) → IsDeletePlan u t selector r → is_there t selector ≡ true
+  present r found (inl h) = absurd (found h.0)
+  present r found (inr h) = (texts t selector).1 h.0
 
-  pub cut : (change : Change) → OrMemory (IsDeletePlan u t selector) (Ok change) → IsCut u t selector request (Some (Makes change true))
+  pub cut : (change : Change) → IsDeletePlan u t selector (Ok change) → IsCut u t selector request (Some (Makes change true))
   cut change words = (
-    present (Ok change) (no_error change NotFound) (no_error change NoMemory) words,
+    present (Ok change) (no_error change NotFound) words,
     cuts u selector t request {E = Unit {0}} may (Ok change) (Ok (Makes change true)) words refl,
   )
 
-  pub uncut : {E : Type 0} (why : EditRefusal) → OrMemory (IsDeletePlan u t selector) (Err why) → (r : Result (Option Plan) E)
+  pub uncut : {E : Type 0} (why : EditRefusal) → IsDeletePlan u t selector (Err why) → (r : Result (Option Plan) E)
       → IfOk r (λ plan. MatchOption plan (why ≡ NotFound) (λ p. (why ≢ NotFound) × IsPlanOf (Err why) true request.closes p)) → IfOk r (λ plan. IsCut u t selector request plan)
   uncut why words (Err e) told = tt
-  uncut why words (Ok None) told = absent (subst (λ (w : EditRefusal). OrMemory (IsDeletePlan u t selector) (Err w)) told words)
+  uncut why words (Ok None) told = absent (subst (λ (w : EditRefusal). IsDeletePlan u t selector (Err w)) told words)
   uncut why words (Ok (Some plan)) told = (
-    present (Err why) (λ e. told.0 (error_is why NotFound e)) (λ e. told.1.1 (error_is why NoMemory e)) words,
+    present (Err why) (λ e. told.0 (error_is why NotFound e)) words,
     cuts u selector t request {E = Unit {0}} may (Err why) (Ok plan) words told.1,
   )

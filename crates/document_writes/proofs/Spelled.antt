@@ -16,7 +16,6 @@ use Rattle.node_texts.specs.Nodes.{node_media}
 use Rattle.edit_ops.specs.declared.change.Change.{Change}
 use Rattle.plan_words.specs.Attributes.{IsAttrPlan}
 use Rattle.plan_words.specs.Deletions.{IsDeletePlan}
-use Rattle.plan_words.specs.Plans.{OrMemory}
 use Rattle.plan_words.specs.Puts.{IsPutPlan}
 use Rattle.plan_words.specs.declared.refusal.EditRefusal.{EditRefusal}
 use Rattle.plan_words.specs.declared.spot.Spot.{Spot}
@@ -38,7 +37,7 @@ module _ (usage : Usage) (selector : Selector) (t : Tree) (request : Request) wh
 
   -- a planned change, with the reply to a node that is there before, or isn't
   planned_put : {E : Type 0} (IsPlan : Result Change EditRefusal → Type 0) → ((change : Change) → IsPlan (Ok change) → MayBeMade usage t change) → (exists : Bool) → exists ≡ is_there t selector
-      → (r : Result Change EditRefusal) (plan : Result Plan E) → OrMemory IsPlan r → IfOk plan (IsPlanOf r exists closes) → IfOk plan (Plans usage t closes (Planned IsPlan (is_there t selector) closes))
+      → (r : Result Change EditRefusal) (plan : Result Plan E) → IsPlan r → IfOk plan (IsPlanOf r exists closes) → IfOk plan (Plans usage t closes (Planned IsPlan (is_there t selector) closes))
   planned_put IsPlan may exists known r plan words told =
       planned_so usage t closes (is_there t selector) IsPlan may r plan words (subst (λ (b : Bool). IfOk plan (IsPlanOf r b closes)) known told)
 
@@ -52,7 +51,7 @@ module _ (usage : Usage) (selector : Selector) (t : Tree) (request : Request) wh
 
   pub element_puts : {E : Type 0} (spot : Spot) (e : Tree) (bytes : List ℕ) → bytes ≡ request.body → TextAnswer (levels_for spot) (scope_for t spot) bytes (Ok e)
       → ((change : Change) → IsPutPlan usage t selector.steps spot e (Ok change) → MayBeMade usage t change) → (exists : Bool) → exists ≡ is_there t selector
-      → (r : Result Change EditRefusal) (plan : Result Plan E) → OrMemory (IsPutPlan usage t selector.steps spot e) r → IfOk plan (IsPlanOf r exists closes) → IfOk plan (Plans usage t closes (PutsOne spot))
+      → (r : Result Change EditRefusal) (plan : Result Plan E) → IsPutPlan usage t selector.steps spot e r → IfOk plan (IsPlanOf r exists closes) → IfOk plan (Plans usage t closes (PutsOne spot))
   element_puts spot e bytes same spelled may exists known r plan words told =
       plans_so usage t closes (Planned (IsPutPlan usage t selector.steps spot e) (is_there t selector) closes) (PutsOne spot) (λ c id a is. (Ok e, spelled_element spot bytes (Ok e) same spelled, is)) plan
       (planned_put (IsPutPlan usage t selector.steps spot e) may exists known r plan words told)
@@ -73,7 +72,7 @@ module _ (usage : Usage) (selector : Selector) (t : Tree) (request : Request) wh
 
   pub value_puts : {E : Type 0} (p value bytes : List ℕ) → bytes ≡ request.body → BodyAnswer bytes (Ok value)
       → ((change : Change) → IsAttrPlan usage t selector.steps selector.end p value (Ok change) → MayBeMade usage t change) → (exists : Bool) → exists ≡ is_there t selector
-      → (r : Result Change EditRefusal) (plan : Result Plan E) → OrMemory (IsAttrPlan usage t selector.steps selector.end p value) r → IfOk plan (IsPlanOf r exists closes) → IfOk plan (Plans usage t closes (PutsIt p))
+      → (r : Result Change EditRefusal) (plan : Result Plan E) → IsAttrPlan usage t selector.steps selector.end p value r → IfOk plan (IsPlanOf r exists closes) → IfOk plan (Plans usage t closes (PutsIt p))
   value_puts p value bytes same spelled may exists known r plan words told =
       plans_so usage t closes (Planned (IsAttrPlan usage t selector.steps selector.end p value) (is_there t selector) closes) (PutsIt p) (λ c id a is. (Ok value, spelled_value bytes (Ok value) same spelled, is)) plan
       (planned_put (IsAttrPlan usage t selector.steps selector.end p value) may exists known r plan words told)
@@ -111,7 +110,7 @@ module _ (usage : Usage) (selector : Selector) (t : Tree) (request : Request) wh
 
   -- ---- DELETE
 
-  pub cuts : {E : Type 0} → ((change : Change) → IsDeletePlan usage t selector (Ok change) → MayBeMade usage t change) → (r : Result Change EditRefusal) (plan : Result Plan E) → OrMemory (IsDeletePlan usage t selector) r → IfOk plan (IsPlanOf r true closes)
+  pub cuts : {E : Type 0} → ((change : Change) → IsDeletePlan usage t selector (Ok change) → MayBeMade usage t change) → (r : Result Change EditRefusal) (plan : Result Plan E) → IsDeletePlan usage t selector r → IfOk plan (IsPlanOf r true closes)
       → IfOk plan (Plans usage t closes (λ c id a. CutsNode c id usage selector t request a))
   cuts may r plan words told =
       plans_so usage t closes (Planned (IsDeletePlan usage t selector) true closes) (λ c id a. CutsNode c id usage selector t request a) (λ c id a is. is) plan

@@ -127,7 +127,7 @@ fn put_element(
 {
     match read_element(alloc, tree, spot, request.body.as_slice()) {
         Ok(element) => {
-            let planned = plan_put(alloc, usage, tree, selector, spot, element);
+            let planned = plan_put(alloc, usage, tree, selector, spot, element)?;
             plan_of(alloc, planned, exists, request.closes)
         }
         Err(ReadError::Fault(fault)) => refused_element(alloc, fault, request.closes),
@@ -176,7 +176,7 @@ fn put_value(
 {
     match read_att_value(alloc, request.body.as_slice()) {
         Ok(value) => {
-            let planned = plan_attr(alloc, usage, tree, selector, path, value);
+            let planned = plan_attr(alloc, usage, tree, selector, path, value)?;
             plan_of(alloc, planned, exists, request.closes)
         }
         Err(ReadError::Fault(fault)) => refused_value(alloc, fault, request.closes),

@@ -189,7 +189,7 @@ fn plan_cut(
     ensures plans_the_removal { IfOk result (λ plan. IsCut usage tree.now selector.now request.now plan) }
 {
     texts_are_those_of_found_nodes();
-    match plan_delete(alloc, usage, tree, selector) {
+    match plan_delete(alloc, usage, tree, selector)? {
         Ok(change) => Ok(Some(Plan::Makes {
             change,
             exists: true,

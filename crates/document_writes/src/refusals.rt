@@ -4,7 +4,6 @@ ghost use Rattle.store_core.specs.declared.refusal.StoreRefusal.TheVariants as r
 ghost use Rattle.machine_words.specs.Answers.{conflict};
 ghost use Rattle.machine_words.specs.Fragments.{plan_refused};
 ghost use Rattle.machine_words.specs.Writing.{clash_field, refused};
-ghost use Rattle.plan_words.specs.declared.refusal.EditRefusal.TheVariants as unplanned;
 ghost use Rattle.conflict_docs.specs.declared.conflicts.ErrorBody.TheVariants as conflicts;
 
 use crate::NoMemory;
@@ -40,7 +39,7 @@ pub(crate) fn refused(alloc: Global, refusal: StoreRefusal, closes: bool) -> Res
 
 /// The reply to a change of a node for which there is no plan.
 pub(crate) fn unplanned(alloc: Global, why: EditRefusal, closes: bool) -> Result<Reply, NoMemory>
-    ensures tells_the_refusal { IfOk result (λ reply. (reply ≡ plan_refused why closes) × (why ≢ unplanned.NoMemory)) }
+    ensures tells_the_refusal { IfOk result (λ reply. reply ≡ plan_refused why closes) }
 {
     match why {
         EditRefusal::NotFound => Ok(Reply::fixed(404, closes)),
@@ -49,6 +48,5 @@ pub(crate) fn unplanned(alloc: Global, why: EditRefusal, closes: bool) -> Result
         EditRefusal::Schema => conflict(alloc, &ErrorBody::Schema, closes),
         EditRefusal::Constraint => conflict(alloc, &ErrorBody::Constraint, closes),
         EditRefusal::Unique(clash) => taken(alloc, clash, closes),
-        EditRefusal::NoMemory => Err(NoMemory),
     }
 }

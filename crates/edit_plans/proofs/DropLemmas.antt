@@ -1,5 +1,5 @@
 -- The dropping of an attribute, by what is answered of the tag without it.
-use Rattle.std.proofs.Common.{◌≡◌, inl, inr, ℕ, List, get_or, Option, Some, None, find, option_map, Result, sym, ap, ◌∙◌, subst}
+use Rattle.std.proofs.Common.{◌≡◌, ℕ, List, get_or, Option, Some, None, find, option_map, Result, sym, ap, ◌∙◌, subst}
 use Rattle.std.specs.List.{position}
 use Rattle.std.specs.Option.{option_copied}
 use Rattle.std.proofs.lemmas.Option.{same_Some}
@@ -19,7 +19,7 @@ use Rattle.edit_ops.specs.declared.change.Change.TheVariants.{DropAttr}
 use Rattle.plan_words.specs.declared.refusal.EditRefusal.{EditRefusal}
 use Rattle.plan_words.specs.declared.refusal.EditRefusal.TheVariants.{CannotDelete}
 use Rattle.plan_words.specs.Deletions.{FindsNothingAfter, IsDeletePlan}
-use Rattle.plan_words.specs.Plans.{IsTested, OrMemory}
+use Rattle.plan_words.specs.Plans.{IsTested}
 use Rattle.plan_words.specs.Tags.{with_attrs}
 use Rattle.edit_plans.specs.declared.retagging.Sought.{Sought}
 use Rattle.edit_plans.specs.inner.Asking.{unfound}
@@ -54,13 +54,12 @@ pub dropped_by : (u : Usage) (t e : Tree) (selector : Selector) (p : List ℕ) (
     → selector.end ≡ ends.Attribute uri local → SelectsPath selector.steps t p → at p t ≡ Some e
     → find (is_attr (scope_at p t) uri local) e.attrs ≡ Some attr → name ≡ attr.name
     → ats ≡ without_attr name e.attrs → option_copied sought.value ≡ None
-    → OrMemory (IsRetaggedAt u t selector p e ats sought) found → result ≡ made (DropAttr p name) found → OrMemory (IsDeletePlan u t selector) result
-dropped_by u t e selector p uri local attr name ats sought found result ends_so sel there that named without wanted (inl none) is = inl (is ∙ ap (made (DropAttr p name)) none)
-dropped_by u t e selector p uri local attr name ats sought found result ends_so sel there that named without wanted (inr h) is =
+    → IsRetaggedAt u t selector p e ats sought found → result ≡ made (DropAttr p name) found → IsDeletePlan u t selector result
+dropped_by u t e selector p uri local attr name ats sought found result ends_so sel there that named without wanted h is =
     let after : List Attr → Tree = λ l. put_over p (with_attrs l e) t in
     let as_none = subst (λ (w : Option (List ℕ)). IsTestedAs (unfound w) (AsSought selector sought.uri.now sought.local.now (after ats) p w) u (after ats) found) wanted h in
     let tested = subst (λ (l : List Attr). IsTestedAs CannotDelete (Found (after l) selector → ⊥) u (after l) found) without as_none in
     let of_name : Name → Type 0 = λ n. IsTested CannotDelete (FindsNothingAfter selector t (DropAttr p n)) u t (DropAttr p n) (made (DropAttr p n) found) in
     let plan = drop_plan u t e selector p uri local attr (made (DropAttr p attr.name) found) ends_so sel there that
     (subst of_name named (dropping_is u t e selector p name found there tested)) in
-    inr (subst (λ (r : Result Change EditRefusal). IsDeletePlan u t selector r) (sym (is ∙ ap (λ (n : Name). made (DropAttr p n) found) named)) plan)
+    subst (λ (r : Result Change EditRefusal). IsDeletePlan u t selector r) (sym (is ∙ ap (λ (n : Name). made (DropAttr p n) found) named)) plan

@@ -24,7 +24,7 @@ use Rattle.edit_ops.specs.declared.change.Change.{Change}
 use Rattle.plan_words.specs.declared.refusal.EditRefusal.{EditRefusal}
 use Rattle.plan_words.specs.declared.refusal.EditRefusal.TheVariants as refusals
 use Rattle.plan_words.specs.Beside.{ClashesBeside}
-use Rattle.plan_words.specs.Plans.{IsTested, OrMemory, by_fault}
+use Rattle.plan_words.specs.Plans.{IsTested, by_fault}
 use Rattle.edit_plans.specs.declared.gaps.NoGap.{NoGap}
 use Rattle.edit_plans.specs.declared.gaps.NoGap.TheVariants.{Unlawful, Invalid}
 use Rattle.edit_plans.specs.inner.Asking.{FormedIn, IsJudgedIn, IsPlacedIn}
@@ -78,17 +78,16 @@ module _ (row : Option Kind) (c : Scope) (step : Step) (parent new : Tree) (q : 
   abbrev pub Chosen : Result ℕ NoGap → Type 0
   Chosen r = PlanIs Unlawful Invalid (Lawful (is_named c step) (is_tested c step) step.position (kids_of parent) new) V (length (kids_of parent) + 1) r
 
-  pub placed_ok : (gap : ℕ) (result : Result ℕ EditRefusal) → Chosen (Ok gap) → OrMemory (IsJudgedIn (FormedIn row c new) row c (kids_of parent) new q gap) result → OrMemory (IsPlacedIn row c step parent new q) result
-  placed_ok gap result chosen (inl none) = inl none
-  placed_ok gap result chosen (inr judged) = inr (record { gap = Ok gap; is_chosen = chosen; then = judged })
+  pub placed_ok : (gap : ℕ) (result : Result ℕ EditRefusal) → Chosen (Ok gap) → IsJudgedIn (FormedIn row c new) row c (kids_of parent) new q gap result → IsPlacedIn row c step parent new q result
+  placed_ok gap result chosen judged = record { gap = Ok gap; is_chosen = chosen; then = judged }
 
-  pub placed_unlawful : Chosen (Err Unlawful) → OrMemory (IsPlacedIn row c step parent new q) (Err refusals.CannotInsert)
-  placed_unlawful (inl h) = inr (record { gap = Err refusals.CannotInsert; is_chosen = inl (refl, h.1); then = refl })
+  pub placed_unlawful : Chosen (Err Unlawful) → IsPlacedIn row c step parent new q (Err refusals.CannotInsert)
+  placed_unlawful (inl h) = record { gap = Err refusals.CannotInsert; is_chosen = inl (refl, h.1); then = refl }
   placed_unlawful (inr h) = absurd (unlawful_is_not h.0)
 
-  pub placed_invalid : Chosen (Err Invalid) → OrMemory (IsPlacedIn row c step parent new q) (Err refusals.Schema)
+  pub placed_invalid : Chosen (Err Invalid) → IsPlacedIn row c step parent new q (Err refusals.Schema)
   placed_invalid (inl h) = absurd (invalid_is_not h.0)
-  placed_invalid (inr h) = inr (record { gap = Err refusals.Schema; is_chosen = inr (refl, h.1); then = refl })
+  placed_invalid (inr h) = record { gap = Err refusals.Schema; is_chosen = inr (refl, h.1); then = refl }
 
 -- ---- of the new document
 

@@ -26,7 +26,7 @@ use Rattle.plan_words.specs.declared.refusal.EditRefusal.TheVariants.{CannotInse
 use Rattle.plan_words.specs.Deletions.{FindsNothingAfter, IsDeletePlan, IsPlanFor, IsRemoval}
 use Rattle.usage_docs.specs.Kinds.{kind_at}
 use Rattle.plan_words.specs.Lawful.{LawfulOver}
-use Rattle.plan_words.specs.Plans.{IsTested, OrMemory}
+use Rattle.plan_words.specs.Plans.{IsTested}
 use Rattle.plan_words.proofs.ClashesAt.{unique_there}
 use Rattle.plan_words.proofs.Exchanged.{first_over, foreign_over, formed_over}
 use Rattle.plan_words.proofs.Removed.{formed_without, unique_without, still_selected}
@@ -215,24 +215,22 @@ pub may_select : (u : Usage) (t : Tree) (all before : List Step) (s : Step) (q :
 may_select u t all before s q j p unique parent there =
     (none_clash u t parent q unique there, subst (λ (x : Tree). SelectsChild (scope_at q t) s (kids_of x) j) (same_Some p.parent parent (sym p.there ∙ there)) p.selects)
 
--- ---- by what is answered at the parent, or want of memory
+-- ---- by what is answered at the parent
 
 pub over_by : (u : Usage) (t new : Tree) (all before : List Step) (s : Step) (q : List ℕ) (j : ℕ) (p : HasParent t all before s q j) → Judged u t None → SelectsPath all t (q ++ j ∷ []) → (found : Result ℕ EditRefusal) (result : Result Change EditRefusal)
-    → OrMemory (λ r. (parent : Tree) → at q t ≡ Some parent → IsExchangedIn (kind_at u t q) (scope_at q t) s parent j new q r) found → result ≡ made (Replace (q ++ j ∷ []) new) found
-    → OrMemory (IsTested CannotInsert (LawfulOver all t new (q ++ j ∷ [])) u t (Replace (q ++ j ∷ []) new)) result
-over_by u t new all before s q j p faultless sel found result (inl none) is = inl (is ∙ ap (made (Replace (q ++ j ∷ []) new)) none)
-over_by u t new all before s q j p faultless sel found result (inr h) is =
+    → ((parent : Tree) → at q t ≡ Some parent → IsExchangedIn (kind_at u t q) (scope_at q t) s parent j new q found) → result ≡ made (Replace (q ++ j ∷ []) new) found
+    → IsTested CannotInsert (LawfulOver all t new (q ++ j ∷ [])) u t (Replace (q ++ j ∷ []) new) result
+over_by u t new all before s q j p faultless sel found result h is =
     let change = Replace (q ++ j ∷ []) new in
     let lawful = LawfulOver all t new (q ++ j ∷ []) in
-    inr (subst (λ (r : Result Change EditRefusal). IsTested CannotInsert lawful u t change r) (sym is)
-    (made_tested CannotInsert lawful u t change found (exchange_is u t new all before s q j p faultless found (h p.parent p.there) sel)))
+    subst (λ (r : Result Change EditRefusal). IsTested CannotInsert lawful u t change r) (sym is)
+    (made_tested CannotInsert lawful u t change found (exchange_is u t new all before s q j p faultless found (h p.parent p.there) sel))
 
 pub removal_by : (u : Usage) (t : Tree) (selector : Selector) (before : List Step) (s : Step) (q : List ℕ) (j : ℕ) (p : HasParent t selector.steps before s q j) → selector.end ≡ ends.Element → Judged u t None → SelectsPath selector.steps t (q ++ j ∷ []) → (found : Result ℕ EditRefusal) (result : Result Change EditRefusal)
-    → OrMemory (λ r. (parent : Tree) → at q t ≡ Some parent → IsRemovedIn (kind_at u t q) (scope_at q t) s parent j r) found → result ≡ made (Remove (q ++ j ∷ [])) found
-    → OrMemory (IsDeletePlan u t selector) result
-removal_by u t selector before s q j p ends_so faultless sel found result (inl none) is = inl (is ∙ ap (made (Remove (q ++ j ∷ []))) none)
-removal_by u t selector before s q j p ends_so faultless sel found result (inr h) is =
+    → ((parent : Tree) → at q t ≡ Some parent → IsRemovedIn (kind_at u t q) (scope_at q t) s parent j found) → result ≡ made (Remove (q ++ j ∷ [])) found
+    → IsDeletePlan u t selector result
+removal_by u t selector before s q j p ends_so faultless sel found result h is =
     let change = Remove (q ++ j ∷ []) in
     let nothing = FindsNothingAfter selector t change in
     let tested = made_tested CannotDelete nothing u t change found (removal_is u t selector before s q j p ends_so faultless found (h p.parent p.there)) in
-    inr (subst (λ (r : Result Change EditRefusal). IsDeletePlan u t selector r) (sym is) (removal_plan u t selector q j (made change found) ends_so sel tested))
+    subst (λ (r : Result Change EditRefusal). IsDeletePlan u t selector r) (sym is) (removal_plan u t selector q j (made change found) ends_so sel tested)

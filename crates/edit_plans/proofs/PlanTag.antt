@@ -26,7 +26,7 @@ use Rattle.plan_words.specs.Attributes.{FindsValue, IsValuePlan, IsWriting, writ
 use Rattle.plan_words.specs.Deletions.{FindsNothingAfter, IsDeletePlan, IsPlanFor}
 use Rattle.usage_docs.specs.Kinds.{kind_at}
 use Rattle.plan_words.specs.Lawful.{LawfulOver}
-use Rattle.plan_words.specs.Plans.{IsTested, OrMemory}
+use Rattle.plan_words.specs.Plans.{IsTested}
 use Rattle.plan_words.specs.Tags.{AttrsFormed, tag_with, value_in, with_attrs}
 use Rattle.plan_words.proofs.Places.{as_exchange}
 use Rattle.plan_words.proofs.Removed.{no_shorter}
@@ -84,15 +84,14 @@ module _ (u : Usage) (t e : Tree) (selector : Selector) (before : List Step) (s 
             (λ kind is found. (first_retag u t p.parent e q j ats p.there is_kid at_p faultless.2 kind is found).0) (foreign_retag u t p.parent e q j ats p.there is_kid at_p faultless.2) h.2,
       )
 
--- the same by what is answered at the parent, or want of memory
+-- the same by what is answered at the parent
 pub retag_by : (u : Usage) (t e : Tree) (selector : Selector) (before : List Step) (s : Step) (q : List ℕ) (j : ℕ) (p : HasParent t selector.steps before s q j) (ats : List Attr) (sought : Sought) → selector.end ≡ ends.Attribute sought.uri.now sought.local.now → Judged u t None → at (q ++ j ∷ []) t ≡ Some e → SelectsPath selector.steps t (q ++ j ∷ [])
-    → (found : Result ℕ EditRefusal) → OrMemory (λ r. (parent : Tree) → at q t ≡ Some parent → IsRetaggedIn (kind_at u t q) (scope_at q t) s parent j (tag_with ats e) sought q r) found → OrMemory (IsRetaggedAt u t selector (q ++ j ∷ []) e ats sought) found
-retag_by u t e selector before s q j p ats sought ends_so faultless at_p sel found (inl none) = inl none
-retag_by u t e selector before s q j p ats sought ends_so faultless at_p sel found (inr h) =
+    → (found : Result ℕ EditRefusal) → ((parent : Tree) → at q t ≡ Some parent → IsRetaggedIn (kind_at u t q) (scope_at q t) s parent j (tag_with ats e) sought q found) → IsRetaggedAt u t selector (q ++ j ∷ []) e ats sought found
+retag_by u t e selector before s q j p ats sought ends_so faultless at_p sel found h =
     let kid = p.selects.this.kid in
     let same : kid ≡ e = same_Some kid e (sym (child_at t p.parent kid q j p.there p.selects.this.there) ∙ at_p) in
     let is_kid = p.selects.this.there ∙ ap (λ (x : Tree). Some x) same in
-    inr (retag_is u t e selector before s q j p at_p ats sought ends_so faultless is_kid (subst (λ (l : List Step). SelectsPath l t (q ++ j ∷ [])) p.are sel) found (h p.parent p.there))
+    retag_is u t e selector before s q j p at_p ats sought ends_so faultless is_kid (subst (λ (l : List Step). SelectsPath l t (q ++ j ∷ [])) p.are sel) found (h p.parent p.there)
 
 -- the new tag is as low as an element with no child
 pub tag_room : (t e tag : Tree) (q : List ℕ) (j : ℕ) (ats : List Attr) → height t ≤ 64 → at (q ++ j ∷ []) t ≡ Some e → tag ≡ tag_with ats e → HasRoom q tag
@@ -116,11 +115,10 @@ only_the_root t new all before s are h p h' = by p (subst (λ (l : List Step). S
     by (n ∷ p) x = absurd x.1.2
 
 -- another root, by what is answered of it
-pub root_over : (u : Usage) (t new : Tree) (all : List Step) (found : Result ℕ EditRefusal) (result : Result Change EditRefusal) → OrMemory (IsTestedAs CannotInsert (SelectsPath all new []) u new) found → result ≡ made (Replace [] new) found
-    → OrMemory (IsTested CannotInsert (LawfulOver all t new []) u t (Replace [] new)) result
-root_over u t new all found result (inl none) is = inl (is ∙ ap (made (Replace [] new)) none)
-root_over u t new all found result (inr h) is =
-    inr (subst (λ (r : Result Change EditRefusal). IsTested CannotInsert (LawfulOver all t new []) u t (Replace [] new) r) (sym is) (made_tested CannotInsert (LawfulOver all t new []) u t (Replace [] new) found h))
+pub root_over : (u : Usage) (t new : Tree) (all : List Step) (found : Result ℕ EditRefusal) (result : Result Change EditRefusal) → IsTestedAs CannotInsert (SelectsPath all new []) u new found → result ≡ made (Replace [] new) found
+    → IsTested CannotInsert (LawfulOver all t new []) u t (Replace [] new) result
+root_over u t new all found result h is =
+    subst (λ (r : Result Change EditRefusal). IsTested CannotInsert (LawfulOver all t new []) u t (Replace [] new) r) (sym is) (made_tested CannotInsert (LawfulOver all t new []) u t (Replace [] new) found h)
 
 pub root_retag_is : (u : Usage) (t : Tree) (selector : Selector) (s : Step) (ats : List Attr) (sought : Sought) (r : Result ℕ EditRefusal) → selector.steps ≡ s ∷ [] → SelectsPath selector.steps t [] → selector.end ≡ ends.Attribute sought.uri.now sought.local.now → Judged u t None
     → IsRootRetagged u s (tag_with ats t) sought r → IsRetaggedAt u t selector [] t ats sought r
@@ -158,7 +156,7 @@ writing_is u t e selector p uri local value name found there h =
     made_tested CannotInsert (FindsValue selector.steps uri local (set_at p name value t) p value) u t (SetAttr p name value) found
     (subst (λ (x : Tree). IsTestedAs CannotInsert (FindsValue selector.steps uri local x p value) u x found) (sym same) h)
 
--- the same by what is answered of the new tag, or want of memory
+-- the same by what is answered of the new tag
 as_value : (u : Usage) (after : Tree) (selector : Selector) (p : List ℕ) (uri uri' local local' value : List ℕ) (wanted : Option (List ℕ)) (found : Result ℕ EditRefusal) → uri' ≡ uri → local' ≡ local → wanted ≡ Some value
     → IsTestedAs (unfound wanted) (AsSought selector uri' local' after p wanted) u after found → IsTestedAs CannotInsert (FindsValue selector.steps uri local after p value) u after found
 as_value u after selector p uri uri' local local' value wanted found same_uri same_local is h =
@@ -169,19 +167,18 @@ as_value u after selector p uri uri' local local' value wanted found same_uri sa
 module _ (u : Usage) (t e : Tree) (selector : Selector) (p : List ℕ) (uri local value : List ℕ) (there : at p t ≡ Some e) where
   pub value_plan : (name : Name) (ats : List Attr) (sought : Sought) (found : Result ℕ EditRefusal) (result : Result Change EditRefusal) → written_name (scope_at p t) uri local e.attrs ≡ Some name → ats ≡ with_attr name value e.attrs
       → sought.uri.now ≡ uri → sought.local.now ≡ local → option_copied sought.value ≡ Some value
-      → OrMemory (IsRetaggedAt u t selector p e ats sought) found → result ≡ made (SetAttr p name value) found → OrMemory (IsValuePlan u t selector.steps uri local p value) result
-  value_plan name ats sought found result has_name ats_are same_uri same_local wanted (inl none) is = inl (is ∙ ap (made (SetAttr p name value)) none)
-  value_plan name ats sought found result has_name ats_are same_uri same_local wanted (inr h) is =
+      → IsRetaggedAt u t selector p e ats sought found → result ≡ made (SetAttr p name value) found → IsValuePlan u t selector.steps uri local p value result
+  value_plan name ats sought found result has_name ats_are same_uri same_local wanted h is =
       let after = put_over p (with_attrs ats e) t in
       let tested = as_value u after selector p uri sought.uri.now local sought.local.now value (option_copied sought.value) found same_uri same_local wanted h in
       let written = subst (λ (xs : List Attr). IsTestedAs CannotInsert (FindsValue selector.steps uri local (put_over p (with_attrs xs e) t) p value) u (put_over p (with_attrs xs e) t) found) ats_are tested in
       let plan = writing_is u t e selector p uri local value name found there written in
-      inr (record {
+      record {
         element = e;
         there = there;
         plan = subst (λ (o : Option Name). IsWriting u t selector.steps uri local p value o result) (sym has_name)
             (subst (λ (r : Result Change EditRefusal). IsWriting u t selector.steps uri local p value (Some name) r) (sym is) plan);
-      })
+      }
 
 -- the dropping of one
 pub dropping_is : (u : Usage) (t e : Tree) (selector : Selector) (p : List ℕ) (name : Name) (found : Result ℕ EditRefusal) → at p t ≡ Some e

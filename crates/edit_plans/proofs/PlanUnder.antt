@@ -20,7 +20,7 @@ use Rattle.plan_words.specs.declared.refusal.EditRefusal.{EditRefusal}
 use Rattle.plan_words.specs.declared.refusal.EditRefusal.TheVariants.{CannotInsert, Schema}
 use Rattle.usage_docs.specs.Kinds.{kind_at}
 use Rattle.plan_words.specs.Lawful.{LawfulGap}
-use Rattle.plan_words.specs.Plans.{IsJudged, OrMemory, by_fault}
+use Rattle.plan_words.specs.Plans.{IsJudged, by_fault}
 use Rattle.plan_words.specs.Puts.{FromGap, IsInsertion}
 use Rattle.plan_words.proofs.FirstBeside.{first_put, foreign_put}
 use Rattle.plan_words.proofs.FormedBeside.{formed_beside}
@@ -97,11 +97,10 @@ pub parent_is_there : (t : Tree) (q : List ℕ) (before : List Step) → Selects
 parent_is_there t q before h = path_there before t q h
 
 pub planned : (u : Usage) (t new : Tree) (q : List ℕ) (all before : List Step) (s : Step) (placed : Result ℕ EditRefusal) (result : Result Change EditRefusal) → all ≡ before ++ s ∷ [] → SelectsPath before t q → Judged u t None
-    → OrMemory (λ r. (parent : Tree) → at q t ≡ Some parent → IsPlacedIn (kind_at u t q) (scope_at q t) s parent new q r) placed → result ≡ inserted q new placed → OrMemory (IsInsertion u t all q new) result
-planned u t new q all before s placed result are selects faultless (inl none) is = inl (is ∙ ap (inserted q new) none)
-planned u t new q all before s placed result are selects faultless (inr h) is =
+    → ((parent : Tree) → at q t ≡ Some parent → IsPlacedIn (kind_at u t q) (scope_at q t) s parent new q placed) → result ≡ inserted q new placed → IsInsertion u t all q new result
+planned u t new q all before s placed result are selects faultless h is =
     let p = some_of (at q t) (parent_is_there t q before selects) in
-    inr (subst (λ (r : Result Change EditRefusal). IsInsertion u t all q new r) (sym is) (insertion_by_steps u t p.0 new q all before s placed are p.1 faultless selects (h p.0 p.1)))
+    subst (λ (r : Result Change EditRefusal). IsInsertion u t all q new r) (sym is) (insertion_by_steps u t p.0 new q all before s placed are p.1 faultless selects (h p.0 p.1))
 
 -- the last of the steps
 last_of : (before : List Step) (s d : Step) (n : ℕ) → n ≡ length before → get_or (before ++ s ∷ []) n d ≡ s

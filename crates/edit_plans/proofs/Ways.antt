@@ -1,5 +1,5 @@
 -- The way down to a parent, one child at a time.
-use Rattle.std.proofs.Common.{◌≡◌, inl, inr, ◌-◌, ◌<◌, ◌≤◌, take, drop, get_or, arith, ℕ, List, [], ◌∷◌, ◌++◌, length, Option, Some, None, IsSome, Result, option_and_then, slice_get, refl, sym, ap, ◌∙◌, subst, append-nil}
+use Rattle.std.proofs.Common.{◌≡◌, ◌-◌, ◌<◌, ◌≤◌, take, drop, get_or, arith, ℕ, List, [], ◌∷◌, ◌++◌, length, Option, Some, None, IsSome, option_and_then, slice_get, refl, sym, ap, ◌∙◌, subst, append-nil}
 use Rattle.std.proofs.lemmas.Option.{same_Some}
 use Rattle.xml_tree.specs.Tree.{Tree, at, kids_of}
 use Rattle.xml_tree.specs.Scopes.{scope_at, scope_below, inside}
@@ -7,9 +7,7 @@ use Rattle.xml_tree.proofs.ScopeLemmas.{scope_at-below}
 use Rattle.doc_names.specs.declared.usages.Usage.{Usage}
 use Rattle.usage_docs.specs.declared.rows.Kind.{Kind}
 use Rattle.usage_docs.specs.Rows.{Scope, root_kind}
-use Rattle.plan_words.specs.declared.refusal.EditRefusal.{EditRefusal}
 use Rattle.usage_docs.specs.Kinds.{kind_at, kind_of_kid, row_below}
-use Rattle.plan_words.specs.Plans.{OrMemory}
 use Rattle.plan_words.proofs.Options.{scope_through}
 use Rattle.plan_words.proofs.ValidBeside.{kind_through}
 use Rattle.edit_plans.specs.inner.Parents.{Below}
@@ -24,18 +22,7 @@ module _ (u : Usage) (t : Tree) (q : List ℕ) where
   pub told_at_root : (P : Option Kind → Scope → Tree → Type 0) → Below P (Some (root_kind u)) (t.decls ∷ []) t q → (parent : Tree) → at q t ≡ Some parent → P (kind_at u t q) (scope_at q t) parent
   told_at_root P h parent there = subst (λ (d : Scope). P (kind_at u t q) d parent) (sym (scope_at-below q t)) (h parent there)
 
-  -- the same of an answer, or want of memory
-  pub answered_at_root : (P : Result ℕ EditRefusal → Option Kind → Scope → Tree → Type 0) (found : Result ℕ EditRefusal)
-      → OrMemory (λ r. Below (P r) (Some (root_kind u)) (t.decls ∷ []) t q) found → OrMemory (λ r. (parent : Tree) → at q t ≡ Some parent → P r (kind_at u t q) (scope_at q t) parent) found
-  answered_at_root P found (inl none) = inl none
-  answered_at_root P found (inr h) = inr (told_at_root (P found) h)
-
 -- ---- one child at a time
-
--- what is said of each answer is said of those that may be want of memory
-pub or_memory : {A : Type 0} (P Q : Result A EditRefusal → Type 0) (r : Result A EditRefusal) → ((x : Result A EditRefusal) → P x → Q x) → OrMemory P r → OrMemory Q r
-or_memory P Q r f (inl none) = inl none
-or_memory P Q r f (inr h) = inr (f r h)
 
 row_here : (row : Option Kind) (c : Scope) (e : Tree) → row_below row c e [] ≡ row
 row_here None c e = refl

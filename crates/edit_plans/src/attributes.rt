@@ -1,10 +1,9 @@
 //! Whether an element of a document may have other attributes (RFC 4825, sections 8.2.4 and 8.4).
-ghost use Rattle.std.specs.Prelude.{◌≡◌, ◌≤◌, Some, None};
+ghost use Rattle.std.specs.Prelude.{◌≡◌, ◌≤◌, Some, None, IfOk};
 ghost use Rattle.xml_tree.specs.Tree.{at, height};
 ghost use Rattle.node_select.specs.Selection.{SelectsPath};
 ghost use Rattle.node_select.specs.declared.selector.End.TheVariants as ends;
 ghost use Rattle.usage_docs.specs.Judging.{Judged};
-ghost use Rattle.plan_words.specs.Plans.{OrMemory};
 ghost use Rattle.plan_words.specs.Tags.{tag_with};
 ghost use Rattle.edit_plans.specs.inner.Tested.{IsRetaggedAt};
 
@@ -15,13 +14,14 @@ use doc_names::Usage;
 use node_select::Selector;
 use plan_words::EditRefusal;
 use std::alloc::Global;
-use xml_tree::{Element, Path};
+use xml_tree::{Element, NoMemory, Path};
 
-/// What is answered of the element at a path, which the selector's steps select, with this tag.
+/// What is answered of the element at a path, which the selector's steps select, with this tag:
+/// `CannotInsert` or `CannotDelete` where the attribute wouldn't be found as it should be; then
+/// `Schema`, `Constraint` and `Unique`.
 ///
 /// # Errors
-/// `CannotInsert` or `CannotDelete` where the attribute wouldn't be found as it should be; then
-/// `Schema`, `Constraint` and `Unique`. `NoMemory` for want of memory.
+/// `NoMemory` for want of memory.
 pub(crate) fn retagged(
     alloc: Global,
     usage: Usage,
@@ -31,14 +31,14 @@ pub(crate) fn retagged(
     element: &Element,
     tag: &Element,
     sought: &Sought<'_>,
-) -> Result<usize, EditRefusal>
+) -> Result<Result<usize, EditRefusal>, NoMemory>
     requires low { height root.now ≤ 64 }
     requires there { at path.now root.now ≡ Some element.now }
     requires tag { tag.now ≡ tag_with tag.now.attrs element.now }
     requires ends { selector.now.end ≡ ends.Attribute sought.now.uri.now sought.now.local.now }
     requires selected { SelectsPath selector.now.steps root.now path.now }
     requires faultless { Judged usage root.now None }
-    ensures answers_the_new_tag { OrMemory (IsRetaggedAt usage root.now selector.now path.now element.now tag.now.attrs sought.now) result }
+    ensures answers_the_new_tag { IfOk result (IsRetaggedAt usage root.now selector.now path.now element.now tag.now.attrs sought.now) }
 {
     let [.., step] = selector.steps.as_slice() else {
         unreachable!()

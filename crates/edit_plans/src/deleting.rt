@@ -7,7 +7,6 @@ ghost use Rattle.node_select.specs.declared.selector.End.TheVariants as ends;
 ghost use Rattle.usage_docs.specs.Judging.{Judged};
 ghost use Rattle.edit_ops.specs.declared.change.Change.TheVariants.{DropAttr, Remove};
 ghost use Rattle.plan_words.specs.Deletions.{IsDeletePlan};
-ghost use Rattle.plan_words.specs.Plans.{OrMemory};
 ghost use Rattle.plan_words.specs.Tags.{tag_with};
 ghost use Rattle.edit_plans.specs.inner.Tested.{made};
 
@@ -52,20 +51,20 @@ fn plan_removal(
     root: &Element,
     selector: &Selector,
     path: Path,
-) -> Result<Change, EditRefusal>
+) -> Result<Result<Change, EditRefusal>, NoMemory>
     requires ends { selector.now.end ≡ ends.Element }
     requires selected { SelectsPath selector.now.steps root.now path }
     requires faultless { Judged usage root.now None }
-    ensures plans_the_removal { OrMemory (IsDeletePlan usage root.now selector.now) result }
+    ensures plans_the_removal { IfOk result (IsDeletePlan usage root.now selector.now) }
 {
     let Some((place, child)) = path.split_last() else {
-        return Err(EditRefusal::Schema);
+        return Ok(Err(EditRefusal::Schema));
     };
     let [.., step] = selector.steps.as_slice() else {
         unreachable!()
     };
-    let found = answer(alloc, usage, root, step, &place, &Asked::TakeOut(child));
-    removed(path, found)
+    let found = answer(alloc, usage, root, step, &place, &Asked::TakeOut(child))?;
+    Ok(removed(path, found))
 }
 
 // The plan for an attribute of the element at a path, which the steps select.
@@ -77,12 +76,12 @@ fn plan_drop<'a>(
     path: Path,
     uri: &'a Text,
     local: &'a Text,
-) -> Result<Change, EditRefusal>
+) -> Result<Result<Change, EditRefusal>, NoMemory>
     requires low { height root.now ≤ 64 }
     requires ends { selector.now.end ≡ ends.Attribute uri.now local.now }
     requires selected { SelectsPath selector.now.steps root.now path }
     requires faultless { Judged usage root.now None }
-    ensures plans_the_drop { OrMemory (IsDeletePlan usage root.now selector.now) result }
+    ensures plans_the_drop { IfOk result (IsDeletePlan usage root.now selector.now) }
 {
     let Some(element) = element_at(root, &path) else {
         unreachable!()
@@ -91,7 +90,7 @@ fn plan_drop<'a>(
         unreachable!()
     };
     let Some(place) = find_attr(alloc, element, &scope, uri.as_str(), local.as_str()) else {
-        return Err(EditRefusal::NotFound);
+        return Ok(Err(EditRefusal::NotFound));
     };
     let name = element.attrs()[place].name.copy(alloc)?;
     let tag = tag_without(alloc, element, &name)?;
@@ -100,31 +99,31 @@ fn plan_drop<'a>(
         local,
         value: None,
     };
-    let found = retagged(alloc, usage, root, selector, &path, element, &tag, &sought);
-    dropped(path, name, found)
+    let found = retagged(alloc, usage, root, selector, &path, element, &tag, &sought)?;
+    Ok(dropped(path, name, found))
 }
 
 /// The change that a DELETE of an element or an attribute makes; the selector doesn't end in
 /// `namespace::*`. The document is one that its usage accepts. Of the document only what the steps
-/// pass, the way to the parent and the parent's children are looked at.
+/// pass, the way to the parent and the parent's children are looked at. There is none: `NotFound` exactly where nothing is found; `Schema` for the root element; `CannotDelete` exactly
+/// where the selector would still find something; then `Schema`, `Constraint`, and `Unique` with
+/// the first clash.
 ///
 /// # Errors
-/// `NotFound` exactly where nothing is found; `Schema` for the root element; `CannotDelete` exactly
-/// where the selector would still find something; then `Schema`, `Constraint`, and `Unique` with
-/// the first clash. `NoMemory` for want of memory.
+/// `NoMemory` for want of memory.
 pub fn plan_delete(
     alloc: Global,
     usage: Usage,
     root: &Element,
     selector: &Selector,
-) -> Result<Change, EditRefusal>
+) -> Result<Result<Change, EditRefusal>, NoMemory>
     requires low { height root.now ≤ 64 }
     requires node { selector.now.end ≡ ends.Namespaces → ⊥ }
     requires faultless { Judged usage root.now None }
-    ensures by_the_words { OrMemory (IsDeletePlan usage root.now selector.now) result }
+    ensures by_the_words { IfOk result (IsDeletePlan usage root.now selector.now) }
 {
     let Some(path) = select(alloc, root, selector) else {
-        return Err(EditRefusal::NotFound);
+        return Ok(Err(EditRefusal::NotFound));
     };
     match &selector.end {
         End::Element => plan_removal(alloc, usage, root, selector, path),

@@ -2,7 +2,6 @@
 //! section 8.2.4).
 ghost use Rattle.std.specs.Prelude.{◌↔◌, ◌<◌, IsTrue, IfOk, length};
 ghost use Rattle.xml_tree.specs.Tree.{kids_of};
-ghost use Rattle.plan_words.specs.Plans.{OrMemory};
 ghost use Rattle.edit_plans.specs.inner.Asking.{HasRoom, IsExchangedIn, IsSelected};
 ghost use Rattle.edit_plans.specs.inner.Sides.{FitsOver};
 
@@ -36,11 +35,11 @@ fn fits_over(
 }
 
 /// What is answered of a new element in the place of a child, which the step selects: the parent is
-/// at this place.
+/// at this place. `CannotInsert` where the step wouldn't select the new element, `Schema` where the
+/// parent wouldn't be valid; then as `judged`.
 ///
 /// # Errors
-/// `CannotInsert` where the step wouldn't select the new element, `Schema` where the parent
-/// wouldn't be valid; then as `judged`.
+/// `NoMemory` for want of memory.
 pub(crate) fn exchanged_in(
     alloc: Global,
     row: Option<Kind>,
@@ -50,16 +49,16 @@ pub(crate) fn exchanged_in(
     child: usize,
     place: &Path,
     new: &Element,
-) -> Result<usize, EditRefusal>
+) -> Result<Result<usize, EditRefusal>, NoMemory>
     requires selected { IsSelected row scope.now step.now parent.now child }
     requires room { HasRoom place.now new.now }
-    ensures answers_the_exchange { OrMemory (IsExchangedIn row scope.now step.now parent.now child new.now place.now) result }
+    ensures answers_the_exchange { IfOk result (IsExchangedIn row scope.now step.now parent.now child new.now place.now) }
 {
     if !passes(alloc, scope, step, new) {
-        return Err(EditRefusal::CannotInsert);
+        return Ok(Err(EditRefusal::CannotInsert));
     }
     if !fits_over(alloc, row, scope, parent, child, new)? {
-        return Err(EditRefusal::Schema);
+        return Ok(Err(EditRefusal::Schema));
     }
     let siblings = Siblings::without(parent, child);
     judged_new(alloc, row, scope, &siblings, place, new, child)

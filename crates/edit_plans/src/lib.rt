@@ -23,3 +23,4 @@ pub use plan_words::{EditRefusal, NoParent, Spot};
 pub use putting::plan_put;
 pub use spots::put_spot;
 pub use writing::plan_attr;
+pub use xml_tree::NoMemory;

@@ -1,7 +1,6 @@
 //! Where a new element is put under a parent, seen from the parent alone (RFC 4825, section 8.2.3).
 ghost use Rattle.std.specs.Prelude.{◌↔◌, ◌≤◌, IsTrue, IfOk, length};
 ghost use Rattle.xml_tree.specs.Tree.{kids_of};
-ghost use Rattle.plan_words.specs.Plans.{OrMemory};
 ghost use Rattle.edit_plans.specs.inner.Asking.{FormedIn, HasRoom, IsJudgedIn, IsPlacedIn, NoClash, others};
 
 use crate::gaps::{NoGap, choose_gap};
@@ -29,10 +28,11 @@ fn is_formed_in(
 }
 
 /// What is answered of a new element in a gap among its siblings: the parent is at this place, and
-/// the references in the new element have their form or not.
+/// the references in the new element have their form or not. `Constraint`, else `Unique` with the
+/// first clash.
 ///
 /// # Errors
-/// `Constraint`, else `Unique` with the first clash; `NoMemory` for want of memory.
+/// `NoMemory` for want of memory.
 pub(crate) fn judged(
     alloc: Global,
     row: Option<Kind>,
@@ -42,28 +42,28 @@ pub(crate) fn judged(
     new: &Element,
     gap: usize,
     formed: bool,
-) -> Result<usize, EditRefusal>
+) -> Result<Result<usize, EditRefusal>, NoMemory>
     requires room { HasRoom place.now new.now }
     requires gap { gap ≤ length (others siblings.now.left_out (kids_of siblings.now.parent.now)) }
     requires unique { NoClash row scope.now siblings.now.parent.now }
-    ensures judges_by_the_form { OrMemory (IsJudgedIn (IsTrue formed) row scope.now (others siblings.now.left_out (kids_of siblings.now.parent.now)) new.now place.now gap) result }
+    ensures judges_by_the_form { IfOk result (IsJudgedIn (IsTrue formed) row scope.now (others siblings.now.left_out (kids_of siblings.now.parent.now)) new.now place.now gap) }
 {
     if !formed {
-        return Err(EditRefusal::Constraint);
+        return Ok(Err(EditRefusal::Constraint));
     }
     let Some(kind) = row else {
-        return Ok(gap);
+        return Ok(Ok(gap));
     };
     match first_beside(alloc, kind, scope, siblings, new, gap, place)? {
-        Some(clash) => Err(EditRefusal::Unique(clash)),
-        None => Ok(gap),
+        Some(clash) => Ok(Err(EditRefusal::Unique(clash))),
+        None => Ok(Ok(gap)),
     }
 }
 
-/// What is answered of a new element in a gap among its siblings.
+/// What is answered of a new element in a gap among its siblings, as by `judged`.
 ///
 /// # Errors
-/// As `judged`.
+/// `NoMemory` for want of memory.
 pub(crate) fn judged_new(
     alloc: Global,
     row: Option<Kind>,
@@ -72,21 +72,22 @@ pub(crate) fn judged_new(
     place: &Path,
     new: &Element,
     gap: usize,
-) -> Result<usize, EditRefusal>
+) -> Result<Result<usize, EditRefusal>, NoMemory>
     requires room { HasRoom place.now new.now }
     requires gap { gap ≤ length (others siblings.now.left_out (kids_of siblings.now.parent.now)) }
     requires unique { NoClash row scope.now siblings.now.parent.now }
-    ensures judges_the_new_element { OrMemory (IsJudgedIn (FormedIn row scope.now new.now) row scope.now (others siblings.now.left_out (kids_of siblings.now.parent.now)) new.now place.now gap) result }
+    ensures judges_the_new_element { IfOk result (IsJudgedIn (FormedIn row scope.now new.now) row scope.now (others siblings.now.left_out (kids_of siblings.now.parent.now)) new.now place.now gap) }
 {
     let formed = is_formed_in(alloc, row, scope, new)?;
     judged(alloc, row, scope, siblings, place, new, gap, formed)
 }
 
-/// The gap of a parent, which is at this place, for a new element.
+/// The gap of a parent, which is at this place, for a new element. `CannotInsert` where the step
+/// would select the new element in no gap, `Schema` where the parent would be valid in none of
+/// these; then as `judged`.
 ///
 /// # Errors
-/// `CannotInsert` where the step would select the new element in no gap, `Schema` where the parent
-/// would be valid in none of these; then as `judged`.
+/// `NoMemory` for want of memory.
 pub(crate) fn placed_in(
     alloc: Global,
     row: Option<Kind>,
@@ -95,14 +96,14 @@ pub(crate) fn placed_in(
     parent: &Element,
     place: &Path,
     new: &Element,
-) -> Result<usize, EditRefusal>
+) -> Result<Result<usize, EditRefusal>, NoMemory>
     requires room { HasRoom place.now new.now }
     requires unique { NoClash row scope.now parent.now }
-    ensures answers_the_gap { OrMemory (IsPlacedIn row scope.now step.now parent.now new.now place.now) result }
+    ensures answers_the_gap { IfOk result (IsPlacedIn row scope.now step.now parent.now new.now place.now) }
 {
     match choose_gap(alloc, row, scope, step, parent, new)? {
         Ok(gap) => judged_new(alloc, row, scope, &Siblings::all(parent), place, new, gap),
-        Err(NoGap::Unlawful) => Err(EditRefusal::CannotInsert),
-        Err(NoGap::Invalid) => Err(EditRefusal::Schema),
+        Err(NoGap::Unlawful) => Ok(Err(EditRefusal::CannotInsert)),
+        Err(NoGap::Invalid) => Ok(Err(EditRefusal::Schema)),
     }
 }

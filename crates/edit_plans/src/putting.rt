@@ -1,13 +1,13 @@
 //! The change that a PUT of an element makes, or why it makes none (RFC 4825, sections 8.2.1 to
 //! 8.2.5).
-ghost use Rattle.std.specs.Prelude.{◌≡◌, ◌≤◌, ◌+◌, length, suc, None};
+ghost use Rattle.std.specs.Prelude.{◌≡◌, ◌≤◌, ◌+◌, length, suc, None, IfOk};
 ghost use Rattle.xml_tree.specs.Tree.{height};
 ghost use Rattle.node_select.specs.Selection.{SelectsPath};
 ghost use Rattle.node_select.specs.declared.selector.End.TheVariants as ends;
 ghost use Rattle.usage_docs.specs.Judging.{Judged};
 ghost use Rattle.edit_ops.specs.declared.change.Change.TheVariants.{Replace};
 ghost use Rattle.plan_words.specs.Lawful.{LawfulOver};
-ghost use Rattle.plan_words.specs.Plans.{IsTested, OrMemory};
+ghost use Rattle.plan_words.specs.Plans.{IsTested};
 ghost use Rattle.plan_words.specs.Puts.{HasRoomAt, IsInsertion, IsPutPlan};
 ghost use Rattle.plan_words.specs.Spots.{IsSpotOf, SelectsParent};
 ghost use Rattle.plan_words.specs.declared.refusal.EditRefusal.TheVariants.{CannotInsert};
@@ -20,7 +20,7 @@ use edit_ops::Change;
 use node_select::{Selector, Step};
 use plan_words::{EditRefusal, Spot};
 use std::alloc::Global;
-use xml_tree::{Element, Path};
+use xml_tree::{Element, NoMemory, Path};
 
 // The insertion at a gap.
 fn inserted(
@@ -73,15 +73,15 @@ fn plan_under(
     steps: &[Step],
     place: &Path,
     element: Element,
-) -> Result<Change, EditRefusal>
+) -> Result<Result<Change, EditRefusal>, NoMemory>
     requires parent { SelectsParent steps.now root.now place.now }
     requires faultless { Judged usage root.now None }
     requires room { length place.now + suc (height element) ≤ 64 }
-    ensures plans_the_insertion { OrMemory (IsInsertion usage root.now steps.now place.now element) result }
+    ensures plans_the_insertion { IfOk result (IsInsertion usage root.now steps.now place.now element) }
 {
     let [.., step] = steps else { unreachable!() };
-    let gap = answer(alloc, usage, root, step, place, &Asked::Put(&element));
-    inserted(place, element, gap)
+    let gap = answer(alloc, usage, root, step, place, &Asked::Put(&element))?;
+    Ok(inserted(place, element, gap))
 }
 
 // The plan of an element over another one, which the steps select.
@@ -92,32 +92,32 @@ fn plan_over(
     steps: &[Step],
     path: &Path,
     element: Element,
-) -> Result<Change, EditRefusal>
+) -> Result<Result<Change, EditRefusal>, NoMemory>
     requires selected { SelectsPath steps.now root.now path.now }
     requires faultless { Judged usage root.now None }
     requires room { length path.now + height element ≤ 64 }
-    ensures plans_the_exchange { OrMemory (IsTested CannotInsert (LawfulOver steps.now root.now element path.now) usage root.now (Replace path.now element)) result }
+    ensures plans_the_exchange { IfOk result (IsTested CannotInsert (LawfulOver steps.now root.now element path.now) usage root.now (Replace path.now element)) }
 {
     let Some((place, child)) = path.split_last() else {
-        let found = root_exchanged(alloc, usage, steps, &element);
-        return replaced(path, element, found);
+        let found = root_exchanged(alloc, usage, steps, &element)?;
+        return Ok(replaced(path, element, found));
     };
     let [.., step] = steps else { unreachable!() };
     let asked = Asked::Exchange(child, &element);
-    let found = answer(alloc, usage, root, step, &place, &asked);
-    replaced(path, element, found)
+    let found = answer(alloc, usage, root, step, &place, &asked)?;
+    Ok(replaced(path, element, found))
 }
 
 /// The change that a PUT of an element makes at the spot of its address. The document is one that
 /// its usage accepts, and the levels of the element below its place are within the limit of 64.
 /// Neither the document nor the element is copied, and of the document only the way to the parent
-/// and the parent's children are looked at.
+/// and the parent's children are looked at. There is none: `CannotInsert` exactly where the address
+/// wouldn't select the element afterwards, wherever it is put, or the spot is beside the root;
+/// `Schema` exactly where it would, and the new document would be valid nowhere; then `Constraint`,
+/// and `Unique` with the first clash.
 ///
 /// # Errors
-/// `CannotInsert` exactly where the address wouldn't select the element afterwards, wherever it is
-/// put, or the spot is beside the root; `Schema` exactly where it would, and the new document would
-/// be valid nowhere; then `Constraint`, and `Unique` with the first clash. `NoMemory` for want of
-/// memory.
+/// `NoMemory` for want of memory.
 pub fn plan_put(
     alloc: Global,
     usage: Usage,
@@ -125,18 +125,18 @@ pub fn plan_put(
     selector: &Selector,
     spot: &Spot,
     element: Element,
-) -> Result<Change, EditRefusal>
+) -> Result<Result<Change, EditRefusal>, NoMemory>
     requires spot { IsSpotOf root.now selector.now spot.now }
     requires ends { selector.now.end ≡ ends.Element }
     requires faultless { Judged usage root.now None }
     requires room { HasRoomAt spot.now element }
-    ensures by_the_words { OrMemory (IsPutPlan usage root.now selector.now.steps spot.now element) result }
+    ensures by_the_words { IfOk result (IsPutPlan usage root.now selector.now.steps spot.now element) }
 {
     let steps = selector.steps.as_slice();
     match spot {
         Spot::Over(path) => plan_over(alloc, usage, root, steps, path, element),
         Spot::Under(place) => plan_under(alloc, usage, root, steps, place, element),
-        Spot::Beside => Err(EditRefusal::CannotInsert),
+        Spot::Beside => Ok(Err(EditRefusal::CannotInsert)),
         Spot::Value(_) => unreachable!(),
     }
 }

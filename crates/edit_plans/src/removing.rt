@@ -5,7 +5,6 @@ ghost use Rattle.step_laws.specs.Edits.{IsNextMatch};
 ghost use Rattle.xml_tree.specs.Tree.{kids_of};
 ghost use Rattle.node_select.specs.Selection.{SelectsChild, is_named, is_tested};
 ghost use Rattle.usage_docs.specs.Reading.Gaps.{part_before, part_after};
-ghost use Rattle.plan_words.specs.Plans.{OrMemory};
 ghost use Rattle.plan_words.specs.Removals.{ClosesUp, StillSelects};
 ghost use Rattle.edit_plans.specs.inner.Asking.{IsRemovedIn, IsSelected};
 
@@ -149,7 +148,7 @@ pub(crate) fn removed_in(
     child: usize,
 ) -> Result<usize, EditRefusal>
     requires selected { IsSelected row scope.now step.now parent.now child }
-    ensures answers_the_removal { OrMemory (IsRemovedIn row scope.now step.now parent.now child) result }
+    ensures answers_the_removal { IsRemovedIn row scope.now step.now parent.now child result }
 {
     if still_selects(alloc, scope, step, parent, child) {
         return Err(EditRefusal::CannotDelete);

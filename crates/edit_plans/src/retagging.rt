@@ -5,7 +5,6 @@ ghost use Rattle.xml_tree.specs.Scopes.{inside};
 ghost use Rattle.std.specs.List.{find};
 ghost use Rattle.std.specs.Option.{option_copied};
 ghost use Rattle.node_select.specs.Selection.{is_attr};
-ghost use Rattle.plan_words.specs.Plans.{OrMemory};
 ghost use Rattle.plan_words.specs.Tags.{AttrsFormed, AttrsPass, attrs_formed};
 ghost use Rattle.edit_plans.specs.inner.Asking.{HasRoom, IsFoundIn, IsRetaggedIn, IsSelected, unfound};
 
@@ -157,10 +156,11 @@ fn attrs_formed_in(
 }
 
 /// What is answered of a child, which the step selects, with this tag: the parent is at this place.
-///
-/// # Errors
 /// `CannotInsert` or `CannotDelete` where the attribute wouldn't be found as it should be, `Schema`
 /// where it may not stand or has to be there; then as `judged`.
+///
+/// # Errors
+/// `NoMemory` for want of memory.
 pub(crate) fn retagged_in(
     alloc: Global,
     row: Option<Kind>,
@@ -171,16 +171,16 @@ pub(crate) fn retagged_in(
     place: &Path,
     tag: &Element,
     sought: &Sought<'_>,
-) -> Result<usize, EditRefusal>
+) -> Result<Result<usize, EditRefusal>, NoMemory>
     requires selected { IsSelected row scope.now step.now parent.now child }
     requires room { HasRoom place.now tag.now }
-    ensures answers_the_new_tag_of_a_child { OrMemory (IsRetaggedIn row scope.now step.now parent.now child tag.now sought.now place.now) result }
+    ensures answers_the_new_tag_of_a_child { IfOk result (IsRetaggedIn row scope.now step.now parent.now child tag.now sought.now place.now) }
 {
     if !is_found_in(alloc, scope, step, tag, sought)? {
-        return Err(unfound(sought.value));
+        return Ok(Err(unfound(sought.value)));
     }
     if !attrs_pass_in(alloc, row, scope, tag)? {
-        return Err(EditRefusal::Schema);
+        return Ok(Err(EditRefusal::Schema));
     }
     let formed = attrs_formed_in(alloc, row, scope, tag)?;
     let siblings = Siblings::without(parent, child);

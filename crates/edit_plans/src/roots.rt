@@ -1,9 +1,9 @@
 //! Whether another root may stand in the place of the root, or the root may have other attributes
 //! (RFC 4825, sections 8.2.4 and 8.4).
-ghost use Rattle.std.specs.Prelude.{◌≡◌, ◌≤◌, [], ℕ, List};
+ghost use Rattle.std.specs.Prelude.{◌≡◌, ◌≤◌, [], ℕ, List, IfOk};
 ghost use Rattle.xml_tree.specs.Tree.{height};
 ghost use Rattle.node_select.specs.Selection.{SelectsPath};
-ghost use Rattle.plan_words.specs.Plans.{OrMemory, refusal};
+ghost use Rattle.plan_words.specs.Plans.{refusal};
 ghost use Rattle.plan_words.specs.declared.refusal.EditRefusal.TheVariants.{CannotInsert};
 ghost use Rattle.edit_plans.specs.inner.Asking.{IsRootRetagged};
 ghost use Rattle.edit_plans.specs.inner.Tested.{IsTestedAs};
@@ -14,7 +14,7 @@ use node_select::{Step, select_steps};
 use plan_words::EditRefusal;
 use std::alloc::Global;
 use usage_docs::{Fault, attrs_pass, judge, root_kind};
-use xml_tree::{Around, Declared, Element};
+use xml_tree::{Around, Declared, Element, NoMemory};
 
 // The refusal by the first fault of a document.
 fn refusal(fault: Fault) -> EditRefusal
@@ -27,53 +27,54 @@ fn refusal(fault: Fault) -> EditRefusal
     }
 }
 
-/// What is answered of another root, where the steps select the root and nothing below it.
+/// What is answered of another root, where the steps select the root and nothing below it:
+/// `CannotInsert` where they wouldn't select the new one; then `Schema`, `Constraint` and `Unique`
+/// by what is in it.
 ///
 /// # Errors
-/// `CannotInsert` where they wouldn't select the new one; then `Schema`, `Constraint` and `Unique`
-/// by what is in it. `NoMemory` for want of memory.
+/// `NoMemory` for want of memory.
 pub(crate) fn root_exchanged(
     alloc: Global,
     usage: Usage,
     steps: &[Step],
     new: &Element,
-) -> Result<usize, EditRefusal>
+) -> Result<Result<usize, EditRefusal>, NoMemory>
     requires alone { (p : List ℕ) → SelectsPath steps.now new.now p → p ≡ [] }
     requires low { height new.now ≤ 64 }
-    ensures answers_the_new_root { OrMemory (IsTestedAs CannotInsert (SelectsPath steps.now new.now []) usage new.now) result }
+    ensures answers_the_new_root { IfOk result (IsTestedAs CannotInsert (SelectsPath steps.now new.now []) usage new.now) }
 {
     if select_steps(alloc, new, steps).is_none() {
-        return Err(EditRefusal::CannotInsert);
+        return Ok(Err(EditRefusal::CannotInsert));
     }
     match judge(alloc, usage, new)? {
-        Some(fault) => Err(refusal(fault)),
-        None => Ok(0),
+        Some(fault) => Ok(Err(refusal(fault))),
+        None => Ok(Ok(0)),
     }
 }
 
 /// What is answered of the root, which the step selects and which is valid, within the constraints
-/// and unique, with this tag.
+/// and unique, with this tag: `CannotInsert` or `CannotDelete` where the attribute wouldn't be found
+/// as it should be, `Schema` where it may not stand.
 ///
 /// # Errors
-/// `CannotInsert` or `CannotDelete` where the attribute wouldn't be found as it should be, `Schema`
-/// where it may not stand; `NoMemory` for want of memory.
+/// `NoMemory` for want of memory.
 pub(crate) fn root_retagged(
     alloc: Global,
     usage: Usage,
     step: &Step,
     tag: &Element,
     sought: &Sought<'_>,
-) -> Result<usize, EditRefusal>
-    ensures answers_the_new_tag_of_the_root { OrMemory (IsRootRetagged usage step.now tag.now sought.now) result }
+) -> Result<Result<usize, EditRefusal>, NoMemory>
+    ensures answers_the_new_tag_of_the_root { IfOk result (IsRootRetagged usage step.now tag.now sought.now) }
 {
     if !is_found_in(alloc, &Around::empty(), step, tag, sought)? {
-        return Err(unfound(sought.value));
+        return Ok(Err(unfound(sought.value)));
     }
     let declared = Declared::indexed(alloc, tag.decls())?;
     let empty = Around::empty();
     let inside = empty.inside(&declared);
     if !attrs_pass(root_kind(usage), &inside, tag.attrs()) {
-        return Err(EditRefusal::Schema);
+        return Ok(Err(EditRefusal::Schema));
     }
-    Ok(0)
+    Ok(Ok(0))
 }

@@ -8,7 +8,6 @@ ghost use Rattle.xml_tree.specs.Tree.{height};
 ghost use Rattle.xml_tree.specs.Scopes.{xml_uri};
 ghost use Rattle.node_select.specs.Selection.{SelectsPath};
 ghost use Rattle.plan_words.specs.Attributes.{IsAttrPlan, IsValuePlan, is_binding, new_name, new_prefix, written_name};
-ghost use Rattle.plan_words.specs.Plans.{OrMemory};
 ghost use Rattle.plan_words.specs.Spots.{IsSpotOf};
 ghost use Rattle.plan_words.specs.Tags.{tag_with};
 ghost use Rattle.plan_words.specs.declared.spot.Spot.TheVariants.{Value};
@@ -153,12 +152,12 @@ fn plan_value(
     uri: &Text,
     local: &Text,
     value: Text,
-) -> Result<Change, EditRefusal>
+) -> Result<Result<Change, EditRefusal>, NoMemory>
     requires low { height root.now ≤ 64 }
     requires ends { selector.now.end ≡ ends.Attribute uri.now local.now }
     requires selected { SelectsPath selector.now.steps root.now path.now }
     requires faultless { Judged usage root.now None }
-    ensures plans_the_value { OrMemory (IsValuePlan usage root.now selector.now.steps uri.now local.now path.now value) result }
+    ensures plans_the_value { IfOk result (IsValuePlan usage root.now selector.now.steps uri.now local.now path.now value) }
 {
     let Some(element) = element_at(root, path) else {
         unreachable!()
@@ -167,24 +166,24 @@ fn plan_value(
         unreachable!()
     };
     let Some(name) = written_name(alloc, &scope, element, uri, local)? else {
-        return Err(EditRefusal::CannotInsert);
+        return Ok(Err(EditRefusal::CannotInsert));
     };
     let tag = tag_written(alloc, element, &name, &value)?;
     let sought = Sought::with_value(uri, local, &value);
-    let found = retagged(alloc, usage, root, selector, path, element, &tag, &sought);
-    written(path, name, value, found)
+    let found = retagged(alloc, usage, root, selector, path, element, &tag, &sought)?;
+    Ok(written(path, name, value, found))
 }
 
 /// The change that a PUT of an attribute makes: the selector ends in an attribute, and its steps
 /// select the element at this path. The document is one that its usage accepts. An attribute that
 /// is there keeps its place and its prefix; a new one stands last, with the least prefix by code
 /// point that its namespace is bound to. Of the document only the way to the element, its
-/// attributes and its siblings are looked at.
+/// attributes and its siblings are looked at. There is none: `CannotInsert` exactly where there is
+/// no such prefix, or the address wouldn't find the value afterwards; then `Schema`, `Constraint`,
+/// and `Unique` with the first clash.
 ///
 /// # Errors
-/// `CannotInsert` exactly where there is no such prefix, or the address wouldn't find the value
-/// afterwards; then `Schema`, `Constraint`, and `Unique` with the first clash. `NoMemory` for want
-/// of memory.
+/// `NoMemory` for want of memory.
 pub fn plan_attr(
     alloc: Global,
     usage: Usage,
@@ -192,11 +191,11 @@ pub fn plan_attr(
     selector: &Selector,
     at: &Path,
     value: Text,
-) -> Result<Change, EditRefusal>
+) -> Result<Result<Change, EditRefusal>, NoMemory>
     requires low { height root.now ≤ 64 }
     requires spot { IsSpotOf root.now selector.now (Value at.now) }
     requires faultless { Judged usage root.now None }
-    ensures by_the_words { OrMemory (IsAttrPlan usage root.now selector.now.steps selector.now.end at.now value) result }
+    ensures by_the_words { IfOk result (IsAttrPlan usage root.now selector.now.steps selector.now.end at.now value) }
 {
     match &selector.end {
         End::Attribute { uri, local } => {

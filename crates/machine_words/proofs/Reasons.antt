@@ -139,66 +139,6 @@ never_stored c id change =
     let held = document_in held_name c.documents id in
     never_answered (against c id change held (act_of change)) (note_for c id change held) (content_after c id change) (against_other c id change held (act_of change))
 
--- ---- plans
-
-abbrev Never : (Result Change EditRefusal → Type 0) → Type 0
-Never IsPlan = IsPlan (Err plans.NoMemory) → ⊥
-
-by_fault_never : (change : Change) (fault : Option Fault) → ◌≡◌ {A = Result Change EditRefusal} (Err plans.NoMemory) (by_fault change fault) → ⊥
-by_fault_never change None h = cc
-by_fault_never change (Some Invalid) h = cc
-by_fault_never change (Some Unformed) h = cc
-by_fault_never change (Some (Repeated clash)) h = cc
-
-module _ (u : Usage) (t : Tree) where
-  judged_never : (change : Change) → Never (IsJudged u t change)
-  judged_never change h = by_fault_never change h.0 h.1.1
-
-  tested_never : (unlawful : EditRefusal) (lawful : Type 0) (change : Change) → (unlawful ≡ plans.NoMemory → ⊥) → Never (IsTested unlawful lawful u t change)
-  tested_never unlawful lawful change other (inl h) = let is = h.0 in let same : unlawful ≡ plans.NoMemory = cc in other same
-  tested_never unlawful lawful change other (inr h) = judged_never change h.1
-
-  gap_never : (q : List ℕ) (e : Tree) (L V : ℕ → Type 0) (n : ℕ) (gap : Result ℕ EditRefusal) → PlanIs plans.CannotInsert plans.Schema L V n gap → Never (FromGap u t q e gap)
-  gap_never q e L V n (Ok gap) is h = judged_never (Insert q gap e) h
-  gap_never q e L V n (Err why) (inl is) h = let so = is.0 in cc
-  gap_never q e L V n (Err why) (inr is) h = let so = is.0 in cc
-
-  no_insert : plans.CannotInsert ≡ plans.NoMemory → ⊥
-  no_insert h = cc
-
-  no_delete : plans.CannotDelete ≡ plans.NoMemory → ⊥
-  no_delete h = cc
-
-  put_never : (steps : List Step) (spot : Spot) (e : Tree) → Never (IsPutPlan u t steps spot e)
-  put_never steps (Over p) e h = tested_never plans.CannotInsert (LawfulOver steps t e p) (Replace p e) no_insert h
-  put_never steps (Under q) e h = gap_never q e (LawfulGap steps t e q) (λ j. validity.Schema u (put_in q j e t)) (length (kids_of h.parent) + 1) h.gap h.is_chosen h.then
-  put_never steps Beside e h = cc
-  put_never steps (Value p) e h = h
-
-  writing_never : (steps : List Step) (uri local p value : List ℕ) (name : Option Name) → Never (IsWriting u t steps uri local p value name)
-  writing_never steps uri local p value None h = cc
-  writing_never steps uri local p value (Some name) h =
-      tested_never plans.CannotInsert (FindsValue steps uri local (edited t (SetAttr p name value)) p value) (SetAttr p name value) no_insert h
-
-  attr_never : (steps : List Step) (end : End) (p value : List ℕ) → Never (IsAttrPlan u t steps end p value)
-  attr_never steps (ends.Attribute uri local) p value h = writing_never steps uri local p value (written_name (scope_at p t) uri local h.element.attrs) h.plan
-  attr_never steps ends.Element p value h = h
-  attr_never steps ends.Namespaces p value h = h
-
-  removal_never : (selector : Selector) (p : List ℕ) → Never (IsRemoval u t selector p)
-  removal_never selector [] h = cc
-  removal_never selector (n ∷ p) h = tested_never plans.CannotDelete (FindsNothingAfter selector t (Remove (n ∷ p))) (Remove (n ∷ p)) no_delete h
-
-  found_never : (selector : Selector) (p : List ℕ) (element : Tree) (end : End) → Never (IsPlanFor u t selector p element end)
-  found_never selector p element ends.Element h = removal_never selector p h
-  found_never selector p element (ends.Attribute uri local) h =
-      tested_never plans.CannotDelete (FindsNothingAfter selector t (DropAttr p h.attr.name)) (DropAttr p h.attr.name) no_delete h.then
-  found_never selector p element ends.Namespaces h = h
-
-  delete_never : (selector : Selector) → Never (IsDeletePlan u t selector)
-  delete_never selector (inl h) = let is = h.0 in cc
-  delete_never selector (inr h) = found_never selector h.0.path h.0.element selector.end h.1
-
 -- ---- answers
 
 abbrev IsNot503 : ℕ → Type 0
@@ -240,18 +180,14 @@ module _ (request : Request) (a : Answer) where
     by_store change (Err refusals.NoMemory) e is = absurd (never_stored c id change e)
     by_store change (Ok (note, next)) e is = subst (λ (x : Answer). Fine x) (sym is) (other note)
 
-    by_plan : (plan : Result Change EditRefusal) → (plan ≡ Err plans.NoMemory → ⊥) → a ≡ plan_answer c id request.closes reply plan → Fine a
-    by_plan (Err plans.NotFound) never is = fine _ refl is
-    by_plan (Err plans.CannotInsert) never is = fine _ refl is
-    by_plan (Err plans.CannotDelete) never is = fine _ refl is
-    by_plan (Err plans.Schema) never is = fine _ refl is
-    by_plan (Err plans.Constraint) never is = fine _ refl is
-    by_plan (Err (plans.Unique clash)) never is = fine _ refl is
-    by_plan (Err plans.NoMemory) never is = absurd (never refl)
-    by_plan (Ok change) never is = by_store change (changing c id change) refl is
-
-    planned : (IsPlan : Result Change EditRefusal → Type 0) → Never IsPlan → (plan : Result Change EditRefusal) → IsPlan plan → a ≡ plan_answer c id request.closes reply plan → Fine a
-    planned IsPlan never plan holds is = by_plan plan (λ (none : plan ≡ Err plans.NoMemory). never (subst IsPlan none holds)) is
+    by_plan : (plan : Result Change EditRefusal) → a ≡ plan_answer c id request.closes reply plan → Fine a
+    by_plan (Err plans.NotFound) is = fine _ refl is
+    by_plan (Err plans.CannotInsert) is = fine _ refl is
+    by_plan (Err plans.CannotDelete) is = fine _ refl is
+    by_plan (Err plans.Schema) is = fine _ refl is
+    by_plan (Err plans.Constraint) is = fine _ refl is
+    by_plan (Err (plans.Unique clash)) is = fine _ refl is
+    by_plan (Ok change) is = by_store change (changing c id change) refl is
 
 -- ---- reading
 
@@ -330,12 +266,11 @@ module _ (c : Content) (id : DocId) (request : Request) (a : Answer) where
 
     element_so : (spot : Spot) (read : Result Tree TextFault) → PutsElementText c id usage selector t spot read request a → Fine a
     element_so spot (Err fault) is = conflicts_so request a (text_conflict conflicts.NotXmlFrag fault) is
-    element_so spot (Ok e) is = planned request a c id reply (put_so (is_there t selector) request.closes) (IsPutPlan usage t selector.steps spot e) (put_never usage t selector.steps spot e) is.0 is.1 is.2
+    element_so spot (Ok e) is = by_plan request a c id reply (put_so (is_there t selector) request.closes) is.0 is.2
 
     value_so : (p : List ℕ) (read : Result (List ℕ) ValueFault) → PutsValueText c id usage selector t p read request a → Fine a
     value_so p (Err fault) is = conflicts_so request a (value_conflict fault) is
-    value_so p (Ok value) is =
-        planned request a c id reply (put_so (is_there t selector) request.closes) (IsAttrPlan usage t selector.steps selector.end p value) (attr_never usage t selector.steps selector.end p value) is.0 is.1 is.2
+    value_so p (Ok value) is = by_plan request a c id reply (put_so (is_there t selector) request.closes) is.0 is.2
 
     at_so : (spot : Spot) → PutsAt c id usage selector t spot request a → Fine a
     at_so (Over p) is = element_so (Over p) is.0 is.2
@@ -363,7 +298,7 @@ module _ (c : Content) (id : DocId) (request : Request) (a : Answer) where
       (by_store request a c id (deleted_reply request.closes) (λ note. refl) RemoveDocument (changing c id RemoveDocument) refl) is
 
   cut_so : (usage : Usage) (selector : Selector) (t : Tree) → CutsNode c id usage selector t request a → Fine a
-  cut_so usage selector t is = planned request a c id (cut_reply request.closes) (λ note. refl) (IsDeletePlan usage t selector) (delete_never usage t selector) is.0 is.1 is.2
+  cut_so usage selector t is = by_plan request a c id (cut_reply request.closes) (λ note. refl) is.0 is.2
 
   node_deleted_so : (usage : Usage) (selector : Selector) (version : Option (Tree × ℕ)) → DeletesNodeIn c id usage selector version request a → Fine a
   node_deleted_so usage selector None is = only request a 404 refl is

@@ -23,7 +23,7 @@ use Rattle.plan_words.specs.declared.spot.Spot.{Spot}
 use Rattle.plan_words.specs.declared.spot.Spot.TheVariants.{Over, Under, Beside, Value}
 use Rattle.plan_words.specs.declared.spot.NoParent.{NoParent}
 use Rattle.plan_words.specs.declared.refusal.EditRefusal.{EditRefusal}
-use Rattle.plan_words.specs.declared.refusal.EditRefusal.TheVariants.{NotFound, CannotInsert, CannotDelete, Schema, Constraint, Unique, NoMemory}
+use Rattle.plan_words.specs.declared.refusal.EditRefusal.TheVariants.{NotFound, CannotInsert, CannotDelete, Schema, Constraint, Unique}
 use Rattle.plan_words.specs.Attributes.{IsAttrPlan, IsWritable}
 use Rattle.plan_words.specs.Deletions.{IsDeletePlan}
 use Rattle.plan_words.specs.Puts.{IsPutPlan}
@@ -54,7 +54,6 @@ plan_refused CannotDelete closes = conflict conflicts.CannotDelete closes
 plan_refused Schema closes = conflict conflicts.Schema closes
 plan_refused Constraint closes = conflict conflicts.Constraint closes
 plan_refused (Unique clash) closes = conflict (conflicts.Unique (clash_field clash)) closes
-plan_refused NoMemory closes = plain 503 closes
 
 -- a planned change is asked of the store, whose note the reply goes by
 abbrev pub plan_answer : Stock → DocId → Bool → (Note → Sent) → Result Change EditRefusal → Answer

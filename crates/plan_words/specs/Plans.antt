@@ -11,11 +11,7 @@ use Rattle.usage_docs.specs.declared.judging.Fault.TheVariants.{Invalid, Unforme
 use Rattle.edit_ops.specs.Changes.{Fits, edited}
 use Rattle.edit_ops.specs.declared.change.Change.{Change}
 use Rattle.plan_words.specs.declared.refusal.EditRefusal.{EditRefusal}
-use Rattle.plan_words.specs.declared.refusal.EditRefusal.TheVariants.{Schema, Constraint, Unique, NoMemory}
-
--- want of memory may be answered in place of anything else
-abbrev pub OrMemory : {A : Type 0} → (Result A EditRefusal → Type 0) → Result A EditRefusal → Type 0
-OrMemory P result = (result ≡ Err NoMemory) ⊎ P result
+use Rattle.plan_words.specs.declared.refusal.EditRefusal.TheVariants.{Schema, Constraint, Unique}
 
 -- the refusal by the first fault of the document that a change would make
 abbrev pub refusal : Fault → EditRefusal

@@ -1,13 +1,9 @@
 //! Why a PUT or DELETE of a node makes no change (RFC 4825, sections 8.2.3 to 8.2.5 and 8.4).
-ghost use Rattle.std.specs.Prelude.{◌≡◌};
-ghost use Rattle.plan_words.specs.declared.refusal.EditRefusal.TheVariants as refusals;
 
-use std::alloc::AllocError;
 use thiserror::Error;
 use usage_docs::Clash;
 
-/// Why there is no change. The first of these that applies is answered, in this order; `NoMemory`
-/// may come in place of any other answer of a call that takes memory.
+/// Why there is no change. The first of these that applies is answered, in this order.
 #[derive(Debug, Drop, Error)]
 pub enum EditRefusal {
     /// Nothing is selected.
@@ -28,15 +24,4 @@ pub enum EditRefusal {
     /// Two siblings of one kind would have one key; this is the first clash.
     #[error("two siblings would have one key")]
     Unique(Clash),
-    /// Memory was wanted.
-    #[error("out of memory")]
-    NoMemory,
-}
-
-impl From<AllocError> for EditRefusal {
-    ghost from_gives = { λ _ e. e ≡ refusals.NoMemory };
-
-    fn from(_: AllocError) -> Self {
-        EditRefusal::NoMemory
-    }
 }

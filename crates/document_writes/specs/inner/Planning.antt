@@ -1,5 +1,5 @@
 -- What a request on a node comes to before the store is asked. RFC 4825, sections 8.2 and 8.4.
-use Rattle.std.specs.Prelude.{◌≡◌, ◌≢◌, Bool, true, false, Option, None, Some, Result, Ok, Err, IsSome}
+use Rattle.std.specs.Prelude.{◌≡◌, Bool, true, false, Option, None, Some, Result, Ok, Err, IsSome}
 use Rattle.xml_tree.specs.Tree.{Tree, at}
 use Rattle.doc_names.specs.declared.doc_id.DocId.{DocId}
 use Rattle.doc_names.specs.declared.usages.Usage.{Usage}
@@ -8,7 +8,6 @@ use Rattle.edit_ops.specs.Changes.{edited}
 use Rattle.edit_ops.specs.declared.change.Change.{Change}
 use Rattle.plan_words.specs.Plans.{LeavesProper}
 use Rattle.plan_words.specs.declared.refusal.EditRefusal.{EditRefusal}
-use Rattle.plan_words.specs.declared.refusal.EditRefusal.TheVariants.{NoMemory}
 use Rattle.plan_words.specs.declared.spot.Spot.{Spot}
 use Rattle.plan_words.specs.declared.spot.Spot.TheVariants.{Over, Under, Beside, Value}
 use Rattle.node_select.specs.declared.selector.Selector.{Selector}
@@ -56,10 +55,10 @@ pub record IsPlanFor (usage : Usage) (t : Tree) (id : DocId) (closes : Bool) (Is
   pub answers : (c : Stock) → Is c (answer_by c id closes plan)
   pub may_be_made : MayBeMadeBy usage t plan
 
--- it is the planned change, or the reply that says why there is none, which is not want of memory
+-- it is the planned change, or the reply that says why there is none
 abbrev pub IsPlanOf : Result Change EditRefusal → Bool → Bool → Plan → Type 0
 IsPlanOf (Ok change) exists closes plan = plan ≡ Makes change exists
-IsPlanOf (Err why) exists closes plan = (plan ≡ Stops (plan_refused why closes)) × (why ≢ NoMemory)
+IsPlanOf (Err why) exists closes plan = plan ≡ Stops (plan_refused why closes)
 
 -- it is the plan of a DELETE of what the selector finds, by all but the conditions; there is none where nothing is found
 abbrev pub IsCut : Usage → Tree → Selector → Request → Option Plan → Type 0

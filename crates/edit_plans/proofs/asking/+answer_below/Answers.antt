@@ -1,4 +1,5 @@
 use Rattle.std.proofs.Common.{◌≡◌, ◌-◌, ◌++◌, ◌∷◌, [], ℕ, List, Option, Some, Result, IsSome, length, take, drop, get_or, slice_get, option_and_then, sym, ap, ◌∙◌, subst, rules}
+use Rattle.std.proofs.lemmas.Result.{IfOk-weaker}
 use Rattle.std.specs.Option.{option_copied}
 use Rattle.xml_tree.specs.Tree.{Tree, at, kids_of}
 use Rattle.xml_tree.specs.declared.names.Decl.{Decl}
@@ -9,7 +10,7 @@ use Rattle.usage_docs.specs.Rows.{Scope, kind_of}
 use Rattle.plan_words.specs.declared.refusal.EditRefusal.{EditRefusal}
 use Rattle.edit_plans.specs.inner.Asking.{Answers, MayAsk}
 use Rattle.edit_plans.specs.inner.Parents.{Below}
-use Rattle.edit_plans.proofs.Ways.{below_here, below_next, empty_way, here_below, next_below, or_memory, there_next, way_parts}
+use Rattle.edit_plans.proofs.Ways.{below_here, below_next, empty_way, here_below, next_below, there_next, way_parts}
 use Rattle.edit_plans.proofs.asking.+answer_below.Goals as goal
 
 -- at the parent
@@ -26,7 +27,7 @@ pub returns-in_default : goal.returns-in_default
 returns-in_default t c = record {
   answers_below =
       let P : Result ℕ EditRefusal → Option Kind → Scope → Tree → Type 0 = λ x r d parent. Answers r d c.args.step.now parent c.args.place.now c.args.asked.now x in
-      or_memory (Answers c.args.row c.args.scope.now c.args.step.now c.args.element.now c.args.place.now c.args.asked.now) (λ x. Below (P x) c.args.row c.args.scope.now c.args.element.now c.args.way.now) c.answer_in.result
+      IfOk-weaker c.answer_in.result (Answers c.args.row c.args.scope.now c.args.step.now c.args.element.now c.args.place.now c.args.asked.now) (λ x. Below (P x) c.args.row c.args.scope.now c.args.element.now c.args.way.now)
       (λ x h. subst (λ (w : List ℕ). Below (P x) c.args.row c.args.scope.now c.args.element.now w) (sym (empty_way c.args.way.now c.in_default.len_below)) (below_here (P x) c.args.row c.args.scope.now c.args.element.now h))
       c.answer_in.ensures.answers_what_was_asked;
 }
@@ -72,7 +73,7 @@ returns t c = record {
       c.row_inside-row.ensures.row_of_the_child
       ∙ ap (λ (d : List (List Decl)). option_and_then (λ kind. kind_of kind d c.name.result.now) row) scope_is
       ∙ ap (λ (m : Name). option_and_then (λ kind. kind_of kind (inside scope kid) m) row) c.name.ensures.lends_the_name in
-      or_memory (λ x. Below (P x) c.row_inside-row.result c.inside-inside.result kid rest) (λ x. Below (P x) row scope e way) c.answer_below.result
+      IfOk-weaker c.answer_below.result (λ x. Below (P x) c.row_inside-row.result c.inside-inside.result kid rest) (λ x. Below (P x) row scope e way)
       (λ x h. subst (λ (w : List ℕ). Below (P x) row scope e w) (sym (way_parts way c.in-len1-up.len_at_least))
       (below_next (P x) row scope n rest e kid there
       (subst (λ (o : Option Kind). Below (P x) o (inside scope kid) kid rest) row_is (subst (λ (d : List (List Decl)). Below (P x) c.row_inside-row.result d kid rest) scope_is h))))

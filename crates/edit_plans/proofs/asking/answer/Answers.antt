@@ -1,10 +1,9 @@
-use Rattle.std.proofs.Common.{◌≡◌, ◌++◌, ◌∷◌, [], ℕ, List, Option, Some, Result, sym, ap, ◌∙◌, subst}
+use Rattle.std.proofs.Common.{◌≡◌, ◌++◌, ◌∷◌, [], ℕ, List, Option, Some, Result, IfOk, sym, ap, ◌∙◌, subst}
 use Rattle.xml_tree.specs.Tree.{Tree}
 use Rattle.xml_tree.specs.declared.names.Decl.{Decl}
 use Rattle.usage_docs.specs.declared.rows.Kind.{Kind}
 use Rattle.usage_docs.specs.Rows.{Scope, root_kind}
 use Rattle.plan_words.specs.declared.refusal.EditRefusal.{EditRefusal}
-use Rattle.plan_words.specs.Plans.{OrMemory}
 use Rattle.edit_plans.specs.inner.Asking.{Answers, MayAsk}
 use Rattle.edit_plans.specs.inner.Parents.{Below}
 use Rattle.edit_plans.proofs.asking.answer.Goals as goal
@@ -24,7 +23,7 @@ returns c = record {
       let P : Result ℕ EditRefusal → Option Kind → Scope → Tree → Type 0 = λ x r d parent. Answers r d c.args.step.now parent c.args.place.now c.args.asked.now x in
       let t = c.args.root.now in
       let scope : c.inside.result ≡ t.decls ∷ [] = c.inside.ensures.adds_the_declarations ∙ ap (λ (d : List (List Decl)). d ++ c.in_ok-declared.declared ∷ []) c.empty.ensures.declares_nothing ∙ ap (λ (ds : List Decl). ds ∷ []) ((c.in_ok-declared.ensures {u = tt}).holds_the_declarations ∙ c.decls.ensures.lends_the_declarations) in
-      subst (λ (q : List ℕ). OrMemory (λ x. Below (P x) (Some (root_kind c.args.usage)) (t.decls ∷ []) t q) c.answer_below.result) c.numbers.ensures.numbers
-      (subst (λ (d : List (List Decl)). OrMemory (λ x. Below (P x) (Some (root_kind c.args.usage)) d t c.numbers.result.now) c.answer_below.result) scope
-      (subst (λ (k : Kind). OrMemory (λ x. Below (P x) (Some k) c.inside.result t c.numbers.result.now) c.answer_below.result) c.root_kind.ensures.kind_of_the_root c.answer_below.ensures.answers_below));
+      subst (λ (q : List ℕ). IfOk c.answer_below.result (λ x. Below (P x) (Some (root_kind c.args.usage)) (t.decls ∷ []) t q)) c.numbers.ensures.numbers
+      (subst (λ (d : List (List Decl)). IfOk c.answer_below.result (λ x. Below (P x) (Some (root_kind c.args.usage)) d t c.numbers.result.now)) scope
+      (subst (λ (k : Kind). IfOk c.answer_below.result (λ x. Below (P x) (Some k) c.inside.result t c.numbers.result.now)) c.root_kind.ensures.kind_of_the_root c.answer_below.ensures.answers_below));
 }

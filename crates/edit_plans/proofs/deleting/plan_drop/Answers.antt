@@ -1,4 +1,4 @@
-use Rattle.std.proofs.Common.{◌≡◌, inr, None, Some, refl, sym, ap, ◌∙◌}
+use Rattle.std.proofs.Common.{◌≡◌, None, Some, refl, sym, ap, ◌∙◌}
 use Rattle.xml_tree.specs.Tree.{Tree, at}
 use Rattle.edit_plans.specs.declared.retagging.Sought.{Sought}
 use Rattle.edit_plans.proofs.DropLemmas.{attr_found, dropped_by, place_is, scope_is}
@@ -25,7 +25,7 @@ returns-in_default-find_attr c = record {
       let place = place_is t e p c.in-Some-at.scope _ uri _ local c.find_attr.result in_scope c.as_str.ensures.letters c.as_str-2.ensures.letters
       c.find_attr.ensures.place_of_the_first in
       let none = none_at_position (is_attr (scope_at p t) uri local) e.attrs (sym place ∙ c.in_default-find_attr.is) in
-      inr (drop_nothing c.args.usage t e c.args.selector.now p uri local c.requires.ends c.requires.selected there none);
+      drop_nothing c.args.usage t e c.args.selector.now p uri local c.requires.ends c.requires.selected there none;
 }
 
 pub returns : goal.returns
@@ -47,6 +47,6 @@ returns c = record {
       let named = (c.in_ok-name.ensures {u = tt}).makes_an_equal_name ∙ ap (λ (x : Attr). x.name) (sym c.index-attrs-place.is) in
       let without = ap (λ (x : Tree). x.attrs) (c.in_ok-tag.ensures {u = tt}).tag_without_the_attribute in
       let sought : Sought = record { uri = c.args.uri; local = c.args.local; value = None } in
-      dropped_by c.args.usage t e c.args.selector.now p uri local attr c.in_ok-name.name tag.attrs sought c.retagged-found.result c.dropped.result
-      c.requires.ends c.requires.selected there that named without refl c.retagged-found.ensures.answers_the_new_tag c.dropped.ensures.drops_if_it_may;
+      dropped_by c.args.usage t e c.args.selector.now p uri local attr c.in_ok-name.name tag.attrs sought c.in_ok-found.found c.dropped.result
+      c.requires.ends c.requires.selected there that named without refl (c.in_ok-found.ensures {u = tt}).answers_the_new_tag c.dropped.ensures.drops_if_it_may;
 }

@@ -1,4 +1,4 @@
-use Rattle.std.proofs.Common.{◌≡◌, ◌++◌, ◌∷◌, [], inr, ℕ, List, refl, sym, ap, ◌∙◌, subst, Err}
+use Rattle.std.proofs.Common.{◌≡◌, ◌++◌, ◌∷◌, [], ℕ, List, refl, sym, ap, ◌∙◌, subst, Err}
 use Rattle.node_select.specs.Selection.{SelectsPath}
 use Rattle.edit_ops.specs.declared.change.Change.TheVariants.{Remove}
 use Rattle.plan_words.specs.declared.refusal.EditRefusal.TheVariants as refusals
@@ -6,7 +6,7 @@ use Rattle.plan_words.specs.Deletions.{IsRemoval}
 use Rattle.edit_plans.specs.inner.Asking.{IsRemovedIn, IsSelected}
 use Rattle.edit_plans.specs.inner.Tested.{made}
 use Rattle.edit_plans.proofs.PlanAt.{delete_by, empty_path, ends_with, may_select, parent_of, parent_there, removal_by}
-use Rattle.edit_plans.proofs.Ways.{answered_at_root, tell_at_root}
+use Rattle.edit_plans.proofs.Ways.{tell_at_root, told_at_root}
 use Rattle.edit_plans.proofs.deleting.plan_removal.Goals as goal
 
 pub returns-in_default : goal.returns-in_default
@@ -15,11 +15,11 @@ returns-in_default c = record {
       let t = c.args.root.now in
       let selector = c.args.selector.now in
       let root : c.args.path ≡ [] = empty_path c.split_last.result c.args.path c.split_last.ensures.below c.in_default.is in
-      inr (delete_by c.args.usage t selector c.args.path (Err refusals.Schema) c.requires.ends c.requires.selected (subst (λ (p : List ℕ). IsRemoval c.args.usage t selector p (Err refusals.Schema)) (sym root) refl));
+      delete_by c.args.usage t selector c.args.path (Err refusals.Schema) c.requires.ends c.requires.selected (subst (λ (p : List ℕ). IsRemoval c.args.usage t selector p (Err refusals.Schema)) (sym root) refl);
 }
 
-pub answer-found-requires-clause-there : goal.answer-found-requires-clause-there
-answer-found-requires-clause-there c =
+pub answer-requires-clause-there : goal.answer-requires-clause-there
+answer-requires-clause-there c =
     let t = c.args.root.now in
     let steps = c.args.selector.now.steps in
     let q = c.in-Some.place in
@@ -29,8 +29,8 @@ answer-found-requires-clause-there c =
     let e = ends_with steps c.as_slice.result.now s c.as_slice.ensures.lends_the_items c.in-len1-up.len_at_least c.step-item.is in
     parent_there t steps e.0 s q j (parent_of t steps e.0 s q j e.1 (subst (λ (p : List ℕ). SelectsPath steps t p) at_p c.requires.selected))
 
-pub answer-found-requires-clause-asked : goal.answer-found-requires-clause-asked
-answer-found-requires-clause-asked c =
+pub answer-requires-clause-asked : goal.answer-requires-clause-asked
+answer-requires-clause-asked c =
     let t = c.args.root.now in
     let steps = c.args.selector.now.steps in
     let q = c.in-Some.place in
@@ -54,6 +54,6 @@ returns c = record {
       let e = ends_with steps c.as_slice.result.now s c.as_slice.ensures.lends_the_items c.in-len1-up.len_at_least c.step-item.is in
       let sel = subst (λ (p : List ℕ). SelectsPath steps t p) at_p c.requires.selected in
       let p = parent_of t steps e.0 s q j e.1 sel in
-      let found = answered_at_root c.args.usage t q (λ r row scope parent. IsRemovedIn row scope s parent j r) c.answer-found.result c.answer-found.ensures.answers_at_the_place in
-      removal_by c.args.usage t selector e.0 s q j p c.requires.ends c.requires.faultless sel c.answer-found.result c.removed.result found (c.removed.ensures.removes_if_it_may ∙ ap (λ (l : List ℕ). made (Remove l) c.answer-found.result) at_p);
+      let found = told_at_root c.args.usage t q (λ row scope parent. IsRemovedIn row scope s parent j c.in_ok-found.found) (c.in_ok-found.ensures {u = tt}).answers_at_the_place in
+      removal_by c.args.usage t selector e.0 s q j p c.requires.ends c.requires.faultless sel c.in_ok-found.found c.removed.result found (c.removed.ensures.removes_if_it_may ∙ ap (λ (l : List ℕ). made (Remove l) c.in_ok-found.found) at_p);
 }

@@ -1,17 +1,16 @@
-use Rattle.std.proofs.Common.{inl, inr, List, remove, refl, subst}
+use Rattle.std.proofs.Common.{inl, inr, List, IfOk, remove, refl, subst}
 use Rattle.xml_tree.specs.Tree.{Tree, kids_of}
-use Rattle.plan_words.specs.Plans.{OrMemory}
+use Rattle.std.proofs.lemmas.Result.{IfOk-weaker}
 use Rattle.edit_plans.specs.inner.Asking.{FormedIn, IsExchangedIn, IsJudgedIn}
 use Rattle.edit_plans.proofs.Judging.{true_false}
 use Rattle.edit_plans.proofs.SiblingLemmas.{clean_by, gap_without, others_without}
-use Rattle.edit_plans.proofs.Ways.{or_memory}
 use Rattle.edit_plans.proofs.exchanging.exchanged_in.Goals as goal
 
 pub returns-then-not-passes : goal.returns-then-not-passes
-returns-then-not-passes c = record { answers_the_exchange = inr (inl (refl, λ p. true_false c.passes.result (c.passes.ensures.tells_whether_it_passes_both.1 p) c.if-not-passes.true)) }
+returns-then-not-passes c = record { answers_the_exchange = inl (refl, λ p. true_false c.passes.result (c.passes.ensures.tells_whether_it_passes_both.1 p) c.if-not-passes.true) }
 
 pub returns-then-not-branch : goal.returns-then-not-branch
-returns-then-not-branch c = record { answers_the_exchange = inr (inr (inl (refl, c.passes.ensures.tells_whether_it_passes_both.0 c.if-not-passes.false, λ f. true_false c.in_ok-fits_over.field-0 ((c.in_ok-fits_over.ensures {u = tt}).tells_whether_it_fits_over.1 f) c.if-not-branch.true))) }
+returns-then-not-branch c = record { answers_the_exchange = inr (inl (refl, c.passes.ensures.tells_whether_it_passes_both.0 c.if-not-passes.false, λ f. true_false c.in_ok-fits_over.field-0 ((c.in_ok-fits_over.ensures {u = tt}).tells_whether_it_fits_over.1 f) c.if-not-branch.true)) }
 
 pub judged_new-requires-clause-gap : goal.judged_new-requires-clause-gap
 judged_new-requires-clause-gap c =
@@ -32,7 +31,7 @@ returns c = record {
       let j = c.args.child in
       let F = FormedIn row scope new in
       let same = others_without c.without-siblings.result parent j c.without-siblings.ensures.parent c.without-siblings.ensures.but_one in
-      or_memory (IsJudgedIn F row scope (remove (kids_of parent) j) new q j) (IsExchangedIn row scope c.args.step.now parent j new q) c.judged_new.result
+      IfOk-weaker c.judged_new.result (IsJudgedIn F row scope (remove (kids_of parent) j) new q j) (IsExchangedIn row scope c.args.step.now parent j new q)
       (λ r h. inr (inr (c.passes.ensures.tells_whether_it_passes_both.0 c.if-not-passes.false, (c.in_ok-fits_over.ensures {u = tt}).tells_whether_it_fits_over.0 c.if-not-branch.false, h)))
-      (subst (λ (xs : List Tree). OrMemory (IsJudgedIn F row scope xs new q j) c.judged_new.result) same c.judged_new.ensures.judges_the_new_element);
+      (subst (λ (xs : List Tree). IfOk c.judged_new.result (IsJudgedIn F row scope xs new q j)) same c.judged_new.ensures.judges_the_new_element);
 }

@@ -1,4 +1,4 @@
-use Rattle.std.proofs.Common.{inr, Option, IsTrue, subst}
+use Rattle.std.proofs.Common.{Option, IsTrue, subst}
 use Rattle.xml_tree.specs.Tree.{kids_of}
 use Rattle.usage_docs.specs.declared.keys.Clash.{Clash}
 use Rattle.usage_docs.specs.Reading.Siblings.{IsFirst}
@@ -12,14 +12,14 @@ pub returns-then-not-formed : goal.returns-then-not-formed
 returns-then-not-formed c = record {
   judges_by_the_form =
       let xs = others c.args.siblings.now.left_out (kids_of c.args.siblings.now.parent.now) in
-      inr (judged_unformed (IsTrue c.args.formed) c.args.row c.args.scope.now xs c.args.new.now c.args.place.now c.args.gap (λ f. true_false c.args.formed f c.if-not-formed.true));
+      judged_unformed (IsTrue c.args.formed) c.args.row c.args.scope.now xs c.args.new.now c.args.place.now c.args.gap (λ f. true_false c.args.formed f c.if-not-formed.true);
 }
 
 pub returns-in_default : goal.returns-in_default
 returns-in_default c = record {
   judges_by_the_form =
       let xs = others c.args.siblings.now.left_out (kids_of c.args.siblings.now.parent.now) in
-      inr (judged_foreign (IsTrue c.args.formed) c.args.row c.args.scope.now xs c.args.new.now c.args.place.now c.args.gap c.in_default.is c.if-not-formed.false);
+      judged_foreign (IsTrue c.args.formed) c.args.row c.args.scope.now xs c.args.new.now c.args.place.now c.args.gap c.in_default.is c.if-not-formed.false;
 }
 
 pub first_beside-requires-clause-unique : goal.first_beside-requires-clause-unique
@@ -31,7 +31,7 @@ returns-in-Some-2 c = record {
   judges_by_the_form =
       let xs = others c.args.siblings.now.left_out (kids_of c.args.siblings.now.parent.now) in
       let first = subst (λ (o : Option Clash). IsFirst (ClashesBeside c.in-Some.kind c.args.scope.now xs c.args.new.now c.args.gap) c.args.place.now o) c.in-Some-2.is (c.in_ok-clash.ensures {u = tt}).finds_the_first_beside_the_new in
-      inr (judged_clash (IsTrue c.args.formed) c.args.row c.args.scope.now xs c.args.new.now c.args.place.now c.args.gap c.in-Some.kind c.in-Some-2.clash c.in-Some.is c.if-not-formed.false first);
+      judged_clash (IsTrue c.args.formed) c.args.row c.args.scope.now xs c.args.new.now c.args.place.now c.args.gap c.in-Some.kind c.in-Some-2.clash c.in-Some.is c.if-not-formed.false first;
 }
 
 pub returns-in-None : goal.returns-in-None
@@ -39,5 +39,5 @@ returns-in-None c = record {
   judges_by_the_form =
       let xs = others c.args.siblings.now.left_out (kids_of c.args.siblings.now.parent.now) in
       let first = subst (λ (o : Option Clash). IsFirst (ClashesBeside c.in-Some.kind c.args.scope.now xs c.args.new.now c.args.gap) c.args.place.now o) c.in-None.is (c.in_ok-clash.ensures {u = tt}).finds_the_first_beside_the_new in
-      inr (judged_ok (IsTrue c.args.formed) c.args.row c.args.scope.now xs c.args.new.now c.args.place.now c.args.gap c.in-Some.kind c.in-Some.is c.if-not-formed.false first);
+      judged_ok (IsTrue c.args.formed) c.args.row c.args.scope.now xs c.args.new.now c.args.place.now c.args.gap c.in-Some.kind c.in-Some.is c.if-not-formed.false first;
 }

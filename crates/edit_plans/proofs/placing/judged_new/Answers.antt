@@ -1,8 +1,8 @@
 use Rattle.std.proofs.Common.{IsTrue}
+use Rattle.std.proofs.lemmas.Result.{IfOk-weaker}
 use Rattle.xml_tree.specs.Tree.{kids_of}
 use Rattle.edit_plans.specs.inner.Asking.{FormedIn, IsJudgedIn, others}
 use Rattle.edit_plans.proofs.Judging.{judged_by}
-use Rattle.edit_plans.proofs.Ways.{or_memory}
 use Rattle.edit_plans.proofs.placing.judged_new.Goals as goal
 
 pub returns : goal.returns
@@ -16,6 +16,6 @@ returns c = record {
       let xs = others c.args.siblings.now.left_out (kids_of c.args.siblings.now.parent.now) in
       let F = IsTrue c.in_ok-formed.formed in
       let G = FormedIn row scope new in
-      or_memory (IsJudgedIn F row scope xs new q gap) (IsJudgedIn G row scope xs new q gap) c.judged.result
+      IfOk-weaker c.judged.result (IsJudgedIn F row scope xs new q gap) (IsJudgedIn G row scope xs new q gap)
       (λ r h. judged_by F G row scope xs new q gap r (c.in_ok-formed.ensures {u = tt}).tells_whether_it_is_formed h) c.judged.ensures.judges_by_the_form;
 }

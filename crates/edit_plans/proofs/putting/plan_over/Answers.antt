@@ -3,18 +3,18 @@ use Rattle.node_select.specs.Selection.{SelectsPath}
 use Rattle.edit_ops.specs.declared.change.Change.TheVariants.{Replace}
 use Rattle.plan_words.specs.declared.refusal.EditRefusal.TheVariants.{CannotInsert}
 use Rattle.plan_words.specs.Lawful.{LawfulOver}
-use Rattle.plan_words.specs.Plans.{IsTested, OrMemory}
+use Rattle.plan_words.specs.Plans.{IsTested}
 use Rattle.edit_plans.specs.inner.Tested.{made}
 use Rattle.edit_plans.proofs.PlanTag.{only_the_root, root_over}
 use Rattle.edit_plans.proofs.SpotLemmas.{last_parts}
 use Rattle.edit_plans.proofs.PlanAt.{empty_path, ends_with, may_select, over_by, parent_of, parent_there}
 use Rattle.edit_plans.specs.inner.Asking.{HasRoom, IsExchangedIn, IsSelected}
-use Rattle.edit_plans.proofs.Ways.{answered_at_root, tell_at_root}
+use Rattle.edit_plans.proofs.Ways.{tell_at_root, told_at_root}
 use Rattle.edit_plans.proofs.putting.plan_over.Goals as goal
 
 -- the root
-pub root_exchanged-found-requires-clause-alone : goal.root_exchanged-found-requires-clause-alone
-root_exchanged-found-requires-clause-alone c =
+pub root_exchanged-requires-clause-alone : goal.root_exchanged-requires-clause-alone
+root_exchanged-requires-clause-alone c =
     let t = c.args.root.now in
     let steps = c.args.steps.now in
     let root : c.args.path.now ≡ [] = empty_path c.split_last.result c.args.path.now c.split_last.ensures.below c.in_default.is in
@@ -29,13 +29,13 @@ returns-in_default c = record {
       let steps = c.args.steps.now in
       let new = c.args.element in
       let root : c.args.path.now ≡ [] = empty_path c.split_last.result c.args.path.now c.split_last.ensures.below c.in_default.is in
-      subst (λ (l : List ℕ). OrMemory (IsTested CannotInsert (LawfulOver steps t new l) u t (Replace l new)) c.replaced.result) (sym root)
-      (root_over u t new steps c.root_exchanged-found.result c.replaced.result c.root_exchanged-found.ensures.answers_the_new_root (c.replaced.ensures.replaces_if_it_may ∙ ap (λ (l : List ℕ). made (Replace l new) c.root_exchanged-found.result) root));
+      subst (λ (l : List ℕ). IsTested CannotInsert (LawfulOver steps t new l) u t (Replace l new) c.replaced.result) (sym root)
+      (root_over u t new steps c.in_ok-found.found c.replaced.result (c.in_ok-found.ensures {u = tt}).answers_the_new_root (c.replaced.ensures.replaces_if_it_may ∙ ap (λ (l : List ℕ). made (Replace l new) c.in_ok-found.found) root));
 }
 
 -- what the code has: the parent and the last step
-pub answer-found-requires-clause-there : goal.answer-found-requires-clause-there
-answer-found-requires-clause-there c =
+pub answer-requires-clause-there : goal.answer-requires-clause-there
+answer-requires-clause-there c =
     let t = c.args.root.now in
     let steps = c.args.steps.now in
     let q = c.in-Some.place in
@@ -45,8 +45,8 @@ answer-found-requires-clause-there c =
     let e = ends_with steps steps s refl c.in-len1-up.len_at_least c.step-item.is in
     parent_there t steps e.0 s q j (parent_of t steps e.0 s q j e.1 (subst (λ (p : List ℕ). SelectsPath steps t p) at_p c.requires.selected))
 
-pub answer-found-requires-clause-asked : goal.answer-found-requires-clause-asked
-answer-found-requires-clause-asked c =
+pub answer-requires-clause-asked : goal.answer-requires-clause-asked
+answer-requires-clause-asked c =
     let t = c.args.root.now in
     let steps = c.args.steps.now in
     let q = c.in-Some.place in
@@ -73,6 +73,6 @@ returns c = record {
       let e = ends_with steps steps s refl c.in-len1-up.len_at_least c.step-item.is in
       let sel = subst (λ (p : List ℕ). SelectsPath steps t p) at_p c.requires.selected in
       let p = parent_of t steps e.0 s q j e.1 sel in
-      subst (λ (l : List ℕ). OrMemory (IsTested CannotInsert (LawfulOver steps t new l) u t (Replace l new)) c.replaced-2.result) (sym at_p)
-      (over_by u t new steps e.0 s q j p c.requires.faultless sel c.answer-found.result c.replaced-2.result (answered_at_root u t q (λ r row d x. IsExchangedIn row d s x j new q r) c.answer-found.result c.answer-found.ensures.answers_at_the_place) (c.replaced-2.ensures.replaces_if_it_may ∙ ap (λ (l : List ℕ). made (Replace l new) c.answer-found.result) at_p));
+      subst (λ (l : List ℕ). IsTested CannotInsert (LawfulOver steps t new l) u t (Replace l new) c.replaced-2.result) (sym at_p)
+      (over_by u t new steps e.0 s q j p c.requires.faultless sel c.in_ok-found-2.found c.replaced-2.result (told_at_root u t q (λ row d x. IsExchangedIn row d s x j new q c.in_ok-found-2.found) (c.in_ok-found-2.ensures {u = tt}).answers_at_the_place) (c.replaced-2.ensures.replaces_if_it_may ∙ ap (λ (l : List ℕ). made (Replace l new) c.in_ok-found-2.found) at_p));
 }

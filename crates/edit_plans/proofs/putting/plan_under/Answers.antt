@@ -1,19 +1,18 @@
 use Rattle.std.proofs.Common.{◌≡◌, ◌-◌, ◌∷◌, [], Some, length, ◌∙◌, subst, arith}
 use Rattle.node_select.specs.declared.selector.Step.{Step}
 use Rattle.usage_docs.specs.Rows.{root_kind}
-use Rattle.plan_words.specs.Plans.{OrMemory}
 use Rattle.edit_plans.specs.inner.Asking.{HasRoom, IsPlacedIn, NoClash}
 use Rattle.edit_plans.specs.inner.Parents.{Below}
 use Rattle.edit_plans.proofs.PlanAt.{none_clash}
 use Rattle.edit_plans.proofs.PlanUnder.{parent_is_there, planned, last_step_is}
-use Rattle.edit_plans.proofs.Ways.{answered_at_root, tell_at_root}
+use Rattle.edit_plans.proofs.Ways.{tell_at_root, told_at_root}
 use Rattle.edit_plans.proofs.putting.plan_under.Goals as goal
 
-pub answer-gap-requires-clause-there : goal.answer-gap-requires-clause-there
-answer-gap-requires-clause-there c = parent_is_there c.args.root.now c.args.place.now c.requires.parent.before c.requires.parent.selects
+pub answer-requires-clause-there : goal.answer-requires-clause-there
+answer-requires-clause-there c = parent_is_there c.args.root.now c.args.place.now c.requires.parent.before c.requires.parent.selects
 
-pub answer-gap-requires-clause-asked : goal.answer-gap-requires-clause-asked
-answer-gap-requires-clause-asked c =
+pub answer-requires-clause-asked : goal.answer-requires-clause-asked
+answer-requires-clause-asked c =
     let u = c.args.usage in
     let t = c.args.root.now in
     let q = c.args.place.now in
@@ -30,7 +29,7 @@ returns c = record {
       let parent = c.requires.parent in
       let le = c.in-len1-up.len_at_least in
       let same : c.step-item.result ≡ parent.step = c.step-item.is ∙ last_step_is steps parent.before parent.step c.step-item.result (length steps - 1) parent.are (omega arith) in
-      let placed = subst (λ (s : Step). OrMemory (λ r. Below (λ row d x. IsPlacedIn row d s x new q r) (Some (root_kind u)) (t.decls ∷ []) t q) c.answer-gap.result) same c.answer-gap.ensures.answers_at_the_place in
-      planned u t new q steps parent.before parent.step c.answer-gap.result c.inserted.result parent.are parent.selects c.requires.faultless
-      (answered_at_root u t q (λ r row d x. IsPlacedIn row d parent.step x new q r) c.answer-gap.result placed) c.inserted.ensures.inserts_at_the_gap;
+      let placed = subst (λ (s : Step). Below (λ row d x. IsPlacedIn row d s x new q c.in_ok-gap.gap) (Some (root_kind u)) (t.decls ∷ []) t q) same (c.in_ok-gap.ensures {u = tt}).answers_at_the_place in
+      planned u t new q steps parent.before parent.step c.in_ok-gap.gap c.inserted.result parent.are parent.selects c.requires.faultless
+      (told_at_root u t q (λ row d x. IsPlacedIn row d parent.step x new q c.in_ok-gap.gap) placed) c.inserted.ensures.inserts_at_the_gap;
 }

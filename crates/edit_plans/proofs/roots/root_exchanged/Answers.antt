@@ -7,7 +7,7 @@ use Rattle.edit_plans.proofs.roots.root_exchanged.Goals as goal
 pub returns-then-is_none : goal.returns-then-is_none
 returns-then-is_none c = record {
   answers_the_new_root =
-      inr (inl (refl, nothing c.args.steps.now c.args.new.now c.select_steps.result c.select_steps.ensures.selects_in_the_document (none_by c.select_steps.result c.is_none.result c.is_none.ensures c.if-is_none.true) []));
+      inl (refl, nothing c.args.steps.now c.args.new.now c.select_steps.result c.select_steps.ensures.selects_in_the_document (none_by c.select_steps.result c.is_none.result c.is_none.ensures c.if-is_none.true) []);
 }
 
 pub returns-in-Some : goal.returns-in-Some
@@ -15,7 +15,7 @@ returns-in-Some c = record {
   answers_the_new_root =
       let lawful = selected_some c.args.steps.now c.args.new.now c.select_steps.result c.select_steps.ensures.selects_in_the_document (some_by c.select_steps.result c.is_none.result c.is_none.ensures c.if-is_none.false) c.requires.alone in
       let judged = subst (λ (o : Option Fault). Judged c.args.usage c.args.new.now o) c.in-Some.is (c.in_ok-fault.ensures {u = tt}).judged in
-      inr (inr (lawful, (Some c.in-Some.fault, (judged, ap (λ e. Err e) c.refusal.ensures.refuses_by_the_fault))));
+      inr (lawful, (Some c.in-Some.fault, (judged, ap (λ e. Err e) c.refusal.ensures.refuses_by_the_fault)));
 }
 
 pub returns-in-None : goal.returns-in-None
@@ -23,5 +23,5 @@ returns-in-None c = record {
   answers_the_new_root =
       let lawful = selected_some c.args.steps.now c.args.new.now c.select_steps.result c.select_steps.ensures.selects_in_the_document (some_by c.select_steps.result c.is_none.result c.is_none.ensures c.if-is_none.false) c.requires.alone in
       let judged = subst (λ (o : Option Fault). Judged c.args.usage c.args.new.now o) c.in-None.is (c.in_ok-fault.ensures {u = tt}).judged in
-      inr (inr (lawful, (None, (judged, (0, refl)))));
+      inr (lawful, (None, (judged, (0, refl))));
 }
