@@ -25,7 +25,7 @@ module _ {X : Type 0} where
       (each-append (λ o. y ≢ o) xs zs (apart-before xs (ys ++ zs) y a) (each-right (λ o. y ≢ o) ys zs (apart-behind xs (ys ++ zs) y a)), apart-unmix xs ys zs (apart-cut xs (y ∷ []) (ys ++ zs) a))
 
 module _ {X : Type 0} (p : X → Bool) where
-  no-place : (n : ℕ) (xs : List X) → AllByRecursion (λ y. p y ≡ false) xs → position_from p n xs ≡ None
+  pub no-place : (n : ℕ) (xs : List X) → AllByRecursion (λ y. p y ≡ false) xs → position_from p n xs ≡ None
   no-place n [] h = refl
   no-place n (x ∷ xs) h = rw h.0 (no-place (n + 1) xs h.1)
 

@@ -46,6 +46,13 @@ module _ {X : Type 0} where
   apart-cut [] ys zs a = apart-drop ys zs a
   apart-cut (x ∷ xs) ys zs a = (each-cut (λ y. x ≢ y) xs ys zs a.0, apart-cut xs ys zs a.1)
 
+  apart-front : (xs ys : List X) → AreApart (xs ++ ys) → AreApart xs
+  apart-front [] ys a = tt
+  apart-front (x ∷ xs) ys a = (each-left (λ y. x ≢ y) xs ys a.0, apart-front xs ys a.1)
+
+  pub apart-middle : (xs ys zs : List X) → AreApart (xs ++ (ys ++ zs)) → AreApart ys
+  apart-middle xs ys zs a = apart-front ys zs (apart-drop xs (ys ++ zs) a)
+
   -- what stands behind an item is none that it is
   pub apart-behind : (xs ys : List X) (n : X) → AreApart (xs ++ n ∷ ys) → AllByRecursion (λ y. n ≢ y) ys
   apart-behind [] ys n a = a.0

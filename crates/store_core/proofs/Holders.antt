@@ -11,6 +11,7 @@ use Rattle.store_core.specs.Keeping.{AreApart}
 use Rattle.std.specs.Option.{option_or as or_else}
 use Rattle.store_core.specs.inner.Storing.{holder_in, is_others}
 use Rattle.store_core.proofs.Admitted.{apart-unmix, unlike-all}
+use Rattle.store_core.proofs.Apart.{apart-middle, each-weaker}
 
 neither-of : (a b : Bool) → (a || b) ≡ false → (a ≡ false) × (b ≡ false)
 neither-of true b h = cc
@@ -32,6 +33,11 @@ pub not-beside : (xs ys zs : List (List ℕ)) (k : List ℕ) → AreApart (xs ++
 not-beside xs ys zs k apart h =
     let P : List ℕ → Type 0 = λ y. AllByRecursion (λ o. y ≢ o) (xs ++ zs) in
     unlike-all k (xs ++ zs) (all-among P ys k h (apart-unmix xs ys zs apart))
+
+or-middle : (a b c : Bool) → b ≡ true → (a || (b || c)) ≡ true
+or-middle true b c h = refl
+or-middle false true c h = refl
+or-middle false false c h = cc
 
 -- ---- holders
 
@@ -94,6 +100,46 @@ module _ {D : Type 0} (own : D → List (List ℕ)) (number : D → ℕ) where
       (λ h. none-holds (before ++ behind) k (own-alone before behind d k apart h))
       (held-apart before behind d k apart)
 
+  -- a document whose addresses were exchanged
+  exchange-step : (n : ℕ) (h : Option ℕ) (e l a b : Bool) → (l ≡ true → ((a || b) ≡ false) × (h ≡ None))
+      → cond e (Some n) (cond l None (cond (a || (l || b)) (Some n) h)) ≡ cond (a || (e || b)) (Some n) h
+  exchange-step n h true l true b none = refl
+  exchange-step n h true l false b none = refl
+  exchange-step n h false false a b none = refl
+  exchange-step n h false true a b none =
+      let free = none refl in
+      sym (ap (λ (c : Bool). cond c (Some n) h) free.0 ∙ free.1)
+
+  among : (xs ys zs : List (List ℕ)) (k : List ℕ) → is_member bytes_eq (xs ++ (ys ++ zs)) k ≡ (is_member bytes_eq xs k || (is_member bytes_eq ys k || is_member bytes_eq zs k))
+  among xs ys zs k = list_any-append (bytes_eq k) xs (ys ++ zs) ∙ ap (λ (b : Bool). is_member bytes_eq xs k || b) (list_any-append (bytes_eq k) ys zs)
+
+  among-two : (xs zs : List (List ℕ)) (k : List ℕ) (b : Bool) → is_member bytes_eq (xs ++ zs) k ≡ b → (is_member bytes_eq xs k || is_member bytes_eq zs k) ≡ b
+  among-two xs zs k b h = sym (list_any-append (bytes_eq k) xs zs) ∙ h
+
+  pub held-exchanged : (before behind : List D) (d e : D) (front rest leaves enters : List (List ℕ)) (k : List ℕ)
+      → AreApart (flat_map own (before ++ d ∷ behind)) → AreApart (flat_map own (before ++ e ∷ behind)) → number d ≡ number e
+      → own d ≡ front ++ (leaves ++ rest) → own e ≡ front ++ (enters ++ rest)
+      → cond (is_member bytes_eq enters k) (Some (number e)) (cond (is_member bytes_eq leaves k) None (Hold (before ++ d ∷ behind) k)) ≡ Hold (before ++ e ∷ behind) k
+  held-exchanged before behind d e front rest leaves enters k old new same was is =
+      let n = number e in
+      let other = Hold (before ++ behind) k in
+      let en = is_member bytes_eq enters k in
+      let le = is_member bytes_eq leaves k in
+      let fr = is_member bytes_eq front k in
+      let re = is_member bytes_eq rest k in
+      let has-old : is_member bytes_eq (own d) k ≡ (fr || (le || re)) = ap (λ (us : List (List ℕ)). is_member bytes_eq us k) was ∙ among front leaves rest k in
+      let has-new : is_member bytes_eq (own e) k ≡ (fr || (en || re)) = ap (λ (us : List (List ℕ)). is_member bytes_eq us k) is ∙ among front enters rest k in
+      let held-old : Hold (before ++ d ∷ behind) k ≡ cond (fr || (le || re)) (Some n) other =
+      sym (held-apart before behind d k old) ∙ ap (λ (b : Bool). cond b (Some (number d)) other) has-old ∙ ap (λ (m : ℕ). cond (fr || (le || re)) (Some m) other) same in
+      let own-apart : AreApart (front ++ (leaves ++ rest)) =
+      subst (λ (us : List (List ℕ)). AreApart us) was (apart-middle (flat_map own before) (own d) (flat_map own behind) (own-beside before behind d old)) in
+      let left : le ≡ true → is_member bytes_eq (own d) k ≡ true = λ h. has-old ∙ or-middle fr le re h in
+      ap (λ (o : Option ℕ). cond en (Some n) (cond le None o)) held-old
+      ∙ exchange-step n other en le fr re
+      (λ h. (among-two front rest k false (not-beside front leaves rest k own-apart h), none-holds (before ++ behind) k (own-alone before behind d k old (left h))))
+      ∙ ap (λ (b : Bool). cond b (Some n) other) (sym has-new)
+      ∙ held-apart before behind e k new
+
   -- ---- whether another document has an address
 
   others-step : (mine : Option ℕ) (n : ℕ) (ds : List D) (k : List ℕ) (b : Bool) → is_others mine (Some n) ≡ true → is_others mine (Hold ds k) ≡ is_member bytes_eq (flat_map own ds) k
@@ -118,6 +164,19 @@ module _ {D : Type 0} (own : D → List (List ℕ)) (number : D → ℕ) where
   others-hold-beside before behind d k apart others =
       ap (λ o. is_others (Some (number d)) o) (sym (held-apart before behind d k apart))
       ∙ mine-step (number d) (Hold (before ++ behind) k) (is_member bytes_eq (own d) k) (is_member bytes_eq (flat_map own (before ++ behind)) k) (own-alone before behind d k apart) (others-hold (Some (number d)) (before ++ behind) k others)
+
+  -- no other document has an address of a document that is apart from the others
+  pub own-free : (before behind : List D) (d : D) → AreApart (flat_map own (before ++ d ∷ behind)) → AllByRecursion (λ e. is_others (Some (number d)) (Some (number e)) ≡ true) (before ++ behind)
+      → AllByRecursion (λ k. is_others (Some (number d)) (Hold (before ++ d ∷ behind) k) ≡ false) (own d)
+  own-free before behind d apart others =
+      let xs = flat_map own before in
+      let zs = flat_map own behind in
+      each-weaker (λ k. AllByRecursion (λ o. k ≢ o) (xs ++ zs)) (λ k. is_others (Some (number d)) (Hold (before ++ d ∷ behind) k) ≡ false)
+      (λ k h.
+      others-hold-beside before behind d k apart others
+      ∙ ap (λ (us : List (List ℕ)). is_member bytes_eq us k) (flat_map-append own before behind)
+      ∙ unlike-all k (xs ++ zs) h)
+      (own d) (apart-unmix xs (own d) zs (own-beside before behind d apart))
 
 -- numbers that differ
 pub is-other : (m n : ℕ) → m ≢ n → is_others (Some m) (Some n) ≡ true

@@ -9,6 +9,7 @@ pub mod Chains
 pub mod Committed
 pub mod Ends
 pub mod Entries
+pub mod Exchanging
 pub mod HeldAfter
 pub mod Holders
 pub mod InOrder
@@ -18,6 +19,7 @@ pub mod KeyAddresses
 pub mod Keyed
 pub mod Listing
 pub mod PlanAnswers
+pub mod Places
 pub mod Planning
 pub mod Registering
 pub mod Rings
@@ -27,3 +29,4 @@ pub mod Services
 pub mod Standing
 pub mod Stored
 pub mod TellingSince
+pub mod Uris

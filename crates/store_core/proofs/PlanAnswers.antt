@@ -6,8 +6,9 @@ use Rattle.std.specs.Option.{option_or as or_else}
 use Rattle.xml_tree.specs.Tree.{Tree}
 use Rattle.usage_docs.specs.Services.{document_len}
 use Rattle.doc_names.specs.Same.{same_id}
+use Rattle.doc_names.specs.Usages.{usage_of}
 use Rattle.doc_names.specs.declared.doc_id.DocId.{DocId}
-use Rattle.edit_ops.specs.Changes.{edited}
+use Rattle.edit_ops.specs.Changes.{Fits, edited}
 use Rattle.edit_ops.specs.Staging.{IsStaged}
 use Rattle.edit_ops.specs.declared.change.Change.{Change}
 use Rattle.edit_ops.specs.declared.change.Change.TheVariants.{CreateDocument, Insert, Replace, Remove, SetAttr, DropAttr, RemoveDocument}
@@ -18,14 +19,17 @@ use Rattle.store_core.specs.declared.refusal.StoreRefusal.TheVariants.{NoMemory}
 use Rattle.store_core.specs.declared.entry.Entry.{Entry}
 use Rattle.store_core.specs.declared.step.Step.TheVariants.{Make, Edit, End}
 use Rattle.store_core.specs.Held.{Held, Stock as Content}
-use Rattle.store_core.specs.Keeping.{addresses_in}
-use Rattle.store_core.specs.Asking.{Asks}
+use Rattle.store_core.specs.Keeping.{IsSoundFor, addresses_in}
+use Rattle.store_core.specs.Asking.{Asks, MayBeFor}
 use Rattle.store_core.specs.Changing.{Act, Edits, act_of, against, against_number, against_tree, answered, changing, content_after, document_in, held_name, note_for, other_lengths}
 use Rattle.store_core.specs.Preparing.{IsPlanned, IsReady, Readied, total_of}
 use Rattle.store_core.proofs.Accepted.{passes, unfound}
 use Rattle.store_core.proofs.Apart.{none-filtered}
+use Rattle.store_core.proofs.Asked.{asked, found-name}
+use Rattle.store_core.proofs.Exchanging.{exchanged-by}
 use Rattle.store_core.proofs.Planning.{refused-first, refused-last, not-refused-at-all}
 use Rattle.store_core.specs.Stored.{Stored, entry_of}
+use Rattle.store_core.specs.inner.Addresses.{AreExchanged, enter_in, first_number, leave_in}
 use Rattle.store_core.specs.inner.Planning.{IsHeldAs, IsNoted, Plans}
 
 -- ---- any change
@@ -134,15 +138,32 @@ edit-unnumbered c doc change h t e edits found tree g n =
 pub edit-room : (c : Content) (doc : DocId) (t : Tree) → against_tree c doc false t ≡ None → (other_lengths c doc + document_len t ≤ 33554432) × (document_len t ≤ 262144)
 edit-room c doc t h = let p = passes c doc false t h in (p.room, p.short)
 
+-- what is exchanged of its addresses
+pub edit-exchanged : (c : Content) (doc : DocId) (change : Change) (h : Held) (t : Tree) (first : ℕ) (leaves enters : List (List ℕ)) → Asks c doc change → act_of change ≡ Edits
+    → document_in held_name c.documents doc ≡ Some h → h.tree ≡ t → IsSoundFor (usage_of doc.auid) t → first ≡ first_number change → leaves ≡ leave_in doc.auid t change → enters ≡ enter_in doc.auid change
+    → AreExchanged first (addresses_in doc.auid h.tree) leaves enters (addresses_in doc.auid (edited t change))
+edit-exchanged c doc change h t first leaves enters asks edits found tree sound number left entered =
+    let asked-for = asked c doc change h edits found asks in
+    let fits : Fits t change = subst (λ (x : Tree). Fits x change) tree asked-for.0 in
+    let named = subst (λ (d : DocId). MayBeFor (usage_of d.auid) (edited h.tree change)) (sym (found-name c doc h found)) asked-for.1 in
+    let may : MayBeFor (usage_of doc.auid) (edited t change) = subst (λ (x : Tree). MayBeFor (usage_of doc.auid) (edited x change)) tree named in
+    let new = addresses_in doc.auid (edited t change) in
+    subst (λ (x : Tree). AreExchanged first (addresses_in doc.auid x) leaves enters new) (sym tree)
+    (subst (λ (n : ℕ). AreExchanged n (addresses_in doc.auid t) leaves enters new) (sym number)
+    (subst (λ (us : List (List ℕ)). AreExchanged (first_number change) (addresses_in doc.auid t) us enters new) (sym left)
+    (subst (λ (us : List (List ℕ)). AreExchanged (first_number change) (addresses_in doc.auid t) (leave_in doc.auid t change) us new) (sym entered)
+    (exchanged-by doc.auid t change fits sound may))))
+
 -- with its memory and its note
-pub edit-planned : (c : Content) (doc : DocId) (change : Change) (v : Entry) (number len total : ℕ) (enters : List (List ℕ)) (p : Readied) → Asks c doc change → act_of change ≡ Edits → IsHeldAs c doc v
-    → against_tree c doc false (edited v.tree change) ≡ None → against_number c ≡ None → number ≡ c.next → len ≡ document_len (edited v.tree change) → enters ≡ addresses_in doc.auid (edited v.tree change)
-    → total + document_len v.tree ≡ total_of c + len → IsNoted doc v number change len enters total p → Plans c doc change (Ok p)
-edit-planned c doc change v number len total enters p asks edits held free free_number numbered long entered sum noted =
+pub edit-planned : (c : Content) (doc : DocId) (change : Change) (v : Entry) (number len total : ℕ) (leaves enters : List (List ℕ)) (p : Readied) → Asks c doc change → act_of change ≡ Edits → (held : IsHeldAs c doc v)
+    → against_tree c doc false (edited v.tree change) ≡ None → against_number c ≡ None → number ≡ c.next → len ≡ document_len (edited v.tree change)
+    → (first : ℕ) → AreExchanged first (addresses_in doc.auid held.0.tree) leaves enters (addresses_in doc.auid (edited v.tree change))
+    → total + document_len v.tree ≡ total_of c + len → IsNoted doc v number change len leaves enters total p → Plans c doc change (Ok p)
+edit-planned c doc change v number len total leaves enters p asks edits held free free_number numbered long first exchanged sum noted =
     let h = held.0 in
     let note = noted.0 in
     let staged = noted.1 in
-    let q : Readied = record { doc = doc; note = note_in note; step = Edit staged note len; leaves = addresses_in doc.auid v.tree; enters = enters; total = total } in
+    let q : Readied = record { doc = doc; note = note_in note; step = Edit staged note len; leaves = leaves; enters = enters; total = total } in
     let tree : v.tree ≡ h.tree = sym held.2 in
     let full : note_in note ≡ note_of h.tag c.next h.tree change =
     noted.2 ∙ ap (λ (t : ℕ). note_of t number v.tree change) (sym held.3) ∙ ap (λ (t : Tree). note_of h.tag number t change) tree ∙ ap (λ (n : ℕ). note_of h.tag n h.tree change) numbered in
@@ -167,8 +188,7 @@ edit-planned c doc change v number len total enters p asks edits held free free_
         long ∙ ap document_len after,
         refl,
         full ∙ ap (λ (x : Change). note_of h.tag c.next h.tree x) same,
-        ap (λ (t : Tree). addresses_in doc.auid t) tree,
-        entered ∙ ap (λ (t : Tree). addresses_in doc.auid t) after,
+        (exchanged.before, exchanged.behind, exchanged.was, ap (λ (t : Tree). addresses_in doc.auid t) (sym after) ∙ exchanged.becomes),
         ap (λ (t : Tree). total + document_len t) (sym tree) ∙ sum,
       );
     }))

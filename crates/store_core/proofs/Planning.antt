@@ -8,6 +8,7 @@ use Rattle.std.specs.Map.{lookup}
 use Rattle.std.specs.Set.{is_member}
 use Rattle.std.specs.Str.{bytes_eq}
 use Rattle.std.specs.Option.{option_or as or_else}
+use Rattle.std.specs.Prelude.{max}
 use Rattle.xml_tree.specs.Tree.{Tree}
 use Rattle.usage_docs.specs.Services.{document_len}
 use Rattle.usage_docs.specs.declared.keys.Clash.{Clash}
@@ -24,13 +25,15 @@ use Rattle.store_core.specs.Changing.{against_tree, answered, document_in, held_
 use Rattle.store_core.specs.inner.Storing.{IsStoring, content_in, held_in, holder, is_others, len_in, number_in, registered, uris_in}
 use Rattle.store_core.specs.Preparing.{total_of}
 use Rattle.store_core.proofs.Accepted.{sum-mapped, sum-put}
-use Rattle.store_core.proofs.Apart.{each-append, each-weaker, apart-behind, none-filtered, one-filtered}
+use Rattle.store_core.proofs.Apart.{each-append, each-left, each-right, each-weaker, apart-behind, none-filtered, one-filtered}
 use Rattle.store_core.proofs.Admitted.{apart-before}
 use Rattle.store_core.proofs.Standing.{map-filtered}
 use Rattle.store_core.proofs.Entries.{Around, each-unmapped, none-found}
-use Rattle.store_core.proofs.Holders.{is-other, others-hold, others-hold-beside}
-use Rattle.store_core.proofs.Stored.{absent-entry, around-of, held-found, known-of, len-of, total-is}
+use Rattle.store_core.proofs.Holders.{is-other, others-hold, others-hold-beside, own-free}
+use Rattle.store_core.proofs.Places.{first-among}
+use Rattle.store_core.proofs.Stored.{absent-entry, around-of, held-found, known-of, len-of, one-held, total-is}
 use Rattle.store_core.specs.Stored.{Room, Stored}
+use Rattle.store_core.specs.inner.Addresses.{AreExchanged}
 use Rattle.store_core.specs.inner.Planning.{refused_for, IsHeldAs}
 
 abbrev Row : Type 0
@@ -131,20 +134,48 @@ total-without es rs last total id v s found =
     let r = around-of es rs last total id v s found in
     omega (arith, s.sum, ap (sum_by len_in) r.parts, sum-put len_in r.before (id, v) r.behind, ap (sum_by len_in) (others-round es id v r))
 
-pub against-held : (es : List Row) (rs : List (List ℕ × ℕ)) (last total : ℕ) (id : DocId) (v : Entry) (t : Tree) → IsStoring es rs last total → lookup (same_id id) es ≡ Some v
-    → refused_for (position (λ uri. is_others (Some v.created) (registered rs uri)) (addresses_in id.auid t)) (min (document_len t) 18446744073709551615) false (total - document_len v.tree) ≡ against_tree (content_in es last) id false t
-against-held es rs last total id v t s found =
-    let r = around-of es rs last total id v s found in
-    let apart : AreApart (flat_map uris_in (r.before ++ (id, v) ∷ r.behind)) = subst (λ (ds : List Row). AreApart (flat_map uris_in ds)) r.parts (known-of es rs last total s).services in
-    let numbers = numbers-apart es (id, v) r.before r.behind r.parts s.numbers in
-    let held : (uri : List ℕ) → holder (r.before ++ (id, v) ∷ r.behind) uri ≡ registered rs uri = λ uri. ap (λ (ds : List Row). holder ds uri) (sym r.parts) ∙ sym (s.addresses uri) in
-    found-so (content_in es last) id false t (λ uri. is_others (Some v.created) (registered rs uri)) false (total - document_len v.tree)
-    (λ uri.
-    ap (λ (us : List (List ℕ)). is_member bytes_eq us uri) (other-uris es last id ∙ ap (flat_map uris_in) (others-round es id v r))
-    ∙ sym (others-hold-beside uris_in number_in r.before r.behind (id, v) uri apart numbers)
-    ∙ ap (λ (o : Option ℕ). is_others (Some v.created) o) (held uri))
-    refl
-    (omega (arith, total-without es rs last total id v s found, other-lens es last id))
+module _ (es : List Row) (rs : List (List ℕ × ℕ)) (last total : ℕ) (id : DocId) (v : Entry) (s : IsStoring es rs last total) (found : lookup (same_id id) es ≡ Some v) where
+  abbrev is-taken : List ℕ → Bool
+  is-taken uri = is_others (Some v.created) (registered rs uri)
+
+  abbrev round : Around es id v
+  round = around-of es rs last total id v s found
+
+  apart-round : AreApart (flat_map uris_in (round.before ++ (id, v) ∷ round.behind))
+  apart-round = subst (λ (ds : List Row). AreApart (flat_map uris_in ds)) round.parts (known-of es rs last total s).services
+
+  others-numbered : AllByRecursion (λ e. is_others (Some v.created) (Some (number_in e)) ≡ true) (round.before ++ round.behind)
+  others-numbered = numbers-apart es (id, v) round.before round.behind round.parts s.numbers
+
+  held-round : (uri : List ℕ) → holder (round.before ++ (id, v) ∷ round.behind) uri ≡ registered rs uri
+  held-round uri = ap (λ (ds : List Row). holder ds uri) (sym round.parts) ∙ sym (s.addresses uri)
+
+  pub against-held : (t : Tree)
+      → refused_for (position is-taken (addresses_in id.auid t)) (min (document_len t) 18446744073709551615) false (total - document_len v.tree) ≡ against_tree (content_in es last) id false t
+  against-held t =
+      found-so (content_in es last) id false t is-taken false (total - document_len v.tree)
+      (λ uri.
+      ap (λ (us : List (List ℕ)). is_member bytes_eq us uri) (other-uris es last id ∙ ap (flat_map uris_in) (others-round es id v round))
+      ∙ sym (others-hold-beside uris_in number_in round.before round.behind (id, v) uri apart-round others-numbered)
+      ∙ ap (λ (o : Option ℕ). is_others (Some v.created) o) (held-round uri))
+      refl
+      (omega (arith, total-without es rs last total id v s found, other-lens es last id))
+
+  -- no address that it has is another document's
+  own-untaken : AllByRecursion (λ uri. is-taken uri ≡ false) (addresses_in id.auid v.tree)
+  own-untaken =
+      each-weaker (λ (uri : List ℕ). is_others (Some v.created) (holder (round.before ++ (id, v) ∷ round.behind) uri) ≡ false) (λ (uri : List ℕ). is-taken uri ≡ false)
+      (λ uri h. ap (λ (o : Option ℕ). is_others (Some v.created) o) (sym (held-round uri)) ∙ h)
+      (addresses_in id.auid v.tree) (own-free uris_in number_in round.before round.behind (id, v) apart-round others-numbered)
+
+  -- so where it exchanges some, the first that is taken is one of those that come
+  pub first-taken : (t : Tree) (place : ℕ) (leaves enters : List (List ℕ)) → AreExchanged place (addresses_in id.auid v.tree) leaves enters (addresses_in id.auid t)
+      → option_map (λ i. max place i) (position is-taken enters) ≡ position is-taken (addresses_in id.auid t)
+  first-taken t place leaves enters x =
+      let none = subst (λ (us : List (List ℕ)). AllByRecursion (λ uri. is-taken uri ≡ false) us) x.was own-untaken in
+      let P : List ℕ → Type 0 = λ uri. is-taken uri ≡ false in
+      sym (ap (position is-taken) x.becomes
+      ∙ first-among is-taken place x.before enters x.behind (each-left P x.before (leaves ++ x.behind) none) (each-right P leaves x.behind (each-right P x.before (leaves ++ x.behind) none)) x.come)
 
 -- ---- what a store finds of a tree, and of the other documents
 
@@ -166,14 +197,22 @@ module _ (es : List Row) (rs : List (List ℕ × ℕ)) (last total : ℕ) (room 
     len-here : v.len ≡ document_len v.tree
     len-here = len-of es rs last total doc v storing (sym found)
 
-    pub edit-answer : (t : Tree) (uris : List (List ℕ)) (place : Option ℕ) (len : ℕ) → uris ≡ addresses_in doc.auid t → place ≡ position (λ uri. is_others (Some v.created) (registered rs uri)) uris
+    held-tree : (h : Held) → document_in held_name s.content.documents doc ≡ Some h → h.tree ≡ v.tree
+    held-tree h is =
+        let r = around-of es rs last total doc v storing (sym found) in
+        ap (λ (x : Held). x.tree) (one-held es doc v h r (subst (λ (x : Stored). document_in held_name x.content.documents doc ≡ Some h) (sym seen) is))
+
+    pub edit-answer : (h : Held) (t : Tree) (leaves uris : List (List ℕ)) (first len : ℕ) (place : Option ℕ) → document_in held_name s.content.documents doc ≡ Some h
+        → AreExchanged first (addresses_in doc.auid h.tree) leaves uris (addresses_in doc.auid t)
+        → place ≡ option_map (λ i. max first i) (position (λ uri. is_others (Some v.created) (registered rs uri)) uris)
         → len ≡ min (document_len t) 18446744073709551615 → refused_for place len false (total - v.len) ≡ against_tree s.content doc false t
-    edit-answer t uris place len own at counted =
+    edit-answer h t leaves uris first len place is exchanged at counted =
         let test : List ℕ → Bool = λ uri. is_others (Some v.created) (registered rs uri) in
-        ap (λ (o : Option ℕ). refused_for o len false (total - v.len)) (at ∙ ap (λ (us : List (List ℕ)). position test us) own)
+        let here = subst (λ (x : Tree). AreExchanged first (addresses_in doc.auid x) leaves uris (addresses_in doc.auid t)) (held-tree h is) exchanged in
+        ap (λ (o : Option ℕ). refused_for o len false (total - v.len)) (at ∙ first-taken es rs last total doc v storing (sym found) t first leaves uris here)
         ∙ ap (λ (n : ℕ). refused_for (position test (addresses_in doc.auid t)) n false (total - v.len)) counted
         ∙ ap (λ (n : ℕ). refused_for (position test (addresses_in doc.auid t)) (min (document_len t) 18446744073709551615) false (total - n)) len-here
-        ∙ against-held es rs last total doc v t storing (sym found)
+        ∙ against-held es rs last total doc v storing (sym found) t
         ∙ ap (λ (x : Stored). against_tree x.content doc false t) seen
 
     pub held-as : IsHeldAs s.content doc v

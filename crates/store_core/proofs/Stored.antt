@@ -36,7 +36,7 @@ use Rattle.store_core.proofs.KeptAfter.{kept-first}
 use Rattle.store_core.proofs.SoundHeld.{all_sound, sound_held}
 use Rattle.store_core.proofs.Standing.{map-filtered}
 use Rattle.store_core.proofs.Entries.{Around, Known, around, each-mapped, known, none-found}
-use Rattle.store_core.proofs.Holders.{held-apart, held-less}
+use Rattle.store_core.proofs.Holders.{held-apart, held-exchanged, held-less}
 use Rattle.store_core.specs.Stored.{Room, Stored}
 use Rattle.store_core.specs.inner.Planning.{Stepped, Steppable}
 
@@ -201,24 +201,22 @@ renewed-stored es rs last total p staged kept len v w rows s planned step found 
     let given-behind = each-right (λ (e : Row). number_in e ≤ p.note.next) r.before (old ∷ r.behind) given in
     let rings = subst (λ (ds : List Row). AllByRecursion HasRing ds) r.parts s.rings in
     let lens = subst (λ (ds : List Row). AllByRecursion HasLen ds) r.parts s.lens in
-    let enters : p.enters ≡ uris_in row = step.8 ∙ ap (λ (x : Tree). uris_in (p.doc, record w { tree = x })) (sym now) in
-    let leaves : p.leaves ≡ uris_in old = step.7 ∙ ap (λ (x : Tree). uris_in (p.doc, record v { tree = x })) tree in
+    let exchange = step.7 in
+    let was : uris_in old ≡ exchange.0 ++ (p.leaves ++ exchange.1) = ap (λ (x : Tree). uris_in (p.doc, record v { tree = x })) (sym tree) ∙ exchange.2 in
+    let is : uris_in row ≡ exchange.0 ++ (p.enters ++ exchange.1) = ap (λ (x : Tree). uris_in (p.doc, record w { tree = x })) now ∙ exchange.3 in
     let stored : IsStoring (r.before ++ row ∷ r.behind) rows p.note.next p.total = record {
       kept = next;
       addresses = λ uri.
           reg uri
-          ∙ ap (λ (us : List (List ℕ)). exchanged us p.enters w.created (registered rs uri) uri) leaves
-          ∙ ap (λ (us : List (List ℕ)). exchanged (uris_in old) us w.created (registered rs uri) uri) enters
-          ∙ ap (λ (o : Option ℕ). cond (is_member bytes_eq (uris_in row) uri) (Some w.created) (cond (is_member bytes_eq (uris_in old) uri) None o)) (s.addresses uri ∙ ap (λ (ds : List Row). holder ds uri) r.parts)
-          ∙ ap (λ (o : Option ℕ). cond (is_member bytes_eq (uris_in row) uri) (Some w.created) o) (held-less uris_in number_in r.before r.behind old uri before-apart)
-          ∙ held-apart uris_in number_in r.before r.behind row uri apart;
+          ∙ ap (λ (o : Option ℕ). exchanged p.leaves p.enters w.created o uri) (s.addresses uri ∙ ap (λ (ds : List Row). holder ds uri) r.parts)
+          ∙ held-exchanged uris_in number_in r.before r.behind old row exchange.0 exchange.1 p.leaves p.enters uri before-apart apart (sym new.created) was is;
       numbers =
           subst (λ (ns : List ℕ). AreApart ns)
           (ap (map number_in) r.parts ∙ map-append number_in r.before (old ∷ r.behind) ∙ ap (λ (n : ℕ). map number_in r.before ++ n ∷ map number_in r.behind) (sym new.created) ∙ sym (map-append number_in r.before (row ∷ r.behind)))
           s.numbers;
       given = each-append (λ (e : Row). number_in e ≤ p.note.next) r.before (row ∷ r.behind) (each-left (λ (e : Row). number_in e ≤ p.note.next) r.before (old ∷ r.behind) given) (omega (arith, new.created, given-behind.0), given-behind.1);
       sum =
-          omega (arith, step.9, total-is es last, ap (sum_by len_in) r.parts, sum-put len_in r.before old r.behind, sum-put len_in r.before row r.behind, ap document_len tree, long);
+          omega (arith, step.8, total-is es last, ap (sum_by len_in) r.parts, sum-put len_in r.before old r.behind, sum-put len_in r.before row r.behind, ap document_len tree, long);
       rings = each-append HasRing r.before (row ∷ r.behind) (each-left HasRing r.before (old ∷ r.behind) rings) (new.capacity, (each-right HasRing r.before (old ∷ r.behind) rings).1);
       lens = each-append HasLen r.before (row ∷ r.behind) (each-left HasLen r.before (old ∷ r.behind) lens) (new.len ∙ long, (each-right HasLen r.before (old ∷ r.behind) lens).1);
     } in (

@@ -1,5 +1,5 @@
 -- A change that has all its memory, and what makes it ready for a store.
-use Rattle.std.specs.Prelude.{◌≡◌, ℕ, ◌+◌, ◌≤◌, List, [], length, sum_by, ◌⊎◌, None, Some, Result, Ok, Err, MatchResult}
+use Rattle.std.specs.Prelude.{◌≡◌, ℕ, ◌+◌, ◌≤◌, List, [], ◌++◌, length, sum_by, ◌⊎◌, None, Some, Result, Ok, Err, MatchResult}
 use Rattle.usage_docs.specs.Services.{document_len}
 use Rattle.doc_names.specs.declared.doc_id.DocId.{DocId}
 use Rattle.edit_ops.specs.Changes.{edited}
@@ -27,6 +27,10 @@ pub record Readied : Type 0 where
   pub enters : List (List ℕ)
   pub total : ℕ
 
+-- between the same others some addresses leave and these come in in their place
+abbrev pub Exchanges : List (List ℕ) → List (List ℕ) → List (List ℕ) → List (List ℕ) → Type 0
+Exchanges old leaves enters new = (before : List (List ℕ)) × (behind : List (List ℕ)) × (old ≡ before ++ (leaves ++ behind)) × (new ≡ before ++ (enters ++ behind))
+
 abbrev pub total_of : Stock → ℕ
 total_of c = sum_by (λ h. document_len h.tree) c.documents
 
@@ -38,7 +42,7 @@ IsStepOf c p (Make entry) =
 IsStepOf c p (Edit staged kept len) =
     (h : Held) × (document_in held_name c.documents p.doc ≡ Some h) × (act_of p.note.change ≡ Edits) × IsStaged h.tree p.note.change staged
     × (len ≡ document_len (edited h.tree p.note.change)) × (note_in kept ≡ p.note) × (p.note ≡ note_of h.tag c.next h.tree p.note.change)
-    × (p.leaves ≡ addresses_in p.doc.auid h.tree) × (p.enters ≡ addresses_in p.doc.auid (edited h.tree p.note.change))
+    × Exchanges (addresses_in p.doc.auid h.tree) p.leaves p.enters (addresses_in p.doc.auid (edited h.tree p.note.change))
     × (p.total + document_len h.tree ≡ total_of c + len)
 IsStepOf c p End =
     (h : Held) × (document_in held_name c.documents p.doc ≡ Some h) × (p.note.change ≡ RemoveDocument) × (p.leaves ≡ addresses_in p.doc.auid h.tree) × (p.enters ≡ [])

@@ -1,4 +1,5 @@
 -- What private functions and proofs speak of. No clause of a public call needs it.
+pub mod Addresses
 pub mod Listed
 pub mod Planning
 pub mod Storing

@@ -3,6 +3,7 @@
 //! The standards are RFC 4825, sections 7 and 8, RFC 4826 and RFC 5874; the limits are the project's own.
 #![tactic(auto)]
 
+mod addresses;
 mod committing;
 mod entry;
 mod indexes;

@@ -1,5 +1,5 @@
 //! Changes of documents: each first takes all its memory, and then can't fail.
-ghost use Rattle.std.specs.Prelude.{◌≡◌, ◌≤◌, ◌+◌, ◌⊎◌, [], ◌∷◌, Err, IfErr, IfOk, IsSome, IsSomeAnd, None, Ok, OnOk, Some, false, min, true};
+ghost use Rattle.std.specs.Prelude.{◌≡◌, ℕ, ◌≤◌, ◌+◌, ◌⊎◌, [], ◌∷◌, Err, IfErr, IfOk, IsSome, IsSomeAnd, None, Ok, OnOk, List, Some, false, max, min, option_map, true};
 ghost use Rattle.store_core.specs.inner.Planning.{refused_for, IsHeldAs, IsNoted, Plans};
 ghost use Rattle.xml_tree.specs.Tree.{Tree};
 ghost use Rattle.usage_docs.specs.Services.{document_len};
@@ -8,7 +8,10 @@ ghost use Rattle.edit_ops.specs.declared.change.Change.TheVariants as changes;
 ghost use Rattle.store_core.specs.declared.refusal.StoreRefusal.TheVariants as refusals;
 ghost use Rattle.store_core.specs.Asking.{Asks};
 ghost use Rattle.store_core.specs.Changing.{Edits, act_of, against_number, against_tree, changing, content_after, document_in, held_name, other_lengths};
-ghost use Rattle.store_core.specs.Keeping.{addresses_in};
+ghost use Rattle.doc_names.specs.Usages.{usage_of};
+ghost use Rattle.store_core.specs.Held.{Held};
+ghost use Rattle.store_core.specs.Keeping.{IsSoundFor, addresses_in};
+ghost use Rattle.store_core.specs.inner.Addresses.{AreExchanged};
 ghost use Rattle.store_core.specs.KeyAddresses.{KeepsAddressesOf};
 ghost use Rattle.edit_ops.specs.Changes.{Fits, edited};
 ghost use Rattle.store_core.specs.Preparing.{IsReady, total_of};
@@ -16,10 +19,11 @@ ghost use Rattle.store_core.specs.Stored.{entry_of};
 ghost use Rattle.store_core.specs.declared.step.Step.TheVariants as steps;
 ghost use Rattle.notes.specs.Recorded.{note_in};
 
+use crate::addresses::{addresses, entering, first_number, leaving};
 use crate::entry::Entry;
 use crate::prepared::Prepared;
 use crate::refusal::StoreRefusal;
-use crate::registry::{addresses, addresses_after, first_taken};
+use crate::registry::first_taken;
 use crate::step::{Step, find};
 use crate::store::Store;
 use doc_names::DocId;
@@ -67,6 +71,17 @@ fn clash_at(place: usize) -> Clash
             key: Key::Uri,
         },
         None => unreachable!(),
+    }
+}
+
+// The number of the service whose address stands at a place among those that come, where the first
+// of them has this number: where several come they are all, and the first has 0.
+fn number_at(first: usize, place: Option<usize>) -> Option<usize>
+    ensures number_of_that_service { result ≡ option_map (λ i. max first i) place }
+{
+    match place {
+        Some(place) => Some(first.max(place)),
+        None => None,
     }
 }
 
@@ -196,13 +211,13 @@ fn noted(
     number: u64,
     change: Change,
     len: usize,
+    leaves: List<Text>,
     enters: List<Text>,
     total: u64,
 ) -> Result<Prepared, AllocError>
     requires { Fits entry.now.tree change }
-    ensures notes_the_edit { IfOk result (λ p. IsNoted doc.now entry.now number change len enters total p) }
+    ensures notes_the_edit { IfOk result (λ p. IsNoted doc.now entry.now number change len leaves enters total p) }
 {
-    let leaves = addresses(alloc, doc.auid, &entry.tree)?;
     let staged = stage(alloc, &entry.tree, &change)?;
     let note = EditNote::of(alloc, entry.tag, number, &entry.tree, change)?;
     edit(alloc, doc, staged, note, len, leaves, enters, total)
@@ -234,6 +249,7 @@ impl Store {
     fn held(&self, doc: &DocId) -> &Entry
         requires { IsSome (document_in held_name self.now.content.documents doc.now) }
         ensures entry_that_is_held { IsHeldAs self.now.content doc.now result.now }
+        ensures sound { IsSoundFor (usage_of doc.now.auid) result.now.tree }
     {
         match find(&self.documents, doc) {
             Some(entry) => entry,
@@ -254,17 +270,26 @@ impl Store {
         self.total - entry.len as u64
     }
 
-    // The first reason against a new tree of a document that is held, by the tree's length and its service addresses.
-    fn refusal_of_edit(&self, doc: &DocId, len: usize, uris: &[Text]) -> Option<StoreRefusal>
+    // The first reason against a new tree of a document that is held, by the tree's length, the
+    // service addresses that come in it and the number of the first of these services.
+    fn refusal_of_edit(
+        &self,
+        doc: &DocId,
+        len: usize,
+        first: usize,
+        uris: &[Text],
+    ) -> Option<StoreRefusal>
         requires { IsSome (document_in held_name self.now.content.documents doc.now) }
-        ensures first_reason_against_an_edited_one { (t : Tree) → len ≡ min (document_len t) usize.MAX → uris.now ≡ addresses_in doc.now.auid t → result ≡ against_tree self.now.content doc.now false t }
+        ensures first_reason_against_an_edited_one { (h : Held) (t : Tree) (leaves : List (List ℕ)) → document_in held_name self.now.content.documents doc.now ≡ Some h
+            → len ≡ min (document_len t) usize.MAX → AreExchanged first (addresses_in doc.now.auid h.tree) leaves uris.now (addresses_in doc.now.auid t)
+            → result ≡ against_tree self.now.content doc.now false t }
     {
         let Some(entry) = find(&self.documents, doc) else {
             unreachable!()
         };
         let place = first_taken(&self.services, uris, Some(entry.created));
         let others = self.total - entry.len as u64;
-        refused_for(place, len, false, others)
+        refused_for(number_at(first, place), len, false, others)
     }
 
     // Plans to make a document.
@@ -291,15 +316,19 @@ impl Store {
         ensures plans_the_edit { Plans self.now.content doc.now change result }
     {
         let entry = self.held(doc);
-        let enters = addresses_after(self.alloc, doc.auid, &entry.tree, &change)?;
+        let leaves = leaving(self.alloc, doc.auid, &entry.tree, &change)?;
+        let enters = entering(self.alloc, doc.auid, &change)?;
         let len = len_after(&entry.tree, entry.len, &change);
-        if let Some(refusal) = self.refusal_of_edit(doc, len, enters.as_slice()) {
+        let first = first_number(&change);
+        if let Some(refusal) = self.refusal_of_edit(doc, len, first, enters.as_slice()) {
             return Err(refusal);
         }
         let number = self.next_number()?;
         let others = self.total_without(doc);
         let total = others.saturating_add(len as u64);
-        let prepared = noted(self.alloc, doc, entry, number, change, len, enters, total)?;
+        let prepared = noted(
+            self.alloc, doc, entry, number, change, len, leaves, enters, total,
+        )?;
         Ok(prepared)
     }
 

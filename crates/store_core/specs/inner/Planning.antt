@@ -21,7 +21,6 @@ use Rattle.store_core.specs.declared.step.Step.TheVariants.{Make, Edit, End}
 use Rattle.store_core.specs.declared.refusal.StoreRefusal.{StoreRefusal}
 use Rattle.store_core.specs.declared.refusal.StoreRefusal.TheVariants.{ServiceTaken, TooLarge, TooMany, StoreFull, NoMemory}
 use Rattle.store_core.specs.Held.{Held, Stock}
-use Rattle.store_core.specs.Keeping.{addresses_in}
 use Rattle.store_core.specs.Changing.{changing, document_in, held_name, only_if}
 use Rattle.store_core.specs.inner.Storing.{IsRenewed}
 use Rattle.store_core.specs.Preparing.{Readied, IsPlanned}
@@ -40,10 +39,10 @@ abbrev pub IsHeldAs : Stock → DocId → Entry → Type 0
 IsHeldAs c doc v = (h : Held) × (document_in held_name c.documents doc ≡ Some h) × (h.tree ≡ v.tree) × (h.tag ≡ v.tag) × (v.len ≡ document_len v.tree)
 
 -- an edit of what this entry holds, with its note and its memory, before the store has the room for it
-abbrev pub IsNoted : DocId → Entry → ℕ → Change → ℕ → List (List ℕ) → ℕ → Readied → Type 0
-IsNoted doc v number change len enters total p =
+abbrev pub IsNoted : DocId → Entry → ℕ → Change → ℕ → List (List ℕ) → List (List ℕ) → ℕ → Readied → Type 0
+IsNoted doc v number change len leaves enters total p =
     (note : EditNote) × (staged : Staged) × (note_in note ≡ note_of v.tag number v.tree change) × IsStaged v.tree change staged
-    × (p ≡ record { doc = doc; note = note_in note; step = Edit staged note len; leaves = addresses_in doc.auid v.tree; enters = enters; total = total })
+    × (p ≡ record { doc = doc; note = note_in note; step = Edit staged note len; leaves = leaves; enters = enters; total = total })
 
 -- what planning a change answers: the change with its memory, as it was asked for; or the reason against it, or want of memory
 unfoldable pub Plans : Stock → DocId → Change → Result Readied StoreRefusal → Type 0

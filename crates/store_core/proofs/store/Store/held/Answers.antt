@@ -1,7 +1,8 @@
+use Rattle.std.proofs.Common.{sym}
 use Rattle.indexmap.specs.IndexMap.{spare}
 use Rattle.store_core.specs.Stored.{Room}
 use Rattle.store_core.proofs.Planning.{held-as}
-use Rattle.store_core.proofs.Stored.{no-entry}
+use Rattle.store_core.proofs.Stored.{no-entry, sound-entry}
 use Rattle.store_core.proofs.store.Store.held.Goals as goal
 
 pub unreachable-requires : goal.unreachable-requires
@@ -10,10 +11,13 @@ unreachable-requires c =
     let room : Room = record { documents = spare s.documents; services = spare s.services } in
     no-entry s.documents.entries s.last room c.args.self.now c.args.doc.now c.self.view_is (rw c.in-None.is at c.find.ensures.entry_of_the_document) c.requires
 
-pub returns : goal.returns
-returns c = record {
-  entry_that_is_held =
-      let s = c.self.inside in
-      let room : Room = record { documents = spare s.documents; services = spare s.services } in
-      held-as s.documents.entries s.services.entries s.last s.total room c.args.self.now c.args.doc.now c.self.view_is c.self.invariant c.in-Some.entry.now c.in-Some.ensures.entry_of_the_document;
-}
+pub returns-clause-entry_that_is_held : goal.returns-clause-entry_that_is_held
+returns-clause-entry_that_is_held c =
+    let s = c.self.inside in
+    let room : Room = record { documents = spare s.documents; services = spare s.services } in
+    held-as s.documents.entries s.services.entries s.last s.total room c.args.self.now c.args.doc.now c.self.view_is c.self.invariant c.in-Some.entry.now c.in-Some.ensures.entry_of_the_document
+
+pub returns-clause-sound : goal.returns-clause-sound
+returns-clause-sound c =
+    let s = c.self.inside in
+    sound-entry s.documents.entries s.services.entries s.last s.total c.args.doc.now c.in-Some.entry.now c.self.invariant (sym c.in-Some.ensures.entry_of_the_document)

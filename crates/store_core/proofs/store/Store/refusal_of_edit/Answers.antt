@@ -1,4 +1,5 @@
-use Rattle.std.proofs.Common.{◌∙◌, arith}
+use Rattle.std.proofs.Common.{option_map, ap, ◌∙◌, arith}
+use Rattle.std.specs.Prelude.{max}
 use Rattle.indexmap.specs.IndexMap.{spare}
 use Rattle.store_core.specs.Stored.{Room}
 use Rattle.store_core.proofs.Planning.{edit-answer, no-longer, total-small}
@@ -22,10 +23,11 @@ refused_for-requires c = let s = c.self.inside in omega (arith, total-small s.do
 
 pub returns : goal.returns
 returns c = record {
-  first_reason_against_an_edited_one = λ t counted own.
+  first_reason_against_an_edited_one = λ h t leaves is counted exchanged.
       let s = c.self.inside in
       let room : Room = record { documents = spare s.documents; services = spare s.services } in
       c.refused_for.ensures.first_reason_against_it
-      ∙ edit-answer s.documents.entries s.services.entries s.last s.total room c.args.self.now c.args.doc.now c.self.view_is c.self.invariant c.in-Some.entry.now c.in-Some.ensures.entry_of_the_document t c.args.uris.now
-      c.first_taken-place.result c.args.len own c.first_taken-place.ensures.place_of_the_first_taken counted;
+      ∙ edit-answer s.documents.entries s.services.entries s.last s.total room c.args.self.now c.args.doc.now c.self.view_is c.self.invariant c.in-Some.entry.now c.in-Some.ensures.entry_of_the_document
+      h t leaves c.args.uris.now c.args.first c.args.len c.number_at.result is exchanged
+      (c.number_at.ensures.number_of_that_service ∙ ap (option_map (λ i. max c.args.first i)) c.first_taken-place.ensures.place_of_the_first_taken) counted;
 }

@@ -1,7 +1,7 @@
 use Rattle.std.proofs.Common.{◌≡◌, ◌++◌, length}
 use Rattle.usage_docs.specs.Services.{service_uris}
 use Rattle.usage_docs.specs.Reading.Uris.{uris_left}
-use Rattle.store_core.proofs.registry.service_addresses.Given as goal
+use Rattle.store_core.proofs.addresses.service_addresses.Given as goal
 
 abbrev pub invariant-each : goal.invariant-each
 invariant-each l = l.made ++ uris_left l.left ≡ service_uris l.root
