@@ -6,6 +6,7 @@ pub mod Elements
 pub mod Forms
 pub mod FreePrefixes
 pub mod Lengths
+pub mod Numbers
 pub mod Onward
 pub mod OnwardNotices
 pub mod Operating

@@ -1,5 +1,5 @@
 -- Notices without operations: of a document that is gone, and of tags alone.
-use Rattle.std.proofs.Common.{◌≡◌, ℕ, ◌<◌, ◌^◌, Bool, true, List, [], ◌∷◌, Some, None, Ok, codes, decimal, refl, arith}
+use Rattle.std.proofs.Common.{◌≡◌, ℕ, Bool, true, List, [], ◌∷◌, Some, None, Ok, codes, decimal, refl, arith}
 use Rattle.xml_tree.specs.Characters.{all_chars}
 use Rattle.xml_tree.specs.Expanded.{attr_name}
 use Rattle.xml_tree.specs.Tree.{Tree}
@@ -7,10 +7,11 @@ use Rattle.notes.specs.Notes.{Note, tag_after}
 use Rattle.notes.specs.Operations.{plain_attr as plain}
 use Rattle.patch_words.specs.Notices.{candidate, diff_uri, gone_notice, removed_document, tags_alone, tags_notice}
 use Rattle.patch_words.specs.Replay.{Fetch, Removed, Same, replayed}
-use Rattle.patch_laws.specs.Premises.{AreTags, around_operations}
+use Rattle.patch_laws.specs.Premises.{around_operations}
 use Rattle.patch_laws.specs.Replayed.{IsReadBack}
-use Rattle.patch_laws.proofs.ProperNotices.{AreDocuments, IsDiffPrefix-candidate, diff_proper, document_sound, last_tag, no_prefixes, two_names}
-use Rattle.patch_laws.proofs.ProperOperations.{IsDiffPrefix, named_ours, number_chars, plain_attribute}
+use Rattle.patch_laws.proofs.ProperNotices.{AreDocuments, IsDiffPrefix-candidate, diff_proper, document_sound, no_prefixes, two_names}
+use Rattle.patch_laws.proofs.Numbers.{number_chars}
+use Rattle.patch_laws.proofs.ProperOperations.{IsDiffPrefix, named_ours, plain_attribute}
 use Rattle.patch_laws.proofs.Stated.{read_back}
 use Rattle.patch_laws.proofs.Wholes.{bound_document, same_text}
 
@@ -27,15 +28,15 @@ same_replayed is_mine root sel tag t = refl
 first : IsDiffPrefix (candidate 0)
 first = IsDiffPrefix-candidate 0 (omega arith)
 
-removed_sound : (sel : List ℕ) (from : ℕ) → all_chars sel ≡ true → from < 2 ^ 64 → AreDocuments (candidate 0) first (removed_document (candidate 0) sel from ∷ [])
-removed_sound sel from chars low =
+removed_sound : (sel : List ℕ) (from : ℕ) → all_chars sel ≡ true → AreDocuments (candidate 0) first (removed_document (candidate 0) sel from ∷ [])
+removed_sound sel from chars =
     let here = around_operations (candidate 0) diff_uri in (
       (
         (
           record {
             named = named_ours (candidate 0) first here (codes "document") refl (bound_document (candidate 0) first.some first.other);
             declarations = tt;
-            attributes = (plain_attribute here (codes "sel") sel refl (λ e. absurd cc) chars, (plain_attribute here (codes "previous-etag") (decimal from) refl (λ e. absurd cc) (number_chars from low), tt));
+            attributes = (plain_attribute here (codes "sel") sel refl (λ e. absurd cc) chars, (plain_attribute here (codes "previous-etag") (decimal from) refl (λ e. absurd cc) (number_chars from), tt));
             prefixes = no_prefixes;
             names = two_names (attr_name here (plain (codes "sel") sel).name) (attr_name here (plain (codes "previous-etag") sel).name) refl;
           },
@@ -46,14 +47,14 @@ removed_sound sel from chars low =
       tt,
     )
 
-pub gone_read : (root sel : List ℕ) (tag : ℕ) → all_chars root ≡ true → all_chars sel ≡ true → tag < 2 ^ 64 → IsReadBack (gone_notice root sel tag)
-gone_read root sel tag chars more low = read_back (gone_notice root sel tag) (diff_proper (candidate 0) first root (removed_document (candidate 0) sel tag ∷ []) chars (removed_sound sel tag more low)) refl
+pub gone_read : (root sel : List ℕ) (tag : ℕ) → all_chars root ≡ true → all_chars sel ≡ true → IsReadBack (gone_notice root sel tag)
+gone_read root sel tag chars more = read_back (gone_notice root sel tag) (diff_proper (candidate 0) first root (removed_document (candidate 0) sel tag ∷ []) chars (removed_sound sel tag more)) refl
 
-tags_sound : (sel : List ℕ) (tag : ℕ) (ns : List Note) → all_chars sel ≡ true → AreTags tag ns → AreDocuments (candidate 0) first (tags_alone (candidate 0) sel tag ns)
-tags_sound sel tag [] chars tags = tt
-tags_sound sel tag (n ∷ ns) chars tags = (document_sound (candidate 0) first sel tag (tag_after tag (n ∷ ns)) [] chars tags.0 (last_tag (candidate 0) first tag (n ∷ ns) tags) tt, tt)
+tags_sound : (sel : List ℕ) (tag : ℕ) (ns : List Note) → all_chars sel ≡ true → AreDocuments (candidate 0) first (tags_alone (candidate 0) sel tag ns)
+tags_sound sel tag [] chars = tt
+tags_sound sel tag (n ∷ ns) chars = (document_sound (candidate 0) first sel tag (tag_after tag (n ∷ ns)) [] chars tt, tt)
 
-pub tags_read : (root sel : List ℕ) (tag : ℕ) (ns : List Note) → all_chars root ≡ true → all_chars sel ≡ true → AreTags tag ns → IsReadBack (tags_notice root sel tag ns)
-tags_read root sel tag [] chars more tags = read_back (tags_notice root sel tag []) (diff_proper (candidate 0) first root [] chars tt) refl
-tags_read root sel tag (n ∷ ns) chars more tags =
-    read_back (tags_notice root sel tag (n ∷ ns)) (diff_proper (candidate 0) first root (tags_alone (candidate 0) sel tag (n ∷ ns)) chars (tags_sound sel tag (n ∷ ns) more tags)) refl
+pub tags_read : (root sel : List ℕ) (tag : ℕ) (ns : List Note) → all_chars root ≡ true → all_chars sel ≡ true → IsReadBack (tags_notice root sel tag ns)
+tags_read root sel tag [] chars more = read_back (tags_notice root sel tag []) (diff_proper (candidate 0) first root [] chars tt) refl
+tags_read root sel tag (n ∷ ns) chars more =
+    read_back (tags_notice root sel tag (n ∷ ns)) (diff_proper (candidate 0) first root (tags_alone (candidate 0) sel tag (n ∷ ns)) chars (tags_sound sel tag (n ∷ ns) more)) refl

@@ -15,10 +15,11 @@ use Rattle.edit_ops.specs.Changes.{edited}
 use Rattle.notes.specs.Notes.{AreNotesOf, Note, tag_after}
 use Rattle.patch_words.specs.Notices.{all_at_once, candidate, declares, diff, diff_uri, document, one_by_one, operations}
 use Rattle.notes.specs.Operations.{operation, plain_attr as plain}
-use Rattle.patch_laws.specs.Premises.{AreTags, AreTold, around_operations}
+use Rattle.patch_laws.specs.Premises.{AreTold, around_operations}
 use Rattle.patch_laws.proofs.FreePrefixes.{candidate-other, candidate-some}
+use Rattle.patch_laws.proofs.Numbers.{number_chars}
 use Rattle.patch_laws.proofs.Prefixes.{both}
-use Rattle.patch_laws.proofs.ProperOperations.{AreSound, IsDiffPrefix, chars-append, named_ours, notes_sound, number_chars, plain_attribute}
+use Rattle.patch_laws.proofs.ProperOperations.{AreSound, IsDiffPrefix, chars-append, named_ours, notes_sound, plain_attribute}
 use Rattle.patch_laws.proofs.Wholes.{bound_document, bound_notice, top}
 
 -- ---- elements one behind the other
@@ -69,9 +70,9 @@ module _ (d : List ℕ) (p : IsDiffPrefix d) where
 
   -- ---- documents
 
-  document_proper : (sel : List ℕ) (from to : ℕ) (os : List Tree) → all_chars sel ≡ true → from < 2 ^ 64 → to < 2 ^ 64 → AllByRecursion (ProperIn (around_operations d diff_uri)) os
+  document_proper : (sel : List ℕ) (from to : ℕ) (os : List Tree) → all_chars sel ≡ true → AllByRecursion (ProperIn (around_operations d diff_uri)) os
       → ProperIn (top d p.some p.other) (document d sel from to os)
-  document_proper sel from to os chars low high h =
+  document_proper sel from to os chars h =
       let here = around_operations d diff_uri in (
         record {
           named = named_ours d p here (codes "document") refl (bound_document d p.some p.other);
@@ -79,8 +80,8 @@ module _ (d : List ℕ) (p : IsDiffPrefix d) where
           attributes = (
             plain_attribute here (codes "sel") sel refl (λ e. absurd cc) chars,
             (
-              plain_attribute here (codes "new-etag") (decimal to) refl (λ e. absurd cc) (number_chars to high),
-              (plain_attribute here (codes "previous-etag") (decimal from) refl (λ e. absurd cc) (number_chars from low), tt),
+              plain_attribute here (codes "new-etag") (decimal to) refl (λ e. absurd cc) (number_chars to),
+              (plain_attribute here (codes "previous-etag") (decimal from) refl (λ e. absurd cc) (number_chars from), tt),
             ),
           );
           prefixes = no_prefixes;
@@ -89,33 +90,22 @@ module _ (d : List ℕ) (p : IsDiffPrefix d) where
         listed_proper here os h,
       )
 
-  pub document_sound : (sel : List ℕ) (from to : ℕ) (os : List Tree) → all_chars sel ≡ true → from < 2 ^ 64 → to < 2 ^ 64 → AreSound d p os
+  pub document_sound : (sel : List ℕ) (from to : ℕ) (os : List Tree) → all_chars sel ≡ true → AreSound d p os
       → ProperIn (top d p.some p.other) (document d sel from to os) × (height (document d sel from to os) ≤ 66)
-  document_sound sel from to os chars low high h =
+  document_sound sel from to os chars h =
       let r = split (ProperIn (around_operations d diff_uri)) (λ o. height o ≤ 65) os h in
-      (document_proper sel from to os chars low high r.0, omega (arith, listed_low 65 os r.1))
+      (document_proper sel from to os chars r.0, omega (arith, listed_low 65 os r.1))
 
   abbrev pub AreDocuments : List Tree → Type 0
   AreDocuments ds = AllByRecursion (λ e. ProperIn (top d p.some p.other) e × (height e ≤ 66)) ds
 
-  one_by_one_sound : (sel : List ℕ) (tag : ℕ) (ns : List Note) → all_chars sel ≡ true → AllByRecursion (λ n. n.previous < 2 ^ 64) ns → AllByRecursion (λ n. n.next < 2 ^ 64) ns → AreSound d p (operations d ns)
-      → AreDocuments (one_by_one d sel ns)
-  one_by_one_sound sel tag [] chars low high h = tt
-  one_by_one_sound sel tag (n ∷ ns) chars low high h =
-      (document_sound sel n.previous n.next (operation d n ∷ []) chars low.0 high.0 (h.0, tt), one_by_one_sound sel n.next ns chars low.1 high.1 h.1)
+  one_by_one_sound : (sel : List ℕ) (ns : List Note) → all_chars sel ≡ true → AreSound d p (operations d ns) → AreDocuments (one_by_one d sel ns)
+  one_by_one_sound sel [] chars h = tt
+  one_by_one_sound sel (n ∷ ns) chars h = (document_sound sel n.previous n.next (operation d n ∷ []) chars (h.0, tt), one_by_one_sound sel ns chars h.1)
 
-  pub last_tag : (tag : ℕ) (ns : List Note) → AreTags tag ns → tag_after tag ns < 2 ^ 64
-  last_tag tag [] h = h.0
-  last_tag tag (n ∷ ns) h = last_tag n.next ns (h.1.0, h.1.1)
-
-  at_once_sound : (sel : List ℕ) (tag : ℕ) (ns : List Note) → all_chars sel ≡ true → AreTags tag ns → AreSound d p (operations d ns) → AreDocuments (all_at_once d sel tag ns)
-  at_once_sound sel tag [] chars tags h = tt
-  at_once_sound sel tag (n ∷ ns) chars tags h = (document_sound sel tag (tag_after tag (n ∷ ns)) (operations d (n ∷ ns)) chars tags.0 (last_tag tag (n ∷ ns) tags) h, tt)
-
-  previous_tags : (tag : ℕ) (t : Tree) (ns : List Note) → AreNotesOf tag t ns → AreTags tag ns → AllByRecursion (λ n. n.previous < 2 ^ 64) ns
-  previous_tags tag t [] h tags = tt
-  previous_tags tag t (n ∷ ns) h tags =
-      (subst (λ k. k < 2 ^ 64) (sym (ap (λ (m : Note). m.previous) h.1)) tags.0, previous_tags n.next (edited t n.change) ns h.2 (tags.1.0, tags.1.1))
+  at_once_sound : (sel : List ℕ) (tag : ℕ) (ns : List Note) → all_chars sel ≡ true → AreSound d p (operations d ns) → AreDocuments (all_at_once d sel tag ns)
+  at_once_sound sel tag [] chars h = tt
+  at_once_sound sel tag (n ∷ ns) chars h = (document_sound sel tag (tag_after tag (n ∷ ns)) (operations d (n ∷ ns)) chars h, tt)
 
   -- ---- notices
 
@@ -136,15 +126,15 @@ module _ (d : List ℕ) (p : IsDiffPrefix d) where
         omega (arith, listed_low 66 ds r.1),
       )
 
-  pub proper_one_by_one : (root sel : List ℕ) (tag : ℕ) (t : Tree) (ns : List Note) → all_chars root ≡ true → all_chars sel ≡ true → AreTags tag ns → AreNotesOf tag t ns → AreTold t ns
+  pub proper_one_by_one : (root sel : List ℕ) (tag : ℕ) (t : Tree) (ns : List Note) → all_chars root ≡ true → all_chars sel ≡ true → AreNotesOf tag t ns → AreTold t ns
       → AllByRecursion (λ n. declares d n.bindings ≡ false) ns → ProperIn [] (diff d root (one_by_one d sel ns)) × (height (diff d root (one_by_one d sel ns)) ≤ 67)
-  proper_one_by_one root sel tag t ns chars more tags h are free =
-      diff_proper root (one_by_one d sel ns) chars (one_by_one_sound sel tag ns more (previous_tags tag t ns h tags) tags.1 (notes_sound d p tag t ns h are free))
+  proper_one_by_one root sel tag t ns chars more h are free =
+      diff_proper root (one_by_one d sel ns) chars (one_by_one_sound sel ns more (notes_sound d p tag t ns h are free))
 
-  pub proper_at_once : (root sel : List ℕ) (tag : ℕ) (t : Tree) (ns : List Note) → all_chars root ≡ true → all_chars sel ≡ true → AreTags tag ns → AreNotesOf tag t ns → AreTold t ns
+  pub proper_at_once : (root sel : List ℕ) (tag : ℕ) (t : Tree) (ns : List Note) → all_chars root ≡ true → all_chars sel ≡ true → AreNotesOf tag t ns → AreTold t ns
       → AllByRecursion (λ n. declares d n.bindings ≡ false) ns → ProperIn [] (diff d root (all_at_once d sel tag ns)) × (height (diff d root (all_at_once d sel tag ns)) ≤ 67)
-  proper_at_once root sel tag t ns chars more tags h are free =
-      diff_proper root (all_at_once d sel tag ns) chars (at_once_sound sel tag ns more tags (notes_sound d p tag t ns h are free))
+  proper_at_once root sel tag t ns chars more h are free =
+      diff_proper root (all_at_once d sel tag ns) chars (at_once_sound sel tag ns more (notes_sound d p tag t ns h are free))
 
 -- ---- candidates are prefixes for notices
 

@@ -1,10 +1,7 @@
 -- The operations of notes are proper in a notice.
 use Rattle.std.proofs.Common.{◌≡◌, ◌≢◌, ℕ, zero, suc, ◌+◌, ◌<◌, ◌≤◌, ◌^◌, Bool, true, false, List, [], ◌∷◌, ◌++◌, map, length, Option, Some, None, IsSome, is_some, bytes_eq, codes, decimal, option_and_then, refl, sym, ap, ◌∙◌, subst, arith}
 use Rattle.std.specs.List.{AllByRecursion, IsDistinct, find, list_all}
-use Rattle.std.specs.Int.Digits.{digits_of, AllBelowBase}
 use Rattle.std.proofs.lemmas.Bool.Decides.{nat_tests}
-use Rattle.std.proofs.lemmas.Fmt.{decimal-digits_of, decimal_digit}
-use Rattle.std.proofs.lemmas.Int.Digits.{all_below_base_digits_of}
 use Rattle.xml_tree.specs.Attributes.{valued, with_attr, is_written_so as is_named}
 use Rattle.xml_tree.specs.Characters.{all_chars, is_char, is_name, is_name_char, is_name_start}
 use Rattle.xml_tree.specs.Edits.{put_over, set_at, write_attr}
@@ -33,14 +30,12 @@ use Rattle.patch_laws.specs.Premises.{ArePositions, AreTold, IsTold, around_oper
 use Rattle.patch_laws.proofs.Changes.{first_told, name_after, name_before, path_positions, tag_at, there_before, there_of}
 use Rattle.patch_laws.proofs.AttributeOps.{NameAt, as_written}
 use Rattle.patch_laws.proofs.Elements.{some_and, there_before_gap}
+use Rattle.patch_laws.proofs.Numbers.{number_chars}
 use Rattle.patch_laws.proofs.Prefixes.{Meets-told, both}
 use Rattle.patch_laws.proofs.ScopedNames.{MayStand, ProperIn-Meets, bindings_declared, bindings_declared_around, bindings_distinct}
 use Rattle.patch_laws.proofs.Wholes.{bound_operation}
 
 -- ---- characters
-
-digit_char : (d : ℕ) → d < 10 → is_char (48 + d) ≡ true
-digit_char d h = grind (arith, nat_tests)
 
 pub name_char : (c : ℕ) → is_name_char c ≡ true → is_char c ≡ true
 name_char c h = grind (arith, nat_tests)
@@ -52,17 +47,9 @@ pub chars-append : (xs ys : List ℕ) → all_chars xs ≡ true → all_chars ys
 chars-append [] ys h k = k
 chars-append (x ∷ xs) ys h k = let b = parts (is_char x) (all_chars xs) h in both (is_char x) (all_chars (xs ++ ys)) b.0 (chars-append xs ys b.1 k)
 
-digits_chars : (ds : List ℕ) → AllBelowBase 10 ds → all_chars (map (λ d. 48 + d) ds) ≡ true
-digits_chars [] h = refl
-digits_chars (d ∷ ds) h = both (is_char (48 + d)) (all_chars (map (λ k. 48 + k) ds)) (digit_char d h.0) (digits_chars ds h.1)
-
-pub number_chars : (n : ℕ) → n < 2 ^ 64 → all_chars (decimal n) ≡ true
-number_chars zero h = ap all_chars (decimal_digit 0 (omega arith)) ∙ refl
-number_chars (suc n) h = ap all_chars (decimal-digits_of (suc n) (omega arith) h) ∙ digits_chars (digits_of 10 (suc n)) (all_below_base_digits_of 10 (suc n) (omega arith))
-
 steps_chars : (p : List ℕ) → ArePositions p → all_chars (steps_text p) ≡ true
 steps_chars [] h = refl
-steps_chars (n ∷ p) h = chars-append (decimal (suc n)) (93 ∷ steps_text p) (number_chars (suc n) (omega (arith, h.0))) (steps_chars p h.1)
+steps_chars (n ∷ p) h = chars-append (decimal (suc n)) (93 ∷ steps_text p) (number_chars (suc n)) (steps_chars p h.1)
 
 path_chars : (p : List ℕ) → ArePositions p → all_chars (path_text p) ≡ true
 path_chars p h = steps_chars p h

@@ -21,7 +21,7 @@ use Rattle.patch_words.specs.Notices.{aggregate_notice, declarations, first_free
 use Rattle.notes.specs.Operations.{attr_path_text, operation}
 use Rattle.patch_words.specs.Replay.{all_applied, is_notice, replayed}
 use Rattle.patch_laws.proofs.Lengths.{HasPositions-short}
-use Rattle.patch_laws.specs.Premises.{AreFew, ArePositions, AreTags, AreTold, IsTold, Meets, around_operations}
+use Rattle.patch_laws.specs.Premises.{AreFew, ArePositions, AreTold, IsTold, Meets, around_operations}
 use Rattle.patch_laws.specs.Replayed.{IsReadBack, answer_for}
 use Rattle.patch_laws.proofs.Attributes.{agrees, any_agree, found_any, may_name, not_unbound, uri_is}
 use Rattle.patch_laws.proofs.AttributeOps.{as_written}
@@ -90,16 +90,16 @@ read_back notice h form =
     let bytes = encode_utf8_all (document_print notice) in
     record { read = subst (TextAnswer 67 [] bytes) (document_is_read 67 [] notice refl h.0 h.1).read (text_answer 67 [] bytes); form = form; proper = h.0 }
 
-pub patching_read : (root sel : List ℕ) (tag : ℕ) (t : Tree) (ns : List Note) → all_chars root ≡ true → all_chars sel ≡ true → AreTags tag ns → AreNotesOf tag t ns → AreTold t ns → AreFew ns
+pub patching_read : (root sel : List ℕ) (tag : ℕ) (t : Tree) (ns : List Note) → all_chars root ≡ true → all_chars sel ≡ true → AreNotesOf tag t ns → AreTold t ns → AreFew ns
     → IsReadBack (patching_notice root sel tag ns)
-patching_read root sel tag t ns chars more tags h told few =
+patching_read root sel tag t ns chars more h told few =
     let p = IsPrefixFor-prefix_for ns (few_declarations tag t ns h told few) in
-    read_back (patching_notice root sel tag ns) (proper_one_by_one (prefix_for ns) (diff_prefix tag t ns h told few) root sel tag t ns chars more tags h told p.free)
+    read_back (patching_notice root sel tag ns) (proper_one_by_one (prefix_for ns) (diff_prefix tag t ns h told few) root sel tag t ns chars more h told p.free)
     (is_notice_one_by_one (prefix_for ns) p.some p.other root sel ns p.free)
 
-pub aggregate_read : (root sel : List ℕ) (tag : ℕ) (t : Tree) (ns : List Note) → all_chars root ≡ true → all_chars sel ≡ true → AreTags tag ns → AreNotesOf tag t ns → AreTold t ns → AreFew ns
+pub aggregate_read : (root sel : List ℕ) (tag : ℕ) (t : Tree) (ns : List Note) → all_chars root ≡ true → all_chars sel ≡ true → AreNotesOf tag t ns → AreTold t ns → AreFew ns
     → IsReadBack (aggregate_notice root sel tag ns)
-aggregate_read root sel tag t ns chars more tags h told few =
+aggregate_read root sel tag t ns chars more h told few =
     let p = IsPrefixFor-prefix_for ns (few_declarations tag t ns h told few) in
-    read_back (aggregate_notice root sel tag ns) (proper_at_once (prefix_for ns) (diff_prefix tag t ns h told few) root sel tag t ns chars more tags h told p.free)
+    read_back (aggregate_notice root sel tag ns) (proper_at_once (prefix_for ns) (diff_prefix tag t ns h told few) root sel tag t ns chars more h told p.free)
     (is_notice_at_once (prefix_for ns) p.some p.other root sel tag ns p.free)

@@ -48,7 +48,3 @@ AreTold t (n ∷ ns) = IsTold t × AreTold (edited t n.change) ns
 -- there aren't too many notes
 abbrev pub AreFew : List Note → Type 0
 AreFew ns = length ns ≤ 2147483647
-
--- the tag before the notes, and those that they give, are numbers that tags can be
-abbrev pub AreTags : ℕ → List Note → Type 0
-AreTags tag ns = (tag < 2 ^ 64) × AllByRecursion (λ n. n.next < 2 ^ 64) ns

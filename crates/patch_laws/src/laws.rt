@@ -21,7 +21,7 @@ ghost use Rattle.notes.specs.Operations.{attr_path_text, operation};
 ghost use Rattle.patch_words.specs.Applied.{AtAttr, AtElement, applied};
 ghost use Rattle.patch_words.specs.Notices.{aggregate_notice, declarations, gone_notice, operations, patching_notice, prefix_for, tags_notice};
 ghost use Rattle.patch_words.specs.Replay.{Answer, Fetch, Held, Removed, Same, all_applied, replayed};
-ghost use Rattle.patch_laws.specs.Premises.{AreFew, ArePositions, AreTags, AreTold, IsSound, IsTold, Meets, around_operations};
+ghost use Rattle.patch_laws.specs.Premises.{AreFew, ArePositions, AreTold, IsSound, IsTold, Meets, around_operations};
 ghost use Rattle.patch_laws.specs.Replayed.{HoldsSound, IsPrefixFor, IsReadBack, answer_for};
 ghost use Rattle.patch_laws.specs.Selecting.{IsTakenAs, selected_by};
 
@@ -68,9 +68,9 @@ pub fn notices_are_replayed()
 /// A law: the text of such a notice, where the root and the document's name consist of Chars, is
 /// read as exactly the notice, which has the form of one and is proper.
 pub fn notices_are_read_back()
-    ensures patching { (root sel : List ℕ) (tag : ℕ) (t : Tree) (ns : List Note) → all_chars root ≡ true → all_chars sel ≡ true → AreTags tag ns → AreNotesOf tag t ns → AreTold t ns → AreFew ns
+    ensures patching { (root sel : List ℕ) (tag : ℕ) (t : Tree) (ns : List Note) → all_chars root ≡ true → all_chars sel ≡ true → AreNotesOf tag t ns → AreTold t ns → AreFew ns
         → IsReadBack (patching_notice root sel tag ns) }
-    ensures aggregate { (root sel : List ℕ) (tag : ℕ) (t : Tree) (ns : List Note) → all_chars root ≡ true → all_chars sel ≡ true → AreTags tag ns → AreNotesOf tag t ns → AreTold t ns → AreFew ns
+    ensures aggregate { (root sel : List ℕ) (tag : ℕ) (t : Tree) (ns : List Note) → all_chars root ≡ true → all_chars sel ≡ true → AreNotesOf tag t ns → AreTold t ns → AreFew ns
         → IsReadBack (aggregate_notice root sel tag ns) }
 {}
 
@@ -84,8 +84,8 @@ pub fn other_notices_are_replayed()
         → replayed is_mine (tags_notice root sel tag (n ∷ ns)) (Some (decimal tag, t)) ≡ Ok (Fetch (decimal (tag_after tag (n ∷ ns))), Some (decimal tag, t)) }
     ensures same { (is_mine : List ℕ → Bool) (root sel : List ℕ) (tag : ℕ) (t : Tree)
         → replayed is_mine (tags_notice root sel tag []) (Some (decimal tag, t)) ≡ Ok (Same, Some (decimal tag, t)) }
-    ensures gone_read { (root sel : List ℕ) (tag : ℕ) → all_chars root ≡ true → all_chars sel ≡ true → tag < 2 ^ 64 → IsReadBack (gone_notice root sel tag) }
-    ensures tags_read { (root sel : List ℕ) (tag : ℕ) (ns : List Note) → all_chars root ≡ true → all_chars sel ≡ true → AreTags tag ns → IsReadBack (tags_notice root sel tag ns) }
+    ensures gone_read { (root sel : List ℕ) (tag : ℕ) → all_chars root ≡ true → all_chars sel ≡ true → IsReadBack (gone_notice root sel tag) }
+    ensures tags_read { (root sel : List ℕ) (tag : ℕ) (ns : List Note) → all_chars root ≡ true → all_chars sel ≡ true → IsReadBack (tags_notice root sel tag ns) }
 {}
 
 /// A law: what is held stays proper and at most 64 levels deep, whoever wrote the notice or the

@@ -1,3 +1,3 @@
-mod Letters
-mod OneVersion
-mod Present
+pub mod Letters
+pub mod OneVersion
+pub mod Present

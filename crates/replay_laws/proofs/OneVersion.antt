@@ -52,7 +52,7 @@ found_all {A = A} P q (y ∷ ys) x h is = by (q y) is (found_all P q ys x h.1)
     by true s f = let same : y ≡ x = cc in subst P same h.0
     by false s f = f s
 
-held_there : (ds : List Document) (id : DocId) → document_in held_name (map held_of ds) id ≡ option_map held_of (document_in document_name ds id)
+pub held_there : (ds : List Document) (id : DocId) → document_in held_name (map held_of ds) id ≡ option_map held_of (document_in document_name ds id)
 held_there [] id = refl
 held_there (d ∷ ds) id = by (same_id id d.id) (held_there ds id)
   where

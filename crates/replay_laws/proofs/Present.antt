@@ -1,6 +1,6 @@
 -- The notice of what a store tells since a version, applied to that version, gives the present one.
-use Rattle.std.proofs.Common.{◌≡◌, ℕ, ◌<◌, ◌≤◌, ◌^◌, Bool, true, List, [], ◌∷◌, length, Option, Some, None, Result, Ok, decimal, slice_get, sym, ap, ◌∙◌, subst, arith}
-use Rattle.std.specs.List.{AllByRecursion}
+use Rattle.std.proofs.Common.{◌≡◌, ℕ, ◌≤◌, Bool, true, false, cond, List, [], ◌∷◌, length, Option, Some, None, Result, Ok, decimal, slice_get, refl, sym, ap, ◌∙◌, subst, arith}
+use Rattle.std.specs.Prelude.{◌==◌}
 use Rattle.xml_tree.specs.Characters.{all_chars}
 use Rattle.xml_tree.specs.Tree.{Tree}
 use Rattle.doc_names.specs.Ids.{id_text}
@@ -8,13 +8,16 @@ use Rattle.doc_names.specs.Same.{same_id}
 use Rattle.doc_names.specs.Usages.{usage_of}
 use Rattle.doc_names.specs.declared.doc_id.DocId.{DocId}
 use Rattle.doc_names.specs.declared.usages.Usage.{Usage}
-use Rattle.xcap_uri.specs.Roots.{IsRoot}
+use Rattle.name_words.specs.Naming.{is_encodable, is_name_of}
+use Rattle.name_words.proofs.Printed.{names}
+use Rattle.xcap_uri.specs.Roots.{IsRoot, authority_of, path_of}
 use Rattle.edit_ops.specs.Changes.{edited}
 use Rattle.notes.specs.Notes.{Note, tag_after, tree_after}
-use Rattle.patch_words.specs.Replay.{Answer, Fault, Held}
-use Rattle.patch_words.specs.Notices.{aggregate_notice, patching_notice}
-use Rattle.patch_laws.specs.Premises.{AreFew, AreTags, AreTold, IsTold}
+use Rattle.patch_words.specs.Replay.{Answer, Fault, Fetch, Held, Patched, Removed, Same, replayed}
+use Rattle.patch_words.specs.Notices.{aggregate_notice, gone_notice, patching_notice, tags_notice}
+use Rattle.patch_laws.specs.Premises.{AreFew, AreTold, IsTold}
 use Rattle.patch_laws.specs.Replayed.{answer_for}
+use Rattle.patch_laws.proofs.OtherNotices.{gone_read, gone_replayed, same_replayed, tags_read, tags_replayed}
 use Rattle.patch_laws.proofs.Stated.{aggregate_read, aggregate_replayed, patching_read, patching_replayed}
 use Rattle.store_core.specs.Changing.{document_in, document_name}
 use Rattle.store_core.specs.Held.{Stands, Stock as Content}
@@ -23,7 +26,7 @@ use Rattle.store_core.specs.Keeping.{IsKept, IsSoundFor, Kept}
 use Rattle.store_core.specs.Since.{Told, since}
 use Rattle.store_core.specs.State.{Document, State, Version, versions}
 use Rattle.store_core.proofs.Bridge.{told_since}
-use Rattle.replay_laws.specs.Subscribers.{Brings, answer_between, subscribed}
+use Rattle.replay_laws.specs.Subscribers.{Brings, TellsSince, answer_between, fetch_between, subscribed}
 use Rattle.replay_laws.proofs.Letters.{id_chars, root_chars}
 use Rattle.replay_laws.proofs.OneVersion.{answered, found_all, one_version}
 
@@ -37,37 +40,59 @@ told_all : (usage : Option Usage) (t : Tree) (ns : List Note) → AreSound usage
 told_all usage t [] h = told_sound usage t h
 told_all usage t (n ∷ ns) h = (told_sound usage t h.0, told_all usage (edited t n.change) ns h.1)
 
-low_tags : (next : ℕ) (ns : List Note) → next ≤ 2 ^ 64 → AllByRecursion (λ n. n.next < next) ns → AllByRecursion (λ n. n.next < 2 ^ 64) ns
-low_tags next [] room h = tt
-low_tags next (n ∷ ns) room h = (omega (arith, h.0, room), low_tags next ns room h.1)
-
 -- ---- notes that lead from one version to another
 
-module _ (usage : Option Usage) (next : ℕ) (from to : Version) (ns : List Note) (leads : Leads usage next from ns to) (few : length ns ≤ 64) (room : next ≤ 2 ^ 64) where
+-- the notes since a version: they lead from it to another, are few, and say what the notice of them answers
+record AreBetween (next : ℕ) (from to : Version) (ns : List Note) : Type 0 where
+  usage : Option Usage
+  leads : Leads usage next from ns to
+  few : length ns ≤ 64
+  answer : answer_for ns ≡ answer_between from to
+
+-- what the notice of tags alone answers
+abbrev tags_answer : ℕ → List Note → Answer
+tags_answer tag [] = Same
+tags_answer tag (n ∷ ns) = Fetch (decimal (tag_after tag (n ∷ ns)))
+
+tags_told : (is_mine : List ℕ → Bool) (root sel : List ℕ) (tag : ℕ) (t : Tree) (ns : List Note) → is_mine sel ≡ true
+    → replayed is_mine (tags_notice root sel tag ns) (Some (decimal tag, t)) ≡ Ok (tags_answer tag ns, Some (decimal tag, t))
+tags_told is_mine root sel tag t [] mine = same_replayed is_mine root sel tag t
+tags_told is_mine root sel tag t (n ∷ ns) mine = tags_replayed is_mine root sel tag t n ns mine
+
+fetched : (from to : Version) (ns : List Note) (b : Bool) → answer_for ns ≡ cond b Same Patched → tag_after from.tag ns ≡ to.tag → tags_answer from.tag ns ≡ cond b Same (Fetch (decimal to.tag))
+fetched from to [] true h same = refl
+fetched from to [] false h same = absurd cc
+fetched from to (n ∷ ns) true h same = absurd cc
+fetched from to (n ∷ ns) false h same = ap (λ (tag : ℕ). Fetch (decimal tag)) same
+
+module _ (id : DocId) (root : List ℕ) (next : ℕ) (from to : Version) (ns : List Note) (between : AreBetween next from to ns) (mine : is_name_of id (id_text id) ≡ true) (chars : all_chars root ≡ true) where
   told : AreTold from.tree ns
-  told = told_all usage from.tree ns leads.sound
+  told = told_all between.usage from.tree ns between.leads.sound
 
   are_few : AreFew ns
-  are_few = omega (arith, few)
+  are_few = omega (arith, between.few)
 
-  tags : AreTags from.tag ns
-  tags = (omega (arith, leads.first, room), low_tags next ns room leads.tags)
+  reached : ◌≡◌ {A = Result (Answer × Held) Fault} (Ok (answer_for ns, Some (decimal (tag_after from.tag ns), tree_after from.tree ns))) (Ok (answer_between from to, subscribed to))
+  reached = λ i. Ok (between.answer i, Some (decimal (between.leads.tag i), between.leads.tree i))
 
-  reached : (answer : Answer) → answer_for ns ≡ answer → ◌≡◌ {A = Result (Answer × Held) Fault} (Ok (answer_for ns, Some (decimal (tag_after from.tag ns), tree_after from.tree ns))) (Ok (answer, subscribed to))
-  reached answer same = λ i. Ok (same i, Some (decimal (leads.tag i), leads.tree i))
-
-  patched : (is_mine : List ℕ → Bool) (root sel : List ℕ) → is_mine sel ≡ true → all_chars root ≡ true → all_chars sel ≡ true → answer_for ns ≡ answer_between from to
-      → Brings is_mine (patching_notice root sel from.tag ns) from to
-  patched is_mine root sel mine chars more same = record {
-    is_read = patching_read root sel from.tag from.tree ns chars more tags leads.notes told are_few;
-    is_applied = patching_replayed is_mine root sel from.tag from.tree ns mine leads.notes told are_few ∙ reached (answer_between from to) same;
+  patched : Brings id (patching_notice root (id_text id) from.tag ns) (subscribed from) (answer_between from to) (subscribed to)
+  patched = record {
+    is_read = patching_read root (id_text id) from.tag from.tree ns chars (id_chars id) between.leads.notes told are_few;
+    is_applied = patching_replayed (is_name_of id) root (id_text id) from.tag from.tree ns mine between.leads.notes told are_few ∙ reached;
   }
 
-  at_once : (is_mine : List ℕ → Bool) (root sel : List ℕ) → is_mine sel ≡ true → all_chars root ≡ true → all_chars sel ≡ true → answer_for ns ≡ answer_between from to
-      → Brings is_mine (aggregate_notice root sel from.tag ns) from to
-  at_once is_mine root sel mine chars more same = record {
-    is_read = aggregate_read root sel from.tag from.tree ns chars more tags leads.notes told are_few;
-    is_applied = aggregate_replayed is_mine root sel from.tag from.tree ns mine leads.notes told are_few ∙ reached (answer_between from to) same;
+  at_once : Brings id (aggregate_notice root (id_text id) from.tag ns) (subscribed from) (answer_between from to) (subscribed to)
+  at_once = record {
+    is_read = aggregate_read root (id_text id) from.tag from.tree ns chars (id_chars id) between.leads.notes told are_few;
+    is_applied = aggregate_replayed (is_name_of id) root (id_text id) from.tag from.tree ns mine between.leads.notes told are_few ∙ reached;
+  }
+
+  by_tags : Brings id (tags_notice root (id_text id) from.tag ns) (subscribed from) (fetch_between from to) (subscribed from)
+  by_tags = record {
+    is_read = tags_read root (id_text id) from.tag ns chars (id_chars id);
+    is_applied =
+        tags_told (is_name_of id) root (id_text id) from.tag from.tree ns mine
+        ∙ ap (λ (a : Answer). let r : Result (Answer × Held) Fault = Ok (a, subscribed from) in r) (fetched from to ns (to.tag == from.tag) between.answer between.leads.tag);
   }
 
 -- ---- the version that is held is the one that the notes lead from
@@ -81,34 +106,44 @@ same_version m id d from number ns s kept same there held =
     let k : IsKept m.next d = found_all (IsKept m.next) (λ x. same_id id x.id) m.documents d kept.documents there in
     one_version d.now d.earlier s.number number s.from from k.follows (ap (λ (x : Document). slice_get (versions x) s.number) (sym same) ∙ s.is_version) held s.same_tag
 
--- what a kept state says of the notes that are told since a version that it has
-record Known (next : ℕ) (from to : Version) (ns : List Note) : Type 0 where
-  usage : Option Usage
-  leads : Leads usage next from ns to
-  few : length ns ≤ 64
-  answer : answer_for ns ≡ answer_between from to
-
-known : (c : Content) (m : State) (id : DocId) (d : Document) (from : Version) (number : ℕ) (ns : List Note) → Kept m → Stands c m → document_in document_name m.documents id ≡ Some d
-    → slice_get (versions d) number ≡ Some from → since c id from.tag ≡ Told ns → Known m.next from d.now ns
-known c m id d from number ns kept stands there held is =
-    let s = told_since c m id from.tag ns kept stands is in
-    let doc : s.document ≡ d = same_document (document_in document_name m.documents id) s.document d s.there there in
-    let version : s.from ≡ from = same_version m id d from number ns s kept doc there held in
+between : (c : Content) (m : State) (id : DocId) (d : Document) (from : Version) (ns : List Note) → TellsSince c m id d from ns → AreBetween m.next from d.now ns
+between c m id d from ns h =
+    let s = told_since c m id from.tag ns h.kept h.stands h.told in
+    let doc : s.document ≡ d = same_document (document_in document_name m.documents id) s.document d s.there h.there in
+    let version : s.from ≡ from = same_version m id d from h.number ns s h.kept doc h.there h.is_version in
     let here : Leads (usage_of s.document.id.auid) m.next from ns s.document.now = subst (λ (v : Version). Leads (usage_of s.document.id.auid) m.next v ns s.document.now) version s.leads in record {
       usage = usage_of d.id.auid;
       leads = subst (λ (x : Document). Leads (usage_of x.id.auid) m.next from ns x.now) doc here;
       few = s.few;
-      answer = answered c m id d from ns stands there is;
+      answer = answered c m id d from ns h.stands h.there h.told;
     }
 
-module _ (c : Content) (m : State) (id : DocId) (d : Document) (from : Version) (number : ℕ) (ns : List Note) (is_mine : List ℕ → Bool) (root authority path : List ℕ)
-    (kept : Kept m) (stands : Stands c m) (room : m.next ≤ 2 ^ 64) (there : document_in document_name m.documents id ≡ Some d) (held : slice_get (versions d) number ≡ Some from)
-    (is : since c id from.tag ≡ Told ns) (is_root : IsRoot root authority path) (mine : is_mine (id_text id) ≡ true) where
-  k : Known m.next from d.now ns
-  k = known c m id d from number ns kept stands there held is
+-- ---- the laws as they are stated
 
-  pub patching : Brings is_mine (patching_notice root (id_text id) from.tag ns) from d.now
-  patching = patched k.usage m.next from d.now ns k.leads k.few room is_mine root (id_text id) mine (root_chars root authority path is_root) (id_chars id) k.answer
+pub some_version : (c : Content) (m : State) (id : DocId) (tag : ℕ) (ns : List Note) → Kept m → Stands c m → since c id tag ≡ Told ns → (d : Document) × (from : Version) × (from.tag ≡ tag) × TellsSince c m id d from ns
+some_version c m id tag ns kept stands told =
+    let s = told_since c m id tag ns kept stands told in (
+      s.document,
+      s.from,
+      s.same_tag,
+      record { kept = kept; stands = stands; there = s.there; number = s.number; is_version = s.is_version; told = ap (since c id) s.same_tag ∙ told },
+    )
 
-  pub aggregate : Brings is_mine (aggregate_notice root (id_text id) from.tag ns) from d.now
-  aggregate = at_once k.usage m.next from d.now ns k.leads k.few room is_mine root (id_text id) mine (root_chars root authority path is_root) (id_chars id) k.answer
+module _ (c : Content) (m : State) (id : DocId) (d : Document) (from : Version) (ns : List Note) (root : List ℕ) (tells : TellsSince c m id d from ns) (is_root : IsRoot root (authority_of root) (path_of root)) (encodable : is_encodable id ≡ true) where
+  chars : all_chars root ≡ true
+  chars = root_chars root (authority_of root) (path_of root) is_root
+
+  pub patching : Brings id (patching_notice root (id_text id) from.tag ns) (subscribed from) (answer_between from d.now) (subscribed d.now)
+  patching = patched id root m.next from d.now ns (between c m id d from ns tells) (names id encodable) chars
+
+  pub aggregate : Brings id (aggregate_notice root (id_text id) from.tag ns) (subscribed from) (answer_between from d.now) (subscribed d.now)
+  aggregate = at_once id root m.next from d.now ns (between c m id d from ns tells) (names id encodable) chars
+
+  pub tags_alone : Brings id (tags_notice root (id_text id) from.tag ns) (subscribed from) (fetch_between from d.now) (subscribed from)
+  tags_alone = by_tags id root m.next from d.now ns (between c m id d from ns tells) (names id encodable) chars
+
+pub gone : (id : DocId) (tag : ℕ) (t : Tree) (root : List ℕ) → IsRoot root (authority_of root) (path_of root) → is_encodable id ≡ true → Brings id (gone_notice root (id_text id) tag) (Some (decimal tag, t)) Removed None
+gone id tag t root is_root encodable = record {
+  is_read = gone_read root (id_text id) tag (root_chars root (authority_of root) (path_of root) is_root) (id_chars id);
+  is_applied = gone_replayed (is_name_of id) root (id_text id) tag t (names id encodable);
+}

@@ -1,9 +1,25 @@
 -- What a subscriber holds who applies a notice. RFC 5874, section 3: a notice tells the changes between two entity tags.
-use Rattle.std.specs.Prelude.{◌≡◌, ℕ, ◌==◌, Bool, List, Some, Ok, decimal, if◌then◌else◌}
+use Rattle.std.specs.Prelude.{◌≡◌, ℕ, ◌==◌, List, Some, Ok, decimal, slice_get, if◌then◌else◌}
 use Rattle.xml_tree.specs.Tree.{Tree}
-use Rattle.patch_words.specs.Replay.{Answer, Held, Patched, Same, replayed}
+use Rattle.doc_names.specs.declared.doc_id.DocId.{DocId}
+use Rattle.name_words.specs.Naming.{is_name_of}
+use Rattle.notes.specs.Notes.{Note}
+use Rattle.patch_words.specs.Replay.{Answer, Fetch, Held, Patched, Same, replayed}
 use Rattle.patch_laws.specs.Replayed.{IsReadBack}
-use Rattle.store_core.specs.State.{Version}
+use Rattle.store_core.specs.Changing.{document_in, document_name}
+use Rattle.store_core.specs.Held.{Stands, Stock}
+use Rattle.store_core.specs.Keeping.{Kept}
+use Rattle.store_core.specs.Since.{Told, since}
+use Rattle.store_core.specs.State.{Document, State, Version, versions}
+
+-- a store stands for a kept state, in which the document has this version, and tells these notes since the version's tag
+pub record TellsSince (c : Stock) (m : State) (id : DocId) (d : Document) (from : Version) (ns : List Note) : Type 0 where
+  pub kept : Kept m
+  pub stands : Stands c m
+  pub there : document_in document_name m.documents id ≡ Some d
+  pub number : ℕ
+  pub is_version : slice_get (versions d) number ≡ Some from
+  pub told : since c id from.tag ≡ Told ns
 
 -- what a subscriber holds of a version: its tag, in digits, and its tree
 abbrev pub subscribed : Version → Held
@@ -13,7 +29,11 @@ subscribed v = Some (decimal v.tag, v.tree)
 abbrev pub answer_between : Version → Version → Answer
 answer_between from to = if to.tag == from.tag then Same else Patched
 
--- the text of a notice is read as the notice, and who holds the one version and applies it holds the other
-pub record Brings (is_mine : List ℕ → Bool) (notice : Tree) (from to : Version) : Type 0 where
+-- or it has to be fetched, where the changes aren't told
+abbrev pub fetch_between : Version → Version → Answer
+fetch_between from to = if to.tag == from.tag then Same else Fetch (decimal to.tag)
+
+-- the text of a notice is read as the notice, and who holds this of the document and applies it gets the answer and then holds that
+pub record Brings (id : DocId) (notice : Tree) (held : Held) (answer : Answer) (new : Held) : Type 0 where
   pub is_read : IsReadBack notice
-  pub is_applied : replayed is_mine notice (subscribed from) ≡ Ok (answer_between from to, subscribed to)
+  pub is_applied : replayed (is_name_of id) notice held ≡ Ok (answer, new)

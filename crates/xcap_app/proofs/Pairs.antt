@@ -3,7 +3,7 @@ use Rattle.std.proofs.Common.{◌≡◌, ℕ, List, [], ◌∷◌, refl, ap, sub
 use Rattle.std.specs.Borrow.{GName}
 use Rattle.store_core.specs.Keeping.{Kept}
 use Rattle.store_core.specs.State.{State}
-use Rattle.machine_words.specs.Machine.{KeptStep}
+use Rattle.feed_laws.specs.Holding.{FollowedStep}
 use Rattle.notes.specs.declared.edit.Edit.{Edit}
 use Rattle.xcap_io.specs.Causes.{Aside, LineState}
 use Rattle.xcap_io.specs.Pairs.{pair_state}
@@ -38,8 +38,8 @@ just_written input output input' output' t = record {
 
 module _ {W : Type 0} (Keeps : List Edit → W → W → Type 0) where
   served : (root : List ℕ) (ended : Ended) (m m' : State) (input output input' output' : LineState) (names names' : List GName) (w w' : W)
-      → ServesLine (InBytes (KeptStep root)) Keeps ended m m' (pair_state input output names) (pair_state input' output' names') w w'
-      → ServesLine (InBytes (KeptStep root)) Keeps ended m m' (joined input output) (joined input' output') w w'
+      → ServesLine (InBytes (FollowedStep root)) Keeps ended m m' (pair_state input output names) (pair_state input' output' names') w w'
+      → ServesLine (InBytes (FollowedStep root)) Keeps ended m m' (joined input output) (joined input' output') w w'
   served root ended m m' input output input' output' names names' w w' s = record {
     passed = s.passed;
     edits = s.edits;
@@ -59,11 +59,11 @@ module _ {W : Type 0} (Keeps : List Edit → W → W → Type 0) where
 
   pub by_pair : (root : List ℕ) (ended : Ended) (m m' : State) (input output input' output' made : LineState) (a o a' o' : GName) (w w' : W)
       → made ≡ pair_state input output (a ∷ o ∷ []) → Kept m'
-      → ServesLine (InBytes (KeptStep root)) Keeps ended m m' made (pair_state input' output' (a' ∷ o' ∷ [])) w w'
+      → ServesLine (InBytes (FollowedStep root)) Keeps ended m m' made (pair_state input' output' (a' ∷ o' ∷ [])) w w'
       → ServesInput Keeps root m ended input input' output output' w w'
   by_pair root ended m m' input output input' output' made a o a' o' w w' was kept s =
-      let on : ServesLine (InBytes (KeptStep root)) Keeps ended m m' (pair_state input output (a ∷ o ∷ [])) (pair_state input' output' (a' ∷ o' ∷ [])) w w' =
-      subst (λ (l : LineState). ServesLine (InBytes (KeptStep root)) Keeps ended m m' l (pair_state input' output' (a' ∷ o' ∷ [])) w w') was s in
+      let on : ServesLine (InBytes (FollowedStep root)) Keeps ended m m' (pair_state input output (a ∷ o ∷ [])) (pair_state input' output' (a' ∷ o' ∷ [])) w w' =
+      subst (λ (l : LineState). ServesLine (InBytes (FollowedStep root)) Keeps ended m m' l (pair_state input' output' (a' ∷ o' ∷ [])) w w') was s in
       let t : Through input output input' output' = through input output input' output' on.exchanges.same_holds on.exchanges.same_aside in
       record {
         state = m';

@@ -5,7 +5,7 @@ use Rattle.notes.specs.declared.edit.Edit.{Edit}
 use Rattle.store_core.specs.State.{first_state}
 use Rattle.http_wire.specs.Serving.{closed, Serves as ServesOne, ServesAll}
 use Rattle.http_serve.specs.Fixed.{fixed}
-use Rattle.machine_words.specs.Machine.{KeptStep}
+use Rattle.feed_laws.specs.Holding.{FollowedStep}
 use Rattle.http_serve.specs.Written.{InBytes}
 use Rattle.xcap_io.specs.Causes.{Begun, LineState, none_begun}
 use Rattle.xcap_io.specs.Connections.{carried, traffic}
@@ -47,7 +47,7 @@ module _ {W : Type 0} (Keeps : List Edit → W → W → Type 0) where
       record {
         state = r.state;
         edits = s.edits;
-        serves = subst (λ (t : Traffic). ServesOne (InBytes (KeptStep root)) fixed closed (first_state 1) t r.state s.edits) is s.serves;
+        serves = subst (λ (t : Traffic). ServesOne (InBytes (FollowedStep root)) fixed closed (first_state 1) t r.state s.edits) is s.serves;
         told = s.kept;
       }
 
@@ -59,7 +59,7 @@ module _ {W : Type 0} (Keeps : List Edit → W → W → Type 0) where
         record {
           state = s.state;
           edits = v.edits;
-          serves = subst (λ (l : List Traffic). ServesAll (InBytes (KeptStep root)) fixed (first_state 1) l s.state v.edits port.read_faults port'.read_faults port.write_faults port'.write_faults) (sym all) v.serves;
+          serves = subst (λ (l : List Traffic). ServesAll (InBytes (FollowedStep root)) fixed (first_state 1) l s.state v.edits port.read_faults port'.read_faults port.write_faults port'.write_faults) (sym all) v.serves;
           told = v.kept;
         },
         took_all output.taken output'.taken (served_line served.connections) none_taken takes.taken

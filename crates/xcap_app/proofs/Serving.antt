@@ -4,7 +4,7 @@ use Rattle.store_core.specs.Held.{Stands, Stock as Content}
 use Rattle.store_core.specs.Keeping.{Kept}
 use Rattle.store_core.specs.State.{State, first_state}
 use Rattle.store_core.proofs.KeptAfter.{kept-first}
-use Rattle.machine_words.specs.Machine.{KeptStep}
+use Rattle.feed_laws.specs.Holding.{FollowedStep}
 use Rattle.notes.specs.declared.edit.Edit.{Edit}
 use Rattle.xcap_io.specs.Causes.{LineState}
 use Rattle.xcap_io.specs.Connections.{listening_at}
@@ -27,11 +27,11 @@ begun c e = subst (λ d. Stands d (first_state 1)) (sym e) refl
 module _ {W : Type 0} (Keeps : List Edit → W → W → Type 0) where
   -- what a server that is new did on a port that listens
   pub served_address : (address root : List ℕ) (count : ℕ) (served : Served) (old content : Content) (port listening port' : LineState) (watchers watchers' : W) → old ≡ record { documents = []; next = 1 } → listening ≡ listening_at port address
-      → ((m : State) → Kept m → Stands old m → (next : State) × Kept next × Stands content next × ServesPort (InBytes (KeptStep root)) Keeps count served m next listening port' watchers watchers')
+      → ((m : State) → Kept m → Stands old m → (next : State) × Kept next × Stands content next × ServesPort (InBytes (FollowedStep root)) Keeps count served m next listening port' watchers watchers')
       → ServesAddress Keeps address root count served port port' watchers watchers'
   served_address address root count served old content port listening port' watchers watchers' new listens serves =
       let s = serves (first_state 1) (kept-first 1 (omega arith)) (begun old new) in
-      record { state = s.0; kept = s.1; serves = subst (λ (l : LineState). ServesPort (InBytes (KeptStep root)) Keeps count served (first_state 1) s.0 l port' watchers watchers') listens s.3 }
+      record { state = s.0; kept = s.1; serves = subst (λ (l : LineState). ServesPort (InBytes (FollowedStep root)) Keeps count served (first_state 1) s.0 l port' watchers watchers') listens s.3 }
 
   -- and where their number was printed
   pub ended_so : (address root : List ℕ) (count : ℕ) (served : Served) (exit : Exit) (port port' output output' : LineState) (watchers watchers' : W) → ServesAddress Keeps address root count served port port' watchers watchers' → IsComplete served.stop

@@ -2,7 +2,7 @@
 use Rattle.std.specs.Prelude.{◌≡◌, ℕ, List}
 use Rattle.store_core.specs.Keeping.{Kept}
 use Rattle.store_core.specs.State.{State, first_state}
-use Rattle.machine_words.specs.Machine.{KeptStep}
+use Rattle.feed_laws.specs.Holding.{FollowedStep}
 use Rattle.notes.specs.declared.edit.Edit.{Edit}
 use Rattle.xcap_io.specs.Causes.{LineState}
 use Rattle.http_serve.specs.Connections.{ServesLine}
@@ -21,12 +21,13 @@ exit_of WriteFailed = OutputFailed
 
 -- W is the type of the watchers, and `Keeps` says what they are after such changes.
 module _ {W : Type 0} (Keeps : List Edit → W → W → Type 0) where
-  -- The input was served as one connection by the machine of this root from this state on, each state on the way kept; the
-  -- replies went to the output, the watchers were told the changes, and the connection ended so.
+  -- The input was served as one connection by the machine of this root from this state on, each state on the way kept and
+  -- subscribers kept up to date by the replies to feeds; the replies went to the output, the watchers were told the changes, and the
+  -- connection ended so.
   pub record ServesInput (root : List ℕ) (before : State) (ended : Ended) (input input' output output' : LineState) (watchers watchers' : W) : Type 0 where
     pub state : State
     pub kept : Kept state
-    pub serves : ServesLine (InBytes (KeptStep root)) Keeps ended before state (both_lines input output) (both_lines input' output') watchers watchers'
+    pub serves : ServesLine (InBytes (FollowedStep root)) Keeps ended before state (both_lines input output) (both_lines input' output') watchers watchers'
     pub just_read : JustRead input input'
     pub just_written : JustWritten output output'
 

@@ -2,7 +2,7 @@
 use Rattle.std.specs.Prelude.{◌≡◌, ℕ, ◌⊎◌, List, [], ◌∷◌, ◌++◌, codes, decimal}
 use Rattle.store_core.specs.Keeping.{Kept}
 use Rattle.store_core.specs.State.{State, first_state}
-use Rattle.machine_words.specs.Machine.{KeptStep}
+use Rattle.feed_laws.specs.Holding.{FollowedStep}
 use Rattle.notes.specs.declared.edit.Edit.{Edit}
 use Rattle.xcap_io.specs.Causes.{LineState, Rose}
 use Rattle.xcap_io.specs.Connections.{listening_at, with_port_faults}
@@ -28,11 +28,12 @@ IsComplete PortFailed = ⊥
 -- W is the type of the watchers, and `Keeps` says what they are after such changes.
 module _ {W : Type 0} (Keeps : List Edit → W → W → Type 0) where
   -- The port listens at the address, and the connections that came were served, so many at most, by the machine of this root
-  -- from the state without documents whose next number is 1 on, each state on the way kept; the watchers were told the changes.
+  -- from the state without documents whose next number is 1 on, each state on the way kept and subscribers kept up to date by
+  -- the replies to feeds; the watchers were told the changes.
   pub record ServesAddress (address root : List ℕ) (count : ℕ) (served : Served) (port port' : LineState) (watchers watchers' : W) : Type 0 where
     pub state : State
     pub kept : Kept state
-    pub serves : ServesPort (InBytes (KeptStep root)) Keeps count served (first_state 1) state (listening_at port address) port' watchers watchers'
+    pub serves : ServesPort (InBytes (FollowedStep root)) Keeps count served (first_state 1) state (listening_at port address) port' watchers watchers'
 
   -- All connections were served, and their number was written, or some of that where the output failed; or the port doesn't
   -- listen or failed to begin a connection, and nothing was written; or memory was wanted, and nothing was done.

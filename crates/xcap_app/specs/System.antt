@@ -5,7 +5,7 @@ use Rattle.notes.specs.declared.edit.Edit.{Edit}
 use Rattle.store_core.specs.State.{State, first_state}
 use Rattle.http_wire.specs.Serving.{closed, Serves, ServesAll}
 use Rattle.http_serve.specs.Fixed.{fixed}
-use Rattle.machine_words.specs.Machine.{KeptStep}
+use Rattle.feed_laws.specs.Holding.{FollowedStep}
 use Rattle.http_serve.specs.Written.{InBytes}
 use Rattle.xcap_io.specs.Causes.{LineState}
 use Rattle.xcap_io.specs.Connections.{carried}
@@ -18,19 +18,19 @@ use Rattle.xcap_app.specs.declared.exit.Exit.TheVariants.{Done}
 -- W is the type of the watchers, and `Keeps` says what they are after such changes.
 module _ {W : Type 0} (Keeps : List Edit → W → W → Type 0) where
   -- On all connections of the port the machine of this root answered, from the state without documents whose next number is 1 on,
-  -- over kept states alone: the bytes taken on each are its replies to the items of the bytes given on it. The watchers were told
-  -- exactly the changes that it made, in order.
+  -- over kept states alone, and kept subscribers up to date: the bytes taken on each are its replies to the items of the bytes given on it.
+  -- The watchers were told exactly the changes that it made, in order.
   pub record AnswersAll (root : List ℕ) (port port' : LineState) (watchers watchers' : W) : Type 0 where
     pub state : State
     pub edits : List Edit
-    pub serves : ServesAll (InBytes (KeptStep root)) fixed (first_state 1) (carried port') state edits port.read_faults port'.read_faults port.write_faults port'.write_faults
+    pub serves : ServesAll (InBytes (FollowedStep root)) fixed (first_state 1) (carried port') state edits port.read_faults port'.read_faults port.write_faults port'.write_faults
     pub told : Keeps edits watchers watchers'
 
   -- Of the input and the output as one connection, which was closed, the same.
   pub record AnswersInput (root : List ℕ) (input' output' : LineState) (watchers watchers' : W) : Type 0 where
     pub state : State
     pub edits : List Edit
-    pub serves : Serves (InBytes (KeptStep root)) fixed closed (first_state 1) (record { given = input'.inward.given; ended = input'.inward.ended; taken = output'.taken }) state edits
+    pub serves : Serves (InBytes (FollowedStep root)) fixed closed (first_state 1) (record { given = input'.inward.given; ended = input'.inward.ended; taken = output'.taken }) state edits
     pub told : Keeps edits watchers watchers'
 
   -- what was done, by the command that the words spell

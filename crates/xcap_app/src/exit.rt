@@ -42,8 +42,7 @@ impl Words {
     }
 }
 
-const USAGE: &[u8] =
-    b"usage: xcapd replay ROOT | serve ADDR ROOT COUNT | keep ADDR ROOT COUNT | check AUID | sample N | fetch USER ROOT PATH | put USER ROOT PATH TYPE | delete USER ROOT PATH | follow USER ROOT DOCUMENT ROUNDS\n";
+const USAGE: &[u8] = b"usage: xcapd replay ROOT | serve ADDR ROOT COUNT | check AUID\n";
 
 impl Exit {
     /// The status that the program ends with.

@@ -13,21 +13,21 @@ use Rattle.http_serve.specs.Ports.{Came, ServesPort}
 use Rattle.http_serve.specs.declared.connection.Ended.{Ended}
 use Rattle.http_serve.specs.declared.port.Served.{Served}
 use Rattle.http_serve.proofs.Ports.{has_bytes}
-use Rattle.machine_words.specs.Machine.{KeptStep}
+use Rattle.feed_laws.specs.Holding.{FollowedStep}
 use Rattle.http_serve.specs.Written.{InBytes}
 
 module _ {W : Type 0} (Keeps : List Edit → W → W → Type 0) where
   pub line_counts : (root : List ℕ) (ended : Ended) (m n : State) (old new : LineState) (a b : W) (bytes : List ℕ) → old.inward.left ≡ Some bytes → IsTruthful old.inward
-      → (served : ServesLine (InBytes (KeptStep root)) Keeps ended m n old new a b)
-      → Serves (InBytes (KeptStep root)) fixed (ending_of ended) m (counted (ending_of ended) bytes served.passed) n served.edits
+      → (served : ServesLine (InBytes (FollowedStep root)) Keeps ended m n old new a b)
+      → Serves (InBytes (FollowedStep root)) fixed (ending_of ended) m (counted (ending_of ended) bytes served.passed) n served.edits
   line_counts root ended m n old new a b bytes told truthful served =
-      counts (InBytes (KeptStep root)) fixed (ending_of ended) m n served.edits bytes served.passed
+      counts (InBytes (FollowedStep root)) fixed (ending_of ended) m n served.edits bytes served.passed
       (has_bytes old.inward new.inward bytes served.passed told truthful served.gave served.found_end) served.serves
 
   pub port_counts : (root : List ℕ) (most : ℕ) (by : Served) (m n : State) (old new : LineState) (a b : W) (all : List (List ℕ)) → old.port.to_come ≡ Some all
-      → (served : ServesPort (InBytes (KeptStep root)) Keeps most by m n old new a b)
+      → (served : ServesPort (InBytes (FollowedStep root)) Keeps most by m n old new a b)
       → (came : List (List ℕ)) × (rest : List (List ℕ)) × (all ≡ came ++ rest) × (new.port.to_come ≡ Some rest) × HaveBytes came served.connections
-      × ServesEach (InBytes (KeptStep root)) fixed m (counted_each served.connections came served.serves.endings) served.serves.endings n served.edits
+      × ServesEach (InBytes (FollowedStep root)) fixed m (counted_each served.connections came served.serves.endings) served.serves.endings n served.edits
   port_counts root most by m n old new a b all told served =
       let came : Came (Some all) new.port.to_come served.connections = subst (λ (t : Option (List (List ℕ))). Came t new.port.to_come served.connections) told served.came in
-      (came.0, came.1, came.2, came.3, came.4, counts_each (InBytes (KeptStep root)) fixed m n served.edits came.0 served.connections served.serves.endings came.4 served.serves.each)
+      (came.0, came.1, came.2, came.3, came.4, counts_each (InBytes (FollowedStep root)) fixed m n served.edits came.0 served.connections served.serves.endings came.4 served.serves.each)

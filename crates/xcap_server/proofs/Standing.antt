@@ -8,6 +8,8 @@ use Rattle.store_core.specs.Held.{Stands}
 use Rattle.store_core.specs.Keeping.{Kept}
 use Rattle.machine_words.specs.Machine.{Does, KeptStep, answer_as}
 use Rattle.machine_words.specs.Effects.{DeletedIsGone, KeyAddressesStay, PutIsThere, SecondPutLeavesTrees}
+use Rattle.feed_laws.specs.Holding.{FollowedStep, SubscribersHold}
+use Rattle.feed_laws.proofs.Answered.{holds}
 use Rattle.machine_words.proofs.Addresses.{addresses_stay}
 use Rattle.machine_words.proofs.Effects.{deleted_is_gone, put_is_there, second_put_leaves}
 use Rattle.machine_words.proofs.Steps.{answer_closes, step_of}
@@ -18,6 +20,7 @@ use Rattle.http_serve.specs.Connections.{ServesLine}
 use Rattle.http_serve.specs.Ports.{ServesPort}
 use Rattle.http_serve.specs.Written.{InBytes}
 use Rattle.http_serve.proofs.Simulations.{line_by, port_by}
+use Rattle.xcap_uri.specs.Roots.{IsRoot, authority_of, path_of}
 use Rattle.xcap_server.specs.Servers.{AnswersRequest, ServerState}
 
 -- a server of this root, whose store stands for a kept state
@@ -26,14 +29,18 @@ record StandsAt (root : List ℕ) (s : ServerState) (m : State) : Type 0 where
   kept : Kept m
   stands : Stands s.content m
 
-step_at : (root : List ℕ) (s s' : ServerState) (m : State) (request : Request) (bytes : List ℕ) (edit : Option Edit) → StandsAt root s m → InBytes AnswersRequest s request bytes s' edit
-    → (m' : State) × StandsAt root s' m' × InBytes (KeptStep root) m request bytes m' edit
-step_at root s s' m request bytes edit here a =
+-- the root of a server is spelled by the grammar
+abbrev IsRooted : ServerState → Type 0
+IsRooted s = IsRoot s.root (authority_of s.root) (path_of s.root)
+
+step_at : (root : List ℕ) → IsRoot root (authority_of root) (path_of root) → (s s' : ServerState) (m : State) (request : Request) (bytes : List ℕ) (edit : Option Edit) → StandsAt root s m → InBytes AnswersRequest s request bytes s' edit
+    → (m' : State) × StandsAt root s' m' × InBytes (FollowedStep root) m request bytes m' edit
+step_at root is_root s s' m request bytes edit here a =
     let does : Does root s.content request a.reply s'.content edit = subst (λ (r : List ℕ). Does r s.content request a.reply s'.content edit) here.same_root a.step.does in
     let t = step_of root s.content s'.content m request a.reply edit does here.kept here.stands in (
       t.0,
       record { same_root = a.step.same_root ∙ here.same_root; kept = t.1.2; stands = t.2 },
-      record { reply = a.reply; written = a.written; step = t.1 },
+      record { reply = a.reply; written = a.written; step = (t.1, holds root is_root s.content m request (answer_as a.reply edit) here.kept here.stands does.answers) },
     )
 
 -- any step of a machine with one state
@@ -47,18 +54,18 @@ root_at root s s' m request bytes edit same a = (tt, a.step.same_root ∙ same, 
 
 module _ {W : Type 0} (Keeps : List Edit → W → W → Type 0) (s now s' : ServerState) (is : s ≡ now) (old new : LineState) (watchers watchers' : W) where
   -- what was served is what the machine of its root does
-  pub line_stands : (ended : Ended) → ServesLine (InBytes AnswersRequest) Keeps ended s s' old new watchers watchers' → (m : State) → Kept m → Stands now.content m
-      → (m' : State) × Kept m' × Stands s'.content m' × ServesLine (InBytes (KeptStep now.root)) Keeps ended m m' old new watchers watchers'
-  line_stands ended v m kept stands =
+  pub line_stands : (ended : Ended) → IsRooted s → ServesLine (InBytes AnswersRequest) Keeps ended s s' old new watchers watchers' → (m : State) → Kept m → Stands now.content m
+      → (m' : State) × Kept m' × Stands s'.content m' × ServesLine (InBytes (FollowedStep now.root)) Keeps ended m m' old new watchers watchers'
+  line_stands ended rooted v m kept stands =
       let served : ServesLine (InBytes AnswersRequest) Keeps ended now s' old new watchers watchers' = subst (λ (x : ServerState). ServesLine (InBytes AnswersRequest) Keeps ended x s' old new watchers watchers') is v in
-      let t = line_by (InBytes AnswersRequest) (InBytes (KeptStep now.root)) (StandsAt now.root) (step_at now.root) Keeps ended now s' m old new watchers watchers' (record { same_root = refl; kept = kept; stands = stands }) served in
+      let t = line_by (InBytes AnswersRequest) (InBytes (FollowedStep now.root)) (StandsAt now.root) (step_at now.root (subst IsRooted is rooted)) Keeps ended now s' m old new watchers watchers' (record { same_root = refl; kept = kept; stands = stands }) served in
       (t.0, t.1.kept, t.1.stands, t.2)
 
-  pub port_stands : (most : ℕ) (served : Served) → ServesPort (InBytes AnswersRequest) Keeps most served s s' old new watchers watchers' → (m : State) → Kept m → Stands now.content m
-      → (m' : State) × Kept m' × Stands s'.content m' × ServesPort (InBytes (KeptStep now.root)) Keeps most served m m' old new watchers watchers'
-  port_stands most served v m kept stands =
+  pub port_stands : (most : ℕ) (served : Served) → IsRooted s → ServesPort (InBytes AnswersRequest) Keeps most served s s' old new watchers watchers' → (m : State) → Kept m → Stands now.content m
+      → (m' : State) × Kept m' × Stands s'.content m' × ServesPort (InBytes (FollowedStep now.root)) Keeps most served m m' old new watchers watchers'
+  port_stands most served rooted v m kept stands =
       let all : ServesPort (InBytes AnswersRequest) Keeps most served now s' old new watchers watchers' = subst (λ (x : ServerState). ServesPort (InBytes AnswersRequest) Keeps most served x s' old new watchers watchers') is v in
-      let t = port_by (InBytes AnswersRequest) (InBytes (KeptStep now.root)) (StandsAt now.root) (step_at now.root) Keeps most served now s' m old new watchers watchers' (record { same_root = refl; kept = kept; stands = stands }) all in
+      let t = port_by (InBytes AnswersRequest) (InBytes (FollowedStep now.root)) (StandsAt now.root) (step_at now.root (subst IsRooted is rooted)) Keeps most served now s' m old new watchers watchers' (record { same_root = refl; kept = kept; stands = stands }) all in
       (t.0, t.1.kept, t.1.stands, t.2)
 
   -- and its root is as before
@@ -103,3 +110,8 @@ module _ (s now s' : ServerState) (is : s ≡ now) (request : Request) where
   pub answered_addresses : {E : Type 0} → (m : State) × Stands s.content m × Kept m → (r : Result (Answered Edit) E) → IfOk r (λ a. AnswersRequest s request a.reply s' a.edit) → IfOk r (λ a. KeyAddressesStay now.content a.edit s'.content)
   answered_addresses (m, stands, kept) r = of_all (λ a. KeyAddressesStay now.content a.edit s'.content)
       (λ a does. addresses_stay now.root now.content s'.content request a.reply a.edit m kept (subst (λ (x : ServerState). Stands x.content m) is stands) does) r
+
+  pub answered_feed : {E : Type 0} → IsRooted s → (r : Result (Answered Edit) E) → IfOk r (λ a. AnswersRequest s request a.reply s' a.edit)
+      → IfOk r (λ a. (m : State) → Kept m → Stands now.content m → SubscribersHold now.root m request a.reply)
+  answered_feed rooted r = of_all (λ a. (m : State) → Kept m → Stands now.content m → SubscribersHold now.root m request a.reply)
+      (λ a does m kept stands. holds now.root (subst IsRooted is rooted) now.content m request (answer_as a.reply a.edit) kept stands does.answers) r

@@ -10,7 +10,7 @@ ghost use Rattle.http_serve.specs.Fixed.{fixed};
 ghost use Rattle.http_serve.specs.Ports.{ServesPort};
 ghost use Rattle.http_serve.specs.declared.connection.Ended.{Ended};
 ghost use Rattle.http_serve.specs.declared.port.Served.{Served};
-ghost use Rattle.machine_words.specs.Machine.{KeptStep};
+ghost use Rattle.feed_laws.specs.Holding.{FollowedStep};
 ghost use Rattle.http_serve.specs.Written.{InBytes};
 
 use notes::Edit;
@@ -22,11 +22,11 @@ use watchers::Watchers;
 pub fn all_bytes_count<W: Watchers<Edit>>()
     ensures line { (root : List ℕ) (ended : Ended) (m n : State) (old new : LineState) (a b : W) (bytes : List ℕ)
         → old.inward.left ≡ Some bytes → IsTruthful old.inward
-        → (served : ServesLine (InBytes (KeptStep root)) W.keeps ended m n old new a b)
-        → Serves (InBytes (KeptStep root)) fixed (ending_of ended) m (counted (ending_of ended) bytes served.passed) n served.edits }
+        → (served : ServesLine (InBytes (FollowedStep root)) W.keeps ended m n old new a b)
+        → Serves (InBytes (FollowedStep root)) fixed (ending_of ended) m (counted (ending_of ended) bytes served.passed) n served.edits }
     ensures port { (root : List ℕ) (most : ℕ) (by : Served) (m n : State) (old new : LineState) (a b : W) (all : List (List ℕ))
-        → old.port.to_come ≡ Some all → (served : ServesPort (InBytes (KeptStep root)) W.keeps most by m n old new a b)
+        → old.port.to_come ≡ Some all → (served : ServesPort (InBytes (FollowedStep root)) W.keeps most by m n old new a b)
         → (came : List (List ℕ)) × (rest : List (List ℕ)) × (all ≡ came ++ rest) × (new.port.to_come ≡ Some rest)
-        × HaveBytes came served.connections × ServesEach (InBytes (KeptStep root)) fixed m
+        × HaveBytes came served.connections × ServesEach (InBytes (FollowedStep root)) fixed m
         (counted_each served.connections came served.serves.endings) served.serves.endings n served.edits }
 {}

@@ -6,6 +6,7 @@ ghost use Rattle.store_core.specs.Held.{Stands};
 ghost use Rattle.store_core.specs.Keeping.{Kept};
 ghost use Rattle.machine_words.specs.Effects.{DeletedIsGone, KeyAddressesStay, PutIsThere, SecondPutLeavesTrees};
 ghost use Rattle.machine_words.specs.Machine.{KeptStep};
+ghost use Rattle.feed_laws.specs.Holding.{FollowedStep, SubscribersHold};
 ghost use Rattle.http_serve.specs.Connections.{ServesLine};
 ghost use Rattle.http_serve.specs.Ports.{ServesPort};
 ghost use Rattle.http_serve.specs.Written.{InBytes};
@@ -78,8 +79,9 @@ impl Server {
 /// exactly what its body spells, and the same request once more, if it has no condition fields,
 /// leaves every tree and is answered 200, or 507 where no number is left for a change. After a
 /// DELETE that made a change, its address finds nothing. A change leaves what addresses by keys
-/// select, where it moves it, but for keys that it writes itself. A request whose target lies
-/// outside the root takes no memory.
+/// select, where it moves it, but for keys that it writes itself. Whoever holds a version of a
+/// document and applies the notice that answers the feed since its tag holds exactly the version
+/// that the document has. A request whose target lies outside the root takes no memory.
 ///
 /// # Errors
 /// `NoMemory` for want of memory; the server is then as before.
@@ -95,11 +97,14 @@ pub fn answer(server: &mut Server, request: &Request) -> Result<Answered<Edit>, 
         SecondPutLeavesTrees server.old.root request.now answered.edit server.new.content) }
     ensures key_addresses_stay { IfOk result (λ answered.
         KeyAddressesStay server.old.content answered.edit server.new.content) }
+    ensures subscribers_hold_the_document { IfOk result (λ answered. (m : State) → Kept m
+        → Stands server.old.content m → SubscribersHold server.old.root m request.now answered.reply) }
     ensures closes_as_asked { IfOk result (λ answered. answered.reply.closes ≡ request.now.closes) }
     ensures outside_takes_no_memory { under_root server.old.root request.now.target ≡ None → IsOk result }
     ensures same_root { server.new.root ≡ server.old.root }
     ensures without_memory_as_before { OnErr result (server.new.content ≡ server.old.content) }
 {
+    server.service.is_rooted();
     server.service.stands();
     server.service.respond(request)
 }
@@ -115,9 +120,10 @@ pub fn serve_connection<L: Source + Sink, W: Watchers<Edit>>(
 ) -> Ended
     ensures serves_as_the_machine { (m : State) → Kept m → Stands server.old.content m
         → (next : State) × Kept next × Stands server.new.content next
-        × ServesLine (InBytes (KeptStep server.old.root)) W.keeps result m next (L.state line.old) (L.state line.new) watchers.old watchers.new }
+        × ServesLine (InBytes (FollowedStep server.old.root)) W.keeps result m next (L.state line.old) (L.state line.new) watchers.old watchers.new }
     ensures same_root { server.new.root ≡ server.old.root }
 {
+    server.service.is_rooted();
     serve_line(&mut server.service, &mut server.buffers, line, watchers)
 }
 
@@ -131,9 +137,10 @@ pub fn serve_port<P: Port, W: Watchers<Edit>>(
 ) -> Served
     ensures serves_as_the_machine { (m : State) → Kept m → Stands server.old.content m
         → (next : State) × Kept next × Stands server.new.content next
-        × ServesPort (InBytes (KeptStep server.old.root)) W.keeps count result m next (P.state port.old) (P.state port.new) watchers.old watchers.new }
+        × ServesPort (InBytes (FollowedStep server.old.root)) W.keeps count result m next (P.state port.old) (P.state port.new) watchers.old watchers.new }
     ensures same_root { server.new.root ≡ server.old.root }
 {
+    server.service.is_rooted();
     serve_lines(
         &mut server.service,
         &mut server.buffers,

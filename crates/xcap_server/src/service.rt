@@ -1,5 +1,6 @@
 // The documents under a root, as what answers requests.
 ghost use Rattle.std.specs.Prelude.{◌≡◌, ◌≤◌, [], None, IsOk, IfOk, OnErr};
+ghost use Rattle.xcap_uri.specs.Roots.{IsRoot, authority_of, path_of};
 ghost use Rattle.xcap_uri.specs.Targets.{under_root};
 ghost use Rattle.store_core.specs.Held.{Stands};
 ghost use Rattle.store_core.specs.Keeping.{Kept};
@@ -16,7 +17,7 @@ use notes::Edit;
 use std::alloc::{AllocError, Global};
 use std::marker::Model;
 use store_core::Store;
-use xcap_uri::Root;
+use xcap_uri::{Root, roots_are_spelled_by_the_grammar};
 
 // Its memory is taken from `alloc`. Contracts see the root, and what the store holds.
 #[derive(Drop)]
@@ -61,6 +62,14 @@ impl Service {
         ensures lends_the_documents { result.now.content ≡ self.now.content }
     {
         &self.store
+    }
+
+    // A law: the root is spelled by the grammar.
+    pub(crate) fn is_rooted(&self)
+        ensures spelled_by_the_grammar { IsRoot self.now.root (authority_of self.now.root) (path_of self.now.root) }
+    {
+        let _text = self.root.text();
+        roots_are_spelled_by_the_grammar();
     }
 
     // A law: what is held stands for a state that is kept.

@@ -1,4 +1,4 @@
-use Rattle.xcap_server.proofs.Standing.{answered_addresses, answered_closes, answered_delete, answered_put, answered_second, answered_step}
+use Rattle.xcap_server.proofs.Standing.{answered_addresses, answered_closes, answered_delete, answered_feed, answered_put, answered_second, answered_step}
 use Rattle.xcap_server.proofs.server.answer.Goals as goal
 
 pub returns-clause-makes_a_step_of_the_machine : goal.returns-clause-makes_a_step_of_the_machine
@@ -15,6 +15,9 @@ returns-clause-a_second_put_leaves_every_tree c = answered_second c.server.insid
 
 pub returns-clause-key_addresses_stay : goal.returns-clause-key_addresses_stay
 returns-clause-key_addresses_stay c = answered_addresses c.server.inside.service c.args.server.now c.respond.new.self c.server.view_is c.args.request.now c.stands.ensures.stands_for_a_kept_state c.respond.result c.respond.ensures.answers_as_the_machine
+
+pub returns-clause-subscribers_hold_the_document : goal.returns-clause-subscribers_hold_the_document
+returns-clause-subscribers_hold_the_document c = answered_feed c.server.inside.service c.args.server.now c.respond.new.self c.server.view_is c.args.request.now c.is_rooted.ensures.spelled_by_the_grammar c.respond.result c.respond.ensures.answers_as_the_machine
 
 pub returns-clause-closes_as_asked : goal.returns-clause-closes_as_asked
 returns-clause-closes_as_asked c = answered_closes c.server.inside.service c.args.server.now c.respond.new.self c.server.view_is c.args.request.now c.respond.result c.respond.ensures.answers_as_the_machine

@@ -1,0 +1,68 @@
+-- What the answer to a request for a feed brings to those who hold a version of the document. RFC 5874, section 3, says what a notice of changes
+-- is, and RFC 5875, section 4.3, which modes of patching there are.
+use Rattle.std.specs.Prelude.{◌≡◌, ℕ, true, decimal, List, [], Option, None, Some, Ok, slice_get}
+use Rattle.xml_tree.specs.Proper.{ProperIn}
+use Rattle.xml_tree.specs.Tree.{Tree}
+use Rattle.tree_text.specs.Faults.{TextAnswer}
+use Rattle.doc_names.specs.declared.doc_id.DocId.{DocId}
+use Rattle.name_words.specs.Naming.{is_name_of}
+use Rattle.xcap_uri.specs.Targets.{TargetAnswer}
+use Rattle.xcap_uri.specs.declared.target.Mode.{Mode}
+use Rattle.xcap_uri.specs.declared.target.Mode.TheVariants.{NoPatching, XcapPatching, Aggregate}
+use Rattle.xcap_uri.specs.declared.target.Target.TheVariants.{Feed}
+use Rattle.notes.specs.declared.edit.Edit.{Edit}
+use Rattle.patch_words.specs.Replay.{Answer, Held, Removed, is_notice, replayed}
+use Rattle.reply_text.specs.Heads.{Sent}
+use Rattle.http_wire.specs.declared.request.Request.{Request}
+use Rattle.request_terms.specs.Methods.{method_of}
+use Rattle.request_terms.specs.declared.method.Method.TheVariants.{Get}
+use Rattle.store_core.specs.Changing.{document_in, document_name}
+use Rattle.store_core.specs.Held.{stock_of}
+use Rattle.store_core.specs.Since.{Unknown, since}
+use Rattle.store_core.specs.State.{Document, State, Version, versions}
+use Rattle.machine_words.specs.Machine.{KeptStep}
+use Rattle.replay_laws.specs.Subscribers.{answer_between, fetch_between, subscribed}
+
+-- the body is the text of a notice, and who holds this of the document and applies the notice gets the answer and then holds that
+pub record Updates (id : DocId) (body : List ℕ) (held : Held) (answer : Answer) (new : Held) : Type 0 where
+  pub notice : Tree
+  pub is_read : TextAnswer 67 [] body (Ok notice)
+  pub form : is_notice notice ≡ true
+  pub proper : ProperIn [] notice
+  pub is_applied : replayed (is_name_of id) notice held ≡ Ok (answer, new)
+
+-- from one version of the document to another: where changes are told, who held the one holds the other; else it is told to fetch that, or that
+-- nothing changed
+abbrev pub UpdatesTo : Mode → DocId → List ℕ → Version → Version → Type 0
+UpdatesTo NoPatching id body from to = Updates id body (subscribed from) (fetch_between from to) (subscribed from)
+UpdatesTo XcapPatching id body from to = Updates id body (subscribed from) (answer_between from to) (subscribed to)
+UpdatesTo Aggregate id body from to = Updates id body (subscribed from) (answer_between from to) (subscribed to)
+
+-- the document has exactly one version with this tag, and who holds it is brought by the body to the version that the document has now
+pub record UpdatesFrom (mode : Mode) (tag : ℕ) (id : DocId) (body : List ℕ) (d : Document) : Type 0 where
+  pub from : Version
+  pub number : ℕ
+  pub is_version : slice_get (versions d) number ≡ Some from
+  pub same_tag : from.tag ≡ tag
+  pub only : (other : Version) (k : ℕ) → slice_get (versions d) k ≡ Some other → other.tag ≡ tag → other ≡ from
+  pub updates : UpdatesTo mode id body from d.now
+
+-- a document that is held, and one that is gone, of which nothing is held afterwards
+abbrev pub UpdatesHeld : Mode → ℕ → DocId → List ℕ → Option Document → Type 0
+UpdatesHeld mode tag id body (Some d) = UpdatesFrom mode tag id body d
+UpdatesHeld mode tag id body None = (t : Tree) → Updates id body (Some (decimal tag, t)) Removed None
+
+-- what holds of the answer to a GET of the feed of a document from a tag on
+pub record SubscriberHolds (m : State) (mode : Mode) (tag : ℕ) (id : DocId) (reply : Sent) : Type 0 where
+  pub updates : reply.status ≡ 200 → UpdatesHeld mode tag id reply.body (document_in document_name m.documents id)
+  pub unknown : reply.status ≡ 410 → since (stock_of m) id tag ≡ Unknown
+
+-- what holds of each reply in a state
+abbrev pub SubscribersHold : List ℕ → State → Request → Sent → Type 0
+SubscribersHold root m request reply =
+    (mode : Mode) (tag : ℕ) (id : DocId) → TargetAnswer root request.target (Ok (Feed mode tag id)) → method_of request.method ≡ Get
+    → SubscriberHolds m mode tag id reply
+
+-- a step of the machine from a kept state to a kept one, whose reply keeps subscribers up to date
+abbrev pub FollowedStep : List ℕ → State → Request → Sent → State → Option Edit → Type 0
+FollowedStep root m request reply next edit = KeptStep root m request reply next edit × SubscribersHold root m request reply

@@ -1,0 +1,4 @@
+pub mod Addressed
+pub mod Octets
+pub mod Parts
+pub mod Printed

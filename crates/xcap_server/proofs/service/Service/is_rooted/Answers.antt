@@ -1,0 +1,13 @@
+use Rattle.std.proofs.Common.{refl, subst}
+use Rattle.xcap_uri.specs.Roots.{IsRoot, authority_of, path_of}
+use Rattle.xcap_server.specs.Servers.{ServerState}
+use Rattle.xcap_server.proofs.service.Service.is_rooted.Goals as goal
+
+pub returns : goal.returns
+returns c =
+    let root = c.self.inside.root in
+    record {
+      spelled_by_the_grammar =
+          subst (λ (s : ServerState). IsRoot s.root (authority_of s.root) (path_of s.root)) c.self.view_is
+          ((c.roots_are_spelled_by_the_grammar.ensures.root_by_its_pieces_alone root (authority_of root) (path_of root)).1 (c.text-text.ensures.root, refl, refl));
+    }
