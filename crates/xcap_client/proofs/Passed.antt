@@ -1,0 +1,50 @@
+-- What passed over the connection of a call.
+use Rattle.std.proofs.Common.{◌≡◌, ℕ, inl, inr, List, [], ◌++◌, Result, Err, encode_utf8_all, sym, ap, subst, ◌∙◌}
+use Rattle.xcap_io.specs.Causes.{Begun, Inward, LineState, PeerState}
+use Rattle.xcap_io.specs.Connections.{Connects, asked, traffic}
+use Rattle.xcap_io.specs.Histories.{Traffic, carried_by}
+use Rattle.xcap_io.specs.Streams.{TookProperPrefix}
+use Rattle.http_exchange.specs.declared.request.Ask.{Ask}
+use Rattle.http_exchange.specs.declared.response.Response.{Response}
+use Rattle.http_exchange.specs.Requests.{request_bytes}
+use Rattle.http_exchange.specs.Responses.{IsSaid, IsUnfinished}
+use Rattle.http_exchange.specs.Stops.{ByCause}
+use Rattle.xcap_client.specs.declared.fault.ClientFault.{ClientFault}
+use Rattle.xcap_client.specs.declared.fault.ClientFault.TheVariants.{NoMemory, PeerFault}
+use Rattle.xcap_client.specs.Addresses.{address_of}
+use Rattle.xcap_client.specs.Exchanges.{Exchanges, not_begun, not_connected, not_sent, answered}
+use Rattle.xcap_client.specs.Calls.{Calls, JudgesAll}
+use Rattle.xcap_client.specs.Connections.{ConnectsOnce, OneBegan, none_began, broke_off, responded}
+
+-- a fault of an exchange is answered as it is
+pub fault_stays : (given result : Result Response ClientFault) (fault : ClientFault) → given ≡ Err fault → JudgesAll given result → result ≡ Err fault
+fault_stays given result fault is judged = subst (λ (g : Result Response ClientFault). JudgesAll g result) is judged
+
+-- behind a connection that began stands one more, over which passed what the line shows
+one_began : (root : List ℕ) (old begun new : LineState) → Connects old begun (encode_utf8_all (address_of root)) → new.peer ≡ begun.peer → OneBegan root old new (traffic new)
+one_began root old begun new connects same = record {
+  behind = ap (λ (b : Begun). carried_by b.earlier b.is_present (traffic new)) (ap (λ (p : PeerState). p.begun) same ∙ connects.begins);
+  dialled = ap (λ (p : PeerState). p.addresses) same ∙ connects.dialled;
+}
+
+by_exchange : (root : List ℕ) (ask : Ask) (old new : LineState) (given result : Result Response ClientFault) → Exchanges root ask old new given → JudgesAll given result → ConnectsOnce root ask old new result
+by_exchange root ask old new given result (not_begun same is) judged =
+    none_began (record { same = ap asked same; same_addresses = ap (λ (l : LineState). l.peer.addresses) same }) (inl (fault_stays given result NoMemory is judged))
+by_exchange root ask old new given result (not_connected failed is) judged =
+    none_began (record { same = failed.keeps; same_addresses = failed.same_addresses }) (inr (fault_stays given result PeerFault is judged))
+by_exchange root ask old new given result (not_sent begun connects writes rose prefix is) judged =
+    let nothing : begun.taken ≡ [] = ap (λ (t : Traffic). t.taken) connects.nothing_passed in
+    broke_off (traffic new) (one_began root old begun new connects writes.same_peer)
+    (subst (λ (taken : List ℕ). TookProperPrefix taken new.taken (request_bytes root ask)) nothing prefix)
+    (fault_stays given result PeerFault is judged)
+by_exchange root ask old new given result (answered begun sent answer connects writes same took reads answers counts is) judged =
+    let nothing : begun.taken ≡ [] = ap (λ (t : Traffic). t.taken) connects.nothing_passed in
+    let none : sent.inward.given ≡ [] = ap (λ (i : Inward). i.given) writes.same_inward ∙ ap (λ (t : Traffic). t.given) connects.nothing_passed in
+    let whole : answers.read ≡ new.inward.given = sym (answers.given.behind ∙ ap (λ (l : List ℕ). l ++ answers.read) none) in
+    responded (traffic new) answer (one_began root old begun new connects (reads.same_peer ∙ writes.same_peer))
+    (reads.same_taken ∙ took ∙ ap (λ (l : List ℕ). l ++ request_bytes root ask) nothing)
+    (subst (λ (read : List ℕ). ByCause answer (IsUnfinished read) (IsSaid read new.inward.ended)) whole answers.answer)
+    (subst (λ (g : Result Response ClientFault). JudgesAll g result) is judged)
+
+pub connects_once : (root : List ℕ) (ask : Ask) (old new : LineState) (result : Result Response ClientFault) → Calls root ask old new result → ConnectsOnce root ask old new result
+connects_once root ask old new result call = by_exchange root ask old new call.given result call.exchanges call.judged

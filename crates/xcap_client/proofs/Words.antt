@@ -1,0 +1,54 @@
+-- Texts of the code, read as characters, and which of the client's requests are lawful.
+use Rattle.std.proofs.Common.{◌≡◌, ℕ, List, [], ◌∷◌, Option, codes, refl, sym, ap, arith}
+use Rattle.std.proofs.lemmas.Bool.{true≢false}
+use Rattle.std.specs.Str.{chars}
+use Rattle.http_exchange.specs.Requests.{IsLawful}
+use Rattle.xcap_client.specs.Asks.{bare, getting, removing, putting}
+
+pub get : chars (codes "GET") ≡ codes "GET"
+unfolding chars
+get = refl
+
+pub put : chars (codes "PUT") ≡ codes "PUT"
+unfolding chars
+put = refl
+
+pub delete : chars (codes "DELETE") ≡ codes "DELETE"
+unfolding chars
+delete = refl
+
+pub port : chars (codes ":80") ≡ codes ":80"
+unfolding chars
+port = refl
+
+pub xcap_error : chars (codes "xcap-error") ≡ codes "xcap-error"
+unfolding chars
+xcap_error = refl
+
+-- ---- lawful requests
+
+abbrev first : List ℕ → ℕ
+first [] = 0
+first (c ∷ cs) = c
+
+heads : (a b : ℕ) (xs ys : List ℕ) → a ∷ xs ≡ b ∷ ys → a ≡ b
+heads a b xs ys same = ap first same
+
+-- a request with another method than PUT
+no_put : (method : List ℕ) (user : Option (List ℕ)) (path : List ℕ) → ((method ≡ codes "PUT") → ⊥) → IsLawful (bare method user path)
+no_put method user path other = record {
+  media = (λ some. absurd (true≢false (sym some)), λ put. absurd (other put));
+  body = λ _. refl;
+}
+
+pub getting_is_lawful : (user : Option (List ℕ)) (path : List ℕ) → IsLawful (getting user path)
+getting_is_lawful user path = no_put (codes "GET") user path (λ same. let never : 71 ≡ 80 = heads 71 80 (69 ∷ 84 ∷ []) (85 ∷ 84 ∷ []) same in omega (arith, never))
+
+pub removing_is_lawful : (user : Option (List ℕ)) (path : List ℕ) → IsLawful (removing user path)
+removing_is_lawful user path = no_put (codes "DELETE") user path (λ same. let never : 68 ≡ 80 = heads 68 80 (69 ∷ 76 ∷ 69 ∷ 84 ∷ 69 ∷ []) (85 ∷ 84 ∷ []) same in omega (arith, never))
+
+pub putting_is_lawful : (user : Option (List ℕ)) (path media body : List ℕ) → IsLawful (putting user path media body)
+putting_is_lawful user path media body = record {
+  media = (λ _. refl, λ _. refl);
+  body = λ other. absurd (other refl);
+}

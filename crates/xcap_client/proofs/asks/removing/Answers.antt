@@ -1,0 +1,10 @@
+use Rattle.std.proofs.Common.{refl, sym, subst, ◌∙◌}
+use Rattle.http_exchange.specs.Requests.{IsLawful}
+use Rattle.xcap_client.proofs.Words.{delete, removing_is_lawful}
+use Rattle.xcap_client.proofs.asks.removing.Goals as goal
+
+pub returns-clause-value : goal.returns-clause-value
+returns-clause-value c = rw (c.in_ok-from.ensures.copies_the_text ∙ delete, c.in_ok-from-2.ensures.copies_the_text, c.in_ok-copy_user.ensures.copies_the_name, c.new.ensures.holds_no_bytes) refl
+
+pub returns-clause-lawful : goal.returns-clause-lawful
+returns-clause-lawful c = subst IsLawful (sym (returns-clause-value c)) (removing_is_lawful _ _)

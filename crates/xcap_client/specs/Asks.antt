@@ -1,0 +1,20 @@
+-- What the calls of the client ask (RFC 4825, section 7).
+use Rattle.std.specs.Prelude.{ℕ, List, [], Option, None, Some, codes}
+use Rattle.http_exchange.specs.declared.request.Ask.{Ask}
+
+-- without a body
+abbrev pub bare : List ℕ → Option (List ℕ) → List ℕ → Ask
+bare method user path = record { method = method; path = path; user = user; media = None; body = [] }
+
+-- GET
+abbrev pub getting : Option (List ℕ) → List ℕ → Ask
+getting user path = bare (codes "GET") user path
+
+-- DELETE
+abbrev pub removing : Option (List ℕ) → List ℕ → Ask
+removing user path = bare (codes "DELETE") user path
+
+-- PUT of a body of that media type
+abbrev pub putting : Option (List ℕ) → List ℕ → List ℕ → List ℕ → Ask
+putting user path media body =
+    record { method = codes "PUT"; path = path; user = user; media = Some media; body = body }

@@ -1,0 +1,36 @@
+// The address of a root's connections.
+ghost use Rattle.std.specs.Prelude.{◌≡◌, IfOk};
+ghost use Rattle.xcap_client.specs.Addresses.{names_port, address_of};
+
+use std::alloc::Global;
+use xcap_io::NoMemory;
+use xcap_uri::Root;
+use xml_tree::Text;
+
+// Whether a port stands behind the host, which may be a number of IPv6 in brackets.
+fn names_port(authority: &[u8]) -> bool
+    ensures tells_whether_a_port_is_named { result ≡ names_port authority.now }
+{
+    let mut rest = authority;
+    'host: while let [front @ .., last] = rest {
+        if *last == b':' {
+            return true;
+        }
+        if *last == b']' {
+            return false;
+        }
+        rest = front;
+    }
+    false
+}
+
+// The authority of the root, with the port of HTTP where it names none.
+pub fn address_of(alloc: Global, root: &Root) -> Result<Text, NoMemory>
+    ensures address_of_the_root { IfOk result (λ address. address ≡ address_of root.now) }
+{
+    let mut address = Text::from(alloc, root.authority())?;
+    if !names_port(root.authority().as_bytes()) {
+        address.push_str(":80")?;
+    }
+    Ok(address)
+}
