@@ -1,0 +1,39 @@
+-- What was read at the front of some bytes, in the words of texts.
+use Rattle.std.proofs.Common.{◌≡◌, ℕ, ◌+◌, List, [], ◌++◌, length, Ok, Err, refl, sym, ap, ◌∙◌, arith, append-nil, append_assoc, length-append}
+use Rattle.http_wire.specs.declared.request.Request.{Request}
+use Rattle.edit_journal.specs.Records.{record_of, content}
+use Rattle.edit_journal.specs.Texts.{BeginsWith, HasNoRecord, IsTorn, IsDamaged}
+use Rattle.edit_journal.specs.declared.reading.Stop.TheVariants.{Open, Wrong}
+use Rattle.edit_journal.specs.inner.Reading.{Reads, Record, worth}
+use Rattle.std.specs.Int.{w32, to_be_bytes}
+use Rattle.edit_journal.proofs.Blocks.{block_is}
+use Rattle.edit_journal.proofs.Lengths.{record_length}
+use Rattle.edit_journal.proofs.Numbers.{number_there}
+use Rattle.edit_journal.proofs.Wholes.{no_record_in}
+
+-- the length of the record that stands at the front
+record_len_is : (request : Request) (bytes rest : List ℕ) → BeginsWith bytes request rest → 4 + worth bytes 0 ≡ length (record_of request)
+record_len_is request bytes rest (told, split) =
+    let number : worth bytes 0 ≡ length (content request) = number_there bytes (length (content request)) (content request ++ rest) (omega (arith, told.0.short))
+    (split ∙ ap (λ l. l ++ rest) (block_is (content request)) ∙ append_assoc (to_be_bytes w32 (length (content request))) (content request) rest) in
+    omega (arith, record_length request)
+
+pub front_whole : (bytes : List ℕ) (request : Request) → Reads (λ (r : Request). r) Record bytes (Ok request)
+    → (rest : List ℕ) × BeginsWith bytes request rest × (4 + worth bytes 0 ≡ length (record_of request))
+front_whole bytes request (front, rest, split, (told, is)) =
+    let begins : BeginsWith bytes request rest = (told, split ∙ ap (λ l. l ++ rest) is) in
+    (rest, begins, record_len_is request bytes rest begins)
+
+pub front_torn : (bytes : List ℕ) → Reads (λ (r : Request). r) Record bytes (Err Open) → HasNoRecord bytes × IsTorn bytes
+front_torn bytes (more, request, longer, (told, is)) = (
+  no_record_in bytes more request told (sym is) (omega (arith, ap length is, length-append bytes more)),
+  (request, told, omega (arith, ap length is, length-append bytes more), (more, sym is)),
+)
+
+pub front_damaged : (bytes : List ℕ) → Reads (λ (r : Request). r) Record bytes (Err Wrong) → IsDamaged bytes
+front_damaged bytes wrong = (
+  (λ request rest begins. wrong (record_of request) request [] rest (begins.0, refl) (append-nil bytes ∙ begins.1)),
+  (λ torn. wrong (record_of torn.0) torn.0 torn.3.0 [] (torn.1, refl) (sym torn.3.1 ∙ sym (append-nil (record_of torn.0)))),
+)
+
+pub ruleset fronts = (front_whole, front_torn, front_damaged)

@@ -1,0 +1,82 @@
+-- Records that a journal holds stay whole.
+use Rattle.std.proofs.Common.{◌≡◌, ℕ, ◌+◌, inl, inr, Bool, true, false, List, [], ◌∷◌, ◌++◌, length, take, drop, Result, Ok, Err, refl, sym, ap, ◌∙◌, subst, arith, append-nil, append_assoc, length-append}
+use Rattle.std.proofs.lemmas.List.{drop_all}
+use Rattle.std.proofs.Math.Seq.{drop-append-le, take-append_seam}
+use Rattle.std.proofs.lemmas.List.Elements.{All-append, All-cons, All-nil}
+use Rattle.std.specs.Bool.{MatchBool}
+use Rattle.http_wire.specs.declared.request.Request.{Request}
+use Rattle.edit_journal.specs.declared.log.AppendFault.{AppendFault}
+use Rattle.edit_journal.specs.declared.log.AppendFault.TheVariants.{Failed, NoMemory}
+use Rattle.edit_journal.specs.Records.{record_of, recorded, IsRecordable}
+use Rattle.edit_journal.specs.Texts.{text, IsTold}
+use Rattle.edit_journal.specs.Journals.{JournalState, IsFirstOf}
+use Rattle.edit_journal.specs.Logs.{LogState, HoldsRecords, KeepsWhole, AddsRecord, with_request, log_with}
+
+pub text-append : (xs ys : List Request) → text (xs ++ ys) ≡ text xs ++ text ys
+text-append [] ys = refl
+text-append (x ∷ xs) ys = ap (λ l. record_of x ++ l) (text-append xs ys) ∙ sym (append_assoc (record_of x) (text xs) (text ys))
+
+text_one_more : (requests : List Request) (request : Request) → text (requests ++ recorded request ∷ []) ≡ text requests ++ record_of request
+text_one_more requests request = text-append requests (recorded request ∷ []) ∙ ap (λ l. text requests ++ l) (append-nil (record_of request))
+
+is_told : (request : Request) → IsRecordable request → IsTold (recorded request)
+is_told request can = (record { method = can.method; names = can.names; few = can.few; body = can.body; short = can.short }, refl)
+
+-- a record, or some first bytes of one
+abbrev BeginsRecord : List ℕ → Type 0
+BeginsRecord bytes = (request : Request) × IsTold request × IsFirstOf bytes (record_of request)
+
+-- the whole records are the first bytes
+whole_first : (log : LogState) (requests : List Request) (bytes : List ℕ) (holds : HoldsRecords log requests bytes) → take log.len bytes ≡ text requests
+whole_first log requests bytes holds =
+    ap (λ n. take n bytes) (sym holds.len) ∙ ap (take (length (text requests))) holds.split ∙ take-append_seam (text requests) holds.rest
+
+behind_whole : (log : LogState) (requests : List Request) (bytes : List ℕ) (holds : HoldsRecords log requests bytes) → drop log.len bytes ≡ holds.rest
+behind_whole log requests bytes holds =
+    ap (λ n. drop n bytes) (sym holds.len) ∙ ap (drop (length (text requests))) holds.split
+    ∙ drop-append-le (length (text requests)) (text requests) holds.rest (omega arith)
+    ∙ ap (λ l. l ++ holds.rest) (drop_all (length (text requests)) (text requests) (omega arith))
+
+-- what stands behind the whole records begins one, or nothing does
+behind_begins : (is_torn : Bool) (request : Request) (rest : List ℕ) → IsRecordable request → MatchBool is_torn (BeginsRecord rest) (rest ≡ []) → BeginsRecord rest
+behind_begins true request rest can behind = behind
+behind_begins false request rest can behind = (recorded request, is_told request can, (record_of request, ap (λ l. l ++ record_of request) (sym behind)))
+
+-- some first ones of what begins a record begin it
+begins_too : (bytes all : List ℕ) → IsFirstOf bytes all → BeginsRecord all → BeginsRecord bytes
+begins_too bytes all p q = (q.0, q.1, (p.0 ++ q.2.0, q.2.1 ∙ ap (λ l. l ++ q.2.0) p.1 ∙ append_assoc bytes p.0 q.2.0))
+
+holds_added : (log : LogState) (request : Request) (requests : List Request) (old new : List ℕ) → IsRecordable request → new ≡ take log.len old ++ record_of request → HoldsRecords log requests old
+    → HoldsRecords (log_with log (record_of request)) (requests ++ recorded request ∷ []) new
+holds_added log request requests old new can behind holds = record {
+  rest = [];
+  told = All-append IsTold requests (recorded request ∷ []) holds.told (All-cons IsTold (recorded request) [] (is_told request can) (All-nil IsTold));
+  split = behind ∙ ap (λ l. l ++ record_of request) (whole_first log requests old holds) ∙ sym (text_one_more requests request) ∙ sym (append-nil (text (requests ++ recorded request ∷ [])));
+  len = ap length (text_one_more requests request) ∙ length-append (text requests) (record_of request) ∙ ap (λ n. n + length (record_of request)) holds.len;
+  behind = refl;
+}
+
+holds_kept : (log : LogState) (request : Request) (requests : List Request) (old new : List ℕ) → IsRecordable request → KeepsWhole log.len (record_of request) old new → HoldsRecords log requests old
+    → HoldsRecords (record log { is_torn = true }) requests new
+holds_kept log request requests old new can kept holds = record {
+  rest = kept.0;
+  told = holds.told;
+  split = kept.1 ∙ ap (λ l. l ++ kept.0) (whole_first log requests old holds);
+  len = holds.len;
+  behind = elim kept.2 [
+    | inl p ↦ (recorded request, is_told request can, p)
+    | inr p ↦ begins_too kept.0 holds.rest (subst (IsFirstOf kept.0) (behind_whole log requests old holds) p) (behind_begins log.is_torn request holds.rest can holds.behind)
+  ];
+}
+
+-- A journal that holds the records of some requests holds those and the new one after a record was added, or at a fault those,
+-- and behind them at most some first bytes of a record.
+pub adding_keeps_records : (log log' : LogState) (journal journal' : JournalState) (request : Request) (result : Result (Unit {0}) AppendFault)
+    → IsRecordable request → AddsRecord log journal (record_of request) result log' journal'
+    → (requests : List Request) → HoldsRecords log requests journal.held → HoldsRecords log' (with_request result requests request) journal'.held
+adding_keeps_records log log' journal journal' request (Ok x) can adds requests holds =
+    subst (λ (m : LogState). HoldsRecords m (requests ++ recorded request ∷ []) journal'.held) (sym adds.0) (holds_added log request requests journal.held journal'.held can adds.1 holds)
+adding_keeps_records log log' journal journal' request (Err Failed) can adds requests holds =
+    subst (λ (m : LogState). HoldsRecords m requests journal'.held) (sym adds.0) (holds_kept log request requests journal.held journal'.held can adds.1 holds)
+adding_keeps_records log log' journal journal' request (Err NoMemory) can adds requests holds =
+    subst (λ (m : LogState). HoldsRecords m requests journal'.held) (sym adds.0) (subst (λ (j : JournalState). HoldsRecords log requests j.held) (sym adds.1) holds)

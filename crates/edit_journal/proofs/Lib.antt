@@ -1,0 +1,14 @@
+pub mod Blocks
+pub mod Contents
+pub mod Fields
+pub mod Fronts
+pub mod Going
+pub mod Keeping
+pub mod Lengths
+pub mod Logging
+pub mod Numbers
+pub mod Pieces
+pub mod Redoing
+pub mod Rests
+pub mod Rounds
+pub mod Wholes

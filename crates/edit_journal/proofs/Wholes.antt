@@ -1,0 +1,164 @@
+-- What is whole at the front of some bytes is one list of requests.
+use Rattle.std.proofs.Common.{◌≡◌, ℕ, ◌<◌, ◌≤◌, ◌^◌, inl, inr, false, List, [], ◌∷◌, ◌++◌, length, take, drop, All, refl, sym, ap, ◌∙◌, arith, append-nil, append_assoc, length-append}
+use Rattle.std.proofs.lemmas.List.Elements.{All-head, All-tail, All-nil, All-cons}
+use Rattle.std.proofs.lemmas.Bool.{cases_lt}
+use Rattle.std.specs.Int.{w16, to_be_bytes}
+use Rattle.http_wire.specs.declared.request.Field.{Field}
+use Rattle.http_wire.specs.declared.request.Request.{Request}
+use Rattle.edit_journal.specs.Records.{method_number, block, field_text, fields_text, content, record_of}
+use Rattle.edit_journal.specs.Texts.{text, IsTold, HasNoRecord, IsTorn, OneWhole, PrefixesHoldFirstOnes}
+use Rattle.httparse.specs.Grammar.{IsToken}
+use Rattle.edit_journal.proofs.Blocks.{first_part, second_part, one_block}
+use Rattle.edit_journal.proofs.Lengths.{content_length, record_length, field_length}
+use Rattle.edit_journal.proofs.Rests.{one_short}
+use Rattle.edit_journal.proofs.Contents.{one_or_two, put_number}
+use Rattle.std.specs.Str.{chars}
+use Rattle.std.proofs.Common.{codes, take-append-drop}
+use Rattle.std.proofs.lemmas.List.{length-take-le}
+use Rattle.std.proofs.lemmas.Slice.Eq.{bytes_eq-Decides}
+
+put_is : (method : List ℕ) → method_number method ≡ 1 → method ≡ chars (codes "PUT")
+unfolding method_number
+put_is method is = grind (arith, bytes_eq-Decides)
+
+delete_is : (method : List ℕ) → method_number method ≡ 2 → method ≡ chars (codes "DELETE")
+unfolding method_number
+delete_is method is = grind (arith, bytes_eq-Decides)
+
+one_method : (a b : List ℕ) → 0 < method_number a → method_number a ≡ method_number b → a ≡ b
+one_method a b some same = elim (one_or_two a some) [
+  | inl one ↦ put_is a one ∙ sym (put_is b (sym same ∙ one))
+  | inr two ↦ delete_is a two ∙ sym (delete_is b (sym same ∙ two))
+]
+
+one_fields : (fs gs : List Field) (x y : List ℕ) → length fs ≡ length gs → length (fields_text fs) < 2 ^ 32 → length (fields_text gs) < 2 ^ 32 → fields_text fs ++ x ≡ fields_text gs ++ y → (fs ≡ gs) × (x ≡ y)
+one_fields [] [] x y same a b e = (refl, e)
+one_fields [] (g ∷ gs) x y same a b e = absurd (omega arith)
+one_fields (f ∷ fs) [] x y same a b e = absurd (omega arith)
+one_fields (f ∷ fs) (g ∷ gs) x y same a b e =
+    let long = length-append (field_text f) (fields_text fs) in
+    let long' = length-append (field_text g) (fields_text gs) in
+    let size = field_length f in
+    let size' = field_length g in
+    let first = one_block f.name g.name (block f.value ++ (fields_text fs ++ x)) (block g.value ++ (fields_text gs ++ y)) (omega arith) (omega arith)
+    (sym (append_assoc (block f.name) (block f.value) (fields_text fs ++ x)) ∙ sym (append_assoc (field_text f) (fields_text fs) x) ∙ e ∙ append_assoc (field_text g) (fields_text gs) y ∙ append_assoc (block g.name) (block g.value) (fields_text gs ++ y)) in
+    let next = one_block f.value g.value (fields_text fs ++ x) (fields_text gs ++ y) (omega arith) (omega arith) first.1 in
+    let rest = one_fields fs gs x y (omega arith) (omega arith) (omega arith) next.1 in
+    ((λ i. record { name = first.0 i; value = next.0 i } ∷ rest.0 i), rest.1)
+
+one_content : (a b : Request) → IsTold a → IsTold b → content a ≡ content b → a ≡ b
+one_content a b told told' e =
+    let size = content_length a in
+    let size' = content_length b in
+    let number : method_number a.method ≡ method_number b.method = cc in
+    let behind : block a.target ++ (to_be_bytes w16 (length a.fields) ++ (fields_text a.fields ++ block a.body)) ≡ block b.target ++ (to_be_bytes w16 (length b.fields) ++ (fields_text b.fields ++ block b.body)) = cc in
+    let target = one_block a.target b.target (to_be_bytes w16 (length a.fields) ++ (fields_text a.fields ++ block a.body)) (to_be_bytes w16 (length b.fields) ++ (fields_text b.fields ++ block b.body))
+    (omega (arith, told.0.short)) (omega (arith, told'.0.short)) behind in
+    let count : length a.fields ≡ length b.fields = one_short (length a.fields) (length b.fields) (omega (arith, told.0.few)) (omega (arith, told'.0.few))
+    (first_part (to_be_bytes w16 (length b.fields)) (fields_text b.fields ++ block b.body) (to_be_bytes w16 (length a.fields)) (fields_text a.fields ++ block a.body) refl target.1) in
+    let rest = second_part (to_be_bytes w16 (length b.fields)) (fields_text b.fields ++ block b.body) (to_be_bytes w16 (length a.fields)) (fields_text a.fields ++ block a.body) refl target.1 in
+    let fields = one_fields a.fields b.fields (block a.body) (block b.body) count (omega (arith, told.0.short)) (omega (arith, told'.0.short)) rest in
+    let body = one_block a.body b.body [] [] (omega (arith, told.0.body)) (omega (arith, told'.0.body)) (ap (λ l. l ++ []) fields.1) in
+    λ i. record { method = one_method a.method b.method told.0.method number i; target = target.0 i; closes = (told.1 ∙ sym told'.1) i; fields = fields.0 i; body = body.0 i }
+
+-- the bytes of a record tell the request
+pub one_record : (a b : Request) (x y : List ℕ) → IsTold a → IsTold b → record_of a ++ x ≡ record_of b ++ y → (a ≡ b) × (x ≡ y)
+one_record a b x y told told' e =
+    let same = one_block (content a) (content b) x y (omega (arith, told.0.short)) (omega (arith, told'.0.short)) e in
+    (one_content a b told told' same.0, same.1)
+
+one_list : (bytes : List ℕ) (requests requests' : List Request) (rest rest' : List ℕ) → All IsTold requests → All IsTold requests' → HasNoRecord rest → HasNoRecord rest'
+    → bytes ≡ text requests ++ rest → bytes ≡ text requests' ++ rest' → (requests ≡ requests') × (rest ≡ rest')
+one_list bytes [] [] rest rest' told told' none none' e e' = (refl, sym e ∙ e')
+one_list bytes [] (b ∷ ys) rest rest' told told' none none' e e' =
+    absurd (none b (text ys ++ rest') (All-head IsTold b ys told', sym e ∙ e' ∙ append_assoc (record_of b) (text ys) rest'))
+one_list bytes (a ∷ xs) [] rest rest' told told' none none' e e' =
+    absurd (none' a (text xs ++ rest) (All-head IsTold a xs told, sym e' ∙ e ∙ append_assoc (record_of a) (text xs) rest))
+one_list bytes (a ∷ xs) (b ∷ ys) rest rest' told told' none none' e e' =
+    let one = one_record a b (text xs ++ rest) (text ys ++ rest') (All-head IsTold a xs told) (All-head IsTold b ys told') (sym (append_assoc (record_of a) (text xs) rest) ∙ sym e ∙ e' ∙ append_assoc (record_of b) (text ys) rest') in
+    let more = one_list (text xs ++ rest) xs ys rest rest' (All-tail IsTold a xs told) (All-tail IsTold b ys told') none none' refl one.1 in
+    ((λ i. one.0 i ∷ more.0 i), more.1)
+
+pub one_whole : OneWhole
+one_whole bytes requests requests' rest rest' whole whole' =
+    one_list bytes requests requests' rest rest' whole.told whole'.told whole.no_more whole'.no_more whole.split whole'.split
+
+-- no record is whole in fewer bytes than its own
+pub no_record_in : (bytes more : List ℕ) (request : Request) → IsTold request → record_of request ≡ bytes ++ more → length bytes < length (record_of request) → HasNoRecord bytes
+no_record_in bytes more request told e short = λ other rest begins.
+    let one = one_record request other [] (rest ++ more) told begins.0 (append-nil (record_of request) ∙ e ∙ ap (λ l. l ++ more) begins.1 ∙ append_assoc (record_of other) rest more) in
+    omega (arith, ap length e, length-append bytes more, ap length one.1, length-append rest more)
+
+-- a request that has a record
+some_request : Request
+some_request = record { method = chars (codes "PUT"); target = []; closes = false; fields = []; body = [] }
+
+some_told : IsTold some_request
+unfolding some_request
+some_told = (
+  record {
+    method = omega (arith, put_number);
+    names = All-nil (λ (field : Field). IsToken field.name);
+    few = omega arith;
+    body = omega arith;
+    short = omega (arith, content_length some_request);
+  },
+  refl,
+)
+
+-- nothing is the first bytes of a record
+pub nothing_torn : IsTorn []
+nothing_torn = (some_request, some_told, omega (arith, record_length some_request, content_length some_request), (record_of some_request, refl))
+
+pub nothing_in : HasNoRecord []
+nothing_in = λ request rest begins. omega (arith, ap length begins.1, length-append (record_of request) rest, record_length request)
+
+first_here : (request : Request) (requests : List Request) (bytes more : List ℕ) → All IsTold (request ∷ requests) → record_of request ++ text requests ≡ bytes ++ more → length bytes < length (record_of request)
+    → (more' : List ℕ) × (record_of request ≡ bytes ++ more')
+first_here request requests bytes more told e short =
+    let parts : bytes ++ more ≡ take (length bytes) (record_of request) ++ (drop (length bytes) (record_of request) ++ text requests) =
+    sym e ∙ ap (λ l. l ++ text requests) (sym (take-append-drop (length bytes) (record_of request))) ∙ append_assoc (take (length bytes) (record_of request)) (drop (length bytes) (record_of request)) (text requests) in
+    let front : bytes ≡ take (length bytes) (record_of request) = first_part (take (length bytes) (record_of request)) (drop (length bytes) (record_of request) ++ text requests) bytes more
+    (sym (length-take-le (length bytes) (record_of request) (omega arith))) parts in
+    (drop (length bytes) (record_of request), sym (take-append-drop (length bytes) (record_of request)) ∙ ap (λ l. l ++ drop (length bytes) (record_of request)) (sym front))
+
+behind_it : (whole bytes rest more : List ℕ) → length whole ≤ length bytes → whole ++ rest ≡ bytes ++ more → (behind : List ℕ) × (bytes ≡ whole ++ behind) × (rest ≡ behind ++ more)
+behind_it whole bytes rest more long e =
+    let parts : whole ++ rest ≡ take (length whole) bytes ++ (drop (length whole) bytes ++ more) =
+    e ∙ ap (λ l. l ++ more) (sym (take-append-drop (length whole) bytes)) ∙ append_assoc (take (length whole) bytes) (drop (length whole) bytes) more in
+    let size : length whole ≡ length (take (length whole) bytes) = sym (length-take-le (length whole) bytes long) in
+    let front : whole ≡ take (length whole) bytes = first_part (take (length whole) bytes) (drop (length whole) bytes ++ more) whole rest size parts in (
+      drop (length whole) bytes,
+      sym (take-append-drop (length whole) bytes) ∙ ap (λ l. l ++ drop (length whole) bytes) (sym front),
+      second_part (take (length whole) bytes) (drop (length whole) bytes ++ more) whole rest size parts,
+    )
+
+nothing_before : (bytes more : List ℕ) → [] ≡ bytes ++ more → bytes ≡ []
+nothing_before [] more e = refl
+nothing_before (b ∷ bytes) more e = absurd (omega (arith, ap length e))
+
+pub first_ones : PrefixesHoldFirstOnes
+first_ones [] bytes told (more, e) =
+    let none : bytes ≡ [] = nothing_before bytes more e in
+    ([], [], [], refl, record { told = All-nil IsTold; split = none; no_more = nothing_in }, nothing_torn)
+first_ones (request ∷ requests) bytes told (more, e) = elim (cases_lt (length bytes) (length (record_of request))) [
+  | inl short ↦
+      let here = first_here request requests bytes more told e short in
+      let one = All-head IsTold request requests told in
+      ([], request ∷ requests, bytes, refl, record { told = All-nil IsTold; split = refl; no_more = no_record_in bytes here.0 request one here.1 short }, (request, one, short, (here.0, here.1)))
+  | inr long ↦
+      let parts = behind_it (record_of request) bytes (text requests) more long e in
+      let one = All-head IsTold request requests told in
+      let rest = first_ones requests parts.0 (All-tail IsTold request requests told) (more, parts.2) in (
+        request ∷ rest.0,
+        rest.1,
+        rest.2,
+        ap (λ l. request ∷ l) rest.3,
+        record {
+          told = All-cons IsTold request rest.0 one rest.4.told;
+          split = parts.1 ∙ ap (λ l. record_of request ++ l) rest.4.split ∙ sym (append_assoc (record_of request) (text rest.0) rest.2);
+          no_more = rest.4.no_more;
+        },
+        rest.5,
+      )
+]

@@ -1,0 +1,17 @@
+use Rattle.std.proofs.Common.{All, List, length, sym, ap, subst, arith}
+use Rattle.http_wire.specs.declared.request.Field.{Field}
+use Rattle.edit_journal.specs.inner.Writing.{IsWritable}
+use Rattle.edit_journal.proofs.Lengths.{content_length, fields_writable}
+use Rattle.edit_journal.proofs.records.content_of.Goals as goal
+
+pub put_block-requires : goal.put_block-requires
+put_block-requires c =
+    let request = c.args.request.now in
+    omega (arith, content_length request, c.requires.short, ap length c.as_slice.ensures.lends_the_bytes)
+
+pub put_fields-requires : goal.put_fields-requires
+put_fields-requires c =
+    let request = c.args.request.now in
+    let size = content_length request in
+    subst (λ (l : List Field). All IsWritable l) (sym c.as_slice-fields.ensures.lends_the_items)
+    (fields_writable request.fields c.requires.names (omega (arith, c.requires.short)))

@@ -1,0 +1,13 @@
+use Rattle.std.proofs.Common.{◌≡◌, length, Ok}
+use Rattle.edit_journal.specs.inner.Redoing.{RedoesHeld}
+use Rattle.edit_journal.proofs.restarting.redo_held.Given as goal
+
+abbrev pub invariant-records : goal.invariant-records
+invariant-records g l = record {
+  redone : RedoesHeld g.R.Replayer.stands g.R.Replayer.refuses (g.J.Journal.state l.fn.journal) (g.J.Journal.state l.journal) l.fn.replayer l.replayer l.fn.log l.log l.fn.count l.count
+      l.fn.inflow.held l.inflow.held (Ok tt);
+  taken : l.inflow.taken ≡ l.fn.inflow.taken;
+}
+
+abbrev pub decreases-records : goal.decreases-records
+decreases-records g l = length l.inflow.held

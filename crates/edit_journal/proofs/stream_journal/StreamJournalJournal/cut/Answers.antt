@@ -1,0 +1,9 @@
+use Rattle.edit_journal.proofs.Pieces.{stream_keeps}
+use Rattle.edit_journal.proofs.stream_journal.StreamJournalJournal.cut.Goals as goal
+
+pub returns : goal.returns
+returns g c = record {
+  keeps_the_first_bytes =
+      stream_keeps (g.O.Line.state c.args.self.now.output.now) c.args.self.now.output.ghost_name c.args.self.now.len c.args.self.now.faults c.fault.new.count c.fault.result c.args._len
+      c.requires.within c.requires.faults c.fault.ensures.later c.fault.ensures.rose;
+}

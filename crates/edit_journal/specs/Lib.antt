@@ -1,0 +1,9 @@
+pub mod Records
+pub mod Journals
+pub mod Memory
+pub mod Streams
+pub mod Texts
+pub mod Logs
+pub mod Replaying
+pub mod Restarts
+pub mod inner

@@ -1,0 +1,46 @@
+-- The record of a request: what a journal keeps of a PUT or DELETE, so that it can be done again. This is the project's own.
+use Rattle.std.specs.Prelude.{ℕ, ◌<◌, ◌≤◌, if◌then◌else◌, false, List, [], ◌∷◌, ◌++◌, length, All, chars, codes}
+use Rattle.std.specs.Int.{w16, w32, to_be_bytes}
+use Rattle.std.specs.Str.{bytes_eq}
+use Rattle.httparse.specs.Grammar.{IsToken}
+use Rattle.http_wire.specs.declared.request.Field.{Field}
+use Rattle.http_wire.specs.declared.request.Request.{Request}
+
+-- the number of a method that is recorded, and 0 for any other
+unfoldable pub method_number : List ℕ → ℕ
+method_number method =
+    if bytes_eq method (chars (codes "PUT")) then 1
+    else if bytes_eq method (chars (codes "DELETE")) then 2 else 0
+
+-- a length in four bytes, the highest first, and so many bytes
+unfoldable pub block : List ℕ → List ℕ
+block bytes = to_be_bytes w32 (length bytes) ++ bytes
+
+-- a field: its name and its value
+abbrev pub field_text : Field → List ℕ
+field_text field = block field.name ++ block field.value
+
+abbrev pub fields_text : List Field → List ℕ
+fields_text [] = []
+fields_text (field ∷ fields) = field_text field ++ fields_text fields
+
+-- the method, the target, the number of fields in two bytes, the fields and the body
+abbrev pub content : Request → List ℕ
+content request =
+    method_number request.method ∷ (block request.target ++ (to_be_bytes w16 (length request.fields) ++ (fields_text request.fields ++ block request.body)))
+
+-- The record of a request. Whether the connection ends after it isn't recorded.
+abbrev pub record_of : Request → List ℕ
+record_of request = block (content request)
+
+-- The request has a record: a PUT or DELETE within the bounds.
+pub record IsRecordable (request : Request) : Type 0 where
+  pub method : 0 < method_number request.method
+  pub names : All (λ (field : Field). IsToken field.name) request.fields
+  pub few : length request.fields ≤ 64
+  pub body : length request.body ≤ 262_144
+  pub short : length (content request) ≤ 300_000
+
+-- the request as its record tells it
+abbrev pub recorded : Request → Request
+recorded request = record request { closes = false }

@@ -1,0 +1,77 @@
+// Records of requests, as they are written.
+ghost use Rattle.std.specs.Prelude.{◌≡◌, ◌<◌, ◌≤◌, ◌^◌, ◌++◌, ◌∷◌, [], length, All, IfOk, OnOk};
+ghost use Rattle.std.specs.Int.{w16, to_be_bytes};
+ghost use Rattle.edit_journal.specs.Records.{method_number, block, field_text, fields_text, content, record_of, IsRecordable};
+ghost use Rattle.edit_journal.specs.inner.Writing.{IsWritable};
+
+use http_wire::{Field, Request};
+use std::alloc::Global;
+use xcap_io::{Bytes, NoMemory};
+use xml_tree::Text;
+
+// The number of a method that is recorded, and 0 for any other.
+#[tactic(auto, unfolding(crate::specs::Records::method_number))]
+fn method_number(method: &Text) -> u8
+    ensures numbers_the_method { result ≡ method_number method.now }
+{
+    if method.is("PUT") {
+        return 1;
+    }
+    if method.is("DELETE") {
+        return 2;
+    }
+    0
+}
+
+// Adds a length and so many bytes.
+#[tactic(auto, unfolding(crate::specs::Records::block))]
+fn put_block(made: &mut Bytes, bytes: &[u8]) -> Result<(), NoMemory>
+    requires { length bytes.now < 2 ^ 32 }
+    ensures adds_the_block_behind { OnOk result (made.new ≡ made.old ++ block bytes.now) }
+{
+    made.extend(&(bytes.len() as u32).to_be_bytes())?;
+    made.extend(bytes)
+}
+
+fn put_field(made: &mut Bytes, field: &Field) -> Result<(), NoMemory>
+    requires { IsWritable field.now }
+    ensures adds_the_field_behind { OnOk result (made.new ≡ made.old ++ field_text field.now) }
+{
+    put_block(made, field.name.as_str().as_bytes())?;
+    put_block(made, field.value.as_slice())
+}
+
+fn put_fields(made: &mut Bytes, fields: &[Field]) -> Result<(), NoMemory>
+    requires { All IsWritable fields.now }
+    ensures adds_the_fields_behind { OnOk result (made.new ≡ made.old ++ fields_text fields.now) }
+{
+    'fields: for field in fields {
+        put_field(made, field)?;
+    }
+    Ok(())
+}
+
+fn content_of(alloc: Global, request: &Request) -> Result<Bytes, NoMemory>
+    requires { IsRecordable request.now }
+    ensures writes_the_content { IfOk result (λ bytes. bytes ≡ content request.now) }
+{
+    let mut bytes = Bytes::new(alloc);
+    bytes.push(method_number(&request.method))?;
+    put_block(&mut bytes, request.target.as_slice())?;
+    let fields = request.fields.as_slice();
+    bytes.extend(&(fields.len() as u16).to_be_bytes())?;
+    put_fields(&mut bytes, fields)?;
+    put_block(&mut bytes, request.body.as_slice())?;
+    Ok(bytes)
+}
+
+/// The record of a request that has one.
+pub(crate) fn record_of(alloc: Global, request: &Request) -> Result<Bytes, NoMemory>
+    requires { IsRecordable request.now }
+    ensures writes_the_record { IfOk result (λ bytes. bytes ≡ record_of request.now) }
+{
+    let content = content_of(alloc, request)?;
+    let mut made = Bytes::new(alloc);
+    put_block(&mut made, content.as_slice())?;
+    Ok(made)
+}

@@ -1,0 +1,54 @@
+// A journal over a sink.
+ghost use Rattle.std.specs.Prelude.{◌≡◌, []};
+ghost use Rattle.edit_journal.specs.Streams.{stream_state};
+
+use crate::Journal;
+use crate::journal::fault;
+use xcap_io::{Failed, Line, Sink};
+
+/// A journal that hands its bytes over to a sink, from which nothing can be cut. Its count of faults is its own, and its first
+/// fault is one of the sink.
+#[derive(Drop)]
+pub struct StreamJournal<'a, O: Sink> {
+    output: &'a mut O,
+    len: u64,
+    faults: u64,
+}
+
+impl<'a, O: Sink> StreamJournal<'a, O> {
+    /// A journal that holds nothing yet. Takes no memory.
+    pub fn new(output: &'a mut O) -> StreamJournal<'a, O>
+        ensures of_the_sink { ⟦<StreamJournal<'a, O> as Journal>⟧.state result
+            ≡ stream_state (O.state output.old) output.entry.ghost_name 0 0 }
+        ensures holds_nothing { (⟦<StreamJournal<'a, O> as Journal>⟧.state result).held ≡ [] }
+        ensures behind_what_was_taken { (⟦<StreamJournal<'a, O> as Journal>⟧.state result).before ≡ (O.state output.old).taken }
+    {
+        StreamJournal {
+            output,
+            len: 0,
+            faults: 0,
+        }
+    }
+}
+
+impl<O: Sink> Journal for StreamJournal<'_, O> {
+    ghost state = { λ j. stream_state (O.state j.output.now) j.output.ghost_name j.len j.faults };
+
+    fn append(&mut self, bytes: &[u8]) -> Result<(), Failed> {
+        let mut done = 0;
+        while done < bytes.len() {
+            match self.output.write(&bytes[done..]) {
+                Ok(count) => {
+                    done += count;
+                    self.len = self.len.saturating_add(count as u64);
+                }
+                Err(Failed) => return Err(fault(&mut self.faults)),
+            }
+        }
+        Ok(())
+    }
+
+    fn cut(&mut self, _len: u64) -> Result<(), Failed> {
+        Err(fault(&mut self.faults))
+    }
+}
