@@ -1,0 +1,15 @@
+pub mod ByNodes
+pub mod Depths
+pub mod Done
+pub mod Gathering
+pub mod Located
+pub mod Lows
+pub mod Making
+pub mod Operating
+pub mod Replaying
+pub mod SameNames
+pub mod Selecting
+pub mod Sites
+pub mod Spotted
+pub mod Turning
+pub mod Words

@@ -1,0 +1,116 @@
+-- No operation makes a tree deeper than a document may be.
+use Rattle.std.proofs.Common.{◌≡◌, ◌≤◌, ℕ, suc, Bool, true, false, codes, not, List, [], ◌∷◌, ◌++◌, Option, None, Some, is_some, option_and_then, option_map, unwrap_or, Result, Ok, Err, refl, subst}
+use Rattle.std.specs.List.{list_all, list_any, slice_get}
+use Rattle.xml_tree.specs.Attributes.{remove_first}
+use Rattle.xml_tree.specs.Edits.{change_at, put_over}
+use Rattle.xml_tree.specs.Expanded.{attr_name, same_expanded}
+use Rattle.xml_tree.specs.Nodes.{exchange_nodes, nodes_of, text_node}
+use Rattle.xml_tree.specs.Scopes.{scope_around, scope_at}
+use Rattle.xml_tree.specs.Tree.{Content, Tree, at, height}
+use Rattle.xml_tree.specs.declared.names.Attr.{Attr}
+use Rattle.xml_tree.specs.declared.names.Decl.{Decl}
+use Rattle.xml_tree.specs.declared.names.Name.{Name}
+use Rattle.node_select.specs.declared.selector.PatchSelector.{PatchSelector}
+use Rattle.node_select.specs.readers.Raw.{RawPatchSelector}
+use Rattle.patch_words.specs.Applied.{Directive, NoSpace, Prefix, RootTouched, Unlocated, Wrong, WrongNodes, Task, Put, NewAttr, Replace, Remove, Spot, AtElement, AtAttr, AtText, applied, attr_of, cut_element, cut_nodes, done, end_of, form_of, given, is_bare, is_below, is_bound_type, is_known, located, made, meaning_in, means_alike, off_root, path_of, plain_value, put_at, rewritten, scope_of_put, sole_element, space_fits, suits, task_of, tested, value_in, with_attrs, within_depth, word_of}
+use Rattle.patch_apply.proofs.Depths.{low_made}
+
+abbrev Low : Tree → Type 0
+Low t = within_depth t ≡ true
+
+-- ---- tests leave what comes behind them
+
+behind_test : (b : Bool) (w : Wrong) (r : Result Tree Wrong) (x : Tree) → tested b w r ≡ Ok x → r ≡ Ok x
+behind_test true w r x e = e
+behind_test false w r x e = absurd (cc)
+
+behind_given : {A : Type 0} (o : Option A) (w : Wrong) (k : A → Result Tree Wrong) (x : Tree) → ((y : A) → k y ≡ Ok x → Low x) → given o w k ≡ Ok x → Low x
+behind_given None w k x h e = absurd (cc)
+behind_given (Some y) w k x h e = h y e
+
+low_if : (new : Tree) (fits alike : Bool) (x : Tree) → within_depth new ≡ fits → tested fits WrongNodes (tested alike Prefix (Ok new)) ≡ Ok x → Low x
+low_if new false alike x is e = absurd (cc)
+low_if new true false x is e = absurd (cc)
+low_if new true true x is e = let same : new ≡ x = cc in subst Low same is
+
+made_low : (new : Tree) (alike : Bool) (x : Tree) → made new alike ≡ Ok x → Low x
+made_low new alike x e = low_if new (within_depth new) alike x refl e
+
+-- ---- each task
+
+module _ (c : List (List Decl)) (content : Content) (t x : Tree) where
+  abbrev attr_made : Name → List ℕ → List ℕ → Result Tree Wrong
+  attr_made name p v = made (change_at p (with_attrs (λ ats. ats ++ attr_of name v ∷ [])) t) (same_expanded (attr_name c name) (attr_name (scope_at p t) name))
+
+  abbrev is_new : Name → List ℕ → Bool
+  is_new name p = not (list_any (λ a. same_expanded (attr_name (scope_at p t) a.name) (attr_name c name)) (unwrap_or (option_map (λ e. e.attrs) (at p t)) []))
+
+  done_low : (task : Task) (spot : Spot) → done c task spot content t ≡ Ok x → Low x
+  done_low (Put position) spot e =
+      let p = path_of spot in
+      let some = is_some (slice_get (nodes_of content) 0) in
+      let new = put_at position p (nodes_of content) t in
+      let alike = means_alike c (scope_of_put position p t) content in
+      made_low new alike x (behind_test some WrongNodes (made new alike) x (behind_test (off_root position p) RootTouched (tested some WrongNodes (made new alike)) x e))
+  done_low (NewAttr name) spot e =
+      let p = path_of spot in
+      behind_given (value_in content) WrongNodes (λ v. tested (is_new name p) WrongNodes (attr_made name p v)) x
+      (λ v h. made_low (change_at p (with_attrs (λ ats. ats ++ attr_of name v ∷ [])) t) (same_expanded (attr_name c name) (attr_name (scope_at p t) name)) x (behind_test (is_new name p) WrongNodes (attr_made name p v) x h))
+      e
+  done_low Replace (AtElement p) e =
+      let alike = means_alike c (scope_around p t) content in
+      behind_given (sole_element content) WrongNodes (λ w. made (put_over p w t) alike) x (λ w h. made_low (put_over p w t) alike x h) e
+  done_low Replace (AtAttr p f) e =
+      behind_given (value_in content) WrongNodes (λ v. made (change_at p (with_attrs (rewritten f v)) t) true) x (λ v h. made_low (change_at p (with_attrs (rewritten f v)) t) true x h) e
+  done_low Replace (AtText p i) e =
+      behind_given (value_in content) WrongNodes (λ v. made (change_at p (exchange_nodes i (suc i) (text_node v)) t) true) x
+      (λ v h. made_low (change_at p (exchange_nodes i (suc i) (text_node v)) t) true x h) e
+  done_low (Remove before after) (AtElement p) e =
+      let new = cut_element before after p t in
+      let spaced = tested (space_fits before after p t) NoSpace (made new true) in
+      made_low new true x (
+      behind_test (space_fits before after p t) NoSpace (made new true) x (behind_test (is_bare content) WrongNodes spaced x (behind_test (is_below p) RootTouched (tested (is_bare content) WrongNodes spaced) x e))
+      )
+  done_low (Remove before after) (AtAttr p f) e =
+      let new = change_at p (with_attrs (remove_first f)) t in made_low new true x (behind_test (is_bare content) WrongNodes (made new true) x e)
+  done_low (Remove before after) (AtText p i) e =
+      let new = cut_nodes p i (suc i) t in made_low new true x (behind_test (is_bare content) WrongNodes (made new true) x e)
+
+-- ---- a whole operation
+
+module _ (sel : Option (List ℕ)) (known : Bool) (task : Option Task) (read : List ℕ → Option RawPatchSelector) (suit : Task → RawPatchSelector → Bool) (means : RawPatchSelector → Option PatchSelector) (bnd : Task → Bool)
+    (loc : PatchSelector → Option Spot) (fin : Task → Spot → Result Tree Wrong) (x : Tree) (last : (y : Task) (spot : Spot) → fin y spot ≡ Ok x → Low x) where
+  abbrev from_selector : Task → PatchSelector → Result Tree Wrong
+  from_selector y s = tested (bnd y) Prefix (given (loc s) Unlocated (fin y))
+
+  abbrev from_form : Task → RawPatchSelector → Result Tree Wrong
+  from_form y f = tested (suit y f) Directive (given (means f) Prefix (from_selector y))
+
+  abbrev from_task : List ℕ → Task → Result Tree Wrong
+  from_task v y = given (read v) Directive (from_form y)
+
+  abbrev from_known : List ℕ → Result Tree Wrong
+  from_known v = given task Directive (from_task v)
+
+  selector_low : (y : Task) (s : PatchSelector) → from_selector y s ≡ Ok x → Low x
+  selector_low y s e = behind_given (loc s) Unlocated (fin y) x (last y) (behind_test (bnd y) Prefix (given (loc s) Unlocated (fin y)) x e)
+
+  form_low : (y : Task) (f : RawPatchSelector) → from_form y f ≡ Ok x → Low x
+  form_low y f e = behind_given (means f) Prefix (from_selector y) x (selector_low y) (behind_test (suit y f) Directive (given (means f) Prefix (from_selector y)) x e)
+
+  known_low : (v : List ℕ) → from_known v ≡ Ok x → Low x
+  known_low v e = behind_given task Directive (from_task v) x (λ y h. behind_given (read v) Directive (from_form y) x (form_low y) h) e
+
+  chain_low : given sel Directive (λ v. tested known Directive (from_known v)) ≡ Ok x → Low x
+  chain_low e = behind_given sel Directive (λ v. tested known Directive (from_known v)) x (λ v h. known_low v (behind_test known Directive (from_known v) x h)) e
+
+pub applied_low : (c : List (List Decl)) (o t x : Tree) → applied c o t ≡ Ok x → height x ≤ 64
+applied_low c o t x e =
+    let here = c ++ o.decls ∷ [] in
+    let pos = plain_value (codes "pos") o.attrs in
+    let type = plain_value (codes "type") o.attrs in
+    let ws = plain_value (codes "ws") o.attrs in
+    low_made x (
+    chain_low (plain_value (codes "sel") o.attrs) (list_all is_known o.attrs) (option_and_then (λ w. task_of w pos type ws) (word_of o.name.local)) form_of (λ y f. suits y (end_of f)) (meaning_in here)
+    (is_bound_type here) (λ s. located s t) (λ y spot. done here y spot o.content t) x (λ y spot h. done_low here o.content t x y spot h) e
+    )

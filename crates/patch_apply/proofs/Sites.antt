@@ -1,0 +1,72 @@
+-- Parents of elements, and places among their nodes.
+use Rattle.std.proofs.Common.{◌≡◌, ℕ, zero, suc, ◌+◌, ◌-◌, ◌<◌, true, false, List, [], ◌∷◌, ◌++◌, length, Option, None, Some, IsSome, option_map, option_and_then, unwrap_or, refl, sym, ap, ◌∙◌, subst, arith}
+use Rattle.std.specs.List.{slice_get}
+use Rattle.std.specs.Prelude.{is_some}
+use Rattle.xml_tree.specs.Edits.{front}
+use Rattle.xml_tree.specs.Nodes.{nodes_of, place, text_of}
+use Rattle.xml_tree.specs.Scopes.{scope_around, scope_at}
+use Rattle.xml_tree.specs.Tree.{Content, Tree, at, kids, kids_of}
+use Rattle.xml_tree.specs.declared.tree.Node.{Node}
+use Rattle.xml_tree.proofs.PathLemmas.{at-snoc, final-snoc, front-snoc, from_there, kid_there}
+use Rattle.xml_tree.proofs.Places.{content_of-nodes_of, place_there}
+use Rattle.patch_words.specs.Applied.{is_blank, is_space_at, nodes_at, own_place, space_before}
+
+some_before : {A : Type 0} (f : Tree → Option A) (o : Option Tree) → IsSome (option_and_then f o) → IsSome o
+some_before f None h = h
+some_before f (Some e) h = refl
+
+-- above each element that isn't the root there is one, and its scope is the one around the element
+pub there_above : (path parent : List ℕ) (k : ℕ) (t : Tree) → path ≡ parent ++ k ∷ [] → IsSome (at path t) → IsSome (at parent t)
+there_above path parent k t is h = some_before _ (at parent t) (subst IsSome (ap (λ q. at q t) is ∙ at-snoc parent k t) h)
+
+pub scope_above : (path parent : List ℕ) (k : ℕ) (t : Tree) → path ≡ parent ++ k ∷ [] → scope_around path t ≡ scope_at parent t
+scope_above path parent k t is = ap (λ q. scope_around q t) is ∙ around parent
+  where
+    around : (p : List ℕ) → scope_around (p ++ k ∷ []) t ≡ scope_at p t
+    around [] = refl
+    around (n ∷ p) = ap (λ q. scope_at q t) (front-snoc (n ∷ p) k)
+
+pub front_is : (path parent : List ℕ) (k : ℕ) → path ≡ parent ++ k ∷ [] → parent ≡ front path
+front_is path parent k is = sym (ap front is ∙ front-snoc parent k)
+
+-- what is there can't be missing
+pub is_there : (o : Option Tree) → None ≡ o → IsSome o → ⊥
+is_there None e h = cc
+is_there (Some x) e h = cc
+
+-- the nodes of the element that is there
+pub nodes_are : (p : List ℕ) (t e : Tree) → at p t ≡ Some e → nodes_at p t ≡ nodes_of e.content
+nodes_are p t e is = ap (λ (o : Option Tree). unwrap_or (option_map (λ x. nodes_of x.content) o) []) is
+
+pub place_is : (path parent : List ℕ) (k : ℕ) (t e : Tree) → path ≡ parent ++ k ∷ [] → at parent t ≡ Some e → place k (nodes_of e.content) ≡ own_place path t
+place_is path parent k t e is there =
+    sym (
+    ap (λ q. own_place q t) is ∙ (λ i. place (final-snoc parent k i) (nodes_at (front-snoc parent k i) t))
+    ∙ ap (place k) (nodes_are parent t e there)
+    )
+
+pub place_within : (path parent : List ℕ) (k : ℕ) (t e : Tree) → path ≡ parent ++ k ∷ [] → IsSome (at path t) → at parent t ≡ Some e → place k (nodes_of e.content) < length (nodes_of e.content)
+place_within path parent k t e is h there =
+    let below = subst IsSome (ap (λ q. at q t) is ∙ at-snoc parent k t) h in
+    let inside = from_there (at parent t) (λ x. k < length (kids_of x)) e (kid_there (at parent t) k below) there in
+    place_there k (nodes_of e.content) (subst (λ (x : Content). k < length (kids x)) (sym (content_of-nodes_of e.content)) inside)
+
+-- ---- white space beside a place
+
+there_by_blank : (i : ℕ) (ns : List Node) (o : Option Node) → o ≡ slice_get ns i → unwrap_or (option_map is_blank (option_and_then text_of o)) false ≡ true → IsSome (slice_get ns i)
+there_by_blank i ns None is h = absurd (cc)
+there_by_blank i ns (Some n) is h = ap is_some (sym is)
+
+within_by : {A : Type 0} (i : ℕ) (xs : List A) → IsSome (slice_get xs i) → i < length xs
+within_by i [] h = cc
+within_by zero (x ∷ xs) h = omega arith
+within_by (suc i) (x ∷ xs) h = omega (arith, within_by i xs h)
+
+-- a number at which there is white space is that of a node
+pub space_within : (i : ℕ) (ns : List Node) → is_space_at i ns ≡ true → i < length ns
+space_within i ns h = within_by i ns (there_by_blank i ns (slice_get ns i) refl h)
+
+-- white space before a node: there is a node before it
+pub before_within : (i : ℕ) (ns : List Node) → space_before i ns ≡ true → 0 < i
+before_within zero ns h = absurd (cc)
+before_within (suc i) ns h = omega arith

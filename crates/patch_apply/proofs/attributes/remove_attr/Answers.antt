@@ -1,0 +1,20 @@
+use Rattle.std.proofs.Common.{Ok, sym, ap, ◌∙◌}
+use Rattle.xml_tree.specs.Tree.{at}
+use Rattle.patch_apply.proofs.Depths.{some_if}
+use Rattle.patch_apply.proofs.Done.{take_not}
+use Rattle.patch_apply.proofs.Making.{take_made}
+use Rattle.patch_apply.proofs.attributes.remove_attr.Goals as goal
+
+pub returns-then-not-is_bare : goal.returns-then-not-is_bare
+returns-then-not-is_bare c = record {
+  by_the_words = take_not c.args.path.now c.args.place c.args.operation.now.content c.args.tree (sym c.is_bare.ensures.tells_whether_it_is_bare ∙ c.if-not-is_bare.true);
+}
+
+pub returns : goal.returns
+returns c = record {
+  by_the_words =
+      let p = c.args.path.now in let t = c.args.tree in
+      take_made p c.args.operation.now.content t (some_if (at p t) _ c.requires.there) c.requires.low c.args.place
+      (sym c.is_bare.ensures.tells_whether_it_is_bare ∙ c.if-not-is_bare.false)
+      ∙ ap Ok (sym c.take_at.ensures.takes_it_out);
+}

@@ -1,0 +1,24 @@
+use Rattle.std.proofs.Common.{suc, List, Ok, sym, ap, ◌∙◌}
+use Rattle.xml_tree.specs.Edits.{change_at}
+use Rattle.xml_tree.specs.Nodes.{exchange_nodes}
+use Rattle.xml_tree.specs.Tree.{at}
+use Rattle.xml_tree.specs.declared.tree.Node.{Node}
+use Rattle.patch_apply.proofs.Depths.{some_if}
+use Rattle.patch_apply.proofs.Done.{cut_not}
+use Rattle.patch_apply.proofs.Making.{cut_made}
+use Rattle.patch_apply.proofs.attributes.remove_text.Goals as goal
+
+pub returns-then-not-is_bare : goal.returns-then-not-is_bare
+returns-then-not-is_bare c = record {
+  by_the_words = λ before after. cut_not c.args.path.now c.args.place c.args.operation.now.content c.args.tree before after (sym c.is_bare.ensures.tells_whether_it_is_bare ∙ c.if-not-is_bare.true);
+}
+
+pub returns : goal.returns
+returns c = record {
+  by_the_words = λ before after.
+      let p = c.args.path.now in let i = c.args.place in let t = c.args.tree in
+      cut_made p c.args.operation.now.content t (some_if (at p t) _ c.requires.there) c.requires.low before after i
+      (sym c.is_bare.ensures.tells_whether_it_is_bare ∙ c.if-not-is_bare.false)
+      ∙ ap (λ (ns : List Node). Ok (change_at p (exchange_nodes i (suc i) ns) t)) (sym c.new.ensures.items)
+      ∙ ap Ok (sym c.in_ok-exchange_one.ensures.exchanges_it);
+}

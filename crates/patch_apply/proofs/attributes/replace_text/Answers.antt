@@ -1,0 +1,24 @@
+use Rattle.std.proofs.Common.{suc, List, Ok, sym, ap, ◌∙◌}
+use Rattle.xml_tree.specs.Edits.{change_at}
+use Rattle.xml_tree.specs.Nodes.{exchange_nodes}
+use Rattle.xml_tree.specs.Tree.{at}
+use Rattle.xml_tree.specs.declared.tree.Node.{Node}
+use Rattle.patch_apply.proofs.Depths.{some_if}
+use Rattle.patch_apply.proofs.Done.{text_none}
+use Rattle.patch_apply.proofs.Making.{text_made}
+use Rattle.patch_apply.proofs.attributes.replace_text.Goals as goal
+
+pub returns-in_default : goal.returns-in_default
+returns-in_default c = record {
+  by_the_words = λ scope. text_none scope c.args.path.now c.args.place c.args.operation.now.content c.args.tree (sym c.in_ok-found.ensures.value_that_stands_there ∙ c.in_default.is);
+}
+
+pub returns : goal.returns
+returns c = record {
+  by_the_words = λ scope.
+      let p = c.args.path.now in let i = c.args.place in let t = c.args.tree in
+      text_made p c.args.operation.now.content t (some_if (at p t) _ c.requires.there) c.requires.low scope i c.in-Some.value
+      (sym c.in_ok-found.ensures.value_that_stands_there ∙ c.in-Some.is)
+      ∙ ap (λ (ns : List Node). Ok (change_at p (exchange_nodes i (suc i) ns) t)) (sym c.in_ok-nodes.ensures.text_as_a_node)
+      ∙ ap Ok (sym c.in_ok-exchange_one.ensures.exchanges_it);
+}

@@ -1,0 +1,16 @@
+-- What applying a notice answers, and what is held afterwards.
+use Rattle.std.specs.Prelude.{◌≡◌, Result, Ok, Err}
+use Rattle.tree_text.specs.declared.fault.ReadError.{ReadError}
+use Rattle.tree_text.specs.declared.fault.ReadError.TheVariants.{Fault, NoMemory}
+use Rattle.patch_words.specs.Replay.{Answer, Held}
+use Rattle.patch_words.specs.Replay as replay
+use Rattle.patch_apply.specs.declared.fault.ApplyFault.{ApplyFault}
+use Rattle.patch_apply.specs.declared.replica.Applied.{Applied}
+use Rattle.patch_apply.specs.Giving.{IsTold}
+use Rattle.patch_apply.specs.Views.{answer_in}
+
+-- the answer that is stated, and what is stated is held then; or the fault that is stated, or want of memory, and what was held is
+abbrev pub Applies : Result (Answer × Held) replay.Fault → Held → Result Applied (ReadError ApplyFault) → Held → Type 0
+Applies stated old (Ok answer) new = stated ≡ Ok (answer_in answer, new)
+Applies stated old (Err (Fault fault)) new = IsTold stated fault × (new ≡ old)
+Applies stated old (Err NoMemory) new = new ≡ old

@@ -1,0 +1,216 @@
+//! Edits of attributes and texts by operations, in place.
+ghost use Rattle.std.specs.Prelude.{◌≡◌, ◌≤◌, ◌<◌, ◌++◌, ◌∷◌, [], Bool, List, length, remove, IsSome, IsSomeAnd, IfOk, OnOk};
+ghost use Rattle.xml_tree.specs.Attributes.{with_value};
+ghost use Rattle.xml_tree.specs.Edits.{change_at};
+ghost use Rattle.xml_tree.specs.Expanded.{attr_name, same_expanded};
+ghost use Rattle.xml_tree.specs.Nodes.{nodes_of, text_node};
+ghost use Rattle.xml_tree.specs.Scopes.{scope_at};
+ghost use Rattle.xml_tree.specs.Tree.{at, height};
+ghost use Rattle.xml_tree.specs.declared.names.Decl.{Decl};
+ghost use Rattle.patch_words.specs.Applied.{attr_done, remove_done, replace_done, with_attrs};
+ghost use Rattle.patch_words.specs.Applied as spots;
+ghost use Rattle.patch_apply.specs.Giving.{Gives};
+ghost use Rattle.patch_apply.specs.Stages.{is_there_already, take_done, value_done};
+
+use crate::contents::{is_bare, value_in};
+use crate::edits::exchange_one;
+use crate::fault::Wrong;
+use crate::meanings::{attr_alike, has_attr};
+use std::alloc::{AllocError, Global};
+use tree_text::ReadError;
+use xml_tree::{Attr, Element, Name, Node, Path, Scope, Text, element_at};
+
+// ---- edits
+
+// Adds an attribute to the element at a path.
+fn push_at(tree: &mut Element, path: &Path, attr: Attr) -> Result<(), AllocError>
+    requires { IsSome (at path.now tree.old) }
+    ensures adds_it { OnOk result (tree.new ≡ change_at path.now (with_attrs (λ ats. ats ++ attr ∷ [])) tree.old) }
+{
+    tree.edit_at(
+        path,
+        |here: &mut Element| -> Result<(), AllocError>
+            ensures adds { OnOk result (here.new ≡ with_attrs (λ ats. ats ++ attr ∷ []) here.old) }
+        { here.push_attr(attr) },
+    )
+}
+
+// Exchanges the value of an attribute of the element at a path.
+fn write_at(tree: &mut Element, path: &Path, place: usize, value: Text)
+    requires { IsSomeAnd (at path.now tree.old) (λ e. place < length e.attrs) }
+    ensures writes_it { tree.new ≡ change_at path.now (with_attrs (with_value place value)) tree.old }
+{
+    tree.edit_at(
+        path,
+        |here: &mut Element|
+            requires { place < length here.old.attrs }
+            ensures writes { here.new ≡ with_attrs (with_value place value) here.old }
+        {
+            let _old = here.exchange_value(place, value);
+        },
+    )
+}
+
+// Takes an attribute out of the element at a path.
+fn take_at(tree: &mut Element, path: &Path, place: usize)
+    requires { IsSomeAnd (at path.now tree.old) (λ e. place < length e.attrs) }
+    ensures takes_it_out { tree.new ≡ change_at path.now (with_attrs (λ ats. remove ats place)) tree.old }
+{
+    tree.edit_at(
+        path,
+        |here: &mut Element|
+            requires { place < length here.old.attrs }
+            ensures takes { here.new ≡ with_attrs (λ ats. remove ats place) here.old }
+        {
+            let _old = here.take_attr(place);
+        },
+    )
+}
+
+// ---- operations
+
+// Whether the element at a path has the attribute that a name means.
+fn has_attr_at(here: &Scope<'_>, name: &Name, path: &Path, tree: &Element) -> bool
+    requires { IsSome (at path.now tree.now) }
+    ensures tells_whether_it_is_there { result ≡ is_there_already here.now name.now path.now tree.now }
+{
+    let Some(element) = element_at(tree, path) else {
+        unreachable!()
+    };
+    let Some(there) = Scope::at(tree, path) else {
+        unreachable!()
+    };
+    has_attr(here, &there, element.attrs(), name)
+}
+
+// Whether the name of an attribute means the same in the scope at the element of a path.
+fn attr_alike_at(here: &Scope<'_>, name: &Name, path: &Path, tree: &Element) -> bool
+    requires { IsSome (at path.now tree.now) }
+    ensures tells_whether_it_means_the_same { result ≡ same_expanded (attr_name here.now name.now) (attr_name (scope_at path.now tree.now) name.now) }
+{
+    let Some(there) = Scope::at(tree, path) else {
+        unreachable!()
+    };
+    attr_alike(here, &there, name)
+}
+
+/// An attribute is added to the element at a path.
+pub(crate) fn add_attr(
+    alloc: Global,
+    here: &Scope<'_>,
+    name: Name,
+    path: &Path,
+    operation: &Element,
+    tree: Element,
+) -> Result<Element, ReadError<Wrong>>
+    requires there { IsSome (at path.now tree) }
+    requires low { height tree ≤ 64 }
+    ensures by_the_words { Gives (λ t. t) (attr_done here.now name path.now operation.now.content tree) result }
+{
+    let found = value_in(alloc, operation)?;
+    let Some(value) = found else {
+        return Err(ReadError::Fault(Wrong::WrongNodes));
+    };
+    if has_attr_at(here, &name, path, &tree) {
+        return Err(ReadError::Fault(Wrong::WrongNodes));
+    }
+    if !attr_alike_at(here, &name, path, &tree) {
+        return Err(ReadError::Fault(Wrong::Prefix));
+    }
+    let mut tree = tree;
+    push_at(&mut tree, path, Attr { name, value })?;
+    Ok(tree)
+}
+
+/// The value of an attribute of the element at a path is replaced.
+pub(crate) fn replace_attr(
+    alloc: Global,
+    path: &Path,
+    place: usize,
+    operation: &Element,
+    tree: Element,
+) -> Result<Element, ReadError<Wrong>>
+    requires there { IsSomeAnd (at path.now tree) (λ e. place < length e.attrs) }
+    requires low { height tree ≤ 64 }
+    ensures by_the_words { Gives (λ t. t) (value_done path.now place operation.now.content tree) result }
+{
+    let found = value_in(alloc, operation)?;
+    let Some(value) = found else {
+        return Err(ReadError::Fault(Wrong::WrongNodes));
+    };
+    let mut tree = tree;
+    write_at(&mut tree, path, place, value);
+    Ok(tree)
+}
+
+/// An attribute of the element at a path is taken out.
+pub(crate) fn remove_attr(
+    path: &Path,
+    place: usize,
+    operation: &Element,
+    tree: Element,
+) -> Result<Element, ReadError<Wrong>>
+    requires there { IsSomeAnd (at path.now tree) (λ e. place < length e.attrs) }
+    requires low { height tree ≤ 64 }
+    ensures by_the_words { Gives (λ t. t) (take_done path.now place operation.now.content tree) result }
+{
+    if !is_bare(operation) {
+        return Err(ReadError::Fault(Wrong::WrongNodes));
+    }
+    let mut tree = tree;
+    take_at(&mut tree, path, place);
+    Ok(tree)
+}
+
+// A text as a node; none where it is empty.
+fn text_nodes(alloc: Global, text: Text) -> Result<Vec<Node>, AllocError>
+    ensures text_as_a_node { IfOk result (λ nodes. nodes.items ≡ text_node text) }
+{
+    let mut nodes = Vec::new(alloc);
+    if !text.is_empty() {
+        nodes.push(Node::Chars(text))?;
+    }
+    Ok(nodes)
+}
+
+/// A text of the element at a path is replaced.
+pub(crate) fn replace_text(
+    alloc: Global,
+    path: &Path,
+    place: usize,
+    operation: &Element,
+    tree: Element,
+) -> Result<Element, ReadError<Wrong>>
+    requires there { IsSomeAnd (at path.now tree) (λ e. place < length (nodes_of e.content)) }
+    requires low { height tree ≤ 64 }
+    ensures by_the_words { (c : List (List Decl)) → Gives (λ t. t) (replace_done c (spots.AtText path.now place) operation.now.content tree) result }
+{
+    let found = value_in(alloc, operation)?;
+    let Some(value) = found else {
+        return Err(ReadError::Fault(Wrong::WrongNodes));
+    };
+    let nodes = text_nodes(alloc, value)?;
+    let mut tree = tree;
+    exchange_one(&mut tree, path, place, nodes)?;
+    Ok(tree)
+}
+
+/// A text of the element at a path is taken out.
+pub(crate) fn remove_text(
+    alloc: Global,
+    path: &Path,
+    place: usize,
+    operation: &Element,
+    tree: Element,
+) -> Result<Element, ReadError<Wrong>>
+    requires there { IsSomeAnd (at path.now tree) (λ e. place < length (nodes_of e.content)) }
+    requires low { height tree ≤ 64 }
+    ensures by_the_words { (before after : Bool) → Gives (λ t. t) (remove_done before after (spots.AtText path.now place) operation.now.content tree) result }
+{
+    if !is_bare(operation) {
+        return Err(ReadError::Fault(Wrong::WrongNodes));
+    }
+    let mut tree = tree;
+    exchange_one(&mut tree, path, place, Vec::new(alloc))?;
+    Ok(tree)
+}

@@ -1,0 +1,159 @@
+//! Names that mean the same in two scopes (RFC 5261, section 4.2.3; Namespaces in XML 1.0, section 6).
+ghost use Rattle.std.specs.Prelude.{◌≡◌, option_map, chars};
+ghost use Rattle.std.specs.Str.{bytes_eq};
+ghost use Rattle.std.specs.List.{list_all, list_any};
+ghost use Rattle.xml_tree.specs.Expanded.{attr_name, element_name, same_expanded, same_uri};
+ghost use Rattle.patch_words.specs.Applied.{means_alike};
+ghost use Rattle.patch_apply.specs.ByNodes.{element_alike, node_alike};
+
+use crate::names::{has_no_prefix, resolved};
+use std::alloc::Global;
+use xml_tree::{Around, Attr, Decl, Declared, Element, Name, Node, Scope, Text};
+
+// Declarations, with an index where they are many and there is memory for one.
+fn declared_in<'a>(alloc: Global, decls: &'a [Decl]) -> Declared<'a>
+    ensures holds_the_declarations { result ≡ decls.now }
+{
+    match Declared::indexed(alloc, decls) {
+        Ok(declared) => declared,
+        Err(_) => Declared::new(alloc, decls),
+    }
+}
+
+// Whether two URIs are one.
+fn same_text(a: &str, b: &str) -> bool
+    ensures tells_equal_characters { result ≡ bytes_eq (chars a.now) (chars b.now) }
+{
+    a == b
+}
+
+// The same where there may be none.
+fn same_uri(a: Option<&str>, b: Option<&str>) -> bool
+    ensures tells_equal_uris { result ≡ same_uri (option_map (λ x. chars x.now) a.entry) (option_map (λ x. chars x.now) b.entry) }
+{
+    match a {
+        None => match b {
+            None => true,
+            Some(_) => false,
+        },
+        Some(a) => match b {
+            None => false,
+            Some(b) => same_text(a, b),
+        },
+    }
+}
+
+// Whether the name of an element means the same in both.
+fn same_element_name(c: &Around<'_>, d: &Around<'_>, name: &Name) -> bool
+    ensures tells_whether_it_means_the_same { result ≡ same_expanded (element_name c.now name.now) (element_name d.now name.now) }
+{
+    same_uri(c.resolve(&name.prefix), d.resolve(&name.prefix))
+}
+
+// Whether the name of an attribute does.
+fn same_attr_name(c: &Around<'_>, d: &Around<'_>, name: &Name) -> bool
+    ensures tells_whether_it_means_the_same { result ≡ same_expanded (attr_name c.now name.now) (attr_name d.now name.now) }
+{
+    if has_no_prefix(name) {
+        return true;
+    }
+    same_element_name(c, d, name)
+}
+
+fn same_attr_names(c: &Around<'_>, d: &Around<'_>, attrs: &[Attr]) -> bool
+    ensures tells_whether_all_mean_the_same { result ≡ list_all (λ a. same_expanded (attr_name c.now a.name) (attr_name d.now a.name)) attrs.now }
+{
+    attrs.iter().all(|attr| same_attr_name(c, d, &attr.name))
+}
+
+// Whether each name in an element means the same in both scopes around it, which grow by the same declarations.
+#[cycle(alike)]
+fn element_alike(alloc: Global, c: &Around<'_>, d: &Around<'_>, element: &Element) -> bool
+    ensures tells_whether_names_mean_the_same { result ≡ element_alike c.now d.now element.now }
+{
+    let declared = declared_in(alloc, element.decls());
+    let here = (&*c).inside(&declared);
+    let there = (&*d).inside(&declared);
+    if !same_element_name(&here, &there, element.name()) {
+        return false;
+    }
+    if !same_attr_names(&here, &there, element.attrs()) {
+        return false;
+    }
+    content_alike(alloc, &here, &there, element)
+}
+
+// The same of what stands in an element, in the scopes at it.
+#[cycle(alike)]
+fn content_alike(alloc: Global, c: &Around<'_>, d: &Around<'_>, element: &Element) -> bool
+    ensures tells_whether_names_mean_the_same { result ≡ means_alike c.now d.now element.now.content }
+{
+    for node in element.nodes() {
+        if !node_alike(alloc, c, d, node) {
+            return false;
+        }
+    }
+    true
+}
+
+// The same of a node.
+#[cycle(alike)]
+fn node_alike(alloc: Global, c: &Around<'_>, d: &Around<'_>, node: &Node) -> bool
+    ensures tells_whether_names_mean_the_same { result ≡ node_alike c.now d.now node.now }
+{
+    match node {
+        Node::Elem(kid) => element_alike(alloc, c, d, kid),
+        Node::Chars(_) => true,
+        Node::Comment(_) => true,
+    }
+}
+
+/// Whether each name in an operation means the same in the scope at it and in another.
+pub(crate) fn means_alike(
+    alloc: Global,
+    here: &Scope<'_>,
+    there: &Scope<'_>,
+    operation: &Element,
+) -> bool
+    ensures tells_whether_names_mean_the_same { result ≡ means_alike here.now there.now operation.now.content }
+{
+    let here = Around::given(here);
+    let there = Around::given(there);
+    content_alike(alloc, &here, &there, operation)
+}
+
+// ---- the name of a new attribute
+
+// The URI of an attribute's name, if it has one.
+fn attr_uri<'a>(scope: &Scope<'a>, name: &Name) -> Option<&'a str>
+    ensures uri_of_the_attribute_name { option_map (λ x. chars x.now) result ≡ (attr_name scope.now name.now).uri }
+{
+    if has_no_prefix(name) {
+        return None;
+    }
+    resolved(scope, &name.prefix)
+}
+
+/// Whether the name of an attribute means the same in two scopes.
+pub(crate) fn attr_alike(here: &Scope<'_>, there: &Scope<'_>, name: &Name) -> bool
+    ensures tells_whether_it_means_the_same { result ≡ same_expanded (attr_name here.now name.now) (attr_name there.now name.now) }
+{
+    same_uri(attr_uri(here, name), attr_uri(there, name))
+}
+
+// Whether an attribute has this URI and this local name, in the scope at it.
+fn is_of(scope: &Scope<'_>, attr: &Attr, uri: Option<&str>, local: &Text) -> bool
+    ensures tells_whether_it_is_that_one { result ≡ same_expanded (attr_name scope.now attr.now.name) (record { uri = option_map (λ x. chars x.now) uri.entry; local = local.now }) }
+{
+    same_uri(attr_uri(scope, &attr.name), uri) && attr.name.local == *local
+}
+
+/// Whether one of an element's attributes, in the scope at it, is the one that a name means in another.
+pub(crate) fn has_attr(here: &Scope<'_>, there: &Scope<'_>, attrs: &[Attr], name: &Name) -> bool
+    ensures tells_whether_one_is_meant { result ≡ list_any (λ a. same_expanded (attr_name there.now a.name) (attr_name here.now name.now)) attrs.now }
+{
+    let uri = attr_uri(here, name);
+    attrs
+        .iter()
+        .any(|attr| is_of(there, attr, uri, &name.local))
+}

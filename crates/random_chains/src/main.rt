@@ -1,0 +1,51 @@
+//! Subscribers of a server that random requests edit. The words of the command line are the seed and how many requests there are.
+//! After each request that changed a document, who holds a version that the server still tells changes since, and applies the
+//! notice of these, has to hold exactly what a GET of the document gives: its tag and its text. Each retained version is tried, in
+//! both modes of patching. It prints how many requests, changes and notices there were, and each notice that leads elsewhere;
+//! then the status is 1.
+//! It promises nothing upward. The standards are RFC 4825, RFC 5874 and RFC 5875.
+#![tactic(auto)]
+
+mod choices;
+mod conversation;
+mod documents;
+mod following;
+mod requests;
+
+use crate::choices::Choices;
+use crate::conversation::Conversation;
+use crate::following::Followed;
+use anyhow::{Result, bail};
+use std::env;
+use std::process::ExitCode;
+
+// The number that a word spells.
+fn number(word: &str) -> Result<u64> {
+    match word.parse() {
+        Ok(number) => Ok(number),
+        Err(_) => bail!("not a number: {word}"),
+    }
+}
+
+// Makes so many requests, and follows each change.
+fn followed(rt: &HostRuntime, seed: u64, requests: u64) -> Result<Followed> {
+    let mut choices = Choices::new(seed);
+    let mut talk = Conversation::new(rt.alloc())?;
+    let mut followed = Followed::none();
+    for _ in 0..requests {
+        talk.go_on(&mut choices)?;
+        talk.follow(rt, &mut followed)?;
+    }
+    followed.requests = requests;
+    Ok(followed)
+}
+
+fn main(rt: HostRuntime) -> Result<ExitCode> {
+    let mut words = env::args(&rt)?.skip(1);
+    let (Some(seed), Some(requests)) = (words.next(), words.next()) else {
+        bail!("the words are a seed and how many requests there are");
+    };
+    let followed = followed(&rt, number(seed.as_str())?, number(requests.as_str())?)?;
+    followed.print(&rt)?;
+    Ok(ExitCode::from(u8::from(followed.differing > 0)))
+}
