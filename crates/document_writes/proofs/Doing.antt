@@ -1,5 +1,5 @@
 -- What a decision comes to.
-use Rattle.std.proofs.Common.{◌≡◌, ◌≢◌, Bool, Some, Result, Ok, Err, IfOk, sym, ap, ◌∙◌, ⊎_elim}
+use Rattle.std.proofs.Common.{◌≡◌, Bool, Some, Result, Ok, Err, IfOk, sym, ap, ◌∙◌}
 use Rattle.doc_names.specs.declared.doc_id.DocId.{DocId}
 use Rattle.edit_ops.specs.declared.change.Change.{Change}
 use Rattle.notes.specs.Notes.{Note}
@@ -8,12 +8,11 @@ use Rattle.store_core.specs.Changing.{changing}
 use Rattle.store_core.specs.Preparing.{Readied}
 use Rattle.store_core.specs.Stored.{Stored}
 use Rattle.store_core.specs.declared.refusal.StoreRefusal.{StoreRefusal}
-use Rattle.store_core.specs.declared.refusal.StoreRefusal.TheVariants.{NoMemory}
 use Rattle.store_core.specs.Held.{Stock as Content}
 use Rattle.machine_words.specs.Answers.{Answer, unchanged}
 use Rattle.machine_words.specs.Writing.{change_answer, refused, store_answer}
 use Rattle.document_writes.specs.Deciding.{Decides, answer_of}
-use Rattle.document_writes.specs.inner.Making.{IsPrepared, IsRefused}
+use Rattle.document_writes.specs.inner.Making.{IsPrepared}
 use Rattle.document_writes.specs.declared.decision.Decision.{Decision}
 use Rattle.document_writes.specs.declared.decision.Decision.TheVariants.{Stays, Changes}
 
@@ -45,10 +44,6 @@ module _ (c : Content) (id : DocId) (change : Change) (closes : Bool) (reply_to 
         ready = (m.of_document ∙ sym m.named, m.ready);
       }
 
-  -- a change that is refused, and not for want of memory
-  pub refuses : (reply : Sent) (refusal : StoreRefusal) → IsRefused c id change refusal → (reply ≡ refused refusal closes) × (refusal ≢ NoMemory) → Decides Is s (Stays reply)
-  refuses reply refusal u told =
-      ⊎_elim
-      (λ (e : changing c id change ≡ Err refusal). stays Is s reply (ap unchanged told.0 ∙ sym (ap (λ (x : Result (Note × Content) StoreRefusal). store_answer id closes reply_to x) e)))
-      (λ (e : refusal ≡ NoMemory). absurd (told.1 e))
-      u
+  -- a change that is refused
+  pub refuses : (reply : Sent) (refusal : StoreRefusal) → changing c id change ≡ Err refusal → reply ≡ refused refusal closes → Decides Is s (Stays reply)
+  refuses reply refusal e told = stays Is s reply (ap unchanged told ∙ sym (ap (λ (x : Result (Note × Content) StoreRefusal). store_answer id closes reply_to x) e))

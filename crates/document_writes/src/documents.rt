@@ -123,7 +123,7 @@ fn remove(alloc: Global, store: &mut Store, doc: &DocId, closes: bool) -> Result
         Decides (λ a. a ≡ change_answer store.old.content doc.now changes.RemoveDocument closes (deleted_reply closes)) store.new d) }
     ensures holds_the_same { store.new.content ≡ store.old.content }
 {
-    match prepare(alloc, store, doc, Change::RemoveDocument) {
+    match prepare(alloc, store, doc, Change::RemoveDocument)? {
         Ok((name, prepared)) => Ok(Decision::Changes {
             reply: Reply::fixed(200, closes),
             doc: name,

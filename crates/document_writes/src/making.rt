@@ -1,10 +1,10 @@
 //! Changes of documents, with all their memory or refused.
-ghost use Rattle.std.specs.Prelude.{◌≡◌, IfOk, MatchResult, if◌then◌else◌};
+ghost use Rattle.std.specs.Prelude.{◌≡◌, IfOk, if◌then◌else◌};
 ghost use Rattle.store_core.specs.Asking.{Asks};
 ghost use Rattle.machine_words.specs.Answers.{tagged};
 ghost use Rattle.machine_words.specs.Writing.{change_answer, put_reply};
 ghost use Rattle.document_writes.specs.Deciding.{Decides};
-ghost use Rattle.document_writes.specs.inner.Making.{IsPrepared, IsRefused};
+ghost use Rattle.document_writes.specs.inner.Making.{PreparesOrRefuses};
 ghost use Rattle.document_writes.specs.inner.Planning.{AsksBy, answer_by};
 
 use crate::plan::Plan;
@@ -17,24 +17,28 @@ use std::alloc::Global;
 use store_core::{Prepared, Store, StoreRefusal};
 use xcap_io::Bytes;
 
-/// Takes all memory of a change of a document, which isn't made yet, and copies the document's name, under which it is told.
+/// Takes all memory of a change of a document, which isn't made yet, and copies the document's name, under which it is told; or answers the
+/// first reason against the change.
 ///
 /// # Errors
-/// The first reason against the change.
+/// `NoMemory` for want of memory.
 pub(crate) fn prepare(
     alloc: Global,
     store: &mut Store,
     doc: &DocId,
     change: Change,
-) -> Result<(DocId, Prepared), StoreRefusal>
+) -> Result<Result<(DocId, Prepared), StoreRefusal>, NoMemory>
     requires asked { Asks store.old.content doc.now change }
     ensures holds_the_same { store.new.content ≡ store.old.content }
-    ensures prepared_or_refused { MatchResult result (λ p. IsPrepared store.old.content doc.now change store.new p.0 p.1)
-        (λ refusal. IsRefused store.old.content doc.now change refusal) }
+    ensures prepared_or_refused { IfOk result (PreparesOrRefuses store.old.content doc.now change store.new) }
 {
-    let prepared = store.prepare(doc, change)?;
-    let name = doc.copy(alloc)?;
-    Ok((name, prepared))
+    match store.prepare(doc, change)? {
+        Ok(prepared) => {
+            let name = doc.copy(alloc)?;
+            Ok(Ok((name, prepared)))
+        }
+        Err(refusal) => Ok(Err(refusal)),
+    }
 }
 
 // The reply to what was written: new, or in the place of what was there.
@@ -66,7 +70,7 @@ pub(crate) fn write(
         Decides (λ a. a ≡ change_answer store.old.content doc.now change closes (put_reply exists closes)) store.new d) }
     ensures holds_the_same { store.new.content ≡ store.old.content }
 {
-    match prepare(alloc, store, doc, change) {
+    match prepare(alloc, store, doc, change)? {
         Ok((name, prepared)) => Ok(Decision::Changes {
             reply: put_reply(alloc, exists, prepared.note().next, closes),
             doc: name,

@@ -1,6 +1,5 @@
 //! Replies to changes that aren't made (RFC 4825, section 11; RFC 4918, section 11.5).
-ghost use Rattle.std.specs.Prelude.{◌≡◌, ◌≢◌, IfOk};
-ghost use Rattle.store_core.specs.declared.refusal.StoreRefusal.TheVariants as refusals;
+ghost use Rattle.std.specs.Prelude.{◌≡◌, IfOk};
 ghost use Rattle.machine_words.specs.Answers.{conflict};
 ghost use Rattle.machine_words.specs.Fragments.{plan_refused};
 ghost use Rattle.machine_words.specs.Writing.{clash_field, refused};
@@ -25,7 +24,7 @@ fn taken(alloc: Global, clash: Clash, closes: bool) -> Result<Reply, NoMemory>
 
 /// The reply to a change that the store refuses: a conflict, or a limit leaves no room.
 pub(crate) fn refused(alloc: Global, refusal: StoreRefusal, closes: bool) -> Result<Reply, NoMemory>
-    ensures tells_the_refusal { IfOk result (λ reply. (reply ≡ refused refusal closes) × (refusal ≢ refusals.NoMemory)) }
+    ensures tells_the_refusal { IfOk result (λ reply. reply ≡ refused refusal closes) }
 {
     match refusal {
         StoreRefusal::ServiceTaken(clash) => taken(alloc, clash, closes),
@@ -33,7 +32,6 @@ pub(crate) fn refused(alloc: Global, refusal: StoreRefusal, closes: bool) -> Res
         StoreRefusal::TooMany => Ok(Reply::fixed(507, closes)),
         StoreRefusal::StoreFull(_) => Ok(Reply::fixed(507, closes)),
         StoreRefusal::NoNumber => Ok(Reply::fixed(507, closes)),
-        StoreRefusal::NoMemory => Err(NoMemory),
     }
 }
 

@@ -1,7 +1,5 @@
 // What a journal is.
-ghost use Rattle.std.specs.Prelude.{◌≡◌, ◌+◌, ◌<◌, ◌≤◌, ◌^◌, length};
-ghost use Rattle.xcap_io.specs.Causes.{Rose};
-ghost use Rattle.xcap_io.specs.Memory.{one_more};
+ghost use Rattle.std.specs.Prelude.{◌+◌, ◌<◌, ◌≤◌, ◌^◌, length};
 ghost use Rattle.edit_journal.specs.Journals.{JournalState, Adds, Cuts};
 
 use xcap_io::Failed;
@@ -22,14 +20,4 @@ pub trait Journal {
         requires faults { 0 < (state self.old).faults }
         requires within { len ≤ length (state self.old).held }
         ensures keeps_the_first_bytes { Cuts (state self.old) (state self.new) result len };
-}
-
-/// Counts one fault more.
-pub(crate) fn fault(count: &mut u64) -> Failed
-    ensures counts_one_more { count.new ≡ one_more count.old }
-    ensures later { count.old ≤ count.new }
-    ensures rose { Rose count.old count.new }
-{
-    *count = count.saturating_add(1);
-    Failed
 }

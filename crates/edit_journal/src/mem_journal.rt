@@ -6,10 +6,9 @@ ghost use Rattle.edit_journal.specs.Journals.{Adds, Cuts};
 ghost use Rattle.edit_journal.specs.Memory.{FailsNow, MemoryAppend, MemoryCut, memory_state};
 
 use crate::Journal;
-use crate::journal::fault;
 use std::alloc::Global;
 use std::marker::Model;
-use xcap_io::{Failed, NoMemory};
+use xcap_io::{Failed, NoMemory, fault};
 
 /// A journal in memory. It holds bytes until its room is full, and fails at the calls that it was told.
 #[derive(Drop)]

@@ -3,8 +3,7 @@ ghost use Rattle.std.specs.Prelude.{◌≡◌, []};
 ghost use Rattle.edit_journal.specs.Streams.{stream_state};
 
 use crate::Journal;
-use crate::journal::fault;
-use xcap_io::{Failed, Line, Sink};
+use xcap_io::{Failed, Line, Sink, fault};
 
 /// A journal that hands its bytes over to a sink, from which nothing can be cut. Its count of faults is its own, and its first
 /// fault is one of the sink.

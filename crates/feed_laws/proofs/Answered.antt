@@ -1,5 +1,5 @@
 -- What the machine answers to a feed brings up to date who applies it.
-use Rattle.std.proofs.Common.{◌≡◌, ℕ, Bool, true, false, cond, not, List, [], ◌∷◌, map, Option, None, Some, option_map, Result, Ok, Err, decimal, encode_utf8_all, slice_get, true≢false, refl, sym, ap, ◌∙◌, subst, arith}
+use Rattle.std.proofs.Common.{◌≡◌, ℕ, Bool, true, false, cond, List, [], Option, None, Some, option_map, Result, Ok, decimal, encode_utf8_all, slice_get, true≢false, refl, sym, ap, ◌∙◌, subst, arith}
 use Rattle.std.proofs.lemmas.Bool.{eq-eqb}
 use Rattle.std.specs.Prelude.{◌==◌}
 use Rattle.xml_tree.specs.Tree.{Tree}
@@ -22,17 +22,17 @@ use Rattle.notes.specs.Notes.{Note}
 use Rattle.patch_words.specs.Notices.{gone_notice}
 use Rattle.patch_words.specs.Replay.{Answer as Outcome, Held as Copy, Removed}
 use Rattle.patch_text.specs.Modes.{notice_of}
-use Rattle.reply_text.specs.Heads.{Sent, plain}
+use Rattle.reply_text.specs.Heads.{plain}
 use Rattle.http_wire.specs.declared.request.Request.{Request}
 use Rattle.request_terms.specs.Methods.{method_of}
 use Rattle.request_terms.specs.Rights.{is_allowed}
 use Rattle.request_terms.specs.declared.method.Method.{Method}
 use Rattle.request_terms.specs.declared.method.Method.TheVariants.{Get}
 use Rattle.store_core.specs.Changing.{document_in, document_name, held_name}
-use Rattle.store_core.specs.Held.{Held, Stands, Stock, held_of, stock_of}
+use Rattle.store_core.specs.Held.{Held, Stands, Stock, held_of}
 use Rattle.store_core.specs.Keeping.{IsKept, Kept}
 use Rattle.store_core.specs.Since.{Gone, Story, Told, Unknown, held_since, notes_from, since, story_of}
-use Rattle.store_core.specs.State.{Document, State, Version, notes, retained, versions}
+use Rattle.store_core.specs.State.{Document, State, Version, notes, versions}
 use Rattle.replay_laws.specs.Subscribers.{Brings, TellsSince, answer_between, fetch_between, subscribed}
 use Rattle.replay_laws.proofs.OneVersion.{found_all, held_there, one_version}
 use Rattle.replay_laws.proofs.Present.{aggregate, gone, patching, some_version, tags_alone}

@@ -1,11 +1,11 @@
 -- Which documents are found after a change: those before it, one of them with a version more, or one that is new.
-use Rattle.std.proofs.Common.{◌≡◌, ◌⊎◌, ℕ, zero, suc, Bool, true, false, cond, not, List, [], ◌∷◌, ◌++◌, Option, Some, None, filter, find, slice_get, inl, inr, true≢false, refl, sym, ap, ◌∙◌}
+use Rattle.std.proofs.Common.{◌≡◌, ◌⊎◌, ℕ, Bool, true, false, cond, not, List, [], ◌∷◌, ◌++◌, Some, None, filter, find, inl, inr, true≢false, refl, sym, ap, ◌∙◌}
 use Rattle.doc_names.specs.Same.{same_id}
 use Rattle.doc_names.specs.declared.doc_id.DocId.{DocId}
 use Rattle.doc_names.proofs.SameIds.{id_exact}
 use Rattle.notes.specs.Notes.{Note}
 use Rattle.store_core.specs.Changing.{document_in, document_name, with_document, without_document}
-use Rattle.store_core.specs.State.{Document, Version, created, renewed, versions}
+use Rattle.store_core.specs.State.{Document, renewed}
 
 -- ---- lists
 

@@ -1,5 +1,5 @@
 -- A tag means one version of a document, however the machine goes on; so notices bring up to date from any version that was ever held.
-use Rattle.std.proofs.Common.{◌≡◌, ◌⊎◌, ℕ, zero, suc, ◌+◌, ◌<◌, ◌≤◌, List, [], ◌∷◌, ◌++◌, Option, Some, None, Ok, option_map, slice_get, inl, inr, refl, sym, ap, ◌∙◌, subst, arith}
+use Rattle.std.proofs.Common.{◌≡◌, ◌⊎◌, ℕ, zero, suc, ◌+◌, ◌<◌, ◌≤◌, List, [], ◌∷◌, Option, Some, None, Ok, option_map, slice_get, inl, inr, refl, sym, ap, ◌∙◌, subst, arith}
 use Rattle.std.specs.List.{AllByRecursion}
 use Rattle.xml_tree.specs.Tree.{Tree}
 use Rattle.doc_names.specs.Same.{same_id}
@@ -21,7 +21,7 @@ use Rattle.store_core.specs.Keeping.{IsKept, Kept}
 use Rattle.store_core.specs.State.{Document, State, Version, created, renewed, versions}
 use Rattle.replay_laws.proofs.OneVersion.{found_all, one_version}
 use Rattle.machine_words.specs.Answers.{Made}
-use Rattle.machine_words.specs.Machine.{KeptStep, Step, after_answer, answer_as, told_as}
+use Rattle.machine_words.specs.Machine.{KeptStep, after_answer, answer_as, told_as}
 use Rattle.feed_laws.specs.Following.{HasVersion, ComesTo, goes_on, stays}
 use Rattle.feed_laws.specs.Holding.{UpdatesFrom, UpdatesHeld, UpdatesTo, SubscriberHolds}
 use Rattle.feed_laws.proofs.Answered.{holds}

@@ -1,41 +1,23 @@
--- No request is answered 503: neither the store nor a plan has want of memory as its reason against a change.
-use Rattle.std.proofs.Common.{◌≡◌, ℕ, ◌+◌, Bool, true, false, not, ◌==◌, List, [], ◌∷◌, length, is_some, Option, None, Some, option_map, Result, Ok, Err, inl, inr, refl, sym, ap, subst, ◌∙◌, encode_utf8_all}
-use Rattle.std.specs.Prelude.{◌&&◌, nat_le, nat_lt, min}
-use Rattle.std.specs.Option.{option_or as or_else}
-use Rattle.xml_tree.specs.Tree.{Tree, kids_of}
-use Rattle.xml_tree.specs.Edits.{put_in}
-use Rattle.xml_tree.specs.Scopes.{scope_at}
-use Rattle.xml_tree.specs.declared.names.Name.{Name}
+-- No request is answered 503: no refusal, of the store, of a plan or of a text, is told so.
+use Rattle.std.proofs.Common.{◌≡◌, ℕ, Bool, true, false, not, ◌==◌, List, is_some, Option, None, Some, Result, Ok, Err, refl, sym, ap, subst, ◌∙◌, encode_utf8_all}
+use Rattle.xml_tree.specs.Tree.{Tree}
 use Rattle.tree_text.specs.Printing.{document_print}
 use Rattle.tree_text.specs.declared.fault.TextFault.{TextFault}
 use Rattle.tree_text.specs.declared.fault.ValueFault.{ValueFault}
-use Rattle.step_laws.specs.Places.{PlanIs}
-use Rattle.usage_docs.specs.Validity as validity
 use Rattle.usage_docs.specs.declared.judging.Fault.{Fault}
-use Rattle.usage_docs.specs.declared.judging.Fault.TheVariants.{Invalid, Unformed, Repeated}
-use Rattle.usage_docs.specs.declared.keys.Clash.{Clash}
 use Rattle.doc_names.specs.Ids.{id_text}
 use Rattle.doc_names.specs.Usages.{usage_of}
 use Rattle.doc_names.specs.declared.usages.Usage.{Usage}
 use Rattle.doc_names.specs.declared.doc_id.DocId.{DocId}
-use Rattle.node_select.specs.declared.selector.End.{End}
-use Rattle.node_select.specs.declared.selector.End.TheVariants as ends
 use Rattle.node_select.specs.declared.selector.Selector.{Selector}
-use Rattle.node_select.specs.declared.selector.Step.{Step}
 use Rattle.xcap_uri.specs.Ancestors.{ancestor_uri, home_uri}
 use Rattle.xcap_uri.specs.declared.fault.UriFault.{UriFault}
 use Rattle.xcap_uri.specs.declared.fault.UriFault.TheVariants.{OutsideRoot, UnknownAuid, BadShape, BadEscape, BadQuery, UnboundPrefix, BadSelector}
 use Rattle.xcap_uri.specs.declared.target.Mode.{Mode}
 use Rattle.xcap_uri.specs.declared.target.Target.{Target}
 use Rattle.xcap_uri.specs.declared.target.Target.TheVariants.{Document, Node, Deep, Feed, ElementFeed, Flat}
-use Rattle.edit_ops.specs.Changes.{edited}
 use Rattle.edit_ops.specs.declared.change.Change.{Change}
-use Rattle.edit_ops.specs.declared.change.Change.TheVariants.{DropAttr, Insert, Remove, RemoveDocument, Replace, SetAttr}
-use Rattle.plan_words.specs.Attributes.{FindsValue, IsAttrPlan, IsWriting, written_name}
-use Rattle.plan_words.specs.Deletions.{FindsNothingAfter, IsDeletePlan, IsPlanFor, IsRemoval}
-use Rattle.plan_words.specs.Lawful.{LawfulGap, LawfulOver}
-use Rattle.plan_words.specs.Plans.{IsJudged, IsTested, by_fault}
-use Rattle.plan_words.specs.Puts.{FromGap, IsPutPlan}
+use Rattle.edit_ops.specs.declared.change.Change.TheVariants.{RemoveDocument}
 use Rattle.plan_words.specs.declared.refusal.EditRefusal.{EditRefusal}
 use Rattle.plan_words.specs.declared.refusal.EditRefusal.TheVariants as plans
 use Rattle.plan_words.specs.declared.spot.NoParent.{NoParent}
@@ -59,13 +41,11 @@ use Rattle.request_terms.specs.declared.conditions.Outcome.TheVariants.{Unreadab
 use Rattle.request_terms.specs.declared.method.Method.{Method}
 use Rattle.request_terms.specs.declared.method.Method.TheVariants.{Get, Head, Put, Delete, Other}
 use Rattle.node_texts.specs.Nodes.{encoded, found_text, node_media}
-use Rattle.store_core.specs.Changing.{Act, Makes, Edits, Removes, act_of, against, against_number, against_tree, answered, changing, content_after, document_in, held_name, note_for, only_if, other_addresses, other_lengths, taken}
-use Rattle.store_core.specs.Held.{Held, Stock as Content}
-use Rattle.store_core.specs.Keeping.{addresses_in}
+use Rattle.store_core.specs.Changing.{changing}
+use Rattle.store_core.specs.Held.{Stock as Content}
 use Rattle.store_core.specs.Since.{Story, Gone, Unknown, Told, since}
 use Rattle.store_core.specs.declared.refusal.StoreRefusal.{StoreRefusal}
 use Rattle.store_core.specs.declared.refusal.StoreRefusal.TheVariants as refusals
-use Rattle.usage_docs.specs.Services.{document_len}
 use Rattle.machine_words.specs.Answers.{Answer, Behind, BehindConditions, conflict, found, not_allowed, unchanged}
 use Rattle.machine_words.specs.Fragments.{CutsNode, DeletesNodeIn, PutsAt, PutsElementText, PutsFragment, PutsFrom, PutsNodeIn, PutsValueText, cut_reply, is_there, plan_answer, value_conflict}
 use Rattle.machine_words.specs.Feeds.{sends_notice, story_answer}
@@ -74,70 +54,6 @@ use Rattle.machine_words.specs.Requests.{ByMethod, ByTarget, ByUser, Deletes, Is
 use Rattle.machine_words.specs.Resources.{Resource, absent, beyond_limit, there, version_of}
 use Rattle.machine_words.specs.Writing.{DeletesDocumentIn, IfStored, PutsBody, PutsDocument, PutsSpelled, PutsText, by_judgement, change_answer, deleted_reply, fault_conflict, put_answer, put_change, put_reply, store_answer, text_conflict, version_tag as tag_of}
 use Rattle.machine_words.proofs.Cases.{either}
-
--- ---- the store
-
-abbrev IsOther : Option StoreRefusal → Type 0
-IsOther o = o ≡ Some refusals.NoMemory → ⊥
-
-or_other : (o p : Option StoreRefusal) → IsOther o → IsOther p → IsOther (or_else o p)
-or_other None p x y h = y h
-or_other (Some r) p x y h = x h
-
-if_other : (b : Bool) (r : StoreRefusal) → IsOther (Some r) → IsOther (only_if b r)
-if_other true r x h = x h
-if_other false r x h = cc
-
-taken_other : (o : Option Clash) → IsOther (option_map (λ clash. refusals.ServiceTaken clash) o)
-taken_other None h = cc
-taken_other (Some clash) h = cc
-
-large_other : (n : ℕ) → IsOther (Some (refusals.TooLarge n))
-large_other n h = cc
-
-many_other : IsOther (Some refusals.TooMany)
-many_other h = cc
-
-full_other : (n : ℕ) → IsOther (Some (refusals.StoreFull n))
-full_other n h = cc
-
-last_other : IsOther (Some refusals.NoNumber)
-last_other h = cc
-
-none_other : IsOther None
-none_other h = cc
-
-number_other : (c : Content) → IsOther (against_number c)
-number_other c = if_other (nat_le 18446744073709551616 c.next) refusals.NoNumber last_other
-
-tree_other : (c : Content) (id : DocId) (is_new : Bool) (t : Tree) → IsOther (against_tree c id is_new t)
-tree_other c id is_new t =
-    let len = min (document_len t) 18446744073709551615 in
-    let together = other_lengths c id + document_len t in
-    let first = taken (other_addresses c id) (addresses_in id.auid t) in
-    let large = only_if (nat_lt 262144 (document_len t)) (refusals.TooLarge len) in
-    let many = only_if (is_new && nat_le 1000 (length c.documents)) refusals.TooMany in
-    let full = only_if (nat_lt 33554432 together) (refusals.StoreFull together) in
-    or_other (option_map (λ clash. refusals.ServiceTaken clash) first) (or_else large (or_else many full)) (taken_other first)
-    (or_other large (or_else many full) (if_other (nat_lt 262144 (document_len t)) (refusals.TooLarge len) (large_other len))
-    (or_other many full (if_other (is_new && nat_le 1000 (length c.documents)) refusals.TooMany many_other) (if_other (nat_lt 33554432 together) (refusals.StoreFull together) (full_other together))))
-
-against_other : (c : Content) (id : DocId) (change : Change) (held : Option Held) (act : Act) → IsOther (against c id change held act)
-against_other c id change None (Makes root) = or_other (against_tree c id true root) (against_number c) (tree_other c id true root) (number_other c)
-against_other c id change (Some h) (Makes root) = or_other (against_tree c id true root) (against_number c) (tree_other c id true root) (number_other c)
-against_other c id change (Some h) Edits = or_other (against_tree c id false (edited h.tree change)) (against_number c) (tree_other c id false (edited h.tree change)) (number_other c)
-against_other c id change None Edits = none_other
-against_other c id change None Removes = number_other c
-against_other c id change (Some h) Removes = number_other c
-
-never_answered : (o : Option StoreRefusal) (note : Note) (next : Content) → IsOther o → answered o note next ≡ Err refusals.NoMemory → ⊥
-never_answered None note next other h = cc
-never_answered (Some r) note next other h = let same : r ≡ refusals.NoMemory = cc in other (ap (λ (x : StoreRefusal). Some x) same)
-
-never_stored : (c : Content) (id : DocId) (change : Change) → changing c id change ≡ Err refusals.NoMemory → ⊥
-never_stored c id change =
-    let held = document_in held_name c.documents id in
-    never_answered (against c id change held (act_of change)) (note_for c id change held) (content_after c id change) (against_other c id change held (act_of change))
 
 -- ---- answers
 
@@ -171,14 +87,13 @@ module _ (request : Request) (a : Answer) where
   no_usage (Some usage) P so is = so usage is
 
   module _ (c : Content) (id : DocId) (reply : Note → Sent) (other : (note : Note) → IsNot503 (reply note).status) where
-    by_store : (change : Change) (made : Result (Note × Content) StoreRefusal) → changing c id change ≡ made → a ≡ store_answer id request.closes reply made → Fine a
-    by_store change (Err (refusals.ServiceTaken clash)) e is = fine _ refl is
-    by_store change (Err (refusals.TooLarge len)) e is = fine _ refl is
-    by_store change (Err refusals.TooMany) e is = fine _ refl is
-    by_store change (Err (refusals.StoreFull total)) e is = fine _ refl is
-    by_store change (Err refusals.NoNumber) e is = fine _ refl is
-    by_store change (Err refusals.NoMemory) e is = absurd (never_stored c id change e)
-    by_store change (Ok (note, next)) e is = subst (λ (x : Answer). Fine x) (sym is) (other note)
+    by_store : (made : Result (Note × Content) StoreRefusal) → a ≡ store_answer id request.closes reply made → Fine a
+    by_store (Err (refusals.ServiceTaken clash)) is = fine _ refl is
+    by_store (Err (refusals.TooLarge len)) is = fine _ refl is
+    by_store (Err refusals.TooMany) is = fine _ refl is
+    by_store (Err (refusals.StoreFull total)) is = fine _ refl is
+    by_store (Err refusals.NoNumber) is = fine _ refl is
+    by_store (Ok (note, next)) is = subst (λ (x : Answer). Fine x) (sym is) (other note)
 
     by_plan : (plan : Result Change EditRefusal) → a ≡ plan_answer c id request.closes reply plan → Fine a
     by_plan (Err plans.NotFound) is = fine _ refl is
@@ -187,7 +102,7 @@ module _ (request : Request) (a : Answer) where
     by_plan (Err plans.Schema) is = fine _ refl is
     by_plan (Err plans.Constraint) is = fine _ refl is
     by_plan (Err (plans.Unique clash)) is = fine _ refl is
-    by_plan (Ok change) is = by_store change (changing c id change) refl is
+    by_plan (Ok change) is = by_store (changing c id change) is
 
 -- ---- reading
 
@@ -245,7 +160,7 @@ module _ (c : Content) (id : DocId) (request : Request) (a : Answer) where
   judged_so None t is =
       let exists = is_some (version_of c id) in
       let change = put_change exists t in
-      by_store request a c id (put_reply exists request.closes) (put_so exists request.closes) change (changing c id change) refl is
+      by_store request a c id (put_reply exists request.closes) (put_so exists request.closes) (changing c id change) is
 
   text_so : (usage : Usage) (read : Result Tree TextFault) → PutsText usage read request.closes (put_answer c id request.closes) a → Fine a
   text_so usage (Err fault) is = conflicts_so request a (text_conflict conflicts.NotWellFormed fault) is
@@ -295,7 +210,7 @@ module _ (c : Content) (id : DocId) (request : Request) (a : Answer) where
   document_deleted_so None is = only request a 404 refl is
   document_deleted_so (Some (t, tag)) is =
       behind request a (Some tag) true false (a ≡ change_answer c id RemoveDocument request.closes (deleted_reply request.closes))
-      (by_store request a c id (deleted_reply request.closes) (λ note. refl) RemoveDocument (changing c id RemoveDocument) refl) is
+      (by_store request a c id (deleted_reply request.closes) (λ note. refl) (changing c id RemoveDocument)) is
 
   cut_so : (usage : Usage) (selector : Selector) (t : Tree) → CutsNode c id usage selector t request a → Fine a
   cut_so usage selector t is = by_plan request a c id (cut_reply request.closes) (λ note. refl) is.0 is.2

@@ -124,7 +124,6 @@ module _ (method : Method) (c : Content) (request : Request) (a : Answer) where
   store_refuses refusals.TooMany is = refuses _ refl refl refl is
   store_refuses (refusals.StoreFull total) is = refuses _ refl refl refl is
   store_refuses refusals.NoNumber is = refuses _ refl refl refl is
-  store_refuses refusals.NoMemory is = refuses _ refl refl refl is
 
   -- a change that may be asked for, where each reply to one that is made tells it
   by_store : (id : DocId) (change : Change) (reply : Note → Sent) → (AllSound c → Asks c id change) → ((note : Note) → tells_change method (reply note).status ≡ true) → ((note : Note) → (reply note).closes ≡ request.closes)

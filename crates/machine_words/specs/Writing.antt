@@ -29,7 +29,7 @@ use Rattle.request_terms.specs.MediaTypes.{document_media, has_type}
 use Rattle.xcap_uri.specs.Ancestors.{home_uri}
 use Rattle.store_core.specs.Changing.{changing}
 use Rattle.store_core.specs.declared.refusal.StoreRefusal.{StoreRefusal}
-use Rattle.store_core.specs.declared.refusal.StoreRefusal.TheVariants.{ServiceTaken, TooLarge, TooMany, StoreFull, NoNumber, NoMemory}
+use Rattle.store_core.specs.declared.refusal.StoreRefusal.TheVariants.{ServiceTaken, TooLarge, TooMany, StoreFull, NoNumber}
 use Rattle.store_core.specs.Held.{Stock}
 use Rattle.machine_words.specs.Answers.{Answer, BehindConditions, unchanged, conflict, tagged}
 use Rattle.machine_words.specs.Resources.{version_of}
@@ -83,7 +83,6 @@ refused (TooLarge len) closes = plain 507 closes
 refused TooMany closes = plain 507 closes
 refused (StoreFull total) closes = plain 507 closes
 refused NoNumber closes = plain 507 closes
-refused NoMemory closes = plain 503 closes
 
 -- a change that the store refuses, and one that it makes, whose note the reply goes by
 abbrev pub store_answer : DocId → Bool → (Note → Sent) → Result (Note × Stock) StoreRefusal → Answer

@@ -1,12 +1,11 @@
 -- The document whose feed an address asks for has a name that UTF-8 can write.
-use Rattle.std.proofs.Common.{◌≡◌, ◌⊎◌, ℕ, Bool, true, ◌&&◌, if◌then◌else◌, List, [], ◌∷◌, Option, Some, None, Result, Ok, Err, encode_utf8_all, inl, inr, refl, sym, ap, ◌∙◌, subst}
+use Rattle.std.proofs.Common.{◌≡◌, ◌⊎◌, ℕ, true, ◌&&◌, if◌then◌else◌, List, [], ◌∷◌, Option, Result, Ok, Err, inl, inr, refl, sym, ap, ◌∙◌}
 use Rattle.std.proofs.lemmas.Bool.{and_from, and_parts}
 use Rattle.std.proofs.lemmas.Str.{IsUtf8-from_is_utf8, scalars-chars}
 use Rattle.std.specs.List.{list_all}
-use Rattle.std.specs.Str.{all_scalars, chars, is_utf8}
+use Rattle.std.specs.Str.{all_scalars, is_utf8}
 use Rattle.percent_encoding.specs.Percent.{percent_decode}
 use Rattle.xml_tree.specs.declared.names.Decl.{Decl}
-use Rattle.doc_names.specs.declared.doc_id.Auid.{Auid}
 use Rattle.doc_names.specs.declared.doc_id.DocId.{DocId}
 use Rattle.doc_names.specs.declared.doc_id.Home.TheVariants.{User}
 use Rattle.node_select.specs.declared.fault.SelectorFault.{SelectorFault}
@@ -22,10 +21,9 @@ use Rattle.xcap_uri.specs.Words.{feed, users}
 use Rattle.xcap_uri.specs.declared.fault.UriFault.{UriFault}
 use Rattle.xcap_uri.specs.declared.fault.UriFault.TheVariants.{BadSelector}
 use Rattle.xcap_uri.specs.declared.shape.Shape.{Shape}
-use Rattle.xcap_uri.specs.declared.shape.Shape.TheVariants.{Below, Changes, FlatList, Part, PartChanges, Whole}
 use Rattle.xcap_uri.specs.declared.target.Mode.{Mode}
 use Rattle.xcap_uri.specs.declared.target.Target.{Target}
-use Rattle.xcap_uri.specs.declared.target.Target.TheVariants.{Document, Node, Deep, Feed, ElementFeed, Flat}
+use Rattle.xcap_uri.specs.declared.target.Target.TheVariants.{Feed, ElementFeed}
 use Rattle.name_words.specs.Naming.{is_encodable}
 
 -- ---- the texts of segments

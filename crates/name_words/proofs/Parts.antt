@@ -1,16 +1,14 @@
 -- Parts of printed names: each has no slash in it, and stands for what it was printed of.
-use Rattle.std.proofs.Common.{◌≡◌, ℕ, ◌<◌, ◌/◌, ◌%◌, Bool, true, false, not, ◌&&◌, ◌==◌, List, [], ◌∷◌, ◌++◌, Option, Some, None, bytes_eq, encode_utf8_all, refl, sym, ap, ◌∙◌, arith}
-use Rattle.std.proofs.lemmas.Bool.{agree_below, agree_below_at, and_from, and_parts, eq-eqb, ltb-true}
+use Rattle.std.proofs.Common.{◌≡◌, ℕ, ◌<◌, ◌/◌, ◌%◌, Bool, true, false, not, ◌&&◌, ◌==◌, List, [], ◌∷◌, ◌++◌, Some, None, bytes_eq, encode_utf8_all, refl, sym, ap, ◌∙◌, arith}
+use Rattle.std.proofs.lemmas.Bool.{agree_below, agree_below_at, and_from, and_parts, ltb-true}
 use Rattle.std.specs.Char.{is_ascii, is_ascii_hexdigit}
 use Rattle.std.specs.Cmp.Lexicographic.{bytes_decides}
 use Rattle.std.specs.Fmt.{digit_glyph}
 use Rattle.std.specs.Str.{all_scalars}
-use Rattle.tree_text.specs.Faults.{is_other}
-use Rattle.grammar_rules.specs.Reading.{after_front}
 use Rattle.percent_encoding.specs.Percent.{percent_decode, percent_encode_byte}
 use Rattle.doc_names.specs.Escapes.{escaped, escaped_octet, escaped_part, is_plain}
 use Rattle.doc_names.proofs.Escaped.{parts_decoded}
-use Rattle.xcap_uri.specs.Cuts.{before, behind, behind_first}
+use Rattle.xcap_uri.specs.Cuts.{before, behind}
 use Rattle.xcap_uri.specs.Escapes.{has_whole_escapes}
 use Rattle.name_words.specs.Naming.{are_parts, is_part}
 use Rattle.name_words.proofs.Octets.{octets}

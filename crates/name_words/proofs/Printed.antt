@@ -1,5 +1,5 @@
 -- The printed name of a document names it.
-use Rattle.std.proofs.Common.{◌≡◌, ℕ, Bool, true, ◌&&◌, List, [], ◌∷◌, ◌++◌, Some, IsAscii, codes, encode_utf8_all, refl, sym, ap, ◌∙◌, append_assoc}
+use Rattle.std.proofs.Common.{◌≡◌, ℕ, true, List, [], ◌∷◌, ◌++◌, Some, IsAscii, codes, encode_utf8_all, refl, ap, ◌∙◌, append_assoc}
 use Rattle.std.proofs.lemmas.Bool.{and_parts}
 use Rattle.std.proofs.lemmas.Str.{IsAscii-append, encodes-IsAscii}
 use Rattle.std.specs.Str.{all_scalars}

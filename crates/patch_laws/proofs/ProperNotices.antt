@@ -1,5 +1,5 @@
 -- A notice of notes is proper and at most 67 levels deep, so its print is read back as it.
-use Rattle.std.proofs.Common.{◌≡◌, ℕ, zero, suc, ◌+◌, ◌<◌, ◌≤◌, ◌^◌, Bool, true, false, ◌||◌, List, [], ◌∷◌, ◌++◌, map, bytes_eq, codes, decimal, refl, sym, ap, ◌∙◌, subst, arith}
+use Rattle.std.proofs.Common.{◌≡◌, ℕ, zero, suc, ◌+◌, ◌<◌, ◌≤◌, ◌^◌, Bool, true, false, ◌||◌, List, [], ◌∷◌, ◌++◌, map, bytes_eq, codes, decimal, refl, ap, ◌∙◌, arith}
 use Rattle.std.specs.List.{AllByRecursion, IsDistinct, list_all}
 use Rattle.std.specs.Int.Digits.{digits_of}
 use Rattle.std.proofs.lemmas.Bool.Decides.{nat_tests}
@@ -11,7 +11,6 @@ use Rattle.xml_tree.specs.Proper.{Proper, ProperIn, is_declaration, is_prefix}
 use Rattle.xml_tree.specs.Scopes.{xml_uri, xmlns_prefix, xmlns_uri}
 use Rattle.xml_tree.specs.Tree.{Tree, content_height, height, of_kids as listed}
 use Rattle.xml_tree.specs.declared.names.Decl.{Decl}
-use Rattle.edit_ops.specs.Changes.{edited}
 use Rattle.notes.specs.Notes.{AreNotesOf, Note, tag_after}
 use Rattle.patch_words.specs.Notices.{all_at_once, candidate, declares, diff, diff_uri, document, one_by_one, operations}
 use Rattle.notes.specs.Operations.{operation, plain_attr as plain}

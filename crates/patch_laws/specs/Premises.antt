@@ -1,5 +1,5 @@
 -- Of which trees, notes and scopes the laws of notices speak.
-use Rattle.std.specs.Prelude.{◌≡◌, ◌≢◌, ℕ, IsSome, ◌<◌, ◌≤◌, ◌^◌, List, [], ◌∷◌, length}
+use Rattle.std.specs.Prelude.{◌≡◌, ◌≢◌, ℕ, IsSome, ◌<◌, ◌≤◌, List, [], ◌∷◌, length}
 use Rattle.std.specs.List.{AllByRecursion}
 use Rattle.xml_tree.specs.Print.{byte_len, print}
 use Rattle.xml_tree.specs.Proper.{ProperIn}

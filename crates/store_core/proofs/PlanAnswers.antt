@@ -1,7 +1,6 @@
 -- What planning a change answers, from the reasons against it and its parts.
-use Rattle.std.proofs.Common.{◌≡◌, ℕ, ◌+◌, ◌≤◌, Bool, true, false, List, [], length, sum_by, ◌⊎◌, inl, inr, Option, None, Some, IsSome, option_map, Result, Ok, Err, refl, sym, ap, subst, ◌∙◌, arith}
+use Rattle.std.proofs.Common.{◌≡◌, ℕ, ◌+◌, ◌≤◌, Bool, true, false, List, [], length, sum_by, Option, None, Some, IsSome, option_map, Result, Ok, Err, refl, sym, ap, subst, ◌∙◌, arith}
 use Rattle.std.proofs.lemmas.Option.{same_Some}
-use Rattle.std.specs.Result.{IsErrAnd}
 use Rattle.std.specs.Option.{option_or as or_else}
 use Rattle.xml_tree.specs.Tree.{Tree}
 use Rattle.usage_docs.specs.Services.{document_len}
@@ -15,7 +14,6 @@ use Rattle.edit_ops.specs.declared.change.Change.TheVariants.{CreateDocument, In
 use Rattle.notes.specs.Notes.{Note, note_of}
 use Rattle.notes.specs.Recorded.{note_in}
 use Rattle.store_core.specs.declared.refusal.StoreRefusal.{StoreRefusal}
-use Rattle.store_core.specs.declared.refusal.StoreRefusal.TheVariants.{NoMemory}
 use Rattle.store_core.specs.declared.entry.Entry.{Entry}
 use Rattle.store_core.specs.declared.step.Step.TheVariants.{Make, Edit, End}
 use Rattle.store_core.specs.Held.{Held, Stock as Content}
@@ -34,14 +32,9 @@ use Rattle.store_core.specs.inner.Planning.{IsHeldAs, IsNoted, Plans}
 
 -- ---- any change
 
-pub plans-wanting : (c : Content) (doc : DocId) (change : Change) (r : Result Readied StoreRefusal) → IsErrAnd r (λ e. e ≡ NoMemory) → Plans c doc change r
-unfolding Plans
-plans-wanting c doc change (Err e) h = inr h
-plans-wanting c doc change (Ok p) h = absurd h
-
 pub plans-refused : (c : Content) (doc : DocId) (change : Change) (e : StoreRefusal) → changing c doc change ≡ Err e → Plans c doc change (Err e)
 unfolding Plans
-plans-refused c doc change e h = inl h
+plans-refused c doc change e h = h
 
 pub plans-made : (c : Content) (doc : DocId) (change : Change) (p : Readied) → p.doc ≡ doc → p.note.change ≡ change → IsPlanned c p → Plans c doc change (Ok p)
 unfolding Plans
@@ -51,7 +44,7 @@ pub plan-of : (c : Content) (doc : DocId) (change : Change) (p : Readied) → Pl
 unfolding Plans
 plan-of c doc change p h = h
 
-pub reason-of : (c : Content) (doc : DocId) (change : Change) (e : StoreRefusal) → Plans c doc change (Err e) → (changing c doc change ≡ Err e) ⊎ (e ≡ NoMemory)
+pub reason-of : (c : Content) (doc : DocId) (change : Change) (e : StoreRefusal) → Plans c doc change (Err e) → changing c doc change ≡ Err e
 unfolding Plans
 reason-of c doc change e h = h
 

@@ -1,5 +1,5 @@
 -- A change that has all its memory, and what makes it ready for a store.
-use Rattle.std.specs.Prelude.{◌≡◌, ℕ, ◌+◌, ◌≤◌, List, [], ◌++◌, length, sum_by, ◌⊎◌, None, Some, Result, Ok, Err, MatchResult}
+use Rattle.std.specs.Prelude.{◌≡◌, ℕ, ◌+◌, ◌≤◌, List, [], ◌++◌, length, sum_by, None, Some, Result, Ok, Err, MatchResult}
 use Rattle.usage_docs.specs.Services.{document_len}
 use Rattle.doc_names.specs.declared.doc_id.DocId.{DocId}
 use Rattle.edit_ops.specs.Changes.{edited}
@@ -63,6 +63,6 @@ pub record IsReady (s : Stored) (p : Readied) : Type 0 where
 
 -- ---- a change that is made at once
 
--- the call makes the step that is stated, or nothing changes: a refusal is the stated one, or tells want of memory
-abbrev pub Steps : {T N S E : Type 0} → E → Result (N × S) E → (T → N) → Result T E → S → S → Type 0
-Steps memory stated read r old new = MatchResult r (λ x. stated ≡ Ok (read x, new)) (λ e. (new ≡ old) × ((stated ≡ Err e) ⊎ (e ≡ memory)))
+-- the call makes the step that is stated; or nothing changes, and the refusal is the stated one
+abbrev pub Steps : {T N S E : Type 0} → Result (N × S) E → (T → N) → Result T E → S → S → Type 0
+Steps stated read r old new = MatchResult r (λ x. stated ≡ Ok (read x, new)) (λ e. (new ≡ old) × (stated ≡ Err e))

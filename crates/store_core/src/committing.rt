@@ -1,12 +1,12 @@
 //! Changes that have all their memory are made.
-ghost use Rattle.std.specs.Prelude.{◌≡◌, Ok, OnOk};
+ghost use Rattle.std.specs.Prelude.{◌≡◌, IfOk, Ok, OnErr, OnOk};
 ghost use Rattle.notes.specs.Recorded.{note_in};
-ghost use Rattle.store_core.specs.declared.refusal.StoreRefusal.TheVariants as refusals;
 ghost use Rattle.store_core.specs.Asking.{Asks};
 ghost use Rattle.store_core.specs.Changing.{changing, content_after};
 ghost use Rattle.store_core.specs.KeyAddresses.{KeepsAddressesOf};
 ghost use Rattle.store_core.specs.Preparing.{IsReady, Steps};
 
+use crate::NoMemory;
 use crate::prepared::Prepared;
 use crate::refusal::StoreRefusal;
 use crate::registry::{enter, leave};
@@ -39,16 +39,24 @@ impl Store {
         note
     }
 
-    /// Makes a change of a document, under the next number, and answers its note. The conditions are those of `prepare`.
+    /// Makes a change of a document, under the next number, and answers its note; or the first reason against it, in the order of
+    /// `StoreRefusal`. The conditions are those of `prepare`. Where it isn't made, the store holds what it held.
     ///
     /// # Errors
-    /// The first reason against the change, in the order of `StoreRefusal`, or `NoMemory`; the store then holds what it held.
-    pub fn change(&mut self, doc: &DocId, change: Change) -> Result<EditNote, StoreRefusal>
+    /// `NoMemory` for want of memory.
+    pub fn change(
+        &mut self,
+        doc: &DocId,
+        change: Change,
+    ) -> Result<Result<EditNote, StoreRefusal>, NoMemory>
         requires { Asks self.old.content doc.now change }
-        ensures makes_the_change_or_refuses { Steps refusals.NoMemory (changing self.old.content doc.now change) note_in result self.old.content self.new.content }
-        ensures keeps_key_addresses { OnOk result (KeepsAddressesOf self.old.content doc.now change self.new.content) }
+        ensures makes_the_change_or_refuses { IfOk result (λ r. Steps (changing self.old.content doc.now change) note_in r self.old.content self.new.content) }
+        ensures want_of_memory_changes_nothing { OnErr result (self.new.content ≡ self.old.content) }
+        ensures keeps_key_addresses { IfOk result (λ r. OnOk r (KeepsAddressesOf self.old.content doc.now change self.new.content)) }
     {
-        let prepared = self.prepare(doc, change)?;
-        Ok(self.commit(prepared))
+        match self.prepare(doc, change)? {
+            Ok(prepared) => Ok(Ok(self.commit(prepared))),
+            Err(refusal) => Ok(Err(refusal)),
+        }
     }
 }

@@ -1,5 +1,5 @@
 //! Changes of documents: each first takes all its memory, and then can't fail.
-ghost use Rattle.std.specs.Prelude.{◌≡◌, ℕ, ◌≤◌, ◌+◌, ◌⊎◌, [], ◌∷◌, Err, IfErr, IfOk, IsSome, IsSomeAnd, None, Ok, OnOk, List, Some, false, max, min, option_map, true};
+ghost use Rattle.std.specs.Prelude.{◌≡◌, ℕ, ◌≤◌, ◌+◌, [], ◌∷◌, Err, IfErr, IfOk, IfSome, IsSome, IsSomeAnd, None, Ok, OnOk, List, Some, false, max, min, option_map, true};
 ghost use Rattle.store_core.specs.inner.Planning.{refused_for, IsHeldAs, IsNoted, Plans};
 ghost use Rattle.xml_tree.specs.Tree.{Tree};
 ghost use Rattle.usage_docs.specs.Services.{document_len};
@@ -19,6 +19,7 @@ ghost use Rattle.store_core.specs.Stored.{entry_of};
 ghost use Rattle.store_core.specs.declared.step.Step.TheVariants as steps;
 ghost use Rattle.notes.specs.Recorded.{note_in};
 
+use crate::NoMemory;
 use crate::addresses::{addresses, entering, first_number, leaving};
 use crate::entry::Entry;
 use crate::prepared::Prepared;
@@ -29,7 +30,7 @@ use crate::store::Store;
 use doc_names::DocId;
 use edit_ops::{Change, Staged, printed_len_after, stage};
 use notes::EditNote;
-use std::alloc::{AllocError, Global};
+use std::alloc::Global;
 use usage_docs::{Clash, Key};
 use xml_tree::{Element, List, Path, Text, copy_tree, printed_len};
 
@@ -117,7 +118,7 @@ fn creation(
     len: usize,
     enters: List<Text>,
     total: u64,
-) -> Result<Prepared, AllocError>
+) -> Result<Prepared, NoMemory>
     requires { len ≡ document_len root }
     ensures prepares_the_creation { IfOk result (λ p. p ≡ record {
       doc = doc.now;
@@ -152,7 +153,7 @@ fn edit(
     leaves: List<Text>,
     enters: List<Text>,
     total: u64,
-) -> Result<Prepared, AllocError>
+) -> Result<Prepared, NoMemory>
     ensures prepares_the_edit { IfOk result (λ p. p ≡ record {
       doc = doc.now;
       note = note_in note;
@@ -182,7 +183,7 @@ fn removal(
     number: u64,
     leaves: List<Text>,
     total: u64,
-) -> Result<Prepared, AllocError>
+) -> Result<Prepared, NoMemory>
     ensures prepares_the_removal { IfOk result (λ p. p ≡ record {
       doc = doc.now;
       note = record { previous = tag; next = number; bindings = []; change = changes.RemoveDocument; fresh = false };
@@ -214,7 +215,7 @@ fn noted(
     leaves: List<Text>,
     enters: List<Text>,
     total: u64,
-) -> Result<Prepared, AllocError>
+) -> Result<Prepared, NoMemory>
     requires { Fits entry.now.tree change }
     ensures notes_the_edit { IfOk result (λ p. IsNoted doc.now entry.now number change len leaves enters total p) }
 {
@@ -225,14 +226,11 @@ fn noted(
 
 impl Store {
     // The number of the next change.
-    fn next_number(&self) -> Result<u64, StoreRefusal>
-        ensures ok { IfOk result (λ n. (n ≡ self.now.content.next) × (against_number self.now.content ≡ None)) }
-        ensures err { IfErr result (λ e. against_number self.now.content ≡ Some e) }
+    fn next_number(&self) -> Option<u64>
+        ensures some { IfSome result (λ n. (n ≡ self.now.content.next) × (against_number self.now.content ≡ None)) }
+        ensures none { result ≡ None → against_number self.now.content ≡ Some refusals.NoNumber }
     {
-        match self.last.checked_add(1) {
-            Some(number) => Ok(number),
-            None => Err(StoreRefusal::NoNumber),
-        }
+        self.last.checked_add(1)
     }
 
     // The first reason against a tree of a document that isn't held, by the tree's length and its service addresses.
@@ -293,27 +291,37 @@ impl Store {
     }
 
     // Plans to make a document.
-    fn plan_creation(&self, doc: &DocId, root: Element) -> Result<Prepared, StoreRefusal>
+    fn plan_creation(
+        &self,
+        doc: &DocId,
+        root: Element,
+    ) -> Result<Result<Prepared, StoreRefusal>, NoMemory>
         requires { Asks self.now.content doc.now (changes.CreateDocument root) }
-        ensures plans_the_creation { Plans self.now.content doc.now (changes.CreateDocument root) result }
+        ensures plans_the_creation { IfOk result (Plans self.now.content doc.now (changes.CreateDocument root)) }
     {
         let enters = addresses(self.alloc, doc.auid, &root)?;
         let len = document_len(&root);
         if let Some(refusal) = self.refusal_of_new(doc, len, enters.as_slice()) {
-            return Err(refusal);
+            return Ok(Err(refusal));
         }
-        let number = self.next_number()?;
+        let Some(number) = self.next_number() else {
+            return Ok(Err(StoreRefusal::NoNumber));
+        };
         let sum = self.total();
         let total = sum.saturating_add(len as u64);
         let prepared = creation(self.alloc, doc, root, number, len, enters, total)?;
-        Ok(prepared)
+        Ok(Ok(prepared))
     }
 
     // Plans to edit a document.
-    fn plan_edit(&self, doc: &DocId, change: Change) -> Result<Prepared, StoreRefusal>
+    fn plan_edit(
+        &self,
+        doc: &DocId,
+        change: Change,
+    ) -> Result<Result<Prepared, StoreRefusal>, NoMemory>
         requires asks { Asks self.now.content doc.now change }
         requires edits { act_of change ≡ Edits }
-        ensures plans_the_edit { Plans self.now.content doc.now change result }
+        ensures plans_the_edit { IfOk result (Plans self.now.content doc.now change) }
     {
         let entry = self.held(doc);
         let leaves = leaving(self.alloc, doc.auid, &entry.tree, &change)?;
@@ -321,36 +329,40 @@ impl Store {
         let len = len_after(&entry.tree, entry.len, &change);
         let first = first_number(&change);
         if let Some(refusal) = self.refusal_of_edit(doc, len, first, enters.as_slice()) {
-            return Err(refusal);
+            return Ok(Err(refusal));
         }
-        let number = self.next_number()?;
+        let Some(number) = self.next_number() else {
+            return Ok(Err(StoreRefusal::NoNumber));
+        };
         let others = self.total_without(doc);
         let total = others.saturating_add(len as u64);
         let prepared = noted(
             self.alloc, doc, entry, number, change, len, leaves, enters, total,
         )?;
-        Ok(prepared)
+        Ok(Ok(prepared))
     }
 
     // Plans to take a document away.
-    fn plan_removal(&self, doc: &DocId) -> Result<Prepared, StoreRefusal>
+    fn plan_removal(&self, doc: &DocId) -> Result<Result<Prepared, StoreRefusal>, NoMemory>
         requires { Asks self.now.content doc.now changes.RemoveDocument }
-        ensures plans_the_removal { Plans self.now.content doc.now changes.RemoveDocument result }
+        ensures plans_the_removal { IfOk result (Plans self.now.content doc.now changes.RemoveDocument) }
     {
         let Some((tree, tag)) = self.get(doc) else {
             unreachable!()
         };
-        let number = self.next_number()?;
+        let Some(number) = self.next_number() else {
+            return Ok(Err(StoreRefusal::NoNumber));
+        };
         let leaves = addresses(self.alloc, doc.auid, tree)?;
         let total = self.total_without(doc);
         let prepared = removal(self.alloc, doc, tag, number, leaves, total)?;
-        Ok(prepared)
+        Ok(Ok(prepared))
     }
 
     // Plans any change.
-    fn plan(&self, doc: &DocId, change: Change) -> Result<Prepared, StoreRefusal>
+    fn plan(&self, doc: &DocId, change: Change) -> Result<Result<Prepared, StoreRefusal>, NoMemory>
         requires { Asks self.now.content doc.now change }
-        ensures plans_the_change { Plans self.now.content doc.now change result }
+        ensures plans_the_change { IfOk result (Plans self.now.content doc.now change) }
     {
         match change {
             Change::CreateDocument { root } => self.plan_creation(doc, root),
@@ -359,22 +371,31 @@ impl Store {
         }
     }
 
-    /// Takes all memory of a change of a document, which isn't made yet: `commit` makes it. A document that is made isn't held yet, and
+    /// Takes all memory of a change of a document, which isn't made yet: `commit` makes it; or answers
+    /// the first reason against it, in the order of `StoreRefusal`. A document that is made isn't held yet, and
     /// another change is one of a document that is held; what is left may be a document, if it isn't too long.
     ///
     /// # Errors
-    /// The first reason against the change, in the order of `StoreRefusal`, or `NoMemory`.
-    pub fn prepare(&mut self, doc: &DocId, change: Change) -> Result<Prepared, StoreRefusal>
+    /// `NoMemory` for want of memory.
+    pub fn prepare(
+        &mut self,
+        doc: &DocId,
+        change: Change,
+    ) -> Result<Result<Prepared, StoreRefusal>, NoMemory>
         requires { Asks self.old.content doc.now change }
         ensures same { self.new.content ≡ self.old.content }
-        ensures ok { IfOk result (λ p. (p.doc ≡ doc.now) × (changing self.old.content doc.now change ≡ Ok (p.note, content_after self.old.content doc.now change)) × (p.note.change ≡ change)) }
-        ensures ready { IfOk result (λ p. IsReady self.new p) }
-        ensures keeps_key_addresses { OnOk result (KeepsAddressesOf self.old.content doc.now change (content_after self.old.content doc.now change)) }
-        ensures err { IfErr result (λ e. (changing self.old.content doc.now change ≡ Err e) ⊎ (e ≡ refusals.NoMemory)) }
+        ensures ok { IfOk result (λ r. IfOk r (λ p. (p.doc ≡ doc.now) × (changing self.old.content doc.now change ≡ Ok (p.note, content_after self.old.content doc.now change)) × (p.note.change ≡ change))) }
+        ensures ready { IfOk result (λ r. IfOk r (λ p. IsReady self.new p)) }
+        ensures keeps_key_addresses { IfOk result (λ r. OnOk r (KeepsAddressesOf self.old.content doc.now change (content_after self.old.content doc.now change))) }
+        ensures err { IfOk result (λ r. IfErr r (λ e. changing self.old.content doc.now change ≡ Err e)) }
     {
         self.stands();
-        let prepared = self.plan(doc, change)?;
-        self.reserve(prepared.addresses_more())?;
-        Ok(prepared)
+        match self.plan(doc, change)? {
+            Ok(prepared) => {
+                self.reserve(prepared.addresses_more())?;
+                Ok(Ok(prepared))
+            }
+            Err(refusal) => Ok(Err(refusal)),
+        }
     }
 }

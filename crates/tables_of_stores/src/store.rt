@@ -13,7 +13,7 @@ use doc_names::{Auid, DocId, Home, Usage};
 use edit_ops::Change;
 use notes::EditNote;
 use std::alloc::Global;
-use store_core::{Store, StoreRefusal};
+use store_core::{NoMemory, Store, StoreRefusal};
 use table_cases::Field;
 use tree_text::read_document;
 use usage_docs::{judge, services};
@@ -81,7 +81,11 @@ fn put_change(is_held: bool, root: Element) -> Change
     Change::CreateDocument { root }
 }
 
-fn put(store: &mut Store, doc: &DocId, root: Element) -> Result<EditNote, StoreRefusal>
+fn put(
+    store: &mut Store,
+    doc: &DocId,
+    root: Element,
+) -> Result<Result<EditNote, StoreRefusal>, NoMemory>
     requires services { doc.now.auid ≡ auids.RlsServices }
     requires readable { IsReadable doc.now }
     requires users { IsUsers doc.now.home }
@@ -103,18 +107,19 @@ fn push_refusal(text: &mut String, refusal: &StoreRefusal) -> Result<()> {
         StoreRefusal::TooMany => text.push_str("too many documents; ")?,
         StoreRefusal::StoreFull(total) => write!(text, "{total} bytes in all are too many; ")?,
         StoreRefusal::NoNumber => text.push_str("no number; ")?,
-        StoreRefusal::NoMemory => text.push_str("no memory; ")?,
     }
     Ok(())
 }
 
 // Takes a document away, in two steps; 0 where it isn't held.
-fn remove(store: &mut Store, doc: &DocId) -> Result<u64, StoreRefusal> {
+fn remove(store: &mut Store, doc: &DocId) -> Result<Result<u64, StoreRefusal>> {
     if store.get(doc).is_none() {
-        return Ok(0);
+        return Ok(Ok(0));
     }
-    let prepared = store.prepare(doc, Change::RemoveDocument)?;
-    Ok(store.commit(prepared).next)
+    match store.prepare(doc, Change::RemoveDocument)? {
+        Ok(prepared) => Ok(Ok(store.commit(prepared).next)),
+        Err(refusal) => Ok(Err(refusal)),
+    }
 }
 
 // Puts a user's document whose one service has an address.
@@ -127,14 +132,14 @@ fn put_service(
     let doc = index_of(alloc, user)?;
     let text = spelled(alloc, uri)?;
     let root = read(alloc, text.as_str())?;
-    Ok(put(store, &doc, root).map(|note| note.next))
+    Ok(put(store, &doc, root)?.map(|note| note.next))
 }
 
 // Makes the change of a line, a removal where it has no address, and tells its number.
 fn change(alloc: Global, store: &mut Store, line: &str, text: &mut String) -> Result<()> {
     let number = match line.split_once(' ') {
         Some((user, uri)) => put_service(alloc, store, user, uri)?,
-        None => remove(store, &index_of(alloc, line)?),
+        None => remove(store, &index_of(alloc, line)?)?,
     };
     match number {
         Ok(number) => write!(text, "{number}; ")?,

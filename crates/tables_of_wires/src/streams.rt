@@ -6,6 +6,7 @@ use std::alloc::Global;
 use std::io;
 use std::net::{Net, OpenListener, TcpListener};
 use std::rt::Files;
+use std::time::Clock;
 use table_cases::{Field, first_word};
 use xcap_io::{Sink, StdSink, StdSource, TcpPeer, TcpPort};
 
@@ -45,7 +46,7 @@ fn free_address<N: Net>(alloc: Global, net: &N) -> Result<String> {
 
 // The calls of a port and of a peer, by the first word of each line; then the port ends, and the
 // peer reads what is left.
-fn connected<N: Net>(alloc: Global, net: &N, calls: &str) -> Result<String> {
+fn connected<N: Net + Clock>(alloc: Global, net: &N, calls: &str) -> Result<String> {
     let address = free_address(alloc, net)?;
     let mut text = String::new(alloc);
     let mut peer = TcpPeer::new(net);
@@ -71,7 +72,7 @@ fn connected<N: Net>(alloc: Global, net: &N, calls: &str) -> Result<String> {
 
 /// What real streams carry: a text through a pipe, or what a port and a peer send each other.
 pub fn answer(
-    rt: &(impl Net + Files + AllocGlobal),
+    rt: &(impl Net + Clock + Files + AllocGlobal),
     table: &str,
     inputs: &[Field],
 ) -> Result<String> {

@@ -13,6 +13,7 @@ use notes::Edit;
 use std::alloc::Global;
 use std::io::{Read, Write};
 use std::net::Net;
+use std::time::Clock;
 use watchers::Watchers;
 use xcap_io::{Line, StdSink, StdSource, TcpPeer, TcpPort};
 
@@ -20,7 +21,7 @@ use xcap_io::{Line, StdSink, StdSource, TcpPeer, TcpPort};
 /// answers 0, what passed over them is what the command says: of `serve`, the bytes that were taken on each socket are the replies
 /// to what was given on it; of `replay`, the same of the input and the output; of `check`, the bytes that were given are a valid
 /// document. The watchers were told exactly the changes that were made, in order.
-pub fn run_on_system<N: Net + Drop, I: Read, O: Write, E: Write, W: Watchers<Edit>>(
+pub fn run_on_system<N: Net + Clock + Drop, I: Read, O: Write, E: Write, W: Watchers<Edit>>(
     alloc: Global,
     words: &[String],
     port: &mut TcpPort<N>,

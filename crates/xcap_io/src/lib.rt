@@ -23,7 +23,7 @@ mod writing;
 pub use bytes::Bytes;
 pub use echo::echo_once;
 pub use gatherer::{Gatherer, flush, put};
-pub use line::{Failed, Line, Peer, Port, Sink, Source};
+pub use line::{Failed, Line, Peer, Port, Sink, Source, fault};
 pub use mem_line::MemLine;
 pub use mem_peer::MemPeer;
 pub use mem_port::MemPort;

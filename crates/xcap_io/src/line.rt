@@ -11,8 +11,8 @@ ghost use Rattle.xcap_io.specs.Streams.{WritesSome};
 #[derive(Clone, Copy, Debug, PartialEq, Eq)]
 pub struct Failed;
 
-/// Counts one fault more.
-pub(crate) fn fault(count: &mut u64) -> Failed
+/// Counts one fault more, which the greatest `u64` bounds.
+pub fn fault(count: &mut u64) -> Failed
     ensures value { count.new ≡ one_more count.old }
     ensures later { count.old ≤ count.new }
     ensures rose { Rose count.old count.new }

@@ -15,16 +15,24 @@ use crate::line::fault;
 use crate::log::Log;
 use crate::remembered::Remembered;
 use crate::{Failed, Line, Port, Sink, Source};
-use std::io::{Read, Write};
+use std::io::{ErrorKind, Read, Write};
 use std::net::{Net, OpenListener, OpenStream, TcpListener};
+use std::time::{Clock, Duration, Instant};
+
+/// How many connections in a row may break before they are taken, until `next` fails.
+const BROKEN_CONNECTIONS: u32 = 100;
 
 /// Connections that come in over TCP. It tells what passed over each, where it listens, and its counts of faults; not what is
 /// still to come. A want of memory inside a call is a fault like any other.
+///
+/// No peer holds it for long: a read or write that waits for 10 seconds fails, and so does each that begins 5 minutes after its
+/// connection was taken, as far as the system has such time-outs and a clock.
 #[derive(Drop)]
-pub struct TcpPort<N: Net + Drop> {
+pub struct TcpPort<N: Net + Clock + Drop> {
     net: N,
     listener: Option<N::Listener>,
     stream: Option<N::Stream>,
+    last_moment: Option<Instant>,
     log: Log,
     addresses: Remembered,
     read_faults: u64,
@@ -32,7 +40,7 @@ pub struct TcpPort<N: Net + Drop> {
     faults: u64,
 }
 
-impl<N: Net + Drop> TcpPort<N> {
+impl<N: Net + Clock + Drop> TcpPort<N> {
     /// A port that listens nowhere yet.
     pub fn new(net: N) -> TcpPort<N>
         ensures nothing_passed { ⟦<TcpPort<N> as Line>⟧.state result ≡ record {
@@ -50,6 +58,7 @@ impl<N: Net + Drop> TcpPort<N> {
             net,
             listener: None,
             stream: None,
+            last_moment: None,
             log: Log::new(),
             addresses: Remembered::new(),
             read_faults: 0,
@@ -59,7 +68,7 @@ impl<N: Net + Drop> TcpPort<N> {
     }
 }
 
-impl<N: Net + Drop> Line for TcpPort<N> {
+impl<N: Net + Clock + Drop> Line for TcpPort<N> {
     ghost state = { λ p. record {
       inward = inward_of p.log.history.now;
       taken = p.log.history.now.taken;
@@ -129,17 +138,27 @@ pub(crate) fn write_to<S: Write>(
     }
 }
 
-// The next connection, which this may wait for; nothing where nobody listens, or it failed.
+// The next connection, which this may wait for, also behind some that broke before they were taken; nothing where nobody listens,
+// or it failed.
 fn accept_next<L: OpenListener>(listener: &Option<L>) -> Option<L::Stream>
     ensures only_while_it_listens { IfSome result (λ _. IsSome listener.now) }
 {
     match listener {
-        Some(listener) => match listener.accept() {
-            Ok((stream, _)) => Some(stream),
-            Err(_) => None,
-        },
+        Some(listener) => accept_whole(listener),
         None => None,
     }
+}
+
+// The next connection that didn't break before it was taken.
+fn accept_whole<L: OpenListener>(listener: &L) -> Option<L::Stream> {
+    for _ in 0..BROKEN_CONNECTIONS {
+        match listener.accept() {
+            Ok((stream, _)) => return Some(stream),
+            Err(fault) if fault.kind() == ErrorKind::ConnectionAborted => (),
+            Err(_) => return None,
+        }
+    }
+    None
 }
 
 // Writes are few and large here, so none waits in the system for more. A socket that can't do so works all the same.
@@ -147,7 +166,27 @@ pub(crate) fn send_at_once<S: OpenStream>(stream: &S) {
     let _ = stream.set_nodelay(true);
 }
 
-impl<N: Net + Drop> Source for TcpPort<N> {
+// A call on this stream waits for 10 seconds at most. A socket that can't do so works all the same.
+fn wait_briefly<S: OpenStream>(stream: &S) {
+    let limit = Some(Duration::from_secs(10));
+    let _ = stream.set_read_timeout(limit);
+    let _ = stream.set_write_timeout(limit);
+}
+
+// The moment after which calls on a connection that begins now fail: 5 minutes later. None where the clock can't be read.
+fn last_moment<C: Clock>(clock: &C) -> Option<Instant> {
+    Instant::now(clock).ok()?.checked_add(Duration::from_secs(300))
+}
+
+// Whether this moment has passed.
+fn has_passed<C: Clock>(clock: &C, moment: Option<Instant>) -> bool {
+    match (Instant::now(clock), moment) {
+        (Ok(now), Some(moment)) => now > moment,
+        _ => false,
+    }
+}
+
+impl<N: Net + Clock + Drop> Source for TcpPort<N> {
     fn read(&mut self, buf: &mut [u8]) -> Result<usize, Failed>
         requires { 0 < length buf.old }
         ensures bound { ReadsAtMost result buf.new }
@@ -158,11 +197,14 @@ impl<N: Net + Drop> Source for TcpPort<N> {
         ensures from_stream { ReadsStream N.Stream.remaining self.old.stream self.new.stream result buf.new }
         ensures same_listener { self.new.listener ≡ self.old.listener }
     {
+        if has_passed(&self.net, self.last_moment) {
+            return Err(fault(&mut self.read_faults));
+        }
         read_from(&mut self.stream, &mut self.log, &mut self.read_faults, buf)
     }
 }
 
-impl<N: Net + Drop> Sink for TcpPort<N> {
+impl<N: Net + Clock + Drop> Sink for TcpPort<N> {
     fn write(&mut self, piece: &[u8]) -> Result<usize, Failed>
         requires { 0 < length piece.now }
         ensures bound { WritesSome result piece.now }
@@ -173,6 +215,9 @@ impl<N: Net + Drop> Sink for TcpPort<N> {
         ensures to_stream { WritesStream N.Stream.contents self.old.stream self.new.stream result piece.now }
         ensures same_listener { self.new.listener ≡ self.old.listener }
     {
+        if has_passed(&self.net, self.last_moment) {
+            return Err(fault(&mut self.write_faults));
+        }
         write_to(
             &mut self.stream,
             &mut self.log,
@@ -182,7 +227,7 @@ impl<N: Net + Drop> Sink for TcpPort<N> {
     }
 }
 
-impl<N: Net + Drop> Port for TcpPort<N> {
+impl<N: Net + Clock + Drop> Port for TcpPort<N> {
     fn listen(&mut self, address: &str) -> Result<(), Failed>
         ensures listens { Listens
             (⟦<TcpPort<N> as Line>⟧.state self.old) (⟦<TcpPort<N> as Line>⟧.state self.new) result address.now }
@@ -218,6 +263,8 @@ impl<N: Net + Drop> Port for TcpPort<N> {
         match accept_next(&self.listener) {
             Some(stream) => {
                 send_at_once(&stream);
+                wait_briefly(&stream);
+                self.last_moment = last_moment(&self.net);
                 self.stream = Some(stream);
                 self.log.begin();
                 Ok(true)

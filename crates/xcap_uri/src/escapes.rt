@@ -10,8 +10,8 @@ use std::alloc::Global;
 use tree_text::ReadError;
 use xml_tree::Text;
 
-// Whether two hexadecimal digits follow each `%`.
-fn has_whole_escapes(part: &[u8]) -> bool
+/// Whether two hexadecimal digits follow each `%`.
+pub fn has_whole_escapes(part: &[u8]) -> bool
     ensures tells_whether_all_are_whole { result ≡ has_whole_escapes part.now }
 {
     let mut rest = part;

@@ -16,6 +16,8 @@ mod shape;
 mod target;
 
 pub use ancestors::{ancestor_uri, home_uri};
+pub use cutting::cut;
+pub use escapes::has_whole_escapes;
 pub use fault::UriFault;
 pub use laws::{
     printed_id_reads_back, queries_have_one_reading, roots_are_spelled_by_the_grammar,

@@ -1,5 +1,5 @@
 -- How a change is planned: why a tree is refused, by what was found of it; what planning answers; what a step makes of the entries.
-use Rattle.std.specs.Prelude.{◌≡◌, ℕ, ◌+◌, nat_lt, Bool, not, List, [], ◌∷◌, ◌++◌, map, filter, ◌⊎◌, Option, None, Some, option_map, Result, Ok, Err, if◌then◌else◌}
+use Rattle.std.specs.Prelude.{◌≡◌, ℕ, ◌+◌, nat_lt, Bool, not, List, [], ◌∷◌, ◌++◌, map, filter, Option, None, Some, option_map, Result, Ok, Err, if◌then◌else◌}
 use Rattle.std.specs.Map.{lookup}
 use Rattle.std.specs.Option.{option_or}
 use Rattle.usage_docs.specs.Services.{document_len}
@@ -19,7 +19,7 @@ use Rattle.store_core.specs.declared.entry.Entry.{Entry}
 use Rattle.store_core.specs.declared.step.Step.{Step}
 use Rattle.store_core.specs.declared.step.Step.TheVariants.{Make, Edit, End}
 use Rattle.store_core.specs.declared.refusal.StoreRefusal.{StoreRefusal}
-use Rattle.store_core.specs.declared.refusal.StoreRefusal.TheVariants.{ServiceTaken, TooLarge, TooMany, StoreFull, NoMemory}
+use Rattle.store_core.specs.declared.refusal.StoreRefusal.TheVariants.{ServiceTaken, TooLarge, TooMany, StoreFull}
 use Rattle.store_core.specs.Held.{Held, Stock}
 use Rattle.store_core.specs.Changing.{changing, document_in, held_name, only_if}
 use Rattle.store_core.specs.inner.Storing.{IsRenewed}
@@ -44,10 +44,10 @@ IsNoted doc v number change len leaves enters total p =
     (note : EditNote) × (staged : Staged) × (note_in note ≡ note_of v.tag number v.tree change) × IsStaged v.tree change staged
     × (p ≡ record { doc = doc; note = note_in note; step = Edit staged note len; leaves = leaves; enters = enters; total = total })
 
--- what planning a change answers: the change with its memory, as it was asked for; or the reason against it, or want of memory
+-- what planning a change answers: the change with its memory, as it was asked for; or the reason against it
 unfoldable pub Plans : Stock → DocId → Change → Result Readied StoreRefusal → Type 0
 Plans c doc change (Ok p) = (p.doc ≡ doc) × (p.note.change ≡ change) × IsPlanned c p
-Plans c doc change (Err e) = (changing c doc change ≡ Err e) ⊎ (e ≡ NoMemory)
+Plans c doc change (Err e) = changing c doc change ≡ Err e
 
 -- the number is that under which the document's addresses are entered
 abbrev pub Stepped : List (DocId × Entry) → DocId → ℕ → Step → ℕ → List (DocId × Entry) → Type 0

@@ -1,13 +1,10 @@
 use Rattle.std.proofs.Common.{Ok, sym, subst, ◌∙◌, arith}
-use Rattle.std.proofs.lemmas.Result.{err_from_is_err_and}
 use Rattle.edit_ops.specs.declared.change.Change.TheVariants.{CreateDocument}
+use Rattle.store_core.specs.declared.refusal.StoreRefusal.TheVariants.{NoNumber}
 use Rattle.store_core.specs.Preparing.{Readied}
-use Rattle.store_core.proofs.PlanAnswers.{creation-planned, creation-refused, creation-room, creation-unnumbered, plans-wanting}
+use Rattle.store_core.proofs.PlanAnswers.{creation-planned, creation-refused, creation-room, creation-unnumbered}
 use Rattle.store_core.specs.inner.Planning.{Plans}
 use Rattle.store_core.proofs.store.Store.plan_creation.Goals as goal
-
-pub returns-in_err-enters : goal.returns-in_err-enters
-returns-in_err-enters c = record { plans_the_creation = plans-wanting c.args.self.now.content c.args.doc.now (CreateDocument c.args.root) c.from_residual.result c.from_residual.ensures.1 }
 
 pub refusal_of_new-requires : goal.refusal_of_new-requires
 refusal_of_new-requires c = c.requires.0
@@ -15,20 +12,16 @@ refusal_of_new-requires c = c.requires.0
 pub returns-in-Some : goal.returns-in-Some
 returns-in-Some c = record { plans_the_creation = creation-refused c.args.self.now.content c.args.doc.now c.args.root c.in-Some.refusal (sym (c.in-Some.ensures.first_reason_against_a_new_one c.args.root c.document_len-len.ensures.counts_the_document (c.as_slice.ensures.lends_the_items ∙ c.in_ok-enters.ensures.addresses_of_the_usage))) }
 
-pub returns-in_err-number : goal.returns-in_err-number
-returns-in_err-number c = record {
+pub returns-in_default-next_number : goal.returns-in_default-next_number
+returns-in_default-next_number c = record {
   plans_the_creation =
-      let p = err_from_is_err_and c.from_residual-in_err-number.result c.from_residual-in_err-number.ensures.1 in
-      rw (p.1, p.2) (creation-unnumbered c.args.self.now.content c.args.doc.now c.args.root c.in_err-number.field-0.0 (sym (c.refusal_of_new.ensures.first_reason_against_a_new_one c.args.root c.document_len-len.ensures.counts_the_document (c.as_slice.ensures.lends_the_items ∙ c.in_ok-enters.ensures.addresses_of_the_usage)) ∙ c.in_default.is) c.in_err-number.ensures.err);
+      creation-unnumbered c.args.self.now.content c.args.doc.now c.args.root NoNumber (sym (c.refusal_of_new.ensures.first_reason_against_a_new_one c.args.root c.document_len-len.ensures.counts_the_document (c.as_slice.ensures.lends_the_items ∙ c.in_ok-enters.ensures.addresses_of_the_usage)) ∙ c.in_default.is) (c.next_number.ensures.none c.in_default-next_number.is);
 }
 
 pub creation-requires : goal.creation-requires
 creation-requires c =
     let room = creation-room c.args.self.now.content c.args.doc.now c.args.root c.requires.0 (sym (c.refusal_of_new.ensures.first_reason_against_a_new_one c.args.root c.document_len-len.ensures.counts_the_document (c.as_slice.ensures.lends_the_items ∙ c.in_ok-enters.ensures.addresses_of_the_usage)) ∙ c.in_default.is) in
     omega (arith, c.document_len-len.ensures.counts_the_document, room.1)
-
-pub returns-in_err-prepared : goal.returns-in_err-prepared
-returns-in_err-prepared c = record { plans_the_creation = plans-wanting c.args.self.now.content c.args.doc.now (CreateDocument c.args.root) c.from_residual-in_err-prepared.result c.from_residual-in_err-prepared.ensures.1 }
 
 pub returns : goal.returns
 returns c = record {
@@ -37,6 +30,6 @@ returns c = record {
       let free = sym (c.refusal_of_new.ensures.first_reason_against_a_new_one c.args.root c.document_len-len.ensures.counts_the_document (c.as_slice.ensures.lends_the_items ∙ c.in_ok-enters.ensures.addresses_of_the_usage)) ∙ c.in_default.is in
       let room = creation-room content c.args.doc.now c.args.root c.requires.0 free in
       subst (λ (p : Readied). Plans content c.args.doc.now (CreateDocument c.args.root) (Ok p)) (sym c.in_ok-prepared.ensures.prepares_the_creation)
-      (creation-planned content c.args.doc.now c.args.root c.in_ok-number.number c.saturating_add-total.result c.in_ok-enters.enters c.requires free c.in_ok-number.ensures.ok.1 c.in_ok-number.ensures.ok.0 c.in_ok-enters.ensures.addresses_of_the_usage
+      (creation-planned content c.args.doc.now c.args.root c.in-Some-next_number.number c.saturating_add-total.result c.in_ok-enters.enters c.requires free c.in-Some-next_number.ensures.some.1 c.in-Some-next_number.ensures.some.0 c.in_ok-enters.ensures.addresses_of_the_usage
       (omega (arith, room.0, room.1, c.total-sum.ensures.sums_their_lengths, c.document_len-len.ensures.counts_the_document, c.saturating_add-total.ensures)));
 }

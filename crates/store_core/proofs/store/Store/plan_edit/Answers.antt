@@ -1,25 +1,19 @@
 use Rattle.std.proofs.Common.{◌≡◌, ℕ, ◌+◌, List, IsSomeAnd, Option, ap, subst, sym, ◌∙◌, arith}
-use Rattle.std.proofs.lemmas.Result.{err_from_is_err_and}
 use Rattle.xml_tree.specs.Tree.{Tree}
 use Rattle.usage_docs.specs.Services.{document_len}
 use Rattle.edit_ops.specs.Changes.{Fits, edited}
 use Rattle.store_core.specs.Changing.{document_in, held_name}
 use Rattle.store_core.specs.Held.{Held}
+use Rattle.store_core.specs.declared.refusal.StoreRefusal.TheVariants.{NoNumber}
 use Rattle.store_core.specs.Keeping.{addresses_in}
 use Rattle.store_core.specs.inner.Addresses.{AreExchanged}
 use Rattle.store_core.specs.Preparing.{total_of}
 use Rattle.store_core.proofs.Asked.{asked, asks-held}
-use Rattle.store_core.proofs.PlanAnswers.{edit-exchanged, edit-planned, edit-refused, edit-room, edit-unnumbered, plans-wanting, some-held}
+use Rattle.store_core.proofs.PlanAnswers.{edit-exchanged, edit-planned, edit-refused, edit-room, edit-unnumbered, some-held}
 use Rattle.store_core.proofs.store.Store.plan_edit.Goals as goal
 
 pub held-entry-requires : goal.held-entry-requires
 held-entry-requires c = asks-held c.args.self.now.content c.args.doc.now c.args.change c.requires.edits c.requires.asks
-
-pub returns-in_err-leaves : goal.returns-in_err-leaves
-returns-in_err-leaves c = record { plans_the_edit = plans-wanting c.args.self.now.content c.args.doc.now c.args.change c.from_residual.result c.from_residual.ensures.1 }
-
-pub returns-in_err-enters : goal.returns-in_err-enters
-returns-in_err-enters c = record { plans_the_edit = plans-wanting c.args.self.now.content c.args.doc.now c.args.change c.from_residual-in_err-enters.result c.from_residual-in_err-enters.ensures.1 }
 
 pub returns-in-Some : goal.returns-in-Some
 returns-in-Some c = record {
@@ -42,8 +36,8 @@ len_after-len-requires-clause-fits c =
 pub refusal_of_edit-requires : goal.refusal_of_edit-requires
 refusal_of_edit-requires c = some-held (document_in held_name c.args.self.now.content.documents c.args.doc.now) c.held-entry.ensures.entry_that_is_held.0 c.held-entry.ensures.entry_that_is_held.1
 
-pub returns-in_err-number : goal.returns-in_err-number
-returns-in_err-number c = record {
+pub returns-in_default-next_number : goal.returns-in_default-next_number
+returns-in_default-next_number c = record {
   plans_the_edit =
       let h = c.held-entry.ensures.entry_that_is_held in
       let tree = edited c.held-entry.result.now.tree c.args.change in
@@ -51,10 +45,8 @@ returns-in_err-number c = record {
       edit-exchanged c.args.self.now.content c.args.doc.now c.args.change h.0 c.held-entry.result.now.tree c.first_number-first.result c.in_ok-leaves.leaves c.as_slice.result.now c.requires.asks c.requires.edits h.1 h.2
       c.held-entry.ensures.sound c.first_number-first.ensures.first_that_comes c.in_ok-leaves.ensures.addresses_of_the_usage_that_leave
       (c.as_slice.ensures.lends_the_items ∙ c.in_ok-enters.ensures.addresses_of_the_usage_that_enter) in
-      let p = err_from_is_err_and c.from_residual-in_err-number.result c.from_residual-in_err-number.ensures.1 in
-      rw (p.1, p.2)
-      (edit-unnumbered c.args.self.now.content c.args.doc.now c.args.change h.0 tree c.in_err-number.field-0.0 c.requires.edits h.1 (ap (λ (t : Tree). edited t c.args.change) (sym h.2))
-      (sym (c.refusal_of_edit.ensures.first_reason_against_an_edited_one h.0 tree c.in_ok-leaves.leaves h.1 c.len_after-len.ensures.counts_the_changed_document exchanged) ∙ c.in_default.is) c.in_err-number.ensures.err);
+      edit-unnumbered c.args.self.now.content c.args.doc.now c.args.change h.0 tree NoNumber c.requires.edits h.1 (ap (λ (t : Tree). edited t c.args.change) (sym h.2))
+      (sym (c.refusal_of_edit.ensures.first_reason_against_an_edited_one h.0 tree c.in_ok-leaves.leaves h.1 c.len_after-len.ensures.counts_the_changed_document exchanged) ∙ c.in_default.is) (c.next_number.ensures.none c.in_default-next_number.is);
 }
 
 pub total_without-others-requires : goal.total_without-others-requires
@@ -64,9 +56,6 @@ pub noted-requires : goal.noted-requires
 noted-requires c =
     let h = c.held-entry.ensures.entry_that_is_held in
     subst (λ (t : Tree). Fits t c.args.change) h.2 (asked c.args.self.now.content c.args.doc.now c.args.change h.0 c.requires.edits h.1 c.requires.asks).0
-
-pub returns-in_err-prepared : goal.returns-in_err-prepared
-returns-in_err-prepared c = record { plans_the_edit = plans-wanting c.args.self.now.content c.args.doc.now c.args.change c.from_residual-in_err-prepared.result c.from_residual-in_err-prepared.ensures.1 }
 
 pub returns : goal.returns
 returns c = record {
@@ -85,8 +74,8 @@ returns c = record {
       let room = edit-room content doc tree free in
       let others = c.total_without-others.result in
       let whole = subst (λ (o : Option Held). IsSomeAnd o (λ x. others + document_len x.tree ≡ total_of content)) h.1 c.total_without-others.ensures.whole in
-      edit-planned content doc change v c.in_ok-number.number c.len_after-len.result c.saturating_add-total.result c.in_ok-leaves.leaves c.in_ok-enters.enters c.in_ok-prepared.prepared c.requires.asks c.requires.edits h free
-      c.in_ok-number.ensures.ok.1 c.in_ok-number.ensures.ok.0 (omega (arith, c.len_after-len.ensures.counts_the_changed_document, room.1))
+      edit-planned content doc change v c.in-Some-next_number.number c.len_after-len.result c.saturating_add-total.result c.in_ok-leaves.leaves c.in_ok-enters.enters c.in_ok-prepared.prepared c.requires.asks c.requires.edits h free
+      c.in-Some-next_number.ensures.some.1 c.in-Some-next_number.ensures.some.0 (omega (arith, c.len_after-len.ensures.counts_the_changed_document, room.1))
       c.first_number-first.result (subst (λ (us : List (List ℕ)). AreExchanged c.first_number-first.result (addresses_in doc.auid h.0.tree) c.in_ok-leaves.leaves us (addresses_in doc.auid tree)) c.as_slice.ensures.lends_the_items exchanged)
       (omega (arith, room.0, room.1, whole, ap document_len h.2, c.total_without-others.ensures.others, c.len_after-len.ensures.counts_the_changed_document, c.saturating_add-total.ensures)) c.in_ok-prepared.ensures.notes_the_edit;
 }

@@ -1,34 +1,24 @@
 use Rattle.std.proofs.Common.{◌≡◌, ◌+◌, IsSomeAnd, Option, Ok, sym, ap, subst, ◌∙◌}
-use Rattle.std.proofs.lemmas.Result.{err_from_is_err_and}
 use Rattle.xml_tree.specs.Tree.{Tree}
 use Rattle.usage_docs.specs.Services.{document_len}
 use Rattle.edit_ops.specs.declared.change.Change.TheVariants.{RemoveDocument}
 use Rattle.store_core.specs.Held.{Held}
 use Rattle.store_core.specs.Keeping.{addresses_in}
 use Rattle.store_core.specs.Changing.{document_in, held_name}
+use Rattle.store_core.specs.declared.refusal.StoreRefusal.TheVariants.{NoNumber}
 use Rattle.store_core.specs.Preparing.{Readied, total_of}
-use Rattle.store_core.proofs.PlanAnswers.{held-of, nothing-read, plans-wanting, removal-planned, removal-unnumbered}
+use Rattle.store_core.proofs.PlanAnswers.{held-of, nothing-read, removal-planned, removal-unnumbered}
 use Rattle.store_core.specs.inner.Planning.{Plans}
 use Rattle.store_core.proofs.store.Store.plan_removal.Goals as goal
 
 pub unreachable-requires : goal.unreachable-requires
 unreachable-requires c = nothing-read (document_in held_name c.args.self.now.content.documents c.args.doc.now) (rw c.in_default.is at c.get.ensures.held) c.requires
 
-pub returns-in_err-number : goal.returns-in_err-number
-returns-in_err-number c = record {
-  plans_the_removal =
-      let p = err_from_is_err_and c.from_residual.result c.from_residual.ensures.1 in
-      rw (p.1, p.2) (removal-unnumbered c.args.self.now.content c.args.doc.now c.in_err-number.field-0.0 c.in_err-number.ensures.err);
-}
-
-pub returns-in_err-leaves : goal.returns-in_err-leaves
-returns-in_err-leaves c = record { plans_the_removal = plans-wanting c.args.self.now.content c.args.doc.now RemoveDocument c.from_residual-in_err-leaves.result c.from_residual-in_err-leaves.ensures.1 }
+pub returns-in_default-next_number : goal.returns-in_default-next_number
+returns-in_default-next_number c = record { plans_the_removal = removal-unnumbered c.args.self.now.content c.args.doc.now NoNumber (c.next_number.ensures.none c.in_default-next_number.is) }
 
 pub total_without-total-requires : goal.total_without-total-requires
 total_without-total-requires c = c.requires
-
-pub returns-in_err-prepared : goal.returns-in_err-prepared
-returns-in_err-prepared c = record { plans_the_removal = plans-wanting c.args.self.now.content c.args.doc.now RemoveDocument c.from_residual-in_err-prepared.result c.from_residual-in_err-prepared.ensures.1 }
 
 pub returns : goal.returns
 returns c = record {
@@ -38,7 +28,7 @@ returns c = record {
       let h = held-of (document_in held_name content.documents doc) c.in-Some.tree.now c.in-Some.tag c.in-Some.ensures.held in
       let total = c.total_without-total.result in
       subst (λ (p : Readied). Plans content doc RemoveDocument (Ok p)) (sym c.in_ok-prepared.ensures.prepares_the_removal)
-      (removal-planned content doc h.0 c.in-Some.tag c.in_ok-number.number total c.in_ok-leaves.leaves c.requires h.1 c.in_ok-number.ensures.ok.1 c.in_ok-number.ensures.ok.0 h.3
+      (removal-planned content doc h.0 c.in-Some.tag c.in-Some-next_number.number total c.in_ok-leaves.leaves c.requires h.1 c.in-Some-next_number.ensures.some.1 c.in-Some-next_number.ensures.some.0 h.3
       (c.in_ok-leaves.ensures.addresses_of_the_usage ∙ ap (λ (t : Tree). addresses_in doc.auid t) (sym h.2))
       (subst (λ (o : Option Held). IsSomeAnd o (λ x. total + document_len x.tree ≡ total_of content)) h.1 c.total_without-total.ensures.whole));
 }
