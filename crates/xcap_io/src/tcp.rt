@@ -175,7 +175,9 @@ fn wait_briefly<S: OpenStream>(stream: &S) {
 
 // The moment after which calls on a connection that begins now fail: 5 minutes later. None where the clock can't be read.
 fn last_moment<C: Clock>(clock: &C) -> Option<Instant> {
-    Instant::now(clock).ok()?.checked_add(Duration::from_secs(300))
+    Instant::now(clock)
+        .ok()?
+        .checked_add(Duration::from_secs(300))
 }
 
 // Whether this moment has passed.
