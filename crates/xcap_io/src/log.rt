@@ -7,8 +7,8 @@ use std::marker::Model;
 
 /// What the calls on a line gave and took so far, as a contract sees it. Each call here is made beside the one that it tells of.
 #[derive(Drop)]
-pub(crate) struct Log {
-    pub(crate) ghost history: { History },
+pub struct Log {
+    pub ghost history: { History },
 }
 
 impl Model for Log {
@@ -17,29 +17,29 @@ impl Model for Log {
 
 impl Log {
     /// Nothing has passed.
-    pub(crate) fn new() -> Log
+    pub fn new() -> Log
         ensures nothing { result.history ≡ no_history }
     {
         Log {}
     }
 
     /// A read gave these bytes, and none where it found the end.
-    pub(crate) fn gave(&mut self, _bytes: &[u8])
+    pub fn gave(&mut self, _bytes: &[u8])
         ensures given { self.new.history ≡ with_given self.old.history _bytes.now }
     {}
 
     /// A write handed these bytes over.
-    pub(crate) fn took(&mut self, _bytes: &[u8])
+    pub fn took(&mut self, _bytes: &[u8])
         ensures taken { self.new.history ≡ with_taken self.old.history _bytes.now }
     {}
 
     /// The present connection ended, if one was present.
-    pub(crate) fn end(&mut self)
+    pub fn end(&mut self)
         ensures ended { self.new.history ≡ with_end self.old.history }
     {}
 
     /// Another connection began, behind those that ended.
-    pub(crate) fn begin(&mut self)
+    pub fn begin(&mut self)
         ensures begun { self.new.history ≡ with_next self.old.history }
     {}
 }

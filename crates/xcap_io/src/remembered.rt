@@ -6,8 +6,8 @@ use std::marker::Model;
 
 /// The addresses that a peer or a port in memory was given, the latest first, as a contract sees them.
 #[derive(Drop)]
-pub(crate) struct Remembered {
-    pub(crate) ghost texts: { List (List ℕ) },
+pub struct Remembered {
+    pub ghost texts: { List (List ℕ) },
 }
 
 impl Model for Remembered {
@@ -16,14 +16,14 @@ impl Model for Remembered {
 
 impl Remembered {
     /// Nothing yet.
-    pub(crate) fn new() -> Remembered
+    pub fn new() -> Remembered
         ensures remembers_nothing { result.texts ≡ [] }
     {
         Remembered {}
     }
 
     /// One address more.
-    pub(crate) fn add(&mut self, _text: &[u8])
+    pub fn add(&mut self, _text: &[u8])
         ensures remembers_the_address { self.new.texts ≡ _text.now ∷ self.old.texts }
     {}
 }
