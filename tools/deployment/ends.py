@@ -95,6 +95,10 @@ def without_a_proxy(report, stage):
         report.holds("while a client of its own port is silent, others wait", waits, seen)
         for _ in range(50):
             reset(port)
-    what = "they are served when it has gone, and so have 50 that came in between"
-    report.status(what, put_directly(port), 200)
+        began = time.monotonic()
+        answer = put_directly(port, "-m", "20")
+        seconds = time.monotonic() - began
+        seen = f"{answer.status} after {seconds:.1f} s more"
+        what = "it is dropped 10 s after its last byte, and they are served, behind 50 that broke"
+        report.holds(what, answer.status == 200 and seconds < 10, seen)
     stage.end(served)
