@@ -1,0 +1,5 @@
+mod Addresses
+mod Allowed
+pub mod Numerals
+mod Printed
+pub mod Words
