@@ -1,0 +1,4 @@
+mod Asked
+mod Holds
+mod Replies
+mod Taking

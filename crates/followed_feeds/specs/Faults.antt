@@ -1,0 +1,15 @@
+-- How the faults of the parts are told by the whole.
+use Rattle.tree_text.specs.declared.fault.ReadError.{ReadError}
+use Rattle.tree_text.specs.declared.fault.ReadError.TheVariants as errors
+use Rattle.patch_apply.specs.declared.fault.ApplyFault.{ApplyFault}
+use Rattle.patch_apply.specs.declared.fault.NoticeFault.{NoticeFault}
+use Rattle.followed_feeds.specs.declared.fault.FollowFault.{FollowFault}
+use Rattle.followed_feeds.specs.declared.fault.FollowFault.TheVariants as faults
+
+abbrev pub notice_fault : ReadError NoticeFault → FollowFault
+notice_fault (errors.Fault fault) = faults.Notice fault
+notice_fault errors.NoMemory = faults.NoMemory
+
+abbrev pub apply_fault : ReadError ApplyFault → FollowFault
+apply_fault (errors.Fault fault) = faults.Apply fault
+apply_fault errors.NoMemory = faults.NoMemory

@@ -1,0 +1,4 @@
+pub mod Faults
+pub mod Following
+pub mod Holding
+pub mod inner

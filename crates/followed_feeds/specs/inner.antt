@@ -1,0 +1,2 @@
+-- What private functions and proofs speak of; no public contract cites it.
+pub mod Asking
