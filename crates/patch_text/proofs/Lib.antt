@@ -1,4 +1,6 @@
 pub mod Built
+pub mod BuiltElements
+pub mod ElementWords
 pub mod FreePrefix
 pub mod Gaining
 pub mod Listing

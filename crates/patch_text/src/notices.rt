@@ -124,7 +124,7 @@ fn push_each(
 
 // A notice without documents, under the server's root.
 #[tactic(auto, using(crate::proofs::Words::words))]
-fn empty_notice(alloc: Global, prefix: &Text, root: &str) -> Result<Element, AllocError>
+pub(crate) fn empty_notice(alloc: Global, prefix: &Text, root: &str) -> Result<Element, AllocError>
     ensures notice_without_documents { IfOk result (λ made. made ≡ diff prefix.now (chars root.now) []) }
 {
     let mut made = element_of(alloc, prefix, "xcap-diff")?;

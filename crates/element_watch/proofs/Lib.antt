@@ -1,0 +1,10 @@
+pub mod Addresses
+pub mod Before
+pub mod Bounds
+pub mod Chain
+pub mod Coming
+pub mod SinceTag
+pub mod SmallPaths
+pub mod States
+pub mod Telling
+pub mod Ways

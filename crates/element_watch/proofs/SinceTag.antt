@@ -1,0 +1,165 @@
+-- What is told since a tag, and the versions of the document from that tag on.
+use Rattle.std.proofs.Common.{◌≡◌, ℕ, ◌≤◌, Bool, true, false, cond, List, [], ◌∷◌, ◌++◌, length, map, reverse, Option, None, Some, IsSome, IsSomeAnd, option_map, find, slice_get, eqb-true, append_assoc, append-nil, refl, sym, ap, ◌∙◌, subst, inl, inr}
+use Rattle.std.specs.Prelude.{◌==◌}
+use Rattle.std.proofs.lemmas.List.{reverse-append, reverse-reverse}
+use Rattle.std.proofs.lemmas.Option.{same_Some}
+use Rattle.std.specs.List.{AllByRecursion}
+use Rattle.xml_tree.specs.Tree.{Tree, at}
+use Rattle.doc_names.specs.Same.{same_id}
+use Rattle.doc_names.specs.Usages.{usage_of}
+use Rattle.doc_names.specs.declared.doc_id.DocId.{DocId}
+use Rattle.doc_names.specs.declared.usages.Usage.{Usage}
+use Rattle.node_select.specs.Selection.{SelectsPath}
+use Rattle.node_select.specs.declared.selector.Selector.{Selector}
+use Rattle.node_select.proofs.Along.{one_path, path_there}
+use Rattle.notes.specs.Notes.{Note}
+use Rattle.notes.specs.Operations.{weight}
+use Rattle.key_laws.specs.KeyAddresses.{IsKeyAddressOf}
+use Rattle.store_core.specs.Changing.{document_in, document_name, held_name}
+use Rattle.store_core.specs.Held.{Held, Stands, Stock, held_of}
+use Rattle.store_core.specs.Keeping.{IsKept, IsSound, IsSoundFor, Kept}
+use Rattle.store_core.specs.Since.{Told, held_since, notes_from, since, story_of}
+use Rattle.store_core.specs.State.{Document, State, Version, is_small, notes, retained, small_end, versions}
+use Rattle.store_core.proofs.Accepted.{find-map}
+use Rattle.store_core.proofs.Asked.{found-name}
+use Rattle.store_core.proofs.Chains.{notes_of}
+use Rattle.element_watch.specs.Finding.{FindFrom, FindSince, Finds, notes_behind}
+use Rattle.element_watch.specs.Touching.{PassesThrough}
+use Rattle.element_watch.specs.Watching.{IsQuiet}
+use Rattle.element_watch.proofs.Chain.{begins_with, found_in_each}
+
+-- ---- ends of lists
+
+-- what is retained is an end
+retained_end : {A : Type 0} (w : A → ℕ) (xs : List A) → (front : List A) × (xs ≡ front ++ small_end w xs)
+retained_end {A = A} w [] = ([], refl)
+retained_end {A = A} w (x ∷ []) = ([], refl)
+retained_end {A = A} w (x ∷ y ∷ xs) = by (is_small w (x ∷ y ∷ xs)) (retained_end w (y ∷ xs))
+  where
+    by : (b : Bool) → (front : List A) × (y ∷ xs ≡ front ++ small_end w (y ∷ xs)) → (front : List A) × (x ∷ y ∷ xs ≡ front ++ cond b (x ∷ y ∷ xs) (small_end w (y ∷ xs)))
+    by true r = ([], refl)
+    by false r = (x ∷ r.0, ap (λ l. x ∷ l) r.1)
+
+-- a list ends with notes of which the first goes on from the tag
+record EndsWith (tag : ℕ) (ns xs : List Note) : Type 0 where
+  front : List Note
+  whole : xs ≡ front ++ ns
+  note : Note
+  later : List Note
+  parts : ns ≡ note ∷ later
+  goes_on : note.previous ≡ tag
+
+from_tag : (tag : ℕ) (xs ns : List Note) → notes_from tag xs ≡ Some ns → EndsWith tag ns xs
+from_tag tag [] ns h = cc
+from_tag tag (x ∷ xs) ns h = by (x.previous == tag) refl h (from_tag tag xs ns)
+  where
+    by : (b : Bool) → x.previous == tag ≡ b → cond b (Some (x ∷ xs)) (notes_from tag xs) ≡ Some ns → (notes_from tag xs ≡ Some ns → EndsWith tag ns xs) → EndsWith tag ns (x ∷ xs)
+    by true e s f =
+        let same : x ∷ xs ≡ ns = same_Some (x ∷ xs) ns s in record { front = []; whole = same; note = x; later = xs; parts = sym same; goes_on = eqb-true x.previous tag e }
+    by false e s f = let r = f s in record { front = x ∷ r.front; whole = ap (λ l. x ∷ l) r.whole; note = r.note; later = r.later; parts = r.parts; goes_on = r.goes_on }
+
+told_notes : (o : Option (List Note)) (ns : List Note) → story_of o ≡ Told ns → o ≡ Some ns
+told_notes None ns h = cc
+told_notes (Some xs) ns h = ap Some (cc)
+
+-- ---- a document that is found
+
+-- its notes end with those that are told since the tag; where these are none, the tag is its own
+record ToldSince (d : Document) (tag : ℕ) (ns : List Note) : Type 0 where
+  front : List Note
+  whole : notes d ≡ front ++ ns
+  same_tag : ns ≡ [] → d.now.tag ≡ tag
+  goes_on : (n : Note) (ms : List Note) → ns ≡ n ∷ ms → n.previous ≡ tag
+
+by_tag : (d : Document) (tag : ℕ) (ns : List Note) (b : Bool) → d.now.tag == tag ≡ b → cond b (Told []) (story_of (notes_from tag (retained (notes d)))) ≡ Told ns → ToldSince d tag ns
+by_tag d tag ns true e h =
+    let none : [] ≡ ns = cc in
+    subst (ToldSince d tag) none (record { front = notes d; whole = sym (append-nil (notes d)); same_tag = λ _. eqb-true d.now.tag tag e; goes_on = λ n ms is. cc })
+by_tag d tag ns false e h =
+    let f = from_tag tag (retained (notes d)) ns (told_notes (notes_from tag (retained (notes d))) ns h) in
+    let g = retained_end weight (notes d) in record {
+      front = g.0 ++ f.front;
+      whole = g.1 ∙ ap (λ (l : List Note). g.0 ++ l) f.whole ∙ sym (append_assoc g.0 f.front ns);
+      same_tag = λ none. let z : f.note ∷ f.later ≡ [] = sym f.parts ∙ none in cc;
+      goes_on = λ n ms is. ap (λ (x : Note). x.previous) (first n f.note ms f.later (sym is ∙ f.parts)) ∙ f.goes_on;
+    }
+  where
+    first : (n m : Note) (ms ks : List Note) → n ∷ ms ≡ m ∷ ks → n ≡ m
+    first n m ms ks h = cc
+
+kept_found : (next : ℕ) (id : DocId) (ds : List Document) (d : Document) → AllByRecursion (IsKept next) ds → find (λ x. same_id id x.id) ds ≡ Some d → IsKept next d
+kept_found next id [] d all h = cc
+kept_found next id (x ∷ ds) d all h = by (same_id id x.id) h (kept_found next id ds d all.1)
+  where
+    by : (b : Bool) → cond b (Some x) (find (λ y. same_id id y.id) ds) ≡ Some d → (find (λ y. same_id id y.id) ds ≡ Some d → IsKept next d) → IsKept next d
+    by true s f = subst (IsKept next) (same_Some x d s) all.0
+    by false s f = f s
+
+made_of : (o : Option Document) (h : Held) → option_map held_of o ≡ Some h → (d : Document) × ((o ≡ Some d) × (held_of d ≡ h))
+made_of None h is = cc
+made_of (Some d) h is = (d, (refl, same_Some (held_of d) h is))
+
+-- ---- the element in each version
+
+-- where nothing is told of an element, the notes pass on a place of it
+former_place : (u : Usage) (t : Tree) (selector : Selector) (ns : List Note) (p : List ℕ) → SelectsPath selector.steps t p → IsQuiet (Some u) t selector ns → (q : List ℕ) × PassesThrough q ns p
+former_place u t selector ns p selects (inl none) = (p, subst (λ (l : List Note). PassesThrough p l p) (sym none) refl)
+former_place u t selector ns p selects (inr h) =
+    let at_it = h.1 in
+    (at_it.former, subst (λ (q : List ℕ). PassesThrough at_it.former ns q) (one_path selector.steps t h.0 p at_it.selects selects) at_it.passes)
+
+some_and : (o : Option Tree) (P : Tree → Type 0) → IsSome o → ((e : Tree) → o ≡ Some e → P e) → IsSomeAnd o P
+some_and None P h f = cc
+some_and (Some e) P h f = f e refl
+
+sound_all : (usage : Option Usage) (u : Usage) (vs : List Version) → usage ≡ Some u → AllByRecursion (λ v. IsSoundFor usage v.tree) vs → AllByRecursion (λ v. IsSound u v.tree) vs
+sound_all usage u vs is all = subst (λ (x : Option Usage). AllByRecursion (λ v. IsSoundFor x v.tree) vs) is all
+
+module _ (u : Usage) (selector : Selector) (p : List ℕ) (d : Document) (next tag : ℕ) (ns : List Note) (kept : IsKept next d) (known : usage_of d.id.auid ≡ Some u) (told : ToldSince d tag ns) where
+  -- its notes, the newest first
+  turned : notes_of (versions d) ≡ reverse ns ++ reverse told.front
+  turned = sym (reverse-reverse (notes_of (versions d))) ∙ ap reverse told.whole ∙ reverse-append told.front ns
+
+  finds_in : SelectsPath selector.steps d.now.tree p → IsKeyAddressOf u d.now.tree selector p → (q : List ℕ) → PassesThrough q ns p → FindFrom (length (reverse ns)) selector.steps d p
+  finds_in selects address q passes =
+      some_and (at p d.now.tree) (λ e. (k : ℕ) (v : Version) → k ≤ length (reverse ns) → slice_get (versions d) k ≡ Some v → Finds selector.steps e v.tree (notes_behind k (versions d)) p)
+      (path_there selector.steps d.now.tree p selects)
+      (λ e there k v le is.
+      subst (λ (l : List Note). Finds selector.steps e v.tree l p) (append-nil (notes_behind k (versions d)))
+      (found_in_each u selector e p d.now d.earlier (reverse ns) (reverse told.front) [] p q (sound_all (usage_of d.id.auid) u (versions d) known kept.sound) kept.follows turned selects address there refl
+      (subst (λ (l : List Note). PassesThrough q l p) (sym (reverse-reverse ns)) passes) k v le is))
+
+  tag_of_first : (x : Version) → (reverse ns ≡ [] → x ≡ d.now) → ((n : Note) (ms : List Note) → reverse (reverse ns) ≡ n ∷ ms → n.previous ≡ x.tag) → x.tag ≡ tag
+  tag_of_first x if_none if_some = by ns refl
+    where
+      by : (l : List Note) → ns ≡ l → x.tag ≡ tag
+      by [] e = ap (λ (v : Version). v.tag) (if_none (ap reverse e)) ∙ told.same_tag e
+      by (n ∷ ms) e = sym (if_some n ms (reverse-reverse ns ∙ e)) ∙ told.goes_on n ms e
+
+  since_found : (m : State) (id : DocId) → document_in document_name m.documents id ≡ Some d → SelectsPath selector.steps d.now.tree p → IsKeyAddressOf u d.now.tree selector p → (q : List ℕ) → PassesThrough q ns p
+      → FindSince m id tag selector.steps p
+  since_found m id there selects address q passes =
+      let first = begins_with d.now d.earlier (reverse ns) (reverse told.front) kept.follows turned in record {
+        document = d;
+        there = there;
+        from = first.0;
+        number = length (reverse ns);
+        is_version = first.1.0;
+        same_tag = tag_of_first first.0 first.1.1.0 first.1.1.1;
+        finds = finds_in selects address q passes;
+      }
+
+pub find_since : (c : Stock) (m : State) (id : DocId) (tag : ℕ) (ns : List Note) (held : Held) (u : Usage) (selector : Selector) (p : List ℕ) → Kept m → Stands c m → since c id tag ≡ Told ns → document_in held_name c.documents id ≡ Some held
+    → usage_of id.auid ≡ Some u → IsQuiet (Some u) held.tree selector ns → SelectsPath selector.steps held.tree p → IsKeyAddressOf u held.tree selector p → FindSince m id tag selector.steps p
+find_since c m id tag ns held u selector p kept stands told there known quiet selects address =
+    let mapped : document_in held_name (map held_of m.documents) id ≡ Some held = ap (λ (x : Stock). document_in held_name x.documents id) (sym stands) ∙ there in
+    let r = made_of (document_in document_name m.documents id) held (sym (find-map held_of (λ (h : Held). same_id id h.id) m.documents) ∙ mapped) in
+    let d = r.0 in
+    let same : held ≡ held_of d = sym r.1.1 in
+    let story : held_since tag (Some (held_of d)) ≡ Told ns = ap (λ (h : Held). held_since tag (Some h)) r.1.1 ∙ ap (held_since tag) (sym there) ∙ told in
+    let in_state = by_tag d tag ns (d.now.tag == tag) refl story in
+    let known' : usage_of d.id.auid ≡ Some u = ap (λ (i : DocId). usage_of i.auid) (sym (found-name c id held there ∙ ap (λ (h : Held). h.id) same)) ∙ known in
+    let tree : held.tree ≡ d.now.tree = ap (λ (h : Held). h.tree) same in
+    let place = former_place u held.tree selector ns p selects quiet in
+    since_found u selector p d m.next tag ns (kept_found m.next id m.documents d kept.documents r.1.0) known' in_state m id r.1.0 (subst (λ (t : Tree). SelectsPath selector.steps t p) tree selects)
+    (subst (λ (t : Tree). IsKeyAddressOf u t selector p) tree address) place.0 place.1

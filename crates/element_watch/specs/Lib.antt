@@ -1,0 +1,4 @@
+pub mod Finding
+pub mod Touching
+pub mod Watching
+pub mod inner

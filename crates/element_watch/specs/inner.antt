@@ -1,0 +1,4 @@
+-- What private functions and proofs speak of. No clause of a public call needs it.
+pub mod Back
+pub mod Keyed
+pub mod Seen
