@@ -1,0 +1,52 @@
+-- What was gathered of a walk is its flat list.
+use Rattle.std.proofs.Common.{◌≡◌, ◌≤◌, ◌<◌, ◌+◌, ℕ, true, false, nat_lt, cond, List, [], ◌∷◌, fold, Result, Ok, Err, IsErrAnd, subst, refl, sym, ap, ◌∙◌, arith}
+use Rattle.std.proofs.lemmas.Grind.{common_steps}
+use Rattle.list_resolve.specs.declared.fault.FlatFault.{FlatFault}
+use Rattle.list_resolve.specs.declared.fault.FlatFault.TheVariants.{NoService, TooWide, TooLarge, NoMemory}
+use Rattle.list_resolve.specs.Answering.{Answered}
+use Rattle.list_resolve.specs.Walks.{Item, address, mark}
+use Rattle.list_resolve.specs.Flat.{addresses, is_mark, marks, with_address, flat_of, mark_limit}
+use Rattle.list_resolve.specs.inner.Gathering.{Tally, Fails, no_items, with_item, with_items}
+
+uris_are : (items : List Item) (s : Tally) → (with_items s items).uris ≡ fold with_address s.uris (addresses items)
+uris_are [] s = refl
+uris_are (address uri ∷ items) s = uris_are items (with_item s (address uri))
+uris_are (mark ∷ items) s = uris_are items (with_item s mark)
+
+marks_from : (items : List Item) (s : Tally) (n : ℕ) → s.marks ≡ n → (with_items s items).marks ≡ fold (λ a x. a + cond (is_mark x) 1 0) n items
+marks_from [] s n h = h
+marks_from (address uri ∷ items) s n h = marks_from items (with_item s (address uri)) (n + 0) (omega arith)
+marks_from (mark ∷ items) s n h = marks_from items (with_item s mark) (n + 1) (omega arith)
+
+marks_are : (items : List Item) → (with_items no_items items).marks ≡ marks items
+marks_are items = marks_from items no_items 0 refl
+
+within : (n : ℕ) → n ≤ mark_limit → nat_lt mark_limit n ≡ false
+within n le = grind (arith, common_steps)
+
+beyond : (n : ℕ) → mark_limit < n → nat_lt mark_limit n ≡ true
+beyond n lt = grind (arith, common_steps)
+
+pub flat_is : (items : List Item) (s : Tally) → s ≡ with_items no_items items → s.marks ≤ mark_limit → flat_of items ≡ Ok s.uris
+flat_is items s e le =
+    let same : s.marks ≡ marks items = ap (λ g. g.marks) e ∙ marks_are items in
+    let few : nat_lt mark_limit (marks items) ≡ false = within (marks items) (omega arith) in
+    let all : s.uris ≡ fold with_address [] (addresses items) = ap (λ g. g.uris) e ∙ uris_are items no_items in
+    rw few (ap Ok (sym all))
+
+pub wide_is : (items : List Item) → mark_limit < (with_items no_items items).marks → flat_of items ≡ Err TooWide
+wide_is items lt =
+    let same : (with_items no_items items).marks ≡ marks items = marks_are items in
+    rw (beyond (marks items) (omega arith)) refl
+
+fails_is : {X : Type 0} (view : X → List (List ℕ)) (items : List Item) (fault : FlatFault) → Fails items no_items fault → Answered view (λ answer. answer ≡ flat_of items) (Err fault)
+fails_is view items NoService h = absurd h
+fails_is view items TooWide h = sym (wide_is items h)
+fails_is view items (TooLarge len) h = absurd h
+fails_is view items NoMemory h = tt
+
+pub fails_are : {X : Type 0} (view : X → List (List ℕ)) (r : Result X FlatFault) (items : List Item) (s : Tally) (fault : FlatFault)
+    → s ≡ no_items → IsErrAnd r (λ e. e ≡ fault) → Fails items s fault → Answered view (λ answer. answer ≡ flat_of items) r
+fails_are view (Ok x) items s fault e h f = absurd h
+fails_are view (Err other) items s fault e h f =
+    fails_is view items other (subst (λ (x : FlatFault). Fails items no_items x) (sym h) (subst (λ (x : Tally). Fails items x fault) e f))

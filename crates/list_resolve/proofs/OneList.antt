@@ -1,0 +1,52 @@
+-- A service address has exactly one answer in a document.
+use Rattle.std.proofs.Common.{◌≡◌, ℕ, List, Option, None, Some, Result, Ok, Err, option_and_then, refl, sym, ap, ◌∙◌}
+use Rattle.doc_names.specs.declared.doc_id.DocId.{DocId}
+use Rattle.store_core.specs.Held.{Stock}
+use Rattle.list_resolve.specs.declared.fault.FlatFault.{FlatFault}
+use Rattle.list_resolve.specs.declared.fault.FlatFault.TheVariants.{NoService, TooWide, TooLarge, NoMemory}
+use Rattle.list_resolve.specs.Answering.{Answered}
+use Rattle.list_resolve.specs.Spots.{Spot}
+use Rattle.list_resolve.specs.Walks.{walk}
+use Rattle.list_resolve.specs.declared.reference.Reference.{Reference}
+use Rattle.list_resolve.specs.Leads.{Lead, tree_held}
+use Rattle.list_resolve.specs.Flat.{IsFlatList, flat_if, flat_of, ground, service_of}
+use Rattle.list_resolve.specs.inner.Passing.{leads_in}
+use Rattle.list_resolve.proofs.Leading.{are_leads, one_map}
+
+-- what the code computes is an answer
+pub answer_is : (c : Stock) (root : List ℕ) (doc : DocId) (uri : List ℕ) (answer : Result (List (List ℕ)) FlatFault)
+    → answer ≡ flat_if (leads_in (ground c root doc)) root (option_and_then (service_of uri) (tree_held c.documents doc)) → IsFlatList c root doc uri answer
+answer_is c root doc uri answer e = (leads_in (ground c root doc), are_leads (ground c root doc), e)
+
+pub some_list : (c : Stock) (root : List ℕ) (doc : DocId) (uri : List ℕ) → (answer : Result (List (List ℕ)) FlatFault) × IsFlatList c root doc uri answer
+some_list c root doc uri =
+    let answer = flat_if (leads_in (ground c root doc)) root (option_and_then (service_of uri) (tree_held c.documents doc)) in
+    (answer, answer_is c root doc uri answer refl)
+
+by_leads : (c : Stock) (root : List ℕ) (doc : DocId) (uri : List ℕ) (a : Result (List (List ℕ)) FlatFault) → IsFlatList c root doc uri a
+    → a ≡ flat_if (leads_in (ground c root doc)) root (option_and_then (service_of uri) (tree_held c.documents doc))
+by_leads c root doc uri a (leads, are, e) =
+    e ∙ ap (λ (l : Reference → Option Lead). flat_if l root (option_and_then (service_of uri) (tree_held c.documents doc))) (one_map (ground c root doc) leads are)
+
+pub one_list : (c : Stock) (root : List ℕ) (doc : DocId) (uri : List ℕ) (a b : Result (List (List ℕ)) FlatFault) → IsFlatList c root doc uri a → IsFlatList c root doc uri b → a ≡ b
+one_list c root doc uri a b is other = by_leads c root doc uri a is ∙ sym (by_leads c root doc uri b other)
+
+-- ---- what the code answers, by the service that it finds
+
+module _ (c : Stock) (root : List ℕ) (doc : DocId) (uri : List ℕ) where
+  abbrev found : Option Spot
+  found = option_and_then (service_of uri) (tree_held c.documents doc)
+
+  by_found : (s : Option Spot) (answer : Result (List (List ℕ)) FlatFault) → s ≡ found → answer ≡ flat_if (leads_in (ground c root doc)) root s → IsFlatList c root doc uri answer
+  by_found s answer at e = answer_is c root doc uri answer (e ∙ ap (flat_if (leads_in (ground c root doc)) root) at)
+
+  pub no_service : None ≡ found → IsFlatList c root doc uri (Err NoService)
+  no_service at = by_found None (Err NoService) at refl
+
+  pub of_service : {X : Type 0} (view : X → List (List ℕ)) (s : Spot) (r : Result X FlatFault) → Some s ≡ found
+      → Answered view (λ answer. answer ≡ flat_of (walk (leads_in (ground c root doc)) root s)) r → Answered view (IsFlatList c root doc uri) r
+  of_service view s (Ok x) at e = by_found (Some s) (Ok (view x)) at e
+  of_service view s (Err NoService) at e = by_found (Some s) (Err NoService) at e
+  of_service view s (Err TooWide) at e = by_found (Some s) (Err TooWide) at e
+  of_service view s (Err (TooLarge len)) at e = by_found (Some s) (Err (TooLarge len)) at e
+  of_service view s (Err NoMemory) at e = tt

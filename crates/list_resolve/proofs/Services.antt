@@ -1,0 +1,35 @@
+-- The services of a document, node by node.
+use Rattle.std.proofs.Common.{◌≡◌, ◌<◌, ◌+◌, ℕ, List, [], ◌∷◌, drop, get_or, length, Option, None, refl, sym, ap, ◌∙◌}
+use Rattle.std.specs.Option.{option_or}
+use Rattle.std.proofs.lemmas.List.{drop_more}
+use Rattle.xml_tree.specs.Tree.{Content, last, more, note, Tree, kids}
+use Rattle.xml_tree.specs.Edits.{before}
+use Rattle.xml_tree.specs.Nodes.{content_of}
+use Rattle.xml_tree.specs.declared.tree.Node.{Node}
+use Rattle.xml_tree.specs.declared.tree.Node.TheVariants.{Elem, Chars, Comment}
+use Rattle.list_resolve.specs.Spots.{Spot}
+use Rattle.list_resolve.specs.Flat.{first_service, service_spot}
+
+abbrev pub first_among : List ℕ → Spot → List Node → Option Spot
+first_among uri root [] = None
+first_among uri root (Elem e ∷ ns) = option_or (service_spot uri root e) (first_among uri root ns)
+first_among uri root (Chars t ∷ ns) = first_among uri root ns
+first_among uri root (Comment x ∷ ns) = first_among uri root ns
+
+kids_before : (t : List ℕ) (c : Content) → kids (before t c) ≡ kids c
+kids_before t (last u) = refl
+kids_before t (more u n ds ats k rest) = refl
+kids_before t (note u x rest) = refl
+
+first_is : (uri : List ℕ) (root : Spot) (ns : List Node) → first_among uri root ns ≡ first_service uri root (kids (content_of ns))
+first_is uri root [] = refl
+first_is uri root (Elem e ∷ ns) = ap (option_or (service_spot uri root e)) (first_is uri root ns)
+first_is uri root (Chars t ∷ ns) = first_is uri root ns ∙ ap (first_service uri root) (sym (kids_before t (content_of ns)))
+first_is uri root (Comment x ∷ ns) = first_is uri root ns
+
+pub all_services : (uri : List ℕ) (root : Spot) (ns : List Node) (content : Content) → content_of ns ≡ content → first_among uri root ns ≡ first_service uri root (kids content)
+all_services uri root ns content e = first_is uri root ns ∙ ap (λ c. first_service uri root (kids c)) e
+
+pub first_elem : (uri : List ℕ) (root : Spot) (ns : List Node) (i : ℕ) (x : Node) (kid : Tree) → i < length ns → x ≡ get_or ns i x → x ≡ Elem kid
+    → first_among uri root (drop i ns) ≡ option_or (service_spot uri root kid) (first_among uri root (drop (i + 1) ns))
+first_elem uri root ns i x kid lt there is = ap (first_among uri root) (drop_more ns i x lt ∙ ap (λ y. y ∷ drop (i + 1) ns) (sym there ∙ is))

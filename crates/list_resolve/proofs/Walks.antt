@@ -1,0 +1,92 @@
+-- A walk node by node, and what is gathered of it part by part.
+use Rattle.std.proofs.Common.{◌≡◌, ◌≤◌, ◌<◌, ◌+◌, ◌-◌, ℕ, zero, suc, List, [], ◌∷◌, ◌++◌, Option, drop, get_or, length, Result, Ok, Err, IsErrAnd, subst, refl, sym, ap, ◌∙◌, arith}
+use Rattle.std.proofs.lemmas.List.{drop_more}
+use Rattle.xml_tree.specs.Tree.{Content, last, more, note, Tree}
+use Rattle.xml_tree.specs.Edits.{before}
+use Rattle.xml_tree.specs.Nodes.{content_of}
+use Rattle.xml_tree.specs.declared.tree.Node.{Node}
+use Rattle.xml_tree.specs.declared.tree.Node.TheVariants.{Elem, Chars, Comment}
+use Rattle.usage_docs.specs.declared.rows.Kind.{Kind}
+use Rattle.usage_docs.specs.Rows.{Scope}
+use Rattle.list_resolve.specs.declared.fault.FlatFault.{FlatFault}
+use Rattle.list_resolve.specs.declared.fault.FlatFault.TheVariants.{NoService, TooWide, TooLarge, NoMemory}
+use Rattle.list_resolve.specs.declared.reference.Reference.{Reference}
+use Rattle.list_resolve.specs.declared.place.Place.{Place}
+use Rattle.list_resolve.specs.Leads.{Ground, Lead}
+use Rattle.list_resolve.specs.Walks.{Item, address, mark, walked, kid_items, behind, led_items}
+use Rattle.list_resolve.specs.inner.Gathering.{Tally, Gathered, Fails, with_item, with_items}
+use Rattle.list_resolve.specs.inner.Passing.{Gathers}
+use Rattle.list_resolve.specs.Flat.{mark_limit}
+
+-- ---- node by node
+
+abbrev pub nodes_items : (Reference → List Item) → List ℕ → Kind → Scope → List Node → List Item
+nodes_items behind root row c [] = []
+nodes_items behind root row c (Elem e ∷ ns) = kid_items behind root row c e ++ nodes_items behind root row c ns
+nodes_items behind root row c (Chars t ∷ ns) = nodes_items behind root row c ns
+nodes_items behind root row c (Comment x ∷ ns) = nodes_items behind root row c ns
+
+walked_before : (behind : Reference → List Item) (root : List ℕ) (row : Kind) (c : Scope) (t : List ℕ) (content : Content) → walked behind root row c (before t content) ≡ walked behind root row c content
+walked_before behind root row c t (last u) = refl
+walked_before behind root row c t (more u n ds ats k rest) = refl
+walked_before behind root row c t (note u x rest) = refl
+
+nodes_are : (behind : Reference → List Item) (root : List ℕ) (row : Kind) (c : Scope) (ns : List Node) → nodes_items behind root row c ns ≡ walked behind root row c (content_of ns)
+nodes_are behind root row c [] = refl
+nodes_are behind root row c (Elem e ∷ ns) = ap (λ items. kid_items behind root row c e ++ items) (nodes_are behind root row c ns)
+nodes_are behind root row c (Chars t ∷ ns) = nodes_are behind root row c ns ∙ sym (walked_before behind root row c t (content_of ns))
+nodes_are behind root row c (Comment x ∷ ns) = nodes_are behind root row c ns
+
+pub all_nodes : (behind : Reference → List Item) (root : List ℕ) (row : Kind) (c : Scope) (ns : List Node) (content : Content) → content_of ns ≡ content → nodes_items behind root row c ns ≡ walked behind root row c content
+all_nodes behind root row c ns content e = nodes_are behind root row c ns ∙ ap (walked behind root row c) e
+
+-- an element and the nodes behind it
+pub at_elem : (behind : Reference → List Item) (root : List ℕ) (row : Kind) (c : Scope) (ns : List Node) (i : ℕ) (x : Node) (kid : Tree) → i < length ns → x ≡ get_or ns i x → x ≡ Elem kid
+    → nodes_items behind root row c (drop i ns) ≡ kid_items behind root row c kid ++ nodes_items behind root row c (drop (i + 1) ns)
+at_elem behind root row c ns i x kid lt there is =
+    ap (nodes_items behind root row c) (drop_more ns i x lt ∙ ap (λ y. y ∷ drop (i + 1) ns) (sym there ∙ is))
+
+-- what stands behind a mark, where an element may still be added to the chain
+pub behind_left : (leads : Reference → Option Lead) (root : List ℕ) (left : ℕ) (chain : List Place) (r : Reference) → 0 < left → behind leads root left chain r ≡ led_items (behind leads root (left - 1)) root chain (leads r)
+behind_left leads root zero chain r h = absurd (omega arith)
+behind_left leads root (suc n) chain r h = let e : suc n - 1 ≡ n = omega arith in rw e refl
+
+-- ---- part by part
+
+pub with_two : (items more_items : List Item) (s : Tally) → with_items s (items ++ more_items) ≡ with_items (with_items s items) more_items
+with_two [] more_items s = refl
+with_two (i ∷ items) more_items s = with_two items more_items (with_item s i)
+
+one_rises : (s : Tally) (i : Item) → s.marks ≤ (with_item s i).marks
+one_rises s (address uri) = omega arith
+one_rises s mark = omega arith
+
+pub marks_rise : (items : List Item) (s : Tally) → s.marks ≤ (with_items s items).marks
+marks_rise [] s = omega arith
+marks_rise (i ∷ items) s = let a = one_rises s i in let b = marks_rise items (with_item s i) in omega arith
+
+-- where the first part has too many references, the whole has
+pub fails_in_part : (items more_items : List Item) (s : Tally) (fault : FlatFault) → Fails items s fault → Fails (items ++ more_items) s fault
+fails_in_part items more_items s NoService h = h
+fails_in_part items more_items s TooWide h =
+    let rise = marks_rise more_items (with_items s items) in
+    let same : (with_items s (items ++ more_items)).marks ≡ (with_items (with_items s items) more_items).marks = ap (λ g. g.marks) (with_two items more_items s) in
+    omega arith
+fails_in_part items more_items s (TooLarge len) h = h
+fails_in_part items more_items s NoMemory h = tt
+
+-- where the gathered items and those of a part together make others, that part's failure is one of the others
+pub fails_before : (items more_items whole : List Item) (s start : Tally) (fault : FlatFault)
+    → with_items s (items ++ more_items) ≡ with_items start whole → Fails items s fault → Fails whole start fault
+fails_before items more_items whole s start NoService e h = h
+fails_before items more_items whole s start TooWide e h =
+    let wide : mark_limit < (with_items s (items ++ more_items)).marks = fails_in_part items more_items s TooWide h in
+    let same : (with_items s (items ++ more_items)).marks ≡ (with_items start whole).marks = ap (λ g. g.marks) e in
+    omega arith
+fails_before items more_items whole s start (TooLarge len) e h = h
+fails_before items more_items whole s start NoMemory e h = tt
+
+-- a call that hands on the fault of another one
+pub hands_on : {T : Type 0} (g : Ground) (r : Result T FlatFault) (items : List Item) (s new : Gathered) (fault : FlatFault) → IsErrAnd r (λ e. e ≡ fault) → Fails items s.tally fault → Gathers g items s new r
+hands_on g (Ok x) items s new fault h f = absurd h
+hands_on g (Err e) items s new fault h f = subst (λ (x : FlatFault). Fails items s.tally x) (sym h) f

@@ -1,0 +1,18 @@
+use Rattle.std.proofs.Common.{sym, ap, ◌∙◌}
+use Rattle.xml_tree.specs.Characters.{is_space}
+use Rattle.usage_docs.specs.Forms.{trim_back}
+use Rattle.list_resolve.proofs.Texts.{back_white, back_other}
+use Rattle.list_resolve.proofs.reference.trim_back.Goals as goal
+
+pub blanks-preserved : goal.blanks-preserved
+blanks-preserved c =
+    sym (back_white is_space c.in-Some.rest.now c.in-Some.last.now (sym c.is_space.ensures.tells_whether_it_is_space ∙ c.if-is_space.true))
+    ∙ ap (trim_back is_space) (sym c.in-Some.ensures.cases.0) ∙ c.blanks.invariant
+
+pub returns-else-is_space : goal.returns-else-is_space
+returns-else-is_space c = record {
+  trims_the_back =
+      c.in-Some.ensures.cases.0
+      ∙ sym (back_other is_space c.in-Some.rest.now c.in-Some.last.now (sym c.is_space.ensures.tells_whether_it_is_space ∙ c.if-is_space.false))
+      ∙ ap (trim_back is_space) (sym c.in-Some.ensures.cases.0) ∙ c.blanks.invariant;
+}

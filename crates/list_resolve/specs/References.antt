@@ -1,0 +1,61 @@
+-- References, and the targets that they are. RFC 4826, sections 3.4.3 (the `ref` of an entry-ref is relative to the XCAP root), 3.4.4 (the
+-- `anchor` of an external list is an absolute HTTP URI) and 4.4.3 (so is the text of a resource-list).
+use Rattle.std.specs.Prelude.{ℕ, Bool, true, false, List, ◌∷◌, ◌++◌, Option, None, Some, option_map}
+use Rattle.xml_tree.specs.Tree.{Content}
+use Rattle.xml_tree.specs.declared.names.Attr.{Attr}
+use Rattle.usage_docs.specs.declared.rows.Kind.{Kind}
+use Rattle.usage_docs.specs.declared.rows.Kind.TheVariants.{ResourceLists, EntryList, Entry, EntryRef, External, DisplayName, RlsServices, Service, ResourceList, Packages, Package}
+use Rattle.usage_docs.specs.declared.rows.Key.TheVariants.{Ref, Anchor}
+use Rattle.usage_docs.specs.Keys.{value_of}
+use Rattle.usage_docs.specs.Forms.{trimmed}
+use Rattle.usage_docs.specs.Texts.{text_of}
+use Rattle.xcap_uri.specs.Roots.{slash}
+use Rattle.list_resolve.specs.declared.reference.Wanted.{Wanted}
+use Rattle.list_resolve.specs.declared.reference.Wanted.TheVariants as wanted
+use Rattle.list_resolve.specs.declared.reference.Reference.{Reference}
+
+abbrev pub reference : Wanted → List ℕ → Reference
+reference w target = record { wanted = w; target = target }
+
+-- the target of a `ref`: the root, a slash and the value
+abbrev pub from_root : List ℕ → List ℕ → List ℕ
+from_root root value = root ++ slash ∷ value
+
+-- the reference that an element of this kind is, under this root; in a valid document its attribute is there
+abbrev pub reference_of : List ℕ → Kind → List Attr → Content → Option Reference
+reference_of root EntryRef ats k = option_map (λ value. reference wanted.AnEntry (from_root root value)) (value_of Ref ats)
+reference_of root External ats k = option_map (λ value. reference wanted.AList value) (value_of Anchor ats)
+reference_of root ResourceList ats k = Some (reference wanted.AList (trimmed (text_of k)))
+reference_of root ResourceLists ats k = None
+reference_of root EntryList ats k = None
+reference_of root Entry ats k = None
+reference_of root DisplayName ats k = None
+reference_of root RlsServices ats k = None
+reference_of root Service ats k = None
+reference_of root Packages ats k = None
+reference_of root Package ats k = None
+
+-- whether a reference that wants this may lead to an element of this kind
+abbrev pub is_wanted : Wanted → Kind → Bool
+is_wanted wanted.AnEntry Entry = true
+is_wanted wanted.AnEntry ResourceLists = false
+is_wanted wanted.AnEntry EntryList = false
+is_wanted wanted.AnEntry EntryRef = false
+is_wanted wanted.AnEntry External = false
+is_wanted wanted.AnEntry DisplayName = false
+is_wanted wanted.AnEntry RlsServices = false
+is_wanted wanted.AnEntry Service = false
+is_wanted wanted.AnEntry ResourceList = false
+is_wanted wanted.AnEntry Packages = false
+is_wanted wanted.AnEntry Package = false
+is_wanted wanted.AList EntryList = true
+is_wanted wanted.AList ResourceLists = false
+is_wanted wanted.AList Entry = false
+is_wanted wanted.AList EntryRef = false
+is_wanted wanted.AList External = false
+is_wanted wanted.AList DisplayName = false
+is_wanted wanted.AList RlsServices = false
+is_wanted wanted.AList Service = false
+is_wanted wanted.AList ResourceList = false
+is_wanted wanted.AList Packages = false
+is_wanted wanted.AList Package = false

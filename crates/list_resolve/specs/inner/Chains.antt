@@ -1,0 +1,10 @@
+-- Chains of places that are linked outwards.
+use Rattle.std.specs.Prelude.{List, [], ◌∷◌}
+use Rattle.list_resolve.specs.declared.place.Place.{Place}
+use Rattle.list_resolve.specs.declared.chain.Link.{Link}
+use Rattle.list_resolve.specs.declared.chain.Link.TheVariants.{End, Behind}
+
+-- the places on a chain, innermost first
+abbrev pub places_at : Link → List Place
+places_at End = []
+places_at (Behind place outer) = place.now ∷ outer.now

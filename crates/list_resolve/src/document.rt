@@ -1,0 +1,102 @@
+//! The document that shows a flat list (RFC 4826, section 3.2).
+ghost use Rattle.std.specs.Prelude.{◌≡◌, [], IfOk, IsTrue, min};
+ghost use Rattle.usage_docs.specs.Services.{document_len};
+ghost use Rattle.usage_docs.specs.Words.{is_ascii};
+ghost use Rattle.xml_tree.specs.Expanded.{name_of};
+ghost use Rattle.xcap_io.specs.Wanting.{StatedOr};
+ghost use Rattle.list_resolve.specs.declared.fault.FlatFault.TheVariants as faults;
+ghost use Rattle.list_resolve.specs.Documents.{entry_tree, flat_document, flat_tree, list_tree};
+
+use crate::fault::FlatFault;
+use std::alloc::Global;
+use tree_text::no_text;
+use xml_tree::{Attr, Decl, Element, Name, NoMemory, Text, printed_len};
+
+/// The greatest length of the document, printed, in bytes.
+const DOCUMENT_LIMIT: usize = 16_777_216;
+
+// The length of what stands before the root.
+const FRONT_LEN: usize = 39;
+
+const LISTS: &str = "urn:ietf:params:xml:ns:resource-lists";
+
+// A text of these letters.
+#[tactic(auto, using(usage_docs::proofs::Words::chars_ascii))]
+fn word(alloc: Global, word: &str) -> Result<Text, NoMemory>
+    requires { IsTrue (is_ascii word.now) }
+    ensures text_of_these_letters { IfOk result (λ made. made ≡ word.now) }
+{
+    Text::from(alloc, word)
+}
+
+// A name without prefix.
+fn plain(alloc: Global, local: &str) -> Result<Name, NoMemory>
+    requires { IsTrue (is_ascii local.now) }
+    ensures name_without_prefix { IfOk result (λ made. made ≡ name_of [] local.now) }
+{
+    let local = word(alloc, local)?;
+    Ok(Name {
+        prefix: no_text(alloc),
+        local,
+    })
+}
+
+// The entry of an address.
+fn entry(alloc: Global, uri: &Text) -> Result<Element, NoMemory>
+    ensures entry_of_the_address { IfOk result (λ made. made ≡ entry_tree uri.now) }
+{
+    let name = plain(alloc, "uri")?;
+    let value = uri.copy(alloc)?;
+    let mut entry = Element::new(alloc, plain(alloc, "entry")?);
+    entry.push_attr(Attr { name, value })?;
+    Ok(entry)
+}
+
+// The list of the entries of these addresses.
+fn list(alloc: Global, uris: &[Text]) -> Result<Element, NoMemory>
+    ensures list_of_the_entries { IfOk result (λ made. made ≡ list_tree uris.now) }
+{
+    let mut list = Element::new(alloc, plain(alloc, "list")?);
+    for uri in uris {
+        list.push_elem(entry(alloc, uri)?)?;
+    }
+    Ok(list)
+}
+
+// The root with this list and nothing else.
+#[tactic(auto, unfolding(usage_docs::specs::Rows::lists_space))]
+fn tree(alloc: Global, uris: &[Text]) -> Result<Element, NoMemory>
+    ensures root_with_the_list { IfOk result (λ made. made ≡ flat_tree uris.now) }
+{
+    let uri = word(alloc, LISTS)?;
+    let mut root = Element::new(alloc, plain(alloc, "resource-lists")?);
+    root.push_decl(Decl {
+        prefix: no_text(alloc),
+        uri,
+    })?;
+    root.push_elem(list(alloc, uris)?)?;
+    Ok(root)
+}
+
+// The length of a document, printed; the greatest number where it is longer.
+fn document_len(root: &Element) -> usize
+    ensures counts_the_printed_document { result ≡ min (document_len root.now) usize.MAX }
+{
+    printed_len(root).saturating_add(FRONT_LEN)
+}
+
+/// The document that shows a flat list.
+///
+/// # Errors
+/// `TooLarge` exactly where the printed document would have more than 16,777,216 bytes, with their number, or with the greatest `usize` where
+/// that is less; `NoMemory` for want of memory.
+pub fn flat_document(alloc: Global, uris: &[Text]) -> Result<Element, FlatFault>
+    ensures document_of_the_list { StatedOr faults.NoMemory (flat_document uris.now) result }
+{
+    let root = tree(alloc, uris)?;
+    let len = document_len(&root);
+    if len > DOCUMENT_LIMIT {
+        return Err(FlatFault::TooLarge(len));
+    }
+    Ok(root)
+}

@@ -1,0 +1,115 @@
+//! What a walk comes by.
+ghost use Rattle.std.specs.Prelude.{◌≡◌, ◌≤◌, ◌∷◌, [], chars, IfOk, OnOk, OnErr, IfErr};
+ghost use Rattle.list_resolve.specs.Places.{is_on};
+ghost use Rattle.list_resolve.specs.Walks.{address, mark};
+ghost use Rattle.list_resolve.specs.inner.Gathering.{Fails, gathering, nothing, passing};
+
+use crate::fault::FlatFault;
+use crate::place::Place;
+use indexmap::IndexSet;
+use std::alloc::Global;
+use std::marker::Model;
+use xml_tree::{NoMemory, Text};
+
+/// How many references a walk comes by at most.
+pub(crate) const MARK_LIMIT: usize = 4096;
+
+/// Gathers the addresses of a walk, each once, counts its references, and keeps the places of elements that need not be walked again.
+#[derive(Drop)]
+pub(crate) struct Gatherer {
+    alloc: Global,
+    uris: IndexSet<Text>,
+    marks: usize,
+    passed: IndexSet<Place>,
+}
+
+impl Model for Gatherer {
+    ghost use Rattle.std.specs.Prelude.{◌≤◌};
+    ghost use Rattle.list_resolve.specs.inner.Gathering.{Gathered, gathered_code};
+
+    ghost Value = { Gathered };
+
+    ghost coded = { gathered_code };
+
+    ghost view = { λ g. record { tally = record { uris = g.uris.keys; marks = g.marks }; passed = g.passed.keys } };
+
+    ghost invariant = { λ g. g.marks ≤ 4096 };
+}
+
+impl Gatherer {
+    /// Nothing so far. Takes no memory; what is added later takes it from `alloc`.
+    pub(crate) fn new(alloc: Global) -> Gatherer
+        ensures holds_nothing { result ≡ nothing }
+    {
+        Gatherer {
+            alloc,
+            uris: IndexSet::new(alloc),
+            marks: 0,
+            passed: IndexSet::new(alloc),
+        }
+    }
+
+    /// Adds an address, unless it is there.
+    ///
+    /// # Errors
+    /// `NoMemory` for want of memory.
+    pub(crate) fn add_uri(&mut self, uri: &str) -> Result<(), NoMemory>
+        ensures adds_the_address { OnOk result (self.new ≡ gathering self.old (address (chars uri.now))) }
+    {
+        let uri = Text::from(self.alloc, uri)?;
+        self.uris.insert(uri)?;
+        Ok(())
+    }
+
+    /// Counts a reference.
+    ///
+    /// # Errors
+    /// `TooWide` exactly where there are too many then.
+    pub(crate) fn add_mark(&mut self) -> Result<(), FlatFault>
+        ensures ok { OnOk result (self.new ≡ gathering self.old mark) }
+        ensures err { IfErr result (Fails (mark ∷ []) self.old.tally) }
+    {
+        if self.marks == MARK_LIMIT {
+            return Err(FlatFault::TooWide);
+        }
+        self.marks += 1;
+        Ok(())
+    }
+
+    /// How many references have been counted. Takes no memory.
+    pub(crate) fn marks(&self) -> usize
+        ensures counts_the_references { result ≡ self.now.tally.marks }
+    {
+        self.marks
+    }
+
+    /// Keeps the place of an element that need not be walked again.
+    ///
+    /// # Errors
+    /// `NoMemory` for want of memory.
+    pub(crate) fn pass(&mut self, place: Place) -> Result<(), NoMemory>
+        ensures keeps_the_place { OnOk result (self.new ≡ passing self.old place) }
+    {
+        self.passed.insert(place)?;
+        Ok(())
+    }
+
+    /// Whether the element at a place need not be walked again. Takes no memory.
+    pub(crate) fn has_passed(&self, place: &Place) -> bool
+        ensures tells_whether_it_is_kept { result ≡ is_on self.now.passed place.now }
+    {
+        self.passed.contains(place)
+    }
+
+    /// The addresses, in the order in which they came first.
+    ///
+    /// # Errors
+    /// `NoMemory` for want of memory.
+    pub(crate) fn into_uris(self) -> Result<Vec<Text>, NoMemory>
+        ensures uris { IfOk result (λ made. made.items ≡ self.tally.uris) }
+        ensures few { self.tally.marks ≤ MARK_LIMIT }
+    {
+        let Gatherer { alloc, uris, .. } = self;
+        uris.into_iter().collect(alloc)
+    }
+}
