@@ -1,19 +1,17 @@
 //! GET and HEAD of feeds (RFC 5874, section 3; RFC 9110, sections 9.3.1 and 9.3.2).
-ghost use Rattle.std.specs.Prelude.{◌≡◌, None, IfOk};
-ghost use Rattle.reply_text.specs.declared.media_types.Media.TheVariants as medias;
-ghost use Rattle.request_terms.specs.Methods.{as_asked};
-ghost use Rattle.machine_words.specs.Answers.{found, unchanged};
+ghost use Rattle.std.specs.Prelude.{IfOk};
+ghost use Rattle.machine_words.specs.Answers.{unchanged};
 ghost use Rattle.machine_words.specs.Feeds.{ReadsFeed};
 
 use crate::NoMemory;
+use crate::replies::with_notice;
 use doc_names::DocId;
 use http_wire::Request;
 use patch_text::{gone_notice, notice};
-use reply_text::{Media, Reply};
-use request_terms::{Method, as_asked};
+use reply_text::Reply;
+use request_terms::Method;
 use std::alloc::Global;
 use store_core::{Since, Store};
-use xcap_io::Bytes;
 use xcap_uri::{Mode, Root};
 
 /// What a feed is asked for: how changes are told, the tag of the version that is known, and the
@@ -23,14 +21,6 @@ pub struct Feed<'a> {
     pub mode: Mode,
     pub tag: u64,
     pub doc: &'a DocId,
-}
-
-// The reply with a notice, or for HEAD the head of that reply. It has no tag.
-fn with_notice(notice: Bytes, method: Method, closes: bool) -> Reply
-    ensures sends_the_notice_as_asked { result ≡ as_asked method (found None medias.Diff notice closes) }
-{
-    let reply = Reply::with(200, None, Some(Media::Diff), notice, closes);
-    as_asked(method, reply)
 }
 
 /// The reply to a GET or HEAD of a feed: the notice of the changes of the document since the

@@ -11,6 +11,7 @@ use Rattle.tree_text.specs.declared.fault.TextFault.{TextFault}
 use Rattle.tree_text.specs.declared.fault.ValueFault.{ValueFault}
 use Rattle.usage_docs.specs.Judging.{Judged}
 use Rattle.usage_docs.proofs.Judgements.{judged_one, judgement}
+use Rattle.doc_names.specs.Ids.{id_text}
 use Rattle.doc_names.specs.Usages.{usage_of}
 use Rattle.doc_names.specs.declared.usages.Usage.{Usage}
 use Rattle.doc_names.specs.declared.doc_id.DocId.{DocId}
@@ -47,11 +48,15 @@ use Rattle.request_terms.specs.Rights.{is_allowed}
 use Rattle.request_terms.specs.declared.method.Method.{Method}
 use Rattle.request_terms.specs.declared.method.Method.TheVariants.{Get, Head, Put, Delete, Other}
 use Rattle.node_texts.specs.Nodes.{encoded, found_text, node_media}
-use Rattle.store_core.specs.Since.{since}
+use Rattle.patch_words.specs.Notices.{gone_notice}
+use Rattle.element_watch.specs.Watching.{IsElementNotice}
+use Rattle.element_watch.proofs.States.{one_notice, some_notice}
+use Rattle.store_core.specs.Since.{Story, Gone, Unknown, Told, since}
 use Rattle.store_core.specs.Held.{Stock as Content}
 use Rattle.machine_words.specs.Answers.{Answer, Behind, BehindConditions, conflict, found, not_allowed, unchanged}
 use Rattle.machine_words.specs.Requests.{ByMethod, ByTarget, ByUser, Deletes, IsAnswer, IsAnswered, Puts, auid_of, fault_status, home_of, is_bindings, is_read_only, takes, ReadsTarget as Reads}
-use Rattle.machine_words.specs.Feeds.{story_answer}
+use Rattle.machine_words.specs.ElementFeeds.{TellsElement}
+use Rattle.machine_words.specs.Feeds.{sends_notice, story_answer}
 use Rattle.machine_words.specs.Reading.{SendsDocument, SendsFound, SendsNode}
 use Rattle.machine_words.specs.Resources.{LeadsTo, Resource, absent, beyond_limit, there, version_of}
 use Rattle.machine_words.specs.Fragments.{CutsNode, DeletesNodeIn, PutsAt, PutsElement, PutsElementText, PutsFragment, PutsFrom, PutsNodeIn, PutsNodeOf, PutsValue, PutsValueText, cut_reply, is_there, levels_for, plan_answer, put_planned, scope_for, value_conflict}
@@ -107,6 +112,13 @@ module _ (method : Method) (request : Request) where
   one_node_sent beyond_limit selector = one_equal (unchanged (plain 507 request.closes))
   one_node_sent (there t tag) selector = one_found (encoded (found_text t selector)) tag (node_media selector.end)
 
+  one_element_told : (root : List ℕ) (c : Content) (tag : ℕ) (id : DocId) (selector : Selector) (raw : List ℕ) (story : Story) → since c id tag ≡ story → IsOne (λ a. TellsElement root c tag id selector raw story method request a)
+  one_element_told root c tag id selector raw Gone is = one_equal (sends_notice (gone_notice root (id_text id) tag) method request)
+  one_element_told root c tag id selector raw Unknown is = one_equal (unchanged (plain 410 request.closes))
+  one_element_told root c tag id selector raw (Told ns) is =
+      let notice = some_notice root c tag id selector raw ns is in
+      one_by (IsElementNotice root c id selector raw ns) (λ n a. a ≡ sends_notice n method request) notice.0 notice.1 (λ n h. one_notice root c id selector raw ns n notice.0 h notice.1) (one_equal (sends_notice notice.0 method request))
+
   one_read : (root : List ℕ) (c : Content) (target : Target) → IsOne (λ a. Reads root c target method request a)
   one_read root c (Document id) =
       let r = resource c id in
@@ -116,7 +128,7 @@ module _ (method : Method) (request : Request) where
       one_by (LeadsTo c id) (λ r a. SendsNode r selector method request a) r (leads c id) (only_leads c id) (one_node_sent r selector)
   one_read root c (Deep auid home) = one_equal (unchanged (plain 404 request.closes))
   one_read root c (Feed mode tag id) = one_equal (story_answer root mode tag id (since c id tag) method request)
-  one_read root c (ElementFeed tag id selector raw) = one_equal (unchanged (plain 501 request.closes))
+  one_read root c (ElementFeed tag id selector raw) = one_element_told root c tag id selector raw (since c id tag) refl
   one_read root c (Flat id service) = one_equal (unchanged (plain 501 request.closes))
 
 -- ---- PUT of documents

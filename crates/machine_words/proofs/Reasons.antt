@@ -48,6 +48,7 @@ use Rattle.store_core.specs.declared.refusal.StoreRefusal.{StoreRefusal}
 use Rattle.store_core.specs.declared.refusal.StoreRefusal.TheVariants as refusals
 use Rattle.machine_words.specs.Answers.{Answer, Behind, BehindConditions, conflict, found, not_allowed, unchanged}
 use Rattle.machine_words.specs.Fragments.{CutsNode, DeletesNodeIn, PutsAt, PutsElementText, PutsFragment, PutsFrom, PutsNodeIn, PutsValueText, cut_reply, is_there, plan_answer, value_conflict}
+use Rattle.machine_words.specs.ElementFeeds.{TellsElement}
 use Rattle.machine_words.specs.Feeds.{sends_notice, story_answer}
 use Rattle.machine_words.specs.Reading.{SendsDocument, SendsFound, SendsNode}
 use Rattle.machine_words.specs.Requests.{ByMethod, ByTarget, ByUser, Deletes, IsAnswer, IsAnswered, Puts, auid_of, fault_status, home_of, is_read_only, takes, ReadsTarget as Reads}
@@ -140,12 +141,17 @@ module _ (method : Method) (request : Request) (a : Answer) where
   story_so root mode tag id Unknown is = only request a 410 refl is
   story_so root mode tag id (Told ns) is = notice_so (notice_of mode root (id_text id) tag ns) is
 
+  element_told_so : (root : List ℕ) (c : Content) (tag : ℕ) (id : DocId) (selector : Selector) (raw : List ℕ) (story : Story) → TellsElement root c tag id selector raw story method request a → Fine a
+  element_told_so root c tag id selector raw Gone is = notice_so (gone_notice root (id_text id) tag) is
+  element_told_so root c tag id selector raw Unknown is = only request a 410 refl is
+  element_told_so root c tag id selector raw (Told ns) is = notice_so is.0 is.2
+
   read_so : (root : List ℕ) (c : Content) (target : Target) → Reads root c target method request a → Fine a
   read_so root c (Document id) is = document_so is.0 (document_media id.auid) is.2
   read_so root c (Node id selector) is = node_so is.0 selector is.2
   read_so root c (Deep auid home) is = only request a 404 refl is
   read_so root c (Feed mode tag id) is = story_so root mode tag id (since c id tag) is
-  read_so root c (ElementFeed tag id selector raw) is = only request a 501 refl is
+  read_so root c (ElementFeed tag id selector raw) is = element_told_so root c tag id selector raw (since c id tag) is
   read_so root c (Flat id service) is = only request a 501 refl is
 
 -- ---- writing

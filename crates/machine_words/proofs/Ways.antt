@@ -66,6 +66,7 @@ use Rattle.store_core.specs.declared.refusal.StoreRefusal.{StoreRefusal}
 use Rattle.store_core.specs.declared.refusal.StoreRefusal.TheVariants as refusals
 use Rattle.machine_words.specs.Answers.{Answer, Behind, BehindConditions, conflict, found, not_allowed, unchanged}
 use Rattle.machine_words.specs.Laws.{tells_change}
+use Rattle.machine_words.specs.ElementFeeds.{TellsElement}
 use Rattle.machine_words.specs.Feeds.{sends_notice, story_answer}
 use Rattle.machine_words.specs.Reading.{SendsDocument, SendsFound, SendsNode}
 use Rattle.machine_words.specs.Requests.{ByMethod, ByTarget, ByUser, Deletes, IsAnswer, IsAnswered, IsWritableTarget, Puts, auid_of, fault_status, home_of, is_read_only, takes, ReadsTarget as Reads}
@@ -185,12 +186,17 @@ module _ (method : Method) (request : Request) (c : Content) (a : Answer) (quiet
   story_way root mode tag id Unknown is = only method c request a 410 refl refl is
   story_way root mode tag id (Told ns) is = notice_way (notice_of mode root (id_text id) tag ns) is
 
+  element_way : (root : List ℕ) (tag : ℕ) (id : DocId) (selector : Selector) (raw : List ℕ) (story : Story) → TellsElement root c tag id selector raw story method request a → Way method request.closes c a
+  element_way root tag id selector raw Gone is = notice_way (gone_notice root (id_text id) tag) is
+  element_way root tag id selector raw Unknown is = only method c request a 410 refl refl is
+  element_way root tag id selector raw (Told ns) is = notice_way is.0 is.2
+
   reads_way : (root : List ℕ) (target : Target) → Reads root c target method request a → Way method request.closes c a
   reads_way root (Document id) is = document_way is.0 (document_media id.auid) is.2
   reads_way root (Node id selector) is = node_way is.0 selector is.2
   reads_way root (Deep auid home) is = only method c request a 404 refl refl is
   reads_way root (Feed mode tag id) is = story_way root mode tag id (since c id tag) is
-  reads_way root (ElementFeed tag id selector raw) is = only method c request a 501 refl refl is
+  reads_way root (ElementFeed tag id selector raw) is = element_way root tag id selector raw (since c id tag) is
   reads_way root (Flat id service) is = only method c request a 501 refl refl is
 
 -- ---- PUT

@@ -7,4 +7,5 @@ pub mod Requests
 pub mod Machine
 pub mod Fragments
 pub mod Effects
+pub mod ElementFeeds
 pub mod Laws

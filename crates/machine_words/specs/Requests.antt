@@ -22,6 +22,7 @@ use Rattle.request_terms.specs.declared.method.Method.TheVariants.{Get, Head, Pu
 use Rattle.request_terms.specs.Methods.{method_of, is_reading}
 use Rattle.request_terms.specs.Rights.{is_allowed}
 use Rattle.machine_words.specs.Answers.{Answer, unchanged, not_allowed}
+use Rattle.machine_words.specs.ElementFeeds.{ReadsElementFeed}
 use Rattle.machine_words.specs.Feeds.{ReadsFeed}
 use Rattle.machine_words.specs.Reading.{ReadsDocument, ReadsNode}
 use Rattle.machine_words.specs.Writing.{IfStored, PutsDocument, puts_deeper, DeletesDocument}
@@ -73,13 +74,13 @@ IsWritableTarget (Flat id service) = Unit {0}
 
 -- ---- by method
 
--- GET and HEAD; feeds of elements and flat lists aren't read yet
+-- GET and HEAD; flat lists aren't read yet
 abbrev pub ReadsTarget : List ℕ → Stock → Target → Method → Request → Answer → Type 0
 ReadsTarget root c (Document id) method request a = ReadsDocument c id method request a
 ReadsTarget root c (Node id selector) method request a = ReadsNode c id selector method request a
 ReadsTarget root c (Deep auid home) method request a = a ≡ unchanged (plain 404 request.closes)
 ReadsTarget root c (Feed mode tag id) method request a = ReadsFeed root c mode tag id method request a
-ReadsTarget root c (ElementFeed tag id selector raw) method request a = a ≡ unchanged (plain 501 request.closes)
+ReadsTarget root c (ElementFeed tag id selector raw) method request a = ReadsElementFeed root c tag id selector raw method request a
 ReadsTarget root c (Flat id service) method request a = a ≡ unchanged (plain 501 request.closes)
 
 -- feeds and flat lists are read only, so they never come here

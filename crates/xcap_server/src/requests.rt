@@ -15,9 +15,10 @@ ghost use Rattle.document_writes.specs.Deciding.{Decides};
 
 use crate::targets::{auid_of, home_of, is_read_only, takes};
 use doc_names::Usage;
-use document_feeds::{Feed, get_feed};
+use document_feeds::{Feed, get_element_feed, get_feed};
 use document_reads::{get_document, get_node};
 use document_writes::{Decision, delete_document, delete_node, put_deeper, put_document, put_node};
+use element_watch::Watch;
 use http_wire::Request;
 use reply_text::Reply;
 use request_terms::{Method, is_allowed};
@@ -60,7 +61,21 @@ fn get_target(
             };
             get_feed(alloc, root, store, feed, method, request)
         }
-        Target::ElementFeed { .. } | Target::Flat { .. } => Ok(Reply::fixed(501, request.closes)),
+        Target::ElementFeed {
+            tag,
+            doc,
+            selector,
+            raw,
+        } => {
+            let watch = Watch {
+                tag: *tag,
+                doc,
+                selector,
+                raw,
+            };
+            get_element_feed(alloc, root, store, watch, method, request)
+        }
+        Target::Flat { .. } => Ok(Reply::fixed(501, request.closes)),
     }
 }
 
