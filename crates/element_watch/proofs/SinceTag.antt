@@ -5,6 +5,7 @@ use Rattle.std.proofs.lemmas.List.{reverse-append, reverse-reverse}
 use Rattle.std.proofs.lemmas.Option.{same_Some}
 use Rattle.std.specs.List.{AllByRecursion}
 use Rattle.xml_tree.specs.Tree.{Tree, at}
+use Rattle.doc_names.specs.Ids.{id_text}
 use Rattle.doc_names.specs.Same.{same_id}
 use Rattle.doc_names.specs.Usages.{usage_of}
 use Rattle.doc_names.specs.declared.doc_id.DocId.{DocId}
@@ -15,6 +16,9 @@ use Rattle.node_select.proofs.Along.{one_path, path_there}
 use Rattle.notes.specs.Notes.{Note}
 use Rattle.notes.specs.Operations.{weight}
 use Rattle.key_laws.specs.KeyAddresses.{IsKeyAddressOf}
+use Rattle.patch_text.specs.Elements.{element_notice}
+use Rattle.patch_text.specs.declared.elements.ElementState.{ElementState}
+use Rattle.patch_text.specs.declared.elements.ElementState.TheVariants.{Unchanged, Exists, Missing}
 use Rattle.store_core.specs.Changing.{document_in, document_name, held_name}
 use Rattle.store_core.specs.Held.{Held, Stands, Stock, held_of}
 use Rattle.store_core.specs.Keeping.{IsKept, IsSound, IsSoundFor, Kept}
@@ -25,7 +29,7 @@ use Rattle.store_core.proofs.Asked.{found-name}
 use Rattle.store_core.proofs.Chains.{notes_of}
 use Rattle.element_watch.specs.Finding.{FindFrom, FindSince, Finds, notes_behind}
 use Rattle.element_watch.specs.Touching.{PassesThrough}
-use Rattle.element_watch.specs.Watching.{IsQuiet}
+use Rattle.element_watch.specs.Watching.{IsElementNotice, IsQuiet, IsStateOf, silent_notice}
 use Rattle.element_watch.proofs.Chain.{begins_with, found_in_each}
 
 -- ---- ends of lists
@@ -149,7 +153,7 @@ module _ (u : Usage) (selector : Selector) (p : List ℕ) (d : Document) (next t
         finds = finds_in selects address q passes;
       }
 
-pub find_since : (c : Stock) (m : State) (id : DocId) (tag : ℕ) (ns : List Note) (held : Held) (u : Usage) (selector : Selector) (p : List ℕ) → Kept m → Stands c m → since c id tag ≡ Told ns → document_in held_name c.documents id ≡ Some held
+find_since : (c : Stock) (m : State) (id : DocId) (tag : ℕ) (ns : List Note) (held : Held) (u : Usage) (selector : Selector) (p : List ℕ) → Kept m → Stands c m → since c id tag ≡ Told ns → document_in held_name c.documents id ≡ Some held
     → usage_of id.auid ≡ Some u → IsQuiet (Some u) held.tree selector ns → SelectsPath selector.steps held.tree p → IsKeyAddressOf u held.tree selector p → FindSince m id tag selector.steps p
 find_since c m id tag ns held u selector p kept stands told there known quiet selects address =
     let mapped : document_in held_name (map held_of m.documents) id ≡ Some held = ap (λ (x : Stock). document_in held_name x.documents id) (sym stands) ∙ there in
@@ -163,3 +167,20 @@ find_since c m id tag ns held u selector p kept stands told there known quiet se
     let place = former_place u held.tree selector ns p selects quiet in
     since_found u selector p d m.next tag ns (kept_found m.next id m.documents d kept.documents r.1.0) known' in_state m id r.1.0 (subst (λ (t : Tree). SelectsPath selector.steps t p) tree selects)
     (subst (λ (t : Tree). IsKeyAddressOf u t selector p) tree address) place.0 place.1
+
+-- ---- a notice that says nothing
+
+silent_so : (root id raw : List ℕ) (state : ElementState) → silent_notice root ≡ element_notice root id raw state → state ≡ Unchanged
+silent_so root id raw Unchanged is = refl
+silent_so root id raw Exists is = let contents = ap (λ (t : Tree). t.content) is in cc
+silent_so root id raw Missing is = let contents = ap (λ (t : Tree). t.content) is in cc
+
+quiet_so : (u : Usage) (t : Tree) (selector : Selector) (ns : List Note) (usage : Option Usage) (state : ElementState) → usage ≡ Some u → state ≡ Unchanged → IsStateOf usage t selector ns state → IsQuiet (Some u) t selector ns
+quiet_so u t selector ns usage state known unchanged is = subst (λ (x : Option Usage). IsQuiet x t selector ns) known (subst (IsStateOf usage t selector ns) unchanged is)
+
+pub find_unreported : (root : List ℕ) (c : Stock) (m : State) (id : DocId) (tag : ℕ) (ns : List Note) (held : Held) (u : Usage) (selector : Selector) (raw p : List ℕ) → Kept m → Stands c m → since c id tag ≡ Told ns → document_in held_name c.documents id ≡ Some held
+    → usage_of id.auid ≡ Some u → IsElementNotice root c id selector raw ns (silent_notice root) → SelectsPath selector.steps held.tree p → IsKeyAddressOf u held.tree selector p → FindSince m id tag selector.steps p
+find_unreported root c m id tag ns held u selector raw p kept stands told there known notice selects address =
+    let same : notice.held ≡ held = same_Some notice.held held (sym notice.there ∙ there) in
+    let quiet = quiet_so u notice.held.tree selector ns (usage_of id.auid) notice.state known (silent_so root (id_text id) raw notice.state notice.told) notice.is_state in
+    find_since c m id tag ns held u selector p kept stands told there known (subst (λ (h : Held). IsQuiet (Some u) h.tree selector ns) same quiet) selects address

@@ -10,6 +10,7 @@ use Rattle.doc_names.specs.declared.usages.Usage.{Usage}
 use Rattle.node_select.specs.Selection.{SelectsPath}
 use Rattle.node_select.specs.declared.selector.Selector.{Selector}
 use Rattle.notes.specs.Notes.{Note}
+use Rattle.patch_words.specs.Notices.{candidate, diff}
 use Rattle.patch_text.specs.Elements.{element_notice}
 use Rattle.patch_text.specs.declared.elements.ElementState.{ElementState}
 use Rattle.patch_text.specs.declared.elements.ElementState.TheVariants.{Unchanged, Exists, Missing}
@@ -59,7 +60,11 @@ pub record IsElementNotice (root : List ℕ) (c : Stock) (id : DocId) (selector 
   pub is_state : IsStateOf (usage_of id.auid) held.tree selector ns state
   pub told : notice ≡ element_notice root (id_text id) raw state
 
--- its text
+-- the notice that says nothing
+abbrev pub silent_notice : List ℕ → Tree
+silent_notice root = diff (candidate 0) root []
+
+-- the text of a notice
 abbrev pub IsNoticeText : List ℕ → Stock → DocId → Selector → List ℕ → List Note → List ℕ → Type 0
 IsNoticeText root c id selector raw ns text =
     (notice : Tree) × (IsElementNotice root c id selector raw ns notice × (text ≡ encode_utf8_all (document_print notice)))

@@ -16,7 +16,7 @@ ghost use Rattle.store_core.specs.State.{State};
 ghost use Rattle.patch_text.specs.declared.elements.ElementState.{ElementState};
 ghost use Rattle.element_watch.specs.Finding.{FindSince};
 ghost use Rattle.element_watch.specs.Touching.{PassesThrough};
-ghost use Rattle.element_watch.specs.Watching.{IsElementNotice, IsQuiet, IsStateOf};
+ghost use Rattle.element_watch.specs.Watching.{IsElementNotice, IsStateOf, silent_notice};
 
 /// A law: through notes at most one place passes to a place.
 pub fn one_place_passes_to_another()
@@ -43,10 +43,11 @@ pub fn each_element_has_one_notice()
 /// version that was known and in each later one, at a path that the changes since move to the
 /// present one.
 pub fn unreported_elements_are_the_same()
-    ensures finds_the_same { (c : Stock) (m : State) (id : DocId) (tag : ℕ) (ns : List Note)
-        (held : Held) (u : Usage) (selector : Selector) (p : List ℕ) → Kept m → Stands c m
-        → since c id tag ≡ Told ns → document_in held_name c.documents id ≡ Some held
-        → usage_of id.auid ≡ Some u → IsQuiet (Some u) held.tree selector ns
+    ensures finds_the_same { (root : List ℕ) (c : Stock) (m : State) (id : DocId) (tag : ℕ)
+        (ns : List Note) (held : Held) (u : Usage) (selector : Selector) (raw p : List ℕ)
+        → Kept m → Stands c m → since c id tag ≡ Told ns
+        → document_in held_name c.documents id ≡ Some held → usage_of id.auid ≡ Some u
+        → IsElementNotice root c id selector raw ns (silent_notice root)
         → SelectsPath selector.steps held.tree p → IsKeyAddressOf u held.tree selector p
         → FindSince m id tag selector.steps p }
 {}
