@@ -53,10 +53,12 @@ use Rattle.element_watch.specs.Watching.{IsElementNotice}
 use Rattle.element_watch.proofs.States.{one_notice, some_notice}
 use Rattle.store_core.specs.Since.{Story, Gone, Unknown, Told, since}
 use Rattle.store_core.specs.Held.{Stock as Content}
+use Rattle.list_resolve.proofs.OneList.{one_list, some_list}
 use Rattle.machine_words.specs.Answers.{Answer, Behind, BehindConditions, conflict, found, not_allowed, unchanged}
 use Rattle.machine_words.specs.Requests.{ByMethod, ByTarget, ByUser, Deletes, IsAnswer, IsAnswered, Puts, auid_of, fault_status, home_of, is_bindings, is_read_only, takes, ReadsTarget as Reads}
 use Rattle.machine_words.specs.ElementFeeds.{TellsElement}
 use Rattle.machine_words.specs.Feeds.{sends_notice, story_answer}
+use Rattle.machine_words.specs.FlatLists.{IsFlatDocument, document_of, sends_flat}
 use Rattle.machine_words.specs.Reading.{SendsDocument, SendsFound, SendsNode}
 use Rattle.machine_words.specs.Resources.{LeadsTo, Resource, absent, beyond_limit, there, version_of}
 use Rattle.machine_words.specs.Fragments.{CutsNode, DeletesNodeIn, PutsAt, PutsElement, PutsElementText, PutsFragment, PutsFrom, PutsNodeIn, PutsNodeOf, PutsValue, PutsValueText, cut_reply, is_there, levels_for, plan_answer, put_planned, scope_for, value_conflict}
@@ -129,7 +131,11 @@ module _ (method : Method) (request : Request) where
   one_read root c (Deep auid home) = one_equal (unchanged (plain 404 request.closes))
   one_read root c (Feed mode tag id) = one_equal (story_answer root mode tag id (since c id tag) method request)
   one_read root c (ElementFeed tag id selector raw) = one_element_told root c tag id selector raw (since c id tag) refl
-  one_read root c (Flat id service) = one_equal (unchanged (plain 501 request.closes))
+  one_read root c (Flat id service) =
+      let list = some_list c root id service in
+      let document = document_of list.0 in
+      one_by (IsFlatDocument root c id service) (λ x a. a ≡ sends_flat x method request) document (list.0, list.1, refl) (λ x is. is.2 ∙ ap document_of (one_list c root id service is.0 list.0 is.1 list.1))
+      (one_equal (sends_flat document method request))
 
 -- ---- PUT of documents
 

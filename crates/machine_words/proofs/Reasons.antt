@@ -49,7 +49,10 @@ use Rattle.store_core.specs.declared.refusal.StoreRefusal.TheVariants as refusal
 use Rattle.machine_words.specs.Answers.{Answer, Behind, BehindConditions, conflict, found, not_allowed, unchanged}
 use Rattle.machine_words.specs.Fragments.{CutsNode, DeletesNodeIn, PutsAt, PutsElementText, PutsFragment, PutsFrom, PutsNodeIn, PutsValueText, cut_reply, is_there, plan_answer, value_conflict}
 use Rattle.machine_words.specs.ElementFeeds.{TellsElement}
+use Rattle.list_resolve.specs.declared.fault.FlatFault.{FlatFault}
+use Rattle.list_resolve.specs.declared.fault.FlatFault.TheVariants.{NoService, TooWide, TooLarge, NoMemory}
 use Rattle.machine_words.specs.Feeds.{sends_notice, story_answer}
+use Rattle.machine_words.specs.FlatLists.{sends_flat}
 use Rattle.machine_words.specs.Reading.{SendsDocument, SendsFound, SendsNode}
 use Rattle.machine_words.specs.Requests.{ByMethod, ByTarget, ByUser, Deletes, IsAnswer, IsAnswered, Puts, auid_of, fault_status, home_of, is_read_only, takes, ReadsTarget as Reads}
 use Rattle.machine_words.specs.Resources.{Resource, absent, beyond_limit, there, version_of}
@@ -146,13 +149,22 @@ module _ (method : Method) (request : Request) (a : Answer) where
   element_told_so root c tag id selector raw Unknown is = only request a 410 refl is
   element_told_so root c tag id selector raw (Told ns) is = notice_so is.0 is.2
 
+  flat_so : (answer : Result Tree FlatFault) → a ≡ sends_flat answer method request → Fine a
+  flat_so (Ok t) is =
+      let sent = found None medias.ResourceLists (encode_utf8_all (document_print t)) request.closes in
+      fine request a (as_asked method sent) (asked_so method sent refl) is
+  flat_so (Err NoService) is = only request a 404 refl is
+  flat_so (Err TooWide) is = only request a 507 refl is
+  flat_so (Err (TooLarge len)) is = only request a 507 refl is
+  flat_so (Err NoMemory) is = only request a 507 refl is
+
   read_so : (root : List ℕ) (c : Content) (target : Target) → Reads root c target method request a → Fine a
   read_so root c (Document id) is = document_so is.0 (document_media id.auid) is.2
   read_so root c (Node id selector) is = node_so is.0 selector is.2
   read_so root c (Deep auid home) is = only request a 404 refl is
   read_so root c (Feed mode tag id) is = story_so root mode tag id (since c id tag) is
   read_so root c (ElementFeed tag id selector raw) is = element_told_so root c tag id selector raw (since c id tag) is
-  read_so root c (Flat id service) is = only request a 501 refl is
+  read_so root c (Flat id service) is = flat_so is.0 is.2
 
 -- ---- writing
 

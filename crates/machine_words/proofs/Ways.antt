@@ -67,7 +67,10 @@ use Rattle.store_core.specs.declared.refusal.StoreRefusal.TheVariants as refusal
 use Rattle.machine_words.specs.Answers.{Answer, Behind, BehindConditions, conflict, found, not_allowed, unchanged}
 use Rattle.machine_words.specs.Laws.{tells_change}
 use Rattle.machine_words.specs.ElementFeeds.{TellsElement}
+use Rattle.list_resolve.specs.declared.fault.FlatFault.{FlatFault}
+use Rattle.list_resolve.specs.declared.fault.FlatFault.TheVariants.{NoService, TooWide, TooLarge, NoMemory}
 use Rattle.machine_words.specs.Feeds.{sends_notice, story_answer}
+use Rattle.machine_words.specs.FlatLists.{sends_flat}
 use Rattle.machine_words.specs.Reading.{SendsDocument, SendsFound, SendsNode}
 use Rattle.machine_words.specs.Requests.{ByMethod, ByTarget, ByUser, Deletes, IsAnswer, IsAnswered, IsWritableTarget, Puts, auid_of, fault_status, home_of, is_read_only, takes, ReadsTarget as Reads}
 use Rattle.machine_words.specs.Resources.{Resource, absent, beyond_limit, there, version_of}
@@ -191,13 +194,22 @@ module _ (method : Method) (request : Request) (c : Content) (a : Answer) (quiet
   element_way root tag id selector raw Unknown is = only method c request a 410 refl refl is
   element_way root tag id selector raw (Told ns) is = notice_way is.0 is.2
 
+  flat_way : (answer : Result Tree FlatFault) → a ≡ sends_flat answer method request → Way method request.closes c a
+  flat_way (Ok t) is =
+      let sent = found None medias.ResourceLists (encode_utf8_all (document_print t)) request.closes in
+      stays (as_asked method sent) (quiet (as_asked method sent).status) (asked_closes method sent) is
+  flat_way (Err NoService) is = only method c request a 404 refl refl is
+  flat_way (Err TooWide) is = only method c request a 507 refl refl is
+  flat_way (Err (TooLarge len)) is = only method c request a 507 refl refl is
+  flat_way (Err NoMemory) is = only method c request a 507 refl refl is
+
   reads_way : (root : List ℕ) (target : Target) → Reads root c target method request a → Way method request.closes c a
   reads_way root (Document id) is = document_way is.0 (document_media id.auid) is.2
   reads_way root (Node id selector) is = node_way is.0 selector is.2
   reads_way root (Deep auid home) is = only method c request a 404 refl refl is
   reads_way root (Feed mode tag id) is = story_way root mode tag id (since c id tag) is
   reads_way root (ElementFeed tag id selector raw) is = element_way root tag id selector raw (since c id tag) is
-  reads_way root (Flat id service) is = only method c request a 501 refl refl is
+  reads_way root (Flat id service) is = flat_way is.0 is.2
 
 -- ---- PUT
 

@@ -2,6 +2,7 @@ pub mod Answers
 pub mod Resources
 pub mod Reading
 pub mod Feeds
+pub mod FlatLists
 pub mod Writing
 pub mod Requests
 pub mod Machine

@@ -24,6 +24,7 @@ use Rattle.request_terms.specs.Rights.{is_allowed}
 use Rattle.machine_words.specs.Answers.{Answer, unchanged, not_allowed}
 use Rattle.machine_words.specs.ElementFeeds.{ReadsElementFeed}
 use Rattle.machine_words.specs.Feeds.{ReadsFeed}
+use Rattle.machine_words.specs.FlatLists.{ReadsFlat}
 use Rattle.machine_words.specs.Reading.{ReadsDocument, ReadsNode}
 use Rattle.machine_words.specs.Writing.{IfStored, PutsDocument, puts_deeper, DeletesDocument}
 use Rattle.machine_words.specs.Fragments.{PutsNode, DeletesNode, MayBeWritten}
@@ -74,14 +75,14 @@ IsWritableTarget (Flat id service) = Unit {0}
 
 -- ---- by method
 
--- GET and HEAD; flat lists aren't read yet
+-- GET and HEAD
 abbrev pub ReadsTarget : List ℕ → Stock → Target → Method → Request → Answer → Type 0
 ReadsTarget root c (Document id) method request a = ReadsDocument c id method request a
 ReadsTarget root c (Node id selector) method request a = ReadsNode c id selector method request a
 ReadsTarget root c (Deep auid home) method request a = a ≡ unchanged (plain 404 request.closes)
 ReadsTarget root c (Feed mode tag id) method request a = ReadsFeed root c mode tag id method request a
 ReadsTarget root c (ElementFeed tag id selector raw) method request a = ReadsElementFeed root c tag id selector raw method request a
-ReadsTarget root c (Flat id service) method request a = a ≡ unchanged (plain 501 request.closes)
+ReadsTarget root c (Flat id service) method request a = ReadsFlat root c id service method request a
 
 -- feeds and flat lists are read only, so they never come here
 abbrev pub Puts : List ℕ → Stock → Target → Usage → Request → Answer → Type 0

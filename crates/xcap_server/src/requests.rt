@@ -19,6 +19,7 @@ use document_feeds::{Feed, get_element_feed, get_feed};
 use document_reads::{get_document, get_node};
 use document_writes::{Decision, delete_document, delete_node, put_deeper, put_document, put_node};
 use element_watch::Watch;
+use flat_lists::get_flat;
 use http_wire::Request;
 use reply_text::Reply;
 use request_terms::{Method, is_allowed};
@@ -75,7 +76,7 @@ fn get_target(
             };
             get_element_feed(alloc, root, store, watch, method, request)
         }
-        Target::Flat { .. } => Ok(Reply::fixed(501, request.closes)),
+        Target::Flat { doc, service } => get_flat(alloc, root, store, doc, service, method, request),
     }
 }
 

@@ -1,0 +1,76 @@
+//! GET and HEAD of flat lists (RFC 4826, section 4; RFC 9110, sections 9.3.1 and 9.3.2).
+ghost use Rattle.std.specs.Prelude.{◌≡◌, None, IfOk, encode_utf8_all};
+ghost use Rattle.tree_text.specs.Printing.{document_print};
+ghost use Rattle.reply_text.specs.declared.media_types.Media.TheVariants as medias;
+ghost use Rattle.request_terms.specs.Methods.{as_asked};
+ghost use Rattle.list_resolve.specs.Answering.{Answered};
+ghost use Rattle.machine_words.specs.Answers.{found, unchanged};
+ghost use Rattle.machine_words.specs.FlatLists.{IsFlatDocument, ReadsFlat};
+
+use crate::NoMemory;
+use doc_names::DocId;
+use http_wire::Request;
+use list_resolve::{FlatFault, flat_document, flat_list};
+use reply_text::{Media, Reply};
+use request_terms::{Method, as_asked};
+use std::alloc::{AllocError, Global};
+use store_core::Store;
+use tree_text::print_document;
+use xcap_io::Bytes;
+use xcap_uri::Root;
+use xml_tree::{Element, Text};
+
+// The document of a flat list, or why there is none.
+fn document(
+    alloc: Global,
+    root: &Root,
+    store: &Store,
+    doc: &DocId,
+    service: &Text,
+) -> Result<Element, FlatFault>
+    ensures document_of_the_list { Answered (λ made. made) (IsFlatDocument root.now store.now.content doc.now service.now) result }
+{
+    let uris = flat_list(alloc, store, root, doc, service.as_str())?;
+    let made = flat_document(alloc, &uris)?;
+    Ok(made)
+}
+
+// The reply with a document, or for HEAD the head of that reply. It has no tag.
+fn with_document(
+    alloc: Global,
+    document: &Element,
+    method: Method,
+    closes: bool,
+) -> Result<Reply, NoMemory>
+    ensures sends_the_document_as_asked { IfOk result (λ r. r ≡ as_asked method (found None medias.ResourceLists (encode_utf8_all (document_print document.now)) closes)) }
+{
+    let text = print_document(alloc, document)?;
+    let reply = Reply::with(200, None, Some(Media::ResourceLists), text, closes);
+    Ok(as_asked(method, reply))
+}
+
+/// The reply to a GET or HEAD of a flat list: the document of the addresses behind the service with this address in a document; 404
+/// where the document isn't held or has no such service; 507 where its references are more than 4,096, or the reply's document would
+/// have more than 16,777,216 bytes. Conditions aren't looked at. HEAD gets the head of GET's reply.
+///
+/// # Errors
+/// `NoMemory` for want of memory.
+pub fn get_flat(
+    alloc: Global,
+    root: &Root,
+    store: &Store,
+    doc: &DocId,
+    service: &Text,
+    method: Method,
+    request: &Request,
+) -> Result<Reply, NoMemory>
+    ensures replies_as_the_machine { IfOk result (λ r. ReadsFlat root.now store.now.content doc.now service.now method request.now (unchanged r)) }
+{
+    match document(alloc, root, store, doc, service) {
+        Ok(document) => with_document(alloc, &document, method, request.closes),
+        Err(FlatFault::NoService) => Ok(Reply::fixed(404, request.closes)),
+        Err(FlatFault::TooWide) => Ok(Reply::fixed(507, request.closes)),
+        Err(FlatFault::TooLarge(_)) => Ok(Reply::fixed(507, request.closes)),
+        Err(FlatFault::NoMemory) => Err(AllocError),
+    }
+}

@@ -1,0 +1,43 @@
+-- Flat lists: the addresses behind a service, as a document of lists. RFC 4826, section 4, says what a service is. That a flat list has an
+-- address, and that neither conditions nor tags go with it, is this server's own.
+use Rattle.std.specs.Prelude.{◌≡◌, ℕ, List, None, Result, Ok, Err, encode_utf8_all}
+use Rattle.xml_tree.specs.Tree.{Tree}
+use Rattle.tree_text.specs.Printing.{document_print}
+use Rattle.doc_names.specs.declared.doc_id.DocId.{DocId}
+use Rattle.reply_text.specs.Heads.{plain}
+use Rattle.reply_text.specs.declared.media_types.Media.TheVariants as medias
+use Rattle.http_wire.specs.declared.request.Request.{Request}
+use Rattle.request_terms.specs.Methods.{as_asked}
+use Rattle.request_terms.specs.declared.method.Method.{Method}
+use Rattle.store_core.specs.Held.{Stock}
+use Rattle.list_resolve.specs.Documents.{flat_document}
+use Rattle.list_resolve.specs.Flat.{IsFlatList}
+use Rattle.list_resolve.specs.declared.fault.FlatFault.{FlatFault}
+use Rattle.list_resolve.specs.declared.fault.FlatFault.TheVariants.{NoService, TooWide, TooLarge, NoMemory}
+use Rattle.machine_words.specs.Answers.{Answer, found, unchanged}
+
+-- the document of a flat list, or why there is none
+abbrev pub document_of : Result (List (List ℕ)) FlatFault → Result Tree FlatFault
+document_of (Ok uris) = flat_document uris
+document_of (Err fault) = Err fault
+
+-- the same for the service with this address in this document, where this is held
+abbrev pub IsFlatDocument : List ℕ → Stock → DocId → List ℕ → Result Tree FlatFault → Type 0
+IsFlatDocument root c id service answer = (list : Result (List (List ℕ)) FlatFault) × IsFlatList c root id service list × (answer ≡ document_of list)
+
+-- there is no such service; or its references or the document's bytes are too many; want of memory is nowhere stated
+abbrev pub flat_status : FlatFault → ℕ
+flat_status NoService = 404
+flat_status TooWide = 507
+flat_status (TooLarge len) = 507
+flat_status NoMemory = 507
+
+-- the document is sent, without a tag
+abbrev pub sends_flat : Result Tree FlatFault → Method → Request → Answer
+sends_flat (Ok t) method request = unchanged (as_asked method (found None medias.ResourceLists (encode_utf8_all (document_print t)) request.closes))
+sends_flat (Err fault) method request = unchanged (plain (flat_status fault) request.closes)
+
+-- GET or HEAD of a flat list
+abbrev pub ReadsFlat : List ℕ → Stock → DocId → List ℕ → Method → Request → Answer → Type 0
+ReadsFlat root c id service method request a =
+    (answer : Result Tree FlatFault) × IsFlatDocument root c id service answer × (a ≡ sends_flat answer method request)
