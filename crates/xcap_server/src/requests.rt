@@ -76,7 +76,9 @@ fn get_target(
             };
             get_element_feed(alloc, root, store, watch, method, request)
         }
-        Target::Flat { doc, service } => get_flat(alloc, root, store, doc, service, method, request),
+        Target::Flat { doc, service } => get_flat(
+            alloc, root, store, doc, service, method, request,
+        ),
     }
 }
 
