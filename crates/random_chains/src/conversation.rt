@@ -1,21 +1,25 @@
 //! A conversation with a server in memory, and what is known of the versions of its documents.
 use crate::choices::Choices;
 use crate::documents::prefix;
+use crate::edges::{print_edges, print_gone};
 use crate::following::{Followed, Version, follow};
-use crate::requests::{Request, edit, whole};
+use crate::naming::{USER, address};
+use crate::requests::{Request, delete, edit, whole};
 use anyhow::{Result, bail};
 use std::alloc::Global;
+use tree_text::read_document;
 use watchers::Watcher;
 use xcap_io::MemLine;
 use xcap_server::{Server, serve_connection};
 use xcap_uri::read_root;
+use xml_tree::Text;
 
 // A response: its status, its tag and its body.
 #[derive(Drop)]
-pub struct Response {
-    pub status: String,
-    pub tag: Option<String>,
-    pub body: String,
+struct Response {
+    status: String,
+    tag: Option<Text>,
+    body: String,
 }
 
 // One of the documents: its name, the prefix that its names have, and its versions so far.
@@ -35,12 +39,10 @@ pub struct Conversation {
     changed: Option<usize>,
 }
 
-const USER: &str = "sip:joe@example.com";
+const ROOM: usize = 65_536;
 
-const ROOM: usize = 4_000_000;
-
-/// The response of the server to the bytes of one request.
-pub fn respond(alloc: Global, server: &mut Server, request: &str) -> Result<Response> {
+// The response of the server to the bytes of one request.
+fn respond(alloc: Global, server: &mut Server, request: &str) -> Result<Response> {
     let mut line = MemLine::new(alloc, request.as_bytes(), 65_536, None, ROOM)?;
     let mut watchers: Vec<Box<dyn Watcher>> = Vec::new(alloc);
     serve_connection(server, &mut line, &mut watchers);
@@ -54,7 +56,7 @@ pub fn respond(alloc: Global, server: &mut Server, request: &str) -> Result<Resp
     let mut tag = None;
     for field in head.lines() {
         if let Some(value) = field.strip_prefix("ETag: ") {
-            tag = Some(String::from_str(alloc, value.trim_matches('"'))?);
+            tag = Some(Text::from(alloc, value.trim_matches('"'))?);
         }
     }
     Ok(Response {
@@ -64,14 +66,9 @@ pub fn respond(alloc: Global, server: &mut Server, request: &str) -> Result<Resp
     })
 }
 
-/// The bytes of a GET of what an address under the root names.
-pub fn get(alloc: Global, address: &str) -> Result<String> {
+// The bytes of a GET of what an address under the root names.
+fn get(alloc: Global, address: &str) -> Result<String> {
     Ok(format!(in alloc; "GET /xcap/{address} HTTP/1.1\r\nHost: x\r\nX-XCAP-User: {USER}\r\n\r\n")?)
-}
-
-/// The address of a document of the user, under the root.
-pub fn address(alloc: Global, name: &str) -> Result<String> {
-    Ok(format!(in alloc; "resource-lists/users/{USER}/{name}")?)
 }
 
 // The bytes of a request.
@@ -106,10 +103,17 @@ fn present(alloc: Global, server: &mut Server, name: &str) -> Result<Option<Vers
         tag,
         body,
     } = response;
-    Ok(match tag {
-        Some(tag) => Some(Version { tag, text: body }),
-        None => None,
-    })
+    let Some(tag) = tag else {
+        return Ok(None);
+    };
+    let Ok(root) = read_document(alloc, body.as_str().as_bytes(), 64) else {
+        bail!("no document was sent");
+    };
+    Ok(Some(Version {
+        tag,
+        text: body,
+        root,
+    }))
 }
 
 impl Conversation {
@@ -168,5 +172,18 @@ impl Conversation {
             Some(document) => follow(rt, &mut self.server, document, followed),
             None => Ok(()),
         }
+    }
+    /// Prints what comes of following the first document where it isn't brought up to date, and where it is gone.
+    pub fn print_edges(&mut self, rt: &HostRuntime) -> Result<()> {
+        let alloc = self.alloc;
+        let Some(document) = self.documents.first() else {
+            bail!("no document");
+        };
+        let Document { name, versions, .. } = document;
+        print_edges(rt, &mut self.server, name, versions)?;
+        let request = delete(alloc, String::new(alloc));
+        let bytes = bytes_of(alloc, name, &request)?;
+        respond(alloc, &mut self.server, bytes.as_str())?;
+        print_gone(rt, &mut self.server, name, versions)
     }
 }

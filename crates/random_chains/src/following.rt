@@ -1,18 +1,22 @@
-//! Subscribers that hold versions and apply notices.
-use crate::conversation::{Document, address, get, respond};
+//! Subscribers that hold versions, and follow their document.
+use crate::conversation::Document;
+use crate::naming::document_id;
 use anyhow::{Result, bail};
-use doc_names::{Auid, DocId, Home};
-use patch_apply::{Held, Replica, apply_notice, read_notice};
+use feed_requests::has_feed;
+use followed_feeds::{FollowFault, followed, is_low};
+use patch_apply::{Held, Replica};
 use std::alloc::Global;
-use tree_text::{print_document, read_document};
+use tree_text::print_document;
 use xcap_server::Server;
-use xml_tree::Text;
+use xcap_uri::Mode;
+use xml_tree::{Element, Text, copy_tree};
 
-/// A version of a document: its tag and its text.
+/// A version of a document: its tag, its text and its tree.
 #[derive(Drop)]
 pub struct Version {
-    pub tag: String,
+    pub tag: Text,
     pub text: String,
+    pub root: Element,
 }
 
 /// What came of the requests and notices so far.
@@ -51,64 +55,70 @@ impl Followed {
     }
 }
 
-// Whether a subscriber that holds a version and applies a notice holds another one.
-fn leads_to(alloc: Global, name: &str, from: &Version, notice: &str, to: &Version) -> Result<bool> {
-    let Ok(notice) = read_notice(alloc, notice.as_bytes()) else {
-        return Ok(false);
-    };
-    let Ok(root) = read_document(alloc, from.text.as_str().as_bytes(), 64) else {
-        return Ok(false);
-    };
-    let doc = DocId {
-        auid: Auid::ResourceLists,
-        home: Home::User(Text::from(alloc, "sip:joe@example.com")?),
-        name: Text::from(alloc, name)?,
-    };
-    let held = Held {
-        tag: Text::from(alloc, from.tag.as_str())?,
-        root,
-    };
-    let mut replica = Replica {
-        doc,
-        held: Some(held),
-    };
-    if apply_notice(alloc, &mut replica, &notice).is_err() {
-        return Ok(false);
-    }
+// Whether what a subscriber holds is a version, tag and text.
+fn holds(alloc: Global, replica: &Replica, version: &Version) -> Result<bool> {
     let Some(held) = &replica.held else {
         return Ok(false);
     };
     let text = print_document(alloc, &held.root)?;
-    Ok(held.tag.as_str() == to.tag.as_str() && text.as_slice() == to.text.as_str().as_bytes())
+    Ok(held.tag == version.tag && text.as_slice() == version.text.as_str().as_bytes())
+}
+
+// Where following a document from a version led.
+enum Led {
+    There,
+    Elsewhere,
+    // The changes since that version aren't told any more.
+    Nowhere,
 }
 
 // Follows a document from a version, in a mode.
+fn lead(
+    alloc: Global,
+    server: &mut Server,
+    mode: Mode,
+    name: &str,
+    from: &Version,
+    to: &Version,
+) -> Result<Led> {
+    let doc = document_id(alloc, name)?;
+    let held = Held {
+        tag: from.tag.copy(alloc)?,
+        root: copy_tree(alloc, &from.root)?,
+    };
+    let mut replica = Replica {
+        doc: document_id(alloc, name)?,
+        held: Some(held),
+    };
+    if !has_feed(&doc) || !is_low(&replica) {
+        bail!("a document that can't be followed");
+    }
+    match followed(alloc, server, &doc, mode, &mut replica) {
+        Ok(_) if holds(alloc, &replica, to)? => Ok(Led::There),
+        Err(FollowFault::Status(410)) => Ok(Led::Nowhere),
+        _ => Ok(Led::Elsewhere),
+    }
+}
+
+// Follows a document from a version, in a mode, and counts what came of it.
 fn follow_from(
     rt: &HostRuntime,
     server: &mut Server,
-    mode: &str,
+    mode: Mode,
     name: &str,
     from: &Version,
     to: &Version,
     followed: &mut Followed,
 ) -> Result<()> {
-    let alloc = rt.alloc();
-    let document = address(alloc, name)?;
-    let (document, tag) = (document.as_str(), from.tag.as_str());
-    let feed = format!(in alloc; "~feed/{mode}/{tag}/{document}")?;
-    let request = get(alloc, feed.as_str())?;
-    let response = respond(alloc, server, request.as_str())?;
-    match response.status.as_str() {
-        "200" => {
+    match lead(rt.alloc(), server, mode, name, from, to)? {
+        Led::There => followed.applied = followed.applied.saturating_add(1),
+        Led::Nowhere => followed.forgotten = followed.forgotten.saturating_add(1),
+        Led::Elsewhere => {
             followed.applied = followed.applied.saturating_add(1);
-            if !leads_to(alloc, name, from, response.body.as_str(), to)? {
-                followed.differing = followed.differing.saturating_add(1);
-                let notice = response.body.as_str();
-                println!(rt; "{mode} from {tag}: {notice}")?;
-            }
+            followed.differing = followed.differing.saturating_add(1);
+            let (tag, wanted) = (from.tag.as_str(), to.tag.as_str());
+            println!(rt; "{name} from {tag} in {mode:?}: not {wanted}")?;
         }
-        "410" => followed.forgotten = followed.forgotten.saturating_add(1),
-        _ => bail!("a feed was answered otherwise"),
     }
     Ok(())
 }
@@ -125,7 +135,7 @@ pub fn follow(
     };
     followed.changes = followed.changes.saturating_add(1);
     for from in &document.versions {
-        for mode in ["xcap-patching", "aggregate"] {
+        for mode in [Mode::XcapPatching, Mode::Aggregate] {
             follow_from(rt, server, mode, document.name, from, to, followed)?;
         }
     }

@@ -1,15 +1,17 @@
 //! Subscribers of a server that random requests edit. The words of the command line are the seed and how many requests there are.
-//! After each request that changed a document, who holds a version that the server still tells changes since, and applies the
-//! notice of these, has to hold exactly what a GET of the document gives: its tag and its text. Each retained version is tried, in
-//! both modes of patching. It prints how many requests, changes and notices there were, and each notice that leads elsewhere;
-//! then the status is 1.
+//! After each request that changed a document, who holds a version that the server still tells changes since, and follows the
+//! document, has to hold exactly what a GET of the document gives: its tag and its text. Each version is tried, in both modes of
+//! patching. It prints how many requests, changes and notices there were, and each version from which following leads elsewhere;
+//! then the status is 1. Last it prints what comes of following where nothing is brought up to date.
 //! It promises nothing upward. The standards are RFC 4825, RFC 5874 and RFC 5875.
 #![tactic(auto)]
 
 mod choices;
 mod conversation;
 mod documents;
+mod edges;
 mod following;
+mod naming;
 mod requests;
 
 use crate::choices::Choices;
@@ -27,7 +29,7 @@ fn number(word: &str) -> Result<u64> {
     }
 }
 
-// Makes so many requests, and follows each change.
+// Makes so many requests, follows each change, and prints what came of it.
 fn followed(rt: &HostRuntime, seed: u64, requests: u64) -> Result<Followed> {
     let mut choices = Choices::new(seed);
     let mut talk = Conversation::new(rt.alloc())?;
@@ -37,6 +39,8 @@ fn followed(rt: &HostRuntime, seed: u64, requests: u64) -> Result<Followed> {
         talk.follow(rt, &mut followed)?;
     }
     followed.requests = requests;
+    followed.print(rt)?;
+    talk.print_edges(rt)?;
     Ok(followed)
 }
 
@@ -46,6 +50,5 @@ fn main(rt: HostRuntime) -> Result<ExitCode> {
         bail!("the words are a seed and how many requests there are");
     };
     let followed = followed(&rt, number(seed.as_str())?, number(requests.as_str())?)?;
-    followed.print(&rt)?;
     Ok(ExitCode::from(u8::from(followed.differing > 0)))
 }

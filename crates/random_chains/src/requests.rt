@@ -27,8 +27,8 @@ fn put(node: String, body: String) -> Request {
     }
 }
 
-// Deletes a node.
-fn delete(alloc: Global, node: String) -> Request {
+/// Deletes a node, or the document.
+pub fn delete(alloc: Global, node: String) -> Request {
     Request {
         method: "DELETE",
         node,
@@ -117,11 +117,11 @@ fn of_list(
 pub fn edit(alloc: Global, choices: &mut Choices, prefix: &str) -> Result<Request> {
     let number = choices.below(3);
     let list = list_step(alloc, number)?;
-    match choices.below(12) {
+    match choices.below(48) {
         0 => whole(alloc, choices, prefix),
-        1 => of_list(alloc, choices, prefix, number, list),
-        2 | 3 => of_attribute(alloc, choices, list.as_str()),
-        4 | 5 => of_name(alloc, choices, prefix, list.as_str()),
+        1..=4 => of_list(alloc, choices, prefix, number, list),
+        5..=12 => of_attribute(alloc, choices, list.as_str()),
+        13..=20 => of_name(alloc, choices, prefix, list.as_str()),
         _ => of_entry(alloc, choices, prefix, list.as_str()),
     }
 }
