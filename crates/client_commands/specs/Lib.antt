@@ -1,0 +1,5 @@
+pub mod Lines
+pub mod Endings
+pub mod Puts
+pub mod Follows
+pub mod Words

@@ -1,0 +1,50 @@
+-- What a follower makes of the answer to a GET of its document (RFC 4825, section 7.4; RFC 9110, section 15).
+use Rattle.std.specs.Prelude.{◌≡◌, ℕ, Bool, true, false, ◌==◌, List, [], Option, None, Some, Result, Ok, Err, if◌then◌else◌}
+use Rattle.xcap_io.specs.Causes.{LineState}
+use Rattle.xml_tree.specs.Tree.{Tree}
+use Rattle.tree_text.specs.Faults.{TextAnswer}
+use Rattle.tree_text.specs.declared.fault.TextFault.{TextFault}
+use Rattle.doc_names.specs.declared.doc_id.DocId.{DocId}
+use Rattle.doc_names.specs.Ids.{id_text}
+use Rattle.http_exchange.specs.declared.response.Response.{Response}
+use Rattle.patch_apply.specs.declared.replica.Held.{Held}
+use Rattle.xcap_client.specs.Asks.{getting}
+use Rattle.xcap_client.specs.Calls.{Calls}
+use Rattle.xcap_client.specs.declared.fault.ClientFault.{ClientFault}
+use Rattle.xcap_client.specs.declared.fault.ClientFault.TheVariants as clients
+use Rattle.feed_follower.specs.Faults.{of_client}
+use Rattle.feed_follower.specs.declared.fault.FollowerFault.{FollowerFault}
+use Rattle.feed_follower.specs.declared.fault.FollowerFault.TheVariants.{BadTag, BadText, NoMemory}
+
+-- the response was refused with this status
+abbrev pub is_refused_with : ℕ → ClientFault → Bool
+is_refused_with status clients.PeerFault = false
+is_refused_with status (clients.Refused told name) = told == status
+is_refused_with status (clients.BadResponse fault) = false
+is_refused_with status clients.NoMemory = false
+
+-- A response with a document has a tag, and its body spells the tree. That is told in this order; but memory may run out while the body is
+-- read.
+pub data BringsVersion (response : Response) (result : Result Held FollowerFault) : Type 0 where
+  has_no_tag : response.tag ≡ None → result ≡ Err BadTag → BringsVersion response result
+  spells_a_document : (tag : List ℕ) (root : Tree) → response.tag ≡ Some tag → TextAnswer 64 [] response.body (Ok root)
+      → result ≡ Ok (record { tag = tag; root = root }) → BringsVersion response result
+  spells_none : (tag : List ℕ) (fault : TextFault) → response.tag ≡ Some tag → TextAnswer 64 [] response.body (Err fault)
+      → result ≡ Err (BadText fault) → BringsVersion response result
+  lacks_memory : (tag : List ℕ) → response.tag ≡ Some tag → result ≡ Err NoMemory → BringsVersion response result
+
+-- the version that was brought, where the document is there
+abbrev pub version_told : Result Held FollowerFault → Result (Option Held) FollowerFault
+version_told (Ok held) = Ok (Some held)
+version_told (Err fault) = Err fault
+
+-- what was answered: a response with the document; 404, by which there is none; or another fault
+abbrev pub TakesDocument : Result Response ClientFault → Result (Option Held) FollowerFault → Type 0
+TakesDocument (Ok response) result = (version : Result Held FollowerFault) × BringsVersion response version × (result ≡ version_told version)
+TakesDocument (Err fault) result = result ≡ (if is_refused_with 404 fault then Ok None else Err (of_client fault))
+
+-- One call asked for the document, on a connection of its own.
+pub record Fetches (root : List ℕ) (user : Option (List ℕ)) (doc : DocId) (old new : LineState) (result : Result (Option Held) FollowerFault) : Type 0 where
+  pub given : Result Response ClientFault
+  pub calls : Calls root (getting user (id_text doc)) old new given
+  pub takes : TakesDocument given result

@@ -1,0 +1,51 @@
+-- What a follower makes of the answer to a GET of the feed of its document's changes (RFC 5874, section 3; RFC 5875).
+use Rattle.std.specs.Prelude.{◌≡◌, ℕ, Bool, ⊤, List, Option, None, Some, Result, Ok, Err, if◌then◌else◌}
+use Rattle.xml_tree.specs.Tree.{Tree}
+use Rattle.tree_text.specs.declared.fault.ReadError.{ReadError}
+use Rattle.doc_names.specs.declared.doc_id.DocId.{DocId}
+use Rattle.http_exchange.specs.declared.response.Response.{Response}
+use Rattle.name_words.specs.Naming.{is_name_of}
+use Rattle.patch_words.specs.Replay.{Held, replayed}
+use Rattle.patch_apply.specs.Applying.{Applies}
+use Rattle.patch_apply.specs.Reading.{NoticeAnswer}
+use Rattle.patch_apply.specs.declared.fault.ApplyFault.{ApplyFault}
+use Rattle.patch_apply.specs.declared.fault.NoticeFault.{NoticeFault}
+use Rattle.patch_apply.specs.declared.replica.Applied.{Applied}
+use Rattle.patch_apply.specs.declared.replica.Applied.TheVariants as answers
+use Rattle.xcap_client.specs.declared.fault.ClientFault.{ClientFault}
+use Rattle.feed_follower.specs.Documents.{is_refused_with}
+use Rattle.feed_follower.specs.Faults.{of_apply, of_client}
+use Rattle.feed_follower.specs.declared.fault.FollowerFault.{FollowerFault}
+use Rattle.feed_follower.specs.declared.fault.FollowerFault.TheVariants.{BadNotice, NoMemory}
+use Rattle.feed_follower.specs.declared.feeds.Round.{Round}
+use Rattle.feed_follower.specs.declared.feeds.Round.TheVariants as rounds
+
+-- what a round came to by a notice that was applied; none where the document has to be fetched
+abbrev pub outcome_of : Result Applied (ReadError ApplyFault) → Result (Option Round) FollowerFault
+outcome_of (Ok answers.Same) = Ok (Some rounds.Same)
+outcome_of (Ok answers.Patched) = Ok (Some rounds.Patched)
+outcome_of (Ok answers.Removed) = Ok (Some rounds.Removed)
+outcome_of (Ok (answers.Fetch tag)) = Ok None
+outcome_of (Err error) = Err (of_apply error)
+
+-- The body spells a notice, which was applied to what was held, or spells none; but memory may run out while it is read.
+pub data TakesNotice (doc : DocId) (body : List ℕ) (held held' : Held) (result : Result (Option Round) FollowerFault) : Type 0 where
+  applies : (notice : Tree) (applied : Result Applied (ReadError ApplyFault)) → NoticeAnswer body (Ok notice)
+      → Applies (replayed (is_name_of doc) notice held) held applied held' → result ≡ outcome_of applied
+      → TakesNotice doc body held held' result
+  is_none : (fault : NoticeFault) → NoticeAnswer body (Err fault) → held' ≡ held → result ≡ Err (BadNotice fault)
+      → TakesNotice doc body held held' result
+  lacks_memory : held' ≡ held → result ≡ Err NoMemory → TakesNotice doc body held held' result
+
+-- what was answered: a response with a notice; 410, by which the tag is no longer known and the document has to be fetched; or another
+-- fault
+abbrev pub TakesFeed : DocId → Result Response ClientFault → Held → Held → Result (Option Round) FollowerFault → Type 0
+TakesFeed doc (Ok response) held held' result = TakesNotice doc response.body held held' result
+TakesFeed doc (Err fault) held held' result =
+    (held' ≡ held) × (result ≡ (if is_refused_with 410 fault then Ok None else Err (of_client fault)))
+
+-- only where a notice told what came of the document, something else may be held than before
+abbrev pub KeepsUnlessTold : Held → Held → Result (Option Round) FollowerFault → Type 0
+KeepsUnlessTold held held' (Ok (Some round)) = ⊤
+KeepsUnlessTold held held' (Ok None) = held' ≡ held
+KeepsUnlessTold held held' (Err fault) = held' ≡ held

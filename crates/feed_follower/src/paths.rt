@@ -1,0 +1,51 @@
+// What a follower asks for, under the root.
+ghost use Rattle.std.specs.Prelude.{◌≡◌, IfOk, chars, option_map};
+ghost use Rattle.doc_names.specs.Escapes.{escaped_part};
+ghost use Rattle.feed_follower.specs.Paths.{feed_path};
+
+use doc_names::{DocId, print_doc_id, push_part};
+use std::alloc::Global;
+use xcap_io::NoMemory;
+use xml_tree::Text;
+
+// A tag as a part of an address.
+fn tag_part(alloc: Global, tag: &Text) -> Result<Text, NoMemory>
+    ensures escapes_the_tag { IfOk result (λ part. part ≡ escaped_part tag.now) }
+{
+    let mut part = String::new(alloc);
+    push_part(&mut part, tag)?;
+    Ok(Text::own(part))
+}
+
+// The path of the feed of all changes of a document since a version of it.
+pub(crate) fn feed_path(alloc: Global, tag: &Text, doc: &DocId) -> Result<Text, NoMemory>
+    ensures path_of_the_feed { IfOk result (λ path. path ≡ feed_path tag.now doc.now) }
+{
+    let part = tag_part(alloc, tag)?;
+    let id = print_doc_id(alloc, doc)?;
+    let mut path = Text::from(alloc, "~feed/aggregate/")?;
+    path.push_str(part.as_str())?;
+    path.push('/')?;
+    path.push_str(id.as_str())?;
+    Ok(path)
+}
+
+/// A user's name, as the calls of a client take it. Takes no memory.
+pub fn lent(user: &Option<Text>) -> Option<&str>
+    ensures lends_the_name { option_map (λ name. chars name.now) result ≡ user.now }
+{
+    match user {
+        Some(user) => Some(user.as_str()),
+        None => None,
+    }
+}
+
+// A copy of a user's name.
+pub(crate) fn copy_user(alloc: Global, user: Option<&str>) -> Result<Option<Text>, NoMemory>
+    ensures copies_the_name { IfOk result (λ copy. copy ≡ option_map (λ name. chars name.now) user.entry) }
+{
+    match user {
+        Some(user) => Ok(Some(Text::from(alloc, user)?)),
+        None => Ok(None),
+    }
+}

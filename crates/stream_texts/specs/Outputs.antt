@@ -1,0 +1,17 @@
+-- What a line took of a text. This is the project's own.
+use Rattle.std.specs.Prelude.{◌≡◌, ℕ, List}
+use Rattle.xcap_io.specs.Causes.{LineState, Rose, Writes}
+use Rattle.xcap_io.specs.Passing.{Took}
+use Rattle.xcap_io.specs.Streams.{TookProperPrefix}
+
+-- The line took all these bytes, without a fault, and nothing else changed.
+pub record TakesAll (bytes : List ℕ) (old new : LineState) : Type 0 where
+  pub taken : Took old.taken new.taken bytes
+  pub counts : new.write_faults ≡ old.write_faults
+  pub writes : Writes old new
+
+-- The line failed, and its count of failed writes rose; it took a proper prefix of these bytes, and nothing else changed.
+pub record TakesSome (bytes : List ℕ) (old new : LineState) : Type 0 where
+  pub taken : TookProperPrefix old.taken new.taken bytes
+  pub counts : Rose old.write_faults new.write_faults
+  pub writes : Writes old new
