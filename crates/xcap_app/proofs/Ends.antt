@@ -15,15 +15,27 @@ use Rattle.notes.specs.declared.edit.Edit.{Edit}
 use Rattle.xml_tree.specs.Tree.{Tree}
 use Rattle.xcap_io.specs.Causes.{LineState}
 use Rattle.xcap_io.proofs.Lines.{reads_none}
-use Rattle.xcap_app.specs.Checks.{Examines, GaveText}
+use Rattle.stream_texts.specs.Inputs.{GaveText}
+use Rattle.std.specs.Prelude.{encode_utf8_all}
+use Rattle.xcap_client.specs.Asks.{getting, removing}
+use Rattle.client_commands.specs.Endings.{MakesOneCall}
+use Rattle.client_commands.specs.Follows.{Follows}
+use Rattle.client_commands.specs.Lines.{body_of, line_of_status}
+use Rattle.client_commands.specs.Puts.{Puts}
+use Rattle.client_commands.specs.declared.asker.Asker.{Asker}
+use Rattle.client_commands.specs.declared.ended.Ended.{Ended}
+use Rattle.xcap_app.specs.Asking.{AsksNothing, RunsAs, RunsFollow, ended_so, follows, knows_nothing, lacks_memory, lacks_words, names_none}
+use Rattle.xcap_app.specs.Checks.{Checks, Examines}
+use Rattle.xcap_app.specs.Replays.{Replays}
+use Rattle.xcap_app.specs.Serves.{ServesCommand}
 use Rattle.xcap_app.specs.Exits.{IsRefused}
-use Rattle.xcap_app.specs.Runs.{Runs}
+use Rattle.xcap_app.specs.Runs.{EndsUnspelled, Runs}
 use Rattle.xcap_app.specs.Telling.{IsTold}
 use Rattle.xcap_app.specs.Verdicts.{AnswerVerdict, FaultVerdict, TextVerdict, TreeVerdict, exit_of}
 use Rattle.xcap_app.specs.declared.command.Command.{Command}
-use Rattle.xcap_app.specs.declared.command.Command.TheVariants.{Replay, Serve, Check}
+use Rattle.xcap_app.specs.declared.command.Command.TheVariants.{Replay, Serve, Check, Fetch, Put, Delete, Follow}
 use Rattle.xcap_app.specs.declared.exit.Exit.{Exit}
-use Rattle.xcap_app.specs.declared.exit.Exit.TheVariants.{Done, Usage, InputFailed, OutputFailed, NetworkFailed, Refused, OutOfMemory}
+use Rattle.xcap_app.specs.declared.exit.Exit.TheVariants.{Done, Usage, InputFailed, OutputFailed, NetworkFailed, Refused, Client, OutOfMemory}
 use Rattle.xcap_app.specs.declared.refusal.Refusal.{Refusal}
 use Rattle.xcap_app.specs.declared.refusal.Refusal.TheVariants.{TooLarge, NotUtf8, NotWellFormed, Schema, Constraint, Unique}
 
@@ -50,6 +62,7 @@ IsVerdict Usage = ⊥
 IsVerdict InputFailed = ⊥
 IsVerdict OutputFailed = ⊥
 IsVerdict NetworkFailed = ⊥
+IsVerdict (Client fault) = ⊥
 IsVerdict (Refused TooLarge) = ⊥
 IsVerdict (Refused NotUtf8) = Unit {0}
 IsVerdict (Refused (NotWellFormed place)) = Unit {0}
@@ -87,13 +100,14 @@ surely : (usage : TheUsage) (text : List ℕ) (exit : Exit) → (exit ≡ OutOfM
 surely usage text exit sure judged = ⊎_elim (λ v. v) (λ e. absurd (sure e)) judged
 
 -- the input gave a text, which was judged
-examined : (usage : TheUsage) (text : List ℕ) (exit : Exit) (input input' : LineState) → GaveText text input input' → TextVerdict usage text exit ⊎ (exit ≡ OutOfMemory) → IsVerdict exit
+examined : (usage : TheUsage) (text : List ℕ) (exit : Exit) (input input' : LineState) → GaveText 262144 text input input' → TextVerdict usage text exit ⊎ (exit ≡ OutOfMemory) → IsVerdict exit
     → Examines usage exit input input'
 examined usage text Done input input' g j v = (text, g, surely usage text Done (λ e. cc) j)
 examined usage text Usage input input' g j v = v
 examined usage text InputFailed input input' g j v = absurd v
 examined usage text OutputFailed input input' g j v = v
 examined usage text NetworkFailed input input' g j v = v
+examined usage text (Client fault) input input' g j v = absurd v
 examined usage text (Refused TooLarge) input input' g j v = absurd v
 examined usage text (Refused NotUtf8) input input' g j v = (text, g, surely usage text (Refused NotUtf8) (λ e. cc) j)
 examined usage text (Refused (NotWellFormed place)) input input' g j v = (text, g, surely usage text (Refused (NotWellFormed place)) (λ e. cc) j)
@@ -102,18 +116,37 @@ examined usage text (Refused Constraint) input input' g j v = (text, g, surely u
 examined usage text (Refused (Unique clash)) input input' g j v = (text, g, surely usage text (Refused (Unique clash)) (λ e. cc) j)
 examined usage text OutOfMemory input input' g j v = (text, g.gave, let fits : length text ≤ 262144 = g.fits in omega arith)
 
-pub examined_text : (usage : TheUsage) (text : List ℕ) (exit : Exit) (input input' : LineState) → GaveText text input input' → TextVerdict usage text exit ⊎ (exit ≡ OutOfMemory)
+pub examined_text : (usage : TheUsage) (text : List ℕ) (exit : Exit) (input input' : LineState) → GaveText 262144 text input input' → TextVerdict usage text exit ⊎ (exit ≡ OutOfMemory)
     → Examines usage exit input input'
 examined_text usage text exit input input' g j = examined usage text exit input input' g j (is_verdict usage text exit j)
 
+-- ---- commands of the client
+
+-- a command whose words wanted memory
+words_lacking : (Did : Ended → Type 0) (Nothing : Type 0) (exit : Exit) → IsRefused exit → RunsAs Did Nothing exit → RunsAs Did Nothing OutOfMemory
+words_lacking Did Nothing exit is (ended_so ended did ends) = lacks_words ended did (subst IsRefused ends is) refl
+words_lacking Did Nothing exit is (lacks_words ended did takes ends) = lacks_words ended did takes refl
+words_lacking Did Nothing exit is (lacks_memory nothing ends) = lacks_memory nothing refl
+
+follow_lacking : (asker : Asker) (document : List ℕ) (rounds : ℕ) (exit : Exit) (peer peer' output output' : LineState) → IsRefused exit → RunsFollow asker document rounds exit peer peer' output output'
+    → RunsFollow asker document rounds OutOfMemory peer peer' output output'
+follow_lacking asker document rounds exit peer peer' output output' is (follows doc names runs) =
+    follows doc names (words_lacking (λ ended. Follows asker.root asker.user doc rounds ended peer peer' output output') (AsksNothing peer peer' output output') exit is runs)
+follow_lacking asker document rounds exit peer peer' output output' is (names_none names usage nothing) = absurd (subst IsRefused usage is)
+follow_lacking asker document rounds exit peer peer' output output' is (knows_nothing ends nothing) = knows_nothing refl nothing
+
 module _ {W : Type 0} (Keeps : List Edit → W → W → Type 0) where
   -- memory was wanted before anything was done
-  pub ran_out : (command : Option Command) (port input output : LineState) (w : W) → Runs Keeps command OutOfMemory port port input input output output w w
-  ran_out None port input output w = (tt, refl, refl, refl, refl)
-  ran_out (Some (Replay root)) port input output w = ((refl, refl, refl), refl)
-  ran_out (Some (Serve address root count)) port input output w = ((refl, refl, refl), refl)
-  ran_out (Some (Check usage)) port input output w =
-      ((([], record { consumed = gave_none input.inward; counts = refl; reads = reads_none input }, omega arith), refl), refl, refl)
+  pub ran_out : (command : Option Command) (port peer input output : LineState) (w : W) → Runs Keeps command OutOfMemory port port peer peer input input output output w w
+  ran_out None port peer input output w = (tt, refl, refl, refl, refl, refl)
+  ran_out (Some (Replay root)) port peer input output w = ((refl, refl, refl), refl, refl)
+  ran_out (Some (Serve address root count)) port peer input output w = ((refl, refl, refl), refl, refl)
+  ran_out (Some (Check usage)) port peer input output w =
+      ((([], record { consumed = gave_none input.inward; counts = refl; reads = reads_none input }, omega arith), refl), refl, refl, refl)
+  ran_out (Some (Fetch asker path)) port peer input output w = (lacks_memory (refl, refl) refl, refl, refl, refl)
+  ran_out (Some (Put asker path media)) port peer input output w = (lacks_memory (refl, (refl, refl)) refl, refl, refl)
+  ran_out (Some (Delete asker path)) port peer input output w = (lacks_memory (refl, refl) refl, refl, refl, refl)
+  ran_out (Some (Follow asker document rounds)) port peer input output w = (knows_nothing refl (refl, refl), refl, refl, refl)
 
   -- an input that was refused, where memory was wanted for the words about that
   refused_out : (usage : TheUsage) (refusal : Refusal) (input input' : LineState) → Examines usage (Refused refusal) input input' → Examines usage OutOfMemory input input'
@@ -124,24 +157,73 @@ module _ {W : Type 0} (Keeps : List Edit → W → W → Type 0) where
   refused_out usage Constraint input input' e = (e.0, e.1.gave, omega (arith, e.1.fits))
   refused_out usage (Unique clash) input input' e = (e.0, e.1.gave, omega (arith, e.1.fits))
 
-  ran_refused : (command : Option Command) (exit : Exit) (port port' input input' output output' : LineState) (w w' : W) → IsRefused exit
-      → Runs Keeps command exit port port' input input' output output' w w' → Runs Keeps command OutOfMemory port port' input input' output output' w w'
-  ran_refused command Done port port' input input' output output' w w' is r = absurd is
-  ran_refused command Usage port port' input input' output output' w w' is r = absurd is
-  ran_refused command InputFailed port port' input input' output output' w w' is r = absurd is
-  ran_refused command OutputFailed port port' input input' output output' w w' is r = absurd is
-  ran_refused command NetworkFailed port port' input input' output output' w w' is r = absurd is
-  ran_refused command OutOfMemory port port' input input' output output' w w' is r = r
-  ran_refused None (Refused refusal) port port' input input' output output' w w' is r = absurd r.0
-  ran_refused (Some (Replay root)) (Refused refusal) port port' input input' output output' w w' is r = absurd r.0
-  ran_refused (Some (Serve address root count)) (Refused refusal) port port' input input' output output' w w' is r = absurd r.0
-  ran_refused (Some (Check usage)) (Refused refusal) port port' input input' output output' w w' is r =
-      ((refused_out usage refusal input input' r.0.0, r.0.1), r.1, r.2)
+  check_refused : (usage : TheUsage) (exit : Exit) (input input' output output' : LineState) → IsRefused exit → Checks usage exit input input' output output' → Checks usage OutOfMemory input input' output output'
+  check_refused usage Done input input' output output' is r = absurd is
+  check_refused usage Usage input input' output output' is r = absurd is
+  check_refused usage InputFailed input input' output output' is r = absurd is
+  check_refused usage OutputFailed input input' output output' is r = absurd is
+  check_refused usage NetworkFailed input input' output output' is r = absurd is
+  check_refused usage (Refused refusal) input input' output output' is r = (refused_out usage refusal input input' r.0, r.1)
+  check_refused usage (Client fault) input input' output output' is r = absurd r
+  check_refused usage OutOfMemory input input' output output' is r = r
 
-  pub ran_told : (command : Option Command) (exit told : Exit) (port port' input input' output output' : LineState) (w w' : W) → IsTold exit told
-      → Runs Keeps command exit port port' input input' output output' w w' → Runs Keeps command told port port' input input' output output' w w'
-  ran_told command exit told port port' input input' output output' w w' is r = ⊎_elim
-      (λ (e : told ≡ exit). subst (λ x. Runs Keeps command x port port' input input' output output' w w') (sym e) r)
-      (λ (k : IsRefused exit × (told ≡ OutOfMemory)). subst (λ x. Runs Keeps command x port port' input input' output output' w w') (sym k.1)
-      (ran_refused command exit port port' input input' output output' w w' k.0 r))
+  replay_refused : (root : List ℕ) (exit : Exit) (input input' output output' : LineState) (w w' : W) → IsRefused exit → Replays Keeps root exit input input' output output' w w' → ⊥
+  replay_refused root Done input input' output output' w w' is r = is
+  replay_refused root Usage input input' output output' w w' is r = is
+  replay_refused root InputFailed input input' output output' w w' is r = is
+  replay_refused root OutputFailed input input' output output' w w' is r = is
+  replay_refused root NetworkFailed input input' output output' w w' is r = is
+  replay_refused root (Refused refusal) input input' output output' w w' is r = r
+  replay_refused root (Client fault) input input' output output' w w' is r = r
+  replay_refused root OutOfMemory input input' output output' w w' is r = is
+
+  serve_refused : (address root : List ℕ) (count : ℕ) (exit : Exit) (port port' output output' : LineState) (w w' : W) → IsRefused exit → ServesCommand Keeps address root count exit port port' output output' w w' → ⊥
+  serve_refused address root count Done port port' output output' w w' is r = is
+  serve_refused address root count Usage port port' output output' w w' is r = is
+  serve_refused address root count InputFailed port port' output output' w w' is r = is
+  serve_refused address root count OutputFailed port port' output output' w w' is r = is
+  serve_refused address root count NetworkFailed port port' output output' w w' is r = is
+  serve_refused address root count (Refused refusal) port port' output output' w w' is r = r
+  serve_refused address root count (Client fault) port port' output output' w w' is r = r
+  serve_refused address root count OutOfMemory port port' output output' w w' is r = is
+
+  unspelled_refused : (exit : Exit) → IsRefused exit → EndsUnspelled exit → ⊥
+  unspelled_refused Done is r = is
+  unspelled_refused Usage is r = is
+  unspelled_refused InputFailed is r = is
+  unspelled_refused OutputFailed is r = is
+  unspelled_refused NetworkFailed is r = is
+  unspelled_refused (Refused refusal) is r = r
+  unspelled_refused (Client fault) is r = r
+  unspelled_refused OutOfMemory is r = is
+
+  ran_refused : (command : Option Command) (exit : Exit) (port port' peer peer' input input' output output' : LineState) (w w' : W) → IsRefused exit
+      → Runs Keeps command exit port port' peer peer' input input' output output' w w' → Runs Keeps command OutOfMemory port port' peer peer' input input' output output' w w'
+  ran_refused None exit port port' peer peer' input input' output output' w w' is r = absurd (unspelled_refused exit is r.0)
+  ran_refused (Some (Replay root)) exit port port' peer peer' input input' output output' w w' is r = absurd (replay_refused root exit input input' output output' w w' is r.0)
+  ran_refused (Some (Serve address root count)) exit port port' peer peer' input input' output output' w w' is r =
+      absurd (serve_refused (encode_utf8_all address) root count exit port port' output output' w w' is r.0)
+  ran_refused (Some (Check usage)) exit port port' peer peer' input input' output output' w w' is r =
+      (check_refused usage exit input input' output output' is r.0, r.1, r.2, r.3)
+  ran_refused (Some (Fetch asker path)) exit port port' peer peer' input input' output output' w w' is r =
+      (words_lacking (λ ended. MakesOneCall asker.root (getting asker.user path) body_of ended peer peer' output output') (AsksNothing peer peer' output output') exit is r.0, r.1, r.2, r.3)
+  ran_refused (Some (Put asker path media)) exit port port' peer peer' input input' output output' w w' is r =
+      (words_lacking (λ ended. Puts asker.root asker.user path media ended peer peer' input input' output output') ((input' ≡ input) × AsksNothing peer peer' output output') exit is r.0, r.1, r.2)
+  ran_refused (Some (Delete asker path)) exit port port' peer peer' input input' output output' w w' is r =
+      (words_lacking (λ ended. MakesOneCall asker.root (removing asker.user path) line_of_status ended peer peer' output output') (AsksNothing peer peer' output output') exit is r.0, r.1, r.2, r.3)
+  ran_refused (Some (Follow asker document rounds)) exit port port' peer peer' input input' output output' w w' is r =
+      (follow_lacking asker document rounds exit peer peer' output output' is r.0, r.1, r.2, r.3)
+
+  pub ran_told : (command : Option Command) (exit told : Exit) (port port' peer peer' input input' output output' : LineState) (w w' : W) → IsTold exit told
+      → Runs Keeps command exit port port' peer peer' input input' output output' w w' → Runs Keeps command told port port' peer peer' input input' output output' w w'
+  ran_told command exit told port port' peer peer' input input' output output' w w' is r = ⊎_elim
+      (λ (e : told ≡ exit). subst (λ x. Runs Keeps command x port port' peer peer' input input' output output' w w') (sym e) r)
+      (λ (k : IsRefused exit × (told ≡ OutOfMemory)). subst (λ x. Runs Keeps command x port port' peer peer' input input' output output' w w') (sym k.1)
+      (ran_refused command exit port port' peer peer' input input' output output' w w' k.0 r))
       is
+
+  -- a command that is this one
+  pub ran_as : (command same : Command) (exit : Exit) (port port' peer peer' input input' output output' : LineState) (w w' : W) → command ≡ same
+      → Runs Keeps (Some same) exit port port' peer peer' input input' output output' w w' → Runs Keeps (Some command) exit port port' peer peer' input input' output output' w w'
+  ran_as command same exit port port' peer peer' input input' output output' w w' is r =
+      subst (λ (k : Command). Runs Keeps (Some k) exit port port' peer peer' input input' output output' w w') (sym is) r

@@ -1,5 +1,5 @@
+pub mod Documents
 pub mod Ends
-pub mod Filling
 pub mod Pairs
 pub mod Real
 pub mod Serving

@@ -11,16 +11,45 @@ use Rattle.xcap_io.specs.Causes.{Begun, LineState, none_begun}
 use Rattle.xcap_io.specs.Connections.{carried, traffic}
 use Rattle.xcap_io.specs.Histories.{Traffic, carried_by}
 use Rattle.xcap_io.specs.Passing.{Took}
+use Rattle.xcap_client.specs.Asks.{getting, removing}
+use Rattle.xcap_client.specs.declared.fault.ClientFault.{ClientFault}
+use Rattle.xcap_client.specs.declared.fault.ClientFault.TheVariants as clients
+use Rattle.feed_follower.specs.declared.fault.FollowerFault.{FollowerFault}
+use Rattle.feed_follower.specs.declared.fault.FollowerFault.TheVariants as faults
+use Rattle.client_commands.specs.Endings.{MakesOneCall}
+use Rattle.client_commands.specs.Follows.{Follows}
+use Rattle.client_commands.specs.Lines.{body_of, line_of_status}
+use Rattle.client_commands.specs.Puts.{Puts}
+use Rattle.client_commands.specs.Words.{client_status, status_of as status_of_fault}
+use Rattle.client_commands.specs.declared.asker.Asker.{Asker}
+use Rattle.client_commands.specs.declared.ended.Ended.{Ended}
+use Rattle.client_commands.specs.declared.ended.Ended.TheVariants as ends
+use Rattle.xcap_app.specs.Asking.{AsksNothing, RunsAs, RunsFollow, ended_so, exit_of, follows, knows_nothing, lacks_memory, lacks_words, names_none}
 use Rattle.xcap_app.specs.Exits.{status_of}
 use Rattle.xcap_app.specs.Replays.{Replays}
 use Rattle.xcap_app.specs.Runs.{Runs}
 use Rattle.xcap_app.specs.Serves.{served_line, ServesCommand as Serves}
-use Rattle.xcap_app.specs.System.{AnswersAll, AnswersInput, IsDone}
+use Rattle.xcap_app.specs.System.{AnswersAll, AnswersInput, FollowsNamed, IsDone}
 use Rattle.xcap_app.specs.Verdicts.{TextVerdict}
 use Rattle.xcap_app.specs.declared.command.Command.{Command}
-use Rattle.xcap_app.specs.declared.command.Command.TheVariants.{Replay, Serve, Check}
+use Rattle.xcap_app.specs.declared.command.Command.TheVariants.{Replay, Serve, Check, Fetch, Put, Delete, Follow}
 use Rattle.xcap_app.specs.declared.exit.Exit.{Exit}
-use Rattle.xcap_app.specs.declared.exit.Exit.TheVariants.{Done, Usage, InputFailed, OutputFailed, NetworkFailed, Refused, OutOfMemory}
+use Rattle.xcap_app.specs.declared.exit.Exit.TheVariants.{Done, Usage, InputFailed, OutputFailed, NetworkFailed, Refused, Client, OutOfMemory}
+
+-- no fault of a call has the status 0
+never_zero_of_client : (fault : ClientFault) → client_status fault ≡ 0 → ⊥
+never_zero_of_client clients.PeerFault zero = omega arith
+never_zero_of_client (clients.Refused status name) zero = omega arith
+never_zero_of_client clients.NoMemory zero = omega arith
+never_zero_of_client (clients.BadResponse fault) zero = omega arith
+
+never_zero : (fault : FollowerFault) → status_of_fault fault ≡ 0 → ⊥
+never_zero (faults.Client fault) zero = never_zero_of_client fault zero
+never_zero faults.BadTag zero = omega arith
+never_zero (faults.BadText fault) zero = omega arith
+never_zero (faults.BadNotice fault) zero = omega arith
+never_zero (faults.Apply fault) zero = omega arith
+never_zero faults.NoMemory zero = omega arith
 
 is_done : (exit : Exit) → status_of exit ≡ 0 → exit ≡ Done
 is_done Done zero = refl
@@ -29,11 +58,42 @@ is_done InputFailed zero = absurd (omega arith)
 is_done OutputFailed zero = absurd (omega arith)
 is_done NetworkFailed zero = absurd (omega arith)
 is_done (Refused refusal) zero = absurd (omega arith)
+is_done (Client fault) zero = absurd (never_zero fault zero)
 is_done OutOfMemory zero = absurd (omega arith)
 
 -- what was taken by an output that had taken nothing
 took_all : (old new bytes : List ℕ) → old ≡ [] → Took old new bytes → new ≡ bytes
 took_all old new bytes none took = took ∙ ap (λ (l : List ℕ). l ++ bytes) none
+
+-- a command of the client that ended well
+ended_well : (ended : Ended) → Done ≡ exit_of ended → ended ≡ ends.Done
+ended_well ends.Done is = refl
+ended_well ends.InputFailed is = absurd cc
+ended_well ends.OutputFailed is = absurd cc
+ended_well ends.TooLarge is = absurd cc
+ended_well (ends.Failed fault) is = absurd cc
+ended_well ends.OutOfMemory is = absurd cc
+
+never_out : Done ≡ OutOfMemory → ⊥
+never_out is = cc
+
+command_done : (Did : Ended → Type 0) (Nothing : Type 0) (exit : Exit) → exit ≡ Done → RunsAs Did Nothing exit → Did ends.Done
+command_done Did Nothing exit done (ended_so ended did is) = subst Did (ended_well ended (sym done ∙ is)) did
+command_done Did Nothing exit done (lacks_words ended did takes is) = absurd (never_out (sym done ∙ is))
+command_done Did Nothing exit done (lacks_memory nothing is) = absurd (never_out (sym done ∙ is))
+
+never_usage : Done ≡ Usage → ⊥
+never_usage is = cc
+
+follow_done : (asker : Asker) (document : List ℕ) (rounds : ℕ) (exit : Exit) (peer peer' output output' : LineState) → exit ≡ Done → RunsFollow asker document rounds exit peer peer' output output'
+    → FollowsNamed asker document rounds peer peer' output output'
+follow_done asker document rounds exit peer peer' output output' done (follows doc names runs) = record {
+  doc = doc;
+  named = names;
+  follows = command_done (λ ended. Follows asker.root asker.user doc rounds ended peer peer' output output') (AsksNothing peer peer' output output') exit done runs;
+}
+follow_done asker document rounds exit peer peer' output output' done (names_none names usage nothing) = absurd (never_usage (sym done ∙ usage))
+follow_done asker document rounds exit peer peer' output output' done (knows_nothing is nothing) = absurd (never_out (sym done ∙ is))
 
 module _ {W : Type 0} (Keeps : List Edit → W → W → Type 0) where
   input_done : (root : List ℕ) (input input' output output' : LineState) (w w' : W) → input.inward.given ≡ [] → output.taken ≡ []
@@ -67,22 +127,30 @@ module _ {W : Type 0} (Keeps : List Edit → W → W → Type 0) where
             ∙ ap (λ (l : List Traffic). served_line (length l)) (sym all),
       )
 
-  by_command : (command : Option Command) (port port' input input' output output' : LineState) (w w' : W) → port.port.begun ≡ none_begun → input.inward.given ≡ [] → output.taken ≡ []
-      → Runs Keeps command Done port port' input input' output output' w w' → IsDone Keeps command port port' input' output' w w'
-  by_command None port port' input input' output output' w w' none_yet none_given none_taken r = r.0
-  by_command (Some (Replay root)) port port' input input' output output' w w' none_yet none_given none_taken r = input_done root input input' output output' w w' none_given none_taken r.0
-  by_command (Some (Serve address root count)) port port' input input' output output' w w' none_yet none_given none_taken r =
+  by_command : (command : Option Command) (port port' peer peer' input input' output output' : LineState) (w w' : W) → port.port.begun ≡ none_begun → input.inward.given ≡ [] → output.taken ≡ []
+      → Runs Keeps command Done port port' peer peer' input input' output output' w w' → IsDone Keeps command port port' peer peer' input input' output output' w w'
+  by_command None port port' peer peer' input input' output output' w w' none_yet none_given none_taken r = r.0
+  by_command (Some (Replay root)) port port' peer peer' input input' output output' w w' none_yet none_given none_taken r = input_done root input input' output output' w w' none_given none_taken r.0
+  by_command (Some (Serve address root count)) port port' peer peer' input input' output output' w w' none_yet none_given none_taken r =
       port_done (encode_utf8_all address) root count port port' output output' w w' none_yet none_taken r.0
-  by_command (Some (Check usage)) port port' input input' output output' w w' none_yet none_given none_taken r =
+  by_command (Some (Check usage)) port port' peer peer' input input' output output' w w' none_yet none_given none_taken r =
       let judged = r.0.0 in (
         subst (λ (text : List ℕ). TextVerdict usage text Done) (sym (took_all input.inward.given input'.inward.given judged.0 none_given judged.1.gave.consumed.behind)) judged.2,
         took_all output.taken output'.taken (codes "valid\n") none_taken r.0.1.taken,
-        r.2,
+        r.3,
       )
+  by_command (Some (Fetch asker path)) port port' peer peer' input input' output output' w w' none_yet none_given none_taken r =
+      (command_done (λ ended. MakesOneCall asker.root (getting asker.user path) body_of ended peer peer' output output') (AsksNothing peer peer' output output') Done refl r.0, r.3)
+  by_command (Some (Put asker path media)) port port' peer peer' input input' output output' w w' none_yet none_given none_taken r =
+      (command_done (λ ended. Puts asker.root asker.user path media ended peer peer' input input' output output') ((input' ≡ input) × AsksNothing peer peer' output output') Done refl r.0, r.2)
+  by_command (Some (Delete asker path)) port port' peer peer' input input' output output' w w' none_yet none_given none_taken r =
+      (command_done (λ ended. MakesOneCall asker.root (removing asker.user path) line_of_status ended peer peer' output output') (AsksNothing peer peer' output output') Done refl r.0, r.3)
+  by_command (Some (Follow asker document rounds)) port port' peer peer' input input' output output' w w' none_yet none_given none_taken r =
+      (follow_done asker document rounds Done peer peer' output output' refl r.0, r.3)
 
   -- a run that answered 0
-  pub done_by : (command : Option Command) (exit : Exit) (port port' input input' output output' : LineState) (w w' : W) → port.port.begun ≡ none_begun → input.inward.given ≡ [] → output.taken ≡ []
-      → status_of exit ≡ 0 → Runs Keeps command exit port port' input input' output output' w w' → IsDone Keeps command port port' input' output' w w'
-  done_by command exit port port' input input' output output' w w' none_yet none_given none_taken zero r =
-      by_command command port port' input input' output output' w w' none_yet none_given none_taken
-      (subst (λ (x : Exit). Runs Keeps command x port port' input input' output output' w w') (is_done exit zero) r)
+  pub done_by : (command : Option Command) (exit : Exit) (port port' peer peer' input input' output output' : LineState) (w w' : W) → port.port.begun ≡ none_begun → input.inward.given ≡ [] → output.taken ≡ []
+      → status_of exit ≡ 0 → Runs Keeps command exit port port' peer peer' input input' output output' w w' → IsDone Keeps command port port' peer peer' input input' output output' w w'
+  done_by command exit port port' peer peer' input input' output output' w w' none_yet none_given none_taken zero r =
+      by_command command port port' peer peer' input input' output output' w w' none_yet none_given none_taken
+      (subst (λ (x : Exit). Runs Keeps command x port port' peer peer' input input' output output' w w') (is_done exit zero) r)

@@ -6,6 +6,7 @@ use Rattle.doc_names.specs.declared.usages.Usage.{Usage}
 use Rattle.doc_names.specs.declared.usages.Usage.TheVariants.{ResourceLists, RlsServices}
 use Rattle.xcap_uri.specs.Numerals.{numeral_of}
 use Rattle.xcap_uri.specs.Roots.{root_of}
+use Rattle.xcap_app.specs.AskingWords.{delete_of, fetch_of, follow_of, put_of}
 use Rattle.xcap_app.specs.declared.command.Command.{Command}
 use Rattle.xcap_app.specs.declared.command.Command.TheVariants.{Replay, Serve, Check}
 
@@ -52,10 +53,21 @@ of_two name word =
     else None
 
 unfoldable pub of_four : List ℕ → List ℕ → List ℕ → List ℕ → Option Command
-of_four name address root count = if bytes_eq name (codes "serve") then serve_of address root count else None
+of_four name first root last =
+    if bytes_eq name (codes "serve") then serve_of first root last
+    else if bytes_eq name (codes "fetch") then fetch_of first root last
+    else if bytes_eq name (codes "delete") then delete_of first root last
+    else None
+
+unfoldable pub of_five : List ℕ → List ℕ → List ℕ → List ℕ → List ℕ → Option Command
+of_five name user root path last =
+    if bytes_eq name (codes "put") then put_of user root path last
+    else if bytes_eq name (codes "follow") then follow_of user root path last
+    else None
 
 -- the command that words spell, if they spell one
 abbrev pub command_of : List (List ℕ) → Option Command
 command_of (name ∷ word ∷ []) = of_two name word
-command_of (name ∷ address ∷ root ∷ count ∷ []) = of_four name address root count
+command_of (name ∷ first ∷ root ∷ last ∷ []) = of_four name first root last
+command_of (name ∷ user ∷ root ∷ path ∷ last ∷ []) = of_five name user root path last
 command_of _ = None

@@ -3,8 +3,9 @@ use Rattle.std.specs.Prelude.{ℕ, List, [], ◌∷◌, ◌++◌, codes, decimal
 use Rattle.xml_tree.specs.PathTexts.{path_text}
 use Rattle.usage_docs.specs.Keys.{word}
 use Rattle.usage_docs.specs.declared.keys.Clash.{Clash}
+use Rattle.client_commands.specs.Words.{fault_words, status_of as status_of_fault}
 use Rattle.xcap_app.specs.declared.exit.Exit.{Exit}
-use Rattle.xcap_app.specs.declared.exit.Exit.TheVariants.{Done, Usage, InputFailed, OutputFailed, NetworkFailed, Refused, OutOfMemory}
+use Rattle.xcap_app.specs.declared.exit.Exit.TheVariants.{Done, Usage, InputFailed, OutputFailed, NetworkFailed, Refused, Client, OutOfMemory}
 use Rattle.xcap_app.specs.declared.exit.Words.{Words}
 use Rattle.xcap_app.specs.declared.exit.Words.TheVariants.{Fixed, Made}
 use Rattle.xcap_app.specs.declared.refusal.Refusal.{Refusal}
@@ -12,7 +13,7 @@ use Rattle.xcap_app.specs.declared.refusal.Refusal.TheVariants.{TooLarge, NotUtf
 
 -- the commands, on one line
 unfoldable pub usage_line : List ℕ
-usage_line = codes "usage: xcapd replay ROOT | serve ADDR ROOT COUNT | check AUID\n"
+usage_line = codes "usage: xcapd replay ROOT | serve ADDR ROOT COUNT | check AUID | fetch USER ROOT PATH | put USER ROOT PATH TYPE | delete USER ROOT PATH | follow USER ROOT DOCUMENT ROUNDS\n"
 
 -- the status that the program ends with
 abbrev pub status_of : Exit → ℕ
@@ -22,6 +23,7 @@ status_of InputFailed = 3
 status_of OutputFailed = 4
 status_of NetworkFailed = 5
 status_of (Refused refusal) = 6
+status_of (Client fault) = status_of_fault fault
 status_of OutOfMemory = 7
 
 -- of an element that repeats a sibling's key: its place as a positional selector, and the key
@@ -45,9 +47,10 @@ words_of InputFailed = codes "input failed\n"
 words_of OutputFailed = codes "output failed\n"
 words_of NetworkFailed = codes "network failed\n"
 words_of (Refused refusal) = refusal_words refusal
+words_of (Client fault) = fault_words fault
 words_of OutOfMemory = codes "out of memory\n"
 
--- the input was refused
+-- the words take memory: the input was refused, or a call of the client failed
 abbrev pub IsRefused : Exit → Type 0
 IsRefused Done = ⊥
 IsRefused Usage = ⊥
@@ -55,6 +58,7 @@ IsRefused InputFailed = ⊥
 IsRefused OutputFailed = ⊥
 IsRefused NetworkFailed = ⊥
 IsRefused (Refused refusal) = Unit {0}
+IsRefused (Client fault) = Unit {0}
 IsRefused OutOfMemory = ⊥
 
 -- the bytes of words

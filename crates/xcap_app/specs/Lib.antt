@@ -1,3 +1,5 @@
+pub mod Asking
+pub mod AskingWords
 pub mod Checks
 pub mod Commands
 pub mod Exits

@@ -2,12 +2,13 @@
 use Rattle.std.specs.Prelude.{◌≡◌, List, encode_utf8_all, Option, None, Some}
 use Rattle.notes.specs.declared.edit.Edit.{Edit}
 use Rattle.xcap_io.specs.Causes.{LineState}
+use Rattle.xcap_app.specs.Asking.{RunsDelete, RunsFetch, RunsFollow, RunsPut}
 use Rattle.xcap_app.specs.Checks.{Checks}
 use Rattle.xcap_app.specs.Replays.{Replays}
 use Rattle.xcap_app.specs.declared.command.Command.{Command}
-use Rattle.xcap_app.specs.declared.command.Command.TheVariants.{Replay, Serve, Check}
+use Rattle.xcap_app.specs.declared.command.Command.TheVariants.{Replay, Serve, Check, Fetch, Put, Delete, Follow}
 use Rattle.xcap_app.specs.declared.exit.Exit.{Exit}
-use Rattle.xcap_app.specs.declared.exit.Exit.TheVariants.{Done, Usage, InputFailed, OutputFailed, NetworkFailed, Refused, OutOfMemory}
+use Rattle.xcap_app.specs.declared.exit.Exit.TheVariants.{Done, Usage, InputFailed, OutputFailed, NetworkFailed, Refused, Client, OutOfMemory}
 use Rattle.xcap_app.specs.Serves.{ServesCommand}
 
 -- how a run ends whose words spell no command; want of memory may come before that is known
@@ -18,17 +19,26 @@ EndsUnspelled InputFailed = ⊥
 EndsUnspelled OutputFailed = ⊥
 EndsUnspelled NetworkFailed = ⊥
 EndsUnspelled (Refused refusal) = ⊥
+EndsUnspelled (Client fault) = ⊥
 EndsUnspelled OutOfMemory = Unit {0}
 
 -- W is the type of the watchers, and `Keeps` says what they are after such changes.
 module _ {W : Type 0} (Keeps : List Edit → W → W → Type 0) where
   -- what was done, and that all else is as before
-  abbrev pub Runs : Option Command → Exit → LineState → LineState → LineState → LineState → LineState → LineState → W → W → Type 0
-  Runs None exit port port' input input' output output' watchers watchers' =
-      EndsUnspelled exit × (port' ≡ port) × (input' ≡ input) × (output' ≡ output) × (watchers' ≡ watchers)
-  Runs (Some (Replay root)) exit port port' input input' output output' watchers watchers' =
-      Replays Keeps root exit input input' output output' watchers watchers' × (port' ≡ port)
-  Runs (Some (Serve address root count)) exit port port' input input' output output' watchers watchers' =
-      ServesCommand Keeps (encode_utf8_all address) root count exit port port' output output' watchers watchers' × (input' ≡ input)
-  Runs (Some (Check usage)) exit port port' input input' output output' watchers watchers' =
-      Checks usage exit input input' output output' × (port' ≡ port) × (watchers' ≡ watchers)
+  abbrev pub Runs : Option Command → Exit → LineState → LineState → LineState → LineState → LineState → LineState → LineState → LineState → W → W → Type 0
+  Runs None exit port port' peer peer' input input' output output' watchers watchers' =
+      EndsUnspelled exit × (port' ≡ port) × (peer' ≡ peer) × (input' ≡ input) × (output' ≡ output) × (watchers' ≡ watchers)
+  Runs (Some (Replay root)) exit port port' peer peer' input input' output output' watchers watchers' =
+      Replays Keeps root exit input input' output output' watchers watchers' × (port' ≡ port) × (peer' ≡ peer)
+  Runs (Some (Serve address root count)) exit port port' peer peer' input input' output output' watchers watchers' =
+      ServesCommand Keeps (encode_utf8_all address) root count exit port port' output output' watchers watchers' × (input' ≡ input) × (peer' ≡ peer)
+  Runs (Some (Check usage)) exit port port' peer peer' input input' output output' watchers watchers' =
+      Checks usage exit input input' output output' × (port' ≡ port) × (peer' ≡ peer) × (watchers' ≡ watchers)
+  Runs (Some (Fetch asker path)) exit port port' peer peer' input input' output output' watchers watchers' =
+      RunsFetch asker path exit peer peer' output output' × (port' ≡ port) × (input' ≡ input) × (watchers' ≡ watchers)
+  Runs (Some (Put asker path media)) exit port port' peer peer' input input' output output' watchers watchers' =
+      RunsPut asker path media exit peer peer' input input' output output' × (port' ≡ port) × (watchers' ≡ watchers)
+  Runs (Some (Delete asker path)) exit port port' peer peer' input input' output output' watchers watchers' =
+      RunsDelete asker path exit peer peer' output output' × (port' ≡ port) × (input' ≡ input) × (watchers' ≡ watchers)
+  Runs (Some (Follow asker document rounds)) exit port port' peer peer' input input' output output' watchers watchers' =
+      RunsFollow asker document rounds exit peer peer' output output' × (port' ≡ port) × (input' ≡ input) × (watchers' ≡ watchers)

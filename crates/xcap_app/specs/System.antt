@@ -9,11 +9,26 @@ use Rattle.feed_laws.specs.Holding.{FollowedStep}
 use Rattle.http_serve.specs.Written.{InBytes}
 use Rattle.xcap_io.specs.Causes.{LineState}
 use Rattle.xcap_io.specs.Connections.{carried}
+use Rattle.doc_names.specs.declared.doc_id.DocId.{DocId}
+use Rattle.xcap_client.specs.Asks.{getting, removing}
+use Rattle.client_commands.specs.Endings.{MakesOneCall}
+use Rattle.client_commands.specs.Follows.{Follows}
+use Rattle.client_commands.specs.Lines.{body_of, line_of_status}
+use Rattle.client_commands.specs.Puts.{Puts}
+use Rattle.client_commands.specs.declared.asker.Asker.{Asker}
+use Rattle.client_commands.specs.declared.ended.Ended.TheVariants as ends
+use Rattle.xcap_app.specs.Asking.{Names}
 use Rattle.xcap_app.specs.Serves.{served_line}
 use Rattle.xcap_app.specs.Verdicts.{TextVerdict}
 use Rattle.xcap_app.specs.declared.command.Command.{Command}
-use Rattle.xcap_app.specs.declared.command.Command.TheVariants.{Replay, Serve, Check}
+use Rattle.xcap_app.specs.declared.command.Command.TheVariants.{Replay, Serve, Check, Fetch, Put, Delete, Follow}
 use Rattle.xcap_app.specs.declared.exit.Exit.TheVariants.{Done}
+
+-- the text names a document, which was followed to the end
+pub record FollowsNamed (asker : Asker) (document : List ℕ) (rounds : ℕ) (peer peer' output output' : LineState) : Type 0 where
+  pub doc : DocId
+  pub named : Names asker.root document (Some doc)
+  pub follows : Follows asker.root asker.user doc rounds ends.Done peer peer' output output'
 
 -- W is the type of the watchers, and `Keeps` says what they are after such changes.
 module _ {W : Type 0} (Keeps : List Edit → W → W → Type 0) where
@@ -34,10 +49,18 @@ module _ {W : Type 0} (Keeps : List Edit → W → W → Type 0) where
     pub told : Keeps edits watchers watchers'
 
   -- what was done, by the command that the words spell
-  abbrev pub IsDone : Option Command → LineState → LineState → LineState → LineState → W → W → Type 0
-  IsDone None port port' input' output' watchers watchers' = ⊥
-  IsDone (Some (Replay root)) port port' input' output' watchers watchers' = AnswersInput root input' output' watchers watchers'
-  IsDone (Some (Serve address root count)) port port' input' output' watchers watchers' =
+  abbrev pub IsDone : Option Command → LineState → LineState → LineState → LineState → LineState → LineState → LineState → LineState → W → W → Type 0
+  IsDone None port port' peer peer' input input' output output' watchers watchers' = ⊥
+  IsDone (Some (Replay root)) port port' peer peer' input input' output output' watchers watchers' = AnswersInput root input' output' watchers watchers'
+  IsDone (Some (Serve address root count)) port port' peer peer' input input' output output' watchers watchers' =
       AnswersAll root port port' watchers watchers' × (output'.taken ≡ served_line (length (carried port')))
-  IsDone (Some (Check usage)) port port' input' output' watchers watchers' =
+  IsDone (Some (Check usage)) port port' peer peer' input input' output output' watchers watchers' =
       TextVerdict usage input'.inward.given Done × (output'.taken ≡ codes "valid\n") × (watchers' ≡ watchers)
+  IsDone (Some (Fetch asker path)) port port' peer peer' input input' output output' watchers watchers' =
+      MakesOneCall asker.root (getting asker.user path) body_of ends.Done peer peer' output output' × (watchers' ≡ watchers)
+  IsDone (Some (Put asker path media)) port port' peer peer' input input' output output' watchers watchers' =
+      Puts asker.root asker.user path media ends.Done peer peer' input input' output output' × (watchers' ≡ watchers)
+  IsDone (Some (Delete asker path)) port port' peer peer' input input' output output' watchers watchers' =
+      MakesOneCall asker.root (removing asker.user path) line_of_status ends.Done peer peer' output output' × (watchers' ≡ watchers)
+  IsDone (Some (Follow asker document rounds)) port port' peer peer' input input' output output' watchers watchers' =
+      FollowsNamed asker document rounds peer peer' output output' × (watchers' ≡ watchers)

@@ -1,23 +1,10 @@
 -- What is written on the output, and told on the stream for errors. This is the project's own.
 use Rattle.std.specs.Prelude.{◌≡◌, ℕ, List, ◌⊎◌}
-use Rattle.xcap_io.specs.Causes.{LineState, Rose, Writes}
-use Rattle.xcap_io.specs.Passing.{Took}
-use Rattle.xcap_io.specs.Streams.{TookProperPrefix}
+use Rattle.xcap_io.specs.Causes.{LineState}
+use Rattle.stream_texts.specs.Outputs.{TakesAll, TakesSome}
 use Rattle.xcap_app.specs.Exits.{IsRefused}
 use Rattle.xcap_app.specs.declared.exit.Exit.{Exit}
-use Rattle.xcap_app.specs.declared.exit.Exit.TheVariants.{Done, Usage, InputFailed, OutputFailed, NetworkFailed, Refused, OutOfMemory}
-
--- The line took all these bytes, without a fault, and nothing else changed.
-pub record TakesAll (bytes : List ℕ) (old new : LineState) : Type 0 where
-  pub taken : Took old.taken new.taken bytes
-  pub counts : new.write_faults ≡ old.write_faults
-  pub writes : Writes old new
-
--- The line failed, and its count of failed writes rose; it took a proper prefix of these bytes, and nothing else changed.
-pub record TakesSome (bytes : List ℕ) (old new : LineState) : Type 0 where
-  pub taken : TookProperPrefix old.taken new.taken bytes
-  pub counts : Rose old.write_faults new.write_faults
-  pub writes : Writes old new
+use Rattle.xcap_app.specs.declared.exit.Exit.TheVariants.{Done, Usage, InputFailed, OutputFailed, NetworkFailed, Refused, Client, OutOfMemory}
 
 -- the words were written, or some of them where the stream failed
 abbrev pub Tells : List ℕ → LineState → LineState → Type 0
@@ -31,6 +18,7 @@ Prints bytes InputFailed old new = ⊥
 Prints bytes OutputFailed old new = TakesSome bytes old new
 Prints bytes NetworkFailed old new = ⊥
 Prints bytes (Refused refusal) old new = ⊥
+Prints bytes (Client fault) old new = ⊥
 Prints bytes OutOfMemory old new = ⊥
 
 -- how a run ends is told as it is, or where the words of a refusal found no memory, as that

@@ -1,4 +1,5 @@
 // What the words of the command line can spell.
+use client_commands::Asker;
 use doc_names::Usage;
 use xcap_uri::Root;
 use xml_tree::Text;
@@ -19,5 +20,27 @@ pub enum Command {
     /// Reads the input as a document of this usage.
     Check {
         usage: Usage,
+    },
+    /// Asks a server for what stands at this path.
+    Fetch {
+        asker: Asker,
+        path: Text,
+    },
+    /// Asks that the input stands at this path, with this media type.
+    Put {
+        asker: Asker,
+        path: Text,
+        media: Text,
+    },
+    /// Asks that nothing stands at this path.
+    Delete {
+        asker: Asker,
+        path: Text,
+    },
+    /// Follows the document that this text names under the root for so many rounds.
+    Follow {
+        asker: Asker,
+        document: Text,
+        rounds: u64,
     },
 }

@@ -3,6 +3,7 @@ ghost use Rattle.std.specs.Prelude.{◌≡◌, IfOk, OnErr};
 ghost use Rattle.xcap_app.specs.Exits.{IsRefused, said, status_of, words_of};
 
 use crate::refusal::Refusal;
+use feed_follower::FollowerFault;
 use std::alloc::{AllocError, Global};
 
 /// How a run of the program ends.
@@ -18,9 +19,11 @@ pub enum Exit {
     OutputFailed,
     /// The port didn't listen, or the next connection didn't begin.
     NetworkFailed,
-    /// The input of `check` is no valid document.
+    /// The input of `check` is no valid document, or that of `put` is too large for one.
     Refused(Refusal),
-    /// Memory was wanted before the first request, or by `check`.
+    /// A call of the client failed: its peer did, or refused, or what came is nothing that is taken.
+    Client(FollowerFault),
+    /// Memory was wanted before the first request, or by a command that serves none.
     OutOfMemory,
 }
 
@@ -42,7 +45,8 @@ impl Words {
     }
 }
 
-const USAGE: &[u8] = b"usage: xcapd replay ROOT | serve ADDR ROOT COUNT | check AUID\n";
+const USAGE: &[u8] =
+    b"usage: xcapd replay ROOT | serve ADDR ROOT COUNT | check AUID | fetch USER ROOT PATH | put USER ROOT PATH TYPE | delete USER ROOT PATH | follow USER ROOT DOCUMENT ROUNDS\n";
 
 impl Exit {
     /// The status that the program ends with.
@@ -56,6 +60,7 @@ impl Exit {
             Exit::OutputFailed => 4,
             Exit::NetworkFailed => 5,
             Exit::Refused(_) => 6,
+            Exit::Client(fault) => client_commands::status_of(fault),
             Exit::OutOfMemory => 7,
         }
     }
@@ -63,7 +68,7 @@ impl Exit {
     /// What is told on the stream for errors.
     ///
     /// # Errors
-    /// `NoMemory` for want of memory, which only the words of a refusal take.
+    /// `NoMemory` for want of memory, which only the words of a refusal and of a call that failed take.
     #[tactic(auto, unfolding(crate::specs::Exits::usage_line))]
     pub(crate) fn words(&self, alloc: Global) -> Result<Words, AllocError>
         ensures words { IfOk result (λ words. said words ≡ words_of self.now) }
@@ -76,6 +81,7 @@ impl Exit {
             Exit::OutputFailed => Ok(Words::Fixed(b"output failed\n")),
             Exit::NetworkFailed => Ok(Words::Fixed(b"network failed\n")),
             Exit::Refused(refusal) => Ok(Words::Made(refusal.words(alloc)?)),
+            Exit::Client(fault) => Ok(Words::Made(client_commands::words_of(alloc, fault)?)),
             Exit::OutOfMemory => Ok(Words::Fixed(b"out of memory\n")),
         }
     }

@@ -3,6 +3,8 @@
 //! The commands are the project's own; they follow RFC 4825.
 #![tactic(auto)]
 
+mod asking;
+mod asking_words;
 mod check;
 mod command;
 mod exit;

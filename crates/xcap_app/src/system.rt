@@ -20,7 +20,8 @@ use xcap_io::{Line, StdSink, StdSource, TcpPeer, TcpPort};
 /// Runs the command that the words spell, as `run` does, over sockets and streams over which nothing has passed yet. Where it
 /// answers 0, what passed over them is what the command says: of `serve`, the bytes that were taken on each socket are the replies
 /// to what was given on it; of `replay`, the same of the input and the output; of `check`, the bytes that were given are a valid
-/// document. The watchers were told exactly the changes that were made, in order.
+/// document; of a command of the client, one connection was begun for each of its calls, and what was written is what the responses
+/// given there say. The watchers were told exactly the changes that were made, in order.
 pub fn run_on_system<N: Net + Clock + Drop, I: Read, O: Write, E: Write, W: Watchers<Edit>>(
     alloc: Global,
     words: &[String],
@@ -36,14 +37,16 @@ pub fn run_on_system<N: Net + Clock + Drop, I: Read, O: Write, E: Write, W: Watc
     requires none_taken { (⟦<StdSink<O> as Line>⟧.state output.old).taken ≡ [] }
     ensures done { result ≡ 0 → IsDone W.keeps (command_of (map string_bytes words.now))
         (⟦<TcpPort<N> as Line>⟧.state port.old) (⟦<TcpPort<N> as Line>⟧.state port.new)
-        (⟦<StdSource<I> as Line>⟧.state input.new) (⟦<StdSink<O> as Line>⟧.state output.new)
+        (⟦<TcpPeer<N> as Line>⟧.state peer.old) (⟦<TcpPeer<N> as Line>⟧.state peer.new)
+        (⟦<StdSource<I> as Line>⟧.state input.old) (⟦<StdSource<I> as Line>⟧.state input.new)
+        (⟦<StdSink<O> as Line>⟧.state output.old) (⟦<StdSink<O> as Line>⟧.state output.new)
         watchers.old watchers.new }
     ensures ends { (exit : Exit) × (result ≡ status_of exit) × Runs W.keeps (command_of (map string_bytes words.now)) exit
         (⟦<TcpPort<N> as Line>⟧.state port.old) (⟦<TcpPort<N> as Line>⟧.state port.new)
+        (⟦<TcpPeer<N> as Line>⟧.state peer.old) (⟦<TcpPeer<N> as Line>⟧.state peer.new)
         (⟦<StdSource<I> as Line>⟧.state input.old) (⟦<StdSource<I> as Line>⟧.state input.new)
         (⟦<StdSink<O> as Line>⟧.state output.old) (⟦<StdSink<O> as Line>⟧.state output.new) watchers.old watchers.new
         × Tells (words_of exit) (⟦<StdSink<E> as Line>⟧.state errors.old) (⟦<StdSink<E> as Line>⟧.state errors.new) }
-    ensures peer { peer.new ≡ peer.old }
 {
     run(alloc, words, port, peer, input, output, errors, watchers)
 }

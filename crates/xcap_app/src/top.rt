@@ -6,6 +6,7 @@ ghost use Rattle.xcap_app.specs.Runs.{Runs};
 ghost use Rattle.xcap_app.specs.Telling.{Tells};
 ghost use Rattle.xcap_app.specs.declared.exit.Exit.{Exit};
 
+use crate::asking::{run_delete, run_fetch, run_follow, run_put};
 use crate::check::check;
 use crate::command::Command;
 use crate::exit::Exit;
@@ -19,16 +20,17 @@ use watchers::Watchers;
 use xcap_io::{Line, Peer, Port, Sink, Source};
 
 // Runs a command.
-fn execute<P: Port, I: Source, O: Sink, W: Watchers<Edit>>(
+fn execute<P: Port, C: Peer, I: Source, O: Sink, W: Watchers<Edit>>(
     alloc: Global,
     command: &Command,
     port: &mut P,
+    peer: &mut C,
     input: &mut I,
     output: &mut O,
     watchers: &mut W,
 ) -> Exit
     ensures runs_the_command { Runs W.keeps (Some command.now) result (P.state port.old) (P.state port.new)
-        (I.state input.old) (I.state input.new) (O.state output.old) (O.state output.new) watchers.old watchers.new }
+        (C.state peer.old) (C.state peer.new) (I.state input.old) (I.state input.new) (O.state output.old) (O.state output.new) watchers.old watchers.new }
 {
     match command {
         Command::Replay { root } => replay(alloc, root, input, output, watchers),
@@ -46,23 +48,34 @@ fn execute<P: Port, I: Source, O: Sink, W: Watchers<Edit>>(
             watchers,
         ),
         Command::Check { usage } => check(alloc, *usage, input, output),
+        Command::Fetch { asker, path } => run_fetch(alloc, asker, path, peer, output),
+        Command::Put { asker, path, media } => {
+            run_put(alloc, asker, path, media, peer, input, output)
+        }
+        Command::Delete { asker, path } => run_delete(alloc, asker, path, peer, output),
+        Command::Follow {
+            asker,
+            document,
+            rounds,
+        } => run_follow(alloc, asker, document, *rounds, peer, output),
     }
 }
 
 // Runs the command that the words spell, if they spell one.
-fn execute_words<P: Port, I: Source, O: Sink, W: Watchers<Edit>>(
+fn execute_words<P: Port, C: Peer, I: Source, O: Sink, W: Watchers<Edit>>(
     alloc: Global,
     words: &[String],
     port: &mut P,
+    peer: &mut C,
     input: &mut I,
     output: &mut O,
     watchers: &mut W,
 ) -> Exit
     ensures runs_what_the_words_spell { Runs W.keeps (command_of (map string_bytes words.now)) result (P.state port.old) (P.state port.new)
-        (I.state input.old) (I.state input.new) (O.state output.old) (O.state output.new) watchers.old watchers.new }
+        (C.state peer.old) (C.state peer.new) (I.state input.old) (I.state input.new) (O.state output.old) (O.state output.new) watchers.old watchers.new }
 {
     match command_of(alloc, words) {
-        Ok(Some(command)) => execute(alloc, &command, port, input, output, watchers),
+        Ok(Some(command)) => execute(alloc, &command, port, peer, input, output, watchers),
         Ok(None) => Exit::Usage,
         Err(_) => Exit::OutOfMemory,
     }
@@ -71,7 +84,7 @@ fn execute_words<P: Port, I: Source, O: Sink, W: Watchers<Edit>>(
 /// Runs the command that the words spell, which are those of the command line without the program's name, and answers the
 /// status to end with. What each command did, by the way it ended, is said by `Runs`; each status has its words on `errors`,
 /// and where `errors` fails, nothing else changes. Words that spell no command are answered 2 and the usage line, and then
-/// nothing else is read, written, begun or told. No command that is built asks the peer.
+/// nothing else is read, written, begun, asked or told.
 pub fn run<P: Port, C: Peer, I: Source, O: Sink, E: Sink, W: Watchers<Edit>>(
     alloc: Global,
     words: &[String],
@@ -84,10 +97,9 @@ pub fn run<P: Port, C: Peer, I: Source, O: Sink, E: Sink, W: Watchers<Edit>>(
 ) -> u8
     ensures ends { (exit : Exit) × (result ≡ status_of exit)
         × Runs W.keeps (command_of (map string_bytes words.now)) exit (P.state port.old) (P.state port.new)
-        (I.state input.old) (I.state input.new) (O.state output.old) (O.state output.new) watchers.old watchers.new
+        (C.state peer.old) (C.state peer.new) (I.state input.old) (I.state input.new) (O.state output.old) (O.state output.new) watchers.old watchers.new
         × Tells (words_of exit) (E.state errors.old) (E.state errors.new) }
-    ensures peer { peer.new ≡ peer.old }
 {
-    let exit = execute_words(alloc, words, port, input, output, watchers);
+    let exit = execute_words(alloc, words, port, peer, input, output, watchers);
     tell_exit(alloc, errors, exit).status()
 }

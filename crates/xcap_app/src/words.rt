@@ -1,7 +1,8 @@
 // The words of the command line.
 ghost use Rattle.std.specs.Prelude.{◌≡◌, IfOk, map, string_bytes};
-ghost use Rattle.xcap_app.specs.Commands.{check_of, command_of, count_of, of_four, of_two, replay_of, serve_of, usage_named};
+ghost use Rattle.xcap_app.specs.Commands.{check_of, command_of, count_of, of_five, of_four, of_two, replay_of, serve_of, usage_named};
 
+use crate::asking_words::{delete_of, fetch_of, follow_of, put_of};
 use crate::command::Command;
 use doc_names::Usage;
 use std::alloc::{AllocError, Global};
@@ -100,14 +101,41 @@ fn of_two(alloc: Global, name: &str, word: &str) -> Result<Option<Command>, Allo
 fn of_four(
     alloc: Global,
     name: &str,
-    address: &str,
+    first: &str,
     root: &str,
-    count: &str,
+    last: &str,
 ) -> Result<Option<Command>, AllocError>
-    ensures reads_four_words { IfOk result (λ command. command ≡ of_four name.now address.now root.now count.now) }
+    ensures reads_four_words { IfOk result (λ command. command ≡ of_four name.now first.now root.now last.now) }
 {
     if name == "serve" {
-        return serve_of(alloc, address, root, count);
+        return serve_of(alloc, first, root, last);
+    }
+    if name == "fetch" {
+        return fetch_of(alloc, first, root, last);
+    }
+    if name == "delete" {
+        return delete_of(alloc, first, root, last);
+    }
+    Ok(None)
+}
+
+// What five words spell.
+#[tactic(auto, unfolding(crate::specs::Commands::of_five))]
+fn of_five(
+    alloc: Global,
+    name: &str,
+    user: &str,
+    root: &str,
+    path: &str,
+    last: &str,
+) -> Result<Option<Command>, AllocError>
+    ensures reads_five_words { IfOk result (λ command. command ≡ of_five name.now user.now root.now path.now last.now) }
+{
+    if name == "put" {
+        return put_of(alloc, user, root, path, last);
+    }
+    if name == "follow" {
+        return follow_of(alloc, user, root, path, last);
     }
     Ok(None)
 }
@@ -121,12 +149,20 @@ pub(crate) fn command_of(alloc: Global, words: &[String]) -> Result<Option<Comma
 {
     match words {
         [name, word] => of_two(alloc, name.as_str(), word.as_str()),
-        [name, address, root, count] => of_four(
+        [name, first, root, last] => of_four(
             alloc,
             name.as_str(),
-            address.as_str(),
+            first.as_str(),
             root.as_str(),
-            count.as_str(),
+            last.as_str(),
+        ),
+        [name, user, root, path, last] => of_five(
+            alloc,
+            name.as_str(),
+            user.as_str(),
+            root.as_str(),
+            path.as_str(),
+            last.as_str(),
         ),
         _ => Ok(None),
     }

@@ -1,0 +1,24 @@
+use Rattle.std.proofs.Common.{refl}
+use Rattle.xcap_app.specs.declared.command.Command.TheVariants.{Fetch, Put, Delete, Follow}
+use Rattle.xcap_app.proofs.Ends.{ran_as}
+use Rattle.xcap_app.proofs.top.execute.Goals as goal
+
+pub returns-in-Fetch : goal.returns-in-Fetch
+returns-in-Fetch g c = record {
+  runs_the_command = ran_as g.W.Watchers.keeps c.args.command.now (Fetch c.in-Fetch.asker c.in-Fetch.path) c.run_fetch.result _ _ _ _ _ _ _ _ _ _ c.in-Fetch.is (c.run_fetch.ensures.runs, refl, refl, refl);
+}
+
+pub returns-in-Put : goal.returns-in-Put
+returns-in-Put g c = record {
+  runs_the_command = ran_as g.W.Watchers.keeps c.args.command.now (Put c.in-Put.asker c.in-Put.path c.in-Put.media) c.run_put.result _ _ _ _ _ _ _ _ _ _ c.in-Put.is (c.run_put.ensures.runs, refl, refl);
+}
+
+pub returns-in-Delete : goal.returns-in-Delete
+returns-in-Delete g c = record {
+  runs_the_command = ran_as g.W.Watchers.keeps c.args.command.now (Delete c.in-Delete.asker c.in-Delete.path) c.run_delete.result _ _ _ _ _ _ _ _ _ _ c.in-Delete.is (c.run_delete.ensures.runs, refl, refl, refl);
+}
+
+pub returns-in-Follow : goal.returns-in-Follow
+returns-in-Follow g c = record {
+  runs_the_command = ran_as g.W.Watchers.keeps c.args.command.now (Follow c.in-Follow.asker c.in-Follow.document c.in-Follow.rounds) c.run_follow.result _ _ _ _ _ _ _ _ _ _ c.in-Follow.is (c.run_follow.ensures.runs, refl, refl, refl);
+}

@@ -1,0 +1,66 @@
+-- Which words spell a command of the client. The commands are the project's own; a ROOT is that of RFC 4825, section 6.1.
+use Rattle.std.specs.Prelude.{ℕ, Bool, ◌&&◌, ◌==◌, not, nat_le, List, chars, codes, encode_utf8_all, length, Option, None, Some, if◌then◌else◌}
+use Rattle.std.specs.List.{list_all}
+use Rattle.std.specs.Option.{option_and_then, option_map}
+use Rattle.std.specs.Str.{bytes_eq}
+use Rattle.xcap_uri.specs.Cuts.{before}
+use Rattle.xcap_uri.specs.Numerals.{numeral_of}
+use Rattle.xcap_uri.specs.Roots.{root_of}
+use Rattle.client_commands.specs.declared.asker.Asker.{Asker}
+use Rattle.xcap_app.specs.declared.command.Command.{Command}
+use Rattle.xcap_app.specs.declared.command.Command.TheVariants.{Fetch, Put, Delete, Follow}
+
+-- a visible character of ASCII
+abbrev pub is_visible : ℕ → Bool
+is_visible b = nat_le 33 b && nat_le b 126
+
+-- USER, PATH, TYPE and DOCUMENT: one or more of them
+abbrev pub is_word : List ℕ → Bool
+is_word word = not (length word == 0) && list_all is_visible word
+
+-- such a word, as a text
+abbrev pub text_of : List ℕ → Option (List ℕ)
+text_of word = if is_word word then Some (chars word) else None
+
+-- USER, where `-` is none
+abbrev pub user_of : List ℕ → Option (List ℕ)
+user_of word = if bytes_eq word (codes "-") then None else Some (chars word)
+
+-- `http` stands before the first colon
+abbrev pub begins_with_http : List ℕ → Bool
+begins_with_http text = bytes_eq (before 58 text) (codes "http")
+
+-- it is the scheme of a root
+abbrev pub is_http : List ℕ → Bool
+is_http root = begins_with_http (encode_utf8_all root)
+
+-- ROOT, where its scheme is `http`
+abbrev pub http_root_of : List ℕ → Option (List ℕ)
+http_root_of word = option_and_then (λ r. if is_http r then Some r else None) (root_of word)
+
+-- `USER ROOT`
+abbrev pub asker_of : List ℕ → List ℕ → Option Asker
+asker_of user root =
+    if is_word user then option_map (λ r. record { user = user_of user; root = r }) (http_root_of root) else None
+
+-- ROUNDS: a numeral of at most 1,000
+unfoldable pub rounds_of : List ℕ → Option ℕ
+rounds_of word = option_and_then (λ n. if nat_le n 1000 then Some n else None) (numeral_of word)
+
+-- `fetch USER ROOT PATH`
+abbrev pub fetch_of : List ℕ → List ℕ → List ℕ → Option Command
+fetch_of user root path = option_and_then (λ asker. option_map (λ p. Fetch asker p) (text_of path)) (asker_of user root)
+
+-- `delete USER ROOT PATH`
+abbrev pub delete_of : List ℕ → List ℕ → List ℕ → Option Command
+delete_of user root path = option_and_then (λ asker. option_map (λ p. Delete asker p) (text_of path)) (asker_of user root)
+
+-- `put USER ROOT PATH TYPE`
+abbrev pub put_of : List ℕ → List ℕ → List ℕ → List ℕ → Option Command
+put_of user root path media =
+    option_and_then (λ asker. option_and_then (λ p. option_map (λ m. Put asker p m) (text_of media)) (text_of path)) (asker_of user root)
+
+-- `follow USER ROOT DOCUMENT ROUNDS`
+abbrev pub follow_of : List ℕ → List ℕ → List ℕ → List ℕ → Option Command
+follow_of user root document rounds =
+    option_and_then (λ asker. option_and_then (λ d. option_map (λ n. Follow asker d n) (rounds_of rounds)) (text_of document)) (asker_of user root)
