@@ -11,11 +11,7 @@ use xcap_client::{ClientFault, fetch, put, remove};
 const ROOT: &str = "http://xcap.example.com/xcap";
 
 // What a call answers, beside a body.
-fn outcome(
-    alloc: Global,
-    body: &[u8],
-    given: &Result<Response, ClientFault>,
-) -> Result<String> {
+fn outcome(alloc: Global, body: &[u8], given: &Result<Response, ClientFault>) -> Result<String> {
     match given {
         Ok(response) => response_in(alloc, body, response),
         Err(ClientFault::PeerFault) => Ok(String::from_str(alloc, "peer failed")?),

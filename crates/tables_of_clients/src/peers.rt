@@ -20,7 +20,11 @@ pub struct Played<'a> {
 }
 
 /// A peer with these connections, of whose calls the one of this number fails to connect.
-pub fn peer(alloc: Global, played: &Played<'_>, connect_fails_at: Option<usize>) -> Result<MemPeer> {
+pub fn peer(
+    alloc: Global,
+    played: &Played<'_>,
+    connect_fails_at: Option<usize>,
+) -> Result<MemPeer> {
     let mut lines = Vec::new(alloc);
     for given in played.given {
         let step = played.step.max(1);
