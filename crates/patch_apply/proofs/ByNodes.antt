@@ -9,7 +9,7 @@ use Rattle.xml_tree.specs.declared.names.Decl.{Decl}
 use Rattle.xml_tree.specs.declared.tree.Node.{Node}
 use Rattle.xml_tree.specs.declared.tree.Node.TheVariants.{Elem, Comment}
 use Rattle.patch_words.specs.Applied.{is_bare, is_blank, is_blank_content, means_alike, sole_element, value_in}
-use Rattle.patch_apply.specs.ByNodes.{element_alike, is_loose, is_remark, node_alike, text_in}
+use Rattle.patch_apply.specs.inner.ByNodes.{element_alike, is_loose, is_remark, node_alike, text_in}
 
 -- ---- nothing but comments
 

@@ -14,7 +14,7 @@ use Rattle.xml_tree.proofs.HeightLaws.{height-bounded, height-put_over}
 use Rattle.xml_tree.proofs.PlaceLaws.{at-changed, height-at}
 use Rattle.xml_tree.proofs.Places.{content_of-nodes_of}
 use Rattle.patch_words.specs.Applied.{with_attrs, within_depth}
-use Rattle.patch_apply.specs.ByNodes.{nodes_height}
+use Rattle.patch_apply.specs.inner.ByNodes.{nodes_height}
 
 -- ---- of nodes
 

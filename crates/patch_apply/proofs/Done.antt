@@ -16,7 +16,7 @@ use Rattle.xml_tree.specs.declared.names.Name.{Name}
 use Rattle.xml_tree.specs.declared.tree.Node.{Node}
 use Rattle.xml_tree.proofs.PathLemmas.{put_over-made}
 use Rattle.patch_words.specs.Applied.{Wrong, Prefix, RootTouched, WrongNodes, NoSpace, Position, Behind, Prepend, Before, After, AtElement, AtAttr, AtText, attr_done, attr_of, cut_element, given, is_bare, is_below, made, means_alike, off_root, put_at, put_done, remove_done, replace_done, rewritten, scope_of_put, sole_element, space_fits, tested, value_in, with_attrs, within_depth}
-use Rattle.patch_apply.specs.Stages.{gap_done, gap_of, is_there_already, site_of, take_done, value_done}
+use Rattle.patch_apply.specs.inner.Stages.{gap_done, gap_of, is_there_already, site_of, take_done, value_done}
 
 -- ---- what is made of the tree
 

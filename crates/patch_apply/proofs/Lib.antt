@@ -1,7 +1,6 @@
 pub mod ByNodes
 pub mod Depths
 pub mod Done
-pub mod Gathering
 pub mod Located
 pub mod Lows
 pub mod Making

@@ -15,7 +15,7 @@ use Rattle.node_select.specs.Selection.{selected_in}
 use Rattle.node_select.specs.declared.selector.PatchSelector.{PatchSelector}
 use Rattle.patch_words.specs.Applied as words
 use Rattle.patch_words.specs.Applied.{ended, located, selected_text}
-use Rattle.patch_apply.specs.Spotting.{Spots}
+use Rattle.patch_apply.specs.inner.Spotting.{Spots}
 use Rattle.patch_apply.specs.declared.spots.Spot.{Spot}
 use Rattle.patch_apply.specs.declared.spots.Spot.TheVariants.{AtElement, AtAttr, AtText}
 

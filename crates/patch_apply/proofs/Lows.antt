@@ -1,5 +1,5 @@
 -- No operation makes a tree deeper than a document may be.
-use Rattle.std.proofs.Common.{◌≡◌, ◌≤◌, ℕ, suc, Bool, true, false, codes, not, List, [], ◌∷◌, ◌++◌, Option, None, Some, is_some, option_and_then, option_map, unwrap_or, Result, Ok, Err, refl, subst}
+use Rattle.std.proofs.Common.{◌≡◌, ◌≤◌, ℕ, suc, Bool, true, false, codes, not, List, [], ◌∷◌, ◌++◌, Option, None, Some, is_some, option_and_then, option_map, unwrap_or, Result, Ok, refl, subst}
 use Rattle.std.specs.List.{list_all, list_any, slice_get}
 use Rattle.xml_tree.specs.Attributes.{remove_first}
 use Rattle.xml_tree.specs.Edits.{change_at, put_over}
@@ -7,7 +7,6 @@ use Rattle.xml_tree.specs.Expanded.{attr_name, same_expanded}
 use Rattle.xml_tree.specs.Nodes.{exchange_nodes, nodes_of, text_node}
 use Rattle.xml_tree.specs.Scopes.{scope_around, scope_at}
 use Rattle.xml_tree.specs.Tree.{Content, Tree, at, height}
-use Rattle.xml_tree.specs.declared.names.Attr.{Attr}
 use Rattle.xml_tree.specs.declared.names.Decl.{Decl}
 use Rattle.xml_tree.specs.declared.names.Name.{Name}
 use Rattle.node_select.specs.declared.selector.PatchSelector.{PatchSelector}

@@ -11,8 +11,8 @@ use Rattle.xml_tree.specs.declared.names.Attr.{Attr}
 use Rattle.xml_tree.specs.declared.names.Decl.{Decl}
 use Rattle.xml_tree.specs.declared.names.Name.{Name}
 use Rattle.patch_words.specs.Applied.{Prefix, WrongNodes, AtElement, AtText, attr_done, attr_of, cut_element, is_bare, is_below, means_alike, one_if, own_place, remove_done, replace_done, sole_element, space_fits, value_in, with_attrs}
-use Rattle.patch_apply.specs.ByNodes.{nodes_height}
-use Rattle.patch_apply.specs.Stages.{gap_done, is_there_already, take_done, value_done}
+use Rattle.patch_apply.specs.inner.ByNodes.{nodes_height}
+use Rattle.patch_apply.specs.inner.Stages.{gap_done, is_there_already, take_done, value_done}
 use Rattle.patch_apply.proofs.Depths.{attrs_low, exchanged_low, put_over_low, shallow_low, text_height}
 use Rattle.patch_apply.proofs.Done.{attr_may, cut_well, made_deep, made_unlike, made_well, remove_well, replace_sole, take_well, text_some, value_some}
 

@@ -8,9 +8,9 @@ use Rattle.xml_tree.specs.declared.names.Attr.{Attr}
 use Rattle.xml_tree.specs.declared.names.Decl.{Decl}
 use Rattle.node_select.specs.declared.selector.PatchSelector.{PatchSelector}
 use Rattle.patch_words.specs.Applied.{Wrong, Directive, Prefix, Unlocated, Task, applied, done, end_of, form_of, given, is_bound_type, is_known, located, meaning_in, plain_value, suits, tested}
-use Rattle.patch_apply.specs.Giving.{Gives}
-use Rattle.patch_apply.specs.Stages.{done_where, said_done, selector_tested, task_done, task_said}
-use Rattle.patch_apply.specs.Views.{wrong_in}
+use Rattle.patch_apply.specs.inner.Giving.{Gives}
+use Rattle.patch_apply.specs.inner.Stages.{done_where, said_done, selector_tested, task_done, task_said}
+use Rattle.patch_apply.specs.inner.Seen.{wrong_in}
 use Rattle.patch_apply.specs.declared.fault.Wrong.{Wrong as CodeWrong}
 
 -- a call gives what is stated in other words too

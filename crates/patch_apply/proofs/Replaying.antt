@@ -4,7 +4,6 @@ use Rattle.tree_text.specs.declared.fault.ReadError.{ReadError}
 use Rattle.tree_text.specs.declared.fault.ReadError.TheVariants.{Fault, NoMemory}
 use Rattle.xml_tree.specs.Proper.{ProperIn}
 use Rattle.xml_tree.specs.Tree.{Tree}
-use Rattle.xml_tree.specs.declared.names.Decl.{Decl}
 use Rattle.patch_words.specs.Replay as replay
 use Rattle.patch_words.specs.Replay.{Answer, Fetch, Held, Outcome, Same, WrongDocument, all_taken, answered, documents, ended, is_all_mine, last_new, replayed, then_next}
 use Rattle.patch_laws.specs.Replayed.{HoldsSound}

@@ -16,14 +16,15 @@ use Rattle.node_select.specs.readers.Selectors.{read_patch_selector}
 use Rattle.node_select.specs.readers.Whole.{meant, patch_selector_read, patch_told}
 use Rattle.node_select.proofs.ExactSelectors.{one_patch_selector, patch_selector_answer}
 use Rattle.patch_words.specs.Applied.{Wrong, Directive, Prefix, Task, Put, NewAttr, Replace, Remove, end_of, form_of, form_read, given, is_bound_type, meaning_in, suits, tested}
-use Rattle.patch_apply.specs.Forms.{IsRefused, IsUnbound, form_in, is_type_bound, suits_form, unbound_with}
+use Rattle.patch_apply.specs.inner.Forms.{IsRefused, IsUnbound, is_type_bound, suits_form, unbound_with}
+use Rattle.node_select.specs.Faults.{form_of as end_form}
 use Rattle.node_select.specs.readers.Whole.{raw_form_of, raw_form_told}
-use Rattle.patch_apply.specs.Stages.{selector_tested}
+use Rattle.patch_apply.specs.inner.Stages.{selector_tested}
 use Rattle.node_select.specs.declared.selector.PatchForm.{PatchForm}
 
 -- ---- forms
 
-pub form_stays : (b : List Decl) (end : RawPatchEnd) → form_in (patch_end_of b end) ≡ raw_form_of end
+pub form_stays : (b : List Decl) (end : RawPatchEnd) → end_form (patch_end_of b end) ≡ raw_form_of end
 form_stays b PatchElement = refl
 form_stays b (PatchAttribute name) = refl
 form_stays b (PatchChars k) = refl
@@ -156,7 +157,7 @@ module _ (here : List (List Decl)) (listed : List Decl) (unprefixed text sel : L
     pub raw : RawPatchSelector
     pub form : form_of sel ≡ Some raw
     pub means : meaning_in here raw ≡ Some s
-    pub ends : form_in s.end ≡ raw_form_of raw.1.1
+    pub ends : end_form s.end ≡ raw_form_of raw.1.1
 
   pub found : (s : PatchSelector) → IsPatchSelectorAnswer listed unprefixed text (Ok s) → IsFound s
   found s a =
@@ -165,7 +166,7 @@ module _ (here : List (List Decl)) (listed : List Decl) (unprefixed text sel : L
         raw = x.raw;
         form = ap form_read x.is;
         means = means_this here x.raw s x.unbound x.means;
-        ends = ap (λ (z : PatchSelector). form_in z.end) (sym x.means) ∙ form_stays (bindings_in here) x.raw.1.1;
+        ends = ap (λ (z : PatchSelector). end_form z.end) (sym x.means) ∙ form_stays (bindings_in here) x.raw.1.1;
       }
 
   pub not_found : (n : ℕ) → IsPatchSelectorAnswer listed unprefixed text (Err (BadSelector n)) → form_of sel ≡ None

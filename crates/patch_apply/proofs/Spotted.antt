@@ -6,9 +6,9 @@ use Rattle.xml_tree.specs.Tree.{Content, Tree, at}
 use Rattle.xml_tree.specs.declared.names.Decl.{Decl}
 use Rattle.patch_words.specs.Applied as words
 use Rattle.patch_words.specs.Applied.{path_of, remove_done, replace_done}
-use Rattle.patch_apply.specs.Giving.{Gives}
-use Rattle.patch_apply.specs.Spotting.{IsSpot, IsThere, path_in}
-use Rattle.patch_apply.specs.Stages.{take_done, value_done}
+use Rattle.patch_apply.specs.inner.Giving.{Gives}
+use Rattle.patch_apply.specs.inner.Spotting.{IsSpot, IsThere, path_in}
+use Rattle.patch_apply.specs.inner.Stages.{take_done, value_done}
 use Rattle.patch_apply.specs.declared.fault.Wrong.{Wrong}
 use Rattle.patch_apply.specs.declared.spots.Spot.{Spot}
 use Rattle.patch_apply.specs.declared.spots.Spot.TheVariants.{AtElement, AtAttr, AtText}

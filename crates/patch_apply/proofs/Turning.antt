@@ -7,8 +7,9 @@ use Rattle.xml_tree.specs.Tree.{Tree}
 use Rattle.xml_tree.specs.declared.names.Decl.{Decl}
 use Rattle.patch_words.specs.Applied.{Wrong, applied}
 use Rattle.patch_words.specs.Replay.{AtOperation, Fault, Held, Missing, Now, Outcome, Turn, WrongTag, all_applied, all_taken, by_tags, changed, held_tag, is_tag, numbered, operation_count, renewed, says_same, taken, then_next, unless_missing}
-use Rattle.patch_apply.specs.Giving.{Tells}
-use Rattle.patch_apply.specs.Views.{fault_at, fault_told, wrong_in}
+use Rattle.patch_apply.specs.inner.Giving.{Tells}
+use Rattle.patch_apply.specs.Views.{fault_told}
+use Rattle.patch_apply.specs.inner.Seen.{fault_at, wrong_in}
 use Rattle.patch_apply.specs.declared.fault.ApplyFault.{ApplyFault}
 use Rattle.patch_apply.specs.declared.fault.Wrong.{Wrong as CodeWrong}
 use Rattle.patch_apply.specs.declared.fault.Wrong.TheVariants as wrongs

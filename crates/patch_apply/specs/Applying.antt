@@ -6,8 +6,13 @@ use Rattle.patch_words.specs.Replay.{Answer, Held}
 use Rattle.patch_words.specs.Replay as replay
 use Rattle.patch_apply.specs.declared.fault.ApplyFault.{ApplyFault}
 use Rattle.patch_apply.specs.declared.replica.Applied.{Applied}
-use Rattle.patch_apply.specs.Giving.{IsTold}
-use Rattle.patch_apply.specs.Views.{answer_in}
+use Rattle.patch_apply.specs.Views.{answer_in, told_as}
+
+-- a fault that is stated is told so
+pub record IsTold {Y : Type 0} (stated : Result Y replay.Fault) (fault : ApplyFault) : Type 0 where
+  pub stated_fault : replay.Fault
+  pub is : stated ≡ Err stated_fault
+  pub told : fault ≡ told_as stated_fault
 
 -- the answer that is stated, and what is stated is held then; or the fault that is stated, or want of memory, and what was held is
 abbrev pub Applies : Result (Answer × Held) replay.Fault → Held → Result Applied (ReadError ApplyFault) → Held → Type 0

@@ -1,8 +1,4 @@
 pub mod Applying
-pub mod ByNodes
-pub mod Forms
-pub mod Giving
 pub mod Reading
-pub mod Spotting
-pub mod Stages
 pub mod Views
+pub mod inner

@@ -7,10 +7,11 @@ ghost use Rattle.patch_words.specs.Replay.{all_taken, ended, is_all_mine, last_n
 ghost use Rattle.patch_words.specs.Replay as words;
 ghost use Rattle.patch_laws.specs.Replayed.{HoldsSound};
 ghost use Rattle.patch_apply.specs.Applying.{Applies};
-ghost use Rattle.patch_apply.specs.Giving.{Tells};
+ghost use Rattle.patch_apply.specs.inner.Giving.{Tells};
 ghost use Rattle.name_words.specs.Naming.{is_name_of};
-ghost use Rattle.patch_apply.specs.Stages.{ours_in};
-ghost use Rattle.patch_apply.specs.Views.{IsLow, IsLowOutcome, IsLowTurn, answer_in, held_in, outcome_in, turn_in};
+ghost use Rattle.patch_apply.specs.inner.Stages.{ours_in};
+ghost use Rattle.patch_apply.specs.Views.{IsLow, answer_in, held_in};
+ghost use Rattle.patch_apply.specs.inner.Seen.{IsLowOutcome, IsLowTurn, outcome_in, turn_in};
 
 use crate::documents::{documents, new_tag, operations_in, previous_tag};
 use crate::fault::ApplyFault;

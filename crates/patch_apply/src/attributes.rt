@@ -9,8 +9,8 @@ ghost use Rattle.xml_tree.specs.Tree.{at, height};
 ghost use Rattle.xml_tree.specs.declared.names.Decl.{Decl};
 ghost use Rattle.patch_words.specs.Applied.{attr_done, remove_done, replace_done, with_attrs};
 ghost use Rattle.patch_words.specs.Applied as spots;
-ghost use Rattle.patch_apply.specs.Giving.{Gives};
-ghost use Rattle.patch_apply.specs.Stages.{is_there_already, take_done, value_done};
+ghost use Rattle.patch_apply.specs.inner.Giving.{Gives};
+ghost use Rattle.patch_apply.specs.inner.Stages.{is_there_already, take_done, value_done};
 
 use crate::contents::{is_bare, value_in};
 use crate::edits::exchange_one;

@@ -3,7 +3,7 @@ ghost use Rattle.std.specs.Prelude.{◌≡◌, IfOk, chars};
 ghost use Rattle.std.specs.List.{list_all};
 ghost use Rattle.std.specs.Option.{option_copied};
 ghost use Rattle.patch_words.specs.Applied.{is_bare, is_blank, sole_element, value_in};
-ghost use Rattle.patch_apply.specs.ByNodes.{is_loose, is_remark, text_in};
+ghost use Rattle.patch_apply.specs.inner.ByNodes.{is_loose, is_remark, text_in};
 
 use std::alloc::{AllocError, Global};
 use tree_text::no_text;

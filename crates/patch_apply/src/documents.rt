@@ -4,7 +4,7 @@ ghost use Rattle.std.specs.List.{list_all};
 ghost use Rattle.std.specs.Option.{option_copied};
 ghost use Rattle.patch_words.specs.Applied.{plain_value};
 ghost use Rattle.patch_words.specs.Replay.{documents, is_called, is_document, is_notice, is_operation, says_same};
-ghost use Rattle.patch_apply.specs.Stages.{is_tagged, ours_in};
+ghost use Rattle.patch_apply.specs.inner.Stages.{is_tagged, ours_in};
 
 use crate::names::{is_called, is_ours, plain_value};
 use std::alloc::{AllocError, Global};

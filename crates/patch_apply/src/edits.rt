@@ -5,9 +5,9 @@ ghost use Rattle.xml_tree.specs.Nodes.{exchange_nodes, nodes_of};
 ghost use Rattle.xml_tree.specs.Tree.{at, height};
 ghost use Rattle.patch_words.specs.Applied.{is_below, means_alike, nodes_at, off_root, own_place};
 ghost use Rattle.xml_tree.specs.Scopes.{scope_around, scope_at};
-ghost use Rattle.patch_apply.specs.ByNodes.{nodes_height};
-ghost use Rattle.patch_apply.specs.Stages.{gap_of, site_of};
-ghost use Rattle.patch_apply.specs.Views.{position_in};
+ghost use Rattle.patch_apply.specs.inner.ByNodes.{nodes_height};
+ghost use Rattle.patch_apply.specs.inner.Stages.{gap_of, site_of};
+ghost use Rattle.patch_apply.specs.inner.Seen.{position_in};
 
 use crate::meanings::means_alike;
 use crate::nodes::{next_number, nodes_depth};

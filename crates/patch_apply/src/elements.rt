@@ -4,9 +4,9 @@ ghost use Rattle.xml_tree.specs.Nodes.{nodes_of};
 ghost use Rattle.xml_tree.specs.Tree.{at, height};
 ghost use Rattle.patch_words.specs.Applied.{cut_nodes, is_space_at, nodes_at, one_if, put_done, remove_done, replace_done, space_before};
 ghost use Rattle.patch_words.specs.Applied as spots;
-ghost use Rattle.patch_apply.specs.Giving.{Gives};
-ghost use Rattle.patch_apply.specs.Stages.{gap_done, has_space_beside};
-ghost use Rattle.patch_apply.specs.Views.{position_in};
+ghost use Rattle.patch_apply.specs.inner.Giving.{Gives};
+ghost use Rattle.patch_apply.specs.inner.Stages.{gap_done, has_space_beside};
+ghost use Rattle.patch_apply.specs.inner.Seen.{position_in};
 
 use crate::contents::{is_bare, sole_element};
 use crate::edits::{

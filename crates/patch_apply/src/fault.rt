@@ -1,6 +1,6 @@
 //! Why a text is no notice, and why a notice can't be applied.
 ghost use Rattle.std.specs.Prelude.{◌≡◌};
-ghost use Rattle.patch_apply.specs.Views.{fault_at};
+ghost use Rattle.patch_apply.specs.inner.Seen.{fault_at};
 
 use thiserror::Error;
 use xml_tree::Text;

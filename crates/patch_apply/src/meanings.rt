@@ -4,7 +4,7 @@ ghost use Rattle.std.specs.Str.{bytes_eq};
 ghost use Rattle.std.specs.List.{list_all, list_any};
 ghost use Rattle.xml_tree.specs.Expanded.{attr_name, element_name, same_expanded, same_uri};
 ghost use Rattle.patch_words.specs.Applied.{means_alike};
-ghost use Rattle.patch_apply.specs.ByNodes.{element_alike, node_alike};
+ghost use Rattle.patch_apply.specs.inner.ByNodes.{element_alike, node_alike};
 
 use crate::names::{has_no_prefix, resolved};
 use std::alloc::Global;

@@ -8,7 +8,7 @@ ghost use Rattle.xml_tree.specs.Scopes.{bound};
 ghost use Rattle.patch_words.specs.Applied.{is_known, plain_value};
 ghost use Rattle.patch_words.specs.Notices.{diff_uri};
 ghost use Rattle.patch_words.specs.Replay.{is_called, is_ours};
-ghost use Rattle.patch_apply.specs.Stages.{is_diff_name};
+ghost use Rattle.patch_apply.specs.inner.Stages.{is_diff_name};
 
 use xml_tree::{Attr, Element, Name, Scope, Text};
 

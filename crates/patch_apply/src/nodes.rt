@@ -1,7 +1,7 @@
 //! Nodes of an element: texts by number, and how deep nodes reach.
 ghost use Rattle.std.specs.Prelude.{◌≡◌, ◌<◌, min, suc, length, IfSome};
 ghost use Rattle.patch_words.specs.Applied.{is_space_at, selected_text, space_before, text_number, texts_in};
-ghost use Rattle.patch_apply.specs.ByNodes.{is_blank_node, nodes_height};
+ghost use Rattle.patch_apply.specs.inner.ByNodes.{is_blank_node, nodes_height};
 
 use crate::contents::is_blank;
 use xml_tree::{Node, depth};

@@ -3,10 +3,10 @@ ghost use Rattle.std.specs.Prelude.{◌≤◌, ◌<◌, length};
 ghost use Rattle.xml_tree.specs.Tree.{height};
 ghost use Rattle.patch_words.specs.Applied.{applied, remove_done, replace_done};
 ghost use Rattle.patch_words.specs.Applied as words;
-ghost use Rattle.patch_apply.specs.Giving.{Gives};
-ghost use Rattle.patch_apply.specs.Spotting.{IsSpot, IsThere};
-ghost use Rattle.patch_apply.specs.Stages.{done_where, said_done};
-ghost use Rattle.patch_apply.specs.Views.{task_in};
+ghost use Rattle.patch_apply.specs.inner.Giving.{Gives};
+ghost use Rattle.patch_apply.specs.inner.Spotting.{IsSpot, IsThere};
+ghost use Rattle.patch_apply.specs.inner.Stages.{done_where, said_done};
+ghost use Rattle.patch_apply.specs.inner.Seen.{task_in};
 
 use crate::attributes::{add_attr, remove_attr, remove_text, replace_attr, replace_text};
 use crate::elements::{put_content, remove_element, replace_element};

@@ -2,12 +2,13 @@
 ghost use Rattle.std.specs.Prelude.{◌≡◌, ◌||◌, [], IfOk, chars, is_some, unwrap_or, Err};
 ghost use Rattle.std.specs.Str.{bytes_eq};
 ghost use Rattle.xml_tree.specs.Scopes.{bindings_in, bound};
+ghost use Rattle.node_select.specs.Faults.{form_of as end_form};
 ghost use Rattle.node_select.specs.Names.{prefix_uri};
 ghost use Rattle.patch_words.specs.Applied.{form_of, meaning_in};
-ghost use Rattle.patch_apply.specs.Forms.{IsRefused, IsUnbound, form_in, is_element, is_type_bound, suits_form, unbound_with};
-ghost use Rattle.patch_apply.specs.Giving.{Gives};
-ghost use Rattle.patch_apply.specs.Stages.{selector_tested};
-ghost use Rattle.patch_apply.specs.Views.{task_in, wrong_in};
+ghost use Rattle.patch_apply.specs.inner.Forms.{IsRefused, IsUnbound, is_element, is_type_bound, suits_form, unbound_with};
+ghost use Rattle.patch_apply.specs.inner.Giving.{Gives};
+ghost use Rattle.patch_apply.specs.inner.Stages.{selector_tested};
+ghost use Rattle.patch_apply.specs.inner.Seen.{task_in, wrong_in};
 
 use crate::fault::Wrong;
 use crate::names::has_no_prefix;
@@ -44,7 +45,7 @@ fn default_uri<'a>(scope: &Scope<'a>) -> &'a str
 
 // The form of an end.
 fn form_of(end: &PatchEnd) -> PatchForm
-    ensures form_of_the_end { result ≡ form_in end.now }
+    ensures form_of_the_end { result ≡ end_form end.now }
 {
     match end {
         PatchEnd::Element => PatchForm::Element,

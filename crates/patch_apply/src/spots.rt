@@ -4,7 +4,7 @@ ghost use Rattle.xml_tree.specs.Scopes.{scope_at};
 ghost use Rattle.xml_tree.specs.Tree.{at, height};
 ghost use Rattle.node_select.specs.declared.selector.PatchEnd.TheVariants as ends;
 ghost use Rattle.patch_words.specs.Applied.{ended, located};
-ghost use Rattle.patch_apply.specs.Spotting.{Spots, path_in};
+ghost use Rattle.patch_apply.specs.inner.Spotting.{Spots, path_in};
 
 use crate::nodes::selected_text;
 use node_select::{PatchEnd, PatchSelector, find_attr, select_steps};

@@ -2,8 +2,8 @@
 ghost use Rattle.std.specs.Prelude.{◌≡◌, [], IfOk, option_map};
 ghost use Rattle.std.specs.Option.{option_copied};
 ghost use Rattle.patch_words.specs.Applied.{adding, cut_name, cutting, no_declaration, position_of, space_of, task_of, type_of, with_prefix, word_of};
-ghost use Rattle.patch_apply.specs.Stages.{task_said};
-ghost use Rattle.patch_apply.specs.Views.{position_in, task_in, word_in};
+ghost use Rattle.patch_apply.specs.inner.Stages.{task_said};
+ghost use Rattle.patch_apply.specs.inner.Seen.{position_in, task_in, word_in};
 
 use crate::names::{has_no_prefix, plain_value};
 use std::alloc::{AllocError, Global};

@@ -5,8 +5,9 @@ ghost use Rattle.xml_tree.specs.Limits.{greatest_u64};
 ghost use Rattle.xml_tree.specs.Tree.{Tree, height};
 ghost use Rattle.patch_words.specs.Applied as words;
 ghost use Rattle.patch_words.specs.Replay.{WrongTag, all_applied, by_tags, changed, held_tag, is_tag, numbered, renewed};
-ghost use Rattle.patch_apply.specs.Giving.{Gives, Tells};
-ghost use Rattle.patch_apply.specs.Views.{IsLow, IsLowTurn, counted_in, held_in, turn_in, version_in};
+ghost use Rattle.patch_apply.specs.inner.Giving.{Gives, Tells};
+ghost use Rattle.patch_apply.specs.Views.{IsLow, held_in, version_in};
+ghost use Rattle.patch_apply.specs.inner.Seen.{IsLowTurn, counted_in, turn_in};
 
 use crate::documents::says_same;
 use crate::fault::{ApplyFault, Wrong};

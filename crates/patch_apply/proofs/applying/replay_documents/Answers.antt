@@ -1,8 +1,9 @@
-use Rattle.std.proofs.Common.{◌≡◌, ◌<◌, ℕ, zero, suc, eqb, true, false, Option, Ok, Some, List, [], ◌∷◌, ◌++◌, length, sym, subst, ap, ◌∙◌, arith}
+use Rattle.std.proofs.Common.{◌≡◌, ◌<◌, ℕ, zero, suc, eqb, true, false, Option, Ok, List, [], ◌∷◌, ◌++◌, length, sym, subst, ap, ◌∙◌, arith}
 use Rattle.xml_tree.specs.Tree.{Tree}
 use Rattle.patch_words.specs.Replay.{Answer, all_taken, documents, is_all_mine}
 use Rattle.name_words.specs.Naming.{is_name_of}
-use Rattle.patch_apply.specs.Views.{held_in, outcome_in}
+use Rattle.patch_apply.specs.Views.{held_in}
+use Rattle.patch_apply.specs.inner.Seen.{outcome_in}
 use Rattle.patch_apply.specs.declared.replica.Held.{Held}
 use Rattle.patch_apply.proofs.Replaying.{done_with}
 use Rattle.patch_apply.proofs.Turning.{some_item}

@@ -1,10 +1,10 @@
-use Rattle.std.proofs.Common.{ℕ, List, [], ◌∷◌, ◌++◌, sym, ap, ◌∙◌}
+use Rattle.std.proofs.Common.{ℕ, List, [], ◌∷◌, ◌++◌, ap, ◌∙◌}
 use Rattle.std.proofs.lemmas.Result.{err_from_is_err_and}
-use Rattle.xml_tree.specs.Tree.{Tree}
 use Rattle.xml_tree.specs.declared.names.Decl.{Decl}
 use Rattle.patch_words.specs.Replay.{by_tags}
-use Rattle.patch_apply.specs.Stages.{ours_in}
-use Rattle.patch_apply.specs.Views.{held_in, turn_in}
+use Rattle.patch_apply.specs.inner.Stages.{ours_in}
+use Rattle.patch_apply.specs.Views.{held_in}
+use Rattle.patch_apply.specs.inner.Seen.{turn_in}
 use Rattle.patch_apply.specs.declared.turns.Turn.{Turn}
 use Rattle.patch_apply.proofs.Turning.{error_alike}
 use Rattle.patch_apply.proofs.applying.turn_of.Goals as goal

@@ -1,6 +1,6 @@
 use Rattle.std.proofs.Common.{◌∙◌, ap}
 use Rattle.std.specs.List.{list_all}
-use Rattle.patch_apply.specs.ByNodes.{is_remark}
+use Rattle.patch_apply.specs.inner.ByNodes.{is_remark}
 use Rattle.patch_apply.proofs.ByNodes.{remarks_in}
 use Rattle.patch_apply.proofs.contents.is_bare.Goals as goal
 

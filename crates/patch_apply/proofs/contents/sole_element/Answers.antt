@@ -1,6 +1,6 @@
 use Rattle.std.proofs.Common.{sym, ap, ◌∙◌}
 use Rattle.std.specs.List.{list_all}
-use Rattle.patch_apply.specs.ByNodes.{is_loose}
+use Rattle.patch_apply.specs.inner.ByNodes.{is_loose}
 use Rattle.patch_apply.proofs.ByNodes.{all_loose, second_there, some_fixed}
 use Rattle.patch_apply.proofs.contents.sole_element.Goals as goal
 

@@ -1,5 +1,5 @@
 use Rattle.std.proofs.Common.{◌≡◌, ◌++◌, drop, option_map}
-use Rattle.patch_apply.specs.ByNodes.{text_in}
+use Rattle.patch_apply.specs.inner.ByNodes.{text_in}
 use Rattle.patch_apply.proofs.contents.text_in.Given as goal
 
 abbrev pub invariant-loop-node : goal.invariant-loop-node

@@ -1,6 +1,6 @@
 use Rattle.std.proofs.Common.{◌∙◌, ap}
 use Rattle.std.proofs.lemmas.Result.{IfOk-weaker}
-use Rattle.patch_apply.specs.ByNodes.{text_in}
+use Rattle.patch_apply.specs.inner.ByNodes.{text_in}
 use Rattle.patch_apply.proofs.ByNodes.{text_is_value}
 use Rattle.patch_apply.proofs.contents.value_in.Goals as goal
 

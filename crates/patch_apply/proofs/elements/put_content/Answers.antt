@@ -1,6 +1,6 @@
 use Rattle.std.proofs.Common.{sym, ◌∙◌}
-use Rattle.patch_apply.specs.Stages.{gap_done}
-use Rattle.patch_apply.specs.Views.{position_in}
+use Rattle.patch_apply.specs.inner.Stages.{gap_done}
+use Rattle.patch_apply.specs.inner.Seen.{position_in}
 use Rattle.patch_apply.proofs.Done.{put_beside_root, put_nothing, put_somewhere}
 use Rattle.patch_apply.proofs.Operating.{gives_same}
 use Rattle.patch_apply.proofs.elements.put_content.Goals as goal

@@ -2,7 +2,7 @@ use Rattle.std.proofs.Common.{◌+◌, ◌-◌, suc, ℕ, List, IsSome, Ok, sym,
 use Rattle.xml_tree.specs.Edits.{front}
 use Rattle.xml_tree.specs.Tree.{at}
 use Rattle.patch_words.specs.Applied.{cut_nodes, one_if}
-use Rattle.patch_apply.specs.Stages.{has_space_beside}
+use Rattle.patch_apply.specs.inner.Stages.{has_space_beside}
 use Rattle.patch_apply.proofs.Depths.{some_if}
 use Rattle.patch_apply.proofs.Done.{remove_no_space, remove_not, remove_root}
 use Rattle.patch_apply.proofs.Making.{remove_made}

@@ -1,6 +1,6 @@
 use Rattle.std.proofs.Common.{ap, ◌∙◌}
 use Rattle.std.specs.List.{list_all}
-use Rattle.patch_apply.specs.ByNodes.{node_alike}
+use Rattle.patch_apply.specs.inner.ByNodes.{node_alike}
 use Rattle.patch_apply.proofs.ByNodes.{alike_in}
 use Rattle.patch_apply.proofs.meanings.+alike.Goals as goal
 

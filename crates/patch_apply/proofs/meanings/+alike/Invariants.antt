@@ -1,7 +1,7 @@
 use Rattle.std.proofs.Common.{◌≡◌, drop}
 use Rattle.std.specs.List.{list_all}
 use Rattle.patch_words.specs.Applied.{means_alike}
-use Rattle.patch_apply.specs.ByNodes.{node_alike}
+use Rattle.patch_apply.specs.inner.ByNodes.{node_alike}
 use Rattle.patch_apply.proofs.meanings.+alike.Given as goal
 
 abbrev pub invariant-content_alike-loop-node : goal.invariant-content_alike-loop-node

@@ -2,7 +2,7 @@ use Rattle.std.proofs.Common.{◌++◌, ◌∷◌, [], List, sym, ap, ◌∙◌}
 use Rattle.std.specs.List.{list_all}
 use Rattle.xml_tree.specs.declared.names.Decl.{Decl}
 use Rattle.patch_words.specs.Applied.{is_known}
-use Rattle.patch_apply.specs.Stages.{said_done}
+use Rattle.patch_apply.specs.inner.Stages.{said_done}
 use Rattle.patch_apply.proofs.Operating.{gives_same, known_attrs, plain_is, unknown_attrs, without_selector}
 use Rattle.patch_apply.proofs.Words.{sel}
 use Rattle.patch_apply.proofs.operations.applied.Goals as goal

@@ -2,7 +2,7 @@ use Rattle.std.proofs.Common.{List, ℕ, IsSome, sym, ap, ◌∙◌, subst}
 use Rattle.xml_tree.specs.Tree.{at}
 use Rattle.patch_words.specs.Applied.{attr_done, put_done}
 use Rattle.patch_words.specs.Applied as words
-use Rattle.patch_apply.specs.Views.{position_in, task_in}
+use Rattle.patch_apply.specs.inner.Seen.{position_in, task_in}
 use Rattle.patch_apply.specs.declared.tasks.Task.{Task}
 use Rattle.patch_apply.proofs.Operating.{gives_same}
 use Rattle.patch_apply.proofs.Spotted.{path_same, spot_there}

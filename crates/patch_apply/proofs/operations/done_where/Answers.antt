@@ -1,7 +1,7 @@
 use Rattle.std.proofs.Common.{Option, sym, ap}
 use Rattle.patch_words.specs.Applied.{Spot, Unlocated, given}
 use Rattle.patch_words.specs.Applied as words
-use Rattle.patch_apply.specs.Views.{task_in}
+use Rattle.patch_apply.specs.inner.Seen.{task_in}
 use Rattle.patch_apply.proofs.Operating.{gives_same}
 use Rattle.patch_apply.proofs.operations.done_where.Goals as goal
 

@@ -1,5 +1,5 @@
 use Rattle.std.proofs.Common.{subst}
-use Rattle.patch_apply.specs.Spotting.{IsSpot}
+use Rattle.patch_apply.specs.inner.Spotting.{IsSpot}
 use Rattle.patch_apply.specs.declared.spots.Spot.{Spot}
 use Rattle.patch_apply.proofs.Spotted.{replace_attr_at, replace_element_at, replace_text_at}
 use Rattle.patch_apply.proofs.operations.replace.Goals as goal

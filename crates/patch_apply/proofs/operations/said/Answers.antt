@@ -1,6 +1,6 @@
 use Rattle.std.proofs.Common.{option_map, sym, ap, ◌∙◌}
-use Rattle.patch_apply.specs.Stages.{task_said}
-use Rattle.patch_apply.specs.Views.{task_in}
+use Rattle.patch_apply.specs.inner.Stages.{task_said}
+use Rattle.patch_apply.specs.inner.Seen.{task_in}
 use Rattle.patch_apply.proofs.Operating.{gives_same, said_error, said_next, said_nothing}
 use Rattle.patch_apply.proofs.operations.said.Goals as goal
 

@@ -1,8 +1,8 @@
 use Rattle.std.proofs.Common.{subst}
 use Rattle.node_select.specs.declared.fault.SelectorFault.{SelectorFault}
 use Rattle.patch_words.specs.Applied.{form_of, meaning_in}
-use Rattle.patch_apply.specs.Forms.{IsRefused}
-use Rattle.patch_apply.specs.Views.{task_in}
+use Rattle.patch_apply.specs.inner.Forms.{IsRefused}
+use Rattle.patch_apply.specs.inner.Seen.{task_in}
 use Rattle.patch_apply.proofs.Selecting.{formless}
 use Rattle.patch_apply.proofs.selectors.refused.Goals as goal
 

@@ -1,7 +1,7 @@
 use Rattle.std.proofs.Common.{chars, sym, ap, ◌∙◌}
 use Rattle.node_select.specs.Faults.{IsPatchSelectorAnswer}
-use Rattle.patch_apply.specs.Forms.{is_type_bound, suits_form}
-use Rattle.patch_apply.specs.Views.{task_in}
+use Rattle.patch_apply.specs.inner.Forms.{is_type_bound, suits_form}
+use Rattle.patch_apply.specs.inner.Seen.{task_in}
 use Rattle.patch_apply.proofs.Selecting.{fault_answered, found, refused_so, selecting, suits_by_form, type_is_bound, unsuited, untyped}
 use Rattle.patch_apply.proofs.selectors.selector_for.Goals as goal
 

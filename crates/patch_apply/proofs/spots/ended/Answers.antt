@@ -2,7 +2,7 @@ use Rattle.std.proofs.Common.{Some, sym, subst}
 use Rattle.xml_tree.specs.Scopes.{scope_at}
 use Rattle.node_select.specs.declared.selector.PatchEnd.{PatchEnd}
 use Rattle.patch_words.specs.Applied.{ended}
-use Rattle.patch_apply.specs.Spotting.{Spots}
+use Rattle.patch_apply.specs.inner.Spotting.{Spots}
 use Rattle.patch_apply.specs.declared.spots.Spot.TheVariants.{AtElement, AtText}
 use Rattle.patch_apply.proofs.Located.{element_spot, text_spot}
 use Rattle.patch_apply.proofs.spots.ended.Goals as goal

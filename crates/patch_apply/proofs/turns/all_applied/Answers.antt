@@ -1,4 +1,4 @@
-use Rattle.std.proofs.Common.{◌+◌, suc, Err, List, drop, map, refl, sym, ap, ◌∙◌, arith}
+use Rattle.std.proofs.Common.{◌+◌, suc, Err, List, drop, map, refl, sym, ap, ◌∙◌}
 use Rattle.xml_tree.specs.Tree.{Tree}
 use Rattle.patch_words.specs.Applied.{applied}
 use Rattle.patch_words.specs.Replay.{all_applied, numbered}

@@ -1,8 +1,8 @@
-use Rattle.std.proofs.Common.{ap, subst, ◌∙◌, Err, Result}
+use Rattle.std.proofs.Common.{ap, subst, ◌∙◌, Err}
 use Rattle.tree_text.specs.declared.fault.ReadError.{ReadError}
 use Rattle.xml_tree.specs.Tree.{Tree}
-use Rattle.patch_apply.specs.Giving.{Gives}
-use Rattle.patch_apply.specs.Views.{fault_at}
+use Rattle.patch_apply.specs.inner.Giving.{Gives}
+use Rattle.patch_apply.specs.inner.Seen.{fault_at}
 use Rattle.patch_apply.specs.declared.fault.Wrong.{Wrong}
 use Rattle.patch_apply.proofs.Turning.{wrong_told}
 use Rattle.patch_apply.proofs.turns.error_at.Goals as goal

@@ -9,15 +9,7 @@ use Rattle.node_select.specs.declared.fault.SelectorFault.{SelectorFault}
 use Rattle.node_select.specs.declared.fault.SelectorFault.TheVariants.{BadSelector, UnboundPrefix}
 use Rattle.node_select.specs.declared.selector.PatchForm.{PatchForm}
 use Rattle.node_select.specs.declared.selector.PatchForm.TheVariants as forms
-use Rattle.node_select.specs.declared.selector.PatchEnd.{PatchEnd}
-use Rattle.node_select.specs.declared.selector.PatchEnd.TheVariants as ends
 use Rattle.patch_words.specs.Applied.{Wrong, Directive, Prefix, Task, Put, NewAttr, Replace, Remove}
-
--- the form of an end whose name is resolved
-abbrev pub form_in : PatchEnd → PatchForm
-form_in ends.Element = forms.Element
-form_in (ends.Attribute uri local) = forms.Attribute
-form_in (ends.Chars position) = forms.Chars
 
 abbrev pub is_element : PatchForm → Bool
 is_element forms.Element = true

@@ -6,19 +6,14 @@ use Rattle.patch_words.specs.Applied as words
 use Rattle.patch_words.specs.Replay as replay
 use Rattle.patch_apply.specs.declared.fault.Wrong.{Wrong}
 use Rattle.patch_apply.specs.declared.fault.ApplyFault.{ApplyFault}
-use Rattle.patch_apply.specs.Views.{wrong_in, told_as}
+use Rattle.patch_apply.specs.Applying.{IsTold}
+use Rattle.patch_apply.specs.inner.Seen.{wrong_in}
 
 -- of an operation: the value, seen so, or what is wrong
 abbrev pub Gives : {X Y : Type 0} → (X → Y) → Result Y words.Wrong → Result X (ReadError Wrong) → Type 0
 Gives view stated (Ok x) = stated ≡ Ok (view x)
 Gives view stated (Err (Fault wrong)) = stated ≡ Err (wrong_in wrong)
 Gives view stated (Err NoMemory) = Unit {0}
-
--- a fault that is stated is told so
-pub record IsTold {Y : Type 0} (stated : Result Y replay.Fault) (fault : ApplyFault) : Type 0 where
-  pub stated_fault : replay.Fault
-  pub is : stated ≡ Err stated_fault
-  pub told : fault ≡ told_as stated_fault
 
 -- of documents: the value, seen so, or the first fault
 abbrev pub Tells : {X Y : Type 0} → (X → Y) → Result Y replay.Fault → Result X (ReadError ApplyFault) → Type 0
