@@ -16,10 +16,10 @@ pub text-append : (xs ys : List Request) → text (xs ++ ys) ≡ text xs ++ text
 text-append [] ys = refl
 text-append (x ∷ xs) ys = ap (λ l. record_of x ++ l) (text-append xs ys) ∙ sym (append_assoc (record_of x) (text xs) (text ys))
 
-text_one_more : (requests : List Request) (request : Request) → text (requests ++ recorded request ∷ []) ≡ text requests ++ record_of request
+pub text_one_more : (requests : List Request) (request : Request) → text (requests ++ recorded request ∷ []) ≡ text requests ++ record_of request
 text_one_more requests request = text-append requests (recorded request ∷ []) ∙ ap (λ l. text requests ++ l) (append-nil (record_of request))
 
-is_told : (request : Request) → IsRecordable request → IsTold (recorded request)
+pub is_told : (request : Request) → IsRecordable request → IsTold (recorded request)
 is_told request can = (record { method = can.method; names = can.names; few = can.few; body = can.body; short = can.short }, refl)
 
 -- a record, or some first bytes of one
@@ -27,11 +27,11 @@ abbrev BeginsRecord : List ℕ → Type 0
 BeginsRecord bytes = (request : Request) × IsTold request × IsFirstOf bytes (record_of request)
 
 -- the whole records are the first bytes
-whole_first : (log : LogState) (requests : List Request) (bytes : List ℕ) (holds : HoldsRecords log requests bytes) → take log.len bytes ≡ text requests
+pub whole_first : (log : LogState) (requests : List Request) (bytes : List ℕ) (holds : HoldsRecords log requests bytes) → take log.len bytes ≡ text requests
 whole_first log requests bytes holds =
     ap (λ n. take n bytes) (sym holds.len) ∙ ap (take (length (text requests))) holds.split ∙ take-append_seam (text requests) holds.rest
 
-behind_whole : (log : LogState) (requests : List Request) (bytes : List ℕ) (holds : HoldsRecords log requests bytes) → drop log.len bytes ≡ holds.rest
+pub behind_whole : (log : LogState) (requests : List Request) (bytes : List ℕ) (holds : HoldsRecords log requests bytes) → drop log.len bytes ≡ holds.rest
 behind_whole log requests bytes holds =
     ap (λ n. drop n bytes) (sym holds.len) ∙ ap (drop (length (text requests))) holds.split
     ∙ drop-append-le (length (text requests)) (text requests) holds.rest (omega arith)

@@ -1,6 +1,7 @@
 // How a record is added to a journal.
-ghost use Rattle.std.specs.Prelude.{◌≡◌, ◌≤◌, ◌<◌, ◌+◌, ◌^◌, List, [], length, false, OnOk, OnErr};
+ghost use Rattle.std.specs.Prelude.{◌≡◌, ◌≤◌, ◌<◌, ◌+◌, ◌^◌, List, [], length, false, Err, OnOk, OnErr};
 ghost use Rattle.http_wire.specs.declared.request.Request.{Request as TheRequest};
+ghost use Rattle.edit_journal.specs.declared.log.AppendFault.{AppendFault};
 ghost use Rattle.edit_journal.specs.Journals.{Goes};
 ghost use Rattle.edit_journal.specs.Records.{IsRecordable, record_of};
 ghost use Rattle.edit_journal.specs.Logs.{Fits, HoldsRecords, AddsRecord, with_request};
@@ -135,6 +136,7 @@ impl Log {
             self.new (J.state journal.new) }
         ensures keeps_the_records { (requests : List TheRequest) → HoldsRecords self.old requests (J.state journal.old).held
             → HoldsRecords self.new (with_request result requests request.now) (J.state journal.new).held }
+        ensures takes_its_memory_first { result ≡ Err AppendFault.NoMemory → journal.new ≡ journal.old }
         ensures still_fits { Fits self.new (J.state journal.new) }
         ensures goes_on { Goes (J.state journal.old) (J.state journal.new) }
     {

@@ -1,5 +1,5 @@
 // What requests are done again to.
-ghost use Rattle.std.specs.Prelude.{List};
+ghost use Rattle.std.specs.Prelude.{◌≡◌, ℕ, List};
 ghost use Rattle.http_wire.specs.declared.request.Request.{Request as TheRequest};
 ghost use Rattle.edit_journal.specs.Replaying.{Redoes};
 
@@ -24,7 +24,11 @@ pub trait Replayer {
     /// It refuses this request.
     ghost refuses: { Self → TheRequest → Type 0 };
 
+    /// What no request changes, as the root of a server.
+    ghost about: { Self → List ℕ };
+
     /// Does a request again. `Refused` comes exactly where it refuses the request, unless memory ran out.
     fn redo(&mut self, request: &Request) -> Redone
-        ensures redoes_the_request { Redoes stands refuses self.old request.now result self.new };
+        ensures redoes_the_request { Redoes stands refuses self.old request.now result self.new }
+        ensures stays_about_the_same { about self.new ≡ about self.old };
 }

@@ -78,6 +78,7 @@ fn redo_one<J: Journal, R: Replayer>(
     requires few { count.old ≤ 4_294_967_296 }
     ensures redoes_the_request { (more : List ℕ) → RedoesHeld R.stands R.refuses (J.state journal.old) (J.state journal.new)
         replayer.old replayer.new log.old log.new count.old count.new (record_of request.now ++ more) more result }
+    ensures stays_about_the_same { R.about replayer.new ≡ R.about replayer.old }
 {
     match replayer.redo(request) {
         Redone::Done => {}
@@ -106,6 +107,7 @@ fn redo_held<J: Journal, R: Replayer>(
         replayer.old replayer.new log.old log.new count.old count.new inflow.old.held inflow.new.held result }
     ensures leaves_a_torn_rest { OnOk result (HasNoRecord inflow.new.held × IsTorn inflow.new.held) }
     ensures takes_no_more { inflow.new.taken ≡ inflow.old.taken }
+    ensures stays_about_the_same { R.about replayer.new ≡ R.about replayer.old }
 {
     'records: while let Some(request) = inflow.next_record(alloc, log.len())? {
         redo_one(alloc, &request, journal, replayer, log, count)?;
@@ -127,6 +129,7 @@ pub fn restart<S: Source, J: Journal, R: Replayer>(
     requires { (J.state journal.old).held ≡ [] }
     ensures redoes_the_whole_records { Restarts R.stands R.refuses (S.state source.old) (S.state source.new)
         (J.state journal.old) (J.state journal.new) replayer.old replayer.new result }
+    ensures stays_about_the_same { R.about replayer.new ≡ R.about replayer.old }
 {
     let mut inflow = Inflow::new(alloc)?;
     let mut log = Log::new();

@@ -1,5 +1,5 @@
 // A journal over a sink.
-ghost use Rattle.std.specs.Prelude.{◌≡◌, []};
+ghost use Rattle.std.specs.Prelude.{◌≡◌, [], nat_lt};
 ghost use Rattle.edit_journal.specs.Streams.{stream_state};
 
 use crate::Journal;
@@ -27,6 +27,13 @@ impl<'a, O: Sink> StreamJournal<'a, O> {
             len: 0,
             faults: 0,
         }
+    }
+
+    /// Whether a call has failed.
+    pub fn has_failed(&self) -> bool
+        ensures tells_whether_a_call_failed { result ≡ nat_lt 0 (⟦<StreamJournal<'a, O> as Journal>⟧.state self.now).faults }
+    {
+        self.faults > 0
     }
 }
 

@@ -15,12 +15,24 @@ use Rattle.http_wire.specs.Serving.{Closes, no_more, last_item, no_memory, GoesO
 use Rattle.http_wire.proofs.WholeItems.{asks-append}
 use Rattle.http_serve.specs.declared.connection.Ended.TheVariants.{Closed, ReadFailed, WriteFailed}
 use Rattle.http_serve.specs.Fixed.{fixed}
-use Rattle.http_serve.specs.inner.Turns.{AnswersAsked, Did, GivesOn, IsFixed, Turn}
+use Rattle.http_serve.specs.inner.Turns.{AnswersAsked, AsksRead, Did, GivesOn, IsFixed, Turn}
 
 -- the next item is the first one
 first_item : (before : ℕ) (given : List ℕ) (now : Inward) (item : Item) (held : List ℕ) → IsNext before given now item held → IsFirst before given now.ended item
 first_item before given now item held (inl each) = inl (λ more. (held ++ more, each more))
 first_item before given now item held (inr (first, ended)) = inr (ended.0, (held, first))
+
+-- a request that was asked was read
+was_read : (before : ℕ) (given : List ℕ) (now : Inward) (asked : Asked) (held : List ℕ) → IsAsked before given now asked held → AsksRead asked
+was_read before given now (Requested request) held is = record { before = before; bytes = given; rest = held; asked = is }
+was_read before given now Bad held is = tt
+was_read before given now TooLong held is = tt
+was_read before given now Coded held is = tt
+was_read before given now End held is = tt
+was_read before given now NoMemory held is = tt
+
+pub asks_read : {F : Type 0} (before : ℕ) (held : List ℕ) (old now : Inward) (asked : Asked) (held' : List ℕ) → Asks {E = F} before held old (Ok asked) held' now → AsksRead asked
+asks_read before held old now asked held' a = was_read before (held ++ a.read) now asked held' a.answer
 
 module _ {M E : Type 0} where
   -- a fixed reply closes

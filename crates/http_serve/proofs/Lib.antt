@@ -3,3 +3,4 @@ pub mod Faults
 pub mod Turning
 pub mod Ports
 pub mod Simulations
+pub mod Rooms

@@ -2,5 +2,6 @@ pub mod Connections
 pub mod Endings
 pub mod Fixed
 pub mod Ports
+pub mod Reading
 pub mod Written
 pub mod inner

@@ -1,11 +1,12 @@
 //! One connection, served to its end.
-ghost use Rattle.std.specs.Prelude.{◌≡◌, ◌≢◌, false, None, IsTrue, MatchOption, option_to_list};
+ghost use Rattle.std.specs.Prelude.{◌≡◌, ◌≢◌, ℕ, suc, ◌+◌, false, None, IsTrue, MatchOption, option_to_list};
 ghost use Rattle.reply_text.specs.Statuses.{is_status};
 ghost use Rattle.http_wire.specs.Asking.{fresh_wire};
 ghost use Rattle.http_serve.specs.Connections.{ServesLine};
 ghost use Rattle.http_serve.specs.Endings.{Exchanges, FaultsSoFar};
 ghost use Rattle.http_serve.specs.Fixed.{fixed_reply};
-ghost use Rattle.http_serve.specs.inner.Turns.{AnswersAsked, GivesOn, Turn};
+ghost use Rattle.http_serve.specs.Reading.{IsRead};
+ghost use Rattle.http_serve.specs.inner.Turns.{AnswersAsked, AsksRead, GivesOn, Turn};
 ghost use Rattle.http_serve.specs.Written.{InBytes};
 
 use crate::buffers::Buffers;
@@ -42,7 +43,10 @@ fn fixed<E>(status: u16) -> Answered<E>
 
 // The machine's answer; for want of memory the fixed 503.
 fn answer_request<M: Machine>(machine: &mut M, request: &Request) -> Answered<M::Edit>
+    requires read { IsRead request.now }
+    requires room { M.takes machine.old 1 }
     ensures answers_as_the_machine { AnswersAsked (InBytes M.steps) machine.old (Asked.Request request.now) result.reply result.edit machine.new }
+    ensures takes_one_fewer { (n : ℕ) → M.takes machine.old (suc n) → M.takes machine.new n }
 {
     match machine.answer(request) {
         Ok(answered) => answered,
@@ -52,8 +56,11 @@ fn answer_request<M: Machine>(machine: &mut M, request: &Request) -> Answered<M:
 
 // The answer to what was asked; None at the end of the connection.
 fn answer_to<M: Machine>(machine: &mut M, asked: &Asked) -> Option<Answered<M::Edit>>
+    requires read { AsksRead asked.now }
+    requires room { M.takes machine.old 1 }
     ensures answers_what_was_asked { MatchOption result ((asked.now ≡ Asked.End) × (machine.new ≡ machine.old))
         (λ answered. AnswersAsked (InBytes M.steps) machine.old asked.now answered.reply answered.edit machine.new) }
+    ensures takes_one_fewer { (n : ℕ) → M.takes machine.old (suc n) → M.takes machine.new n }
 {
     match asked {
         Asked::Request(request) => Some(answer_request(machine, request)),
@@ -83,12 +90,15 @@ fn serve_next<M: Machine, L: Source + Sink, W: Watchers<M::Edit>>(
     line: &mut L,
     watchers: &mut W,
 ) -> Option<Ended>
-    ensures turn { buffers.old.wire.spent ≡ false → Turn (InBytes M.steps) W.keeps result
+    requires open_still { buffers.old.wire.spent ≡ false }
+    requires room { M.takes machine.old 1 }
+    ensures turn { Turn (InBytes M.steps) W.keeps result
         buffers.old.wire buffers.new.wire machine.old machine.new (L.state line.old) (L.state line.new)
         watchers.old watchers.new }
     ensures goes_on { result ≡ None → GivesOn buffers.old.wire buffers.new.wire }
     ensures faults { FaultsSoFar result (L.state line.old) (L.state line.new) }
     ensures exchanges { Exchanges (L.state line.old) (L.state line.new) }
+    ensures takes_one_fewer { (n : ℕ) → M.takes machine.old (suc n) → M.takes machine.new n }
 {
     let asked = match next_request(buffers.alloc, line, &mut buffers.wire) {
         Ok(asked) => asked,
@@ -115,9 +125,11 @@ fn serve_turns<M: Machine, L: Source + Sink, W: Watchers<M::Edit>>(
     line: &mut L,
     watchers: &mut W,
 ) -> Ended
-    requires { buffers.old.wire ≡ fresh_wire }
+    requires fresh { buffers.old.wire ≡ fresh_wire }
+    requires room { M.takes machine.old 1000 }
     ensures serves_the_turns { ServesLine (InBytes M.steps) W.keeps result
         machine.old machine.new (L.state line.old) (L.state line.new) watchers.old watchers.new }
+    ensures takes_on { (n : ℕ) → M.takes machine.old (n + 1000) → M.takes machine.new n }
 {
     'turns: loop {
         if let Some(ended) = serve_next(machine, buffers, line, watchers) {
@@ -129,15 +141,17 @@ fn serve_turns<M: Machine, L: Source + Sink, W: Watchers<M::Edit>>(
 // Serves a connection: each request is read, answered by the machine, told to the watchers where it made a change, and
 // replied to, in this order, until a reply closes the connection, its bytes end, or a read or a write fails. What is no
 // request gets its fixed reply, and for want of memory a request gets the fixed 503; both close. After a read that failed
-// there is no further reply. Takes no memory before the first request.
+// there is no further reply. Takes no memory before the first request. A connection has at most 1,000 requests.
 pub fn serve_line<M: Machine, L: Source + Sink, W: Watchers<M::Edit>>(
     machine: &mut M,
     buffers: &mut Buffers,
     line: &mut L,
     watchers: &mut W,
 ) -> Ended
+    requires room { M.takes machine.old 1000 }
     ensures serves_the_line { ServesLine (InBytes M.steps) W.keeps result
         machine.old machine.new (L.state line.old) (L.state line.new) watchers.old watchers.new }
+    ensures takes_on { (n : ℕ) → M.takes machine.old (n + 1000) → M.takes machine.new n }
 {
     buffers.wire.reset();
     serve_turns(machine, buffers, line, watchers)

@@ -1,4 +1,5 @@
 //! The connections of a port, served one after the other.
+ghost use Rattle.std.specs.Prelude.{◌*◌};
 ghost use Rattle.http_serve.specs.Ports.{ServesPort};
 ghost use Rattle.http_serve.specs.Written.{InBytes};
 
@@ -37,6 +38,7 @@ pub fn serve_lines<M: Machine, P: Port, W: Watchers<M::Edit>>(
     count: u64,
     watchers: &mut W,
 ) -> Served
+    requires room { M.takes machine.old (count * 1000) }
     ensures serves_the_port { ServesPort (InBytes M.steps) W.keeps count result
         machine.old machine.new (P.state port.old) (P.state port.new) watchers.old watchers.new }
 {

@@ -1,5 +1,5 @@
 //! A replayer that writes down what it does again.
-ghost use Rattle.std.specs.Prelude.{◌≡◌, ⊤, Some};
+ghost use Rattle.std.specs.Prelude.{◌≡◌, ⊤, [], Some};
 
 use edit_journal::{Redone, Replayer};
 use http_wire::Request;
@@ -26,6 +26,8 @@ impl Notebook {
 
 impl Replayer for Notebook {
     ghost stands = { λ notebook requests. ⊤ };
+
+    ghost about = { λ _. [] };
 
     ghost refuses = { λ notebook request. notebook.refused ≡ Some notebook.redone };
 

@@ -1,6 +1,7 @@
 -- A server whose store stands for a kept state does what the machine of its root does, and what it then holds stands for a kept state.
 use Rattle.std.proofs.Common.{◌≡◌, ℕ, List, Option, Result, Ok, Err, IfOk, refl, ap, subst, ◌∙◌}
 use Rattle.http_wire.specs.declared.request.Request.{Request}
+use Rattle.reply_text.specs.Heads.{Sent}
 use Rattle.notes.specs.declared.edit.Edit.{Edit}
 use Rattle.xcap_io.specs.Causes.{LineState}
 use Rattle.store_core.specs.State.{State}
@@ -24,24 +25,30 @@ use Rattle.xcap_uri.specs.Roots.{IsRoot, authority_of, path_of}
 use Rattle.xcap_server.specs.Servers.{AnswersRequest, ServerState}
 
 -- a server of this root, whose store stands for a kept state
-record StandsAt (root : List ℕ) (s : ServerState) (m : State) : Type 0 where
-  same_root : s.root ≡ root
-  kept : Kept m
-  stands : Stands s.content m
+pub record StandsAt (root : List ℕ) (s : ServerState) (m : State) : Type 0 where
+  pub same_root : s.root ≡ root
+  pub kept : Kept m
+  pub stands : Stands s.content m
 
 -- the root of a server is spelled by the grammar
-abbrev IsRooted : ServerState → Type 0
+abbrev pub IsRooted : ServerState → Type 0
 IsRooted s = IsRoot s.root (authority_of s.root) (path_of s.root)
+
+-- an answer is a step of the machine
+pub follows_at : (root : List ℕ) → IsRoot root (authority_of root) (path_of root) → (s s' : ServerState) (m : State) (request : Request) (reply : Sent) (edit : Option Edit) → StandsAt root s m → AnswersRequest s request reply s' edit
+    → (m' : State) × StandsAt root s' m' × FollowedStep root m request reply m' edit
+follows_at root is_root s s' m request reply edit here a =
+    let does : Does root s.content request reply s'.content edit = subst (λ (r : List ℕ). Does r s.content request reply s'.content edit) here.same_root a.does in
+    let t = step_of root s.content s'.content m request reply edit does here.kept here.stands in (
+      t.0,
+      record { same_root = a.same_root ∙ here.same_root; kept = t.1.2; stands = t.2 },
+      (t.1, holds root is_root s.content m request (answer_as reply edit) here.kept here.stands does.answers),
+    )
 
 step_at : (root : List ℕ) → IsRoot root (authority_of root) (path_of root) → (s s' : ServerState) (m : State) (request : Request) (bytes : List ℕ) (edit : Option Edit) → StandsAt root s m → InBytes AnswersRequest s request bytes s' edit
     → (m' : State) × StandsAt root s' m' × InBytes (FollowedStep root) m request bytes m' edit
 step_at root is_root s s' m request bytes edit here a =
-    let does : Does root s.content request a.reply s'.content edit = subst (λ (r : List ℕ). Does r s.content request a.reply s'.content edit) here.same_root a.step.does in
-    let t = step_of root s.content s'.content m request a.reply edit does here.kept here.stands in (
-      t.0,
-      record { same_root = a.step.same_root ∙ here.same_root; kept = t.1.2; stands = t.2 },
-      record { reply = a.reply; written = a.written; step = (t.1, holds root is_root s.content m request (answer_as a.reply edit) here.kept here.stands does.answers) },
-    )
+    let t = follows_at root is_root s s' m request a.reply edit here a.step in (t.0, t.1, record { reply = a.reply; written = a.written; step = t.2 })
 
 -- any step of a machine with one state
 abbrev any_step : Unit {0} → Request → List ℕ → Unit {0} → Option Edit → Type 0

@@ -1,1 +1,3 @@
 pub mod Servers
+pub mod Redoing
+pub mod Logged

@@ -5,12 +5,16 @@
 #![tactic(auto)]
 
 mod laws;
+mod logging;
+mod replaying;
 mod requests;
 mod server;
+mod server_logged;
 mod service;
 mod targets;
 
 pub use http_serve::{Answered, Ended, Served, Stop};
 pub use laws::all_bytes_count;
 pub use server::{Server, answer, serve_connection, serve_port};
+pub use server_logged::{answer_logged, serve_port_logged};
 pub use std::alloc::AllocError as NoMemory;

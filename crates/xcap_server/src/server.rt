@@ -26,8 +26,8 @@ use xcap_uri::Root;
 /// see the root, and what is held of the documents.
 #[derive(Drop)]
 pub struct Server {
-    service: Service,
-    buffers: Buffers,
+    pub(crate) service: Service,
+    pub(crate) buffers: Buffers,
 }
 
 impl Model for Server {

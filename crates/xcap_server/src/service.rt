@@ -22,9 +22,9 @@ use xcap_uri::{Root, roots_are_spelled_by_the_grammar};
 // Its memory is taken from `alloc`. Contracts see the root, and what the store holds.
 #[derive(Drop)]
 pub(crate) struct Service {
-    alloc: Global,
-    root: Root,
-    store: Store,
+    pub(crate) alloc: Global,
+    pub(crate) root: Root,
+    pub(crate) store: Store,
 }
 
 impl Model for Service {
@@ -92,7 +92,7 @@ impl Service {
 }
 
 // Makes the change that was decided, if there is one. Takes no memory.
-fn commit(store: &mut Store, decision: Decision) -> Answered<Edit>
+pub(crate) fn commit(store: &mut Store, decision: Decision) -> Answered<Edit>
     requires ready { IsReadyFor store.old decision }
     ensures gives_the_answer { answer_as result.reply result.edit ≡ answer_of decision }
     ensures makes_the_change { store.new.content ≡ content_after_answer store.old.content (answer_of decision).made }
@@ -120,7 +120,12 @@ impl Machine for Service {
 
     ghost steps = { AnswersRequest };
 
+    // it takes any number of requests
+    ghost takes = { λ _ _. Unit {0} };
+
     fn answer(&mut self, request: &Request) -> Result<Answered<Edit>, AllocError> {
         self.respond(request)
     }
+
+    ghost takes_fewer = { λ _ _ _. tt };
 }

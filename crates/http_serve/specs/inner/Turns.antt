@@ -11,6 +11,16 @@ use Rattle.xcap_io.specs.Passing.{Gave, Took}
 use Rattle.http_serve.specs.declared.connection.Ended.{Ended}
 use Rattle.http_serve.specs.Endings.{ending_of}
 use Rattle.http_serve.specs.Fixed.{fixed, fixed_reply}
+use Rattle.http_serve.specs.Reading.{IsRead}
+
+-- what was asked is no request, or one that was read
+abbrev pub AsksRead : Asked → Type 0
+AsksRead (Requested request) = IsRead request
+AsksRead Bad = Unit {0}
+AsksRead TooLong = Unit {0}
+AsksRead Coded = Unit {0}
+AsksRead End = Unit {0}
+AsksRead NoMemory = Unit {0}
 
 -- the fixed reply of this status, which changes nothing
 abbrev pub IsFixed : {M E : Type 0} → ℕ → M → Sent → Option E → M → Type 0

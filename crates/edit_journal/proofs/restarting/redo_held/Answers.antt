@@ -28,6 +28,9 @@ returns-in_err-redo_one-clause-redoes_the_whole g c =
     c.args.replayer.now c.records.replayer c.redo_one.new.replayer c.args.log.now c.records.log c.args.count.now c.records.count c.args.inflow.now.held c.records.inflow.held
     (record_of c.in-Some.request ++ c.next_record.new.self.held) c.in_err-redo_one.field-0.0 c.records.invariant.redone takes.0.1 (c.in_err-redo_one.ensures.redoes_the_request c.next_record.new.self.held))
 
+pub returns-in_err-redo_one-clause-stays_about_the_same : goal.returns-in_err-redo_one-clause-stays_about_the_same
+returns-in_err-redo_one-clause-stays_about_the_same g c = c.in_err-redo_one.ensures.stays_about_the_same ∙ c.records.invariant.about
+
 pub records-smaller : goal.records-smaller
 records-smaller g c =
     let takes : TakesRecord c.records.inflow c.next_record.new.self c.len.result (Ok (Some c.in-Some.request)) =
@@ -44,4 +47,5 @@ records-preserved g c =
           c.args.inflow.now.held c.records.inflow.held (record_of c.in-Some.request ++ c.next_record.new.self.held) c.next_record.new.self.held c.records.invariant.redone takes.0.1
           (c.in_ok-redo_one.ensures.redoes_the_request c.next_record.new.self.held);
       taken = takes.1 ∙ c.records.invariant.taken;
+      about = c.in_ok-redo_one.ensures.stays_about_the_same ∙ c.records.invariant.about;
     }

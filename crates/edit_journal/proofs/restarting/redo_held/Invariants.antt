@@ -7,6 +7,7 @@ invariant-records g l = record {
   redone : RedoesHeld g.R.Replayer.stands g.R.Replayer.refuses (g.J.Journal.state l.fn.journal) (g.J.Journal.state l.journal) l.fn.replayer l.replayer l.fn.log l.log l.fn.count l.count
       l.fn.inflow.held l.inflow.held (Ok tt);
   taken : l.inflow.taken ≡ l.fn.inflow.taken;
+  about : g.R.Replayer.about l.replayer ≡ g.R.Replayer.about l.fn.replayer;
 }
 
 abbrev pub decreases-records : goal.decreases-records

@@ -8,6 +8,7 @@ returns-in-Refused g c = record {
   redoes_the_request = λ more.
       stops_refused g.R.Replayer.stands g.R.Replayer.refuses (g.J.Journal.state c.args.journal.now) c.args.replayer.now c.redo.new.self c.args.log.now c.args.count.now (c.args.count.now + 1) c.args.request.now more
       c.requires.told c.in-Refused.ensures.redoes_the_request refl;
+  stays_about_the_same = c.redo.ensures.stays_about_the_same;
 }
 
 pub returns-in_err-append : goal.returns-in_err-append
@@ -16,6 +17,7 @@ returns-in_err-append g c = record {
       let p = err_from_is_err_and c.from_residual.result c.from_residual.ensures.1 in
       rw (p.1, p.2) (one_stopped g.R.Replayer.stands g.R.Replayer.refuses (g.J.Journal.state c.args.journal.now) (g.J.Journal.state c.append.new.journal) c.args.replayer.now c.redo.new.self c.args.log.now c.append.new.self c.args.count.now
       c.args.request.now c.in_err-append.field-0.0 more c.requires.told c.requires.whole c.requires.fits c.in-Done.ensures.redoes_the_request c.in_err-append.ensures.adds_the_record c.in_err-append.ensures.goes_on);
+  stays_about_the_same = c.redo.ensures.stays_about_the_same;
 }
 
 pub returns : goal.returns
@@ -23,4 +25,5 @@ returns g c = record {
   redoes_the_request = λ more.
       one_redone g.R.Replayer.stands g.R.Replayer.refuses (g.J.Journal.state c.args.journal.now) (g.J.Journal.state c.append.new.journal) c.args.replayer.now c.redo.new.self c.args.log.now c.append.new.self c.args.count.now (c.args.count.now + 1)
       c.args.request.now more c.requires.told c.requires.whole c.requires.fits c.in-Done.ensures.redoes_the_request refl c.in_ok-append.ensures.adds_the_record c.in_ok-append.ensures.goes_on;
+  stays_about_the_same = c.redo.ensures.stays_about_the_same;
 }

@@ -1,4 +1,4 @@
-use Rattle.std.proofs.Common.{Ok, refl, subst}
+use Rattle.std.proofs.Common.{Ok, refl, subst, ◌∙◌}
 use Rattle.std.proofs.lemmas.Result.{err_from_is_err_and}
 use Rattle.xcap_io.specs.declared.line.Failed.{Failed}
 use Rattle.edit_journal.specs.declared.inflow.More.{More}
@@ -12,6 +12,7 @@ returns-in_err-inflow g c = record {
   redoes_the_whole_records =
       let p = err_from_is_err_and c.from_residual.result c.from_residual.ensures.1 in
       rw (p.1, p.2) (restarts_without_memory g.R.Replayer.stands g.R.Replayer.refuses (g.S.Line.state c.args.source.now) (g.J.Journal.state c.args.journal.now) c.args.replayer.now c.requires);
+  stays_about_the_same = refl;
 }
 
 pub reading-init : goal.reading-init
@@ -19,6 +20,7 @@ reading-init g c = record {
   so_far =
       restarting_first g.R.Replayer.stands g.R.Replayer.refuses (g.S.Line.state c.args.source.now) (g.J.Journal.state c.args.journal.now) c.args.replayer.now c.in_ok-inflow.inflow c.new-log.result 0
       c.in_ok-inflow.ensures.holds_no_bytes c.new-log.ensures.holds_nothing refl;
+  about = refl;
 }
 
 pub fill-requires : goal.fill-requires
@@ -31,6 +33,7 @@ returns-in_err-fill g c = record {
       rw (p.1, p.2) (restarts_unread g.R.Replayer.stands g.R.Replayer.refuses (g.S.Line.state c.args.source.now) (g.S.Line.state c.reading.source) (g.S.Line.state c.fill.new.source)
       (g.J.Journal.state c.args.journal.now) (g.J.Journal.state c.reading.journal) c.args.replayer.now c.reading.replayer c.reading.inflow c.reading.log c.reading.count
       c.requires c.reading.invariant.so_far c.in_err-fill.ensures.reads_more.0 c.in_err-fill.ensures.only_reads.reads c.in_err-fill.ensures.only_reads.counts);
+  stays_about_the_same = c.reading.invariant.about;
 }
 
 pub redo_held-requires-clause-few : goal.redo_held-requires-clause-few
@@ -50,6 +53,7 @@ reading-preserved g c = record {
       c.args.replayer.now c.reading.replayer c.redo_held.new.replayer c.reading.inflow c.fill.new.self c.redo_held.new.inflow c.reading.log c.redo_held.new.log c.reading.count c.redo_held.new.count fills.0
       c.reading.invariant.so_far fills.2 c.in_ok-fill.ensures.only_reads.reads c.in_ok-fill.ensures.only_reads.counts fills.3 c.in_ok-fill.ensures.takes_no_more_than_the_limit
       c.in_ok-redo_held-in-Some.ensures.redoes_the_whole c.in_ok-redo_held-in-Some.ensures.leaves_a_torn_rest c.in_ok-redo_held-in-Some.ensures.takes_no_more;
+  about = c.in_ok-redo_held-in-Some.ensures.stays_about_the_same ∙ c.reading.invariant.about;
 }
 
 pub returns-in_err-redo_held-in-Some : goal.returns-in_err-redo_held-in-Some
@@ -65,6 +69,7 @@ returns-in_err-redo_held-in-Some g c = record {
       c.args.replayer.now c.reading.replayer c.redo_held.new.replayer c.reading.inflow c.fill.new.self c.reading.log c.reading.count fills.0 c.in_err-redo_held-in-Some.field-0.0
       c.requires c.reading.invariant.so_far fills.2 c.in_ok-fill.ensures.only_reads.reads c.in_ok-fill.ensures.only_reads.counts fills.3 c.in_ok-fill.ensures.takes_no_more_than_the_limit
       c.in_err-redo_held-in-Some.ensures.redoes_the_whole);
+  stays_about_the_same = c.in_err-redo_held-in-Some.ensures.stays_about_the_same ∙ c.reading.invariant.about;
 }
 
 pub returns-in-End : goal.returns-in-End
@@ -77,6 +82,7 @@ returns-in-End g c = record {
       restarts_whole g.R.Replayer.stands g.R.Replayer.refuses (g.S.Line.state c.args.source.now) s1 s2 (g.J.Journal.state c.args.journal.now) (g.J.Journal.state c.reading.journal)
       c.args.replayer.now c.reading.replayer c.reading.inflow c.reading.log c.reading.count
       c.requires c.reading.invariant.so_far fills.0 fills.1 c.in_ok-fill.ensures.only_reads.reads c.in_ok-fill.ensures.only_reads.counts;
+  stays_about_the_same = c.reading.invariant.about;
 }
 
 pub returns-in-Beyond : goal.returns-in-Beyond
@@ -89,4 +95,5 @@ returns-in-Beyond g c = record {
       restarts_beyond g.R.Replayer.stands g.R.Replayer.refuses (g.S.Line.state c.args.source.now) s1 s2 (g.J.Journal.state c.args.journal.now) (g.J.Journal.state c.reading.journal)
       c.args.replayer.now c.reading.replayer c.reading.inflow c.reading.log c.reading.count fills.0.0
       c.requires c.reading.invariant.so_far fills.1 fills.0.1 c.in_ok-fill.ensures.only_reads.reads c.in_ok-fill.ensures.only_reads.counts;
+  stays_about_the_same = c.reading.invariant.about;
 }

@@ -1,4 +1,4 @@
-use Rattle.std.proofs.Common.{◌≤◌, ◌-◌}
+use Rattle.std.proofs.Common.{◌≤◌, ◌-◌, ◌*◌}
 use Rattle.http_serve.specs.Written.{InBytes}
 use Rattle.http_serve.proofs.Ports.{PortSoFar}
 use Rattle.http_serve.proofs.port.serve_lines.Given as goal
@@ -7,6 +7,7 @@ abbrev pub invariant-connections : goal.invariant-connections
 invariant-connections g l = record {
   so_far : PortSoFar (InBytes g.M.Machine.steps) g.W.Watchers.keeps l.connections l.last l.fn.machine l.machine (g.P.Line.state l.fn.port) (g.P.Line.state l.port) l.fn.watchers l.watchers;
   within : l.connections ≤ l.count;
+  room : g.M.Machine.takes l.machine ((l.count - l.connections) * 1000);
 }
 
 abbrev pub decreases-connections : goal.decreases-connections

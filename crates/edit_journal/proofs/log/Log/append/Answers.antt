@@ -50,3 +50,13 @@ returns-clause-keeps_the_records g c =
     let adds : AddsRecord c.args.self.now old (record_of c.args.request.now) (Ok tt) c.add.new.self new =
     added_on c.args.self.now old c.mend.new.self mid c.add.new.self new (record_of c.args.request.now) c.in_ok-mend.ensures.cuts_off_the_rest added in
     adding_keeps_records c.args.self.now c.add.new.self old new c.args.request.now (Ok tt) c.requires.recordable adds
+
+pub returns-in_err-mend-clause-takes_its_memory_first : goal.returns-in_err-mend-clause-takes_its_memory_first
+returns-in_err-mend-clause-takes_its_memory_first g c =
+    let p = err_from_is_err_and c.from_residual-in_err-mend.result c.from_residual-in_err-mend.ensures.1 in
+    λ is. let no : ⊥ = cc in absurd no
+
+pub returns-in_err-add-clause-takes_its_memory_first : goal.returns-in_err-add-clause-takes_its_memory_first
+returns-in_err-add-clause-takes_its_memory_first g c =
+    let p = err_from_is_err_and c.from_residual-in_err-add.result c.from_residual-in_err-add.ensures.1 in
+    λ is. let no : ⊥ = cc in absurd no

@@ -1,0 +1,3 @@
+pub mod Balancing
+pub mod Loggable
+pub mod Wrapping

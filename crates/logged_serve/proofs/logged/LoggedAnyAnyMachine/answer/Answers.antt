@@ -1,0 +1,26 @@
+use Rattle.std.proofs.Common.{refl}
+use Rattle.logged_serve.specs.inner.Wrapped.{Wrapped}
+use Rattle.logged_serve.proofs.Loggable.{loggable}
+use Rattle.logged_serve.proofs.Wrapping.{step_after, takes_after}
+use Rattle.logged_serve.proofs.logged.LoggedAnyAnyMachine.answer.Goals as goal
+
+pub answer_logged-requires-clause-loggable : goal.answer_logged-requires-clause-loggable
+answer_logged-requires-clause-loggable g c = loggable c.args.request.now c.requires.read
+
+pub returns-clause-step : goal.returns-clause-step
+returns-clause-step g c =
+    let j = g.J.Journal.state in
+    let s = c.args.self.now in
+    let old : Wrapped g.row.M.Denot = record { machine = s.machine.now; log = s.log.now; journal = j s.journal.now; machine_name = s.machine.ghost_name; log_name = s.log.ghost_name; journal_name = s.journal.ghost_name } in
+    let new : Wrapped g.row.M.Denot =
+    record { machine = c.answer_logged.new.self; log = c.answer_logged.new.log; journal = j c.answer_logged.new.journal; machine_name = s.machine.ghost_name; log_name = s.log.ghost_name; journal_name = s.journal.ghost_name } in
+    step_after g.M.LoggedMachine.steps old new c.args.request.now c.answer_logged.result c.answer_logged.ensures.answers_as_the_machine c.answer_logged.ensures.goes_on c.answer_logged.ensures.still_fits refl refl refl
+
+pub returns-clause-takes_one_fewer : goal.returns-clause-takes_one_fewer
+returns-clause-takes_one_fewer g c =
+    let j = g.J.Journal.state in
+    let s = c.args.self.now in
+    let old : Wrapped g.row.M.Denot = record { machine = s.machine.now; log = s.log.now; journal = j s.journal.now; machine_name = s.machine.ghost_name; log_name = s.log.ghost_name; journal_name = s.journal.ghost_name } in
+    let new : Wrapped g.row.M.Denot =
+    record { machine = c.answer_logged.new.self; log = c.answer_logged.new.log; journal = j c.answer_logged.new.journal; machine_name = s.machine.ghost_name; log_name = s.log.ghost_name; journal_name = s.journal.ghost_name } in
+    takes_after g.M.LoggedMachine.steps old new c.args.request.now _ _ c.answer_logged.result c.answer_logged.ensures.answers_as_the_machine c.answer_logged.ensures.without_memory_as_before c.answer_logged.ensures.still_fits

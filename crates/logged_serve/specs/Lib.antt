@@ -1,0 +1,4 @@
+pub mod Logging
+pub mod Books
+pub mod Ports
+pub mod inner

@@ -1,0 +1,61 @@
+-- What doing an accepted request again does to a server.
+use Rattle.std.proofs.Common.{◌≡◌, ℕ, List, [], ◌∷◌, ◌++◌, Option, None, Some, sym, ap, subst, ◌∙◌}
+use Rattle.http_wire.specs.declared.request.Request.{Request}
+use Rattle.notes.specs.declared.edit.Edit.{Edit}
+use Rattle.reply_text.specs.Heads.{Sent}
+use Rattle.edit_journal.specs.Replaying.{MeansTheSame, Redoes}
+use Rattle.edit_journal.specs.declared.replayer.Redone.TheVariants.{Done, Refused, NoMemory}
+use Rattle.store_core.specs.Held.{Stands, Stock, stock_of}
+use Rattle.store_core.specs.Keeping.{Kept}
+use Rattle.store_core.specs.State.{State, first_state}
+use Rattle.machine_words.specs.Answers.{Answer, Made}
+use Rattle.machine_words.specs.Machine.{KeptStep, answer_as, told_as}
+use Rattle.machine_words.specs.Requests.{IsAnswer}
+use Rattle.machine_words.proofs.OneAnswer.{one_answer}
+use Rattle.xcap_server.specs.Redoing.{Redoing, Refuses, StandsFor}
+use Rattle.xcap_server.specs.Servers.{ServerState}
+use Rattle.xcap_server.proofs.Logged.{redoing_more, same_server}
+
+-- a server stands for what an equal one stands for
+pub means_the_same : (old new : ServerState) → new ≡ old → MeansTheSame StandsFor Refuses old new
+means_the_same old new same =
+    subst (λ (x : ServerState). MeansTheSame StandsFor Refuses old x) (sym same)
+    (record { stands_too = λ requests. (λ h. h, λ h. h); refuses_too = λ request. (λ h. h, λ h. h) })
+
+-- for want of memory
+pub redo_nothing : (old new : ServerState) (request : Request) → new.root ≡ old.root → new.content ≡ old.content → Redoes StandsFor Refuses old request NoMemory new
+redo_nothing old new request root content = means_the_same old new (same_server old new root content)
+
+module _ (old new : ServerState) (request : Request) (reply : Sent) (root : new.root ≡ old.root) (m : State) (stands : Stands old.content m) (kept : Kept m) where
+  -- what the server answers, from each state that it stands for
+  abbrev Steps : Option Edit → Type 0
+  Steps edit = (n : State) → Kept n → Stands old.content n → (next : State) × KeptStep old.root n request reply next edit × Stands new.content next
+
+  answered_so : (edit : Option Edit) → Steps edit → IsAnswer old.root old.content request (answer_as reply edit)
+  answered_so edit steps = subst (λ (c : Stock). IsAnswer old.root c request (answer_as reply edit)) (sym stands) (steps m kept stands).1.1.answers
+
+  -- a request that makes a change
+  pub redo_done : (edit : Edit) → Steps (Some edit) → Redoes StandsFor Refuses old request Done new
+  redo_done edit steps = (
+    λ refuses. (
+        let same = one_answer old.root old.content request _ _ refuses.1 (answered_so (Some edit) steps) in
+        let no : ◌≡◌ {A = Option Made} None (Some (told_as edit)) = ap (λ (a : Answer). a.made) same in
+        cc
+        ),
+    λ requests past. (
+        let o = steps past.state past.kept past.stands in
+        record {
+          state = o.0;
+          kept = o.1.2;
+          redone = subst (λ (r : List ℕ). Redoing r (first_state 1) (requests ++ request ∷ []) o.0) (sym root) (redoing_more old.root requests (first_state 1) past.state o.0 request reply edit past.redone o.1);
+          stands = o.2;
+        }
+        ),
+  )
+
+  -- a request that makes none
+  pub redo_refused : Steps None → Redoes StandsFor Refuses old request Refused new
+  redo_refused steps =
+      let o = steps m kept stands in
+      let content : new.content ≡ old.content = o.2 ∙ ap stock_of o.1.1.goes_on ∙ sym stands in
+      ((reply, answered_so None steps), means_the_same old new (same_server old new root content))

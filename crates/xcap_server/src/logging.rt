@@ -1,0 +1,61 @@
+// The documents under a root, as what answers requests and enters those that it accepts in a log.
+ghost use Rattle.std.specs.Prelude.{◌≡◌, ◌≤◌, None, is_some, IfOk, OnErr};
+ghost use Rattle.reply_text.specs.Heads.{plain};
+ghost use Rattle.document_writes.specs.Deciding.{answer_of};
+
+use crate::requests::decide;
+use crate::service::{Service, commit};
+use document_writes::Decision;
+use edit_journal::{AppendFault, Journal, Log};
+use http_serve::Answered;
+use http_wire::Request;
+use logged_serve::LoggedMachine;
+use notes::Edit;
+use reply_text::Reply;
+use std::alloc::AllocError;
+
+// Whether a change was decided.
+fn changes(decision: &Decision) -> bool
+    ensures tells_whether_it_changes { result ≡ is_some (answer_of decision.now).made }
+{
+    match decision {
+        Decision::Stays(_) => false,
+        Decision::Changes { .. } => true,
+    }
+}
+
+// The answer to a request that couldn't be entered.
+fn not_entered(request: &Request) -> Answered<Edit>
+    ensures reply { result.reply ≡ plain 500 request.now.closes }
+    ensures edit { result.edit ≡ None }
+{
+    Answered {
+        reply: Reply::fixed(500, request.closes),
+        edit: None,
+    }
+}
+
+impl LoggedMachine for Service {
+    ghost use Rattle.xcap_server.specs.Servers.{AnswersRequest};
+
+    type Edit = Edit;
+
+    ghost steps = { AnswersRequest };
+
+    fn answer_logged<J: Journal>(
+        &mut self,
+        log: &mut Log,
+        journal: &mut J,
+        request: &Request,
+    ) -> Result<Answered<Edit>, AllocError> {
+        let decision = decide(self.alloc, &self.root, &mut self.store, request)?;
+        if !changes(&decision) {
+            return Ok(commit(&mut self.store, decision));
+        }
+        match log.append(self.alloc, journal, request) {
+            Ok(()) => Ok(commit(&mut self.store, decision)),
+            Err(AppendFault::Failed) => Ok(not_entered(request)),
+            Err(AppendFault::NoMemory) => Err(AllocError),
+        }
+    }
+}
