@@ -5,7 +5,7 @@ use crate::peers::{Played, ROOM, peer, root, sent};
 use anyhow::{Result, bail};
 use http_exchange::Response;
 use std::alloc::Global;
-use table_cases::{Field, escaped};
+use table_cases::Field;
 use xcap_client::{ClientFault, fetch, put, remove};
 
 const ROOT: &str = "http://xcap.example.com/xcap";
@@ -108,7 +108,7 @@ fn asked(alloc: Global, request: &[Field], faults: &[Field], given: &Field) -> R
         "remove" => remove(alloc, &mut peer, &root, user, path),
         _ => bail!("no call"),
     };
-    let taken = escaped(alloc, sent(&peer, 0))?;
+    let taken = str::from_utf8(sent(&peer, 0))?;
     let outcome = outcome(alloc, &[], &answer)?;
     Ok(format!(in alloc; "{taken}; {outcome}")?)
 }
