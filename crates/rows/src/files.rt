@@ -4,12 +4,11 @@ use crate::way::{Way, ways_of};
 use anyhow::Result;
 use std::{fs, io};
 
-/// The bytes that come: on the input, on each connection, and on each of a peer.
+/// The bytes that come: on the input, and on each connection.
 #[derive(Drop)]
 pub struct Given {
     pub input: Vec<u8>,
     pub connections: Vec<Vec<u8>>,
-    pub peers: Vec<Vec<u8>>,
 }
 
 impl Given {
@@ -27,22 +26,13 @@ impl Given {
             let ending = format!(in alloc; "{number}.in")?;
             connections.push(bytes_of(rt, name, ending.as_str())?)?;
         }
-        let mut peers = Vec::new(alloc);
-        for number in 1..=way.peers.len() {
-            let ending = format!(in alloc; "peer{number}.in")?;
-            peers.push(bytes_of(rt, name, ending.as_str())?)?;
-        }
-        Ok(Given {
-            input,
-            connections,
-            peers,
-        })
+        Ok(Given { input, connections })
     }
 
     /// How many bytes come at most on one stream.
     pub fn longest(&self) -> usize {
         let mut longest = self.input.len();
-        for connection in self.connections.iter().chain(self.peers.iter()) {
+        for connection in &self.connections {
             longest = longest.max(connection.len());
         }
         longest
@@ -82,10 +72,6 @@ pub fn wanted(rt: &HostRuntime, name: &str, way: &Way) -> Result<Vec<Part>> {
     parts.push(part_of(rt, name, "audit")?)?;
     for number in 1..=way.connections.len() {
         let part = format!(in alloc; "{number}.out")?;
-        parts.push(part_of(rt, name, part.as_str())?)?;
-    }
-    for number in 1..=way.peers.len() {
-        let part = format!(in alloc; "peer{number}.out")?;
         parts.push(part_of(rt, name, part.as_str())?)?;
     }
     Ok(parts)
