@@ -1,9 +1,9 @@
 //! GET and HEAD of flat lists (RFC 4826, section 4; RFC 9110, sections 9.3.1 and 9.3.2).
 ghost use Rattle.std.specs.Prelude.{◌≡◌, None, IfOk, encode_utf8_all};
+ghost use Rattle.tree_text.specs.Memory.{Answered};
 ghost use Rattle.tree_text.specs.Printing.{document_print};
 ghost use Rattle.reply_text.specs.declared.media_types.Media.TheVariants as medias;
 ghost use Rattle.request_terms.specs.Methods.{as_asked};
-ghost use Rattle.list_resolve.specs.Answering.{Answered};
 ghost use Rattle.machine_words.specs.Answers.{found, unchanged};
 ghost use Rattle.machine_words.specs.FlatLists.{IsFlatDocument, ReadsFlat};
 
@@ -15,7 +15,7 @@ use reply_text::{Media, Reply};
 use request_terms::{Method, as_asked};
 use std::alloc::{AllocError, Global};
 use store_core::Store;
-use tree_text::print_document;
+use tree_text::{ReadError, print_document};
 use xcap_io::Bytes;
 use xcap_uri::Root;
 use xml_tree::{Element, Text};
@@ -27,11 +27,11 @@ fn document(
     store: &Store,
     doc: &DocId,
     service: &Text,
-) -> Result<Element, FlatFault>
-    ensures document_of_the_list { Answered (λ made. made) (IsFlatDocument root.now store.now.content doc.now service.now) result }
+) -> Result<Element, ReadError<FlatFault>>
+    ensures document_of_the_list { Answered (IsFlatDocument root.now store.now.content doc.now service.now) result }
 {
     let uris = flat_list(alloc, store, root, doc, service.as_str())?;
-    let made = flat_document(alloc, &uris)?;
+    let made = flat_document(alloc, uris.as_slice())?;
     Ok(made)
 }
 
@@ -68,9 +68,9 @@ pub fn get_flat(
 {
     match document(alloc, root, store, doc, service) {
         Ok(document) => with_document(alloc, &document, method, request.closes),
-        Err(FlatFault::NoService) => Ok(Reply::fixed(404, request.closes)),
-        Err(FlatFault::TooWide) => Ok(Reply::fixed(507, request.closes)),
-        Err(FlatFault::TooLarge(_)) => Ok(Reply::fixed(507, request.closes)),
-        Err(FlatFault::NoMemory) => Err(AllocError),
+        Err(ReadError::Fault(FlatFault::NoService)) => Ok(Reply::fixed(404, request.closes)),
+        Err(ReadError::Fault(FlatFault::TooWide)) => Ok(Reply::fixed(507, request.closes)),
+        Err(ReadError::Fault(FlatFault::TooLarge(_))) => Ok(Reply::fixed(507, request.closes)),
+        Err(ReadError::NoMemory) => Err(AllocError),
     }
 }

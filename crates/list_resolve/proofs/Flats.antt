@@ -1,12 +1,12 @@
 -- What was gathered of a walk is its flat list.
 use Rattle.std.proofs.Common.{◌≡◌, ◌≤◌, ◌<◌, ◌+◌, ℕ, true, false, nat_lt, cond, List, [], ◌∷◌, fold, Result, Ok, Err, IsErrAnd, subst, refl, sym, ap, ◌∙◌, arith}
 use Rattle.std.proofs.lemmas.Grind.{common_steps}
-use Rattle.list_resolve.specs.declared.fault.FlatFault.{FlatFault}
-use Rattle.list_resolve.specs.declared.fault.FlatFault.TheVariants.{NoService, TooWide, TooLarge, NoMemory}
-use Rattle.list_resolve.specs.Answering.{Answered}
+use Rattle.list_resolve.specs.declared.fault.FlatFault.TheVariants.{NoService, TooWide, TooLarge}
+use Rattle.tree_text.specs.declared.fault.ReadError.TheVariants.{Fault, NoMemory}
+use Rattle.tree_text.specs.Memory.{Answered}
 use Rattle.list_resolve.specs.Walks.{Item, address, mark}
 use Rattle.list_resolve.specs.Flat.{addresses, is_mark, marks, with_address, flat_of, mark_limit}
-use Rattle.list_resolve.specs.inner.Gathering.{Tally, Fails, no_items, with_item, with_items}
+use Rattle.list_resolve.specs.inner.Gathering.{FlatError, Tally, Fails, no_items, with_item, with_items}
 
 uris_are : (items : List Item) (s : Tally) → (with_items s items).uris ≡ fold with_address s.uris (addresses items)
 uris_are [] s = refl
@@ -39,14 +39,14 @@ wide_is items lt =
     let same : (with_items no_items items).marks ≡ marks items = marks_are items in
     rw (beyond (marks items) (omega arith)) refl
 
-fails_is : {X : Type 0} (view : X → List (List ℕ)) (items : List Item) (fault : FlatFault) → Fails items no_items fault → Answered view (λ answer. answer ≡ flat_of items) (Err fault)
-fails_is view items NoService h = absurd h
-fails_is view items TooWide h = sym (wide_is items h)
-fails_is view items (TooLarge len) h = absurd h
-fails_is view items NoMemory h = tt
+fails_is : (items : List Item) (error : FlatError) → Fails items no_items error → Answered {A = List (List ℕ)} (λ answer. answer ≡ flat_of items) (Err error)
+fails_is items (Fault NoService) h = absurd h
+fails_is items (Fault TooWide) h = sym (wide_is items h)
+fails_is items (Fault (TooLarge len)) h = absurd h
+fails_is items NoMemory h = tt
 
-pub fails_are : {X : Type 0} (view : X → List (List ℕ)) (r : Result X FlatFault) (items : List Item) (s : Tally) (fault : FlatFault)
-    → s ≡ no_items → IsErrAnd r (λ e. e ≡ fault) → Fails items s fault → Answered view (λ answer. answer ≡ flat_of items) r
-fails_are view (Ok x) items s fault e h f = absurd h
-fails_are view (Err other) items s fault e h f =
-    fails_is view items other (subst (λ (x : FlatFault). Fails items no_items x) (sym h) (subst (λ (x : Tally). Fails items x fault) e f))
+pub fails_are : (r : Result (List (List ℕ)) FlatError) (items : List Item) (s : Tally) (error : FlatError)
+    → s ≡ no_items → IsErrAnd r (λ e. e ≡ error) → Fails items s error → Answered (λ answer. answer ≡ flat_of items) r
+fails_are (Ok x) items s error e h f = absurd h
+fails_are (Err other) items s error e h f =
+    fails_is items other (subst (λ (x : FlatError). Fails items no_items x) (sym h) (subst (λ (x : Tally). Fails items x error) e f))

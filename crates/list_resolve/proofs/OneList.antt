@@ -3,8 +3,10 @@ use Rattle.std.proofs.Common.{◌≡◌, ℕ, List, Option, None, Some, Result, 
 use Rattle.doc_names.specs.declared.doc_id.DocId.{DocId}
 use Rattle.store_core.specs.Held.{Stock}
 use Rattle.list_resolve.specs.declared.fault.FlatFault.{FlatFault}
-use Rattle.list_resolve.specs.declared.fault.FlatFault.TheVariants.{NoService, TooWide, TooLarge, NoMemory}
-use Rattle.list_resolve.specs.Answering.{Answered}
+use Rattle.list_resolve.specs.declared.fault.FlatFault.TheVariants.{NoService}
+use Rattle.tree_text.specs.declared.fault.ReadError.TheVariants.{Fault, NoMemory}
+use Rattle.tree_text.specs.Memory.{Answered}
+use Rattle.list_resolve.specs.inner.Gathering.{FlatError}
 use Rattle.list_resolve.specs.Spots.{Spot}
 use Rattle.list_resolve.specs.Walks.{walk}
 use Rattle.list_resolve.specs.declared.reference.Reference.{Reference}
@@ -43,10 +45,8 @@ module _ (c : Stock) (root : List ℕ) (doc : DocId) (uri : List ℕ) where
   pub no_service : None ≡ found → IsFlatList c root doc uri (Err NoService)
   no_service at = by_found None (Err NoService) at refl
 
-  pub of_service : {X : Type 0} (view : X → List (List ℕ)) (s : Spot) (r : Result X FlatFault) → Some s ≡ found
-      → Answered view (λ answer. answer ≡ flat_of (walk (leads_in (ground c root doc)) root s)) r → Answered view (IsFlatList c root doc uri) r
-  of_service view s (Ok x) at e = by_found (Some s) (Ok (view x)) at e
-  of_service view s (Err NoService) at e = by_found (Some s) (Err NoService) at e
-  of_service view s (Err TooWide) at e = by_found (Some s) (Err TooWide) at e
-  of_service view s (Err (TooLarge len)) at e = by_found (Some s) (Err (TooLarge len)) at e
-  of_service view s (Err NoMemory) at e = tt
+  pub of_service : (s : Spot) (r : Result (List (List ℕ)) FlatError) → Some s ≡ found
+      → Answered (λ answer. answer ≡ flat_of (walk (leads_in (ground c root doc)) root s)) r → Answered (IsFlatList c root doc uri) r
+  of_service s (Ok uris) at e = by_found (Some s) (Ok uris) at e
+  of_service s (Err (Fault fault)) at e = by_found (Some s) (Err fault) at e
+  of_service s (Err NoMemory) at e = tt

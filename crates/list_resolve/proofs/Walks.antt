@@ -8,13 +8,13 @@ use Rattle.xml_tree.specs.declared.tree.Node.{Node}
 use Rattle.xml_tree.specs.declared.tree.Node.TheVariants.{Elem, Chars, Comment}
 use Rattle.usage_docs.specs.declared.rows.Kind.{Kind}
 use Rattle.usage_docs.specs.Rows.{Scope}
-use Rattle.list_resolve.specs.declared.fault.FlatFault.{FlatFault}
-use Rattle.list_resolve.specs.declared.fault.FlatFault.TheVariants.{NoService, TooWide, TooLarge, NoMemory}
+use Rattle.list_resolve.specs.declared.fault.FlatFault.TheVariants.{NoService, TooWide, TooLarge}
+use Rattle.tree_text.specs.declared.fault.ReadError.TheVariants.{Fault, NoMemory}
 use Rattle.list_resolve.specs.declared.reference.Reference.{Reference}
 use Rattle.list_resolve.specs.declared.place.Place.{Place}
 use Rattle.list_resolve.specs.Leads.{Ground, Lead}
 use Rattle.list_resolve.specs.Walks.{Item, address, mark, walked, kid_items, behind, led_items}
-use Rattle.list_resolve.specs.inner.Gathering.{Tally, Gathered, Fails, with_item, with_items}
+use Rattle.list_resolve.specs.inner.Gathering.{FlatError, Tally, Gathered, Fails, with_item, with_items}
 use Rattle.list_resolve.specs.inner.Passing.{Gathers}
 use Rattle.list_resolve.specs.Flat.{mark_limit}
 
@@ -66,27 +66,27 @@ marks_rise [] s = omega arith
 marks_rise (i ∷ items) s = let a = one_rises s i in let b = marks_rise items (with_item s i) in omega arith
 
 -- where the first part has too many references, the whole has
-pub fails_in_part : (items more_items : List Item) (s : Tally) (fault : FlatFault) → Fails items s fault → Fails (items ++ more_items) s fault
-fails_in_part items more_items s NoService h = h
-fails_in_part items more_items s TooWide h =
+pub fails_in_part : (items more_items : List Item) (s : Tally) (fault : FlatError) → Fails items s fault → Fails (items ++ more_items) s fault
+fails_in_part items more_items s (Fault NoService) h = h
+fails_in_part items more_items s (Fault TooWide) h =
     let rise = marks_rise more_items (with_items s items) in
     let same : (with_items s (items ++ more_items)).marks ≡ (with_items (with_items s items) more_items).marks = ap (λ g. g.marks) (with_two items more_items s) in
     omega arith
-fails_in_part items more_items s (TooLarge len) h = h
+fails_in_part items more_items s (Fault (TooLarge len)) h = h
 fails_in_part items more_items s NoMemory h = tt
 
 -- where the gathered items and those of a part together make others, that part's failure is one of the others
-pub fails_before : (items more_items whole : List Item) (s start : Tally) (fault : FlatFault)
+pub fails_before : (items more_items whole : List Item) (s start : Tally) (fault : FlatError)
     → with_items s (items ++ more_items) ≡ with_items start whole → Fails items s fault → Fails whole start fault
-fails_before items more_items whole s start NoService e h = h
-fails_before items more_items whole s start TooWide e h =
-    let wide : mark_limit < (with_items s (items ++ more_items)).marks = fails_in_part items more_items s TooWide h in
+fails_before items more_items whole s start (Fault NoService) e h = h
+fails_before items more_items whole s start (Fault TooWide) e h =
+    let wide : mark_limit < (with_items s (items ++ more_items)).marks = fails_in_part items more_items s (Fault TooWide) h in
     let same : (with_items s (items ++ more_items)).marks ≡ (with_items start whole).marks = ap (λ g. g.marks) e in
     omega arith
-fails_before items more_items whole s start (TooLarge len) e h = h
+fails_before items more_items whole s start (Fault (TooLarge len)) e h = h
 fails_before items more_items whole s start NoMemory e h = tt
 
 -- a call that hands on the fault of another one
-pub hands_on : {T : Type 0} (g : Ground) (r : Result T FlatFault) (items : List Item) (s new : Gathered) (fault : FlatFault) → IsErrAnd r (λ e. e ≡ fault) → Fails items s.tally fault → Gathers g items s new r
+pub hands_on : {T : Type 0} (g : Ground) (r : Result T FlatError) (items : List Item) (s new : Gathered) (fault : FlatError) → IsErrAnd r (λ e. e ≡ fault) → Fails items s.tally fault → Gathers g items s new r
 hands_on g (Ok x) items s new fault h f = absurd h
-hands_on g (Err e) items s new fault h f = subst (λ (x : FlatFault). Fails items s.tally x) (sym h) f
+hands_on g (Err e) items s new fault h f = subst (λ (x : FlatError). Fails items s.tally x) (sym h) f

@@ -1,4 +1,3 @@
-pub mod Answering
 pub mod Documents
 pub mod Flat
 pub mod Leads

@@ -3,13 +3,12 @@ ghost use Rattle.std.specs.Prelude.{◌≡◌, [], IfOk, IsTrue, min};
 ghost use Rattle.usage_docs.specs.Services.{document_len};
 ghost use Rattle.usage_docs.specs.Words.{is_ascii};
 ghost use Rattle.xml_tree.specs.Expanded.{name_of};
-ghost use Rattle.xcap_io.specs.Wanting.{StatedOr};
-ghost use Rattle.list_resolve.specs.declared.fault.FlatFault.TheVariants as faults;
+ghost use Rattle.tree_text.specs.Memory.{Answered};
 ghost use Rattle.list_resolve.specs.Documents.{entry_tree, flat_document, flat_tree, list_tree};
 
 use crate::fault::FlatFault;
 use std::alloc::Global;
-use tree_text::no_text;
+use tree_text::{ReadError, no_text};
 use xml_tree::{Attr, Decl, Element, Name, NoMemory, Text, printed_len};
 
 /// The greatest length of the document, printed, in bytes.
@@ -90,13 +89,13 @@ fn document_len(root: &Element) -> usize
 /// # Errors
 /// `TooLarge` exactly where the printed document would have more than 16,777,216 bytes, with their number, or with the greatest `usize` where
 /// that is less; `NoMemory` for want of memory.
-pub fn flat_document(alloc: Global, uris: &[Text]) -> Result<Element, FlatFault>
-    ensures document_of_the_list { StatedOr faults.NoMemory (flat_document uris.now) result }
+pub fn flat_document(alloc: Global, uris: &[Text]) -> Result<Element, ReadError<FlatFault>>
+    ensures document_of_the_list { Answered (λ answer. answer ≡ flat_document uris.now) result }
 {
     let root = tree(alloc, uris)?;
     let len = document_len(&root);
     if len > DOCUMENT_LIMIT {
-        return Err(FlatFault::TooLarge(len));
+        return Err(ReadError::Fault(FlatFault::TooLarge(len)));
     }
     Ok(root)
 }

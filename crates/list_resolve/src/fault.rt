@@ -1,12 +1,13 @@
 //! Why there is no flat list.
-ghost use Rattle.std.specs.Prelude.{◌≡◌};
-ghost use Rattle.list_resolve.specs.declared.fault.FlatFault.TheVariants as FlatFault;
 
 use thiserror::Error;
-use xml_tree::NoMemory;
+use tree_text::ReadError;
+
+/// Why there is no flat list, or want of memory.
+pub(crate) type FlatError = ReadError<FlatFault>;
 
 /// Why a service has no flat list, or a flat list no document.
-#[derive(Debug, Drop, Error)]
+#[derive(Clone, Copy, Debug, Drop, PartialEq, Eq, Error)]
 pub enum FlatFault {
     /// The document isn't held, or has no service with this address.
     #[error("no such service")]
@@ -17,14 +18,4 @@ pub enum FlatFault {
     /// The document would have so many bytes, printed, and that is too many.
     #[error("{0} bytes are too many")]
     TooLarge(usize),
-    #[error("out of memory")]
-    NoMemory,
-}
-
-impl From<NoMemory> for FlatFault {
-    ghost from_gives = { λ _ fault. fault ≡ FlatFault.NoMemory };
-
-    fn from(_error: NoMemory) -> FlatFault {
-        FlatFault::NoMemory
-    }
 }

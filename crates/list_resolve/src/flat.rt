@@ -1,7 +1,7 @@
 //! The flat list of a service (RFC 4826, section 4).
 ghost use Rattle.std.specs.Prelude.{◌≡◌, chars, length, option_and_then, option_map};
 ghost use Rattle.std.specs.Str.{bytes_eq};
-ghost use Rattle.list_resolve.specs.Answering.{Answered};
+ghost use Rattle.tree_text.specs.Memory.{Answered};
 ghost use Rattle.list_resolve.specs.Flat.{IsFlatList, flat_of, has_address, service_of, service_spot};
 ghost use Rattle.list_resolve.specs.Leads.{tree_held};
 ghost use Rattle.list_resolve.specs.Walks.{walk};
@@ -9,7 +9,7 @@ ghost use Rattle.list_resolve.specs.inner.Passing.{leads_in};
 ghost use Rattle.list_resolve.specs.inner.Views.{ground_in, spot_in};
 
 use crate::chain::Chain;
-use crate::fault::FlatFault;
+use crate::fault::{FlatError, FlatFault};
 use crate::gatherer::Gatherer;
 use crate::leads::Ground;
 use crate::spot::Spot;
@@ -17,9 +17,10 @@ use crate::walk::walk_inside;
 use doc_names::DocId;
 use std::alloc::Global;
 use store_core::Store;
+use tree_text::ReadError;
 use usage_docs::{Key, Kind, value_of};
 use xcap_uri::Root;
-use xml_tree::{Around, Attr, Element, Node, Text};
+use xml_tree::{Around, Attr, Element, List, Node, Text};
 
 /// How many elements a chain has at most.
 const CHAIN_LIMIT: usize = 16;
@@ -76,9 +77,8 @@ fn service_held<'a>(store: &'a Store, doc: &DocId, uri: &str) -> Option<Spot<'a>
 }
 
 // The flat list of a service.
-fn flat_of(ground: &Ground<'_>, service: &Spot<'_>) -> Result<Vec<Text>, FlatFault>
-    ensures flat_list_of_the_walk { Answered (λ made. made.items)
-        (λ answer. answer ≡ flat_of (walk (leads_in (ground_in ground.now)) ground.now.root.now (spot_in service.now))) result }
+fn flat_of(ground: &Ground<'_>, service: &Spot<'_>) -> Result<List<Text>, FlatError>
+    ensures flat_list_of_the_walk { Answered (λ answer. answer ≡ flat_of (walk (leads_in (ground_in ground.now)) ground.now.root.now (spot_in service.now))) result }
 {
     let mut gatherer = Gatherer::new(ground.alloc);
     let scope = Around::given(&service.scope);
@@ -107,9 +107,8 @@ pub fn flat_list(
     root: &Root,
     doc: &DocId,
     service: &str,
-) -> Result<Vec<Text>, FlatFault>
-    ensures flat_list_of_the_service { Answered (λ made. made.items)
-        (IsFlatList store.now.content root.now doc.now (chars service.now)) result }
+) -> Result<List<Text>, ReadError<FlatFault>>
+    ensures flat_list_of_the_service { Answered (IsFlatList store.now.content root.now doc.now (chars service.now)) result }
 {
     let ground = Ground {
         alloc,
@@ -118,7 +117,7 @@ pub fn flat_list(
         home: &doc.home,
     };
     match service_held(store, doc, service) {
-        None => Err(FlatFault::NoService),
+        None => Err(ReadError::Fault(FlatFault::NoService)),
         Some(service) => flat_of(&ground, &service),
     }
 }

@@ -4,12 +4,12 @@ ghost use Rattle.list_resolve.specs.Places.{is_on};
 ghost use Rattle.list_resolve.specs.Walks.{address, mark};
 ghost use Rattle.list_resolve.specs.inner.Gathering.{Fails, gathering, nothing, passing};
 
-use crate::fault::FlatFault;
+use crate::fault::{FlatError, FlatFault};
 use crate::place::Place;
 use indexmap::IndexSet;
 use std::alloc::Global;
 use std::marker::Model;
-use xml_tree::{NoMemory, Text};
+use xml_tree::{List, NoMemory, Text};
 
 /// How many references a walk comes by at most.
 pub(crate) const MARK_LIMIT: usize = 4096;
@@ -65,12 +65,12 @@ impl Gatherer {
     ///
     /// # Errors
     /// `TooWide` exactly where there are too many then.
-    pub(crate) fn add_mark(&mut self) -> Result<(), FlatFault>
+    pub(crate) fn add_mark(&mut self) -> Result<(), FlatError>
         ensures ok { OnOk result (self.new ≡ gathering self.old mark) }
         ensures err { IfErr result (Fails (mark ∷ []) self.old.tally) }
     {
         if self.marks == MARK_LIMIT {
-            return Err(FlatFault::TooWide);
+            return Err(FlatError::Fault(FlatFault::TooWide));
         }
         self.marks += 1;
         Ok(())
@@ -105,11 +105,12 @@ impl Gatherer {
     ///
     /// # Errors
     /// `NoMemory` for want of memory.
-    pub(crate) fn into_uris(self) -> Result<Vec<Text>, NoMemory>
-        ensures uris { IfOk result (λ made. made.items ≡ self.tally.uris) }
+    pub(crate) fn into_uris(self) -> Result<List<Text>, NoMemory>
+        ensures uris { IfOk result (λ made. made ≡ self.tally.uris) }
         ensures few { self.tally.marks ≤ MARK_LIMIT }
     {
         let Gatherer { alloc, uris, .. } = self;
-        uris.into_iter().collect(alloc)
+        let made = uris.into_iter().collect(alloc)?;
+        Ok(List::from(made))
     }
 }

@@ -10,7 +10,7 @@ ghost use Rattle.list_resolve.specs.inner.Passing.{Gathers, IsPassed, IsSound, l
 ghost use Rattle.list_resolve.specs.inner.Views.{ground_in, lead_in, spot_in};
 
 use crate::chain::Chain;
-use crate::fault::FlatFault;
+use crate::fault::FlatError;
 use crate::gatherer::Gatherer;
 use crate::leads::{Ground, Lead, leads};
 use crate::place::Place;
@@ -19,7 +19,7 @@ use usage_docs::{Key, Kind, kind_of, value_of};
 use xml_tree::{Around, Attr, Declared, Element, NoMemory, Node};
 
 // Gathers the address of an entry with these attributes.
-fn add_entry(ground: &Ground<'_>, attrs: &[Attr], gatherer: &mut Gatherer) -> Result<(), FlatFault>
+fn add_entry(ground: &Ground<'_>, attrs: &[Attr], gatherer: &mut Gatherer) -> Result<(), FlatError>
     requires sound { IsSound (ground_in ground.now) gatherer.old }
     ensures gathers_the_address { Gathers (ground_in ground.now) (entry_items (value_of Uri attrs.now)) gatherer.old gatherer.new result }
 {
@@ -45,7 +45,7 @@ pub(crate) fn walk_inside(
     scope: &Around<'_>,
     element: &Element,
     gatherer: &mut Gatherer,
-) -> Result<(), FlatFault>
+) -> Result<(), FlatError>
     requires sound { IsSound (ground_in ground.now) gatherer.old }
     ensures gathers_the_walk { Gathers (ground_in ground.now)
         (walked (behind (leads_in (ground_in ground.now)) ground.now.root.now left chain.now) ground.now.root.now row scope.now element.now.content)
@@ -69,7 +69,7 @@ fn walk_kid(
     scope: &Around<'_>,
     kid: &Element,
     gatherer: &mut Gatherer,
-) -> Result<(), FlatFault>
+) -> Result<(), FlatError>
     requires sound { IsSound (ground_in ground.now) gatherer.old }
     ensures gathers_what_the_child_gives { Gathers (ground_in ground.now)
         (kid_items (behind (leads_in (ground_in ground.now)) ground.now.root.now left chain.now) ground.now.root.now row scope.now kid.now)
@@ -93,7 +93,7 @@ fn walk_element(
     scope: &Around<'_>,
     element: &Element,
     gatherer: &mut Gatherer,
-) -> Result<(), FlatFault>
+) -> Result<(), FlatError>
     requires sound { IsSound (ground_in ground.now) gatherer.old }
     ensures gathers_what_the_element_gives { Gathers (ground_in ground.now)
         (given (behind (leads_in (ground_in ground.now)) ground.now.root.now left chain.now) ground.now.root.now kind element.now.attrs element.now.content
@@ -132,7 +132,7 @@ fn walk_reference(
     kind: Kind,
     element: &Element,
     gatherer: &mut Gatherer,
-) -> Result<(), FlatFault>
+) -> Result<(), FlatError>
     requires sound { IsSound (ground_in ground.now) gatherer.old }
     ensures gathers_the_reference { Gathers (ground_in ground.now)
         (reference_items (behind (leads_in (ground_in ground.now)) ground.now.root.now left chain.now) (reference_of ground.now.root.now kind element.now.attrs element.now.content))
@@ -153,7 +153,7 @@ fn walk_behind(
     chain: &Chain<'_>,
     reference: &Reference,
     gatherer: &mut Gatherer,
-) -> Result<(), FlatFault>
+) -> Result<(), FlatError>
     requires sound { IsSound (ground_in ground.now) gatherer.old }
     ensures gathers_what_stands_behind { Gathers (ground_in ground.now)
         (behind (leads_in (ground_in ground.now)) ground.now.root.now left chain.now reference.now)
@@ -176,7 +176,7 @@ fn walk_lead(
     chain: &Chain<'_>,
     lead: Lead<'_>,
     gatherer: &mut Gatherer,
-) -> Result<(), FlatFault>
+) -> Result<(), FlatError>
     requires low { height lead.spot.element.now ≤ 64 }
     requires there { spot_at (ground_in ground.now) lead.place ≡ Some (spot_in lead.spot) }
     requires sound { IsSound (ground_in ground.now) gatherer.old }
@@ -198,7 +198,7 @@ fn walk_once(
     chain: &Chain<'_>,
     lead: Lead<'_>,
     gatherer: &mut Gatherer,
-) -> Result<(), FlatFault>
+) -> Result<(), FlatError>
     requires low { height lead.spot.element.now ≤ 64 }
     requires there { spot_at (ground_in ground.now) lead.place ≡ Some (spot_in lead.spot) }
     requires sound { IsSound (ground_in ground.now) gatherer.old }
@@ -223,7 +223,7 @@ fn walk_longer(
     chain: &Chain<'_>,
     lead: &Lead<'_>,
     gatherer: &mut Gatherer,
-) -> Result<(), FlatFault>
+) -> Result<(), FlatError>
     requires low { height lead.now.spot.element.now ≤ 64 }
     requires sound { IsSound (ground_in ground.now) gatherer.old }
     ensures gathers_what_the_element_gives { Gathers (ground_in ground.now)

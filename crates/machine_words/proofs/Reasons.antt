@@ -50,7 +50,7 @@ use Rattle.machine_words.specs.Answers.{Answer, Behind, BehindConditions, confli
 use Rattle.machine_words.specs.Fragments.{CutsNode, DeletesNodeIn, PutsAt, PutsElementText, PutsFragment, PutsFrom, PutsNodeIn, PutsValueText, cut_reply, is_there, plan_answer, value_conflict}
 use Rattle.machine_words.specs.ElementFeeds.{TellsElement}
 use Rattle.list_resolve.specs.declared.fault.FlatFault.{FlatFault}
-use Rattle.list_resolve.specs.declared.fault.FlatFault.TheVariants.{NoService, TooWide, TooLarge, NoMemory}
+use Rattle.list_resolve.specs.declared.fault.FlatFault.TheVariants.{NoService, TooWide, TooLarge}
 use Rattle.machine_words.specs.Feeds.{sends_notice, story_answer}
 use Rattle.machine_words.specs.FlatLists.{sends_flat}
 use Rattle.machine_words.specs.Reading.{SendsDocument, SendsFound, SendsNode}
@@ -156,7 +156,6 @@ module _ (method : Method) (request : Request) (a : Answer) where
   flat_so (Err NoService) is = only request a 404 refl is
   flat_so (Err TooWide) is = only request a 507 refl is
   flat_so (Err (TooLarge len)) is = only request a 507 refl is
-  flat_so (Err NoMemory) is = only request a 507 refl is
 
   read_so : (root : List ℕ) (c : Content) (target : Target) → Reads root c target method request a → Fine a
   read_so root c (Document id) is = document_so is.0 (document_media id.auid) is.2

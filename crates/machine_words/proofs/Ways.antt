@@ -68,7 +68,7 @@ use Rattle.machine_words.specs.Answers.{Answer, Behind, BehindConditions, confli
 use Rattle.machine_words.specs.Laws.{tells_change}
 use Rattle.machine_words.specs.ElementFeeds.{TellsElement}
 use Rattle.list_resolve.specs.declared.fault.FlatFault.{FlatFault}
-use Rattle.list_resolve.specs.declared.fault.FlatFault.TheVariants.{NoService, TooWide, TooLarge, NoMemory}
+use Rattle.list_resolve.specs.declared.fault.FlatFault.TheVariants.{NoService, TooWide, TooLarge}
 use Rattle.machine_words.specs.Feeds.{sends_notice, story_answer}
 use Rattle.machine_words.specs.FlatLists.{sends_flat}
 use Rattle.machine_words.specs.Reading.{SendsDocument, SendsFound, SendsNode}
@@ -201,7 +201,6 @@ module _ (method : Method) (request : Request) (c : Content) (a : Answer) (quiet
   flat_way (Err NoService) is = only method c request a 404 refl refl is
   flat_way (Err TooWide) is = only method c request a 507 refl refl is
   flat_way (Err (TooLarge len)) is = only method c request a 507 refl refl is
-  flat_way (Err NoMemory) is = only method c request a 507 refl refl is
 
   reads_way : (root : List ℕ) (target : Target) → Reads root c target method request a → Way method request.closes c a
   reads_way root (Document id) is = document_way is.0 (document_media id.auid) is.2

@@ -2,7 +2,9 @@
 use Rattle.std.specs.Prelude.{ℕ, ◌<◌, ◌+◌, List, [], ◌∷◌, ◌++◌, fold, if◌then◌else◌}
 use Rattle.std.specs.Coded.{Coded, code_by, coded×, coded_ℕ, coded_list}
 use Rattle.list_resolve.specs.declared.fault.FlatFault.{FlatFault}
-use Rattle.list_resolve.specs.declared.fault.FlatFault.TheVariants.{NoService, TooWide, TooLarge, NoMemory}
+use Rattle.list_resolve.specs.declared.fault.FlatFault.TheVariants.{NoService, TooWide, TooLarge}
+use Rattle.tree_text.specs.declared.fault.ReadError.{ReadError}
+use Rattle.tree_text.specs.declared.fault.ReadError.TheVariants.{Fault, NoMemory}
 use Rattle.list_resolve.specs.declared.place.Place.{Place}
 use Rattle.list_resolve.specs.Places.{is_on}
 use Rattle.list_resolve.specs.Walks.{Item, address, mark}
@@ -48,9 +50,13 @@ gathering s item = record { tally = with_item s.tally item; passed = s.passed }
 abbrev pub passing : Gathered → Place → Gathered
 passing s place = record { tally = s.tally; passed = if is_on s.passed place then s.passed else (s.passed ++ place ∷ []) }
 
+-- why there is no flat list, or want of memory
+abbrev pub FlatError : Type 0
+FlatError = ReadError FlatFault
+
 -- a call fails where these items are gathered: there are too many references among them, or there is no memory
-abbrev pub Fails : List Item → Tally → FlatFault → Type 0
-Fails items old NoService = ⊥
-Fails items old TooWide = mark_limit < (with_items old items).marks
-Fails items old (TooLarge len) = ⊥
+abbrev pub Fails : List Item → Tally → FlatError → Type 0
+Fails items old (Fault NoService) = ⊥
+Fails items old (Fault TooWide) = mark_limit < (with_items old items).marks
+Fails items old (Fault (TooLarge len)) = ⊥
 Fails items old NoMemory = Unit {0}

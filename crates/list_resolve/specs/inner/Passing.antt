@@ -9,13 +9,12 @@ use Rattle.doc_names.specs.declared.doc_id.DocId.{DocId}
 use Rattle.xcap_uri.specs.declared.fault.UriFault.{UriFault}
 use Rattle.xcap_uri.specs.declared.target.Target.{Target}
 use Rattle.xcap_uri.proofs.TargetAnswers.{some_target}
-use Rattle.list_resolve.specs.declared.fault.FlatFault.{FlatFault}
 use Rattle.list_resolve.specs.declared.place.Place.{Place}
 use Rattle.list_resolve.specs.declared.reference.Reference.{Reference}
 use Rattle.list_resolve.specs.Spots.{Spot, list_spot}
 use Rattle.list_resolve.specs.Leads.{Ground, Lead, lead_of, tree_held}
 use Rattle.list_resolve.specs.Walks.{Item, address, mark, spot_items}
-use Rattle.list_resolve.specs.inner.Gathering.{Gathered, Fails, with_items}
+use Rattle.list_resolve.specs.inner.Gathering.{FlatError, Gathered, Fails, with_items}
 
 -- ---- where references lead
 
@@ -58,6 +57,6 @@ abbrev pub IsSound : Ground → Gathered → Type 0
 IsSound g s = AllByRecursion (IsPassed g s.tally.uris) s.passed
 
 -- a call gathered these items, or failed
-abbrev pub Gathers : {T : Type 0} → Ground → List Item → Gathered → Gathered → Result T FlatFault → Type 0
+abbrev pub Gathers : {T : Type 0} → Ground → List Item → Gathered → Gathered → Result T FlatError → Type 0
 Gathers g items old new (Ok x) = (new.tally ≡ with_items old.tally items) × IsSound g new
 Gathers g items old new (Err fault) = Fails items old.tally fault

@@ -1,4 +1,4 @@
-use Rattle.std.proofs.Common.{◌≤◌, inl, sym, arith}
+use Rattle.std.proofs.Common.{◌≤◌, sym, arith}
 use Rattle.list_resolve.specs.Documents.{document_limit}
 use Rattle.list_resolve.proofs.Documents.{not_too_large, too_large}
 use Rattle.list_resolve.proofs.document.flat_document.Goals as goal
@@ -6,7 +6,7 @@ use Rattle.list_resolve.proofs.document.flat_document.Goals as goal
 pub returns-then-len-gt-DOCUMENT_LIMIT : goal.returns-then-len-gt-DOCUMENT_LIMIT
 returns-then-len-gt-DOCUMENT_LIMIT c = record {
   document_of_the_list =
-      inl (sym (too_large c.args.uris.now c.in_ok-root.root c.document_len-len.result c.in_ok-root.ensures.root_with_the_list c.document_len-len.ensures.counts_the_printed_document c.if-len-gt-DOCUMENT_LIMIT.true));
+      sym (too_large c.args.uris.now c.in_ok-root.root c.document_len-len.result c.in_ok-root.ensures.root_with_the_list c.document_len-len.ensures.counts_the_printed_document c.if-len-gt-DOCUMENT_LIMIT.true);
 }
 
 pub returns : goal.returns
@@ -14,5 +14,5 @@ returns c = record {
   document_of_the_list =
       let few = c.if-len-gt-DOCUMENT_LIMIT.false in
       let le : c.document_len-len.result ≤ document_limit = omega arith in
-      inl (not_too_large c.args.uris.now c.in_ok-root.root c.document_len-len.result c.in_ok-root.ensures.root_with_the_list c.document_len-len.ensures.counts_the_printed_document le);
+      not_too_large c.args.uris.now c.in_ok-root.root c.document_len-len.result c.in_ok-root.ensures.root_with_the_list c.document_len-len.ensures.counts_the_printed_document le;
 }

@@ -12,6 +12,6 @@ returns-in-None c = record {
 pub returns-in-Some : goal.returns-in-Some
 returns-in-Some c = record {
   flat_list_of_the_service =
-      of_service c.args.store.now.content c.args.root.now c.args.doc.now (chars c.args.service.now) (λ made. made.items) (spot_in c.in-Some.service) c.flat_of.result
+      of_service c.args.store.now.content c.args.root.now c.args.doc.now (chars c.args.service.now) (spot_in c.in-Some.service) c.flat_of.result
       (ap (option_map spot_in) (sym c.in-Some.is) ∙ c.service_held.ensures.finds_the_service_held) c.flat_of.ensures.flat_list_of_the_walk;
 }

@@ -14,7 +14,7 @@ returns-in_err-walk_inside c = record {
       let same : walked (behind (leads_in g) g.root 16 c.empty.result) g.root s.kind c.given-scope.result s.element.content ≡ walk (leads_in g) g.root s =
       ap (λ chain. walked (behind (leads_in g) g.root 16 chain) g.root s.kind c.given-scope.result s.element.content) c.empty.ensures.holds_no_places
       ∙ ap (λ scope. walked (behind (leads_in g) g.root 16 []) g.root s.kind scope s.element.content) c.given-scope.ensures.holds_what_is_given in
-      fails_are (λ made. made.items) c.from_residual.result (walk (leads_in g) g.root s) c.new-gatherer.result.tally c.in_err-walk_inside.field-0.0 (ap (λ (x : Gathered). x.tally) c.new-gatherer.ensures.holds_nothing)
+      fails_are c.from_residual.result (walk (leads_in g) g.root s) c.new-gatherer.result.tally c.in_err-walk_inside.field-0.0 (ap (λ (x : Gathered). x.tally) c.new-gatherer.ensures.holds_nothing)
       c.from_residual.ensures.1 (subst (λ items. Fails items c.new-gatherer.result.tally c.in_err-walk_inside.field-0.0) same c.in_err-walk_inside.ensures.gathers_the_walk);
 }
 
