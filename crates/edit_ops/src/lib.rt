@@ -15,7 +15,7 @@ pub use apply::apply_change;
 pub use change::Change;
 pub use laws::elements_beside_a_change_stay;
 pub use lengths::printed_len_after;
-pub use moves::moved;
+pub use moves::{moved, through};
 pub use rebuilding::{rebuilt, tag_of};
 pub use staged::{Staged, make_staged, stage};
 pub use std::alloc::AllocError as NoMemory;

@@ -41,8 +41,8 @@ fn joined(path: Path, numbers: &[usize]) -> Path
     made
 }
 
-// The path of a place, a number behind it, and more numbers.
-fn through(place: &Path, number: usize, below: &[usize]) -> Path
+/// The path of a place, a number behind it, and more numbers. Together they are at most 64. Takes no memory.
+pub fn through(place: &Path, number: usize, below: &[usize]) -> Path
     requires { length place.now + suc (length below.now) ≤ 64 }
     ensures leads_through_the_place { result ≡ place.now ++ (number ∷ below.now) }
 {

@@ -21,7 +21,7 @@ use Rattle.store_core.specs.State.{Version}
 use Rattle.store_core.proofs.Chains.{notes_of}
 use Rattle.element_watch.specs.Finding.{Finds}
 use Rattle.element_watch.specs.Touching.{Passes, PassesThrough, Touches, moved_through}
-use Rattle.element_watch.proofs.Before.{before_change}
+use Rattle.key_laws.proofs.Stable.{before_change}
 
 -- ---- a change that doesn't touch an element
 

@@ -1,5 +1,4 @@
 pub mod Addresses
-pub mod Before
 pub mod Bounds
 pub mod Chain
 pub mod Coming

@@ -1,5 +1,5 @@
 //! Paths by a place on them and what stands behind it.
-ghost use Rattle.std.specs.Prelude.{◌≡◌, ◌≤◌, ◌+◌, ◌++◌, ◌∷◌, suc, IfSome, is_some, length};
+ghost use Rattle.std.specs.Prelude.{◌≡◌, ◌≤◌, ◌+◌, ◌++◌, IfSome, is_some, length};
 ghost use Rattle.std.specs.Option.{option_copied};
 ghost use Rattle.edit_ops.specs.Moves.{behind};
 
@@ -19,30 +19,4 @@ pub(crate) fn lies_in(place: &Path, path: &Path) -> bool
     ensures tells_whether_it_lies_there { result ≡ is_some (behind place.now path.now) }
 {
     way(place, path).is_some()
-}
-
-// The path with more numbers behind it.
-fn longer(path: Path, numbers: &[usize]) -> Path
-    requires { length path + length numbers.now ≤ 64 }
-    ensures joins_the_numbers { result ≡ path ++ numbers.now }
-{
-    let mut made = path;
-    for number in numbers {
-        match made.child(*number) {
-            Some(path) => made = path,
-            None => unreachable!(),
-        }
-    }
-    made
-}
-
-// The path of a place, a number behind it, and more numbers.
-pub(crate) fn through(place: &Path, number: usize, below: &[usize]) -> Path
-    requires { length place.now + suc (length below.now) ≤ 64 }
-    ensures leads_through_the_place { result ≡ place.now ++ (number ∷ below.now) }
-{
-    match place.child(number) {
-        Some(path) => longer(path, below),
-        None => unreachable!(),
-    }
 }

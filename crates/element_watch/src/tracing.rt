@@ -7,8 +7,8 @@ ghost use Rattle.notes.specs.Recorded.{all_notes, note_in};
 ghost use Rattle.element_watch.specs.Touching.{PassesThrough};
 ghost use Rattle.element_watch.specs.inner.Back.{back, came_from, is_touched, re_routed_if, without_gap};
 
-use crate::paths::{lies_in, through, way};
-use edit_ops::Change;
+use crate::paths::{lies_in, way};
+use edit_ops::{Change, through};
 use notes::{EditNote, Notes};
 use xml_tree::{Name, Path};
 

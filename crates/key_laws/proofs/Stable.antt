@@ -1,4 +1,4 @@
--- What a key address selects, before and after a change.
+-- What a key address selects, before and after a change: both ways, where the change leaves it.
 use Rattle.std.proofs.Common.{◌≡◌, ℕ, zero, suc, List, [], ◌∷◌, Option, Some, slice_get, IsTrue, refl, sym, ap, ◌∙◌, subst}
 use Rattle.std.specs.List.{AllByRecursion}
 use Rattle.std.proofs.lemmas.Option.{same_Some}
@@ -83,4 +83,11 @@ pub after_change : (u : Usage) (t : Tree) (change : Change) (selector : Selector
 after_change u t change selector p q sound fits sound' address h is free =
     let root = root_kept t p change q fits is in
     let r = carried u t (edited t change) selector.steps p q sound.proper sound'.unique sound'.proper root.0 root.1 (marks_in_scope u t p change q fits is free) address.steps address.kinds h in
+    (r.0, record { ends = address.ends; steps = r.1; kinds = r.2 })
+
+pub before_change : (u : Usage) (t : Tree) (change : Change) (selector : Selector) (p q : List ℕ) → IsKeyed u t → Fits t change → IsKeyed u (edited t change) → IsKeyAddressOf u (edited t change) selector q → SelectsPath selector.steps (edited t change) q
+    → moved p change ≡ Some q → (WritesKeyOn u t p change → ⊥) → SelectsPath selector.steps t p × IsKeyAddressOf u t selector p
+before_change u t change selector p q sound fits sound' address h is free =
+    let root = root_kept t p change q fits is in
+    let r = carried u (edited t change) t selector.steps q p sound'.proper sound.unique sound.proper (sym root.0) (sym root.1) (sym (marks_in_scope u t p change q fits is free)) address.steps address.kinds h in
     (r.0, record { ends = address.ends; steps = r.1; kinds = r.2 })

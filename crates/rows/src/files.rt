@@ -4,11 +4,12 @@ use crate::way::{Way, ways_of};
 use anyhow::Result;
 use std::{fs, io};
 
-/// The bytes that come: on the input, and on each connection.
+/// The bytes that come: on the input, on each connection, and on each of a peer.
 #[derive(Drop)]
 pub struct Given {
     pub input: Vec<u8>,
     pub connections: Vec<Vec<u8>>,
+    pub peers: Vec<Vec<u8>>,
 }
 
 impl Given {
@@ -26,13 +27,22 @@ impl Given {
             let ending = format!(in alloc; "{number}.in")?;
             connections.push(bytes_of(rt, name, ending.as_str())?)?;
         }
-        Ok(Given { input, connections })
+        let mut peers = Vec::new(alloc);
+        for number in 1..=way.peers.len() {
+            let ending = format!(in alloc; "peer{number}.in")?;
+            peers.push(bytes_of(rt, name, ending.as_str())?)?;
+        }
+        Ok(Given {
+            input,
+            connections,
+            peers,
+        })
     }
 
     /// How many bytes come at most on one stream.
     pub fn longest(&self) -> usize {
         let mut longest = self.input.len();
-        for connection in &self.connections {
+        for connection in self.connections.iter().chain(self.peers.iter()) {
             longest = longest.max(connection.len());
         }
         longest
@@ -72,6 +82,10 @@ pub fn wanted(rt: &HostRuntime, name: &str, way: &Way) -> Result<Vec<Part>> {
     parts.push(part_of(rt, name, "audit")?)?;
     for number in 1..=way.connections.len() {
         let part = format!(in alloc; "{number}.out")?;
+        parts.push(part_of(rt, name, part.as_str())?)?;
+    }
+    for number in 1..=way.peers.len() {
+        let part = format!(in alloc; "peer{number}.out")?;
         parts.push(part_of(rt, name, part.as_str())?)?;
     }
     Ok(parts)

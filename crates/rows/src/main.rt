@@ -13,6 +13,7 @@
 //! | `NAME.errors` | the words that the stream for errors takes |
 //! | `NAME.audit` | the lines that an audit of the changes writes |
 //! | `NAME.1.in`, `NAME.1.out`, .. | the bytes that come and go on each connection of a port |
+//! | `NAME.peer1.in`, `NAME.peer1.out`, .. | the bytes that a peer gives and takes on each connection |
 //! | `NAME.case` | what is run, where it isn't the usual |
 //!
 //! The usual is one run of `replay http://xcap.example.com/xcap` that ends with the status 0. Each
@@ -33,6 +34,8 @@
 //! | `connection: 60` | one more connection comes to the port, with room for so many bytes |
 //! | `listen: fails` | the port can't listen |
 //! | `next fails at: 2` | the port fails when it is asked for the second connection |
+//! | `peer: 60` | a peer takes one more connection, with room for so many bytes |
+//! | `connect fails at: 2` | the peer fails when the second connection is begun |
 #![tactic(auto)]
 
 mod files;

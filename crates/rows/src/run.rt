@@ -29,6 +29,31 @@ fn port_of(alloc: Global, way: &Way, given: &Given, size: usize) -> Result<MemPo
     Ok(MemPort::new(lines, way.listen_fails, way.next_fails_at))
 }
 
+// The peer that gives these bytes on its connections, in pieces of this size.
+fn peer_of(alloc: Global, way: &Way, given: &Given, size: usize) -> Result<MemPeer, AllocError> {
+    let mut lines = Vec::new(alloc);
+    for (bytes, room) in given.peers.iter().zip(&way.peers) {
+        lines.push(MemLine::new(alloc, bytes, size.max(1), None, *room)?)?;
+    }
+    Ok(MemPeer::new(lines, way.connect_fails_at))
+}
+
+// Adds what a peer took on each of its connections.
+fn push_asked(
+    alloc: Global,
+    parts: &mut Vec<Part>,
+    peer: &MemPeer,
+    count: usize,
+) -> Result<(), AllocError> {
+    for index in 0..count {
+        if let Some(line) = peer.line(index) {
+            let name = format!(in alloc; "peer{}.out", index as u128 + 1)?;
+            parts.push(Part::new(alloc, name.as_str(), line.sent().to_vec(alloc)?)?)?;
+        }
+    }
+    Ok(())
+}
+
 // Adds what was sent on each connection of a port.
 fn push_sent(
     alloc: Global,
@@ -69,18 +94,18 @@ fn status_of(
     alloc: Global,
     words: &[String],
     port: &mut MemPort,
+    peer: &mut MemPeer,
     streams: &mut Streams,
     told: &SharedLine,
 ) -> Result<u8, AllocError> {
     let audit = Audit::new(alloc, StdSink::new(told.share()?));
     let mut watchers: Vec<Box<dyn Watcher>> = Vec::new(alloc);
     watchers.push(Box::new(alloc, audit)?)?;
-    let mut peer = MemPeer::new(Vec::new(alloc), None);
     Ok(run(
         alloc,
         words,
         port,
-        &mut peer,
+        peer,
         &mut streams.input,
         &mut streams.output,
         &mut streams.errors,
@@ -92,14 +117,16 @@ fn status_of(
 pub fn ran(alloc: Global, way: &Way, given: &Given, size: usize) -> Result<Vec<Part>, AllocError> {
     let words = words_of(alloc, way.words.as_str())?;
     let mut port = port_of(alloc, way, given, size)?;
+    let mut peer = peer_of(alloc, way, given, size)?;
     let mut streams = Streams::new(alloc, way, &given.input, size)?;
     let told = SharedLine::new(alloc, way.audit_room)?;
-    let status = status_of(alloc, &words, &mut port, &mut streams, &told)?;
+    let status = status_of(alloc, &words, &mut port, &mut peer, &mut streams, &told)?;
     let mut parts = Vec::new(alloc);
     parts.push(Part::status(alloc, status)?)?;
     parts.push(Part::new(alloc, "out", streams.output.sent().to_vec(alloc)?)?)?;
     parts.push(Part::new(alloc, "errors", streams.errors.sent().to_vec(alloc)?)?)?;
     parts.push(Part::new(alloc, "audit", told.sent(alloc)?)?)?;
     push_sent(alloc, &mut parts, &port, way.connections.len())?;
+    push_asked(alloc, &mut parts, &peer, way.peers.len())?;
     Ok(parts)
 }

@@ -21,6 +21,9 @@ pub struct Way {
     pub connections: Vec<usize>,
     pub listen_fails: bool,
     pub next_fails_at: Option<usize>,
+    /// The room of each connection that a peer takes.
+    pub peers: Vec<usize>,
+    pub connect_fails_at: Option<usize>,
 }
 
 impl Way {
@@ -38,6 +41,8 @@ impl Way {
             connections: Vec::new(alloc),
             listen_fails: false,
             next_fails_at: None,
+            peers: Vec::new(alloc),
+            connect_fails_at: None,
         })
     }
 
@@ -55,6 +60,8 @@ impl Way {
             "connection" => self.connections.push(value.parse()?)?,
             "listen" => self.listen_fails = value == "fails",
             "next fails at" => self.next_fails_at = Some(value.parse()?),
+            "peer" => self.peers.push(value.parse()?)?,
+            "connect fails at" => self.connect_fails_at = Some(value.parse()?),
             _ => bail!("no such line: {key}"),
         }
         Ok(())

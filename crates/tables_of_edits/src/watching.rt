@@ -1,0 +1,112 @@
+//! What watchers make of the changes that they are told, one a line, with the numbers from 1 on.
+
+use crate::changes::read_change;
+use anyhow::{Result, bail};
+use doc_names::DocId;
+use edit_ops::Change;
+use notes::{Edit, EditNote};
+use std::alloc::Global;
+use table_cases::{Field, lists_of, print};
+use watchers::{Audit, Mirror, Recorder, Told, Watcher, tell_all};
+use xcap_io::MemLine;
+use xml_tree::List;
+
+const JOE: &str = "sip:joe@example.com";
+
+fn note(alloc: Global, next: u64, change: Change) -> EditNote {
+    EditNote {
+        previous: next.saturating_sub(1),
+        next,
+        bindings: List::empty(alloc),
+        change,
+        fresh: false,
+    }
+}
+
+// The notes of the changes of these lines.
+fn notes(alloc: Global, lines: &str) -> Result<Vec<EditNote>> {
+    let mut notes = Vec::new(alloc);
+    let mut next = 0u64;
+    for line in lines.lines() {
+        next = next.saturating_add(1);
+        notes.push(note(alloc, next, read_change(alloc, line)?))?;
+    }
+    Ok(notes)
+}
+
+// Tells a watcher of the changes.
+fn tell(watcher: &mut impl Watcher, doc: &DocId, notes: &[EditNote]) -> Result<()> {
+    for note in notes {
+        if watcher.told(doc, note) != Told::Kept {
+            bail!("it was not kept");
+        }
+    }
+    Ok(())
+}
+
+// The lines of an audit, which holds nothing.
+fn audited(alloc: Global, doc: &DocId, notes: &[EditNote]) -> Result<String> {
+    let mut audit = Audit::new(alloc, MemLine::new(alloc, b"", 1, None, 1_000)?);
+    tell(&mut audit, doc, notes)?;
+    if audit.kept(doc).is_some() {
+        bail!("an audit that holds a document");
+    }
+    Ok(String::from_str(alloc, str::from_utf8(audit.sink().sent())?)?)
+}
+
+// What a mirror holds behind the last change: its number, and the document.
+fn mirrored(alloc: Global, doc: &DocId, notes: &[EditNote]) -> Result<String> {
+    let mut mirror = Mirror::new(alloc);
+    tell(&mut mirror, doc, notes)?;
+    match mirror.kept(doc) {
+        Some((root, number)) => {
+            let text = print(alloc, root)?;
+            Ok(format!(in alloc; "{number} {text}")?)
+        }
+        None => Ok(String::from_str(alloc, "nothing")?),
+    }
+}
+
+// The numbers of the changes that a recorder has of the document.
+fn recorded(alloc: Global, doc: &DocId, notes: &[EditNote]) -> Result<String> {
+    let mut recorder = Recorder::new(alloc);
+    tell(&mut recorder, doc, notes)?;
+    let mut text = String::new(alloc);
+    for edit in recorder.edits() {
+        if edit.doc.same(doc) {
+            let next = edit.note.next;
+            write!(text, "{next},")?;
+        }
+    }
+    Ok(text)
+}
+
+// How many are left after each change of a mirror, an audit with room for so many bytes, and
+// another mirror.
+fn left(alloc: Global, room: usize, notes: Vec<EditNote>) -> Result<String> {
+    let mut watchers: Vec<Box<dyn Watcher>> = Vec::new(alloc);
+    watchers.push(Box::new(alloc, Mirror::new(alloc))?)?;
+    let line = MemLine::new(alloc, b"", 1, None, room)?;
+    watchers.push(Box::new(alloc, Audit::new(alloc, line))?)?;
+    watchers.push(Box::new(alloc, Mirror::new(alloc))?)?;
+    let mut text = String::new(alloc);
+    for note in notes {
+        let doc = lists_of(alloc, JOE)?;
+        tell_all(&mut watchers, &Edit { doc, note });
+        let left = watchers.len();
+        write!(text, "{left},")?;
+    }
+    Ok(text)
+}
+
+/// What watchers make of the changes of a case.
+pub fn answer(alloc: Global, table: &str, inputs: &[Field]) -> Result<String> {
+    let doc = lists_of(alloc, JOE)?;
+    match (table, inputs) {
+        ("audits", [lines]) => audited(alloc, &doc, &notes(alloc, lines.text()?)?),
+        ("mirrors", [lines]) => mirrored(alloc, &doc, &notes(alloc, lines.text()?)?),
+        ("recorders", [lines]) => recorded(alloc, &doc, &notes(alloc, lines.text()?)?),
+        ("watchers", [room, lines]) => { left(alloc, room.count()?, notes(alloc, lines.text()?)?) }
+        _ => bail!("the columns are others"),
+    }
+}
