@@ -1,5 +1,5 @@
 -- How a command ends, by what it did.
-use Rattle.std.proofs.Common.{◌≡◌, ℕ, ◌≤◌, List, [], Option, None, Some, Result, Ok, Err, length, IfOk, ◌⊎◌, inl, inr, refl, sym, subst, arith, ⊎_elim}
+use Rattle.std.proofs.Common.{◌≡◌, ℕ, ◌≤◌, List, [], Option, None, Some, Result, Ok, Err, encode_utf8_all, length, IfOk, ◌⊎◌, inl, inr, refl, sym, subst, arith, ⊎_elim}
 use Rattle.xcap_io.proofs.Passing.{gave_none}
 use Rattle.std.specs.Result.{result_unwrap_or}
 use Rattle.tree_text.specs.Faults.{TextAnswer}
@@ -13,7 +13,9 @@ use Rattle.usage_docs.specs.declared.judging.Fault.{Fault}
 use Rattle.usage_docs.specs.declared.judging.Fault.TheVariants.{Invalid, Unformed, Repeated}
 use Rattle.notes.specs.declared.edit.Edit.{Edit}
 use Rattle.xml_tree.specs.Tree.{Tree}
-use Rattle.xcap_io.specs.Causes.{LineState}
+use Rattle.xcap_io.specs.Causes.{LineState, Rose}
+use Rattle.http_wire.specs.declared.request.Request.{Request}
+use Rattle.store_core.specs.State.{State}
 use Rattle.xcap_io.proofs.Lines.{reads_none}
 use Rattle.stream_texts.specs.Inputs.{GaveText}
 use Rattle.std.specs.Prelude.{encode_utf8_all}
@@ -29,13 +31,14 @@ use Rattle.xcap_app.specs.Checks.{Checks, Examines}
 use Rattle.xcap_app.specs.Replays.{Replays}
 use Rattle.xcap_app.specs.Serves.{ServesCommand}
 use Rattle.xcap_app.specs.Exits.{IsRefused}
+use Rattle.xcap_app.specs.Keeping.{KeepsCommand, KeepsOn, Wrote, exit_of as fault_exit, keeps_on, no_journal, no_server}
 use Rattle.xcap_app.specs.Runs.{EndsUnspelled, Runs}
 use Rattle.xcap_app.specs.Telling.{IsTold}
 use Rattle.xcap_app.specs.Verdicts.{AnswerVerdict, FaultVerdict, TextVerdict, TreeVerdict, exit_of}
 use Rattle.xcap_app.specs.declared.command.Command.{Command}
-use Rattle.xcap_app.specs.declared.command.Command.TheVariants.{Replay, Serve, Check, Fetch, Put, Delete, Follow}
+use Rattle.xcap_app.specs.declared.command.Command.TheVariants.{Replay, Serve, Keep, Check, Fetch, Put, Delete, Follow}
 use Rattle.xcap_app.specs.declared.exit.Exit.{Exit}
-use Rattle.xcap_app.specs.declared.exit.Exit.TheVariants.{Done, Usage, InputFailed, OutputFailed, NetworkFailed, Refused, Client, OutOfMemory}
+use Rattle.xcap_app.specs.declared.exit.Exit.TheVariants.{Done, Usage, InputFailed, OutputFailed, NetworkFailed, Refused, Client, BadJournal, OutOfMemory}
 use Rattle.xcap_app.specs.declared.refusal.Refusal.{Refusal}
 use Rattle.xcap_app.specs.declared.refusal.Refusal.TheVariants.{TooLarge, NotUtf8, NotWellFormed, Schema, Constraint, Unique}
 
@@ -69,6 +72,7 @@ IsVerdict (Refused (NotWellFormed place)) = Unit {0}
 IsVerdict (Refused Schema) = Unit {0}
 IsVerdict (Refused Constraint) = Unit {0}
 IsVerdict (Refused (Unique clash)) = Unit {0}
+IsVerdict (BadJournal refusal) = ⊥
 IsVerdict OutOfMemory = Unit {0}
 
 fault_verdict : (fault : TextFault) (exit : Exit) → FaultVerdict fault exit → IsVerdict exit
@@ -114,6 +118,7 @@ examined usage text (Refused (NotWellFormed place)) input input' g j v = (text, 
 examined usage text (Refused Schema) input input' g j v = (text, g, surely usage text (Refused Schema) (λ e. cc) j)
 examined usage text (Refused Constraint) input input' g j v = (text, g, surely usage text (Refused Constraint) (λ e. cc) j)
 examined usage text (Refused (Unique clash)) input input' g j v = (text, g, surely usage text (Refused (Unique clash)) (λ e. cc) j)
+examined usage text (BadJournal refusal) input input' g j v = v
 examined usage text OutOfMemory input input' g j v = (text, g.gave, let fits : length text ≤ 262144 = g.fits in omega arith)
 
 pub examined_text : (usage : TheUsage) (text : List ℕ) (exit : Exit) (input input' : LineState) → GaveText 262144 text input input' → TextVerdict usage text exit ⊎ (exit ≡ OutOfMemory)
@@ -141,6 +146,7 @@ module _ {W : Type 0} (Keeps : List Edit → W → W → Type 0) where
   ran_out None port peer input output w = (tt, refl, refl, refl, refl, refl)
   ran_out (Some (Replay root)) port peer input output w = ((refl, refl, refl), refl, refl)
   ran_out (Some (Serve address root count)) port peer input output w = ((refl, refl, refl), refl, refl)
+  ran_out (Some (Keep address root count)) port peer input output w = (no_server refl refl refl refl refl, refl)
   ran_out (Some (Check usage)) port peer input output w =
       ((([], record { consumed = gave_none input.inward; counts = refl; reads = reads_none input }, omega arith), refl), refl, refl, refl)
   ran_out (Some (Fetch asker path)) port peer input output w = (lacks_memory (refl, refl) refl, refl, refl, refl)
@@ -157,6 +163,29 @@ module _ {W : Type 0} (Keeps : List Edit → W → W → Type 0) where
   refused_out usage Constraint input input' e = (e.0, e.1.gave, omega (arith, e.1.fits))
   refused_out usage (Unique clash) input input' e = (e.0, e.1.gave, omega (arith, e.1.fits))
 
+  -- a journal that was refused, where memory was wanted for the words about that
+  told_out : (exit told : Exit) → IsRefused told → IsTold exit told → IsTold exit OutOfMemory
+  told_out exit told is (inl same) = inr (subst IsRefused same is, refl)
+  told_out exit told is (inr out) = absurd (subst IsRefused out.1 is)
+
+  never_on : (address root : List ℕ) (count : ℕ) (exit : Exit) (requests : List Request) (state : State) (port port' output output' : LineState) (w w' : W) {X : Type 0} → IsRefused exit
+      → KeepsOn Keeps (Wrote output output') (Rose output.write_faults output'.write_faults) address root count exit requests state port port' w w' → X
+  never_on address root count Done requests state port port' output output' w w' is k = absurd is
+  never_on address root count Usage requests state port port' output output' w w' is k = absurd is
+  never_on address root count InputFailed requests state port port' output output' w w' is k = absurd is
+  never_on address root count OutputFailed requests state port port' output output' w w' is k = absurd is
+  never_on address root count NetworkFailed requests state port port' output output' w w' is k = absurd is
+  never_on address root count (Refused refusal) requests state port port' output output' w w' is k = absurd k
+  never_on address root count (Client fault) requests state port port' output output' w w' is k = absurd k
+  never_on address root count (BadJournal refusal) requests state port port' output output' w w' is k = absurd k
+  never_on address root count OutOfMemory requests state port port' output output' w w' is k = absurd is
+
+  unkept : (address root : List ℕ) (count : ℕ) (exit : Exit) (port port' input input' output output' : LineState) (w w' : W) → IsRefused exit
+      → KeepsCommand Keeps address root count exit port port' input input' output output' w w' → KeepsCommand Keeps address root count OutOfMemory port port' input input' output output' w w'
+  unkept address root count exit port port' input input' output output' w w' is (no_server out p i o same) = no_server refl p i o same
+  unkept address root count exit port port' input input' output output' w w' is (no_journal fault told breaks p same) = no_journal fault (told_out (fault_exit fault) exit is told) breaks p same
+  unkept address root count exit port port' input input' output output' w w' is (keeps_on requests state reads k) = never_on address root count exit requests state port port' output output' w w' is k
+
   check_refused : (usage : TheUsage) (exit : Exit) (input input' output output' : LineState) → IsRefused exit → Checks usage exit input input' output output' → Checks usage OutOfMemory input input' output output'
   check_refused usage Done input input' output output' is r = absurd is
   check_refused usage Usage input input' output output' is r = absurd is
@@ -165,6 +194,7 @@ module _ {W : Type 0} (Keeps : List Edit → W → W → Type 0) where
   check_refused usage NetworkFailed input input' output output' is r = absurd is
   check_refused usage (Refused refusal) input input' output output' is r = (refused_out usage refusal input input' r.0, r.1)
   check_refused usage (Client fault) input input' output output' is r = absurd r
+  check_refused usage (BadJournal refusal) input input' output output' is r = absurd r
   check_refused usage OutOfMemory input input' output output' is r = r
 
   replay_refused : (root : List ℕ) (exit : Exit) (input input' output output' : LineState) (w w' : W) → IsRefused exit → Replays Keeps root exit input input' output output' w w' → ⊥
@@ -175,6 +205,7 @@ module _ {W : Type 0} (Keeps : List Edit → W → W → Type 0) where
   replay_refused root NetworkFailed input input' output output' w w' is r = is
   replay_refused root (Refused refusal) input input' output output' w w' is r = r
   replay_refused root (Client fault) input input' output output' w w' is r = r
+  replay_refused root (BadJournal refusal) input input' output output' w w' is r = r
   replay_refused root OutOfMemory input input' output output' w w' is r = is
 
   serve_refused : (address root : List ℕ) (count : ℕ) (exit : Exit) (port port' output output' : LineState) (w w' : W) → IsRefused exit → ServesCommand Keeps address root count exit port port' output output' w w' → ⊥
@@ -185,6 +216,7 @@ module _ {W : Type 0} (Keeps : List Edit → W → W → Type 0) where
   serve_refused address root count NetworkFailed port port' output output' w w' is r = is
   serve_refused address root count (Refused refusal) port port' output output' w w' is r = r
   serve_refused address root count (Client fault) port port' output output' w w' is r = r
+  serve_refused address root count (BadJournal refusal) port port' output output' w w' is r = r
   serve_refused address root count OutOfMemory port port' output output' w w' is r = is
 
   unspelled_refused : (exit : Exit) → IsRefused exit → EndsUnspelled exit → ⊥
@@ -195,6 +227,7 @@ module _ {W : Type 0} (Keeps : List Edit → W → W → Type 0) where
   unspelled_refused NetworkFailed is r = is
   unspelled_refused (Refused refusal) is r = r
   unspelled_refused (Client fault) is r = r
+  unspelled_refused (BadJournal refusal) is r = r
   unspelled_refused OutOfMemory is r = is
 
   ran_refused : (command : Option Command) (exit : Exit) (port port' peer peer' input input' output output' : LineState) (w w' : W) → IsRefused exit
@@ -203,6 +236,7 @@ module _ {W : Type 0} (Keeps : List Edit → W → W → Type 0) where
   ran_refused (Some (Replay root)) exit port port' peer peer' input input' output output' w w' is r = absurd (replay_refused root exit input input' output output' w w' is r.0)
   ran_refused (Some (Serve address root count)) exit port port' peer peer' input input' output output' w w' is r =
       absurd (serve_refused (encode_utf8_all address) root count exit port port' output output' w w' is r.0)
+  ran_refused (Some (Keep address root count)) exit port port' peer peer' input input' output output' w w' is r = (unkept (encode_utf8_all address) root count exit port port' input input' output output' w w' is r.0, r.1)
   ran_refused (Some (Check usage)) exit port port' peer peer' input input' output output' w w' is r =
       (check_refused usage exit input input' output output' is r.0, r.1, r.2, r.3)
   ran_refused (Some (Fetch asker path)) exit port port' peer peer' input input' output output' w w' is r =

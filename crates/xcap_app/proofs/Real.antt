@@ -1,5 +1,5 @@
 -- What a run that ended with 0 did, where nothing had passed before.
-use Rattle.std.proofs.Common.{◌≡◌, ℕ, List, [], ◌++◌, Option, None, Some, refl, sym, ap, subst, ◌∙◌, arith}
+use Rattle.std.proofs.Common.{◌≡◌, ℕ, List, [], ◌++◌, inl, inr, Option, None, Some, refl, sym, ap, subst, ◌∙◌, arith, append-nil}
 use Rattle.std.specs.Prelude.{codes, encode_utf8_all, length}
 use Rattle.notes.specs.declared.edit.Edit.{Edit}
 use Rattle.store_core.specs.State.{first_state}
@@ -26,15 +26,23 @@ use Rattle.client_commands.specs.declared.ended.Ended.{Ended}
 use Rattle.client_commands.specs.declared.ended.Ended.TheVariants as ends
 use Rattle.xcap_app.specs.Asking.{AsksNothing, RunsAs, RunsFollow, ended_so, exit_of, follows, knows_nothing, lacks_memory, lacks_words, names_none}
 use Rattle.xcap_app.specs.Exits.{status_of}
+use Rattle.xcap_app.specs.Keeping.{KeepsCommand, exit_of as fault_exit, keeps_on, no_journal, no_server}
 use Rattle.xcap_app.specs.Replays.{Replays}
+use Rattle.xcap_app.specs.Telling.{IsTold as IsToldAs}
+use Rattle.edit_journal.specs.Restarts.{most_journal_bytes}
+use Rattle.edit_journal.specs.Texts.{text}
+use Rattle.edit_journal.specs.declared.restarting.RestartFault.{RestartFault}
+use Rattle.edit_journal.specs.declared.restarting.RestartFault.TheVariants as restart_faults
+use Rattle.logged_serve.specs.Books.{LoggedStep}
+use Rattle.std.proofs.lemmas.List.{take_all}
 use Rattle.xcap_app.specs.Runs.{Runs}
 use Rattle.xcap_app.specs.Serves.{served_line, ServesCommand as Serves}
-use Rattle.xcap_app.specs.System.{AnswersAll, AnswersInput, FollowsNamed, IsDone}
+use Rattle.xcap_app.specs.System.{AnswersAll, AnswersInput, AnswersKept, FollowsNamed, IsDone}
 use Rattle.xcap_app.specs.Verdicts.{TextVerdict}
 use Rattle.xcap_app.specs.declared.command.Command.{Command}
-use Rattle.xcap_app.specs.declared.command.Command.TheVariants.{Replay, Serve, Check, Fetch, Put, Delete, Follow}
+use Rattle.xcap_app.specs.declared.command.Command.TheVariants.{Replay, Serve, Keep, Check, Fetch, Put, Delete, Follow}
 use Rattle.xcap_app.specs.declared.exit.Exit.{Exit}
-use Rattle.xcap_app.specs.declared.exit.Exit.TheVariants.{Done, Usage, InputFailed, OutputFailed, NetworkFailed, Refused, Client, OutOfMemory}
+use Rattle.xcap_app.specs.declared.exit.Exit.TheVariants.{Done, Usage, InputFailed, OutputFailed, NetworkFailed, Refused, Client, BadJournal, OutOfMemory}
 
 -- no fault of a call has the status 0
 never_zero_of_client : (fault : ClientFault) → client_status fault ≡ 0 → ⊥
@@ -59,6 +67,7 @@ is_done OutputFailed zero = absurd (omega arith)
 is_done NetworkFailed zero = absurd (omega arith)
 is_done (Refused refusal) zero = absurd (omega arith)
 is_done (Client fault) zero = absurd (never_zero fault zero)
+is_done (BadJournal refusal) zero = absurd (omega arith)
 is_done OutOfMemory zero = absurd (omega arith)
 
 -- what was taken by an output that had taken nothing
@@ -127,12 +136,50 @@ module _ {W : Type 0} (Keeps : List Edit → W → W → Type 0) where
             ∙ ap (λ (l : List Traffic). served_line (length l)) (sym all),
       )
 
+  never_done : (fault : RestartFault) {X : Type 0} → IsToldAs (fault_exit fault) Done → X
+  never_done fault (inl same) = not_done fault (sym same)
+    where
+      not_done : (fault : RestartFault) {X : Type 0} → fault_exit fault ≡ Done → X
+      not_done restart_faults.ReadFailed is = let no : ⊥ = cc in absurd no
+      not_done restart_faults.AppendFailed is = let no : ⊥ = cc in absurd no
+      not_done (restart_faults.Damaged place) is = let no : ⊥ = cc in absurd no
+      not_done (restart_faults.Refused number) is = let no : ⊥ = cc in absurd no
+      not_done restart_faults.TooLong is = let no : ⊥ = cc in absurd no
+      not_done restart_faults.NoMemory is = let no : ⊥ = cc in absurd no
+  never_done fault (inr out) = let no : ⊥ = cc (out.1) in absurd no
+
+  kept_done : (address root : List ℕ) (count : ℕ) (port port' input input' output output' : LineState) (w w' : W) → port.port.begun ≡ none_begun → input.inward.given ≡ [] → output.taken ≡ []
+      → KeepsCommand Keeps address root count Done port port' input input' output output' w w' → AnswersKept Keeps root port port' input' output' w w'
+  kept_done address root count port port' input input' output output' w w' none_yet none_given none_taken (no_server out p i o same) = let no : ⊥ = cc in absurd no
+  kept_done address root count port port' input input' output output' w w' none_yet none_given none_taken (no_journal fault told breaks p same) = never_done fault told
+  kept_done address root count port port' input input' output output' w w' none_yet none_given none_taken (keeps_on requests state reads (served, kept, complete)) =
+      let v = kept.serves in
+      let all : carried port' ≡ v.connections = v.all_carried ∙ ap (λ (b : Begun). carried_by b.earlier b.is_present (traffic port) ++ v.connections) none_yet in
+      let given : input'.inward.given ≡ reads.bytes = took_all input.inward.given input'.inward.given reads.bytes none_given reads.records.given.behind in
+      let whole : reads.bytes ≡ text requests ++ reads.rest = sym (take_all most_journal_bytes reads.bytes reads.short) ∙ reads.records.split in
+      record {
+        requests = requests;
+        rest = reads.rest;
+        state = state;
+        accepted = kept.accepted;
+        next = kept.next;
+        edits = v.edits;
+        read = record { told = reads.records.told; split = given ∙ whole; no_more = reads.no_more };
+        redone = reads.records.redone;
+        serves = subst (λ (l : List Traffic). ServesAll (InBytes (LoggedStep (FollowedStep root))) fixed (record { machine = state; requests = requests; failures = 0 }) l (record { machine = kept.next; requests = kept.accepted; failures = 0 }) v.edits
+            port.read_faults port'.read_faults port.write_faults port'.write_faults) (sym all) v.serves;
+        all_redone = kept.redone;
+        took = took_all output.taken output'.taken (text kept.accepted ++ []) none_taken kept.written.took ∙ append-nil (text kept.accepted);
+        told = v.kept;
+      }
+
   by_command : (command : Option Command) (port port' peer peer' input input' output output' : LineState) (w w' : W) → port.port.begun ≡ none_begun → input.inward.given ≡ [] → output.taken ≡ []
       → Runs Keeps command Done port port' peer peer' input input' output output' w w' → IsDone Keeps command port port' peer peer' input input' output output' w w'
   by_command None port port' peer peer' input input' output output' w w' none_yet none_given none_taken r = r.0
   by_command (Some (Replay root)) port port' peer peer' input input' output output' w w' none_yet none_given none_taken r = input_done root input input' output output' w w' none_given none_taken r.0
   by_command (Some (Serve address root count)) port port' peer peer' input input' output output' w w' none_yet none_given none_taken r =
       port_done (encode_utf8_all address) root count port port' output output' w w' none_yet none_taken r.0
+  by_command (Some (Keep address root count)) port port' peer peer' input input' output output' w w' none_yet none_given none_taken r = kept_done (encode_utf8_all address) root count port port' input input' output output' w w' none_yet none_given none_taken r.0
   by_command (Some (Check usage)) port port' peer peer' input input' output output' w w' none_yet none_given none_taken r =
       let judged = r.0.0 in (
         subst (λ (text : List ℕ). TextVerdict usage text Done) (sym (took_all input.inward.given input'.inward.given judged.0 none_given judged.1.gave.consumed.behind)) judged.2,

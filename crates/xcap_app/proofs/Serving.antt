@@ -18,7 +18,7 @@ use Rattle.xcap_app.specs.Replays.{Replays, ServesInput, exit_of}
 use Rattle.xcap_app.specs.Serves.{IsComplete, ServesAddress, served_line, ServesCommand as Serves}
 use Rattle.xcap_app.specs.Telling.{Prints}
 use Rattle.xcap_app.specs.declared.exit.Exit.{Exit}
-use Rattle.xcap_app.specs.declared.exit.Exit.TheVariants.{Done, Usage, InputFailed, OutputFailed, NetworkFailed, Refused, Client, OutOfMemory}
+use Rattle.xcap_app.specs.declared.exit.Exit.TheVariants.{Done, Usage, InputFailed, OutputFailed, NetworkFailed, Refused, Client, BadJournal, OutOfMemory}
 
 -- what a new server holds stands for the state without documents
 begun : (c : Content) → c ≡ record { documents = []; next = 1 } → Stands c (first_state 1)
@@ -43,6 +43,7 @@ module _ {W : Type 0} (Keeps : List Edit → W → W → Type 0) where
   ended_so address root count served NetworkFailed port port' output output' watchers watchers' s stop prints = absurd prints
   ended_so address root count served (Refused refusal) port port' output output' watchers watchers' s stop prints = prints
   ended_so address root count served (Client fault) port port' output output' watchers watchers' s stop prints = absurd prints
+  ended_so address root count served (BadJournal refusal) port port' output output' watchers watchers' s stop prints = prints
   ended_so address root count served OutOfMemory port port' output output' watchers watchers' s stop prints = absurd prints
 
   -- and where the port failed to begin a connection

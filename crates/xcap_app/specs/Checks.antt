@@ -7,7 +7,7 @@ use Rattle.stream_texts.specs.Inputs.{GaveAndFailed, GaveText, JustGave}
 use Rattle.stream_texts.specs.Outputs.{TakesAll, TakesSome}
 use Rattle.xcap_app.specs.Verdicts.{TextVerdict}
 use Rattle.xcap_app.specs.declared.exit.Exit.{Exit}
-use Rattle.xcap_app.specs.declared.exit.Exit.TheVariants.{Done, Usage as UsageExit, InputFailed, OutputFailed, NetworkFailed, Refused, Client, OutOfMemory}
+use Rattle.xcap_app.specs.declared.exit.Exit.TheVariants.{Done, Usage as UsageExit, InputFailed, OutputFailed, NetworkFailed, Refused, Client, BadJournal, OutOfMemory}
 use Rattle.xcap_app.specs.declared.refusal.Refusal.{Refusal}
 use Rattle.xcap_app.specs.declared.refusal.Refusal.TheVariants.{TooLarge, NotUtf8, NotWellFormed, Schema, Constraint, Unique}
 
@@ -34,6 +34,7 @@ Examines usage OutputFailed input input' = ⊥
 Examines usage NetworkFailed input input' = ⊥
 Examines usage (Refused refusal) input input' = Refuses usage refusal input input'
 Examines usage (Client fault) input input' = ⊥
+Examines usage (BadJournal refusal) input input' = ⊥
 Examines usage OutOfMemory input input' = (front : List ℕ) × JustGave front input input' × (length front ≤ most_bytes + 1)
 
 -- of a valid document `valid` is written and a line end, and of none anything
@@ -45,4 +46,5 @@ Checks usage OutputFailed input input' output output' = Examines usage Done inpu
 Checks usage NetworkFailed input input' output output' = ⊥
 Checks usage (Refused refusal) input input' output output' = Examines usage (Refused refusal) input input' × (output' ≡ output)
 Checks usage (Client fault) input input' output output' = ⊥
+Checks usage (BadJournal refusal) input input' output output' = ⊥
 Checks usage OutOfMemory input input' output output' = Examines usage OutOfMemory input input' × (output' ≡ output)

@@ -5,15 +5,17 @@ use Rattle.usage_docs.specs.Keys.{word}
 use Rattle.usage_docs.specs.declared.keys.Clash.{Clash}
 use Rattle.client_commands.specs.Words.{fault_words, status_of as status_of_fault}
 use Rattle.xcap_app.specs.declared.exit.Exit.{Exit}
-use Rattle.xcap_app.specs.declared.exit.Exit.TheVariants.{Done, Usage, InputFailed, OutputFailed, NetworkFailed, Refused, Client, OutOfMemory}
+use Rattle.xcap_app.specs.declared.exit.Exit.TheVariants.{Done, Usage, InputFailed, OutputFailed, NetworkFailed, Refused, Client, BadJournal, OutOfMemory}
 use Rattle.xcap_app.specs.declared.exit.Words.{Words}
 use Rattle.xcap_app.specs.declared.exit.Words.TheVariants.{Fixed, Made}
+use Rattle.xcap_app.specs.declared.journal_refusal.JournalRefusal.{JournalRefusal}
+use Rattle.xcap_app.specs.declared.journal_refusal.JournalRefusal.TheVariants.{Damaged, Refused as RefusedAt, TooLong}
 use Rattle.xcap_app.specs.declared.refusal.Refusal.{Refusal}
 use Rattle.xcap_app.specs.declared.refusal.Refusal.TheVariants.{TooLarge, NotUtf8, NotWellFormed, Schema, Constraint, Unique}
 
 -- the commands, on one line
 unfoldable pub usage_line : List ℕ
-usage_line = codes "usage: xcapd replay ROOT | serve ADDR ROOT COUNT | check AUID | fetch USER ROOT PATH | put USER ROOT PATH TYPE | delete USER ROOT PATH | follow USER ROOT DOCUMENT ROUNDS\n"
+usage_line = codes "usage: xcapd replay ROOT | serve ADDR ROOT COUNT | keep ADDR ROOT COUNT | check AUID | fetch USER ROOT PATH | put USER ROOT PATH TYPE | delete USER ROOT PATH | follow USER ROOT DOCUMENT ROUNDS\n"
 
 -- the status that the program ends with
 abbrev pub status_of : Exit → ℕ
@@ -24,6 +26,7 @@ status_of OutputFailed = 4
 status_of NetworkFailed = 5
 status_of (Refused refusal) = 6
 status_of (Client fault) = status_of_fault fault
+status_of (BadJournal refusal) = 6
 status_of OutOfMemory = 7
 
 -- of an element that repeats a sibling's key: its place as a positional selector, and the key
@@ -39,6 +42,12 @@ refusal_words Schema = codes "schema-validation-error\n"
 refusal_words Constraint = codes "constraint-failure\n"
 refusal_words (Unique clash) = clash_words clash
 
+-- why the input is no journal, on one line
+abbrev pub journal_words : JournalRefusal → List ℕ
+journal_words (Damaged place) = codes "journal: damaged " ++ (decimal place ++ 10 ∷ [])
+journal_words (RefusedAt number) = codes "journal: refused " ++ (decimal number ++ 10 ∷ [])
+journal_words TooLong = codes "journal: too-long\n"
+
 -- the words on the stream for errors, on one line; none where all went well
 abbrev pub words_of : Exit → List ℕ
 words_of Done = []
@@ -48,6 +57,7 @@ words_of OutputFailed = codes "output failed\n"
 words_of NetworkFailed = codes "network failed\n"
 words_of (Refused refusal) = refusal_words refusal
 words_of (Client fault) = fault_words fault
+words_of (BadJournal refusal) = journal_words refusal
 words_of OutOfMemory = codes "out of memory\n"
 
 -- the words take memory: the input was refused, or a call of the client failed
@@ -59,6 +69,7 @@ IsRefused OutputFailed = ⊥
 IsRefused NetworkFailed = ⊥
 IsRefused (Refused refusal) = Unit {0}
 IsRefused (Client fault) = Unit {0}
+IsRefused (BadJournal refusal) = Unit {0}
 IsRefused OutOfMemory = ⊥
 
 -- the bytes of words

@@ -4,6 +4,7 @@ pub mod Checks
 pub mod Commands
 pub mod Exits
 pub mod Frames
+pub mod Keeping
 pub mod Replays
 pub mod Runs
 pub mod Serves

@@ -11,7 +11,7 @@ use Rattle.http_serve.specs.declared.connection.Ended.{Ended}
 use Rattle.http_serve.specs.declared.connection.Ended.TheVariants.{Closed, ReadFailed, WriteFailed}
 use Rattle.xcap_app.specs.Frames.{JustRead, JustWritten, both_lines}
 use Rattle.xcap_app.specs.declared.exit.Exit.{Exit}
-use Rattle.xcap_app.specs.declared.exit.Exit.TheVariants.{Done, Usage, InputFailed, OutputFailed, NetworkFailed, Refused, Client, OutOfMemory}
+use Rattle.xcap_app.specs.declared.exit.Exit.TheVariants.{Done, Usage, InputFailed, OutputFailed, NetworkFailed, Refused, Client, BadJournal, OutOfMemory}
 
 -- how the command ends with its connection
 abbrev pub exit_of : Ended → Exit
@@ -41,4 +41,5 @@ module _ {W : Type 0} (Keeps : List Edit → W → W → Type 0) where
   Replays root NetworkFailed input input' output output' watchers watchers' = ⊥
   Replays root (Refused refusal) input input' output output' watchers watchers' = ⊥
   Replays root (Client fault) input input' output output' watchers watchers' = ⊥
+  Replays root (BadJournal refusal) input input' output output' watchers watchers' = ⊥
   Replays root OutOfMemory input input' output output' watchers watchers' = (input' ≡ input) × (output' ≡ output) × (watchers' ≡ watchers)

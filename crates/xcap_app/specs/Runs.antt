@@ -4,11 +4,12 @@ use Rattle.notes.specs.declared.edit.Edit.{Edit}
 use Rattle.xcap_io.specs.Causes.{LineState}
 use Rattle.xcap_app.specs.Asking.{RunsDelete, RunsFetch, RunsFollow, RunsPut}
 use Rattle.xcap_app.specs.Checks.{Checks}
+use Rattle.xcap_app.specs.Keeping.{KeepsCommand}
 use Rattle.xcap_app.specs.Replays.{Replays}
 use Rattle.xcap_app.specs.declared.command.Command.{Command}
-use Rattle.xcap_app.specs.declared.command.Command.TheVariants.{Replay, Serve, Check, Fetch, Put, Delete, Follow}
+use Rattle.xcap_app.specs.declared.command.Command.TheVariants.{Replay, Serve, Keep, Check, Fetch, Put, Delete, Follow}
 use Rattle.xcap_app.specs.declared.exit.Exit.{Exit}
-use Rattle.xcap_app.specs.declared.exit.Exit.TheVariants.{Done, Usage, InputFailed, OutputFailed, NetworkFailed, Refused, Client, OutOfMemory}
+use Rattle.xcap_app.specs.declared.exit.Exit.TheVariants.{Done, Usage, InputFailed, OutputFailed, NetworkFailed, Refused, Client, BadJournal, OutOfMemory}
 use Rattle.xcap_app.specs.Serves.{ServesCommand}
 
 -- how a run ends whose words spell no command; want of memory may come before that is known
@@ -20,6 +21,7 @@ EndsUnspelled OutputFailed = ⊥
 EndsUnspelled NetworkFailed = ⊥
 EndsUnspelled (Refused refusal) = ⊥
 EndsUnspelled (Client fault) = ⊥
+EndsUnspelled (BadJournal refusal) = ⊥
 EndsUnspelled OutOfMemory = Unit {0}
 
 -- W is the type of the watchers, and `Keeps` says what they are after such changes.
@@ -32,6 +34,8 @@ module _ {W : Type 0} (Keeps : List Edit → W → W → Type 0) where
       Replays Keeps root exit input input' output output' watchers watchers' × (port' ≡ port) × (peer' ≡ peer)
   Runs (Some (Serve address root count)) exit port port' peer peer' input input' output output' watchers watchers' =
       ServesCommand Keeps (encode_utf8_all address) root count exit port port' output output' watchers watchers' × (input' ≡ input) × (peer' ≡ peer)
+  Runs (Some (Keep address root count)) exit port port' peer peer' input input' output output' watchers watchers' =
+      KeepsCommand Keeps (encode_utf8_all address) root count exit port port' input input' output output' watchers watchers' × (peer' ≡ peer)
   Runs (Some (Check usage)) exit port port' peer peer' input input' output output' watchers watchers' =
       Checks usage exit input input' output output' × (port' ≡ port) × (peer' ≡ peer) × (watchers' ≡ watchers)
   Runs (Some (Fetch asker path)) exit port port' peer peer' input input' output output' watchers watchers' =

@@ -13,7 +13,7 @@ use Rattle.http_serve.specs.declared.port.Stop.{Stop}
 use Rattle.http_serve.specs.declared.port.Stop.TheVariants.{Count, NoMore, PortFailed}
 use Rattle.stream_texts.specs.Outputs.{TakesAll, TakesSome}
 use Rattle.xcap_app.specs.declared.exit.Exit.{Exit}
-use Rattle.xcap_app.specs.declared.exit.Exit.TheVariants.{Done, Usage, InputFailed, OutputFailed, NetworkFailed, Refused, Client, OutOfMemory}
+use Rattle.xcap_app.specs.declared.exit.Exit.TheVariants.{Done, Usage, InputFailed, OutputFailed, NetworkFailed, Refused, Client, BadJournal, OutOfMemory}
 
 -- the line about so many connections
 abbrev pub served_line : ℕ → List ℕ
@@ -52,4 +52,5 @@ module _ {W : Type 0} (Keeps : List Edit → W → W → Type 0) where
       × (output' ≡ output)
   ServesCommand address root count (Refused refusal) port port' output output' watchers watchers' = ⊥
   ServesCommand address root count (Client fault) port port' output output' watchers watchers' = ⊥
+  ServesCommand address root count (BadJournal refusal) port port' output output' watchers watchers' = ⊥
   ServesCommand address root count OutOfMemory port port' output output' watchers watchers' = (port' ≡ port) × (output' ≡ output) × (watchers' ≡ watchers)

@@ -3,6 +3,10 @@
 use Rattle.std.specs.Prelude.{◌≡◌, ℕ, List, codes, length, Option, None, Some}
 use Rattle.notes.specs.declared.edit.Edit.{Edit}
 use Rattle.store_core.specs.State.{State, first_state}
+use Rattle.http_wire.specs.declared.request.Request.{Request}
+use Rattle.edit_journal.specs.Texts.{Whole, text}
+use Rattle.logged_serve.specs.Books.{LoggedStep}
+use Rattle.xcap_server.specs.Redoing.{Redoing}
 use Rattle.http_wire.specs.Serving.{closed, Serves, ServesAll}
 use Rattle.http_serve.specs.Fixed.{fixed}
 use Rattle.feed_laws.specs.Holding.{FollowedStep}
@@ -21,7 +25,7 @@ use Rattle.xcap_app.specs.Asking.{Names}
 use Rattle.xcap_app.specs.Serves.{served_line}
 use Rattle.xcap_app.specs.Verdicts.{TextVerdict}
 use Rattle.xcap_app.specs.declared.command.Command.{Command}
-use Rattle.xcap_app.specs.declared.command.Command.TheVariants.{Replay, Serve, Check, Fetch, Put, Delete, Follow}
+use Rattle.xcap_app.specs.declared.command.Command.TheVariants.{Replay, Serve, Keep, Check, Fetch, Put, Delete, Follow}
 use Rattle.xcap_app.specs.declared.exit.Exit.TheVariants.{Done}
 
 -- the text names a document, which was followed to the end
@@ -48,12 +52,30 @@ module _ {W : Type 0} (Keeps : List Edit → W → W → Type 0) where
     pub serves : Serves (InBytes (FollowedStep root)) fixed closed (first_state 1) (record { given = input'.inward.given; ended = input'.inward.ended; taken = output'.taken }) state edits
     pub told : Keeps edits watchers watchers'
 
+  -- What came in over the input is the records of some requests, and a rest at whose front none lies whole; from what they come to on, the
+  -- machine answered on all connections of the port, and accepted further requests. The output took the records of all.
+  pub record AnswersKept (root : List ℕ) (port port' input' output' : LineState) (watchers watchers' : W) : Type 0 where
+    pub requests : List Request
+    pub rest : List ℕ
+    pub state : State
+    pub accepted : List Request
+    pub next : State
+    pub edits : List Edit
+    pub read : Whole input'.inward.given requests rest
+    pub redone : Redoing root (first_state 1) requests state
+    pub serves : ServesAll (InBytes (LoggedStep (FollowedStep root))) fixed (record { machine = state; requests = requests; failures = 0 }) (carried port') (record { machine = next; requests = accepted; failures = 0 }) edits
+        port.read_faults port'.read_faults port.write_faults port'.write_faults
+    pub all_redone : Redoing root (first_state 1) accepted next
+    pub took : output'.taken ≡ text accepted
+    pub told : Keeps edits watchers watchers'
+
   -- what was done, by the command that the words spell
   abbrev pub IsDone : Option Command → LineState → LineState → LineState → LineState → LineState → LineState → LineState → LineState → W → W → Type 0
   IsDone None port port' peer peer' input input' output output' watchers watchers' = ⊥
   IsDone (Some (Replay root)) port port' peer peer' input input' output output' watchers watchers' = AnswersInput root input' output' watchers watchers'
   IsDone (Some (Serve address root count)) port port' peer peer' input input' output output' watchers watchers' =
       AnswersAll root port port' watchers watchers' × (output'.taken ≡ served_line (length (carried port')))
+  IsDone (Some (Keep address root count)) port port' peer peer' input input' output output' watchers watchers' = AnswersKept root port port' input' output' watchers watchers'
   IsDone (Some (Check usage)) port port' peer peer' input input' output output' watchers watchers' =
       TextVerdict usage input'.inward.given Done × (output'.taken ≡ codes "valid\n") × (watchers' ≡ watchers)
   IsDone (Some (Fetch asker path)) port port' peer peer' input input' output output' watchers watchers' =

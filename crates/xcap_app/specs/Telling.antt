@@ -4,7 +4,7 @@ use Rattle.xcap_io.specs.Causes.{LineState}
 use Rattle.stream_texts.specs.Outputs.{TakesAll, TakesSome}
 use Rattle.xcap_app.specs.Exits.{IsRefused}
 use Rattle.xcap_app.specs.declared.exit.Exit.{Exit}
-use Rattle.xcap_app.specs.declared.exit.Exit.TheVariants.{Done, Usage, InputFailed, OutputFailed, NetworkFailed, Refused, Client, OutOfMemory}
+use Rattle.xcap_app.specs.declared.exit.Exit.TheVariants.{Done, Usage, InputFailed, OutputFailed, NetworkFailed, Refused, Client, BadJournal, OutOfMemory}
 
 -- the words were written, or some of them where the stream failed
 abbrev pub Tells : List ℕ → LineState → LineState → Type 0
@@ -19,6 +19,7 @@ Prints bytes OutputFailed old new = TakesSome bytes old new
 Prints bytes NetworkFailed old new = ⊥
 Prints bytes (Refused refusal) old new = ⊥
 Prints bytes (Client fault) old new = ⊥
+Prints bytes (BadJournal refusal) old new = ⊥
 Prints bytes OutOfMemory old new = ⊥
 
 -- how a run ends is told as it is, or where the words of a refusal found no memory, as that

@@ -2,6 +2,7 @@
 ghost use Rattle.std.specs.Prelude.{◌≡◌, IfOk, OnErr};
 ghost use Rattle.xcap_app.specs.Exits.{IsRefused, said, status_of, words_of};
 
+use crate::journal_refusal::JournalRefusal;
 use crate::refusal::Refusal;
 use feed_follower::FollowerFault;
 use std::alloc::{AllocError, Global};
@@ -21,6 +22,8 @@ pub enum Exit {
     NetworkFailed,
     /// The input of `check` is no valid document, or that of `put` is too large for one.
     Refused(Refusal),
+    /// The input of `keep` is no journal that a server can be brought back from.
+    BadJournal(JournalRefusal),
     /// A call of the client failed: its peer did, or refused, or what came is nothing that is taken.
     Client(FollowerFault),
     /// Memory was wanted before the first request, or by a command that serves none.
@@ -46,7 +49,7 @@ impl Words {
 }
 
 const USAGE: &[u8] =
-    b"usage: xcapd replay ROOT | serve ADDR ROOT COUNT | check AUID | fetch USER ROOT PATH | put USER ROOT PATH TYPE | delete USER ROOT PATH | follow USER ROOT DOCUMENT ROUNDS\n";
+    b"usage: xcapd replay ROOT | serve ADDR ROOT COUNT | keep ADDR ROOT COUNT | check AUID | fetch USER ROOT PATH | put USER ROOT PATH TYPE | delete USER ROOT PATH | follow USER ROOT DOCUMENT ROUNDS\n";
 
 impl Exit {
     /// The status that the program ends with.
@@ -61,6 +64,7 @@ impl Exit {
             Exit::NetworkFailed => 5,
             Exit::Refused(_) => 6,
             Exit::Client(fault) => client_commands::status_of(fault),
+            Exit::BadJournal(_) => 6,
             Exit::OutOfMemory => 7,
         }
     }
@@ -82,6 +86,7 @@ impl Exit {
             Exit::NetworkFailed => Ok(Words::Fixed(b"network failed\n")),
             Exit::Refused(refusal) => Ok(Words::Made(refusal.words(alloc)?)),
             Exit::Client(fault) => Ok(Words::Made(client_commands::words_of(alloc, fault)?)),
+            Exit::BadJournal(refusal) => Ok(Words::Made(refusal.words(alloc)?)),
             Exit::OutOfMemory => Ok(Words::Fixed(b"out of memory\n")),
         }
     }

@@ -8,7 +8,9 @@ mod asking_words;
 mod check;
 mod command;
 mod exit;
+mod journal_refusal;
 mod judging;
+mod keep;
 mod refusal;
 mod replay;
 mod serve;
@@ -19,6 +21,7 @@ mod words;
 
 pub use command::Command;
 pub use exit::Exit;
+pub use journal_refusal::JournalRefusal;
 pub use refusal::Refusal;
 pub use system::run_on_system;
 pub use top::run;

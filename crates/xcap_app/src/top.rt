@@ -1,6 +1,6 @@
 // The top call.
 ghost use Rattle.std.specs.Prelude.{◌≡◌, None, Some, map, string_bytes};
-ghost use Rattle.xcap_app.specs.Commands.{command_of};
+ghost use Rattle.xcap_app.specs.Commands.{IsBounded, command_of};
 ghost use Rattle.xcap_app.specs.Exits.{status_of, words_of};
 ghost use Rattle.xcap_app.specs.Runs.{Runs};
 ghost use Rattle.xcap_app.specs.Telling.{Tells};
@@ -10,6 +10,7 @@ use crate::asking::{run_delete, run_fetch, run_follow, run_put};
 use crate::check::check;
 use crate::command::Command;
 use crate::exit::Exit;
+use crate::keep::keep;
 use crate::replay::replay;
 use crate::serve::serve;
 use crate::telling::tell_exit;
@@ -29,6 +30,7 @@ fn execute<P: Port, C: Peer, I: Source, O: Sink, W: Watchers<Edit>>(
     output: &mut O,
     watchers: &mut W,
 ) -> Exit
+    requires bounded { IsBounded command.now }
     ensures runs_the_command { Runs W.keeps (Some command.now) result (P.state port.old) (P.state port.new)
         (C.state peer.old) (C.state peer.new) (I.state input.old) (I.state input.new) (O.state output.old) (O.state output.new) watchers.old watchers.new }
 {
@@ -44,6 +46,20 @@ fn execute<P: Port, C: Peer, I: Source, O: Sink, W: Watchers<Edit>>(
             root,
             *count,
             port,
+            output,
+            watchers,
+        ),
+        Command::Keep {
+            address,
+            root,
+            count,
+        } => keep(
+            alloc,
+            address.as_str(),
+            root,
+            *count,
+            port,
+            input,
             output,
             watchers,
         ),

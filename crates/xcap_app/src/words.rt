@@ -1,6 +1,6 @@
 // The words of the command line.
 ghost use Rattle.std.specs.Prelude.{◌≡◌, IfOk, map, string_bytes};
-ghost use Rattle.xcap_app.specs.Commands.{check_of, command_of, count_of, of_five, of_four, of_two, replay_of, serve_of, usage_named};
+ghost use Rattle.xcap_app.specs.Commands.{check_of, command_of, count_of, keep_of, of_five, of_four, of_two, replay_of, serve_of, usage_named};
 
 use crate::asking_words::{delete_of, fetch_of, follow_of, put_of};
 use crate::command::Command;
@@ -82,6 +82,31 @@ fn serve_of(
     }))
 }
 
+// What `keep` and three words spell, which are those of `serve`.
+fn keep_of(
+    alloc: Global,
+    address: &str,
+    root: &str,
+    count: &str,
+) -> Result<Option<Command>, AllocError>
+    ensures reads_a_keep { IfOk result (λ command. command ≡ keep_of address.now root.now count.now) }
+{
+    match serve_of(alloc, address, root, count)? {
+        Some(
+            Command::Serve {
+                address,
+                root,
+                count,
+            },
+        ) => Ok(Some(Command::Keep {
+            address,
+            root,
+            count,
+        })),
+        _ => Ok(None),
+    }
+}
+
 // What two words spell.
 #[tactic(auto, unfolding(crate::specs::Commands::of_two))]
 fn of_two(alloc: Global, name: &str, word: &str) -> Result<Option<Command>, AllocError>
@@ -109,6 +134,9 @@ fn of_four(
 {
     if name == "serve" {
         return serve_of(alloc, first, root, last);
+    }
+    if name == "keep" {
+        return keep_of(alloc, first, root, last);
     }
     if name == "fetch" {
         return fetch_of(alloc, first, root, last);

@@ -1,5 +1,6 @@
-use Rattle.std.proofs.Common.{refl}
-use Rattle.xcap_app.specs.declared.command.Command.TheVariants.{Fetch, Put, Delete, Follow}
+use Rattle.std.proofs.Common.{List, ℕ, refl, subst}
+use Rattle.xcap_app.specs.Keeping.{KeepsCommand}
+use Rattle.xcap_app.specs.declared.command.Command.TheVariants.{Keep, Fetch, Put, Delete, Follow}
 use Rattle.xcap_app.proofs.Ends.{ran_as}
 use Rattle.xcap_app.proofs.top.execute.Goals as goal
 
@@ -21,4 +22,15 @@ returns-in-Delete g c = record {
 pub returns-in-Follow : goal.returns-in-Follow
 returns-in-Follow g c = record {
   runs_the_command = ran_as g.W.Watchers.keeps c.args.command.now (Follow c.in-Follow.asker c.in-Follow.document c.in-Follow.rounds) c.run_follow.result _ _ _ _ _ _ _ _ _ _ c.in-Follow.is (c.run_follow.ensures.runs, refl, refl, refl);
+}
+
+pub returns-in-Keep : goal.returns-in-Keep
+returns-in-Keep g c = record {
+  runs_the_command =
+      ran_as g.W.Watchers.keeps c.args.command.now (Keep c.in-Keep.address c.in-Keep.root c.in-Keep.count) c.keep.result _ _ _ _ _ _ _ _ _ _ c.in-Keep.is (
+        subst (λ (address : List ℕ). KeepsCommand g.W.Watchers.keeps address c.in-Keep.root c.in-Keep.count c.keep.result (g.P.Line.state c.args.port.now) (g.P.Line.state c.keep.new.port)
+            (g.I.Line.state c.args.input.now) (g.I.Line.state c.keep.new.input) (g.O.Line.state c.args.output.now) (g.O.Line.state c.keep.new.output) c.args.watchers.now c.keep.new.watchers)
+            c.as_str-in-Keep.ensures.bytes c.keep.ensures.keeps_a_journal,
+        refl,
+      );
 }

@@ -1,0 +1,229 @@
+-- How `keep` ends, by what its old journal, its new one and the port did.
+use Rattle.std.proofs.Common.{◌≡◌, ℕ, ◌+◌, ◌^◌, ◌-◌, ◌<◌, ◌≤◌, ◌⊎◌, inl, inr, Bool, true, false, nat_lt, List, [], ◌∷◌, ◌++◌, length, take, All, Result, Ok, Err, refl, sym, ap, subst, ◌∙◌, arith, append-nil, length-append, ⊎_elim}
+use Rattle.std.proofs.lemmas.Bool.Decides.{nat_tests}
+use Rattle.std.proofs.lemmas.List.{length-take}
+use Rattle.std.specs.Bool.{MatchBool}
+use Rattle.notes.specs.declared.edit.Edit.{Edit}
+use Rattle.reply_text.specs.Heads.{Sent}
+use Rattle.http_wire.specs.declared.request.Request.{Request}
+use Rattle.http_wire.specs.Serving.{IsBounded}
+use Rattle.xcap_io.specs.Causes.{LineState, Rose}
+use Rattle.xcap_io.specs.Connections.{listening_at, with_port_faults}
+use Rattle.xcap_io.specs.Passing.{Gave}
+use Rattle.edit_journal.specs.Journals.{Goes, IsFirstOf, JournalState}
+use Rattle.edit_journal.specs.Logs.{Fits, LogState}
+use Rattle.edit_journal.specs.Records.{IsRecordable, record_of}
+use Rattle.edit_journal.specs.Restarts.{CountsFaults, EndsAs, Restarts, most_journal_bytes}
+use Rattle.edit_journal.specs.Texts.{BeginsWith, IsTold, text}
+use Rattle.edit_journal.specs.declared.restarting.RestartFault.{RestartFault}
+use Rattle.edit_journal.specs.declared.restarting.RestartFault.TheVariants as faults
+use Rattle.http_serve.specs.Ports.{ServesPort}
+use Rattle.http_serve.specs.Written.{InBytes}
+use Rattle.http_serve.specs.declared.port.Served.{Served}
+use Rattle.http_serve.specs.declared.port.Stop.TheVariants.{PortFailed}
+use Rattle.logged_serve.specs.Books.{Booked, HoldsLog, LoggedStep}
+use Rattle.store_core.specs.Held.{Stands, Stock, stock_of}
+use Rattle.store_core.specs.Keeping.{Kept}
+use Rattle.store_core.specs.State.{State, first_state}
+use Rattle.store_core.proofs.KeptAfter.{kept-first}
+use Rattle.machine_words.specs.Answers.{unchanged}
+use Rattle.machine_words.specs.Requests.{IsAnswer}
+use Rattle.feed_laws.specs.Holding.{FollowedStep}
+use Rattle.xcap_server.specs.Logged.{AcceptedAt, ServesPortLogged}
+use Rattle.xcap_server.specs.Redoing.{Redoing, Refuses, StandsFor}
+use Rattle.xcap_server.specs.Servers.{ServerState}
+use Rattle.xcap_app.specs.Keeping.{BreaksOff, DoesntListen, KeepsCommand, KeepsOn, ReadsJournal, ReadsRecords, ServesKept, StopsReading, Wrote, exit_of, keeps_on, no_journal}
+use Rattle.xcap_app.specs.Serves.{IsComplete}
+use Rattle.xcap_app.specs.declared.exit.Exit.{Exit}
+use Rattle.xcap_app.specs.declared.exit.Exit.TheVariants.{Done, Usage, InputFailed, OutputFailed, NetworkFailed, Refused, Client, BadJournal, OutOfMemory}
+use Rattle.xcap_app.proofs.Streams.{Streams, adds_some, wrote}
+
+-- ---- the old journal
+
+-- a server without documents stands for no requests
+pub stands_for_none : (s : ServerState) → s.content ≡ record { documents = []; next = 1 } → StandsFor s []
+stands_for_none s empty = record { state = first_state 1; kept = kept-first 1 (omega arith); redone = refl; stands = empty }
+
+module _ (input input' output output' : LineState) (journal journal' : JournalState) (s s' : ServerState) (empty : s.content ≡ record { documents = []; next = 1 }) (about : s'.root ≡ s.root) (none : journal.faults ≡ 0) (streams : Streams output output' journal') where
+  abbrev Restarted : Result LogState RestartFault → Type 0
+  Restarted result = Restarts StandsFor Refuses input input' journal journal' s s' result
+
+  -- the records that were read
+  records_read : (result : Result LogState RestartFault) (r : Restarted result) → (stood : StandsFor s' r.requests) × ReadsRecords s.root input input' r.bytes r.requests r.rest stood.state
+  records_read result r =
+      let stood : StandsFor s' r.requests = r.stood [] (stands_for_none s empty) in (
+        stood,
+        record {
+          given = r.given;
+          told = r.told;
+          split = r.split;
+          redone = subst (λ (root : List ℕ). Redoing root (first_state 1) r.requests stood.state) about stood.redone;
+          kept = stood.kept;
+          reads = r.reads;
+        },
+      )
+
+  -- all of them
+  pub journal_read : (log : LogState) (r : Restarted (Ok log)) → (stood : StandsFor s' r.requests) × ReadsJournal s.root input input' r.requests stood.state
+  journal_read log r =
+      let records = records_read (Ok log) r in (
+        records.0,
+        record {
+          bytes = r.bytes;
+          rest = r.rest;
+          records = records.1;
+          ended = r.ending.0;
+          short = r.ending.1;
+          no_more = r.ending.2;
+          torn = r.ending.3;
+          no_fault = r.faults.0;
+        },
+      )
+
+  -- the new journal failed
+  failed : Rose journal.faults journal'.faults → Rose output.write_faults output'.write_faults
+  failed rose = streams.cause (omega (arith, rose, none))
+
+  stops_so : (fault : RestartFault) (r : Restarted (Err fault)) (stood : StandsFor s' r.requests) → StopsReading s.root fault input input' output output' r.bytes r.requests r.rest stood.state
+  stops_so faults.ReadFailed r stood = ((wrote output output' journal' (text r.requests) streams r.ending.0).took, r.faults.0)
+  stops_so faults.AppendFailed r stood =
+      let e = r.ending in
+      ((e.0, e.1, e.2, adds_some output output' journal' (text e.0) (record_of e.1) streams e.3), failed r.faults.1)
+  stops_so (faults.Damaged place) r stood = ((wrote output output' journal' (text r.requests) streams r.ending.0).took, r.ending.1, r.ending.2)
+  stops_so (faults.Refused number) r stood =
+      let e = r.ending in
+      let refused = e.1.3 in
+      let answer : IsAnswer s.root (stock_of stood.state) e.1.0 (unchanged refused.0) =
+      subst (λ (c : Stock). IsAnswer s.root c e.1.0 (unchanged refused.0)) stood.stands (subst (λ (root : List ℕ). IsAnswer root s'.content e.1.0 (unchanged refused.0)) about refused.1) in
+      ((wrote output output' journal' (text r.requests) streams e.0).took, e.2, (e.1.0, e.1.1, refused.0, e.1.2, answer))
+  stops_so faults.TooLong r stood = ((wrote output output' journal' (text r.requests) streams r.ending.0).took, r.ending.1, r.ending.2, r.ending.3)
+  stops_so faults.NoMemory r stood = let e = r.ending in (e.0, e.1, e.2, (wrote output output' journal' (text e.0) streams e.3).took)
+
+  -- it wasn't read to its end
+  pub breaks_off : (fault : RestartFault) → Restarted (Err fault) → BreaksOff s.root fault input input' output output'
+  breaks_off fault r =
+      let records = records_read (Err fault) r in
+      record {
+        bytes = r.bytes;
+        requests = r.requests;
+        rest = r.rest;
+        state = records.0.state;
+        records = records.1;
+        stops = stops_so fault r records.0;
+        just_written = streams.just_written;
+      }
+
+-- ---- what was served
+
+-- what stands behind the whole records
+behind_by : (P : Type 0) (rest : List ℕ) (is_torn : Bool) → MatchBool is_torn P (rest ≡ []) → (rest ≡ []) ⊎ P
+behind_by P rest true b = inr b
+behind_by P rest false b = inl b
+
+nothing_behind : (P : Type 0) (rest : List ℕ) (len held faults : ℕ) (is_torn : Bool) → faults ≡ 0 → MatchBool is_torn ((len ≤ held) × (0 < faults)) (held ≡ len) → MatchBool is_torn P (rest ≡ []) → rest ≡ []
+nothing_behind P rest len held faults true none fits b = absurd (omega (arith, none, fits.1))
+nothing_behind P rest len held faults false none fits b = b
+
+no_failures : (failures faults : ℕ) → faults ≡ 0 → IsBounded failures 0 faults → failures ≡ 0
+no_failures failures faults none (inl few) = omega (arith, none, few)
+no_failures failures faults none (inr full) = absurd (omega (arith, none, full))
+
+not_failed : (faults : ℕ) → nat_lt 0 faults ≡ false → faults ≡ 0
+not_failed faults h = grind (arith, nat_tests)
+
+has_failed : (faults : ℕ) → nat_lt 0 faults ≡ true → 0 < faults
+has_failed faults h = grind (arith, nat_tests)
+
+module _ {W : Type 0} (Keeps : List Edit → W → W → Type 0) (address : List ℕ) (count : ℕ) (served : Served) (requests : List Request) (s s' : ServerState) (m : State) (log' : LogState) (journal journal' : JournalState) (port listening port' : LineState) (watchers watchers' : W)
+    (none : journal.faults ≡ 0) (fits : Fits log' journal') (redone : Redoing s.root (first_state 1) requests m) (listens : listening ≡ listening_at port address)
+    (v : ServesPortLogged Keeps count served requests s s' m log' journal journal' listening port' watchers watchers') where
+  abbrev IsWritten : List ℕ → Type 0
+  IsWritten bytes = journal'.held ≡ bytes
+
+  abbrev HasFailed : Type 0
+  HasFailed = 0 < journal'.faults
+
+  abbrev booked : State → List Request → ℕ → Booked State
+  booked machine requests failures = record { machine = machine; requests = requests; failures = failures }
+
+  -- the records of all requests that were accepted were written, and a rest
+  served_kept : (rest : List ℕ) (failures : ℕ) → v.serves.failures ≡ failures → v.serves.holds.rest ≡ rest → ServesKept Keeps IsWritten HasFailed address s.root count served requests m port port' watchers watchers' rest failures
+  served_kept rest failures so behind = record {
+    accepted = v.serves.accepted;
+    next = v.next;
+    kept = v.kept;
+    serves =
+        subst (λ (l : LineState). ServesPort (InBytes (LoggedStep (FollowedStep s.root))) Keeps count served (booked m requests 0) (booked v.next v.serves.accepted failures) l port' watchers watchers') listens
+        (subst (λ (n : ℕ). ServesPort (InBytes (LoggedStep (FollowedStep s.root))) Keeps count served (booked m requests 0) (booked v.next v.serves.accepted n) listening port' watchers watchers') so v.serves.serves);
+    redone = v.redone (first_state 1) redone;
+    told = v.serves.holds.told;
+    written = v.serves.holds.split ∙ ap (λ (l : List ℕ). text v.serves.accepted ++ l) behind;
+    behind =
+        subst (λ (l : List ℕ). (l ≡ []) ⊎ ((request : Request) × IsRecordable request × AcceptedAt s.root v.next request × IsFirstOf l (record_of request))) behind
+        (behind_by ((request : Request) × IsRecordable request × AcceptedAt s.root v.next request × IsFirstOf v.serves.holds.rest (record_of request)) v.serves.holds.rest log'.is_torn v.serves.holds.behind);
+  }
+
+  -- writing failed
+  pub kept_failed : nat_lt 0 journal'.faults ≡ true → KeepsOn Keeps IsWritten HasFailed address s.root count OutputFailed requests m port port' watchers watchers'
+  kept_failed failed = (served, v.serves.holds.rest, v.serves.failures, served_kept v.serves.holds.rest v.serves.failures refl refl, has_failed journal'.faults failed)
+
+  -- it didn't
+  kept_whole : nat_lt 0 journal'.faults ≡ false → ServesKept Keeps IsWritten HasFailed address s.root count served requests m port port' watchers watchers' [] 0
+  kept_whole well =
+      let now : journal'.faults ≡ 0 = not_failed journal'.faults well in
+      served_kept [] 0 (no_failures v.serves.failures journal'.faults now (subst (λ (n : ℕ). IsBounded v.serves.failures n journal'.faults) none v.serves.bound))
+      (nothing_behind ((request : Request) × IsRecordable request × AcceptedAt s.root v.next request × IsFirstOf v.serves.holds.rest (record_of request)) v.serves.holds.rest log'.len (length journal'.held) journal'.faults log'.is_torn now fits v.serves.holds.behind)
+
+  pub kept_done : nat_lt 0 journal'.faults ≡ false → IsComplete served.stop → KeepsOn Keeps IsWritten HasFailed address s.root count Done requests m port port' watchers watchers'
+  kept_done well complete = (served, kept_whole well, complete)
+
+  pub kept_port_failed : nat_lt 0 journal'.faults ≡ false → served.stop ≡ PortFailed → KeepsOn Keeps IsWritten HasFailed address s.root count NetworkFailed requests m port port' watchers watchers'
+  kept_port_failed well stopped = inr (served, kept_whole well, stopped)
+
+-- ---- both
+
+module _ {W : Type 0} (Keeps : List Edit → W → W → Type 0) (P Q : List ℕ → Type 0) (F G : Type 0) (so : (bytes : List ℕ) → P bytes → Q bytes) (cause : F → G)
+    (address root : List ℕ) (count : ℕ) (requests : List Request) (state : State) (port port' : LineState) (watchers watchers' : W) where
+  kept_so : (served : Served) (rest : List ℕ) (failures : ℕ) → ServesKept Keeps P F address root count served requests state port port' watchers watchers' rest failures
+      → ServesKept Keeps Q G address root count served requests state port port' watchers watchers' rest failures
+  kept_so served rest failures k = record {
+    accepted = k.accepted;
+    next = k.next;
+    kept = k.kept;
+    serves = k.serves;
+    redone = k.redone;
+    told = k.told;
+    written = so (text k.accepted ++ rest) k.written;
+    behind = k.behind;
+  }
+
+  -- what was written to the journal went to the output
+  pub keeps_so : (exit : Exit) → KeepsOn Keeps P F address root count exit requests state port port' watchers watchers' → KeepsOn Keeps Q G address root count exit requests state port port' watchers watchers'
+  keeps_so Done k = (k.0, kept_so k.0 [] 0 k.1, k.2)
+  keeps_so Usage k = k
+  keeps_so InputFailed k = k
+  keeps_so OutputFailed k = (k.0, k.1, k.2, kept_so k.0 k.1 k.2 k.3, cause k.4)
+  keeps_so NetworkFailed (inl d) = inl (record { port_failed = d.port_failed; rose = d.rose; written = so (text requests) d.written; told_none = d.told_none })
+  keeps_so NetworkFailed (inr k) = inr (k.0, kept_so k.0 [] 0 k.1, k.2)
+  keeps_so (Refused refusal) k = k
+  keeps_so (Client fault) k = k
+  keeps_so (BadJournal refusal) k = k
+  keeps_so OutOfMemory k = k
+
+-- ---- a log without a torn record
+
+pub fits_whole : (log : LogState) (journal : JournalState) → log.is_torn ≡ false → length journal.held ≡ log.len → Fits log journal
+fits_whole log journal whole len = subst (λ (b : Bool). MatchBool b ((log.len ≤ length journal.held) × (0 < journal.faults)) (length journal.held ≡ log.len)) (sym whole) len
+
+pub holds_whole : (Accepted : Request → Type 0) (log : LogState) (requests : List Request) (bytes : List ℕ) → log.is_torn ≡ false → length bytes ≡ log.len → All IsTold requests → bytes ≡ text requests → HoldsLog Accepted log requests bytes
+holds_whole Accepted log requests bytes whole len told held = record {
+  rest = [];
+  told = told;
+  split = held ∙ sym (append-nil (text requests));
+  len = sym (ap length held) ∙ len;
+  behind = subst (λ (b : Bool). MatchBool b ((request : Request) × IsRecordable request × Accepted request × IsFirstOf [] (record_of request)) (◌≡◌ {A = List ℕ} [] [])) (sym whole) refl;
+}
+
+-- the records at the front of what is taken are no longer than that
+pub short_text : (bytes rest all : List ℕ) → take most_journal_bytes bytes ≡ all ++ rest → length all ≤ most_journal_bytes
+short_text bytes rest all split = omega (arith, ap length split, length-take most_journal_bytes bytes, length-append all rest)

@@ -1,0 +1,49 @@
+-- A journal over a stream holds what the stream took since it was made.
+use Rattle.std.proofs.Common.{◌≡◌, ℕ, ◌+◌, ◌-◌, ◌<◌, ◌⊎◌, inl, inr, List, [], ◌∷◌, ◌++◌, length, take, drop, refl, sym, ap, subst, ◌∙◌, arith, append_assoc, take-append-drop}
+use Rattle.std.specs.Borrow.{GName}
+use Rattle.xcap_io.specs.Causes.{Aside, LineState, Rose}
+use Rattle.xcap_io.specs.Pairs.{unwritten}
+use Rattle.xcap_io.specs.Passing.{Took}
+use Rattle.edit_journal.specs.Journals.{AddsSome, Goes, JournalState}
+use Rattle.edit_journal.specs.Streams.{stream_state}
+use Rattle.xcap_app.specs.Frames.{JustWritten}
+use Rattle.xcap_app.specs.Keeping.{Wrote}
+
+-- Since a journal was made over this output, there were calls on it alone.
+pub record Streams (output output' : LineState) (journal' : JournalState) : Type 0 where
+  pub taken : output'.taken ≡ output.taken ++ journal'.held
+  pub just_written : JustWritten output output'
+  pub cause : 0 < journal'.faults → Rose output.write_faults output'.write_faults
+
+rose_by : (old new : JournalState) → old.faults ≡ 0 → Goes old new → 0 < new.faults → Rose old.beneath new.beneath
+rose_by old new none goes some = elim (goes.cause none) [ inl zero ↦ absurd (omega (arith, zero, some)) | inr rose ↦ rose ]
+
+pub streams : (output output' : LineState) (name name' : GName) (made : JournalState) (len' faults' : ℕ) → made ≡ stream_state output name 0 0 → made.before ≡ output.taken → Goes made (stream_state output' name' len' faults') → Streams output output' (stream_state output' name' len' faults')
+streams output output' name name' made len' faults' is behind goes =
+    let new : JournalState = stream_state output' name' len' faults' in
+    let parts : new.before ++ new.held ≡ output'.taken = take-append-drop (length output'.taken - len') output'.taken in
+    let first : new.before ≡ output.taken = goes.same_before ∙ behind in
+    let aside : unwritten output' ∷ output'.aside ≡ unwritten output ∷ output.aside = goes.same_aside ∙ ap (λ (j : JournalState). j.aside) is in
+    let holds : name' ∷ output'.holds ≡ name ∷ output.holds = goes.same_holds ∙ ap (λ (j : JournalState). j.holds) is in
+    let same : unwritten output' ≡ unwritten output = cc in
+    record {
+      taken = sym parts ∙ ap (λ (l : List ℕ). l ++ new.held) first;
+      just_written = record {
+        same_inward = ap (λ (a : Aside). a.inward) same;
+        same_read_faults = ap (λ (a : Aside). a.faults) same;
+        same_holds = cc;
+        same_aside = cc;
+        same_port = ap (λ (a : Aside). a.port) same;
+        same_peer = ap (λ (a : Aside). a.peer) same;
+      };
+      cause = λ some. subst (λ (n : ℕ). Rose n output'.write_faults) (ap (λ (j : JournalState). j.beneath) is) (rose_by made new (ap (λ (j : JournalState). j.faults) is) goes some);
+    }
+
+-- what it holds was written
+pub wrote : (output output' : LineState) (journal' : JournalState) (bytes : List ℕ) → Streams output output' journal' → journal'.held ≡ bytes → Wrote output output' bytes
+wrote output output' journal' bytes s held = record { took = s.taken ∙ ap (λ (l : List ℕ). output.taken ++ l) held; just_written = s.just_written }
+
+-- some of a record behind others
+pub adds_some : (output output' : LineState) (journal' : JournalState) (before record_bytes : List ℕ) → Streams output output' journal' → AddsSome before journal'.held record_bytes → AddsSome (output.taken ++ before) output'.taken record_bytes
+adds_some output output' journal' before record_bytes s (some, first, is) =
+    (some, first, s.taken ∙ ap (λ (l : List ℕ). output.taken ++ l) is ∙ sym (append_assoc output.taken before some))

@@ -1,0 +1,45 @@
+use Rattle.std.proofs.Common.{rules, inl, refl, sym, ◌∙◌, arith}
+use Rattle.edit_journal.proofs.Going.{goes_none}
+use Rattle.xcap_server.specs.Logged.{AcceptedAt}
+use Rattle.xcap_app.proofs.Keeping.{fits_whole, holds_whole, kept_done, kept_failed, kept_port_failed}
+use Rattle.xcap_app.proofs.keep.serve_logged.Goals as goal
+
+pub serve_port_logged-served-requires-clause-fits : goal.serve_port_logged-served-requires-clause-fits
+serve_port_logged-served-requires-clause-fits g c = fits_whole c.args.log.now _ c.requires.whole c.requires.fits
+
+pub serve_port_logged-served-requires-clause-room : goal.serve_port_logged-served-requires-clause-room
+serve_port_logged-served-requires-clause-room g c = omega (arith, c.requires.short, c.requires.few)
+
+pub returns-in-Err-clause-keeps_on : goal.returns-in-Err-clause-keeps_on
+returns-in-Err-clause-keeps_on g c = λ requests m kept stands redone told held.
+    inl (record { port_failed = c.in-Err.ensures.listens.0; rose = c.in-Err.ensures.listens.1; written = held; told_none = refl })
+
+pub returns-then-has_failed-clause-keeps_on : goal.returns-then-has_failed-clause-keeps_on
+returns-then-has_failed-clause-keeps_on g c = λ requests m kept stands redone told held.
+    let p = g.P.Line.state in
+    let s = c.args.server.now in
+    let holds = holds_whole (AcceptedAt s.root m) c.args.log.now requests _ c.requires.whole c.requires.fits told held in
+    kept_failed g.W.Watchers.keeps c.args.address.now c.args.count c.serve_port_logged-served.result requests s c.serve_port_logged-served.new.server m c.serve_port_logged-served.new.log _ _
+    (p c.args.port.now) (p c.listen.new.self) (p c.serve_port_logged-served.new.port) c.args.watchers.now c.serve_port_logged-served.new.watchers
+    c.requires.no_fault c.serve_port_logged-served.ensures.still_fits redone c.in_default.ensures.listens (c.serve_port_logged-served.ensures.serves_as_the_machine m requests kept stands holds)
+    (sym c.has_failed.ensures.tells_whether_a_call_failed ∙ c.if-has_failed.true)
+
+pub returns-in-PortFailed-clause-keeps_on : goal.returns-in-PortFailed-clause-keeps_on
+returns-in-PortFailed-clause-keeps_on g c = λ requests m kept stands redone told held.
+    let p = g.P.Line.state in
+    let s = c.args.server.now in
+    let holds = holds_whole (AcceptedAt s.root m) c.args.log.now requests _ c.requires.whole c.requires.fits told held in
+    kept_port_failed g.W.Watchers.keeps c.args.address.now c.args.count c.serve_port_logged-served.result requests s c.serve_port_logged-served.new.server m c.serve_port_logged-served.new.log _ _
+    (p c.args.port.now) (p c.listen.new.self) (p c.serve_port_logged-served.new.port) c.args.watchers.now c.serve_port_logged-served.new.watchers
+    c.requires.no_fault c.serve_port_logged-served.ensures.still_fits redone c.in_default.ensures.listens (c.serve_port_logged-served.ensures.serves_as_the_machine m requests kept stands holds)
+    (sym c.has_failed.ensures.tells_whether_a_call_failed ∙ c.if-has_failed.false) c.in-PortFailed.is
+
+pub returns-in-Count-clause-keeps_on : goal.returns-in-Count-clause-keeps_on
+returns-in-Count-clause-keeps_on g c = λ requests m kept stands redone told held.
+    let p = g.P.Line.state in
+    let s = c.args.server.now in
+    let holds = holds_whole (AcceptedAt s.root m) c.args.log.now requests _ c.requires.whole c.requires.fits told held in
+    kept_done g.W.Watchers.keeps c.args.address.now c.args.count c.serve_port_logged-served.result requests s c.serve_port_logged-served.new.server m c.serve_port_logged-served.new.log _ _
+    (p c.args.port.now) (p c.listen.new.self) (p c.serve_port_logged-served.new.port) c.args.watchers.now c.serve_port_logged-served.new.watchers
+    c.requires.no_fault c.serve_port_logged-served.ensures.still_fits redone c.in_default.ensures.listens (c.serve_port_logged-served.ensures.serves_as_the_machine m requests kept stands holds)
+    (sym c.has_failed.ensures.tells_whether_a_call_failed ∙ c.if-has_failed.false) (search rules)

@@ -1,0 +1,32 @@
+// Why an old journal is refused.
+ghost use Rattle.std.specs.Prelude.{◌≡◌, IfOk, string_bytes};
+ghost use Rattle.xcap_app.specs.Exits.{journal_words};
+
+use std::alloc::{AllocError, Global};
+
+/// Why the input of `keep` is no journal that a server can be brought back from.
+#[derive(Clone, Copy, Debug, PartialEq, Eq)]
+pub enum JournalRefusal {
+    /// From this place on its bytes begin no record.
+    Damaged(u64),
+    /// The request of this record, counted from 1, makes no change behind those before it.
+    Refused(u64),
+    /// It has more than 4,294,967,296 bytes.
+    TooLong,
+}
+
+impl JournalRefusal {
+    /// What is told of it.
+    ///
+    /// # Errors
+    /// `NoMemory` for want of memory.
+    pub(crate) fn words(&self, alloc: Global) -> Result<String, AllocError>
+        ensures words_about_the_reason { IfOk result (λ words. string_bytes words ≡ journal_words self.now) }
+    {
+        match self {
+            JournalRefusal::Damaged(place) => format!(in alloc; "journal: damaged {place}\n"),
+            JournalRefusal::Refused(number) => format!(in alloc; "journal: refused {number}\n"),
+            JournalRefusal::TooLong => String::from_str(alloc, "journal: too-long\n"),
+        }
+    }
+}

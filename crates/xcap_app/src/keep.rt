@@ -1,0 +1,137 @@
+// The command `keep`: an old journal is read, a new one written, and the connections that come at an address are served by a server
+// whose accepted requests are entered in it.
+ghost use Rattle.std.specs.Prelude.{◌≡◌, ◌<◌, ◌≤◌, List, [], length, false, All};
+ghost use Rattle.http_wire.specs.declared.request.Request.{Request as TheRequest};
+ghost use Rattle.edit_journal.specs.Journals.{Goes};
+ghost use Rattle.edit_journal.specs.Texts.{IsTold, text};
+ghost use Rattle.store_core.specs.Held.{Stands};
+ghost use Rattle.store_core.specs.Keeping.{Kept};
+ghost use Rattle.store_core.specs.State.{State, first_state};
+ghost use Rattle.xcap_server.specs.Redoing.{Redoing};
+ghost use Rattle.xcap_app.specs.Keeping.{KeepsCommand, KeepsOn, exit_of};
+
+use crate::exit::Exit;
+use crate::journal_refusal::JournalRefusal;
+use edit_journal::{Journal, Log, RestartFault, StreamJournal, restart};
+use http_serve::Stop;
+use notes::Edit;
+use std::alloc::Global;
+use watchers::Watchers;
+use xcap_io::{Failed, Line, Port, Sink, Source};
+use xcap_server::{Server, serve_port_logged};
+use xcap_uri::Root;
+
+// How the command ends that couldn't read its old journal.
+fn exit_of(fault: RestartFault) -> Exit
+    ensures exit_of_the_fault { result ≡ exit_of fault }
+{
+    match fault {
+        RestartFault::ReadFailed => Exit::InputFailed,
+        RestartFault::AppendFailed => Exit::OutputFailed,
+        RestartFault::Damaged(place) => Exit::BadJournal(JournalRefusal::Damaged(place)),
+        RestartFault::Refused(number) => Exit::BadJournal(JournalRefusal::Refused(number)),
+        RestartFault::TooLong => Exit::BadJournal(JournalRefusal::TooLong),
+        RestartFault::NoMemory => Exit::OutOfMemory,
+    }
+}
+
+// Listens at the address and serves the connections that come, so many at most, by a server that stands for the records that the
+// journal holds.
+fn serve_logged<'a, O: Sink, P: Port, W: Watchers<Edit>>(
+    server: &mut Server,
+    log: &mut Log,
+    journal: &mut StreamJournal<'a, O>,
+    address: &str,
+    count: u64,
+    port: &mut P,
+    watchers: &mut W,
+) -> Exit
+    requires whole { log.old.is_torn ≡ false }
+    requires fits { length (⟦<StreamJournal<'a, O> as Journal>⟧.state journal.old).held ≡ log.old.len }
+    requires short { log.old.len ≤ 4_294_967_296 }
+    requires few { count ≤ 1_000_000 }
+    requires no_fault { (⟦<StreamJournal<'a, O> as Journal>⟧.state journal.old).faults ≡ 0 }
+    ensures keeps_on { (requests : List TheRequest) (m : State) → Kept m → Stands server.old.content m
+        → Redoing server.old.root (first_state 1) requests m → All IsTold requests
+        → (⟦<StreamJournal<'a, O> as Journal>⟧.state journal.old).held ≡ text requests
+        → KeepsOn W.keeps (λ bytes. (⟦<StreamJournal<'a, O> as Journal>⟧.state journal.new).held ≡ bytes)
+        (0 < (⟦<StreamJournal<'a, O> as Journal>⟧.state journal.new).faults)
+        address.now server.old.root count result requests m (P.state port.old) (P.state port.new) watchers.old watchers.new }
+    ensures goes_on { Goes (⟦<StreamJournal<'a, O> as Journal>⟧.state journal.old) (⟦<StreamJournal<'a, O> as Journal>⟧.state journal.new) }
+{
+    if let Err(Failed) = port.listen(address) {
+        return Exit::NetworkFailed;
+    }
+    let served = serve_port_logged(server, log, journal, port, count, watchers);
+    if journal.has_failed() {
+        return Exit::OutputFailed;
+    }
+    match served.stop {
+        Stop::PortFailed => Exit::NetworkFailed,
+        Stop::Count | Stop::NoMore => Exit::Done,
+    }
+}
+
+// Brings the server back from the old journal, which is the input, and serves by it. The new journal goes to the output.
+fn keep_by<P: Port, I: Source, O: Sink, W: Watchers<Edit>>(
+    alloc: Global,
+    server: &mut Server,
+    address: &str,
+    count: u64,
+    port: &mut P,
+    input: &mut I,
+    output: &mut O,
+    watchers: &mut W,
+) -> Exit
+    requires empty { server.old.content ≡ record { documents = []; next = 1 } }
+    requires few { count ≤ 1_000_000 }
+    ensures keeps_by_the_server { KeepsCommand W.keeps address.now server.old.root count result (P.state port.old) (P.state port.new)
+        (I.state input.old) (I.state input.new) (O.state output.old) (O.state output.new) watchers.old watchers.new }
+{
+    let mut journal = StreamJournal::new(output);
+    let mut log = match restart(alloc, input, &mut journal, server) {
+        Ok(log) => log,
+        Err(fault) => return exit_of(fault),
+    };
+    serve_logged(
+        server,
+        &mut log,
+        &mut journal,
+        address,
+        count,
+        port,
+        watchers,
+    )
+}
+
+/// Reads an old journal from the input, to its end, and writes a new one to the output: first the records of the old one that lie
+/// whole in it, and then one for each request that is accepted, before its reply. Listens at the address and serves the
+/// connections that come, so many at most, by a server of this root that is brought back from the old journal.
+pub(crate) fn keep<P: Port, I: Source, O: Sink, W: Watchers<Edit>>(
+    alloc: Global,
+    address: &str,
+    root: &Root,
+    count: u64,
+    port: &mut P,
+    input: &mut I,
+    output: &mut O,
+    watchers: &mut W,
+) -> Exit
+    requires few { count ≤ 1_000_000 }
+    ensures keeps_a_journal { KeepsCommand W.keeps address.now root.now count result (P.state port.old) (P.state port.new)
+        (I.state input.old) (I.state input.new) (O.state output.old) (O.state output.new) watchers.old watchers.new }
+{
+    let Ok(mut server) = Server::new(alloc, root, 1) else {
+        return Exit::OutOfMemory;
+    };
+    keep_by(
+        alloc,
+        &mut server,
+        address,
+        count,
+        port,
+        input,
+        output,
+        watchers,
+    )
+}
