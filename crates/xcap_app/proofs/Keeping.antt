@@ -36,7 +36,8 @@ use Rattle.xcap_app.specs.Keeping.{BreaksOff, DoesntListen, KeepsCommand, KeepsO
 use Rattle.xcap_app.specs.Serves.{IsComplete}
 use Rattle.xcap_app.specs.declared.exit.Exit.{Exit}
 use Rattle.xcap_app.specs.declared.exit.Exit.TheVariants.{Done, Usage, InputFailed, OutputFailed, NetworkFailed, Refused, Client, BadJournal, OutOfMemory}
-use Rattle.xcap_app.proofs.Streams.{Streams, adds_some, wrote}
+use Rattle.xcap_app.specs.inner.Streams.{Streams}
+use Rattle.xcap_app.proofs.Streams.{adds_some, wrote}
 
 -- ---- the old journal
 
@@ -44,7 +45,7 @@ use Rattle.xcap_app.proofs.Streams.{Streams, adds_some, wrote}
 pub stands_for_none : (s : ServerState) → s.content ≡ record { documents = []; next = 1 } → StandsFor s []
 stands_for_none s empty = record { state = first_state 1; kept = kept-first 1 (omega arith); redone = refl; stands = empty }
 
-module _ (input input' output output' : LineState) (journal journal' : JournalState) (s s' : ServerState) (empty : s.content ≡ record { documents = []; next = 1 }) (about : s'.root ≡ s.root) (none : journal.faults ≡ 0) (streams : Streams output output' journal') where
+module _ (input input' : LineState) (journal journal' : JournalState) (s s' : ServerState) (empty : s.content ≡ record { documents = []; next = 1 }) (about : s'.root ≡ s.root) where
   abbrev Restarted : Result LogState RestartFault → Type 0
   Restarted result = Restarts StandsFor Refuses input input' journal journal' s s' result
 
@@ -80,38 +81,39 @@ module _ (input input' output output' : LineState) (journal journal' : JournalSt
         },
       )
 
-  -- the new journal failed
-  failed : Rose journal.faults journal'.faults → Rose output.write_faults output'.write_faults
-  failed rose = streams.cause (omega (arith, rose, none))
+  module _ (output output' : LineState) (none : journal.faults ≡ 0) (streams : Streams output output' journal') where
+    -- the new journal failed
+    failed : Rose journal.faults journal'.faults → Rose output.write_faults output'.write_faults
+    failed rose = streams.cause (omega (arith, rose, none))
 
-  stops_so : (fault : RestartFault) (r : Restarted (Err fault)) (stood : StandsFor s' r.requests) → StopsReading s.root fault input input' output output' r.bytes r.requests r.rest stood.state
-  stops_so faults.ReadFailed r stood = ((wrote output output' journal' (text r.requests) streams r.ending.0).took, r.faults.0)
-  stops_so faults.AppendFailed r stood =
-      let e = r.ending in
-      ((e.0, e.1, e.2, adds_some output output' journal' (text e.0) (record_of e.1) streams e.3), failed r.faults.1)
-  stops_so (faults.Damaged place) r stood = ((wrote output output' journal' (text r.requests) streams r.ending.0).took, r.ending.1, r.ending.2)
-  stops_so (faults.Refused number) r stood =
-      let e = r.ending in
-      let refused = e.1.3 in
-      let answer : IsAnswer s.root (stock_of stood.state) e.1.0 (unchanged refused.0) =
-      subst (λ (c : Stock). IsAnswer s.root c e.1.0 (unchanged refused.0)) stood.stands (subst (λ (root : List ℕ). IsAnswer root s'.content e.1.0 (unchanged refused.0)) about refused.1) in
-      ((wrote output output' journal' (text r.requests) streams e.0).took, e.2, (e.1.0, e.1.1, refused.0, e.1.2, answer))
-  stops_so faults.TooLong r stood = ((wrote output output' journal' (text r.requests) streams r.ending.0).took, r.ending.1, r.ending.2, r.ending.3)
-  stops_so faults.NoMemory r stood = let e = r.ending in (e.0, e.1, e.2, (wrote output output' journal' (text e.0) streams e.3).took)
+    stops_so : (fault : RestartFault) (r : Restarted (Err fault)) (stood : StandsFor s' r.requests) → StopsReading s.root fault input input' output output' r.bytes r.requests r.rest stood.state
+    stops_so faults.ReadFailed r stood = ((wrote output output' journal' (text r.requests) streams r.ending.0).took, r.faults.0)
+    stops_so faults.AppendFailed r stood =
+        let e = r.ending in
+        ((e.0, e.1, e.2, adds_some output output' journal' (text e.0) (record_of e.1) streams e.3), failed r.faults.1)
+    stops_so (faults.Damaged place) r stood = ((wrote output output' journal' (text r.requests) streams r.ending.0).took, r.ending.1, r.ending.2)
+    stops_so (faults.Refused number) r stood =
+        let e = r.ending in
+        let refused = e.1.3 in
+        let answer : IsAnswer s.root (stock_of stood.state) e.1.0 (unchanged refused.0) =
+        subst (λ (c : Stock). IsAnswer s.root c e.1.0 (unchanged refused.0)) stood.stands (subst (λ (root : List ℕ). IsAnswer root s'.content e.1.0 (unchanged refused.0)) about refused.1) in
+        ((wrote output output' journal' (text r.requests) streams e.0).took, e.2, (e.1.0, e.1.1, refused.0, e.1.2, answer))
+    stops_so faults.TooLong r stood = ((wrote output output' journal' (text r.requests) streams r.ending.0).took, r.ending.1, r.ending.2, r.ending.3)
+    stops_so faults.NoMemory r stood = let e = r.ending in (e.0, e.1, e.2, (wrote output output' journal' (text e.0) streams e.3).took)
 
-  -- it wasn't read to its end
-  pub breaks_off : (fault : RestartFault) → Restarted (Err fault) → BreaksOff s.root fault input input' output output'
-  breaks_off fault r =
-      let records = records_read (Err fault) r in
-      record {
-        bytes = r.bytes;
-        requests = r.requests;
-        rest = r.rest;
-        state = records.0.state;
-        records = records.1;
-        stops = stops_so fault r records.0;
-        just_written = streams.just_written;
-      }
+    -- it wasn't read to its end
+    pub breaks_off : (fault : RestartFault) → Restarted (Err fault) → BreaksOff s.root fault input input' output output'
+    breaks_off fault r =
+        let records = records_read (Err fault) r in
+        record {
+          bytes = r.bytes;
+          requests = r.requests;
+          rest = r.rest;
+          state = records.0.state;
+          records = records.1;
+          stops = stops_so fault r records.0;
+          just_written = streams.just_written;
+        }
 
 -- ---- what was served
 

@@ -8,12 +8,7 @@ use Rattle.edit_journal.specs.Journals.{AddsSome, Goes, JournalState}
 use Rattle.edit_journal.specs.Streams.{stream_state}
 use Rattle.xcap_app.specs.Frames.{JustWritten}
 use Rattle.xcap_app.specs.Keeping.{Wrote}
-
--- Since a journal was made over this output, there were calls on it alone.
-pub record Streams (output output' : LineState) (journal' : JournalState) : Type 0 where
-  pub taken : output'.taken ≡ output.taken ++ journal'.held
-  pub just_written : JustWritten output output'
-  pub cause : 0 < journal'.faults → Rose output.write_faults output'.write_faults
+use Rattle.xcap_app.specs.inner.Streams.{Streams}
 
 rose_by : (old new : JournalState) → old.faults ≡ 0 → Goes old new → 0 < new.faults → Rose old.beneath new.beneath
 rose_by old new none goes some = elim (goes.cause none) [ inl zero ↦ absurd (omega (arith, zero, some)) | inr rose ↦ rose ]
@@ -47,3 +42,7 @@ wrote output output' journal' bytes s held = record { took = s.taken ∙ ap (λ 
 pub adds_some : (output output' : LineState) (journal' : JournalState) (before record_bytes : List ℕ) → Streams output output' journal' → AddsSome before journal'.held record_bytes → AddsSome (output.taken ++ before) output'.taken record_bytes
 adds_some output output' journal' before record_bytes s (some, first, is) =
     (some, first, s.taken ∙ ap (λ (l : List ℕ). output.taken ++ l) is ∙ sym (append_assoc output.taken before some))
+
+-- the reference that it holds is the one that it was made with
+pub same_name : (name name' : GName) (holds holds' : List GName) → name ∷ holds ≡ name' ∷ holds' → name ≡ name'
+same_name name name' holds holds' h = cc

@@ -11,3 +11,4 @@ pub mod Serves
 pub mod System
 pub mod Telling
 pub mod Verdicts
+pub mod inner

@@ -8,7 +8,9 @@ ghost use Rattle.store_core.specs.Held.{Stands};
 ghost use Rattle.store_core.specs.Keeping.{Kept};
 ghost use Rattle.store_core.specs.State.{State, first_state};
 ghost use Rattle.xcap_server.specs.Redoing.{Redoing};
+ghost use Rattle.xcap_io.specs.Causes.{LineState};
 ghost use Rattle.xcap_app.specs.Keeping.{KeepsCommand, KeepsOn, exit_of};
+ghost use Rattle.xcap_app.specs.inner.Streams.{Streams};
 
 use crate::exit::Exit;
 use crate::journal_refusal::JournalRefusal;
@@ -72,7 +74,34 @@ fn serve_logged<'a, O: Sink, P: Port, W: Watchers<Edit>>(
     }
 }
 
-// Brings the server back from the old journal, which is the input, and serves by it. The new journal goes to the output.
+// Brings the server back from the old journal, which is the input, and serves by it. The new journal holds nothing yet.
+fn keep_over<'a, P: Port, I: Source, O: Sink, W: Watchers<Edit>>(
+    alloc: Global,
+    server: &mut Server,
+    journal: &mut StreamJournal<'a, O>,
+    address: &str,
+    count: u64,
+    port: &mut P,
+    input: &mut I,
+    watchers: &mut W,
+) -> Exit
+    requires empty { server.old.content ≡ record { documents = []; next = 1 } }
+    requires few { count ≤ 1_000_000 }
+    requires fresh { (⟦<StreamJournal<'a, O> as Journal>⟧.state journal.old).held ≡ [] }
+    requires no_fault { (⟦<StreamJournal<'a, O> as Journal>⟧.state journal.old).faults ≡ 0 }
+    ensures keeps_by_the_server { (output output' : LineState) → Streams output output' (⟦<StreamJournal<'a, O> as Journal>⟧.state journal.new)
+        → KeepsCommand W.keeps address.now server.old.root count result (P.state port.old) (P.state port.new)
+        (I.state input.old) (I.state input.new) output output' watchers.old watchers.new }
+    ensures goes_on { Goes (⟦<StreamJournal<'a, O> as Journal>⟧.state journal.old) (⟦<StreamJournal<'a, O> as Journal>⟧.state journal.new) }
+{
+    let mut log = match restart(alloc, input, journal, server) {
+        Ok(log) => log,
+        Err(fault) => return exit_of(fault),
+    };
+    serve_logged(server, &mut log, journal, address, count, port, watchers)
+}
+
+// The same, with the new journal on the output.
 fn keep_by<P: Port, I: Source, O: Sink, W: Watchers<Edit>>(
     alloc: Global,
     server: &mut Server,
@@ -89,17 +118,14 @@ fn keep_by<P: Port, I: Source, O: Sink, W: Watchers<Edit>>(
         (I.state input.old) (I.state input.new) (O.state output.old) (O.state output.new) watchers.old watchers.new }
 {
     let mut journal = StreamJournal::new(output);
-    let mut log = match restart(alloc, input, &mut journal, server) {
-        Ok(log) => log,
-        Err(fault) => return exit_of(fault),
-    };
-    serve_logged(
+    keep_over(
+        alloc,
         server,
-        &mut log,
         &mut journal,
         address,
         count,
         port,
+        input,
         watchers,
     )
 }

@@ -1,11 +1,14 @@
 use Rattle.std.proofs.Common.{rules, inl, refl, sym, ◌∙◌, arith}
+use Rattle.edit_journal.specs.Streams.{stream_state}
 use Rattle.edit_journal.proofs.Going.{goes_none}
 use Rattle.xcap_server.specs.Logged.{AcceptedAt}
 use Rattle.xcap_app.proofs.Keeping.{fits_whole, holds_whole, kept_done, kept_failed, kept_port_failed}
 use Rattle.xcap_app.proofs.keep.serve_logged.Goals as goal
 
 pub serve_port_logged-served-requires-clause-fits : goal.serve_port_logged-served-requires-clause-fits
-serve_port_logged-served-requires-clause-fits g c = fits_whole c.args.log.now _ c.requires.whole c.requires.fits
+serve_port_logged-served-requires-clause-fits g c =
+    let j = c.args.journal.now in
+    fits_whole c.args.log.now (stream_state (g.O.Line.state j.output.now) j.output.ghost_name j.len j.faults) c.requires.whole c.requires.fits
 
 pub serve_port_logged-served-requires-clause-room : goal.serve_port_logged-served-requires-clause-room
 serve_port_logged-served-requires-clause-room g c = omega (arith, c.requires.short, c.requires.few)
