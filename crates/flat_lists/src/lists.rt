@@ -2,10 +2,11 @@
 ghost use Rattle.std.specs.Prelude.{◌≡◌, None, IfOk, encode_utf8_all};
 ghost use Rattle.tree_text.specs.Memory.{Answered};
 ghost use Rattle.tree_text.specs.Printing.{document_print};
+ghost use Rattle.reply_text.specs.Heads.{plain};
 ghost use Rattle.reply_text.specs.declared.media_types.Media.TheVariants as medias;
 ghost use Rattle.request_terms.specs.Methods.{as_asked};
 ghost use Rattle.machine_words.specs.Answers.{found, unchanged};
-ghost use Rattle.machine_words.specs.FlatLists.{IsFlatDocument, ReadsFlat};
+ghost use Rattle.machine_words.specs.FlatLists.{IsFlatDocument, ReadsFlat, flat_status};
 
 use crate::NoMemory;
 use doc_names::DocId;
@@ -49,6 +50,17 @@ fn with_document(
     Ok(as_asked(method, reply))
 }
 
+// The reply where there is no flat list, or no document of one.
+fn refused(fault: FlatFault, closes: bool) -> Reply
+    ensures tells_the_fault { result ≡ plain (flat_status fault) closes }
+{
+    match fault {
+        FlatFault::NoService => Reply::fixed(404, closes),
+        FlatFault::TooWide => Reply::fixed(507, closes),
+        FlatFault::TooLarge(_) => Reply::fixed(507, closes),
+    }
+}
+
 /// The reply to a GET or HEAD of a flat list: the document of the addresses behind the service with this address in a document; 404
 /// where the document isn't held or has no such service; 507 where its references are more than 4,096, or the reply's document would
 /// have more than 16,777,216 bytes. Conditions aren't looked at. HEAD gets the head of GET's reply.
@@ -68,9 +80,7 @@ pub fn get_flat(
 {
     match document(alloc, root, store, doc, service) {
         Ok(document) => with_document(alloc, &document, method, request.closes),
-        Err(ReadError::Fault(FlatFault::NoService)) => Ok(Reply::fixed(404, request.closes)),
-        Err(ReadError::Fault(FlatFault::TooWide)) => Ok(Reply::fixed(507, request.closes)),
-        Err(ReadError::Fault(FlatFault::TooLarge(_))) => Ok(Reply::fixed(507, request.closes)),
+        Err(ReadError::Fault(fault)) => Ok(refused(fault, request.closes)),
         Err(ReadError::NoMemory) => Err(AllocError),
     }
 }

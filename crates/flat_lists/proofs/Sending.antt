@@ -1,0 +1,31 @@
+-- The reply of the machine to a GET or HEAD of a flat list, from the document or from why there is none.
+use Rattle.std.proofs.Common.{◌≡◌, ℕ, List, None, Result, Ok, Err, IfOk, encode_utf8_all, ap, subst}
+use Rattle.xml_tree.specs.Tree.{Tree}
+use Rattle.tree_text.specs.Memory.{Answered}
+use Rattle.tree_text.specs.Printing.{document_print}
+use Rattle.tree_text.specs.declared.fault.ReadError.{ReadError}
+use Rattle.tree_text.specs.declared.fault.ReadError.TheVariants.{Fault}
+use Rattle.doc_names.specs.declared.doc_id.DocId.{DocId}
+use Rattle.reply_text.specs.Heads.{plain}
+use Rattle.reply_text.specs.declared.replies.Reply.{Reply}
+use Rattle.reply_text.specs.declared.media_types.Media.TheVariants as medias
+use Rattle.http_wire.specs.declared.request.Request.{Request}
+use Rattle.request_terms.specs.Methods.{as_asked}
+use Rattle.request_terms.specs.declared.method.Method.{Method}
+use Rattle.store_core.specs.Held.{Stock}
+use Rattle.list_resolve.specs.declared.fault.FlatFault.{FlatFault}
+use Rattle.machine_words.specs.Answers.{found, unchanged}
+use Rattle.machine_words.specs.FlatLists.{IsFlatDocument, ReadsFlat, flat_status}
+
+module _ (root : List ℕ) (c : Stock) (id : DocId) (service : List ℕ) (method : Method) (request : Request) where
+  -- the document is sent
+  pub sent : {E : Type 0} (t : Tree) (result : Result Reply E) → IsFlatDocument root c id service (Ok t)
+      → IfOk result (λ r. r ≡ as_asked method (found None medias.ResourceLists (encode_utf8_all (document_print t)) request.closes))
+      → IfOk result (λ r. ReadsFlat root c id service method request (unchanged r))
+  sent t (Ok r) is e = (Ok t, is, ap unchanged e)
+  sent t (Err error) is e = tt
+
+  -- why there is none is told
+  pub refused : (error : ReadError FlatFault) (fault : FlatFault) (reply : Reply) → error ≡ Fault fault → Answered {A = Tree} (IsFlatDocument root c id service) (Err error)
+      → reply ≡ plain (flat_status fault) request.closes → ReadsFlat root c id service method request (unchanged reply)
+  refused error fault reply is why e = (Err fault, subst (λ (x : ReadError FlatFault). Answered {A = Tree} (IsFlatDocument root c id service) (Err x)) is why, ap unchanged e)
