@@ -1,4 +1,3 @@
-pub mod Bounded
 pub mod Documents
 pub mod Ends
 pub mod Keeping

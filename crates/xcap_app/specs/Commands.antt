@@ -1,5 +1,5 @@
 -- Which words spell which command. The commands are the project's own; a ROOT is that of RFC 4825, section 6.1.
-use Rattle.std.specs.Prelude.{ℕ, ◌≤◌, nat_le, List, [], ◌∷◌, chars, codes, Option, None, Some, if◌then◌else◌}
+use Rattle.std.specs.Prelude.{ℕ, nat_le, List, [], ◌∷◌, chars, codes, Option, None, Some, if◌then◌else◌}
 use Rattle.std.specs.Option.{option_and_then, option_map}
 use Rattle.std.specs.Str.{bytes_eq}
 use Rattle.doc_names.specs.declared.usages.Usage.{Usage}
@@ -8,7 +8,8 @@ use Rattle.xcap_uri.specs.Numerals.{numeral_of}
 use Rattle.xcap_uri.specs.Roots.{root_of}
 use Rattle.xcap_app.specs.AskingWords.{delete_of, fetch_of, follow_of, put_of}
 use Rattle.xcap_app.specs.declared.command.Command.{Command}
-use Rattle.xcap_app.specs.declared.command.Command.TheVariants.{Replay, Serve, Keep, Check, Fetch, Put, Delete, Follow}
+use Rattle.xcap_app.specs.declared.command.Command.TheVariants.{Replay, Serve, Keep, Check}
+use Rattle.xcap_app.specs.declared.words.Service.{Service}
 
 unfoldable pub lists_word : List ℕ
 lists_word = codes "resource-lists"
@@ -36,23 +37,23 @@ abbrev pub check_of : List ℕ → Option Command
 check_of word = option_map (λ usage. Check usage) (usage_named word)
 
 -- an address, a root and a number, where all are there
-abbrev pub served_at : List ℕ → Option (List ℕ) → Option ℕ → Option Command
+abbrev pub served_at : List ℕ → Option (List ℕ) → Option ℕ → Option Service
 served_at address None count = None
 served_at address (Some root) None = None
-served_at address (Some root) (Some count) = Some (Serve (chars address) root count)
+served_at address (Some root) (Some count) = Some (record { address = chars address; root = root; count = count })
 
--- `serve ADDR ROOT COUNT`, where ADDR is any word of one or more octets
+-- `ADDR ROOT COUNT`, where ADDR is any word of one or more octets
+abbrev pub service_of : List ℕ → List ℕ → List ℕ → Option Service
+service_of [] root count = None
+service_of (c ∷ cs) root count = served_at (c ∷ cs) (root_of root) (count_of count)
+
+-- `serve ADDR ROOT COUNT`
 abbrev pub serve_of : List ℕ → List ℕ → List ℕ → Option Command
-serve_of [] root count = None
-serve_of (c ∷ cs) root count = served_at (c ∷ cs) (root_of root) (count_of count)
+serve_of address root count = option_map (λ s. Serve s.address s.root s.count) (service_of address root count)
 
--- `keep ADDR ROOT COUNT`, with the words of `serve`
-abbrev pub kept_as : Option Command → Option Command
-kept_as (Some (Serve address root count)) = Some (Keep address root count)
-kept_as other = None
-
+-- `keep ADDR ROOT COUNT`
 abbrev pub keep_of : List ℕ → List ℕ → List ℕ → Option Command
-keep_of address root count = kept_as (serve_of address root count)
+keep_of address root count = option_map (λ s. Keep s.address s.root s.count) (service_of address root count)
 
 unfoldable pub of_two : List ℕ → List ℕ → Option Command
 of_two name word =
@@ -73,17 +74,6 @@ of_five name user root path last =
     if bytes_eq name (codes "put") then put_of user root path last
     else if bytes_eq name (codes "follow") then follow_of user root path last
     else None
-
--- of `keep`, no more connections than the words can say
-abbrev pub IsBounded : Command → Type 0
-IsBounded (Replay root) = Unit {0}
-IsBounded (Serve address root count) = Unit {0}
-IsBounded (Keep address root count) = count ≤ 1000000
-IsBounded (Check usage) = Unit {0}
-IsBounded (Fetch asker path) = Unit {0}
-IsBounded (Put asker path media) = Unit {0}
-IsBounded (Delete asker path) = Unit {0}
-IsBounded (Follow asker document rounds) = Unit {0}
 
 -- the command that words spell, if they spell one
 abbrev pub command_of : List (List ℕ) → Option Command

@@ -15,14 +15,14 @@ pub enum Command {
     Serve {
         address: Text,
         root: Root,
-        count: u64,
+        count: u32,
     },
     /// Serves the connections that come at an address, so many at most, by a server of this root that is brought back from the
     /// journal that the input is, and keeps a journal on the output.
     Keep {
         address: Text,
         root: Root,
-        count: u64,
+        count: u32,
     },
     /// Reads the input as a document of this usage.
     Check {

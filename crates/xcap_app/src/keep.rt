@@ -44,14 +44,13 @@ fn serve_logged<'a, O: Sink, P: Port, W: Watchers<Edit>>(
     log: &mut Log,
     journal: &mut StreamJournal<'a, O>,
     address: &str,
-    count: u64,
+    count: u32,
     port: &mut P,
     watchers: &mut W,
 ) -> Exit
     requires whole { log.old.is_torn ≡ false }
     requires fits { length (⟦<StreamJournal<'a, O> as Journal>⟧.state journal.old).held ≡ log.old.len }
     requires short { log.old.len ≤ 4_294_967_296 }
-    requires few { count ≤ 1_000_000 }
     requires no_fault { (⟦<StreamJournal<'a, O> as Journal>⟧.state journal.old).faults ≡ 0 }
     ensures keeps_on { (requests : List TheRequest) (m : State) → Kept m → Stands server.old.content m
         → Redoing server.old.root (first_state 1) requests m → All IsTold requests
@@ -64,7 +63,7 @@ fn serve_logged<'a, O: Sink, P: Port, W: Watchers<Edit>>(
     if let Err(Failed) = port.listen(address) {
         return Exit::NetworkFailed;
     }
-    let served = serve_port_logged(server, log, journal, port, count, watchers);
+    let served = serve_port_logged(server, log, journal, port, count as u64, watchers);
     if journal.has_failed() {
         return Exit::OutputFailed;
     }
@@ -80,13 +79,12 @@ fn keep_over<'a, P: Port, I: Source, O: Sink, W: Watchers<Edit>>(
     server: &mut Server,
     journal: &mut StreamJournal<'a, O>,
     address: &str,
-    count: u64,
+    count: u32,
     port: &mut P,
     input: &mut I,
     watchers: &mut W,
 ) -> Exit
     requires empty { server.old.content ≡ record { documents = []; next = 1 } }
-    requires few { count ≤ 1_000_000 }
     requires fresh { (⟦<StreamJournal<'a, O> as Journal>⟧.state journal.old).held ≡ [] }
     requires no_fault { (⟦<StreamJournal<'a, O> as Journal>⟧.state journal.old).faults ≡ 0 }
     ensures keeps_by_the_server { (output output' : LineState) → Streams output output' (⟦<StreamJournal<'a, O> as Journal>⟧.state journal.new)
@@ -106,14 +104,13 @@ fn keep_by<P: Port, I: Source, O: Sink, W: Watchers<Edit>>(
     alloc: Global,
     server: &mut Server,
     address: &str,
-    count: u64,
+    count: u32,
     port: &mut P,
     input: &mut I,
     output: &mut O,
     watchers: &mut W,
 ) -> Exit
     requires empty { server.old.content ≡ record { documents = []; next = 1 } }
-    requires few { count ≤ 1_000_000 }
     ensures keeps_by_the_server { KeepsCommand W.keeps address.now server.old.root count result (P.state port.old) (P.state port.new)
         (I.state input.old) (I.state input.new) (O.state output.old) (O.state output.new) watchers.old watchers.new }
 {
@@ -137,13 +134,12 @@ pub(crate) fn keep<P: Port, I: Source, O: Sink, W: Watchers<Edit>>(
     alloc: Global,
     address: &str,
     root: &Root,
-    count: u64,
+    count: u32,
     port: &mut P,
     input: &mut I,
     output: &mut O,
     watchers: &mut W,
 ) -> Exit
-    requires few { count ≤ 1_000_000 }
     ensures keeps_a_journal { KeepsCommand W.keeps address.now root.now count result (P.state port.old) (P.state port.new)
         (I.state input.old) (I.state input.new) (O.state output.old) (O.state output.new) watchers.old watchers.new }
 {

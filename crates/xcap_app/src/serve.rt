@@ -42,7 +42,7 @@ fn print_served<O: Sink>(output: &mut O, connections: u64) -> Exit
 fn serve_at<P: Port, O: Sink, W: Watchers<Edit>>(
     server: &mut Server,
     address: &str,
-    count: u64,
+    count: u32,
     port: &mut P,
     output: &mut O,
     watchers: &mut W,
@@ -54,7 +54,7 @@ fn serve_at<P: Port, O: Sink, W: Watchers<Edit>>(
     if let Err(Failed) = port.listen(address) {
         return Exit::NetworkFailed;
     }
-    let served = serve_port(server, port, count, watchers);
+    let served = serve_port(server, port, count as u64, watchers);
     match served.stop {
         Stop::PortFailed => Exit::NetworkFailed,
         Stop::Count | Stop::NoMore => print_served(output, served.connections),
@@ -68,7 +68,7 @@ pub(crate) fn serve<P: Port, O: Sink, W: Watchers<Edit>>(
     alloc: Global,
     address: &str,
     root: &Root,
-    count: u64,
+    count: u32,
     port: &mut P,
     output: &mut O,
     watchers: &mut W,

@@ -1,6 +1,6 @@
 // The top call.
 ghost use Rattle.std.specs.Prelude.{◌≡◌, None, Some, map, string_bytes};
-ghost use Rattle.xcap_app.specs.Commands.{IsBounded, command_of};
+ghost use Rattle.xcap_app.specs.Commands.{command_of};
 ghost use Rattle.xcap_app.specs.Exits.{status_of, words_of};
 ghost use Rattle.xcap_app.specs.Runs.{Runs};
 ghost use Rattle.xcap_app.specs.Telling.{Tells};
@@ -30,7 +30,6 @@ fn execute<P: Port, C: Peer, I: Source, O: Sink, W: Watchers<Edit>>(
     output: &mut O,
     watchers: &mut W,
 ) -> Exit
-    requires bounded { IsBounded command.now }
     ensures runs_the_command { Runs W.keeps (Some command.now) result (P.state port.old) (P.state port.new)
         (C.state peer.old) (C.state peer.new) (I.state input.old) (I.state input.new) (O.state output.old) (O.state output.new) watchers.old watchers.new }
 {

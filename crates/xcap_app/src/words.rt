@@ -1,12 +1,12 @@
 // The words of the command line.
 ghost use Rattle.std.specs.Prelude.{◌≡◌, IfOk, map, string_bytes};
-ghost use Rattle.xcap_app.specs.Commands.{check_of, command_of, count_of, keep_of, of_five, of_four, of_two, replay_of, serve_of, usage_named};
+ghost use Rattle.xcap_app.specs.Commands.{check_of, command_of, count_of, keep_of, of_five, of_four, of_two, replay_of, serve_of, service_of, usage_named};
 
 use crate::asking_words::{delete_of, fetch_of, follow_of, put_of};
 use crate::command::Command;
 use doc_names::Usage;
 use std::alloc::{AllocError, Global};
-use xcap_uri::{numeral, read_root};
+use xcap_uri::{Root, numeral, read_root};
 use xml_tree::Text;
 
 // The greatest COUNT.
@@ -14,14 +14,14 @@ const GREATEST_COUNT: u64 = 1_000_000;
 
 // The COUNT that a word is.
 #[tactic(auto, unfolding(crate::specs::Commands::count_of))]
-fn count_of(word: &str) -> Option<u64>
+fn count_of(word: &str) -> Option<u32>
     ensures reads_the_count { result ≡ count_of word.now }
 {
     let number = numeral(word.as_bytes())?;
     if number > GREATEST_COUNT {
         return None;
     }
-    Some(number)
+    Some(number as u32)
 }
 
 // The usage that a word names.
@@ -56,14 +56,22 @@ fn check_of(word: &str) -> Option<Command>
     Some(Command::Check { usage })
 }
 
-// What `serve` and three words spell. The first may be any but an empty one.
-fn serve_of(
+// An address, a root and a number of connections.
+#[derive(Drop)]
+struct Service {
+    address: Text,
+    root: Root,
+    count: u32,
+}
+
+// What three words say of a service. The first may be any but an empty one.
+fn service_of(
     alloc: Global,
     address: &str,
     root: &str,
     count: &str,
-) -> Result<Option<Command>, AllocError>
-    ensures reads_a_serve { IfOk result (λ command. command ≡ serve_of address.now root.now count.now) }
+) -> Result<Option<Service>, AllocError>
+    ensures reads_a_service { IfOk result (λ service. service ≡ service_of address.now root.now count.now) }
 {
     if address.is_empty() {
         return Ok(None);
@@ -75,14 +83,39 @@ fn serve_of(
         return Ok(None);
     };
     let address = Text::from(alloc, address)?;
-    Ok(Some(Command::Serve {
+    Ok(Some(Service {
         address,
         root,
         count,
     }))
 }
 
-// What `keep` and three words spell, which are those of `serve`.
+// What `serve` and three words spell.
+fn serve_of(
+    alloc: Global,
+    address: &str,
+    root: &str,
+    count: &str,
+) -> Result<Option<Command>, AllocError>
+    ensures reads_a_serve { IfOk result (λ command. command ≡ serve_of address.now root.now count.now) }
+{
+    match service_of(alloc, address, root, count)? {
+        Some(
+            Service {
+                address,
+                root,
+                count,
+            },
+        ) => Ok(Some(Command::Serve {
+            address,
+            root,
+            count,
+        })),
+        None => Ok(None),
+    }
+}
+
+// What `keep` and three words spell.
 fn keep_of(
     alloc: Global,
     address: &str,
@@ -91,9 +124,9 @@ fn keep_of(
 ) -> Result<Option<Command>, AllocError>
     ensures reads_a_keep { IfOk result (λ command. command ≡ keep_of address.now root.now count.now) }
 {
-    match serve_of(alloc, address, root, count)? {
+    match service_of(alloc, address, root, count)? {
         Some(
-            Command::Serve {
+            Service {
                 address,
                 root,
                 count,
@@ -103,7 +136,7 @@ fn keep_of(
             root,
             count,
         })),
-        _ => Ok(None),
+        None => Ok(None),
     }
 }
 

@@ -1,6 +1,5 @@
 use Rattle.std.proofs.Common.{rules, inl, refl, sym, ◌∙◌, arith}
 use Rattle.edit_journal.specs.Streams.{stream_state}
-use Rattle.edit_journal.proofs.Going.{goes_none}
 use Rattle.xcap_server.specs.Logged.{AcceptedAt}
 use Rattle.xcap_app.proofs.Keeping.{fits_whole, holds_whole, kept_done, kept_failed, kept_port_failed}
 use Rattle.xcap_app.proofs.keep.serve_logged.Goals as goal
@@ -11,7 +10,7 @@ serve_port_logged-served-requires-clause-fits g c =
     fits_whole c.args.log.now (stream_state (g.O.Line.state j.output.now) j.output.ghost_name j.len j.faults) c.requires.whole c.requires.fits
 
 pub serve_port_logged-served-requires-clause-room : goal.serve_port_logged-served-requires-clause-room
-serve_port_logged-served-requires-clause-room g c = omega (arith, c.requires.short, c.requires.few)
+serve_port_logged-served-requires-clause-room g c = omega (arith, c.requires.short, c.ranges.count.fits)
 
 pub returns-in-Err-clause-keeps_on : goal.returns-in-Err-clause-keeps_on
 returns-in-Err-clause-keeps_on g c = λ requests m kept stands redone told held.
