@@ -1,20 +1,18 @@
 -- How `keep` ends, by what its old journal, its new one and the port did.
-use Rattle.std.proofs.Common.{◌≡◌, ℕ, ◌+◌, ◌^◌, ◌-◌, ◌<◌, ◌≤◌, ◌⊎◌, inl, inr, Bool, true, false, nat_lt, List, [], ◌∷◌, ◌++◌, length, take, All, Result, Ok, Err, refl, sym, ap, subst, ◌∙◌, arith, append-nil, length-append, ⊎_elim}
+use Rattle.std.proofs.Common.{◌≡◌, ℕ, ◌<◌, ◌≤◌, ◌⊎◌, inl, inr, Bool, true, false, nat_lt, List, [], ◌++◌, length, take, All, Result, Ok, Err, refl, sym, ap, subst, ◌∙◌, arith, append-nil, length-append}
 use Rattle.std.proofs.lemmas.Bool.Decides.{nat_tests}
-use Rattle.std.proofs.lemmas.List.{length-take}
+use Rattle.std.proofs.lemmas.List.{length-take, take_all}
 use Rattle.std.specs.Bool.{MatchBool}
 use Rattle.notes.specs.declared.edit.Edit.{Edit}
-use Rattle.reply_text.specs.Heads.{Sent}
 use Rattle.http_wire.specs.declared.request.Request.{Request}
 use Rattle.http_wire.specs.Serving.{IsBounded}
 use Rattle.xcap_io.specs.Causes.{LineState, Rose}
-use Rattle.xcap_io.specs.Connections.{listening_at, with_port_faults}
-use Rattle.xcap_io.specs.Passing.{Gave}
-use Rattle.edit_journal.specs.Journals.{Goes, IsFirstOf, JournalState}
+use Rattle.xcap_io.specs.Connections.{listening_at}
+use Rattle.edit_journal.specs.Journals.{IsFirstOf, JournalState}
 use Rattle.edit_journal.specs.Logs.{Fits, LogState}
 use Rattle.edit_journal.specs.Records.{IsRecordable, record_of}
-use Rattle.edit_journal.specs.Restarts.{CountsFaults, EndsAs, Restarts, most_journal_bytes}
-use Rattle.edit_journal.specs.Texts.{BeginsWith, IsTold, text}
+use Rattle.edit_journal.specs.Restarts.{Restarts, most_journal_bytes}
+use Rattle.edit_journal.specs.Texts.{IsTold, text}
 use Rattle.edit_journal.specs.declared.restarting.RestartFault.{RestartFault}
 use Rattle.edit_journal.specs.declared.restarting.RestartFault.TheVariants as faults
 use Rattle.http_serve.specs.Ports.{ServesPort}
@@ -22,8 +20,7 @@ use Rattle.http_serve.specs.Written.{InBytes}
 use Rattle.http_serve.specs.declared.port.Served.{Served}
 use Rattle.http_serve.specs.declared.port.Stop.TheVariants.{PortFailed}
 use Rattle.logged_serve.specs.Books.{Booked, HoldsLog, LoggedStep}
-use Rattle.store_core.specs.Held.{Stands, Stock, stock_of}
-use Rattle.store_core.specs.Keeping.{Kept}
+use Rattle.store_core.specs.Held.{Stock, stock_of}
 use Rattle.store_core.specs.State.{State, first_state}
 use Rattle.store_core.proofs.KeptAfter.{kept-first}
 use Rattle.machine_words.specs.Answers.{unchanged}
@@ -32,7 +29,7 @@ use Rattle.feed_laws.specs.Holding.{FollowedStep}
 use Rattle.xcap_server.specs.Logged.{AcceptedAt, ServesPortLogged}
 use Rattle.xcap_server.specs.Redoing.{Redoing, Refuses, StandsFor}
 use Rattle.xcap_server.specs.Servers.{ServerState}
-use Rattle.xcap_app.specs.Keeping.{BreaksOff, DoesntListen, KeepsCommand, KeepsOn, ReadsJournal, ReadsRecords, ServesKept, StopsReading, Wrote, exit_of, keeps_on, no_journal}
+use Rattle.xcap_app.specs.Keeping.{BreaksOff, KeepsOn, ReadsJournal, ReadsRecords, ServesKept, StopsReading}
 use Rattle.xcap_app.specs.Serves.{IsComplete}
 use Rattle.xcap_app.specs.declared.exit.Exit.{Exit}
 use Rattle.xcap_app.specs.declared.exit.Exit.TheVariants.{Done, Usage, InputFailed, OutputFailed, NetworkFailed, Refused, Client, BadJournal, OutOfMemory}
@@ -75,7 +72,7 @@ module _ (input input' : LineState) (journal journal' : JournalState) (s s' : Se
           records = records.1;
           ended = r.ending.0;
           short = r.ending.1;
-          no_more = r.ending.2;
+          whole = record { told = r.told; split = sym (take_all most_journal_bytes r.bytes r.ending.1) ∙ r.split; no_more = r.ending.2 };
           torn = r.ending.3;
           no_fault = r.faults.0;
         },
@@ -87,7 +84,7 @@ module _ (input input' : LineState) (journal journal' : JournalState) (s s' : Se
     failed rose = streams.cause (omega (arith, rose, none))
 
     stops_so : (fault : RestartFault) (r : Restarted (Err fault)) (stood : StandsFor s' r.requests) → StopsReading s.root fault input input' output output' r.bytes r.requests r.rest stood.state
-    stops_so faults.ReadFailed r stood = ((wrote output output' journal' (text r.requests) streams r.ending.0).took, r.faults.0)
+    stops_so faults.ReadFailed r stood = ((wrote output output' journal' (text r.requests) streams r.ending.0).took, r.ending.1, r.ending.2, r.faults.0)
     stops_so faults.AppendFailed r stood =
         let e = r.ending in
         ((e.0, e.1, e.2, adds_some output output' journal' (text e.0) (record_of e.1) streams e.3), failed r.faults.1)

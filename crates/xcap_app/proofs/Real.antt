@@ -29,12 +29,10 @@ use Rattle.xcap_app.specs.Exits.{status_of}
 use Rattle.xcap_app.specs.Keeping.{KeepsCommand, exit_of as fault_exit, keeps_on, no_journal, no_server}
 use Rattle.xcap_app.specs.Replays.{Replays}
 use Rattle.xcap_app.specs.Telling.{IsTold as IsToldAs}
-use Rattle.edit_journal.specs.Restarts.{most_journal_bytes}
-use Rattle.edit_journal.specs.Texts.{text}
+use Rattle.edit_journal.specs.Texts.{Whole, text}
 use Rattle.edit_journal.specs.declared.restarting.RestartFault.{RestartFault}
 use Rattle.edit_journal.specs.declared.restarting.RestartFault.TheVariants as restart_faults
 use Rattle.logged_serve.specs.Books.{LoggedStep}
-use Rattle.std.proofs.lemmas.List.{take_all}
 use Rattle.xcap_app.specs.Runs.{Runs}
 use Rattle.xcap_app.specs.Serves.{served_line, ServesCommand as Serves}
 use Rattle.xcap_app.specs.System.{AnswersAll, AnswersInput, AnswersKept, FollowsNamed, IsDone}
@@ -156,7 +154,6 @@ module _ {W : Type 0} (Keeps : List Edit → W → W → Type 0) where
       let v = kept.serves in
       let all : carried port' ≡ v.connections = v.all_carried ∙ ap (λ (b : Begun). carried_by b.earlier b.is_present (traffic port) ++ v.connections) none_yet in
       let given : input'.inward.given ≡ reads.bytes = took_all input.inward.given input'.inward.given reads.bytes none_given reads.records.given.behind in
-      let whole : reads.bytes ≡ text requests ++ reads.rest = sym (take_all most_journal_bytes reads.bytes reads.short) ∙ reads.records.split in
       record {
         requests = requests;
         rest = reads.rest;
@@ -164,7 +161,8 @@ module _ {W : Type 0} (Keeps : List Edit → W → W → Type 0) where
         accepted = kept.accepted;
         next = kept.next;
         edits = v.edits;
-        read = record { told = reads.records.told; split = given ∙ whole; no_more = reads.no_more };
+        read = subst (λ (bytes : List ℕ). Whole bytes requests reads.rest) (sym given) reads.whole;
+        torn = reads.torn;
         redone = reads.records.redone;
         serves = subst (λ (l : List Traffic). ServesAll (InBytes (LoggedStep (FollowedStep root))) fixed (record { machine = state; requests = requests; failures = 0 }) l (record { machine = kept.next; requests = kept.accepted; failures = 0 }) v.edits
             port.read_faults port'.read_faults port.write_faults port'.write_faults) (sym all) v.serves;

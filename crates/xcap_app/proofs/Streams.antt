@@ -1,12 +1,10 @@
 -- A journal over a stream holds what the stream took since it was made.
-use Rattle.std.proofs.Common.{◌≡◌, ℕ, ◌+◌, ◌-◌, ◌<◌, ◌⊎◌, inl, inr, List, [], ◌∷◌, ◌++◌, length, take, drop, refl, sym, ap, subst, ◌∙◌, arith, append_assoc, take-append-drop}
+use Rattle.std.proofs.Common.{◌≡◌, ℕ, ◌-◌, ◌<◌, inl, inr, List, ◌∷◌, ◌++◌, length, sym, ap, subst, ◌∙◌, arith, append_assoc, take-append-drop}
 use Rattle.std.specs.Borrow.{GName}
 use Rattle.xcap_io.specs.Causes.{Aside, LineState, Rose}
 use Rattle.xcap_io.specs.Pairs.{unwritten}
-use Rattle.xcap_io.specs.Passing.{Took}
 use Rattle.edit_journal.specs.Journals.{AddsSome, Goes, JournalState}
 use Rattle.edit_journal.specs.Streams.{stream_state}
-use Rattle.xcap_app.specs.Frames.{JustWritten}
 use Rattle.xcap_app.specs.Keeping.{Wrote}
 use Rattle.xcap_app.specs.inner.Streams.{Streams}
 

@@ -9,7 +9,7 @@ use Rattle.xcap_io.specs.Passing.{Gave, IsEnded, Took}
 use Rattle.edit_journal.specs.Journals.{AddsSome, IsFirstOf}
 use Rattle.edit_journal.specs.Records.{IsRecordable, record_of}
 use Rattle.edit_journal.specs.Restarts.{most_journal_bytes}
-use Rattle.edit_journal.specs.Texts.{BeginsWith, HasNoRecord, IsDamaged, IsTold, IsTorn, text}
+use Rattle.edit_journal.specs.Texts.{BeginsWith, HasNoRecord, IsDamaged, IsTold, IsTorn, Whole, text}
 use Rattle.edit_journal.specs.declared.restarting.RestartFault.{RestartFault}
 use Rattle.edit_journal.specs.declared.restarting.RestartFault.TheVariants as faults
 use Rattle.http_serve.specs.Ports.{ServesPort}
@@ -51,14 +51,14 @@ pub record ReadsRecords (root : List ℕ) (input input' : LineState) (bytes : Li
   pub kept : Kept state
   pub reads : Reads input input'
 
--- all of the old journal was read, whose rest is torn
+-- All of the old journal was read. The requests are those whose records lie whole in it, and its rest is torn.
 pub record ReadsJournal (root : List ℕ) (input input' : LineState) (requests : List Request) (state : State) : Type 0 where
   pub bytes : List ℕ
   pub rest : List ℕ
   pub records : ReadsRecords root input input' bytes requests rest state
   pub short : length bytes ≤ most_journal_bytes
   pub ended : IsEnded input'.inward
-  pub no_more : HasNoRecord rest
+  pub whole : Whole bytes requests rest
   pub torn : IsTorn rest
   pub no_fault : input'.read_faults ≡ input.read_faults
 
@@ -66,7 +66,7 @@ pub record ReadsJournal (root : List ℕ) (input input' : LineState) (requests :
 -- where the output failed or memory was wanted.
 abbrev pub StopsReading : List ℕ → RestartFault → LineState → LineState → LineState → LineState → List ℕ → List Request → List ℕ → State → Type 0
 StopsReading root faults.ReadFailed input input' output output' bytes requests rest state =
-    Took output.taken output'.taken (text requests) × Rose input.read_faults input'.read_faults
+    Took output.taken output'.taken (text requests) × HasNoRecord rest × IsTorn rest × Rose input.read_faults input'.read_faults
 StopsReading root faults.AppendFailed input input' output output' bytes requests rest state =
     ((before : List Request) × (last : Request) × (requests ≡ before ++ last ∷ []) × AddsSome (output.taken ++ text before) output'.taken (record_of last))
     × Rose output.write_faults output'.write_faults

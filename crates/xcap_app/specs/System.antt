@@ -4,7 +4,7 @@ use Rattle.std.specs.Prelude.{◌≡◌, ℕ, List, codes, length, Option, None,
 use Rattle.notes.specs.declared.edit.Edit.{Edit}
 use Rattle.store_core.specs.State.{State, first_state}
 use Rattle.http_wire.specs.declared.request.Request.{Request}
-use Rattle.edit_journal.specs.Texts.{Whole, text}
+use Rattle.edit_journal.specs.Texts.{IsTorn, Whole, text}
 use Rattle.logged_serve.specs.Books.{LoggedStep}
 use Rattle.xcap_server.specs.Redoing.{Redoing}
 use Rattle.http_wire.specs.Serving.{closed, Serves, ServesAll}
@@ -52,8 +52,8 @@ module _ {W : Type 0} (Keeps : List Edit → W → W → Type 0) where
     pub serves : Serves (InBytes (FollowedStep root)) fixed closed (first_state 1) (record { given = input'.inward.given; ended = input'.inward.ended; taken = output'.taken }) state edits
     pub told : Keeps edits watchers watchers'
 
-  -- What came in over the input is the records of some requests, and a rest at whose front none lies whole; from what they come to on, the
-  -- machine answered on all connections of the port, and accepted further requests. The output took the records of all.
+  -- What came in over the input is the records of some requests, and a torn rest, in which none lies whole; from what they come to on,
+  -- the machine answered on all connections of the port, and accepted further requests. The output took the records of all.
   pub record AnswersKept (root : List ℕ) (port port' input' output' : LineState) (watchers watchers' : W) : Type 0 where
     pub requests : List Request
     pub rest : List ℕ
@@ -62,6 +62,7 @@ module _ {W : Type 0} (Keeps : List Edit → W → W → Type 0) where
     pub next : State
     pub edits : List Edit
     pub read : Whole input'.inward.given requests rest
+    pub torn : IsTorn rest
     pub redone : Redoing root (first_state 1) requests state
     pub serves : ServesAll (InBytes (LoggedStep (FollowedStep root))) fixed (record { machine = state; requests = requests; failures = 0 }) (carried port') (record { machine = next; requests = accepted; failures = 0 }) edits
         port.read_faults port'.read_faults port.write_faults port'.write_faults

@@ -1,5 +1,5 @@
 -- What is known of an output that a journal was made over.
-use Rattle.std.specs.Prelude.{◌≡◌, ℕ, ◌<◌, ◌++◌}
+use Rattle.std.specs.Prelude.{◌≡◌, ◌<◌, ◌++◌}
 use Rattle.xcap_io.specs.Causes.{LineState, Rose}
 use Rattle.edit_journal.specs.Journals.{JournalState}
 use Rattle.xcap_app.specs.Frames.{JustWritten}

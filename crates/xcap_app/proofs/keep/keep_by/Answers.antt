@@ -1,4 +1,4 @@
-use Rattle.std.proofs.Common.{ap, subst, sym, ◌∙◌}
+use Rattle.std.proofs.Common.{ap, rules, subst, sym, ◌∙◌}
 use Rattle.edit_journal.specs.Journals.{JournalState}
 use Rattle.edit_journal.specs.Streams.{stream_state}
 use Rattle.xcap_app.specs.Keeping.{KeepsCommand}
@@ -21,6 +21,6 @@ returns g c = record {
       streams (o c.args.output.now) (o k.output.now) _ k.output.ghost_name made k.len k.faults c.new-journal.ensures.of_the_sink c.new-journal.ensures.behind_what_was_taken c.keep_over.ensures.goes_on in
       let r = c.keep_over.ensures.keeps_by_the_server (o c.args.output.now) (o k.output.now) s in
       let same = sym (same_name _ _ _ _ (c.keep_over.ensures.goes_on.same_holds ∙ ap (λ (x : JournalState). x.holds) c.new-journal.ensures.of_the_sink)) in
-      subst (λ (output : g.row.O.Denot). KeepsCommand g.W.Watchers.keeps c.args.address.now c.args.server.now.root c.args.count c.keep_over.result (p c.args.port.now) (p c.keep_over.new.port) (i c.args.input.now) (i c.keep_over.new.input) (o c.args.output.now) (o output)
-      c.args.watchers.now c.keep_over.new.watchers) (sym (c.output-1.given.1 same)) r;
+      subst (λ output. KeepsCommand g.W.Watchers.keeps c.args.address.now c.args.server.now.root c.args.count c.keep_over.result (p c.args.port.now) (p c.keep_over.new.port)
+      (i c.args.input.now) (i c.keep_over.new.input) (o c.args.output.now) (o output) c.args.watchers.now c.keep_over.new.watchers) (search (rules, same)) r;
 }
