@@ -1,0 +1,4 @@
+pub mod Beginnings
+pub mod Broken
+pub mod Copied
+pub mod Restored
