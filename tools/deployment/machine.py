@@ -20,6 +20,7 @@ mount -t cgroup -o none,name=systemd cgroup $root/sys/fs/cgroup/systemd || true
 mount -t cgroup2 cgroup2 $root/sys/fs/cgroup/unified || mount -t cgroup2 cgroup2 $root/sys/fs/cgroup
 install {program} $root/usr/local/bin/xcapd
 install -m 644 {units}/*.service $root/etc/systemd/system/
+for kept in {keeping}; do install -D -m 644 {units}/keep.conf $root/etc/systemd/system/$kept.d/keep.conf; done
 printf '[Unit]\\nRequires=systemd-journald.service {wanted}\\n' > $root/etc/systemd/system/trial.target
 mkdir $root/host
 cd $root
@@ -32,14 +33,15 @@ NAMESPACES = ["--pid", "--fork", "--mount", "--uts", "--ipc", "--cgroup", "--kil
 
 
 class Machine:
-    """It runs systemd with the given units of the repository, and ends with its block."""
+    """It runs systemd with the given units of the repository, of which some keep a journal, and ends
+    with its block."""
 
-    def __init__(self, folder, program, units, wanted):
+    def __init__(self, folder, program, units, wanted, keeping=()):
         self.folder = pathlib.Path(folder)
         for place in ("root", "layer"):
             (self.folder / place).mkdir()
-        names = {"folder": folder, "program": program, "units": units, "wanted": " ".join(wanted)}
-        self.script = INIT.format(**names)
+        names = {"folder": folder, "program": program, "units": units}
+        self.script = INIT.format(**names, wanted=" ".join(wanted), keeping=" ".join(keeping))
         self.wanted = wanted
 
     def __enter__(self):

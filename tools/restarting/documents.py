@@ -22,7 +22,7 @@ def entry_path(user, uri):
 
 
 class Documents:
-    """The documents by user: the tag and the addresses, in order; and the last number that was told."""
+    """The documents by user, each with its tag and its addresses in order; and the last number."""
 
     def __init__(self):
         self.held = {}

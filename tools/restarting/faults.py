@@ -1,5 +1,5 @@
 """Journals that break off, are damaged, or find no room."""
-from restarting.documents import Documents
+from restarting.documents import Documents, document_path, text_of
 from restarting.server import Ended, Kept
 
 
@@ -26,10 +26,10 @@ def session(program, folder, random, count):
     return new.read_bytes(), states
 
 
-def start(program, folder, text, limit=None):
+def start(program, folder, text, **options):
     old, new = folder / "old", folder / "new"
     old.write_bytes(text)
-    return Kept(program, old, new, limit=limit), new
+    return Kept(program, old, new, **options), new
 
 
 def cut_everywhere(report, program, folder, random):
@@ -90,36 +90,53 @@ def damaged(report, program, folder, random):
     )
 
 
+def is_without_room(kept, known, random):
+    """Makes 200 edits. The documents then, how many were accepted, and whether all others were
+    answered 500 and changed nothing."""
+    statuses = []
+    for number in range(100, 300):
+        asked, after = known.edit(random, number)
+        statuses.append(kept.ask(*asked)[0])
+        if statuses[-1] in (200, 201):
+            known = after
+    first = statuses.index(500)
+    return known, first, set(statuses[first:]) == {500} and known.is_held_by(kept)
+
+
 def full_disk(report, program, folder, random):
     """A limit on the size of files stands for a full disk."""
     text, states = session(program, folder, random, 30)
-    accepted = refused = 0
     for limit in (len(text) + 7, len(text) + 2_000, len(text) + 20_001):
         kept, new = start(program, folder, text, limit=limit)
-        known = states[-1]
-        statuses = []
-        for number in range(100, 300):
-            asked, after = known.edit(random, number)
-            status = kept.ask(*asked)[0]
-            statuses.append(status)
-            if status in (200, 201):
-                known = after
-        reads = known.is_held_by(kept)
-        first = statuses.index(500)
-        accepted += first
-        refused += len(statuses) - first
+        known, accepted, all_refused = is_without_room(kept, states[-1], random)
         report.holds(
             f"no room behind {limit} bytes: from the first record that doesn't fit on, each edit is"
             " answered 500 and changes nothing, and all is still read",
-            reads and set(statuses[first:]) == {500} and 500 not in statuses[:first],
-            f"{first} accepted, then {len(statuses) - first} answered 500",
+            all_refused,
+            f"{accepted} accepted, then {200 - accepted} answered 500",
         )
+        kept.make_room()
+        status = kept.ask(*known.edit(random, 300)[0])[0]
+        is_so = status == 500 and known.is_held_by(kept)
+        report.holds("  and so is one when there is room again", is_so)
         kept.end()
         again, _ = start(program, folder, new.read_bytes())
-        report.holds("  and a restart from what was written has all that was accepted", known.is_held_by(again))
+        held = known.is_held_by(again)
+        report.holds("  and a restart from what was written has all that was accepted", held)
         again.end()
     kept, _ = start(program, folder, text, limit=len(text) - 1)
-    report.holds(
-        "no room for the old journal's records: status 4",
-        (kept.process.wait(), kept.told()) == (4, ["output failed"]),
-    )
+    ended = (kept.process.wait(), kept.told())
+    report.holds("no room for the old journal's records: status 4", ended == (4, ["output failed"]))
+
+
+def ends(report, program, folder, random):
+    """How it ends behind its last connection."""
+    text, states = session(program, folder, random, 3)
+    put = ("PUT", document_path("ann"), "ann", text_of(["sip:a@x"]), "resource-lists")
+    for limit, answer, ended in ((None, 201, (0, [])), (len(text), 500, (4, ["output failed"]))):
+        kept, _ = start(program, folder, text, limit=limit, connections=1)
+        is_so = kept.ask(*put)[0] == answer
+        kept.close()
+        is_so &= (kept.process.wait(), kept.told()) == ended
+        what = f"it ends behind its last connection, on which a {answer} was answered: status"
+        report.holds(what, is_so, str(ended[0]))

@@ -31,7 +31,7 @@ class Kept:
         def bounded():
             signal.signal(signal.SIGXFSZ, signal.SIG_IGN)
             if limit is not None:
-                resource.setrlimit(resource.RLIMIT_FSIZE, (limit, limit))
+                resource.setrlimit(resource.RLIMIT_FSIZE, (limit, resource.RLIM_INFINITY))
 
         with open(old, "rb") as source, open(new, "wb") as sink, open(self.errors, "wb") as errors:
             self.process = subprocess.Popen(
@@ -73,6 +73,11 @@ class Kept:
         if reply.will_close:
             self.close()
         return reply.status, (reply.getheader("ETag") or "").strip('"'), text
+
+    def make_room(self):
+        """Its files may grow again."""
+        lifted = (resource.RLIM_INFINITY, resource.RLIM_INFINITY)
+        resource.prlimit(self.process.pid, resource.RLIMIT_FSIZE, lifted)
 
     def close(self):
         if self.connection is not None:

@@ -1,9 +1,14 @@
 """How long a restart takes, by the size of the journal."""
 import time
 
+from restarting.documents import document_path, text_of
 from restarting.server import Kept
 
-HEAD = [(b"Host", b"xcap.example.com"), (b"X-XCAP-User", b"joe"), (b"Content-Type", b"application/resource-lists+xml")]
+HEAD = [
+    (b"Host", b"xcap.example.com"),
+    (b"X-XCAP-User", b"joe"),
+    (b"Content-Type", b"application/resource-lists+xml"),
+]
 
 
 def block(text):
@@ -24,15 +29,21 @@ def put(number, size):
     return block(b"\1" + target + len(HEAD).to_bytes(2, "big") + fields + block(body))
 
 
+def write_journal(file, size, length):
+    """A journal of so many bytes or some more, whose documents have about this length."""
+    count = 0
+    with open(file, "wb") as made:
+        while made.tell() < size:
+            count += 1
+            made.write(put(count, length))
+    return count
+
+
 def restarts(report, program, folder, sizes=(1, 10, 100)):
     old, new = folder / "long", folder / "long.new"
     for size in sizes:
         for length in (200, 20_000):
-            with open(old, "wb") as made:
-                number = 0
-                while made.tell() < size * 1_000_000:
-                    number += 1
-                    made.write(put(number, length))
+            count = write_journal(old, size * 1_000_000, length)
             began = time.monotonic()
             kept = Kept(program, old, new)
             kept.connect()
@@ -40,8 +51,8 @@ def restarts(report, program, folder, sizes=(1, 10, 100)):
             same = kept.ask("GET", "resource-lists/users/joe/index1", "joe")[0] == 200
             kept.end()
             report.holds(
-                f"a restart from {size} MB, {number} records",
-                same and old.stat().st_size == new.stat().st_size,
+                f"a restart from {size} MB, {count} records",
+                same and old.read_bytes() == new.read_bytes(),
                 f"{took:.2f} s",
             )
 
@@ -49,18 +60,14 @@ def restarts(report, program, folder, sizes=(1, 10, 100)):
 def appends(report, program, folder, sizes=(0, 10, 100)):
     """An edit costs its record, however long the journal is."""
     old, new = folder / "long", folder / "long.new"
-    body = '<resource-lists xmlns="urn:ietf:params:xml:ns:resource-lists"><list name="a"/></resource-lists>'
+    body = text_of(["sip:a@example.com"])
     for size in sizes:
-        with open(old, "wb") as made:
-            number = 0
-            while made.tell() < size * 1_000_000:
-                number += 1
-                made.write(put(number, 20_000))
+        write_journal(old, size * 1_000_000, 20_000)
         kept = Kept(program, old, new)
         kept.connect()
         began = time.monotonic()
         for _ in range(800):
-            kept.ask("PUT", "resource-lists/users/ann/index", "ann", body, "resource-lists")
+            kept.ask("PUT", document_path("ann"), "ann", body, "resource-lists")
         took = time.monotonic() - began
         kept.end()
         report.note(f"800 edits behind a journal of {size} MB: {took:.2f} s")
