@@ -80,6 +80,14 @@ fn faults(alloc: Global, inputs: &[Field]) -> Result<String> {
     Ok(format!(in alloc; "{redone}{answer}, {kept} bytes")?)
 }
 
+/// The requests that a restart from these bytes does again, and then the length of the whole records or the fault.
+pub fn redone(alloc: Global, bytes: &[u8]) -> Result<String> {
+    let mut line = MemLine::new(alloc, bytes, 7, None, 0)?;
+    let (answer, notebook, _journal) = restarted(alloc, &mut line, &[], None)?;
+    let redone = notebook.lines.as_str();
+    Ok(format!(in alloc; "{redone}{answer}")?)
+}
+
 /// What a restart makes of the bytes of a case.
 pub fn answer(alloc: Global, table: &str, inputs: &[Field]) -> Result<String> {
     match table {
