@@ -7,6 +7,8 @@ use http_exchange::Response;
 use std::alloc::Global;
 use table_cases::Field;
 use xcap_client::{ClientFault, fetch, put, remove};
+use xcap_io::MemPeer;
+use xcap_uri::Root;
 
 const ROOT: &str = "http://xcap.example.com/xcap";
 
@@ -41,23 +43,33 @@ fn response_in(alloc: Global, body: &[u8], response: &Response) -> Result<String
     }
 }
 
-// What a GET answers by bytes that come so many at a time.
-fn fetched(alloc: Global, bytes: &[u8], body: &[u8], step: usize) -> Result<String> {
+// What a GET under a root answers by bytes that come so many at a time.
+fn fetched(alloc: Global, root: &Root, bytes: &[u8], body: &[u8], step: usize) -> Result<String> {
+    let question = Question {
+        call: Call::Fetch,
+        user: None,
+        path: "a",
+    };
+    let mut peer = giving(alloc, bytes, step)?;
+    outcome(alloc, body, &question.answer(alloc, root, &mut peer))
+}
+
+// A peer of one connection that gives these bytes, so many at a time.
+fn giving(alloc: Global, bytes: &[u8], step: usize) -> Result<MemPeer> {
     let played = Played {
         given: &[bytes],
         step,
         fails_at: None,
         room: ROOM,
     };
-    let mut peer = peer(alloc, &played, None)?;
-    let given = fetch(alloc, &mut peer, &root(alloc, ROOT)?, None, "a");
-    outcome(alloc, body, &given)
+    peer(alloc, &played, None)
 }
 
 fn in_any_pieces(alloc: Global, bytes: &[u8], body: &[u8]) -> Result<String> {
-    let whole = fetched(alloc, bytes, body, bytes.len())?;
+    let root = root(alloc, ROOT)?;
+    let whole = fetched(alloc, &root, bytes, body, bytes.len())?;
     for step in [7usize, 1] {
-        let cut = fetched(alloc, bytes, body, step)?;
+        let cut = fetched(alloc, &root, bytes, body, step)?;
         if cut.as_str() != whole.as_str() {
             return Ok(format!(in alloc; "{whole}; by {step} bytes: {cut}")?);
         }
@@ -81,11 +93,65 @@ fn optional_text(field: &Field) -> Result<Option<&str>> {
     Ok(Some(field.text()?))
 }
 
-// What a call asks of a peer that then answers so, and what it answers.
-fn asked(alloc: Global, request: &[Field], faults: &[Field], given: &Field) -> Result<String> {
-    let [call, root_text, user, path, media, body] = request else {
-        bail!("the columns are others");
-    };
+// The calls of a client.
+#[derive(Clone, Copy)]
+enum Call<'a> {
+    Fetch,
+    Put { media: &'a str, body: &'a [u8] },
+    Remove,
+}
+
+// The call of this name, with what it puts.
+fn call_of<'a>(name: &str, media: &'a Field, body: &'a Field) -> Result<Call<'a>> {
+    match name {
+        "fetch" => Ok(Call::Fetch),
+        "put" => {
+            let media = media.text()?;
+            let body = body.bytes();
+            Ok(Call::Put { media, body })
+        }
+        "remove" => Ok(Call::Remove),
+        _ => bail!("no call"),
+    }
+}
+
+// What a client asks for under a root.
+#[derive(Clone, Copy)]
+struct Question<'a> {
+    call: Call<'a>,
+    user: Option<&'a str>,
+    path: &'a str,
+}
+
+impl<'a> Question<'a> {
+    fn read(fields: &'a [Field]) -> Result<Question<'a>> {
+        let [call, user, path, media, body] = fields else {
+            bail!("the columns are others");
+        };
+        Ok(Question {
+            call: call_of(call.text()?, media, body)?,
+            user: optional_text(user)?,
+            path: path.text()?,
+        })
+    }
+
+    // What the call answers.
+    fn answer(
+        &self,
+        alloc: Global,
+        root: &Root,
+        peer: &mut MemPeer,
+    ) -> Result<Response, ClientFault> {
+        match self.call {
+            Call::Fetch => fetch(alloc, peer, root, self.user, self.path),
+            Call::Put { media, body } => put(alloc, peer, root, self.user, self.path, media, body),
+            Call::Remove => remove(alloc, peer, root, self.user, self.path),
+        }
+    }
+}
+
+// A peer of one connection that gives these bytes, with the faults that a case has.
+fn failing(alloc: Global, faults: &[Field], given: &Field) -> Result<MemPeer> {
     let [connect_fails_at, fails_at, room] = faults else {
         bail!("the columns are others");
     };
@@ -95,22 +161,35 @@ fn asked(alloc: Global, request: &[Field], faults: &[Field], given: &Field) -> R
         fails_at: optional(fails_at)?,
         room: room.count()?,
     };
-    let mut peer = peer(alloc, &played, optional(connect_fails_at)?)?;
-    let root = root(alloc, root_text.text()?)?;
-    let user = optional_text(user)?;
-    let path = path.text()?;
-    let answer = match call.text()? {
-        "fetch" => fetch(alloc, &mut peer, &root, user, path),
-        "put" => {
-            let media = media.text()?;
-            put(alloc, &mut peer, &root, user, path, media, body.bytes())
-        }
-        "remove" => remove(alloc, &mut peer, &root, user, path),
-        _ => bail!("no call"),
-    };
-    let taken = str::from_utf8(sent(&peer, 0))?;
-    let outcome = outcome(alloc, &[], &answer)?;
+    peer(alloc, &played, optional(connect_fails_at)?)
+}
+
+// The bytes that a peer took, and what the call then answered.
+fn taken(alloc: Global, peer: &MemPeer, outcome: &str) -> Result<String> {
+    let taken = str::from_utf8(sent(peer, 0))?;
     Ok(format!(in alloc; "{taken}; {outcome}")?)
+}
+
+// What a call asks of a peer, and what it answers.
+fn asked(
+    alloc: Global,
+    question: &Question<'_>,
+    root: &Root,
+    peer: &mut MemPeer,
+) -> Result<String> {
+    let outcome = outcome(alloc, &[], &question.answer(alloc, root, peer))?;
+    taken(alloc, peer, outcome.as_str())
+}
+
+// What the call of a case asks of a peer that then answers so, and what it answers.
+fn case_of(alloc: Global, request: &[Field], faults: &[Field], given: &Field) -> Result<String> {
+    let Some((root_text, question)) = request.split_first() else {
+        bail!("the columns are others");
+    };
+    let question = Question::read(question)?;
+    let root = root(alloc, root_text.text()?)?;
+    let mut peer = failing(alloc, faults, given)?;
+    asked(alloc, &question, &root, &mut peer)
 }
 
 /// What a call of a case comes to.
@@ -124,7 +203,7 @@ pub fn answer(alloc: Global, table: &str, inputs: &[Field]) -> Result<String> {
             let Some((given, faults)) = rest.split_last() else {
                 bail!("the columns are others");
             };
-            asked(alloc, request, faults, given)
+            case_of(alloc, request, faults, given)
         }
         _ => bail!("no such table"),
     }
