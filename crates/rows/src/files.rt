@@ -2,6 +2,7 @@
 use crate::part::Part;
 use crate::way::{Way, ways_of};
 use anyhow::Result;
+use std::alloc::Global;
 use std::{fs, io};
 
 /// The bytes that come: on the input, on each connection, and on each of a peer.
@@ -15,27 +16,10 @@ pub struct Given {
 impl Given {
     /// The bytes that come where a case is run in a way.
     pub fn read(rt: &HostRuntime, name: &str, way: &Way) -> Result<Given> {
-        let alloc = rt.alloc();
-        let path = format!(in alloc; "{name}.in")?;
-        let once = fs::read(rt, path.as_str())?;
-        let mut input = Vec::new(alloc);
-        for _ in 0..way.repeat {
-            input.extend_from_slice(&once)?;
-        }
-        let mut connections = Vec::new(alloc);
-        for number in 1..=way.connections.len() {
-            let ending = format!(in alloc; "{number}.in")?;
-            connections.push(bytes_of(rt, name, ending.as_str())?)?;
-        }
-        let mut peers = Vec::new(alloc);
-        for number in 1..=way.peers.len() {
-            let ending = format!(in alloc; "peer{number}.in")?;
-            peers.push(bytes_of(rt, name, ending.as_str())?)?;
-        }
         Ok(Given {
-            input,
-            connections,
-            peers,
+            input: input_of(rt, name, way.repeat)?,
+            connections: streams_of(rt, name, "", way.connections.len())?,
+            peers: streams_of(rt, name, "peer", way.peers.len())?,
         })
     }
 
@@ -47,6 +31,36 @@ impl Given {
         }
         longest
     }
+}
+
+// The bytes that come on the input, which are those of the file so many times.
+fn input_of(rt: &HostRuntime, name: &str, repeat: usize) -> Result<Vec<u8>> {
+    let path = format!(in rt.alloc(); "{name}.in")?;
+    let once = fs::read(rt, path.as_str())?;
+    repeated(rt.alloc(), &once, repeat)
+}
+
+fn repeated(alloc: Global, once: &[u8], repeat: usize) -> Result<Vec<u8>> {
+    let mut bytes = Vec::new(alloc);
+    for _ in 0..repeat {
+        bytes.extend_from_slice(once)?;
+    }
+    Ok(bytes)
+}
+
+// The bytes that come on each of the streams of a kind, of which there are so many.
+fn streams_of(rt: &HostRuntime, name: &str, kind: &str, count: usize) -> Result<Vec<Vec<u8>>> {
+    let mut streams = Vec::new(rt.alloc());
+    for number in 1..=count {
+        streams.push(stream_of(rt, name, kind, number)?)?;
+    }
+    Ok(streams)
+}
+
+// The bytes that come on the stream of a number.
+fn stream_of(rt: &HostRuntime, name: &str, kind: &str, number: usize) -> Result<Vec<u8>> {
+    let ending = format!(in rt.alloc(); "{kind}{number}.in")?;
+    bytes_of(rt, name, ending.as_str())
 }
 
 // The bytes of a file; none where there is no such file.
@@ -70,23 +84,42 @@ fn part_of(rt: &HostRuntime, name: &str, part: &str) -> Result<Part> {
     Ok(Part::new(rt.alloc(), part, bytes)?)
 }
 
+// What is wanted on the output, which takes so many bytes.
+fn output_of(rt: &HostRuntime, name: &str, written: usize) -> Result<Part> {
+    let mut output = part_of(rt, name, "out")?;
+    output.bytes.truncate(written);
+    Ok(output)
+}
+
+// What is wanted on the stream of a kind with a number.
+fn taken_of(rt: &HostRuntime, name: &str, kind: &str, number: usize) -> Result<Part> {
+    let part = format!(in rt.alloc(); "{kind}{number}.out")?;
+    part_of(rt, name, part.as_str())
+}
+
+// Adds what is wanted on each of the streams of a kind, of which there are so many.
+fn push_taken(
+    rt: &HostRuntime,
+    parts: &mut Vec<Part>,
+    name: &str,
+    kind: &str,
+    count: usize,
+) -> Result<()> {
+    for number in 1..=count {
+        parts.push(taken_of(rt, name, kind, number)?)?;
+    }
+    Ok(())
+}
+
 /// What a run of a case in a way is to leave.
 pub fn wanted(rt: &HostRuntime, name: &str, way: &Way) -> Result<Vec<Part>> {
-    let alloc = rt.alloc();
-    let mut output = part_of(rt, name, "out")?;
-    output.bytes.truncate(way.written);
-    let mut parts = Vec::new(alloc);
-    parts.push(Part::status(alloc, way.status)?)?;
-    parts.push(output)?;
-    parts.push(part_of(rt, name, "errors")?)?;
-    parts.push(part_of(rt, name, "audit")?)?;
-    for number in 1..=way.connections.len() {
-        let part = format!(in alloc; "{number}.out")?;
-        parts.push(part_of(rt, name, part.as_str())?)?;
+    let mut parts = Vec::new(rt.alloc());
+    parts.push(Part::status(rt.alloc(), way.status)?)?;
+    parts.push(output_of(rt, name, way.written)?)?;
+    for part in ["errors", "audit"] {
+        parts.push(part_of(rt, name, part)?)?;
     }
-    for number in 1..=way.peers.len() {
-        let part = format!(in alloc; "peer{number}.out")?;
-        parts.push(part_of(rt, name, part.as_str())?)?;
-    }
+    push_taken(rt, &mut parts, name, "", way.connections.len())?;
+    push_taken(rt, &mut parts, name, "peer", way.peers.len())?;
     Ok(parts)
 }

@@ -52,36 +52,69 @@ use anyhow::Result;
 use std::env;
 use std::process::ExitCode;
 
+// Shows bytes under a word.
+fn show_bytes(rt: &HostRuntime, word: &str, bytes: &[u8]) -> Result<()> {
+    let text = shown(rt.alloc(), bytes)?;
+    println!(rt; "{word}:\n{text}")?;
+    Ok(())
+}
+
+// Shows a part that differs.
+fn show(rt: &HostRuntime, heading: &str, wanted: &Part, came: &Part) -> Result<()> {
+    let name = wanted.name.as_str();
+    println!(rt; "{heading}: {name} differs")?;
+    show_bytes(rt, "wanted", &wanted.bytes)?;
+    show_bytes(rt, "came", &came.bytes)
+}
+
 // Whether what came is what was wanted. What differs is shown.
 fn are_alike(rt: &HostRuntime, heading: &str, wanted: &[Part], came: &[Part]) -> Result<bool> {
     let mut alike = true;
     for (wanted, came) in wanted.iter().zip(came) {
         if wanted.bytes.as_slice() != came.bytes.as_slice() {
             alike = false;
-            let name = came.name.as_str();
-            println!(rt; "{heading}: {name} differs")?;
-            let text = shown(rt.alloc(), wanted.bytes.as_slice())?;
-            println!(rt; "wanted:\n{text}")?;
-            let text = shown(rt.alloc(), came.bytes.as_slice())?;
-            println!(rt; "came:\n{text}")?;
+            show(rt, heading, wanted, came)?;
         }
     }
     Ok(alike)
 }
 
-// Whether a run goes as written, whatever the pieces in which its bytes come.
-fn is_as_written(rt: &HostRuntime, name: &str, index: usize, way: &Way) -> Result<bool> {
-    let alloc = rt.alloc();
-    let given = Given::read(rt, name, way)?;
-    let wanted = wanted(rt, name, way)?;
+// Whether a run whose bytes come in pieces of this size leaves what is wanted.
+fn leaves(
+    rt: &HostRuntime,
+    run: &str,
+    way: &Way,
+    given: &Given,
+    wanted: &[Part],
+    size: usize,
+) -> Result<bool> {
+    let came = ran(rt.alloc(), way, given, size)?;
+    let heading = format!(in rt.alloc(); "{run} in pieces of {size}")?;
+    are_alike(rt, heading.as_str(), wanted, &came)
+}
+
+// Whether a run leaves what is wanted, whatever the pieces in which its bytes come.
+fn leaves_in_pieces(
+    rt: &HostRuntime,
+    run: &str,
+    way: &Way,
+    given: &Given,
+    wanted: &[Part],
+) -> Result<bool> {
     let mut alike = true;
-    for size in way.sizes(alloc, given.longest())? {
-        let came = ran(alloc, way, &given, size)?;
-        let number = index as u128 + 1;
-        let heading = format!(in alloc; "{name}, run {number} in pieces of {size}")?;
-        alike &= are_alike(rt, heading.as_str(), &wanted, &came)?;
+    for size in way.sizes(rt.alloc(), given.longest())? {
+        alike &= leaves(rt, run, way, given, wanted, size)?;
     }
     Ok(alike)
+}
+
+// Whether a run of a case, which is told by its number from 0, goes as written.
+fn is_as_written(rt: &HostRuntime, name: &str, index: usize, way: &Way) -> Result<bool> {
+    let number = index as u128 + 1;
+    let run = format!(in rt.alloc(); "{name}, run {number}")?;
+    let given = Given::read(rt, name, way)?;
+    let wanted = wanted(rt, name, way)?;
+    leaves_in_pieces(rt, run.as_str(), way, &given, &wanted)
 }
 
 // Whether all runs of a case go as written.

@@ -21,15 +21,21 @@ impl Part {
     }
 }
 
+// Adds a byte to a text.
+fn push_shown(alloc: Global, text: &mut String, byte: u8) -> Result<(), AllocError> {
+    match byte {
+        b'\n' | b' '..=b'~' => text.push(char::from(byte))?,
+        b'\r' => text.push_str("\\r")?,
+        _ => text.push_str(format!(in alloc; "\\x{byte:02x}")?.as_str())?,
+    }
+    Ok(())
+}
+
 /// The bytes as a text: what isn't printed, and what isn't ASCII, is escaped.
 pub fn shown(alloc: Global, bytes: &[u8]) -> Result<String, AllocError> {
     let mut text = String::new(alloc);
     for &byte in bytes {
-        match byte {
-            b'\n' | b' '..=b'~' => text.push(char::from(byte))?,
-            b'\r' => text.push_str("\\r")?,
-            _ => text.push_str(format!(in alloc; "\\x{byte:02x}")?.as_str())?,
-        }
+        push_shown(alloc, &mut text, byte)?;
     }
     Ok(text)
 }

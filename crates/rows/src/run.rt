@@ -20,82 +20,72 @@ fn words_of(alloc: Global, line: &str) -> Result<Vec<String>, AllocError> {
     Ok(words)
 }
 
-// The port to which the connections come, with their bytes in pieces of this size.
-fn port_of(alloc: Global, way: &Way, given: &Given, size: usize) -> Result<MemPort, AllocError> {
+// A line that gives these bytes, in pieces of this size, and has this room. Reads fail at the place.
+fn line_of(
+    alloc: Global,
+    bytes: &[u8],
+    size: usize,
+    fails_at: Option<usize>,
+    room: usize,
+) -> Result<MemLine, AllocError> {
+    MemLine::new(alloc, bytes, size.max(1), fails_at, room)
+}
+
+// The lines that give these bytes, in pieces of this size, and have this room.
+fn lines_of(
+    alloc: Global,
+    given: &[Vec<u8>],
+    rooms: &[usize],
+    size: usize,
+) -> Result<Vec<MemLine>, AllocError> {
     let mut lines = Vec::new(alloc);
-    for (bytes, room) in given.connections.iter().zip(&way.connections) {
-        lines.push(MemLine::new(alloc, bytes, size.max(1), None, *room)?)?;
+    for (bytes, room) in given.iter().zip(rooms) {
+        lines.push(line_of(alloc, bytes, size, None, *room)?)?;
     }
+    Ok(lines)
+}
+
+// The port to which the connections come.
+fn port_of(alloc: Global, way: &Way, given: &Given, size: usize) -> Result<MemPort, AllocError> {
+    let lines = lines_of(alloc, &given.connections, &way.connections, size)?;
     Ok(MemPort::new(lines, way.listen_fails, way.next_fails_at))
 }
 
-// The peer that gives these bytes on its connections, in pieces of this size.
+// The peer that takes the connections.
 fn peer_of(alloc: Global, way: &Way, given: &Given, size: usize) -> Result<MemPeer, AllocError> {
-    let mut lines = Vec::new(alloc);
-    for (bytes, room) in given.peers.iter().zip(&way.peers) {
-        lines.push(MemLine::new(alloc, bytes, size.max(1), None, *room)?)?;
-    }
+    let lines = lines_of(alloc, &given.peers, &way.peers, size)?;
     Ok(MemPeer::new(lines, way.connect_fails_at))
 }
 
-// Adds what a peer took on each of its connections.
-fn push_asked(
-    alloc: Global,
-    parts: &mut Vec<Part>,
-    peer: &MemPeer,
-    count: usize,
-) -> Result<(), AllocError> {
-    for index in 0..count {
-        if let Some(line) = peer.line(index) {
-            let name = format!(in alloc; "peer{}.out", index as u128 + 1)?;
-            parts.push(Part::new(alloc, name.as_str(), line.sent().to_vec(alloc)?)?)?;
-        }
-    }
-    Ok(())
-}
-
-// Adds what was sent on each connection of a port.
-fn push_sent(
-    alloc: Global,
-    parts: &mut Vec<Part>,
-    port: &MemPort,
-    count: usize,
-) -> Result<(), AllocError> {
-    for index in 0..count {
-        if let Some(line) = port.line(index) {
-            let name = format!(in alloc; "{}.out", index as u128 + 1)?;
-            parts.push(Part::new(alloc, name.as_str(), line.sent().to_vec(alloc)?)?)?;
-        }
-    }
-    Ok(())
-}
-
-// The streams of a run.
+// The lines of a run.
 #[derive(Drop)]
-struct Streams {
+struct Lines {
+    port: MemPort,
+    peer: MemPeer,
     input: MemLine,
     output: MemLine,
     errors: MemLine,
 }
 
-impl Streams {
-    // The input comes in pieces of this size.
-    fn new(alloc: Global, way: &Way, input: &[u8], size: usize) -> Result<Streams, AllocError> {
-        Ok(Streams {
-            input: MemLine::new(alloc, input, size.max(1), way.reads_fail_at, 0)?,
-            output: MemLine::new(alloc, b"", 1, None, way.room)?,
-            errors: MemLine::new(alloc, b"", 1, None, way.errors_room)?,
+impl Lines {
+    // The bytes come in pieces of this size.
+    fn new(alloc: Global, way: &Way, given: &Given, size: usize) -> Result<Lines, AllocError> {
+        Ok(Lines {
+            port: port_of(alloc, way, given, size)?,
+            peer: peer_of(alloc, way, given, size)?,
+            input: line_of(alloc, &given.input, size, way.reads_fail_at, 0)?,
+            output: line_of(alloc, b"", 1, None, way.room)?,
+            errors: line_of(alloc, b"", 1, None, way.errors_room)?,
         })
     }
 }
 
-// Runs the program on these streams, with an audit that writes to a line, and answers its status.
-fn status_of(
+// Runs the program on these lines, with an audit that writes to a line, and answers its status. It
+// promises nothing, so that its caller isn't proved over all that the call says.
+fn run_over(
     alloc: Global,
     words: &[String],
-    port: &mut MemPort,
-    peer: &mut MemPeer,
-    streams: &mut Streams,
+    lines: &mut Lines,
     told: &SharedLine,
 ) -> Result<u8, AllocError> {
     let audit = Audit::new(alloc, StdSink::new(told.share()?));
@@ -104,29 +94,84 @@ fn status_of(
     Ok(run(
         alloc,
         words,
-        port,
-        peer,
-        &mut streams.input,
-        &mut streams.output,
-        &mut streams.errors,
+        &mut lines.port,
+        &mut lines.peer,
+        &mut lines.input,
+        &mut lines.output,
+        &mut lines.errors,
         &mut watchers,
     ))
 }
 
-/// What a run leaves whose bytes come in pieces of this size.
-pub fn ran(alloc: Global, way: &Way, given: &Given, size: usize) -> Result<Vec<Part>, AllocError> {
-    let words = words_of(alloc, way.words.as_str())?;
-    let mut port = port_of(alloc, way, given, size)?;
-    let mut peer = peer_of(alloc, way, given, size)?;
-    let mut streams = Streams::new(alloc, way, &given.input, size)?;
-    let told = SharedLine::new(alloc, way.audit_room)?;
-    let status = status_of(alloc, &words, &mut port, &mut peer, &mut streams, &told)?;
+// What a line took.
+fn sent(alloc: Global, name: &str, line: &MemLine) -> Result<Part, AllocError> {
+    Part::new(alloc, name, line.sent().to_vec(alloc)?)
+}
+
+// Adds the bytes that a connection took, if there is one of its number, from 0.
+fn push_line(
+    alloc: Global,
+    parts: &mut Vec<Part>,
+    kind: &str,
+    index: usize,
+    line: Option<&MemLine>,
+) -> Result<(), AllocError> {
+    let Some(line) = line else {
+        return Ok(());
+    };
+    let name = format!(in alloc; "{kind}{}.out", index as u128 + 1)?;
+    parts.push(sent(alloc, name.as_str(), line)?)?;
+    Ok(())
+}
+
+// Adds the bytes that a port's connections took, and those that a peer's took.
+fn push_lines(
+    alloc: Global,
+    parts: &mut Vec<Part>,
+    way: &Way,
+    lines: &Lines,
+) -> Result<(), AllocError> {
+    for index in 0..way.connections.len() {
+        push_line(alloc, parts, "", index, lines.port.line(index))?;
+    }
+    for index in 0..way.peers.len() {
+        push_line(alloc, parts, "peer", index, lines.peer.line(index))?;
+    }
+    Ok(())
+}
+
+// What the lines took, behind the status.
+fn taken(
+    alloc: Global,
+    way: &Way,
+    status: u8,
+    lines: &Lines,
+    told: &SharedLine,
+) -> Result<Vec<Part>, AllocError> {
     let mut parts = Vec::new(alloc);
     parts.push(Part::status(alloc, status)?)?;
-    parts.push(Part::new(alloc, "out", streams.output.sent().to_vec(alloc)?)?)?;
-    parts.push(Part::new(alloc, "errors", streams.errors.sent().to_vec(alloc)?)?)?;
+    parts.push(sent(alloc, "out", &lines.output)?)?;
+    parts.push(sent(alloc, "errors", &lines.errors)?)?;
     parts.push(Part::new(alloc, "audit", told.sent(alloc)?)?)?;
-    push_sent(alloc, &mut parts, &port, way.connections.len())?;
-    push_asked(alloc, &mut parts, &peer, way.peers.len())?;
+    push_lines(alloc, &mut parts, way, lines)?;
     Ok(parts)
+}
+
+// The status with which a command line ends that is run on these lines.
+fn status_of(
+    alloc: Global,
+    line: &str,
+    lines: &mut Lines,
+    told: &SharedLine,
+) -> Result<u8, AllocError> {
+    let words = words_of(alloc, line)?;
+    run_over(alloc, &words, lines, told)
+}
+
+/// What a run leaves whose bytes come in pieces of this size.
+pub fn ran(alloc: Global, way: &Way, given: &Given, size: usize) -> Result<Vec<Part>, AllocError> {
+    let mut lines = Lines::new(alloc, way, given, size)?;
+    let told = SharedLine::new(alloc, way.audit_room)?;
+    let status = status_of(alloc, way.words.as_str(), &mut lines, &told)?;
+    taken(alloc, way, status, &lines, &told)
 }

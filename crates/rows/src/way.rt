@@ -50,18 +50,33 @@ impl Way {
         match key {
             "words" => self.words = String::from_str(alloc, value)?,
             "status" => self.status = value.parse()?,
-            "written" => self.written = value.parse()?,
-            "repeat" => self.repeat = value.parse()?,
             "pieces" => self.every_piece = value == "every",
-            "reads fail at" => self.reads_fail_at = Some(value.parse()?),
-            "room" => self.room = value.parse()?,
-            "errors room" => self.errors_room = value.parse()?,
-            "audit room" => self.audit_room = value.parse()?,
-            "connection" => self.connections.push(value.parse()?)?,
             "listen" => self.listen_fails = value == "fails",
-            "next fails at" => self.next_fails_at = Some(value.parse()?),
-            "peer" => self.peers.push(value.parse()?)?,
-            "connect fails at" => self.connect_fails_at = Some(value.parse()?),
+            _ => self.set_count(key, value.parse()?)?,
+        }
+        Ok(())
+    }
+
+    // Sets what is a number of bytes, of times or of a call, or a room.
+    fn set_count(&mut self, key: &str, count: usize) -> Result<()> {
+        match key {
+            "written" => self.written = count,
+            "repeat" => self.repeat = count,
+            "reads fail at" => self.reads_fail_at = Some(count),
+            "next fails at" => self.next_fails_at = Some(count),
+            "connect fails at" => self.connect_fails_at = Some(count),
+            _ => self.set_room(key, count)?,
+        }
+        Ok(())
+    }
+
+    fn set_room(&mut self, key: &str, room: usize) -> Result<()> {
+        match key {
+            "room" => self.room = room,
+            "errors room" => self.errors_room = room,
+            "audit room" => self.audit_room = room,
+            "connection" => self.connections.push(room)?,
+            "peer" => self.peers.push(room)?,
             _ => bail!("no such line: {key}"),
         }
         Ok(())
