@@ -1,0 +1,24 @@
+use Rattle.std.proofs.Common.{◌≡◌, ℕ, ◌<◌, ◌≤◌, inr, List, ◌++◌, length, take, sym, ap, ◌∙◌, arith, append-nil}
+use Rattle.xcap_io.specs.Memory.{one_more}
+use Rattle.server_peer.specs.Peers.{PeerOverServer}
+use Rattle.server_peer.specs.Rooms.{WrittenState}
+use Rattle.server_peer.specs.contracts.peer.ServerPeer.{the_view}
+use Rattle.server_peer.proofs.peer.ServerPeerSink.write.Goals as goal
+
+pub returns-then-count-eq0-clause-exact : goal.returns-then-count-eq0-clause-exact
+returns-then-count-eq0-clause-exact c =
+    let inside = c.self.inside in
+    let w : WrittenState = inside.written in
+    let some : 0 < length c.args.piece.now = c.requires in
+    let none : c.add-count.result ≡ 0 = c.if-count-eq0.true in
+    let within : length w.bytes ≤ w.room = c.add-count.ensures.within_the_room in
+    let full : length w.bytes ≡ w.room = omega (arith, some, none, within, c.add-count.ensures.counts_what_there_is_room_for) in
+    let same : c.add-count.new.self ≡ w =
+    c.add-count.ensures.adds_that
+    ∙ ap (λ (n : ℕ). record w { bytes = w.bytes ++ take n c.args.piece.now }) none
+    ∙ ap (λ (l : List ℕ). record w { bytes = l }) (append-nil w.bytes) in (
+      inr (ap (λ (p : PeerOverServer). length p.written.bytes) (sym c.self.view_is) ∙ full ∙ ap (λ (p : PeerOverServer). p.written.room) c.self.view_is),
+      ap (λ (x : WrittenState). the_view (record inside { written = x; write_faults = c.fault-then-count-eq0.new.count })) same
+          ∙ ap (λ (n : ℕ). the_view (record inside { write_faults = n })) c.fault-then-count-eq0.ensures.value
+          ∙ ap (λ (p : PeerOverServer). record p { write_faults = one_more p.write_faults }) c.self.view_is,
+    )

@@ -1,0 +1,4 @@
+pub mod Ends
+pub mod Rooms
+pub mod Serving
+pub mod Peers

@@ -1,0 +1,76 @@
+// What a server replied on the present connection.
+ghost use Rattle.std.specs.Prelude.{◌≡◌, ◌<◌, ◌≤◌, ◌^◌, ◌&&◌, ◌==◌, [], false, length, drop, IfOk};
+ghost use Rattle.server_peer.specs.Serving.{AddsReplies};
+
+use crate::serving::reply_to;
+use std::alloc::Global;
+use std::marker::Model;
+use xcap_io::NoMemory;
+use xcap_server::Server;
+
+// The bytes of replies that there is room for, and whether there were more.
+#[derive(Drop)]
+pub(crate) struct Replies {
+    room: Vec<u8>,
+    held: usize,
+    is_over: bool,
+}
+
+impl Model for Replies {
+    ghost use Rattle.std.specs.Prelude.{◌≡◌, ◌≤◌, true, length, take};
+    ghost use Rattle.server_peer.specs.Rooms.{RepliesState};
+
+    ghost Value = { RepliesState };
+
+    ghost view = { λ r. record { bytes = take r.held r.room.items; more = r.is_over; room = length r.room.items } };
+
+    ghost invariant = { λ r. (r.held ≤ length r.room.items) × (r.is_over ≡ true → r.held ≡ length r.room.items) };
+}
+
+impl Replies {
+    // No replies, and room for so many bytes.
+    pub(crate) fn new(alloc: Global, room: usize) -> Result<Replies, NoMemory>
+        ensures nothing_is_replied { IfOk result (λ replies. replies ≡ record { bytes = []; more = false; room = room }) }
+    {
+        Ok(Replies {
+            room: vec![in alloc; 0; room]?,
+            held: 0,
+            is_over: false,
+        })
+    }
+
+    // The server replies to the bytes, behind the replies before.
+    pub(crate) fn add(&mut self, alloc: Global, server: &mut Server, asked: &[u8])
+        ensures adds_the_replies { AddsReplies server.old server.new asked.now self.old self.new }
+        ensures within_the_room { length self.old.bytes ≤ self.old.room }
+    {
+        let replied = reply_to(alloc, server, asked, &mut self.room[self.held..]);
+        self.held += replied.held;
+        self.is_over |= replied.is_over;
+    }
+
+    // The bytes behind the first so many.
+    pub(crate) fn behind(&self, given: usize) -> &[u8]
+        requires inside { given ≤ length self.now.bytes }
+        ensures lends_those_behind { result.now ≡ drop given self.now.bytes }
+        ensures fit_a_length { length self.now.bytes < 2 ^ 64 }
+    {
+        &self.room[given..self.held]
+    }
+
+    // Whether so many bytes are all that there is room for, and there were more.
+    pub(crate) fn is_spent(&self, given: usize) -> bool
+        requires inside { given ≤ length self.now.bytes }
+        ensures tells_whether_more_is_due { result ≡ (given == self.now.room) && self.now.more }
+    {
+        given == self.room.len() && self.is_over
+    }
+
+    // Forgets the replies.
+    pub(crate) fn clear(&mut self)
+        ensures nothing_is_replied { self.new ≡ record self.old { bytes = []; more = false } }
+    {
+        self.held = 0;
+        self.is_over = false;
+    }
+}
