@@ -1,0 +1,4 @@
+mod Stepping
+mod Steps
+mod Together
+mod Whole

@@ -1,0 +1,18 @@
+use Rattle.std.proofs.Common.{◌≡◌, ℕ, ◌+◌, ◌-◌, ◌<◌, List, ◌++◌, ap, ◌∙◌, arith}
+use Rattle.sample_runs.specs.Requests.{request_bytes, requests_from}
+use Rattle.sample_runs.proofs.Steps.{next_request}
+use Rattle.sample_runs.proofs.connections.connection.Goals as goal
+
+pub requests-preserved : goal.requests-preserved
+requests-preserved c =
+    let more : c.requests.made < c.args.count = c.requests-test.true in
+    let number : ℕ = c.args.first + c.requests.made in
+    let text : c.as_bytes.result.now ≡ request_bytes number = c.as_bytes.ensures.value ∙ c.as_str.ensures.value ∙ c.in_ok-text.ensures.request_of_that_number in
+    let added : c.extend.new.self ≡ c.requests.bytes ++ request_bytes number = c.in_ok-extend.ensures.adds_the_bytes_or_nothing ∙ ap (λ (l : List ℕ). c.requests.bytes ++ l) text in
+    record {
+      within = omega (arith, more);
+      all =
+          ap (λ (l : List ℕ). l ++ requests_from (c.args.first + (c.requests.made + 1)) (c.args.count - (c.requests.made + 1))) added
+          ∙ next_request c.requests.bytes c.args.first c.requests.made c.args.count more
+          ∙ c.requests.invariant.all;
+    }

@@ -1,0 +1,4 @@
+pub mod Requests
+pub mod Noting
+pub mod Samples
+pub mod inner

@@ -1,0 +1,62 @@
+-- What comes of a sample: how its requests were answered, and what is held then. This is the project's own.
+use Rattle.std.specs.Prelude.{◌≡◌, ℕ, ◌-◌, ◌==◌, true, List, [], ◌∷◌, ◌++◌, codes, decimal, length, map, count_by, sum_by}
+use Rattle.xcap_io.specs.Histories.{Traffic}
+use Rattle.http_wire.specs.Serving.{ServesAll}
+use Rattle.http_serve.specs.Fixed.{fixed}
+use Rattle.http_serve.specs.Written.{InBytes}
+use Rattle.notes.specs.declared.edit.Edit.{Edit}
+use Rattle.store_core.specs.Held.{Stock, stock_of}
+use Rattle.store_core.specs.Keeping.{Kept}
+use Rattle.usage_docs.specs.Services.{document_len}
+use Rattle.sample_runs.specs.Noting.{Noted, NotedStep, none_noted}
+use Rattle.sample_runs.specs.Requests.{all_connections, root_text}
+use Rattle.sample_runs.specs.declared.summary.Summary.{Summary}
+
+-- how many of the replies have the status
+abbrev pub count_of : ℕ → List ℕ → ℕ
+count_of status statuses = count_by (λ s. s == status) statuses
+
+-- The requests, of which so many made what they put or changed what was there; all others were refused. What is held then, and the
+-- last number that was given.
+abbrev pub summary_of : ℕ → List ℕ → Stock → Summary
+summary_of requests statuses held = record {
+  requests = requests;
+  created = count_of 201 statuses;
+  changed = count_of 200 statuses;
+  refused = requests - count_of 201 statuses - count_of 200 statuses;
+  documents = length held.documents;
+  bytes = sum_by (λ d. document_len d.tree) held.documents;
+  last = held.next - 1;
+}
+
+-- The connections of so many requests were served to their end by the machine of the root from the state without documents on, one
+-- after the other, with no fault, and this is the summary of its replies and of the state that they lead to.
+pub record Samples (requests : ℕ) (summary : Summary) : Type 0 where
+  pub connections : List Traffic
+  pub all_bytes : map (λ c. c.given) connections ≡ all_connections requests
+  pub all_ends : map (λ c. c.ended) connections ≡ map (λ c. true) connections
+  pub next : Noted
+  pub edits : List Edit
+  pub kept : Kept next.state
+  pub serves : ServesAll (InBytes (NotedStep root_text)) fixed none_noted connections next edits 0 0 0 0
+  pub sums : summary ≡ summary_of requests next.statuses (stock_of next.state)
+
+-- how the requests were answered, on four lines
+unfoldable pub answered_text : Summary → List ℕ
+answered_text s =
+    codes "requests " ++ (decimal s.requests
+    ++ (codes "\ncreated " ++ (decimal s.created
+    ++ (codes "\nchanged " ++ (decimal s.changed
+    ++ (codes "\nrefused " ++ (decimal s.refused
+    ++ 10 ∷ [])))))))
+
+-- what is held then, on three lines
+unfoldable pub held_text : Summary → List ℕ
+held_text s =
+    codes "documents " ++ (decimal s.documents
+    ++ (codes "\nbytes " ++ (decimal s.bytes
+    ++ (codes "\nlast " ++ (decimal s.last
+    ++ 10 ∷ [])))))
+
+abbrev pub summary_text : Summary → List ℕ
+summary_text s = answered_text s ++ held_text s

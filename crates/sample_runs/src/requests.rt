@@ -1,0 +1,129 @@
+// The requests of a sample.
+ghost use Rattle.std.specs.Prelude.{◌≡◌, IfOk, string_bytes};
+ghost use Rattle.sample_runs.specs.Requests.{bytes_in_round, delete_bytes, deletes_entry, document_path, entry_body, entry_path, entry_uri, put_bytes, puts_document, puts_entry, request_bytes, user_name};
+
+use std::alloc::{AllocError, Global};
+
+// A document with an empty list.
+const DOCUMENT: &str =
+    "<resource-lists xmlns=\"urn:ietf:params:xml:ns:resource-lists\"><list name=\"l\"/></resource-lists>";
+
+#[tactic(auto, unfolding(crate::specs::Requests::user_name))]
+fn user_name(alloc: Global, number: u64) -> Result<String, AllocError>
+    ensures names_the_user { IfOk result (λ text. string_bytes text ≡ user_name number) }
+{
+    format!(in alloc; "sip:u{number}@example.com")
+}
+
+#[tactic(auto, unfolding(crate::specs::Requests::document_path))]
+fn document_path(alloc: Global, user: &str) -> Result<String, AllocError>
+    ensures path_of_the_document { IfOk result (λ text. string_bytes text ≡ document_path user.now) }
+{
+    format!(in alloc; "/xcap/resource-lists/users/{user}/index")
+}
+
+#[tactic(auto, unfolding(crate::specs::Requests::entry_uri))]
+fn entry_uri(alloc: Global, round: u64) -> Result<String, AllocError>
+    ensures uri_of_the_entry { IfOk result (λ text. string_bytes text ≡ entry_uri round) }
+{
+    format!(in alloc; "sip:e{round}@example.com")
+}
+
+#[tactic(auto, unfolding(crate::specs::Requests::entry_path))]
+fn entry_path(alloc: Global, document: &str, uri: &str) -> Result<String, AllocError>
+    ensures path_of_the_entry { IfOk result (λ text. string_bytes text ≡ entry_path document.now uri.now) }
+{
+    format!(in alloc;
+        "{document}/~~/resource-lists/list%5B@name=%22l%22%5D/entry%5B@uri=%22{uri}%22%5D"
+    )
+}
+
+#[tactic(auto, unfolding(crate::specs::Requests::entry_body))]
+fn entry_body(alloc: Global, uri: &str) -> Result<String, AllocError>
+    ensures entry_with_the_uri { IfOk result (λ text. string_bytes text ≡ entry_body uri.now) }
+{
+    format!(in alloc; "<entry uri=\"{uri}\"/>")
+}
+
+// A PUT of the body.
+#[tactic(auto, unfolding(crate::specs::Requests::put_bytes))]
+fn put(alloc: Global, user: &str, path: &str, media: &str, body: &str) -> Result<String, AllocError>
+    ensures puts_the_body { IfOk result (λ text. string_bytes text ≡ put_bytes user.now path.now media.now body.now) }
+{
+    let length = body.len();
+    format!(in alloc;
+        "PUT {path} HTTP/1.1\r\nHost: xcap.example.com\r\nX-XCAP-User: {user}\r\nContent-Type: {media}\r\nContent-Length: {length}\r\n\r\n{body}"
+    )
+}
+
+#[tactic(auto, unfolding(crate::specs::Requests::delete_bytes))]
+fn delete(alloc: Global, user: &str, path: &str) -> Result<String, AllocError>
+    ensures deletes_what_is_there { IfOk result (λ text. string_bytes text ≡ delete_bytes user.now path.now) }
+{
+    format!(in alloc;
+        "DELETE {path} HTTP/1.1\r\nHost: xcap.example.com\r\nX-XCAP-User: {user}\r\n\r\n"
+    )
+}
+
+// The user puts the document.
+#[tactic(auto, unfolding(crate::specs::Requests::document_body))]
+fn put_document(alloc: Global, user: &str) -> Result<String, AllocError>
+    ensures puts_the_document { IfOk result (λ text. string_bytes text ≡ puts_document user.now) }
+{
+    let path = document_path(alloc, user)?;
+    put(
+        alloc,
+        user,
+        path.as_str(),
+        "application/resource-lists+xml",
+        DOCUMENT,
+    )
+}
+
+// The user puts the entry of the round.
+fn put_entry(alloc: Global, user: &str, round: u64) -> Result<String, AllocError>
+    ensures puts_the_entry { IfOk result (λ text. string_bytes text ≡ puts_entry user.now round) }
+{
+    let document = document_path(alloc, user)?;
+    let uri = entry_uri(alloc, round)?;
+    let path = entry_path(alloc, document.as_str(), uri.as_str())?;
+    let body = entry_body(alloc, uri.as_str())?;
+    put(
+        alloc,
+        user,
+        path.as_str(),
+        "application/xcap-el+xml",
+        body.as_str(),
+    )
+}
+
+// The user deletes the entry of the round.
+fn delete_entry(alloc: Global, user: &str, round: u64) -> Result<String, AllocError>
+    ensures deletes_the_entry { IfOk result (λ text. string_bytes text ≡ deletes_entry user.now round) }
+{
+    let document = document_path(alloc, user)?;
+    let uri = entry_uri(alloc, round)?;
+    let path = entry_path(alloc, document.as_str(), uri.as_str())?;
+    delete(alloc, user, path.as_str())
+}
+
+// The user's request of the round.
+fn request_in_round(alloc: Global, user: &str, round: u64) -> Result<String, AllocError>
+    ensures request_of_the_round { IfOk result (λ text. string_bytes text ≡ bytes_in_round user.now round) }
+{
+    if round == 0 {
+        return put_document(alloc, user);
+    }
+    if round % 3 == 0 {
+        return delete_entry(alloc, user, round - 1);
+    }
+    put_entry(alloc, user, round)
+}
+
+// The request of that number.
+pub(crate) fn request(alloc: Global, number: u64) -> Result<String, AllocError>
+    ensures request_of_that_number { IfOk result (λ text. string_bytes text ≡ request_bytes number) }
+{
+    let user = user_name(alloc, number % 100)?;
+    request_in_round(alloc, user.as_str(), number / 100)
+}

@@ -1,0 +1,44 @@
+//! A sample, run on a server in memory.
+ghost use Rattle.std.specs.Prelude.{◌≡◌, ◌*◌, length, IfOk};
+ghost use Rattle.sample_runs.specs.Noting.{Noted};
+ghost use Rattle.sample_runs.specs.Samples.{Samples};
+ghost use Rattle.sample_runs.specs.inner.Counting.{HasRoomFor, ServesThem, StandsNoted};
+
+use crate::connections::connections;
+use crate::noting::Noting;
+use crate::port::KnownPort;
+use crate::summary::Summary;
+use http_serve::{Buffers, serve_lines};
+use std::alloc::{AllocError, Global};
+use watchers::Watcher;
+use xcap_io::Bytes;
+
+// Serves connections of these bytes, one after the other. No watcher is told.
+fn serve_them(alloc: Global, noting: &mut Noting, connections: Vec<Bytes>) -> Result<(), AllocError>
+    requires room { HasRoomFor noting.old (length connections.items * 1000) }
+    ensures serves_to_the_end { IfOk result (λ _. (m : Noted) → StandsNoted noting.old.server.root noting.old m
+        → ServesThem noting.old.server.root connections.items noting.new m) }
+{
+    let mut buffers = Buffers::new(alloc)?;
+    let mut watchers: Vec<Box<dyn Watcher>> = Vec::new(alloc);
+    let count = connections.len() as u64;
+    let mut port = KnownPort::new(alloc, connections);
+    serve_lines(noting, &mut buffers, &mut port, count, &mut watchers);
+    Ok(())
+}
+
+/// Makes the sample of so many requests: a new server is served their connections, in memory, one after the other. A request
+/// that finds no memory is answered the 503, like any other that is refused, and the others of its connection are not made.
+/// All other memory is taken before the first request.
+///
+/// # Errors
+/// `NoMemory` for want of memory before the first request.
+pub fn run_sample(alloc: Global, requests: u32) -> Result<Summary, AllocError>
+    ensures sums_up_the_sample { IfOk result (λ summary. Samples requests summary) }
+{
+    let requests = u64::from(requests);
+    let connections = connections(alloc, requests)?;
+    let mut noting = Noting::new(alloc, connections.len() * 1000)?;
+    serve_them(alloc, &mut noting, connections)?;
+    Ok(noting.summary(requests))
+}
