@@ -5,12 +5,13 @@ use anyhow::Result;
 use std::alloc::Global;
 use std::{fs, io};
 
-/// The bytes that come: on the input, on each connection, and on each of a peer.
+/// The bytes that come: on the input, on each connection, on each of a peer, and to a server before it is a peer.
 #[derive(Drop)]
 pub struct Given {
     pub input: Vec<u8>,
     pub connections: Vec<Vec<u8>>,
     pub peers: Vec<Vec<u8>>,
+    pub served: Vec<u8>,
 }
 
 impl Given {
@@ -20,6 +21,7 @@ impl Given {
             input: input_of(rt, name, way.repeat)?,
             connections: streams_of(rt, name, "", way.connections.len())?,
             peers: streams_of(rt, name, "peer", way.peers.len())?,
+            served: bytes_of(rt, name, "served.in")?,
         })
     }
 

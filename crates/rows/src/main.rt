@@ -14,6 +14,7 @@
 //! | `NAME.audit` | the lines that an audit of the changes writes |
 //! | `NAME.1.in`, `NAME.1.out`, .. | the bytes that come and go on each connection of a port |
 //! | `NAME.peer1.in`, `NAME.peer1.out`, .. | the bytes that a peer gives and takes on each connection |
+//! | `NAME.served.in` | the bytes that are served first, by a server that then is the peer |
 //! | `NAME.case` | what is run, where it isn't the usual |
 //!
 //! The usual is one run of `replay http://xcap.example.com/xcap` that ends with the status 0. Each
@@ -36,11 +37,13 @@
 //! | `next fails at: 2` | the port fails when it is asked for the second connection |
 //! | `peer: 60` | a peer takes one more connection, with room for so many bytes |
 //! | `connect fails at: 2` | the peer fails when the second connection is begun |
+//! | `served: 60` | the peer is a server of `http://xcap.example.com/xcap`, with room for so many bytes each way |
 #![tactic(auto)]
 
 mod files;
 mod part;
 mod run;
+mod server;
 mod shared_line;
 mod way;
 

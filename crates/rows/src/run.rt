@@ -1,12 +1,14 @@
 //! Runs of the program in memory.
 use crate::files::Given;
 use crate::part::Part;
+use crate::server::server_of;
 use crate::shared_line::SharedLine;
 use crate::way::Way;
+use anyhow::Result;
 use std::alloc::{AllocError, Global};
 use watchers::{Audit, Watcher};
 use xcap_app::run;
-use xcap_io::{MemLine, MemPeer, MemPort, StdSink};
+use xcap_io::{MemLine, MemPeer, MemPort, Peer, StdSink};
 
 // The words of a command line, which stand between single spaces.
 fn words_of(alloc: Global, line: &str) -> Result<Vec<String>, AllocError> {
@@ -57,11 +59,10 @@ fn peer_of(alloc: Global, way: &Way, given: &Given, size: usize) -> Result<MemPe
     Ok(MemPeer::new(lines, way.connect_fails_at))
 }
 
-// The lines of a run.
+// The lines of a run, but for those of its peer.
 #[derive(Drop)]
 struct Lines {
     port: MemPort,
-    peer: MemPeer,
     input: MemLine,
     output: MemLine,
     errors: MemLine,
@@ -72,7 +73,6 @@ impl Lines {
     fn new(alloc: Global, way: &Way, given: &Given, size: usize) -> Result<Lines, AllocError> {
         Ok(Lines {
             port: port_of(alloc, way, given, size)?,
-            peer: peer_of(alloc, way, given, size)?,
             input: line_of(alloc, &given.input, size, way.reads_fail_at, 0)?,
             output: line_of(alloc, b"", 1, None, way.room)?,
             errors: line_of(alloc, b"", 1, None, way.errors_room)?,
@@ -82,10 +82,11 @@ impl Lines {
 
 // Runs the program on these lines, with an audit that writes to a line, and answers its status. It
 // promises nothing, so that its caller isn't proved over all that the call says.
-fn run_over(
+fn run_over<C: Peer>(
     alloc: Global,
     words: &[String],
     lines: &mut Lines,
+    peer: &mut C,
     told: &SharedLine,
 ) -> Result<u8, AllocError> {
     let audit = Audit::new(alloc, StdSink::new(told.share()?));
@@ -95,7 +96,7 @@ fn run_over(
         alloc,
         words,
         &mut lines.port,
-        &mut lines.peer,
+        peer,
         &mut lines.input,
         &mut lines.output,
         &mut lines.errors,
@@ -130,12 +131,13 @@ fn push_lines(
     parts: &mut Vec<Part>,
     way: &Way,
     lines: &Lines,
+    peer: &MemPeer,
 ) -> Result<(), AllocError> {
     for index in 0..way.connections.len() {
         push_line(alloc, parts, "", index, lines.port.line(index))?;
     }
     for index in 0..way.peers.len() {
-        push_line(alloc, parts, "peer", index, lines.peer.line(index))?;
+        push_line(alloc, parts, "peer", index, peer.line(index))?;
     }
     Ok(())
 }
@@ -146,6 +148,7 @@ fn taken(
     way: &Way,
     status: u8,
     lines: &Lines,
+    peer: &MemPeer,
     told: &SharedLine,
 ) -> Result<Vec<Part>, AllocError> {
     let mut parts = Vec::new(alloc);
@@ -153,25 +156,44 @@ fn taken(
     parts.push(sent(alloc, "out", &lines.output)?)?;
     parts.push(sent(alloc, "errors", &lines.errors)?)?;
     parts.push(Part::new(alloc, "audit", told.sent(alloc)?)?)?;
-    push_lines(alloc, &mut parts, way, lines)?;
+    push_lines(alloc, &mut parts, way, lines, peer)?;
     Ok(parts)
 }
 
 // The status with which a command line ends that is run on these lines.
-fn status_of(
+fn status_of<C: Peer>(
     alloc: Global,
     line: &str,
     lines: &mut Lines,
+    peer: &mut C,
     told: &SharedLine,
 ) -> Result<u8, AllocError> {
     let words = words_of(alloc, line)?;
-    run_over(alloc, &words, lines, told)
+    run_over(alloc, &words, lines, peer, told)
+}
+
+// The same with a server as the peer, to which these bytes were served, with so much room each way.
+fn status_beside(
+    alloc: Global,
+    line: &str,
+    lines: &mut Lines,
+    served: &[u8],
+    room: usize,
+    told: &SharedLine,
+) -> Result<u8> {
+    let mut server = server_of(alloc, served, room)?;
+    Ok(status_of(alloc, line, lines, &mut server, told)?)
 }
 
 /// What a run leaves whose bytes come in pieces of this size.
-pub fn ran(alloc: Global, way: &Way, given: &Given, size: usize) -> Result<Vec<Part>, AllocError> {
+pub fn ran(alloc: Global, way: &Way, given: &Given, size: usize) -> Result<Vec<Part>> {
     let mut lines = Lines::new(alloc, way, given, size)?;
+    let mut peer = peer_of(alloc, way, given, size)?;
     let told = SharedLine::new(alloc, way.audit_room)?;
-    let status = status_of(alloc, way.words.as_str(), &mut lines, &told)?;
-    taken(alloc, way, status, &lines, &told)
+    let line = way.words.as_str();
+    let status = match way.served {
+        None => status_of(alloc, line, &mut lines, &mut peer, &told)?,
+        Some(room) => status_beside(alloc, line, &mut lines, &given.served, room, &told)?,
+    };
+    Ok(taken(alloc, way, status, &lines, &peer, &told)?)
 }

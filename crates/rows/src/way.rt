@@ -2,8 +2,8 @@
 use anyhow::{Result, bail};
 use std::alloc::{AllocError, Global};
 
-// The usual room of a stream.
-const ROOM: usize = 30_000;
+/// The usual room of a stream.
+pub const ROOM: usize = 30_000;
 
 /// A way in which a case is run, as the head of this crate says.
 #[derive(Drop)]
@@ -24,6 +24,8 @@ pub struct Way {
     /// The room of each connection that a peer takes.
     pub peers: Vec<usize>,
     pub connect_fails_at: Option<usize>,
+    /// The room of a peer over a server.
+    pub served: Option<usize>,
 }
 
 impl Way {
@@ -43,6 +45,7 @@ impl Way {
             next_fails_at: None,
             peers: Vec::new(alloc),
             connect_fails_at: None,
+            served: None,
         })
     }
 
@@ -77,6 +80,7 @@ impl Way {
             "audit room" => self.audit_room = room,
             "connection" => self.connections.push(room)?,
             "peer" => self.peers.push(room)?,
+            "served" => self.served = Some(room),
             _ => bail!("no such line: {key}"),
         }
         Ok(())
