@@ -33,10 +33,11 @@ use Rattle.xcap_app.specs.Serves.{ServesCommand}
 use Rattle.xcap_app.specs.Exits.{IsRefused}
 use Rattle.xcap_app.specs.Keeping.{KeepsCommand, KeepsOn, Wrote, exit_of as fault_exit, keeps_on, no_journal, no_server}
 use Rattle.xcap_app.specs.Runs.{EndsUnspelled, Runs}
+use Rattle.xcap_app.specs.Samples.{RunsSample}
 use Rattle.xcap_app.specs.Telling.{IsTold}
 use Rattle.xcap_app.specs.Verdicts.{AnswerVerdict, FaultVerdict, TextVerdict, TreeVerdict, exit_of}
 use Rattle.xcap_app.specs.declared.command.Command.{Command}
-use Rattle.xcap_app.specs.declared.command.Command.TheVariants.{Replay, Serve, Keep, Check, Fetch, Put, Delete, Follow}
+use Rattle.xcap_app.specs.declared.command.Command.TheVariants.{Replay, Serve, Keep, Check, Sample, Fetch, Put, Delete, Follow}
 use Rattle.xcap_app.specs.declared.exit.Exit.{Exit}
 use Rattle.xcap_app.specs.declared.exit.Exit.TheVariants.{Done, Usage, InputFailed, OutputFailed, NetworkFailed, Refused, Client, BadJournal, OutOfMemory}
 use Rattle.xcap_app.specs.declared.refusal.Refusal.{Refusal}
@@ -149,6 +150,7 @@ module _ {W : Type 0} (Keeps : List Edit → W → W → Type 0) where
   ran_out (Some (Keep address root count)) port peer input output w = (no_server refl refl refl refl refl, refl)
   ran_out (Some (Check usage)) port peer input output w =
       ((([], record { consumed = gave_none input.inward; counts = refl; reads = reads_none input }, omega arith), refl), refl, refl, refl)
+  ran_out (Some (Sample requests)) port peer input output w = (refl, refl, refl, refl, refl)
   ran_out (Some (Fetch asker path)) port peer input output w = (lacks_memory (refl, refl) refl, refl, refl, refl)
   ran_out (Some (Put asker path media)) port peer input output w = (lacks_memory (refl, (refl, refl)) refl, refl, refl)
   ran_out (Some (Delete asker path)) port peer input output w = (lacks_memory (refl, refl) refl, refl, refl, refl)
@@ -197,6 +199,17 @@ module _ {W : Type 0} (Keeps : List Edit → W → W → Type 0) where
   check_refused usage (BadJournal refusal) input input' output output' is r = absurd r
   check_refused usage OutOfMemory input input' output output' is r = r
 
+  sample_refused : (requests : ℕ) (exit : Exit) (output output' : LineState) → IsRefused exit → RunsSample requests exit output output' → ⊥
+  sample_refused requests Done output output' is r = is
+  sample_refused requests Usage output output' is r = is
+  sample_refused requests InputFailed output output' is r = is
+  sample_refused requests OutputFailed output output' is r = is
+  sample_refused requests NetworkFailed output output' is r = is
+  sample_refused requests (Refused refusal) output output' is r = r
+  sample_refused requests (Client fault) output output' is r = r
+  sample_refused requests (BadJournal refusal) output output' is r = r
+  sample_refused requests OutOfMemory output output' is r = is
+
   replay_refused : (root : List ℕ) (exit : Exit) (input input' output output' : LineState) (w w' : W) → IsRefused exit → Replays Keeps root exit input input' output output' w w' → ⊥
   replay_refused root Done input input' output output' w w' is r = is
   replay_refused root Usage input input' output output' w w' is r = is
@@ -239,6 +252,7 @@ module _ {W : Type 0} (Keeps : List Edit → W → W → Type 0) where
   ran_refused (Some (Keep address root count)) exit port port' peer peer' input input' output output' w w' is r = (unkept (encode_utf8_all address) root count exit port port' input input' output output' w w' is r.0, r.1)
   ran_refused (Some (Check usage)) exit port port' peer peer' input input' output output' w w' is r =
       (check_refused usage exit input input' output output' is r.0, r.1, r.2, r.3)
+  ran_refused (Some (Sample requests)) exit port port' peer peer' input input' output output' w w' is r = absurd (sample_refused requests exit output output' is r.0)
   ran_refused (Some (Fetch asker path)) exit port port' peer peer' input input' output output' w w' is r =
       (words_lacking (λ ended. MakesOneCall asker.root (getting asker.user path) body_of ended peer peer' output output') (AsksNothing peer peer' output output') exit is r.0, r.1, r.2, r.3)
   ran_refused (Some (Put asker path media)) exit port port' peer peer' input input' output output' w w' is r =

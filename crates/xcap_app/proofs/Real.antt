@@ -37,8 +37,9 @@ use Rattle.xcap_app.specs.Runs.{Runs}
 use Rattle.xcap_app.specs.Serves.{served_line, ServesCommand as Serves}
 use Rattle.xcap_app.specs.System.{AnswersAll, AnswersInput, AnswersKept, FollowsNamed, IsDone}
 use Rattle.xcap_app.specs.Verdicts.{TextVerdict}
+use Rattle.sample_runs.specs.Samples.{summary_text}
 use Rattle.xcap_app.specs.declared.command.Command.{Command}
-use Rattle.xcap_app.specs.declared.command.Command.TheVariants.{Replay, Serve, Keep, Check, Fetch, Put, Delete, Follow}
+use Rattle.xcap_app.specs.declared.command.Command.TheVariants.{Replay, Serve, Keep, Check, Sample, Fetch, Put, Delete, Follow}
 use Rattle.xcap_app.specs.declared.exit.Exit.{Exit}
 use Rattle.xcap_app.specs.declared.exit.Exit.TheVariants.{Done, Usage, InputFailed, OutputFailed, NetworkFailed, Refused, Client, BadJournal, OutOfMemory}
 
@@ -184,6 +185,8 @@ module _ {W : Type 0} (Keeps : List Edit → W → W → Type 0) where
         took_all output.taken output'.taken (codes "valid\n") none_taken r.0.1.taken,
         r.3,
       )
+  by_command (Some (Sample requests)) port port' peer peer' input input' output output' w w' none_yet none_given none_taken r =
+      (r.0.0, r.0.1, took_all output.taken output'.taken (summary_text r.0.0) none_taken r.0.2.taken, r.4)
   by_command (Some (Fetch asker path)) port port' peer peer' input input' output output' w w' none_yet none_given none_taken r =
       (command_done (λ ended. MakesOneCall asker.root (getting asker.user path) body_of ended peer peer' output output') (AsksNothing peer peer' output output') Done refl r.0, r.3)
   by_command (Some (Put asker path media)) port port' peer peer' input input' output output' w w' none_yet none_given none_taken r =

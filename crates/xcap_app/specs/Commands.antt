@@ -8,7 +8,7 @@ use Rattle.xcap_uri.specs.Numerals.{numeral_of}
 use Rattle.xcap_uri.specs.Roots.{root_of}
 use Rattle.xcap_app.specs.AskingWords.{delete_of, fetch_of, follow_of, put_of}
 use Rattle.xcap_app.specs.declared.command.Command.{Command}
-use Rattle.xcap_app.specs.declared.command.Command.TheVariants.{Replay, Serve, Keep, Check}
+use Rattle.xcap_app.specs.declared.command.Command.TheVariants.{Replay, Serve, Keep, Check, Sample}
 use Rattle.xcap_app.specs.declared.words.Service.{Service}
 
 unfoldable pub lists_word : List ℕ
@@ -36,6 +36,14 @@ replay_of root = option_map (λ r. Replay r) (root_of root)
 abbrev pub check_of : List ℕ → Option Command
 check_of word = option_map (λ usage. Check usage) (usage_named word)
 
+-- N: a numeral of at most 100,000
+unfoldable pub requests_of : List ℕ → Option ℕ
+requests_of word = option_and_then (λ n. if nat_le n 100000 then Some n else None) (numeral_of word)
+
+-- `sample N`
+abbrev pub sample_of : List ℕ → Option Command
+sample_of word = option_map (λ n. Sample n) (requests_of word)
+
 -- an address, a root and a number, where all are there
 abbrev pub served_at : List ℕ → Option (List ℕ) → Option ℕ → Option Service
 served_at address None count = None
@@ -59,6 +67,7 @@ unfoldable pub of_two : List ℕ → List ℕ → Option Command
 of_two name word =
     if bytes_eq name (codes "replay") then replay_of word
     else if bytes_eq name (codes "check") then check_of word
+    else if bytes_eq name (codes "sample") then sample_of word
     else None
 
 unfoldable pub of_four : List ℕ → List ℕ → List ℕ → List ℕ → Option Command

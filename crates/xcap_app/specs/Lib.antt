@@ -7,6 +7,7 @@ pub mod Frames
 pub mod Keeping
 pub mod Replays
 pub mod Runs
+pub mod Samples
 pub mod Serves
 pub mod System
 pub mod Telling

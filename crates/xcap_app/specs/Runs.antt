@@ -6,8 +6,9 @@ use Rattle.xcap_app.specs.Asking.{RunsDelete, RunsFetch, RunsFollow, RunsPut}
 use Rattle.xcap_app.specs.Checks.{Checks}
 use Rattle.xcap_app.specs.Keeping.{KeepsCommand}
 use Rattle.xcap_app.specs.Replays.{Replays}
+use Rattle.xcap_app.specs.Samples.{RunsSample}
 use Rattle.xcap_app.specs.declared.command.Command.{Command}
-use Rattle.xcap_app.specs.declared.command.Command.TheVariants.{Replay, Serve, Keep, Check, Fetch, Put, Delete, Follow}
+use Rattle.xcap_app.specs.declared.command.Command.TheVariants.{Replay, Serve, Keep, Check, Sample, Fetch, Put, Delete, Follow}
 use Rattle.xcap_app.specs.declared.exit.Exit.{Exit}
 use Rattle.xcap_app.specs.declared.exit.Exit.TheVariants.{Done, Usage, InputFailed, OutputFailed, NetworkFailed, Refused, Client, BadJournal, OutOfMemory}
 use Rattle.xcap_app.specs.Serves.{ServesCommand}
@@ -38,6 +39,8 @@ module _ {W : Type 0} (Keeps : List Edit → W → W → Type 0) where
       KeepsCommand Keeps (encode_utf8_all address) root count exit port port' input input' output output' watchers watchers' × (peer' ≡ peer)
   Runs (Some (Check usage)) exit port port' peer peer' input input' output output' watchers watchers' =
       Checks usage exit input input' output output' × (port' ≡ port) × (peer' ≡ peer) × (watchers' ≡ watchers)
+  Runs (Some (Sample requests)) exit port port' peer peer' input input' output output' watchers watchers' =
+      RunsSample requests exit output output' × (port' ≡ port) × (peer' ≡ peer) × (input' ≡ input) × (watchers' ≡ watchers)
   Runs (Some (Fetch asker path)) exit port port' peer peer' input input' output output' watchers watchers' =
       RunsFetch asker path exit peer peer' output output' × (port' ≡ port) × (input' ≡ input) × (watchers' ≡ watchers)
   Runs (Some (Put asker path media)) exit port port' peer peer' input input' output output' watchers watchers' =

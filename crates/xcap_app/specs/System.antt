@@ -24,8 +24,10 @@ use Rattle.client_commands.specs.declared.ended.Ended.TheVariants as ends
 use Rattle.xcap_app.specs.Asking.{Names}
 use Rattle.xcap_app.specs.Serves.{served_line}
 use Rattle.xcap_app.specs.Verdicts.{TextVerdict}
+use Rattle.sample_runs.specs.Samples.{Samples, summary_text}
+use Rattle.sample_runs.specs.declared.summary.Summary.{Summary}
 use Rattle.xcap_app.specs.declared.command.Command.{Command}
-use Rattle.xcap_app.specs.declared.command.Command.TheVariants.{Replay, Serve, Keep, Check, Fetch, Put, Delete, Follow}
+use Rattle.xcap_app.specs.declared.command.Command.TheVariants.{Replay, Serve, Keep, Check, Sample, Fetch, Put, Delete, Follow}
 use Rattle.xcap_app.specs.declared.exit.Exit.TheVariants.{Done}
 
 -- the text names a document, which was followed to the end
@@ -79,6 +81,8 @@ module _ {W : Type 0} (Keeps : List Edit → W → W → Type 0) where
   IsDone (Some (Keep address root count)) port port' peer peer' input input' output output' watchers watchers' = AnswersKept root port port' input' output' watchers watchers'
   IsDone (Some (Check usage)) port port' peer peer' input input' output output' watchers watchers' =
       TextVerdict usage input'.inward.given Done × (output'.taken ≡ codes "valid\n") × (watchers' ≡ watchers)
+  IsDone (Some (Sample requests)) port port' peer peer' input input' output output' watchers watchers' =
+      (summary : Summary) × Samples requests summary × (output'.taken ≡ summary_text summary) × (watchers' ≡ watchers)
   IsDone (Some (Fetch asker path)) port port' peer peer' input input' output output' watchers watchers' =
       MakesOneCall asker.root (getting asker.user path) body_of ends.Done peer peer' output output' × (watchers' ≡ watchers)
   IsDone (Some (Put asker path media)) port port' peer peer' input input' output output' watchers watchers' =

@@ -28,6 +28,10 @@ pub enum Command {
     Check {
         usage: Usage,
     },
+    /// Makes a sample of so many requests on a server in memory.
+    Sample {
+        requests: u32,
+    },
     /// Asks a server for what stands at this path.
     Fetch {
         asker: Asker,

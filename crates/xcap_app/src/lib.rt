@@ -13,6 +13,7 @@ mod judging;
 mod keep;
 mod refusal;
 mod replay;
+mod sample;
 mod serve;
 mod system;
 mod telling;

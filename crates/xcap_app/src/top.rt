@@ -12,6 +12,7 @@ use crate::command::Command;
 use crate::exit::Exit;
 use crate::keep::keep;
 use crate::replay::replay;
+use crate::sample::sample;
 use crate::serve::serve;
 use crate::telling::tell_exit;
 use crate::words::command_of;
@@ -63,6 +64,7 @@ fn execute<P: Port, C: Peer, I: Source, O: Sink, W: Watchers<Edit>>(
             watchers,
         ),
         Command::Check { usage } => check(alloc, *usage, input, output),
+        Command::Sample { requests } => sample(alloc, *requests, output),
         Command::Fetch { asker, path } => run_fetch(alloc, asker, path, peer, output),
         Command::Put { asker, path, media } => {
             run_put(alloc, asker, path, media, peer, input, output)

@@ -1,6 +1,6 @@
 // The words of the command line.
 ghost use Rattle.std.specs.Prelude.{◌≡◌, IfOk, map, string_bytes};
-ghost use Rattle.xcap_app.specs.Commands.{check_of, command_of, count_of, keep_of, of_five, of_four, of_two, replay_of, serve_of, service_of, usage_named};
+ghost use Rattle.xcap_app.specs.Commands.{check_of, command_of, count_of, keep_of, of_five, of_four, of_two, replay_of, requests_of, sample_of, serve_of, service_of, usage_named};
 
 use crate::asking_words::{delete_of, fetch_of, follow_of, put_of};
 use crate::command::Command;
@@ -19,6 +19,21 @@ fn count_of(word: &str) -> Option<u32>
 {
     let number = numeral(word.as_bytes())?;
     if number > GREATEST_COUNT {
+        return None;
+    }
+    Some(number as u32)
+}
+
+// The greatest N.
+const GREATEST_SAMPLE: u64 = 100_000;
+
+// The N that a word is.
+#[tactic(auto, unfolding(crate::specs::Commands::requests_of))]
+fn requests_of(word: &str) -> Option<u32>
+    ensures reads_the_number { result ≡ requests_of word.now }
+{
+    let number = numeral(word.as_bytes())?;
+    if number > GREATEST_SAMPLE {
         return None;
     }
     Some(number as u32)
@@ -54,6 +69,14 @@ fn check_of(word: &str) -> Option<Command>
 {
     let usage = usage_of(word)?;
     Some(Command::Check { usage })
+}
+
+// What `sample` and a word spell.
+fn sample_of(word: &str) -> Option<Command>
+    ensures reads_a_sample { result ≡ sample_of word.now }
+{
+    let requests = requests_of(word)?;
+    Some(Command::Sample { requests })
 }
 
 // An address, a root and a number of connections.
@@ -150,6 +173,9 @@ fn of_two(alloc: Global, name: &str, word: &str) -> Result<Option<Command>, Allo
     }
     if name == "check" {
         return Ok(check_of(word));
+    }
+    if name == "sample" {
+        return Ok(sample_of(word));
     }
     Ok(None)
 }

@@ -1,6 +1,6 @@
 use Rattle.std.proofs.Common.{List, ℕ, refl, subst}
 use Rattle.xcap_app.specs.Keeping.{KeepsCommand}
-use Rattle.xcap_app.specs.declared.command.Command.TheVariants.{Keep, Fetch, Put, Delete, Follow}
+use Rattle.xcap_app.specs.declared.command.Command.TheVariants.{Keep, Sample, Fetch, Put, Delete, Follow}
 use Rattle.xcap_app.proofs.Ends.{ran_as}
 use Rattle.xcap_app.proofs.top.execute.Goals as goal
 
@@ -33,4 +33,9 @@ returns-in-Keep g c = record {
             c.as_str-in-Keep.ensures.bytes c.keep.ensures.keeps_a_journal,
         refl,
       );
+}
+
+pub returns-in-Sample : goal.returns-in-Sample
+returns-in-Sample g c = record {
+  runs_the_command = ran_as g.W.Watchers.keeps c.args.command.now (Sample c.in-Sample.requests) c.sample.result _ _ _ _ _ _ _ _ _ _ c.in-Sample.is (c.sample.ensures.writes_the_summary, refl, refl, refl, refl);
 }
