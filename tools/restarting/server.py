@@ -1,5 +1,6 @@
 """The program with a journal in a file, and its one client."""
 import http.client
+import os
 import pathlib
 import resource
 import signal
@@ -23,7 +24,7 @@ class Ended(Exception):
 class Kept:
     """A process of `keep`. Its old journal is one file, its new one another."""
 
-    def __init__(self, program, old, new, connections=1000, limit=None):
+    def __init__(self, program, old, new, connections=1000, limit=None, around=None):
         self.port = free_port()
         self.errors = pathlib.Path(f"{new}.errors")
         words = ["keep", f"127.0.0.1:{self.port}", ROOT, str(connections)]
@@ -35,7 +36,12 @@ class Kept:
 
         with open(old, "rb") as source, open(new, "wb") as sink, open(self.errors, "wb") as errors:
             self.process = subprocess.Popen(
-                [program, *words], stdin=source, stdout=sink, stderr=errors, preexec_fn=bounded
+                [program, *words],
+                stdin=source,
+                stdout=sink,
+                stderr=errors,
+                preexec_fn=bounded,
+                env={**os.environ, **(around or {})},
             )
         self.connection = None
         self.asked = 0
