@@ -1,5 +1,6 @@
 //! Runs of the program in memory.
 use crate::files::Given;
+use crate::logged::journal_behind;
 use crate::part::Part;
 use crate::server::server_of;
 use crate::shared_line::SharedLine;
@@ -80,6 +81,14 @@ impl Lines {
     }
 }
 
+/// The watchers of a run: an audit that writes to a line.
+pub fn watchers_of(alloc: Global, told: &SharedLine) -> Result<Vec<Box<dyn Watcher>>, AllocError> {
+    let audit = Audit::new(alloc, StdSink::new(told.share()?));
+    let mut watchers: Vec<Box<dyn Watcher>> = Vec::new(alloc);
+    watchers.push(Box::new(alloc, audit)?)?;
+    Ok(watchers)
+}
+
 // Runs the program on these lines, with an audit that writes to a line, and answers its status. It
 // promises nothing, so that its caller isn't proved over all that the call says.
 fn run_over<C: Peer>(
@@ -89,9 +98,7 @@ fn run_over<C: Peer>(
     peer: &mut C,
     told: &SharedLine,
 ) -> Result<u8, AllocError> {
-    let audit = Audit::new(alloc, StdSink::new(told.share()?));
-    let mut watchers: Vec<Box<dyn Watcher>> = Vec::new(alloc);
-    watchers.push(Box::new(alloc, audit)?)?;
+    let mut watchers = watchers_of(alloc, told)?;
     Ok(run(
         alloc,
         words,
@@ -142,18 +149,19 @@ fn push_lines(
     Ok(())
 }
 
-// What the lines took, behind the status.
+// What the lines took, behind the status and what was written.
 fn taken(
     alloc: Global,
     way: &Way,
     status: u8,
+    written: Vec<u8>,
     lines: &Lines,
     peer: &MemPeer,
     told: &SharedLine,
 ) -> Result<Vec<Part>, AllocError> {
     let mut parts = Vec::new(alloc);
     parts.push(Part::status(alloc, status)?)?;
-    parts.push(sent(alloc, "out", &lines.output)?)?;
+    parts.push(Part::new(alloc, "out", written)?)?;
     parts.push(sent(alloc, "errors", &lines.errors)?)?;
     parts.push(Part::new(alloc, "audit", told.sent(alloc)?)?)?;
     push_lines(alloc, &mut parts, way, lines, peer)?;
@@ -190,10 +198,15 @@ pub fn ran(alloc: Global, way: &Way, given: &Given, size: usize) -> Result<Vec<P
     let mut lines = Lines::new(alloc, way, given, size)?;
     let mut peer = peer_of(alloc, way, given, size)?;
     let told = SharedLine::new(alloc, way.audit_room)?;
+    if let Some(call) = way.journal_fails_at {
+        let held = journal_behind(alloc, &mut lines.port, call, &told)?;
+        return Ok(taken(alloc, way, 0, held, &lines, &peer, &told)?);
+    }
     let line = way.words.as_str();
     let status = match way.served {
         None => status_of(alloc, line, &mut lines, &mut peer, &told)?,
         Some(room) => status_beside(alloc, line, &mut lines, &given.served, room, &told)?,
     };
-    Ok(taken(alloc, way, status, &lines, &peer, &told)?)
+    let written = lines.output.sent().to_vec(alloc)?;
+    Ok(taken(alloc, way, status, written, &lines, &peer, &told)?)
 }

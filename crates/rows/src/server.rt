@@ -8,8 +8,8 @@ use xcap_io::MemLine;
 use xcap_server::{Server, serve_connection};
 use xcap_uri::{Root, read_root};
 
-// The root of the server.
-fn root_of(alloc: Global) -> Result<Root> {
+/// The root of each server.
+pub fn root_of(alloc: Global) -> Result<Root> {
     match read_root(alloc, "http://xcap.example.com/xcap")? {
         Some(root) => Ok(root),
         None => bail!("no root"),

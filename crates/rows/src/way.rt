@@ -26,6 +26,8 @@ pub struct Way {
     pub connect_fails_at: Option<usize>,
     /// The room of a peer over a server.
     pub served: Option<usize>,
+    /// The call at which the journal in memory fails.
+    pub journal_fails_at: Option<u64>,
 }
 
 impl Way {
@@ -46,6 +48,7 @@ impl Way {
             peers: Vec::new(alloc),
             connect_fails_at: None,
             served: None,
+            journal_fails_at: None,
         })
     }
 
@@ -68,6 +71,7 @@ impl Way {
             "reads fail at" => self.reads_fail_at = Some(count),
             "next fails at" => self.next_fails_at = Some(count),
             "connect fails at" => self.connect_fails_at = Some(count),
+            "journal fails at" => self.journal_fails_at = Some(count as u64),
             _ => self.set_room(key, count)?,
         }
         Ok(())
