@@ -38,7 +38,7 @@
 //! | `peer: 60` | a peer takes one more connection, with room for so many bytes |
 //! | `connect fails at: 2` | the peer fails when the second connection is begun |
 //! | `served: 60` | the peer is a server of `http://xcap.example.com/xcap`, with room for so many bytes each way |
-//! | `journal fails at: 2` | the first connection alone, by a server that logs in memory; `.out` is the journal |
+//! | `journal fails at: 2` | the first connection alone, by a server that logs in memory and tells no audit; `.out` is the journal |
 #![tactic(auto)]
 
 mod files;

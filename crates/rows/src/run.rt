@@ -81,14 +81,6 @@ impl Lines {
     }
 }
 
-/// The watchers of a run: an audit that writes to a line.
-pub fn watchers_of(alloc: Global, told: &SharedLine) -> Result<Vec<Box<dyn Watcher>>, AllocError> {
-    let audit = Audit::new(alloc, StdSink::new(told.share()?));
-    let mut watchers: Vec<Box<dyn Watcher>> = Vec::new(alloc);
-    watchers.push(Box::new(alloc, audit)?)?;
-    Ok(watchers)
-}
-
 // Runs the program on these lines, with an audit that writes to a line, and answers its status. It
 // promises nothing, so that its caller isn't proved over all that the call says.
 fn run_over<C: Peer>(
@@ -98,7 +90,9 @@ fn run_over<C: Peer>(
     peer: &mut C,
     told: &SharedLine,
 ) -> Result<u8, AllocError> {
-    let mut watchers = watchers_of(alloc, told)?;
+    let audit = Audit::new(alloc, StdSink::new(told.share()?));
+    let mut watchers: Vec<Box<dyn Watcher>> = Vec::new(alloc);
+    watchers.push(Box::new(alloc, audit)?)?;
     Ok(run(
         alloc,
         words,
@@ -199,7 +193,7 @@ pub fn ran(alloc: Global, way: &Way, given: &Given, size: usize) -> Result<Vec<P
     let mut peer = peer_of(alloc, way, given, size)?;
     let told = SharedLine::new(alloc, way.audit_room)?;
     if let Some(call) = way.journal_fails_at {
-        let held = journal_behind(alloc, &mut lines.port, call, &told)?;
+        let held = journal_behind(alloc, &mut lines.port, call)?;
         return Ok(taken(alloc, way, 0, held, &lines, &peer, &told)?);
     }
     let line = way.words.as_str();
