@@ -3,10 +3,12 @@ use Rattle.std.proofs.Common.{◌≡◌, ◌≤◌, ◌<◌, ℕ, Bor, List, [],
 use Rattle.std.proofs.lemmas.List.Elements.{All-map, recursion_from_All}
 use Rattle.std.specs.List.{All, AllByRecursion}
 use Rattle.xml_tree.specs.Tree.{Tree, height}
-use Rattle.usage_docs.specs.Services.{listed, index_of, index_of_documents, index_len, index_limit, RefusesServices}
+use Rattle.xml_tree.specs.Memory.{OfFault}
+use Rattle.xml_tree.specs.declared.read_error.ReadError.{ReadError}
+use Rattle.xml_tree.specs.declared.read_error.ReadError.TheVariants.{Fault, NoMemory}
+use Rattle.usage_docs.specs.Services.{listed, index_of, index_of_documents, index_len, index_limit, document_len, RefusesServices}
 use Rattle.usage_docs.specs.declared.listing.IndexFault.{IndexFault}
-use Rattle.usage_docs.specs.declared.listing.IndexFault.TheVariants.{TooLarge, NoMemory}
-use Rattle.document_reads.specs.Finding.{IsBeyond}
+use Rattle.usage_docs.specs.declared.listing.IndexFault.TheVariants.{TooLarge}
 use Rattle.document_reads.proofs.Heights.{index_low}
 use Rattle.document_reads.proofs.Lengths.{empty_len, index_grows}
 
@@ -43,8 +45,9 @@ gathered_more trees left ss t new g is fits = record {
 }
 
 -- where the next document makes it too long, so do all
-pub beyond : (trees left ss : List Tree) (t : Tree) (fault : IndexFault) → Gathered trees (t ∷ left) ss → RefusesServices (ss ++ listed t) fault → IsBeyond (index_of_documents trees) fault
-beyond trees left ss t (TooLarge len) g refuses =
+pub beyond : (trees left ss : List Tree) (t : Tree) (error : ReadError IndexFault) → Gathered trees (t ∷ left) ss → OfFault (RefusesServices (ss ++ listed t)) error
+    → OfFault (λ (fault : IndexFault). index_limit < document_len (index_of_documents trees)) error
+beyond trees left ss t (Fault (TooLarge len)) g refuses =
     let grows : index_len (ss ++ listed t) ≤ index_len (flat_map listed trees) =
     subst (λ (ts : List Tree). index_len (ss ++ listed t) ≤ index_len ts) (next trees left ss t g) (index_grows (ss ++ listed t) (flat_map listed left)) in
     longer (index_len (ss ++ listed t)) (index_len (flat_map listed trees)) refuses.0 grows

@@ -5,9 +5,11 @@ use Rattle.store_core.specs.Held.{Stock as Content}
 use Rattle.xml_tree.specs.Tree.{Tree}
 use Rattle.usage_docs.specs.Services.{document_len, index_limit}
 use Rattle.usage_docs.specs.declared.listing.IndexFault.{IndexFault}
-use Rattle.usage_docs.specs.declared.listing.IndexFault.TheVariants.{TooLarge, NoMemory}
+use Rattle.xml_tree.specs.Memory.{OfFault}
+use Rattle.xml_tree.specs.declared.read_error.ReadError.{ReadError}
+use Rattle.xml_tree.specs.declared.read_error.ReadError.TheVariants.{Fault, NoMemory}
 use Rattle.doc_names.specs.declared.doc_id.Auid.TheVariants.{RlsServices}
-use Rattle.document_reads.specs.Finding.{IsBeyond, IsRefused}
+use Rattle.document_reads.specs.Finding.{HasLongIndex}
 use Rattle.machine_words.specs.Resources.{IsIndexOfServices, LeadsUnderGlobal, beyond_limit, there}
 
 pub leads_index : (c : Content) (root : Tree) (tag : ℕ) → IsIndexOfServices c root → document_len root ≤ index_limit → tag + 1 ≡ c.next → LeadsUnderGlobal c RlsServices true (there root tag)
@@ -20,6 +22,7 @@ pub leads_beyond : (c : Content) (root : Tree) → IsIndexOfServices c root → 
 leads_beyond c root is over =
     (root, is, sym (ap (λ (b : Bool). cond b beyond_limit (there root (c.next - 1))) (lt-ltb index_limit (document_len root) over)))
 
-pub refused_so : (c : Content) (root : Tree) (fault : IndexFault) → IsIndexOfServices c root → IsBeyond root fault → IsRefused c fault
-refused_so c root (TooLarge len) is over = (root, is, over)
+pub refused_so : (c : Content) (root : Tree) (error : ReadError IndexFault) → IsIndexOfServices c root → OfFault (λ (fault : IndexFault). index_limit < document_len root) error
+    → OfFault (λ (fault : IndexFault). HasLongIndex c) error
+refused_so c root (Fault fault) is over = (root, is, over)
 refused_so c root NoMemory is over = tt

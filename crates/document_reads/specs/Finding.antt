@@ -4,8 +4,6 @@ use Rattle.store_core.specs.Held.{Stock}
 use Rattle.xml_tree.specs.Tree.{Tree, height}
 use Rattle.xml_tree.specs.Limits.{most_levels}
 use Rattle.usage_docs.specs.Services.{document_len, index_limit}
-use Rattle.usage_docs.specs.declared.listing.IndexFault.{IndexFault}
-use Rattle.usage_docs.specs.declared.listing.IndexFault.TheVariants.{TooLarge, NoMemory}
 use Rattle.machine_words.specs.Resources.{IsIndexOfServices, Resource, absent, beyond_limit, there}
 use Rattle.document_reads.specs.declared.finding.Found.{Found}
 use Rattle.document_reads.specs.declared.finding.Found.TheVariants.{Absent, BeyondLimit, Held, Computed}
@@ -24,12 +22,6 @@ IsLow BeyondLimit = Unit {0}
 IsLow (Held root tag) = height root.now ≤ most_levels
 IsLow (Computed root tag) = height root ≤ most_levels
 
--- an index that can't be made because of its length is beyond the limit
-abbrev pub IsBeyond : Tree → IndexFault → Type 0
-IsBeyond t (TooLarge len) = index_limit < document_len t
-IsBeyond t NoMemory = Unit {0}
-
--- the index of what is held isn't made: where its length is the reason, it is beyond the limit
-abbrev pub IsRefused : Stock → IndexFault → Type 0
-IsRefused c (TooLarge len) = (root : Tree) × IsIndexOfServices c root × (index_limit < document_len root)
-IsRefused c NoMemory = Unit {0}
+-- the index of what is held would be longer than the limit
+abbrev pub HasLongIndex : Stock → Type 0
+HasLongIndex c = (root : Tree) × IsIndexOfServices c root × (index_limit < document_len root)

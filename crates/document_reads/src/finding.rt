@@ -12,8 +12,8 @@ use crate::listing::index_of_services;
 use doc_names::{Auid, DocId, Home};
 use std::alloc::{AllocError, Global};
 use store_core::Store;
-use usage_docs::{IndexFault, caps};
-use xml_tree::Element;
+use usage_docs::caps;
+use xml_tree::{Element, ReadError};
 
 /// What an address leads to.
 #[derive(Drop)]
@@ -46,8 +46,8 @@ fn index_found<'a>(alloc: Global, store: &'a Store) -> Result<Found<'a>, NoMemor
 {
     match index_of_services(alloc, store) {
         Ok(root) => Ok(Found::Computed(root, store.last_number())),
-        Err(IndexFault::TooLarge(_)) => Ok(Found::BeyondLimit),
-        Err(IndexFault::NoMemory) => Err(AllocError),
+        Err(ReadError::Fault(_)) => Ok(Found::BeyondLimit),
+        Err(ReadError::NoMemory) => Err(AllocError),
     }
 }
 

@@ -1,24 +1,25 @@
 //! The index of all services (RFC 4826, sections 4.4.7 and 4.4.8).
 ghost use Rattle.std.specs.Prelude.{◌≤◌, IfErr, IfOk};
+ghost use Rattle.xml_tree.specs.Memory.{OfFault};
 ghost use Rattle.xml_tree.specs.Tree.{height};
 ghost use Rattle.usage_docs.specs.Services.{document_len, index_limit};
 ghost use Rattle.machine_words.specs.Resources.{IsIndexOfServices};
-ghost use Rattle.document_reads.specs.Finding.{IsRefused};
+ghost use Rattle.document_reads.specs.Finding.{HasLongIndex};
 
 use std::alloc::Global;
 use store_core::Store;
 use usage_docs::{IndexFault, IndexMaker};
-use xml_tree::Element;
+use xml_tree::{Element, ReadError};
 
 /// The index of the services of all users' documents that are held.
 ///
 /// # Errors
 /// `TooLarge` exactly where it would be beyond its limit, else `NoMemory`.
-pub fn index_of_services(alloc: Global, store: &Store) -> Result<Element, IndexFault>
+pub fn index_of_services(alloc: Global, store: &Store) -> Result<Element, ReadError<IndexFault>>
     ensures lists_all { IfOk result (λ root. IsIndexOfServices store.now.content root) }
     ensures within_limit { IfOk result (λ root. document_len root ≤ index_limit) }
     ensures found_low { IfOk result (λ root. height root ≤ 64) }
-    ensures refused_beyond_limit { IfErr result (λ fault. IsRefused store.now.content fault) }
+    ensures refused_beyond_limit { IfErr result (λ error. OfFault (λ _. HasLongIndex store.now.content) error) }
 {
     let mut maker = IndexMaker::new(alloc)?;
     for root in store.user_indexes(alloc)? {

@@ -4,9 +4,9 @@ use Rattle.store_core.specs.Held.{Stock as Content}
 use Rattle.xml_tree.specs.Tree.{Tree}
 use Rattle.conflict_docs.specs.declared.conflicts.ErrorBody.TheVariants as conflicts
 use Rattle.tree_text.specs.Faults.{BodyAnswer, TextAnswer}
-use Rattle.tree_text.specs.Memory.{Answered}
-use Rattle.tree_text.specs.declared.fault.ReadError.{ReadError}
-use Rattle.tree_text.specs.declared.fault.ReadError.TheVariants.{Fault}
+use Rattle.xml_tree.specs.Memory.{Answered}
+use Rattle.xml_tree.specs.declared.read_error.ReadError.{ReadError}
+use Rattle.xml_tree.specs.declared.read_error.ReadError.TheVariants.{Fault}
 use Rattle.tree_text.specs.declared.fault.TextFault.{TextFault}
 use Rattle.tree_text.specs.declared.fault.ValueFault.{ValueFault}
 use Rattle.doc_names.specs.declared.doc_id.DocId.{DocId}

@@ -15,9 +15,9 @@ use http_wire::Request;
 use reply_text::{Media, Reply};
 use request_terms::has_type;
 use std::alloc::Global;
-use tree_text::{ReadError, TextFault, read_document};
+use tree_text::{TextFault, read_document};
 use usage_docs::judge;
-use xml_tree::Element;
+use xml_tree::{Element, ReadError};
 
 /// How many levels a document has at most.
 pub(crate) const DEPTH: usize = 64;

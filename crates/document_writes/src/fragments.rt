@@ -6,7 +6,7 @@ ghost use Rattle.conflict_docs.specs.declared.conflicts.ErrorBody.TheVariants as
 ghost use Rattle.doc_names.specs.declared.doc_id.DocId.{DocId as TheDocId};
 ghost use Rattle.node_select.specs.declared.selector.End.TheVariants as ends;
 ghost use Rattle.tree_text.specs.Faults.{TextAnswer};
-ghost use Rattle.tree_text.specs.Memory.{Answered};
+ghost use Rattle.xml_tree.specs.Memory.{Answered};
 ghost use Rattle.plan_words.specs.Puts.{HasRoomAt, IsProperAt};
 ghost use Rattle.plan_words.specs.Spots.{IsSpotOf};
 ghost use Rattle.plan_words.specs.declared.spot.Spot.TheVariants.{Value};
@@ -30,8 +30,8 @@ use node_texts::node_media;
 use reply_text::Reply;
 use request_terms::has_type;
 use std::alloc::Global;
-use tree_text::{ReadError, TextFault, ValueFault, read_att_value, read_fragment};
-use xml_tree::{Element, Path, Scope};
+use tree_text::{TextFault, ValueFault, read_att_value, read_fragment};
+use xml_tree::{Element, Path, ReadError, Scope};
 
 // ---- elements
 

@@ -1,6 +1,6 @@
 -- The fault of a follower that the fault of a call below becomes. This is the project's own.
-use Rattle.tree_text.specs.declared.fault.ReadError.{ReadError}
-use Rattle.tree_text.specs.declared.fault.ReadError.TheVariants as errors
+use Rattle.xml_tree.specs.declared.read_error.ReadError.{ReadError}
+use Rattle.xml_tree.specs.declared.read_error.ReadError.TheVariants as errors
 use Rattle.tree_text.specs.declared.fault.TextFault.{TextFault}
 use Rattle.patch_apply.specs.declared.fault.NoticeFault.{NoticeFault}
 use Rattle.patch_apply.specs.declared.fault.ApplyFault.{ApplyFault}

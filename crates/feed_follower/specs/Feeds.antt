@@ -1,7 +1,7 @@
 -- What a follower makes of the answer to a GET of the feed of its document's changes (RFC 5874, section 3; RFC 5875).
 use Rattle.std.specs.Prelude.{◌≡◌, ℕ, Bool, ⊤, List, Option, None, Some, Result, Ok, Err, if◌then◌else◌}
 use Rattle.xml_tree.specs.Tree.{Tree}
-use Rattle.tree_text.specs.declared.fault.ReadError.{ReadError}
+use Rattle.xml_tree.specs.declared.read_error.ReadError.{ReadError}
 use Rattle.doc_names.specs.declared.doc_id.DocId.{DocId}
 use Rattle.http_exchange.specs.declared.response.Response.{Response}
 use Rattle.name_words.specs.Naming.{is_name_of}

@@ -5,9 +5,10 @@ ghost use Rattle.feed_follower.specs.Faults.{of_apply, of_client, of_notice, of_
 
 use patch_apply::{ApplyFault, NoticeFault};
 use thiserror::Error;
-use tree_text::{ReadError, TextFault};
+use tree_text::TextFault;
 use xcap_client::ClientFault;
 use xcap_io::NoMemory;
+use xml_tree::ReadError;
 
 /// Why a follower has learnt nothing. It is then as it was.
 #[derive(Debug, Drop, Error)]

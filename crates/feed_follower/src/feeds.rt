@@ -8,8 +8,8 @@ use crate::fault::FollowerFault;
 use http_exchange::Response;
 use patch_apply::{Applied, ApplyFault, Replica, apply_notice, read_notice};
 use std::alloc::Global;
-use tree_text::ReadError;
 use xcap_client::ClientFault;
+use xml_tree::ReadError;
 
 /// What a round came to.
 #[derive(Clone, Copy, Debug, Drop, PartialEq, Eq)]

@@ -1,10 +1,10 @@
 -- The reply of the machine to a GET or HEAD of a flat list, from the document or from why there is none.
 use Rattle.std.proofs.Common.{◌≡◌, ℕ, List, None, Result, Ok, Err, IfOk, encode_utf8_all, ap, subst}
 use Rattle.xml_tree.specs.Tree.{Tree}
-use Rattle.tree_text.specs.Memory.{Answered}
+use Rattle.xml_tree.specs.Memory.{Answered}
 use Rattle.tree_text.specs.Printing.{document_print}
-use Rattle.tree_text.specs.declared.fault.ReadError.{ReadError}
-use Rattle.tree_text.specs.declared.fault.ReadError.TheVariants.{Fault}
+use Rattle.xml_tree.specs.declared.read_error.ReadError.{ReadError}
+use Rattle.xml_tree.specs.declared.read_error.ReadError.TheVariants.{Fault}
 use Rattle.doc_names.specs.declared.doc_id.DocId.{DocId}
 use Rattle.reply_text.specs.Heads.{plain}
 use Rattle.reply_text.specs.declared.replies.Reply.{Reply}

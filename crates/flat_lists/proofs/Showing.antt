@@ -1,9 +1,9 @@
 -- The document of a service's flat list, or why there is none, from the list and the document that were made.
 use Rattle.std.proofs.Common.{◌≡◌, ℕ, List, Result, Ok, Err, IsErrAnd, refl, sym, subst}
 use Rattle.xml_tree.specs.Tree.{Tree}
-use Rattle.tree_text.specs.Memory.{Answered}
-use Rattle.tree_text.specs.declared.fault.ReadError.{ReadError}
-use Rattle.tree_text.specs.declared.fault.ReadError.TheVariants.{Fault, NoMemory}
+use Rattle.xml_tree.specs.Memory.{Answered}
+use Rattle.xml_tree.specs.declared.read_error.ReadError.{ReadError}
+use Rattle.xml_tree.specs.declared.read_error.ReadError.TheVariants.{Fault, NoMemory}
 use Rattle.doc_names.specs.declared.doc_id.DocId.{DocId}
 use Rattle.store_core.specs.Held.{Stock}
 use Rattle.list_resolve.specs.Documents.{flat_document}

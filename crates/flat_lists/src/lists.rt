@@ -1,6 +1,6 @@
 //! GET and HEAD of flat lists (RFC 4826, section 4; RFC 9110, sections 9.3.1 and 9.3.2).
 ghost use Rattle.std.specs.Prelude.{◌≡◌, None, IfOk, encode_utf8_all};
-ghost use Rattle.tree_text.specs.Memory.{Answered};
+ghost use Rattle.xml_tree.specs.Memory.{Answered};
 ghost use Rattle.tree_text.specs.Printing.{document_print};
 ghost use Rattle.reply_text.specs.Heads.{plain};
 ghost use Rattle.reply_text.specs.declared.media_types.Media.TheVariants as medias;
@@ -16,10 +16,10 @@ use reply_text::{Media, Reply};
 use request_terms::{Method, as_asked};
 use std::alloc::{AllocError, Global};
 use store_core::Store;
-use tree_text::{ReadError, print_document};
+use tree_text::print_document;
 use xcap_io::Bytes;
 use xcap_uri::Root;
-use xml_tree::{Element, Text};
+use xml_tree::{Element, ReadError, Text};
 
 // The document of a flat list, or why there is none.
 fn document(

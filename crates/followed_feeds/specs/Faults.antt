@@ -1,6 +1,6 @@
 -- How the faults of the parts are told by the whole.
-use Rattle.tree_text.specs.declared.fault.ReadError.{ReadError}
-use Rattle.tree_text.specs.declared.fault.ReadError.TheVariants as errors
+use Rattle.xml_tree.specs.declared.read_error.ReadError.{ReadError}
+use Rattle.xml_tree.specs.declared.read_error.ReadError.TheVariants as errors
 use Rattle.patch_apply.specs.declared.fault.ApplyFault.{ApplyFault}
 use Rattle.patch_apply.specs.declared.fault.NoticeFault.{NoticeFault}
 use Rattle.followed_feeds.specs.declared.fault.FollowFault.{FollowFault}

@@ -3,13 +3,13 @@ ghost use Rattle.std.specs.Prelude.{◌≡◌, [], IfOk, IsTrue, min};
 ghost use Rattle.usage_docs.specs.Services.{document_len};
 ghost use Rattle.usage_docs.specs.Words.{is_ascii};
 ghost use Rattle.xml_tree.specs.Expanded.{name_of};
-ghost use Rattle.tree_text.specs.Memory.{Answered};
+ghost use Rattle.xml_tree.specs.Memory.{Answered};
 ghost use Rattle.list_resolve.specs.Documents.{entry_tree, flat_document, flat_tree, list_tree};
 
 use crate::fault::FlatFault;
 use std::alloc::Global;
-use tree_text::{ReadError, no_text};
-use xml_tree::{Attr, Decl, Element, Name, NoMemory, Text, printed_len};
+use tree_text::no_text;
+use xml_tree::{Attr, Decl, Element, Name, NoMemory, ReadError, Text, printed_len};
 
 /// The greatest length of the document, printed, in bytes.
 const DOCUMENT_LIMIT: usize = 16_777_216;

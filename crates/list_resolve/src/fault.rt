@@ -1,7 +1,7 @@
 //! Why there is no flat list.
 
 use thiserror::Error;
-use tree_text::ReadError;
+use xml_tree::ReadError;
 
 /// Why there is no flat list, or want of memory.
 pub(crate) type FlatError = ReadError<FlatFault>;

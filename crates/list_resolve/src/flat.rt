@@ -1,7 +1,7 @@
 //! The flat list of a service (RFC 4826, section 4).
 ghost use Rattle.std.specs.Prelude.{◌≡◌, chars, length, option_and_then, option_map};
 ghost use Rattle.std.specs.Str.{bytes_eq};
-ghost use Rattle.tree_text.specs.Memory.{Answered};
+ghost use Rattle.xml_tree.specs.Memory.{Answered};
 ghost use Rattle.list_resolve.specs.Flat.{IsFlatList, flat_of, has_address, service_of, service_spot};
 ghost use Rattle.list_resolve.specs.Leads.{tree_held};
 ghost use Rattle.list_resolve.specs.Walks.{walk};
@@ -17,10 +17,9 @@ use crate::walk::walk_inside;
 use doc_names::DocId;
 use std::alloc::Global;
 use store_core::Store;
-use tree_text::ReadError;
 use usage_docs::{Key, Kind, value_of};
 use xcap_uri::Root;
-use xml_tree::{Around, Attr, Element, List, Node, Text};
+use xml_tree::{Around, Attr, Element, List, Node, ReadError, Text};
 
 /// How many elements a chain has at most.
 const CHAIN_LIMIT: usize = 16;

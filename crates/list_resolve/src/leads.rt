@@ -14,9 +14,8 @@ use doc_names::{Auid, DocId, Home};
 use node_select::{End, Selector, select};
 use std::alloc::{AllocError, Global};
 use store_core::Store;
-use tree_text::ReadError;
 use xcap_uri::{Root, Target, read_target};
-use xml_tree::{Element, NoMemory, Path, Text};
+use xml_tree::{Element, NoMemory, Path, ReadError, Text};
 
 /// What references are read against: the documents held, the root of addresses, and the home whose documents they may lead to.
 #[derive(Drop)]

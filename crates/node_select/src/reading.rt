@@ -1,6 +1,6 @@
 //! Reading selectors.
 ghost use Rattle.std.specs.Prelude.{◌≡◌, ◌+◌, ◌-◌, ◌<◌, ◌^◌, length, map, IfOk, chars, encode_utf8_all};
-ghost use Rattle.tree_text.specs.Memory.{Answered};
+ghost use Rattle.xml_tree.specs.Memory.{Answered};
 ghost use Rattle.node_select.specs.Faults.{IsPatchFormAnswer, IsPatchSelectorAnswer, IsSelectorAnswer, byte_of};
 ghost use Rattle.node_select.specs.readers.Raw.{HasRoom, first_unbound, first_unbound_in_patch, patch_selector_of, selector_of};
 ghost use Rattle.node_select.specs.readers.Views.{patch_end_in, patch_selector_in, selector_in, step_in};
@@ -15,7 +15,8 @@ use crate::meaning::{Unresolved, end, patch_end, steps};
 use crate::raw::{RawPatchEnd, RawPatchSelector, RawSelector};
 use crate::selector::{PatchForm, PatchSelector, Selector};
 use std::alloc::{AllocError, Global};
-use tree_text::{ReadError, Stop, decoded};
+use tree_text::{Stop, decoded};
+use xml_tree::ReadError;
 
 // How many bytes characters take.
 #[tactic(auto, using(crate::proofs::Bytes::bytes_more))]

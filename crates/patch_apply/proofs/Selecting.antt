@@ -1,9 +1,9 @@
 -- The selector of an operation: its form, what it ends in, and what it means, by what reading answers.
 use Rattle.std.proofs.Common.{◌≡◌, ℕ, Bool, true, false, cond, List, [], Option, None, Some, is_some, unwrap_or, Result, Ok, Err, chars, refl, sym, ap, ◌∙◌, subst}
 use Rattle.grammar_rules.specs.Reading.{Stop, read_whole}
-use Rattle.tree_text.specs.Memory.{Answered}
-use Rattle.tree_text.specs.declared.fault.ReadError.{ReadError}
-use Rattle.tree_text.specs.declared.fault.ReadError.TheVariants.{Fault, NoMemory}
+use Rattle.xml_tree.specs.Memory.{Answered}
+use Rattle.xml_tree.specs.declared.read_error.ReadError.{ReadError}
+use Rattle.xml_tree.specs.declared.read_error.ReadError.TheVariants.{Fault, NoMemory}
 use Rattle.tree_text.specs.declared.kind.Kind.{Kind}
 use Rattle.xml_tree.specs.Scopes.{bindings_in, bound}
 use Rattle.xml_tree.specs.declared.names.Decl.{Decl}

@@ -1,7 +1,7 @@
 -- What is done to what is selected, where the code has it by its number.
 use Rattle.std.proofs.Common.{◌≡◌, ℕ, Bool, List, [], Some, IsSome, Result, sym, subst}
 use Rattle.std.specs.List.{position}
-use Rattle.tree_text.specs.declared.fault.ReadError.{ReadError}
+use Rattle.xml_tree.specs.declared.read_error.ReadError.{ReadError}
 use Rattle.xml_tree.specs.Tree.{Content, Tree, at}
 use Rattle.xml_tree.specs.declared.names.Decl.{Decl}
 use Rattle.patch_words.specs.Applied as words

@@ -1,7 +1,7 @@
 -- Operations and documents, one after another.
 use Rattle.std.proofs.Common.{◌≡◌, Bor, ℕ, zero, suc, ◌+◌, ◌<◌, min, true, false, cond, List, [], ◌∷◌, length, map, get_or, drop, Option, None, Some, Result, Ok, Err, refl, sym, ap, ◌∙◌, subst, add-one, arith}
-use Rattle.tree_text.specs.declared.fault.ReadError.{ReadError}
-use Rattle.tree_text.specs.declared.fault.ReadError.TheVariants as errors
+use Rattle.xml_tree.specs.declared.read_error.ReadError.{ReadError}
+use Rattle.xml_tree.specs.declared.read_error.ReadError.TheVariants as errors
 use Rattle.xml_tree.specs.Limits.{greatest_u64}
 use Rattle.xml_tree.specs.Tree.{Tree}
 use Rattle.xml_tree.specs.declared.names.Decl.{Decl}

@@ -1,7 +1,7 @@
 -- What applying a notice answers, and what is held afterwards.
 use Rattle.std.specs.Prelude.{◌≡◌, Result, Ok, Err}
-use Rattle.tree_text.specs.declared.fault.ReadError.{ReadError}
-use Rattle.tree_text.specs.declared.fault.ReadError.TheVariants.{Fault, NoMemory}
+use Rattle.xml_tree.specs.declared.read_error.ReadError.{ReadError}
+use Rattle.xml_tree.specs.declared.read_error.ReadError.TheVariants.{Fault, NoMemory}
 use Rattle.patch_words.specs.Replay.{Answer, Held}
 use Rattle.patch_words.specs.Replay as replay
 use Rattle.patch_apply.specs.declared.fault.ApplyFault.{ApplyFault}

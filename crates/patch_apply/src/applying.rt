@@ -22,8 +22,8 @@ use crate::replica::{Applied, Held, Replica, copy_held};
 use crate::turns::{Told, Turn, operation_count, taken};
 use doc_names::DocId;
 use std::alloc::{AllocError, Global};
-use tree_text::{ReadError, no_text};
-use xml_tree::{Element, Scope, Text};
+use tree_text::no_text;
+use xml_tree::{Element, ReadError, Scope, Text};
 
 // Whether a document of a notice is that of this name.
 #[tactic(auto, using(crate::proofs::Words::words))]

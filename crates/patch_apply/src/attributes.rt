@@ -17,8 +17,7 @@ use crate::edits::exchange_one;
 use crate::fault::Wrong;
 use crate::meanings::{attr_alike, has_attr};
 use std::alloc::{AllocError, Global};
-use tree_text::ReadError;
-use xml_tree::{Attr, Element, Name, Node, Path, Scope, Text, element_at};
+use xml_tree::{Attr, Element, Name, Node, Path, ReadError, Scope, Text, element_at};
 
 // ---- edits
 

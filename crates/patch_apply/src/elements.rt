@@ -17,8 +17,7 @@ use crate::fault::Wrong;
 use crate::nodes::{is_space_at, is_space_before};
 use crate::tasks::Position;
 use std::alloc::{AllocError, Global};
-use tree_text::ReadError;
-use xml_tree::{Element, Node, Path, Scope, copy_nodes, copy_tree, element_at};
+use xml_tree::{Element, Node, Path, ReadError, Scope, copy_nodes, copy_tree, element_at};
 
 // Whether an element has nodes.
 fn has_nodes(element: &Element) -> bool

@@ -17,8 +17,7 @@ use crate::spots::{Spot, located};
 use crate::tasks::{Task, task_of_operation};
 use node_select::PatchSelector;
 use std::alloc::Global;
-use tree_text::ReadError;
-use xml_tree::{Element, Scope, Text};
+use xml_tree::{Element, ReadError, Scope, Text};
 
 // What is selected is replaced.
 fn replace(

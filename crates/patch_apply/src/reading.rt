@@ -1,15 +1,15 @@
 //! Reading notices.
 ghost use Rattle.std.specs.Prelude.{◌≡◌, []};
 ghost use Rattle.xml_tree.specs.Proper.{ProperIn};
-ghost use Rattle.tree_text.specs.Memory.{Answered};
+ghost use Rattle.xml_tree.specs.Memory.{Answered};
 ghost use Rattle.patch_apply.specs.Reading.{NoticeAnswer};
 
 use crate::documents::is_notice;
 use crate::fault::NoticeFault;
 use std::alloc::Global;
 use std::marker::Model;
-use tree_text::{ReadError, read_document};
-use xml_tree::Element;
+use tree_text::read_document;
+use xml_tree::{Element, ReadError};
 
 // How many levels a notice has at most: those of a document, and the notice, its document and an operation around them.
 const NOTICE_DEPTH: usize = 67;

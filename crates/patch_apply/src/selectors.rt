@@ -18,8 +18,7 @@ use node_select::{
     Bindings, PatchEnd, PatchForm, PatchSelector, SelectorFault, read_patch_selector,
 };
 use std::alloc::{AllocError, Global};
-use tree_text::ReadError;
-use xml_tree::{Name, Scope, Text};
+use xml_tree::{Name, ReadError, Scope, Text};
 
 // All bindings in a scope.
 fn bindings_of(alloc: Global, scope: &Scope<'_>) -> Result<Bindings, AllocError>

@@ -14,8 +14,7 @@ use crate::fault::{ApplyFault, Wrong};
 use crate::operations::applied;
 use crate::replica::Held;
 use std::alloc::Global;
-use tree_text::ReadError;
-use xml_tree::{Element, Scope, Text};
+use xml_tree::{Element, ReadError, Scope, Text};
 
 /// What a document makes of what is held.
 #[derive(Debug, Drop)]

@@ -5,8 +5,8 @@ use doc_names::DocId;
 use patch_apply::{Applied, ApplyFault, Held, Notice, Replica, apply_notice, read_notice};
 use std::alloc::Global;
 use table_cases::{Field, home, print, usage};
-use tree_text::{ReadError, read_document};
-use xml_tree::{Text, copy_tree, equal};
+use tree_text::read_document;
+use xml_tree::{ReadError, Text, copy_tree, equal};
 
 // What is wrong, and its number.
 fn fault(alloc: Global, fault: &ApplyFault) -> Result<String> {

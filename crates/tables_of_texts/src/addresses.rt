@@ -5,8 +5,8 @@ use anyhow::{Result, bail};
 use doc_names::{Auid, DocId, Home, print_doc_id};
 use std::alloc::Global;
 use table_cases::Field;
-use tree_text::ReadError;
 use xcap_uri::{Mode, Root, Target, UriFault, read_root, read_target};
+use xml_tree::ReadError;
 
 /// The answers of the tables of addresses.
 pub fn answer(alloc: Global, table: &str, inputs: &[Field]) -> Result<String> {

@@ -9,8 +9,7 @@ use node_select::{
 };
 use std::alloc::Global;
 use table_cases::{Field, bindings, document, path};
-use tree_text::ReadError;
-use xml_tree::{Element, Scope, depth, print_path};
+use xml_tree::{Element, ReadError, Scope, depth, print_path};
 
 /// The namespace of names without a prefix.
 const LISTS: &str = "urn:ietf:params:xml:ns:resource-lists";

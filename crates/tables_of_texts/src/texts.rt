@@ -5,10 +5,10 @@ use anyhow::{Context, Result, bail};
 use std::alloc::Global;
 use table_cases::{Field, document, path, print};
 use tree_text::{
-    ReadError, TextFault, ValueFault, print_att_value, print_document, read_att_value,
-    read_document, read_fragment,
+    TextFault, ValueFault, print_att_value, print_document, read_att_value, read_document,
+    read_fragment,
 };
-use xml_tree::{Element, Scope};
+use xml_tree::{Element, ReadError, Scope};
 
 /// The greatest number of levels of a fragment with those of the scope around it.
 const ALL_LEVELS: usize = 67;

@@ -6,7 +6,7 @@ use doc_names::Usage;
 use std::alloc::Global;
 use table_cases::{Field, document, print};
 use usage_docs::{Clash, IndexFault, IndexMaker, caps, constraints, first_clash, schema, services};
-use xml_tree::{Element, depth, print_path};
+use xml_tree::{Element, ReadError, depth, print_path};
 
 /// The answers of the tables of usages.
 pub fn answer(alloc: Global, table: &str, inputs: &[Field]) -> Result<String> {
@@ -70,8 +70,10 @@ fn index(alloc: Global, texts: &[Field]) -> Result<String> {
     for text in texts {
         match maker.add(&document(alloc, text)?) {
             Ok(()) => {}
-            Err(IndexFault::TooLarge(len)) => return Ok(format!(in alloc; "too-large {len}")?),
-            Err(IndexFault::NoMemory) => bail!("no memory"),
+            Err(ReadError::Fault(IndexFault::TooLarge(len))) => return Ok(format!(in alloc;
+                "too-large {len}"
+            )?),
+            Err(ReadError::NoMemory) => bail!("no memory"),
         }
     }
     print(alloc, &maker.finish())

@@ -1,8 +1,8 @@
 -- What holds of an answer holds of it where the call may also want memory.
 use Rattle.std.proofs.Common.{Result, Ok, Err}
-use Rattle.tree_text.specs.declared.fault.ReadError.{ReadError}
-use Rattle.tree_text.specs.declared.fault.ReadError.TheVariants.{Fault, NoMemory}
-use Rattle.tree_text.specs.Memory.{Answered}
+use Rattle.xml_tree.specs.declared.read_error.ReadError.{ReadError}
+use Rattle.xml_tree.specs.declared.read_error.ReadError.TheVariants.{Fault, NoMemory}
+use Rattle.xml_tree.specs.Memory.{Answered}
 
 pub answered_so : {A F : Type 0} (P Q : Result A F → Type 0) → ((answer : Result A F) → P answer → Q answer) → (r : Result A (ReadError F)) → Answered P r → Answered Q r
 answered_so P Q h (Ok value) p = h (Ok value) p

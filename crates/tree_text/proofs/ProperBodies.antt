@@ -9,12 +9,12 @@ use Rattle.grammar_rules.specs.Answers.{Answers}
 use Rattle.grammar_rules.proofs.Fronts.{pass_append}
 use Rattle.tree_text.specs.declared.kind.Kind.{Kind}
 use Rattle.tree_text.specs.declared.fault.ValueFault.{ValueFault}
-use Rattle.tree_text.specs.declared.fault.ReadError.{ReadError}
+use Rattle.xml_tree.specs.declared.read_error.ReadError.{ReadError}
 use Rattle.tree_text.specs.Kinds.{faults}
 use Rattle.tree_text.specs.Pieces.{line_ends, raw, more_value}
 use Rattle.tree_text.specs.Grammar.{is_raw, reference, spelling}
 use Rattle.tree_text.specs.Faults.{spelling_of, body_told, BodyAnswer}
-use Rattle.tree_text.specs.Memory.{Answered}
+use Rattle.xml_tree.specs.Memory.{Answered}
 use Rattle.tree_text.proofs.ProperTags.{weaker, pass_all, raw_char, lines_chars, blanks_chars, reference_char}
 
 raw_chars : (cs : List ℕ) → AllPass is_raw cs → AllPass is_char (raw cs)

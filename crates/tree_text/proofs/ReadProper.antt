@@ -10,11 +10,11 @@ use Rattle.xml_tree.specs.declared.names.Decl.{Decl}
 use Rattle.tree_text.specs.declared.kind.Kind.{Kind}
 use Rattle.tree_text.specs.declared.fault.TextFault.{TextFault}
 use Rattle.tree_text.specs.declared.fault.ValueFault.{ValueFault}
-use Rattle.tree_text.specs.declared.fault.ReadError.{ReadError}
+use Rattle.xml_tree.specs.declared.read_error.ReadError.{ReadError}
 use Rattle.tree_text.specs.Kinds.{faults}
 use Rattle.tree_text.specs.Grammar.{document}
 use Rattle.tree_text.specs.Faults.{TextAnswer, BodyAnswer, text_told as told}
-use Rattle.tree_text.specs.Memory.{Answered}
+use Rattle.xml_tree.specs.Memory.{Answered}
 use Rattle.tree_text.specs.readers.Whole.{text_read, body_read}
 use Rattle.tree_text.proofs.Answering.{answered_so}
 use Rattle.tree_text.proofs.ReadAnswers.{text_answer, body_answer}

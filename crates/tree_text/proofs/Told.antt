@@ -14,10 +14,10 @@ use Rattle.tree_text.specs.declared.stop.Stop.TheVariants as stops
 use Rattle.tree_text.specs.Faults.{body_told, body_place, place, in_quotes, spelling_of, text_told as told, closing_len as closing}
 use Rattle.tree_text.specs.declared.fault.ValueFault.{ValueFault}
 use Rattle.tree_text.specs.declared.fault.ValueFault.TheVariants as bodies
-use Rattle.tree_text.specs.declared.fault.ReadError.{ReadError}
-use Rattle.tree_text.specs.declared.fault.ReadError.TheVariants as errors
+use Rattle.xml_tree.specs.declared.read_error.ReadError.{ReadError}
+use Rattle.xml_tree.specs.declared.read_error.ReadError.TheVariants as errors
 use Rattle.tree_text.specs.readers.Gives.{Fails}
-use Rattle.tree_text.specs.Memory.{Answered}
+use Rattle.xml_tree.specs.Memory.{Answered}
 use Rattle.tree_text.specs.readers.Texts.{read_text, read_spelling}
 use Rattle.tree_text.specs.readers.Whole.{FaultOf, text_read, BodyFaultOf, body_read}
 

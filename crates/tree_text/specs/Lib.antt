@@ -1,7 +1,6 @@
 pub mod Faults
 pub mod Grammar
 pub mod Kinds
-pub mod Memory
 pub mod Names
 pub mod Printing
 pub mod Pieces

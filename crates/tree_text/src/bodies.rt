@@ -6,19 +6,19 @@ ghost use Rattle.xml_tree.specs.Characters.{all_chars};
 ghost use Rattle.tree_text.specs.Faults.{BodyAnswer, in_quotes, is_other, spelling_of, closing_len};
 ghost use Rattle.tree_text.specs.readers.Gives.{Gives, GivesAll};
 ghost use Rattle.tree_text.specs.Grammar.{is_quote, is_raw};
-ghost use Rattle.tree_text.specs.Memory.{Answered};
+ghost use Rattle.xml_tree.specs.Memory.{Answered};
 ghost use Rattle.tree_text.specs.readers.Texts.{read_spelling, read_plain, read_whole_reference};
 ghost use Rattle.tree_text.specs.readers.Runs.{run_len};
 ghost use Rattle.tree_text.specs.readers.Whole.{BodyFaultOf, body_read};
 
-use crate::fault::{ReadError, ValueFault};
+use crate::fault::ValueFault;
 use crate::places::place;
 use crate::reading::decoded;
 use crate::stop::Stop;
 use crate::texts::no_text;
 use crate::values::{is_quote, is_raw, push_piece, push_raw, reference, reference_follows};
 use std::alloc::Global;
-use xml_tree::Text;
+use xml_tree::{ReadError, Text};
 
 /// A reference, taken whole or not at all, and what follows it.
 fn whole_reference(text: &[char]) -> Result<(char, &[char]), Stop<'_>>

@@ -1,9 +1,5 @@
 //! Why a text or a body can't be read.
-ghost use Rattle.std.specs.Prelude.{◌≡◌};
-ghost use Rattle.tree_text.specs.declared.fault.ReadError.TheVariants as errors;
 
-use std::alloc::{AllocError, AllocFailed};
-use std::fmt::Display;
 use thiserror::Error;
 
 /// Why bytes are no document or fragment. Places are byte offsets. Where several hold, the one with
@@ -40,31 +36,4 @@ pub enum ValueFault {
     /// Here stands a `<`, a `&` that begins no reference, or a character that is no Char: the first of them.
     #[error("not a value at byte {0}")]
     NotValue(usize),
-}
-
-/// Why something isn't read: it has a fault, or memory ran out.
-#[derive(Debug, PartialEq, Eq, Drop, Error)]
-pub enum ReadError<F: Display> {
-    /// It has this fault.
-    #[error("{0}")]
-    Fault(F),
-    /// Want of memory.
-    #[error("out of memory")]
-    NoMemory,
-}
-
-impl<F: Drop + Display> From<AllocError> for ReadError<F> {
-    ghost from_gives = { λ _ e. e ≡ errors.NoMemory };
-
-    fn from(_error: AllocError) -> Self {
-        ReadError::NoMemory
-    }
-}
-
-impl<T: Drop, F: Drop + Display> From<AllocFailed<T>> for ReadError<F> {
-    ghost from_gives = { λ _ e. e ≡ errors.NoMemory };
-
-    fn from(_error: AllocFailed<T>) -> Self {
-        ReadError::NoMemory
-    }
 }

@@ -30,7 +30,7 @@ mod values;
 mod written;
 
 pub use bodies::read_att_value;
-pub use fault::{ReadError, TextFault, ValueFault};
+pub use fault::{TextFault, ValueFault};
 pub use print_laws::{
     prints_are_read_back, prints_spell_what_was_printed, scopes_leave_xmlns_unbound,
 };

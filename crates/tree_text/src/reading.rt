@@ -6,20 +6,20 @@ ghost use Rattle.xml_tree.specs.Proper.{ProperIn};
 ghost use Rattle.xml_tree.specs.Tree.{height};
 ghost use Rattle.tree_text.specs.Faults.{TextAnswer};
 ghost use Rattle.tree_text.specs.readers.Gives.{GivesAll};
-ghost use Rattle.tree_text.specs.Memory.{Answered};
+ghost use Rattle.xml_tree.specs.Memory.{Answered};
 ghost use Rattle.tree_text.specs.readers.Texts.{read_text};
 ghost use Rattle.tree_text.specs.readers.Whole.{FaultOf, text_read};
 
 use crate::bindings::Bindings;
 use crate::declaration::{declaration_if, mark_if};
 use crate::elements::element;
-use crate::fault::{ReadError, TextFault};
+use crate::fault::TextFault;
 use crate::kind::Kind;
 use crate::pieces::{epilog, prolog};
 use crate::places::place;
 use crate::stop::Stop;
 use std::alloc::{AllocError, Global};
-use xml_tree::{Element, Scope};
+use xml_tree::{Element, ReadError, Scope};
 
 /// The root element of a whole text, with this many levels at most.
 fn root<'a>(

@@ -12,7 +12,7 @@ use Rattle.xml_tree.specs.Limits.{greatest_u64}
 use Rattle.usage_docs.specs.declared.rows.Kind.TheVariants.{RlsServices}
 use Rattle.usage_docs.specs.declared.rows.Key.TheVariants.{Uri}
 use Rattle.usage_docs.specs.declared.listing.IndexFault.{IndexFault}
-use Rattle.usage_docs.specs.declared.listing.IndexFault.TheVariants.{TooLarge, NoMemory}
+use Rattle.usage_docs.specs.declared.listing.IndexFault.TheVariants.{TooLarge}
 use Rattle.usage_docs.specs.Rows.{Scope, kind_of, services_space}
 use Rattle.usage_docs.specs.Keys.{value_of}
 
@@ -73,7 +73,6 @@ index_len ss = document_len (index_of ss)
 abbrev pub index_limit : ℕ
 index_limit = 16777216
 
--- no index with these services can be: it would be so long, or there is no memory
+-- no index with these services can be: it would be so long
 abbrev pub RefusesServices : List Tree → IndexFault → Type 0
 RefusesServices ss (TooLarge len) = (index_limit < index_len ss) × (len ≡ min (index_len ss) greatest_u64)
-RefusesServices ss NoMemory = Unit {0}

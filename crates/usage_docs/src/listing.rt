@@ -1,7 +1,6 @@
 //! The index of the services of many documents (RFC 4826, section 4).
 ghost use Rattle.std.specs.Prelude.{◌≡◌, ◌≤◌, ◌+◌, ◌∷◌, [], ◌++◌, map, IfOk, IfErr, OnOk, OnErr};
 ghost use Rattle.xml_tree.specs.declared.tree.Node.TheVariants.{Elem};
-ghost use Rattle.usage_docs.specs.declared.listing.IndexFault.TheVariants as IndexFault;
 ghost use Rattle.usage_docs.specs.Services.{is_service, listed_as, listed, index_of};
 ghost use Rattle.usage_docs.specs.Reading.Listing.{listed_nodes};
 ghost use Rattle.usage_docs.specs.inner.Indexes.{len_with};
@@ -11,22 +10,15 @@ use crate::making::{declaration, name};
 use crate::rows::{Kind, kind_of, services_space};
 use std::alloc::Global;
 use std::marker::Model;
-use xml_tree::{Around, Decl, Declared, Element, NoMemory, Node, Scope, copy_tree};
+use thiserror::Error;
+use xml_tree::{Around, Decl, Declared, Element, NoMemory, Node, ReadError, Scope, copy_tree};
 
 /// Why a document's services can't be added to an index.
-#[derive(Debug, Drop)]
+#[derive(Clone, Copy, Debug, Drop, PartialEq, Eq, Error)]
 pub enum IndexFault {
     /// The index would have so many bytes, printed, and that is too many.
+    #[error("{0} bytes are too many")]
     TooLarge(usize),
-    NoMemory,
-}
-
-impl From<NoMemory> for IndexFault {
-    ghost from_gives = { λ _ fault. fault ≡ IndexFault.NoMemory };
-
-    fn from(_error: NoMemory) -> IndexFault {
-        IndexFault::NoMemory
-    }
 }
 
 /// The greatest length of the index, printed, in bytes.
@@ -135,6 +127,7 @@ fn len_with(inner: usize) -> usize
 }
 
 impl IndexMaker {
+    ghost use Rattle.xml_tree.specs.Memory.{OfFault};
     ghost use Rattle.xml_tree.specs.Print.{print};
     ghost use Rattle.usage_docs.specs.Services.{listed, index_of, index_text, index_len, index_limit, RefusesServices};
 
@@ -159,16 +152,16 @@ impl IndexMaker {
     /// # Errors
     /// `TooLarge` exactly where the printed index would have more than 16,777,216 bytes, with their number; else `NoMemory`.
     /// The index is then as before.
-    pub fn add(&mut self, root: &Element) -> Result<(), IndexFault>
+    pub fn add(&mut self, root: &Element) -> Result<(), ReadError<IndexFault>>
         ensures ok { OnOk result (self.new ≡ self.old ++ listed root.now) }
         ensures err { OnErr result (self.new ≡ self.old) }
         ensures fits { OnOk result (index_len self.new ≤ index_limit) }
-        ensures refused { IfErr result (λ fault. RefusesServices (self.old ++ listed root.now) fault) }
+        ensures refused { IfErr result (λ error. OfFault (RefusesServices (self.old ++ listed root.now)) error) }
     {
         let inner = self.inner.saturating_add(listed_len(self.alloc, root)?);
         let len = len_with(inner);
         if len > INDEX_LIMIT {
-            return Err(IndexFault::TooLarge(len));
+            return Err(ReadError::Fault(IndexFault::TooLarge(len)));
         }
         let services = listed(self.alloc, root)?;
         let end = self.root.nodes().len();

@@ -3,9 +3,9 @@ use Rattle.std.proofs.Common.{◌≡◌, ℕ, ◌≤◌, List, [], Option, None,
 use Rattle.xcap_io.proofs.Passing.{gave_none}
 use Rattle.std.specs.Result.{result_unwrap_or}
 use Rattle.tree_text.specs.Faults.{TextAnswer}
-use Rattle.tree_text.specs.Memory.{Answered}
-use Rattle.tree_text.specs.declared.fault.ReadError.{ReadError}
-use Rattle.tree_text.specs.declared.fault.ReadError.TheVariants as errors
+use Rattle.xml_tree.specs.Memory.{Answered}
+use Rattle.xml_tree.specs.declared.read_error.ReadError.{ReadError}
+use Rattle.xml_tree.specs.declared.read_error.ReadError.TheVariants as errors
 use Rattle.tree_text.specs.declared.fault.TextFault.{TextFault}
 use Rattle.tree_text.specs.declared.fault.TextFault.TheVariants as faults
 use Rattle.doc_names.specs.declared.usages.Usage.{Usage as TheUsage}

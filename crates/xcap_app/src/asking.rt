@@ -8,10 +8,9 @@ use crate::refusal::Refusal;
 use client_commands::{Asker, Ended, delete_at, fetch_from, follow, put_at};
 use doc_names::{DocId, Home};
 use std::alloc::{AllocError, Global};
-use tree_text::ReadError;
 use xcap_io::{Line, Peer, Sink, Source};
 use xcap_uri::{Root, Target, read_target};
-use xml_tree::Text;
+use xml_tree::{ReadError, Text};
 
 // How the run ends with a command.
 fn exit_of(ended: Ended) -> Exit

@@ -7,9 +7,9 @@ use crate::exit::Exit;
 use crate::refusal::Refusal;
 use doc_names::Usage;
 use std::alloc::{AllocError, Global};
-use tree_text::{ReadError, TextFault, read_document};
+use tree_text::{TextFault, read_document};
 use usage_docs::Fault;
-use xml_tree::Element;
+use xml_tree::{Element, ReadError};
 
 // How deep a document may be.
 const LEVELS: usize = 64;

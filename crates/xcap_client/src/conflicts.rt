@@ -5,9 +5,9 @@ ghost use Rattle.xml_tree.specs.Scopes.{bound};
 ghost use Rattle.xcap_client.specs.Conflicts.{NamesError, error_in, error_uri, is_conflict};
 
 use std::alloc::Global;
-use tree_text::{ReadError, read_document};
+use tree_text::read_document;
 use xcap_io::NoMemory;
-use xml_tree::{Element, Scope, Text};
+use xml_tree::{Element, ReadError, Scope, Text};
 
 /// How many levels of elements a body has that is read.
 const MAX_LEVELS: usize = 64;

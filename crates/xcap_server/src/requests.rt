@@ -25,8 +25,8 @@ use reply_text::Reply;
 use request_terms::{Method, is_allowed};
 use std::alloc::{AllocError, Global};
 use store_core::Store;
-use tree_text::ReadError;
 use xcap_uri::{Root, Target, UriFault, read_target};
+use xml_tree::ReadError;
 
 // A reply without tag and body, which changes nothing.
 fn plain(status: u16, request: &Request) -> Decision

@@ -3,7 +3,7 @@ use Rattle.std.proofs.Common.{◌≡◌, ℕ, zero, suc, ◌+◌, ◌-◌, ◌<�
 use Rattle.std.proofs.lemmas.List.{append-nil}
 use Rattle.grammar_rules.specs.Reading.{after_front}
 use Rattle.xml_tree.specs.declared.names.Decl.{Decl}
-use Rattle.tree_text.specs.declared.fault.ReadError.TheVariants.{Fault, NoMemory}
+use Rattle.xml_tree.specs.declared.read_error.ReadError.TheVariants.{Fault, NoMemory}
 use Rattle.xcap_uri.specs.Gives.{UriError, ◌>>=◌}
 use Rattle.xcap_uri.specs.Queries.{is_blank}
 use Rattle.xcap_uri.specs.readers.Queries.{Read, with_char, item_read, items_read}

@@ -10,7 +10,7 @@ use Rattle.grammar_rules.specs.Reading.{head_is, front_of, after_front}
 use Rattle.grammar_rules.specs.Rules.{AllPass}
 use Rattle.xml_tree.specs.Characters.{is_name, is_name_start, is_name_char, is_space}
 use Rattle.xml_tree.specs.declared.names.Decl.{Decl}
-use Rattle.tree_text.specs.declared.fault.ReadError.TheVariants.{Fault}
+use Rattle.xml_tree.specs.declared.read_error.ReadError.TheVariants.{Fault}
 use Rattle.tree_text.proofs.ReadParts.{space_no_name}
 use Rattle.xcap_uri.specs.Cuts.{after}
 use Rattle.xcap_uri.specs.Gives.{UriError, ◌>>=◌}

@@ -12,7 +12,7 @@ use Rattle.doc_names.specs.declared.doc_id.DocId.{DocId}
 use Rattle.doc_names.specs.declared.usages.Usage.{Usage}
 use Rattle.doc_names.specs.declared.usages.Usage.TheVariants as usages
 use Rattle.doc_names.specs.Usages.{usage_of}
-use Rattle.tree_text.specs.declared.fault.ReadError.TheVariants.{Fault}
+use Rattle.xml_tree.specs.declared.read_error.ReadError.TheVariants.{Fault}
 use Rattle.xcap_uri.specs.Gives.{UriError}
 use Rattle.xcap_uri.specs.Shapes.{auid_word, mode_word, doc_of, in_home, in_feed, Names, whole, part, below, changes, part_changes, flat_list, BeginRightly, AreNamed, tag_spelled as tag_of}
 use Rattle.xcap_uri.specs.readers.Shapes as reader

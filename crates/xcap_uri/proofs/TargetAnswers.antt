@@ -10,9 +10,9 @@ use Rattle.node_select.specs.declared.selector.End.TheVariants as ends
 use Rattle.node_select.specs.declared.selector.Selector.{Selector}
 use Rattle.node_select.specs.readers.Whole.{selector_read}
 use Rattle.node_select.proofs.ExactSelectors.{selector_answer, one_selector}
-use Rattle.tree_text.specs.declared.fault.ReadError.{ReadError}
-use Rattle.tree_text.specs.declared.fault.ReadError.TheVariants.{Fault, NoMemory}
-use Rattle.tree_text.specs.Memory.{Answered}
+use Rattle.xml_tree.specs.declared.read_error.ReadError.{ReadError}
+use Rattle.xml_tree.specs.declared.read_error.ReadError.TheVariants.{Fault, NoMemory}
+use Rattle.xml_tree.specs.Memory.{Answered}
 use Rattle.doc_names.specs.Usages.{namespace_of}
 use Rattle.doc_names.specs.declared.doc_id.Auid.{Auid}
 use Rattle.doc_names.specs.declared.doc_id.DocId.{DocId}

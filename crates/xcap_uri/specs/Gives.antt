@@ -1,7 +1,7 @@
 -- What a call answers that may want memory: what is stated, or want of memory.
 use Rattle.std.specs.Prelude.{◌≡◌, ◌⊎◌, Result, Ok, Err}
-use Rattle.tree_text.specs.declared.fault.ReadError.{ReadError}
-use Rattle.tree_text.specs.declared.fault.ReadError.TheVariants.{NoMemory}
+use Rattle.xml_tree.specs.declared.read_error.ReadError.{ReadError}
+use Rattle.xml_tree.specs.declared.read_error.ReadError.TheVariants.{NoMemory}
 use Rattle.xcap_uri.specs.declared.fault.UriFault.{UriFault}
 
 -- a fault of a target, or want of memory

@@ -7,8 +7,7 @@ ghost use Rattle.xcap_uri.specs.readers.Escapes.{optional_text_read, text_read};
 use crate::fault::UriFault;
 use percent_encoding::{DecodeError, percent_decode};
 use std::alloc::Global;
-use tree_text::ReadError;
-use xml_tree::Text;
+use xml_tree::{ReadError, Text};
 
 /// Whether two hexadecimal digits follow each `%`.
 pub fn has_whole_escapes(part: &[u8]) -> bool

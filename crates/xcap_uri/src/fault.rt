@@ -4,7 +4,7 @@ ghost use Rattle.xcap_uri.specs.readers.Targets.{error_of};
 
 use node_select::SelectorFault;
 use thiserror::Error;
-use tree_text::ReadError;
+use xml_tree::ReadError;
 
 /// Why a target is refused. Of several faults the first one in this order is told: `OutsideRoot`, `BadEscape`, then `BadShape` or
 /// `UnknownAuid`, then `BadQuery`, then `BadSelector` or `UnboundPrefix`.

@@ -1,7 +1,7 @@
 //! Laws of targets; nothing here runs.
 ghost use Rattle.std.specs.Prelude.{◌≡◌, ◌↔◌, ◌++◌, ◌∷◌, ℕ, true, List, Option, Result, All, Ok};
 ghost use Rattle.xml_tree.specs.declared.names.Decl.{Decl};
-ghost use Rattle.tree_text.specs.Memory.{Answered};
+ghost use Rattle.xml_tree.specs.Memory.{Answered};
 ghost use Rattle.doc_names.specs.Ids.{IsReadable, id_text};
 ghost use Rattle.xcap_uri.specs.Queries.{IsQuery};
 ghost use Rattle.xcap_uri.specs.Roots.{IsRoot, authority_of, path_of, slash, is_root_text};

@@ -14,8 +14,8 @@ ghost use Rattle.xcap_uri.specs.readers.UriSteps.{IsShorter, StepsTo, item_in};
 use crate::fault::UriFault;
 use node_select::Bindings;
 use std::alloc::Global;
-use tree_text::{ReadError, decoded, no_text, text_of};
-use xml_tree::{Text, is_name_char, is_name_start, is_space};
+use tree_text::{decoded, no_text, text_of};
+use xml_tree::{ReadError, Text, is_name_char, is_name_start, is_space};
 
 // What comes next in the URI of an item.
 enum UriStep<'a> {

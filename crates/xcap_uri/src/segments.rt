@@ -9,8 +9,7 @@ use crate::cutting::cut;
 use crate::escapes::read_part;
 use crate::fault::UriFault;
 use std::alloc::Global;
-use tree_text::ReadError;
-use xml_tree::Text;
+use xml_tree::{ReadError, Text};
 
 // Whether it is the segment behind which a selector stands.
 fn is_separator(segment: &Text) -> bool

@@ -11,8 +11,7 @@ use crate::numerals::numeral;
 use crate::target::Mode;
 use doc_names::{Auid, DocId, Home};
 use std::alloc::{AllocError, Global};
-use tree_text::ReadError;
-use xml_tree::Text;
+use xml_tree::{ReadError, Text};
 
 /// What the segments of an address name, with the text of the selector, which isn't read yet.
 #[derive(Debug, Drop)]

@@ -3,7 +3,7 @@ ghost use Rattle.std.specs.Prelude.{◌≡◌, ◌++◌, None, Err, option_map, 
 ghost use Rattle.doc_names.specs.Escapes.{escaped, is_visible};
 ghost use Rattle.xcap_uri.specs.Roots.{path_of};
 ghost use Rattle.xcap_io.specs.Wanting.{StatedOr};
-ghost use Rattle.tree_text.specs.Memory.{Answered};
+ghost use Rattle.xml_tree.specs.Memory.{Answered};
 ghost use Rattle.xcap_uri.specs.Targets.{IsReadableTarget, TargetAnswer, raw_text, under, under_root, with_query};
 ghost use Rattle.xcap_uri.specs.readers.Targets.{about_element, part_read, rest_read, target_of, target_read};
 
@@ -17,8 +17,8 @@ use crate::shape::{Shape, shape_of};
 use doc_names::{Auid, DocId, Home, push_visible};
 use node_select::{Bindings, End, Selector, read_selector};
 use std::alloc::{AllocError, Global};
-use tree_text::{ReadError, no_text};
-use xml_tree::Text;
+use tree_text::no_text;
+use xml_tree::{ReadError, Text};
 
 /// How the changes of a document are told (RFC 5875, section 4.3).
 #[derive(Clone, Copy, Debug, PartialEq, Eq)]

@@ -6,6 +6,7 @@ pub mod Edits
 pub mod EditsAt
 pub mod Expanded
 pub mod Limits
+pub mod Memory
 pub mod Nodes
 pub mod PathTexts
 pub mod Print

@@ -18,6 +18,7 @@ mod path;
 mod path_texts;
 mod printed;
 mod proper_laws;
+mod read_error;
 mod references;
 mod room_edits;
 mod runs;
@@ -44,6 +45,7 @@ pub use printed::{attr_len, decl_len, decls_len, name_len, printed_len, text_len
 pub use proper_laws::{
     proper_after_an_edit, proper_at_each_place, proper_in_scopes_that_bind_alike, proper_when_put,
 };
+pub use read_error::ReadError;
 pub use references::{text_reference, value_reference};
 pub use scope::{Scope, is_xml, is_xmlns};
 pub use scope_laws::bindings_are_those_of_the_scope;

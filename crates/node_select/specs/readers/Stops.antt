@@ -1,8 +1,8 @@
 -- The errors that the code makes of why it stopped.
 use Rattle.std.specs.Prelude.{◌≡◌, ℕ, ◌-◌, List, length}
 use Rattle.std.specs.Str.{chars}
-use Rattle.tree_text.specs.declared.fault.ReadError.{ReadError}
-use Rattle.tree_text.specs.declared.fault.ReadError.TheVariants.{Fault, NoMemory}
+use Rattle.xml_tree.specs.declared.read_error.ReadError.{ReadError}
+use Rattle.xml_tree.specs.declared.read_error.ReadError.TheVariants.{Fault, NoMemory}
 use Rattle.tree_text.specs.declared.stop.Stop.{Stop}
 use Rattle.tree_text.specs.declared.stop.Stop.TheVariants as stops
 use Rattle.node_select.specs.declared.meaning.Unresolved.{Unresolved}

@@ -2,7 +2,7 @@
 use Rattle.std.specs.Prelude.{ℕ, List, Option, None, Some, Result, Ok, Err, if◌then◌else◌}
 use Rattle.std.specs.Str.{chars}
 use Rattle.percent_encoding.specs.Percent.{percent_decode}
-use Rattle.tree_text.specs.declared.fault.ReadError.TheVariants.{Fault}
+use Rattle.xml_tree.specs.declared.read_error.ReadError.TheVariants.{Fault}
 use Rattle.xcap_uri.specs.Escapes.{stands_for_text}
 use Rattle.xcap_uri.specs.Gives.{UriError, ◌>>=◌}
 use Rattle.xcap_uri.specs.declared.fault.UriFault.TheVariants.{BadEscape}

@@ -8,8 +8,8 @@ use Rattle.node_select.specs.declared.fault.SelectorFault.{SelectorFault}
 use Rattle.node_select.specs.declared.selector.Selector.{Selector}
 use Rattle.node_select.specs.declared.selector.End.{End}
 use Rattle.node_select.specs.declared.selector.End.TheVariants as ends
-use Rattle.tree_text.specs.declared.fault.ReadError.{ReadError}
-use Rattle.tree_text.specs.declared.fault.ReadError.TheVariants.{Fault, NoMemory}
+use Rattle.xml_tree.specs.declared.read_error.ReadError.{ReadError}
+use Rattle.xml_tree.specs.declared.read_error.ReadError.TheVariants.{Fault, NoMemory}
 use Rattle.doc_names.specs.Ids.{separator}
 use Rattle.doc_names.specs.Usages.{namespace_of}
 use Rattle.doc_names.specs.declared.doc_id.Auid.{Auid}

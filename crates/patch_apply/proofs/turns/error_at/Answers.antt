@@ -1,5 +1,5 @@
 use Rattle.std.proofs.Common.{ap, subst, ◌∙◌, Err}
-use Rattle.tree_text.specs.declared.fault.ReadError.{ReadError}
+use Rattle.xml_tree.specs.declared.read_error.ReadError.{ReadError}
 use Rattle.xml_tree.specs.Tree.{Tree}
 use Rattle.patch_apply.specs.inner.Giving.{Gives}
 use Rattle.patch_apply.specs.inner.Seen.{fault_at}

@@ -4,7 +4,7 @@ use Rattle.grammar_rules.specs.Reading.{head_is, front_of, after_front}
 use Rattle.tree_text.specs.readers.Runs.{run_len}
 use Rattle.tree_text.proofs.RunLemmas.{take_run, drop_run, run_len_le}
 use Rattle.xml_tree.specs.Characters.{is_name_start, is_name_char}
-use Rattle.tree_text.specs.declared.fault.ReadError.TheVariants.{Fault}
+use Rattle.xml_tree.specs.declared.read_error.ReadError.TheVariants.{Fault}
 use Rattle.xcap_uri.specs.readers.Queries.{Read}
 use Rattle.xcap_uri.specs.declared.fault.UriFault.TheVariants.{BadQuery}
 use Rattle.xcap_uri.proofs.query.name.Goals as goal
