@@ -1,5 +1,5 @@
 -- What one who watches an element is told since a version that is known. RFC 5874, section 3, names the element by an address and says whether it
--- exists; RFC 4826, sections 3.2 and 4.2, name the attributes that tell an element from its siblings.
+-- exists; RFC 4826, sections 3.4.5 and 4.4.5, name the attributes that tell an element from its siblings.
 use Rattle.std.specs.Prelude.{◌≡◌, ℕ, List, [], ◌⊎◌, Option, None, Some, Result, Err, MatchResult, encode_utf8_all}
 use Rattle.xml_tree.specs.Tree.{Tree}
 use Rattle.tree_text.specs.Printing.{document_print}

@@ -1,4 +1,4 @@
--- Addresses by keys. RFC 4826, sections 3.2 and 4.2, on the attributes that tell an element from its siblings.
+-- Addresses by keys. RFC 4826, sections 3.4.5 and 4.4.5, on the attributes that tell an element from its siblings.
 use Rattle.std.specs.Prelude.{◌≡◌, ℕ, List, [], ◌∷◌, None, Some, slice_get}
 use Rattle.std.specs.List.{AllByRecursion}
 use Rattle.xml_tree.specs.Tree.{Tree, kids_of}

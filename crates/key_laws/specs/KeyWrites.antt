@@ -1,4 +1,4 @@
--- Changes that write a key, and changes that leave what addresses by keys select. RFC 4826, sections 3.2 and 4.2, on the attributes that tell an
+-- Changes that write a key, and changes that leave what addresses by keys select. RFC 4826, sections 3.4.5 and 4.4.5, on the attributes that tell an
 -- element from its siblings.
 use Rattle.std.specs.Prelude.{◌≡◌, ℕ, List, [], IsSome, Some}
 use Rattle.xml_tree.specs.Tree.{Tree}

@@ -1,4 +1,4 @@
--- Where a reference leads. RFC 4826, sections 3.4.3, 3.4.4 and 4.4.3: to the element that its target addresses (RFC 4825, section 6), if that
+-- Where a reference leads. RFC 4826, sections 3.4.5 and 4.4.5: to the element that its target addresses (RFC 4825, section 6), if that
 -- is the address of an element in a document of lists that the same user keeps here, and the element is an entry or a list, as is due.
 use Rattle.std.specs.Prelude.{◌≡◌, ℕ, Bool, ◌&&◌, List, Option, None, Some, Result, Ok, Err, option_map, option_and_then, encode_utf8_all, if◌then◌else◌}
 use Rattle.xml_tree.specs.Tree.{Tree}

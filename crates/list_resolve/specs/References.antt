@@ -1,5 +1,5 @@
--- References, and the targets that they are. RFC 4826, sections 3.4.3 (the `ref` of an entry-ref is relative to the XCAP root), 3.4.4 (the
--- `anchor` of an external list is an absolute HTTP URI) and 4.4.3 (so is the text of a resource-list).
+-- References, and the targets that they are. RFC 4826, sections 3.4.5 (the `ref` of an entry-ref is relative to the XCAP root, the `anchor` of
+-- an external list is an absolute HTTP URI) and 4.4.5 (so is the text of a resource-list).
 use Rattle.std.specs.Prelude.{ℕ, Bool, true, false, List, ◌∷◌, ◌++◌, Option, None, Some, option_map}
 use Rattle.xml_tree.specs.Tree.{Content}
 use Rattle.xml_tree.specs.declared.names.Attr.{Attr}

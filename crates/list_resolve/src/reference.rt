@@ -1,4 +1,4 @@
-//! References, and the targets that they are (RFC 4826, sections 3.4.3, 3.4.4 and 4.4.3).
+//! References, and the targets that they are (RFC 4826, sections 3.4.5 and 4.4.5).
 ghost use Rattle.std.specs.Prelude.{◌≡◌, [], IfOk, chars};
 ghost use Rattle.usage_docs.specs.declared.rows.Kind.TheVariants.{EntryRef, External};
 ghost use Rattle.usage_docs.specs.Forms.{trimmed, trim_front, trim_back};

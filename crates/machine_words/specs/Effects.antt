@@ -1,6 +1,6 @@
 -- What accepted requests leave where documents are held: those that make a change, which is told as an edit. RFC 4825, sections 8.2.3 and 8.2.4
 -- (a GET of the same address gives what was put) and 8.4 (and nothing once it was deleted); RFC 9110, section 9.2.2 (PUT can be repeated without
--- harm); RFC 4826, sections 3.2 and 4.2 (keys, by which addresses last).
+-- harm); RFC 4826, sections 3.4.5 and 4.4.5 (keys, by which addresses last).
 use Rattle.std.specs.Prelude.{◌≡◌, ℕ, nat_le, codes, List, [], map, Option, None, Some, IfSome, Ok, ◌+◌}
 use Rattle.std.specs.Bool.{MatchBool}
 use Rattle.xml_tree.specs.Tree.{Tree, at}

@@ -1,4 +1,4 @@
--- What changes leave of addresses by keys in the documents held. RFC 4826, sections 3.2 and 4.2, on the attributes that tell an element from its
+-- What changes leave of addresses by keys in the documents held. RFC 4826, sections 3.4.5 and 4.4.5, on the attributes that tell an element from its
 -- siblings.
 use Rattle.std.specs.Prelude.{◌≡◌, Some}
 use Rattle.doc_names.specs.Usages.{usage_of}

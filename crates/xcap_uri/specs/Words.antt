@@ -1,4 +1,4 @@
--- The words of addresses, as characters. RFC 4825, sections 6.1 and 6.2; RFC 4826, sections 3.4 and 4.4.
+-- The words of addresses, as characters. RFC 4825, section 6.2; RFC 4826, sections 3.4 and 4.4.
 use Rattle.std.specs.Prelude.{ℕ, List, codes}
 use Rattle.std.specs.Str.{chars}
 
