@@ -1,6 +1,5 @@
 -- Names of documents. RFC 4825, section 6.2: a usage, then `global` or `users` and a user, then the name of the document.
-use Rattle.std.specs.Prelude.{◌≢◌, ℕ, List, [], ◌++◌, codes}
-use Rattle.std.specs.Str.{chars}
+use Rattle.std.specs.Prelude.{◌≢◌, ℕ, List, [], ◌++◌, codes, chars}
 use Rattle.doc_names.specs.Usages.{auid_text}
 use Rattle.doc_names.specs.declared.doc_id.Home.{Home}
 use Rattle.doc_names.specs.declared.doc_id.Home.TheVariants.{Global, User}

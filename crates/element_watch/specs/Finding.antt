@@ -1,6 +1,5 @@
 -- What an address by keys finds in each version of a document from a known one on.
-use Rattle.std.specs.Prelude.{◌≡◌, ℕ, ◌≤◌, List, take, reverse, Some, IsSomeAnd, slice_get}
-use Rattle.std.specs.List.{filter_map}
+use Rattle.std.specs.Prelude.{◌≡◌, ℕ, ◌≤◌, List, take, reverse, Some, IsSomeAnd, slice_get, filter_map}
 use Rattle.xml_tree.specs.Tree.{Tree, at}
 use Rattle.node_select.specs.Selection.{SelectsPath}
 use Rattle.node_select.specs.declared.selector.Step.{Step}

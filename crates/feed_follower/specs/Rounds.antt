@@ -1,6 +1,6 @@
 -- What a round of a follower does: it asks the feed of the changes since the tag held, and then for the document where these don't
 -- lead on.
-use Rattle.std.specs.Prelude.{◌≡◌, ℕ, ⊤, List, Option, None, Some, Result, Ok, Err}
+use Rattle.std.specs.Prelude.{◌≡◌, ℕ, List, Option, None, Some, Result, Ok, Err}
 use Rattle.xcap_io.specs.Causes.{LineState}
 use Rattle.xml_tree.specs.Tree.{Tree}
 use Rattle.http_exchange.specs.declared.response.Response.{Response}
@@ -37,7 +37,7 @@ pub record Refetches (f f' : Following) (old new : LineState) (result : Result R
 
 -- only where a notice told what came of the document, the follower may be another than before
 abbrev pub KeepsState : Following → Following → Result (Option Round) FollowerFault → Type 0
-KeepsState f f' (Ok (Some round)) = ⊤
+KeepsState f f' (Ok (Some round)) = Unit {0}
 KeepsState f f' (Ok None) = f' ≡ f
 KeepsState f f' (Err fault) = f' ≡ f
 

@@ -129,10 +129,6 @@ read_at_most test p (suc n) text =
 abbrev pub read_many : {Kind A : Type 0} → (List ℕ → Bool) → Reader Kind A → Reader Kind (List A)
 read_many test p text = read_at_most test p (length text) text
 
--- the members so far, in front of those that are read
-abbrev pub with_front : {Kind A : Type 0} → List A → Result (List A × List ℕ) (Stop Kind) → Result (List A × List ℕ) (Stop Kind)
-with_front front read = read >>= λ x. Ok (front ++ x.0, x.1)
-
 abbrev pub read_valued : {Kind A B : Type 0} → (A → B) → Reader Kind A → Reader Kind B
 read_valued f p text = p text >>= λ x. Ok (f x.0, x.1)
 

@@ -1,5 +1,5 @@
 -- Why reading stops, and what the source's count of failed reads says of that. This is the project's own.
-use Rattle.std.specs.Prelude.{◌≡◌, ℕ, ⊤, Result, Ok, Err}
+use Rattle.std.specs.Prelude.{◌≡◌, ℕ, Result, Ok, Err}
 use Rattle.xcap_io.specs.Causes.{Rose}
 use Rattle.http_exchange.specs.declared.fault.Stop.{Stop}
 use Rattle.http_exchange.specs.declared.fault.Stop.TheVariants as stops
@@ -32,7 +32,7 @@ CountsFault before now (Err (faults.Short have wanted)) = now ≡ before
 abbrev pub ByCause : {T : Type 0} → Result T ResponseFault → Type 0 → (Result T ResponseFault → Type 0) → Type 0
 ByCause (Ok x) Lacks Said = Said (Ok x)
 ByCause (Err faults.ReadFailed) Lacks Said = Lacks
-ByCause (Err faults.NoMemory) Lacks Said = ⊤
+ByCause (Err faults.NoMemory) Lacks Said = Unit {0}
 ByCause (Err faults.Head) Lacks Said = Said (Err faults.Head)
 ByCause (Err faults.Coding) Lacks Said = Said (Err faults.Coding)
 ByCause (Err faults.Length) Lacks Said = Said (Err faults.Length)
@@ -41,9 +41,9 @@ ByCause (Err (faults.Short have wanted)) Lacks Said = Said (Err (faults.Short ha
 
 -- the fault is one that the fields of a head show
 abbrev pub IsOfFields : ResponseFault → Type 0
-IsOfFields faults.Coding = ⊤
-IsOfFields faults.Length = ⊤
-IsOfFields (faults.TooLong n) = ⊤
+IsOfFields faults.Coding = Unit {0}
+IsOfFields faults.Length = Unit {0}
+IsOfFields (faults.TooLong n) = Unit {0}
 IsOfFields faults.ReadFailed = ⊥
 IsOfFields faults.NoMemory = ⊥
 IsOfFields faults.Head = ⊥

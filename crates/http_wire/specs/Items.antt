@@ -1,6 +1,6 @@
 -- The items into which the bytes of a connection are cut (RFC 9112, sections 2.2, 6 and 9.3): requests, and what stands
 -- in the place of one. Here the whole list of bytes is at hand, and nothing depends on the pieces that it comes in.
-use Rattle.std.specs.Prelude.{◌≡◌, ℕ, ◌+◌, ◌-◌, ◌<◌, ◌≤◌, ◌⊎◌, ◌==◌, Bool, true, ◌||◌, ⊤, List, [], ◌∷◌, ◌++◌, length, map}
+use Rattle.std.specs.Prelude.{◌≡◌, ℕ, ◌+◌, ◌-◌, ◌<◌, ◌≤◌, ◌⊎◌, ◌==◌, Bool, true, ◌||◌, List, [], ◌∷◌, ◌++◌, length, map}
 use Rattle.std.specs.Bool.{MatchBool}
 use Rattle.httparse.specs.Grammar.{RequestHead}
 use Rattle.httparse.specs.Spans.{name_and_value}
@@ -104,9 +104,9 @@ IsFirst before given ended item =
 -- what stands behind two first items, where it is looked at, is the same
 abbrev pub SameRest : Item → List ℕ → List ℕ → Type 0
 SameRest (asks request) rest other = rest ≡ other
-SameRest bad rest other = ⊤
-SameRest too_long rest other = ⊤
-SameRest coded rest other = ⊤
+SameRest bad rest other = Unit {0}
+SameRest too_long rest other = Unit {0}
+SameRest coded rest other = Unit {0}
 
 -- the reply to the item ends the connection
 abbrev pub ends_connection : Item → Bool

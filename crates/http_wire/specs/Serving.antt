@@ -2,7 +2,7 @@
 -- change is E, and its step says which bytes answer a request, in which state it goes on, and what it tells. `fixed` gives the
 -- bytes of the reply without body that has a status and ends the connection. Of a connection only the bytes count that were
 -- given on it, and whether a read found their end; so this says what was done on a real socket, too.
-use Rattle.std.specs.Prelude.{◌≡◌, ℕ, ◌+◌, ◌<◌, ◌≤◌, ◌⊎◌, ◌^◌, ◌-◌, ⊤, Bool, true, false, List, [], ◌∷◌, ◌++◌, length, take, Option, None, option_to_list}
+use Rattle.std.specs.Prelude.{◌≡◌, ℕ, ◌+◌, ◌<◌, ◌≤◌, ◌⊎◌, ◌^◌, ◌-◌, Bool, true, false, List, [], ◌∷◌, ◌++◌, length, take, Option, None, option_to_list}
 use Rattle.xcap_io.specs.Histories.{Traffic}
 use Rattle.http_wire.specs.declared.request.Request.{Request}
 use Rattle.http_wire.specs.Items.{Item, asks, bad, too_long, coded, IsFirst, AsksFor, ends_connection, IsUnfinished}
@@ -90,7 +90,7 @@ HasBytes bytes passed = (left : List ℕ) × (bytes ≡ passed.given ++ left) ×
 
 -- the same of each of some connections
 abbrev pub HaveBytes : List (List ℕ) → List Traffic → Type 0
-HaveBytes [] [] = ⊤
+HaveBytes [] [] = Unit {0}
 HaveBytes (bytes ∷ all) (passed ∷ connections) = HasBytes bytes passed × HaveBytes all connections
 HaveBytes all connections = ⊥
 

@@ -1,6 +1,5 @@
 -- What reading a selector answers: the selector, or why there is none, with the byte at which that shows.
-use Rattle.std.specs.Prelude.{◌≡◌, ℕ, ◌-◌, Bool, true, false, List, [], length, drop, Option, None, Some, Result, Ok, Err, encode_utf8_all}
-use Rattle.std.specs.Str.{chars}
+use Rattle.std.specs.Prelude.{◌≡◌, ℕ, ◌-◌, Bool, true, false, List, [], length, drop, Option, None, Some, Result, Ok, Err, encode_utf8_all, chars}
 use Rattle.grammar_rules.specs.Reading.{Stop, Syntax, Faulty}
 use Rattle.grammar_rules.specs.Answers as grammar
 use Rattle.tree_text.specs.declared.kind.Kind.{Kind}

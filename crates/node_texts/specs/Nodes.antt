@@ -1,6 +1,5 @@
 -- What a selector finds in a document, as it is sent. RFC 4825, sections 7.6, 7.9, 7.10 and 10.
-use Rattle.std.specs.Prelude.{ℕ, List, [], Option, None, Some, option_map, option_and_then, encode_utf8_all}
-use Rattle.std.specs.List.{find}
+use Rattle.std.specs.Prelude.{ℕ, List, [], Option, None, Some, option_map, option_and_then, encode_utf8_all, find}
 use Rattle.xml_tree.specs.Tree.{Tree, at, last, tree_of}
 use Rattle.xml_tree.specs.Scopes.{scope_at, bindings_in}
 use Rattle.xml_tree.specs.Print.{print}

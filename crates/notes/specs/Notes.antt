@@ -53,8 +53,3 @@ tree_after t (n ∷ ns) = tree_after (edited t n.change) ns
 abbrev pub tag_after : ℕ → List Note → ℕ
 tag_after tag [] = tag
 tag_after tag (n ∷ ns) = tag_after n.next ns
-
--- each note goes on from the tag that the one before it gave
-abbrev pub AreLinked : ℕ → List Note → Type 0
-AreLinked tag [] = Unit {0}
-AreLinked tag (n ∷ ns) = (n.previous ≡ tag) × AreLinked n.next ns

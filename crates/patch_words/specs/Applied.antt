@@ -1,6 +1,6 @@
 -- What one patch operation makes of a tree, or the first thing that is wrong with it. RFC 5261, sections 4 and 5, as far as it is taken here.
-use Rattle.std.specs.Prelude.{ℕ, zero, suc, ◌+◌, ◌-◌, ◌==◌, Bool, true, false, not, ◌&&◌, ◌||◌, nat_le, codes, List, [], ◌∷◌, ◌++◌, length, Option, None, Some, is_some, option_map, option_and_then, unwrap_or, slice_get, Result, Ok, Err, if◌then◌else◌}
-use Rattle.std.specs.List.{list_all, list_any, find}
+use Rattle.std.specs.Prelude.{ℕ, zero, suc, ◌+◌, ◌-◌, ◌==◌, Bool, true, false, not, ◌&&◌, ◌||◌, nat_le, codes, List, [], ◌∷◌, ◌++◌, length, Option, None, Some, is_some, option_map, option_and_then, unwrap_or, slice_get, Result, Ok, Err, if◌then◌else◌, find}
+use Rattle.std.specs.List.{list_all, list_any}
 use Rattle.std.specs.Str.{bytes_eq}
 use Rattle.xml_tree.specs.Attributes.{remove_first, valued, is_written_so}
 use Rattle.xml_tree.specs.Characters.{is_name, is_space}

@@ -1,6 +1,6 @@
 -- Entity tags and lists of them. RFC 9110, sections 5.6.1 (lists), 5.6.3 (white space) and 8.8.3 (ETag).
-use Rattle.std.specs.Prelude.{◌≡◌, ℕ, ◌==◌, nat_le, Bool, ◌&&◌, ◌||◌, if◌then◌else◌, List, [], ◌∷◌, ◌++◌, Option, map, true, IfSome}
-use Rattle.std.specs.List.{AllByRecursion, filter_map, flat_map}
+use Rattle.std.specs.Prelude.{◌≡◌, ℕ, ◌==◌, nat_le, Bool, ◌&&◌, ◌||◌, if◌then◌else◌, List, [], ◌∷◌, ◌++◌, Option, map, true, IfSome, filter_map, flat_map}
+use Rattle.std.specs.List.{AllByRecursion}
 use Rattle.std.specs.Option.{option_map_or}
 use Rattle.preconditions.specs.declared.tags.EntityTag.{EntityTag}
 

@@ -1,6 +1,6 @@
 -- What a request asks to be done. RFC 9110, section 9.3; RFC 4825, section 8.
-use Rattle.std.specs.Prelude.{ℕ, Bool, true, false, List, [], codes, if◌then◌else◌}
-use Rattle.std.specs.Str.{bytes_eq, chars}
+use Rattle.std.specs.Prelude.{ℕ, Bool, true, false, List, [], codes, if◌then◌else◌, chars}
+use Rattle.std.specs.Str.{bytes_eq}
 use Rattle.reply_text.specs.Heads.{Sent}
 use Rattle.request_terms.specs.declared.method.Method.{Method}
 use Rattle.request_terms.specs.declared.method.Method.TheVariants.{Get, Head, Put, Delete, Other}

@@ -1,6 +1,5 @@
 -- The state of the machine: every document with all its versions. RFC 4825, section 8.5, has each change give a document a new entity tag.
-use Rattle.std.specs.Prelude.{ℕ, Bool, ◌&&◌, nat_le, List, [], ◌∷◌, length, reverse, sum_by, Option, None, Some, if◌then◌else◌}
-use Rattle.std.specs.List.{filter_map}
+use Rattle.std.specs.Prelude.{ℕ, Bool, ◌&&◌, nat_le, List, [], ◌∷◌, length, reverse, sum_by, Option, None, Some, if◌then◌else◌, filter_map}
 use Rattle.xml_tree.specs.Tree.{Tree}
 use Rattle.doc_names.specs.declared.doc_id.DocId.{DocId}
 use Rattle.edit_ops.specs.Changes.{edited}

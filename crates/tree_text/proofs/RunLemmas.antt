@@ -5,9 +5,13 @@ use Rattle.std.proofs.lemmas.Bool.{eqb-true}
 use Rattle.std.proofs.Math.Nat.{min_comm}
 use Rattle.std.proofs.Math.Seq.{drop-cons, take-length, take-suc}
 use Rattle.std.proofs.lemmas.List.{get_or_default, length-append, length-drop, take-append-le, take_min, append-nil}
-use Rattle.grammar_rules.specs.Reading.{Stop, Syntax, ◌>>=◌, starts, front_of, after_front, all_but_last, front_without, after_without, with_front, read_up_to, read_name_of, read_some_of}
+use Rattle.grammar_rules.specs.Reading.{Stop, Syntax, ◌>>=◌, starts, front_of, after_front, all_but_last, front_without, after_without, read_up_to, read_name_of, read_some_of}
 use Rattle.tree_text.specs.declared.kind.Kind.{Kind}
 use Rattle.tree_text.specs.readers.Runs.{run_len, without_len}
+
+-- the members so far, in front of those that are read
+abbrev pub with_front : {Kind A : Type 0} → List A → Result (List A × List ℕ) (Stop Kind) → Result (List A × List ℕ) (Stop Kind)
+with_front front read = read >>= λ x. Ok (front ++ x.0, x.1)
 
 take_by : (c : ℕ) (cs : List ℕ) (n : ℕ) (front : List ℕ) (b : Bool) → take n cs ≡ front → take (cond b (n + 1) 0) (c ∷ cs) ≡ cond b (c ∷ front) []
 take_by c cs n front true e = rw add-one (ap (λ (z : List ℕ). c ∷ z) e)

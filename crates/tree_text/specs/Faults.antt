@@ -1,7 +1,6 @@
 -- What bytes are by the grammar: the tree or the value that they spell, or their fault and the byte at which it stands. Want of memory is none
 -- of these faults.
-use Rattle.std.specs.Prelude.{◌≡◌, ◌⊎◌, ℕ, ◌+◌, ◌-◌, ◌<◌, Bool, ◌==◌, not, List, [], ◌∷◌, length, Option, None, Some, unwrap_or, Result, Ok, Err, IsUtf8, encode_utf8_all, if◌then◌else◌}
-use Rattle.std.specs.Str.{chars}
+use Rattle.std.specs.Prelude.{◌≡◌, ◌⊎◌, ℕ, ◌+◌, ◌-◌, ◌<◌, Bool, ◌==◌, not, List, [], ◌∷◌, length, Option, None, Some, unwrap_or, Result, Ok, Err, IsUtf8, encode_utf8_all, if◌then◌else◌, chars}
 use Rattle.grammar_rules.specs.Reading.{Stop, Syntax, Faulty, front_of, after_front}
 use Rattle.grammar_rules.specs.Answers.{Answers}
 use Rattle.xml_tree.specs.Tree.{Tree}

@@ -5,8 +5,7 @@
 -- is the list of one item, and its minOccurs and maxOccurs are the word before that: `one`, `opt` (0 or 1), `any` (0 or more).
 -- `foreign` is `xs:any` with `##other`: an element of any other namespace than the row's, but not without one.
 -- `text_alone` is simple content.
-use Rattle.std.specs.Prelude.{ℕ, Bool, List, [], ◌∷◌, ◌⊎◌, ◌≡◌, Option, None, Some, codes, if◌then◌else◌, ◌&&◌, not, find, unwrap_or}
-use Rattle.std.specs.List.{filter_map, flat_map}
+use Rattle.std.specs.Prelude.{ℕ, Bool, List, [], ◌∷◌, ◌⊎◌, ◌≡◌, Option, None, Some, codes, if◌then◌else◌, ◌&&◌, not, find, unwrap_or, filter_map, flat_map}
 use Rattle.std.specs.Str.{bytes_eq}
 use Rattle.std.specs.Option.{option_map_or}
 use Rattle.xml_tree.specs.Scopes.{bound}

@@ -1,6 +1,5 @@
 -- What a watcher holds that keeps every document as it is now. The edits are those of RFC 4825, sections 8.2.3, 8.2.4 and 8.4.
-use Rattle.std.specs.Prelude.{◌≡◌, ◌≢◌, ℕ, ◌<◌, ◌≤◌, ◌⊎◌, List, Option, None, Some}
-use Rattle.std.specs.Option.{option_map}
+use Rattle.std.specs.Prelude.{◌≡◌, ◌≢◌, ℕ, ◌<◌, ◌≤◌, ◌⊎◌, List, Option, None, Some, option_map}
 use Rattle.std.specs.Map.{lookup}
 use Rattle.xml_tree.specs.Tree.{Tree, height}
 use Rattle.xml_tree.specs.Limits.{most_levels}

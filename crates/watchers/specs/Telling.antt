@@ -1,6 +1,5 @@
 -- What watchers were told and wrote of changes, and which of them left. This is the project's own.
-use Rattle.std.specs.Prelude.{◌≡◌, ◌≢◌, ℕ, ◌+◌, ◌≤◌, List, [], ◌∷◌, ◌++◌, take, drop, length, Option, ◌⊎◌}
-use Rattle.std.specs.Option.{option_map}
+use Rattle.std.specs.Prelude.{◌≡◌, ◌≢◌, ℕ, ◌+◌, ◌≤◌, List, [], ◌∷◌, ◌++◌, take, drop, length, Option, ◌⊎◌, option_map}
 use Rattle.notes.specs.declared.edit.Edit.{Edit}
 use Rattle.watchers.specs.Writing.{Wrote, with_lines}
 use Rattle.watchers.specs.declared.watcher.Told.{Told}

@@ -1,6 +1,5 @@
 -- What watchers write of changes that write a line about each. This is the project's own.
-use Rattle.std.specs.Prelude.{◌≡◌, ℕ, List, ◌++◌, flat_map, Option, None, Some}
-use Rattle.std.specs.Option.{option_map}
+use Rattle.std.specs.Prelude.{◌≡◌, ℕ, List, ◌++◌, flat_map, Option, None, Some, option_map}
 use Rattle.xcap_io.specs.Passing.{Took}
 use Rattle.xcap_io.specs.Streams.{TookProperPrefix}
 use Rattle.notes.specs.declared.edit.Edit.{Edit}

@@ -1,7 +1,6 @@
 -- Which words spell a command of the client. The commands are the project's own; a ROOT is that of RFC 4825, section 6.1.
-use Rattle.std.specs.Prelude.{ℕ, Bool, ◌&&◌, ◌==◌, not, nat_le, List, chars, codes, encode_utf8_all, length, Option, None, Some, if◌then◌else◌}
+use Rattle.std.specs.Prelude.{ℕ, Bool, ◌&&◌, ◌==◌, not, nat_le, List, chars, codes, encode_utf8_all, length, Option, None, Some, if◌then◌else◌, option_and_then, option_map}
 use Rattle.std.specs.List.{list_all}
-use Rattle.std.specs.Option.{option_and_then, option_map}
 use Rattle.std.specs.Str.{bytes_eq}
 use Rattle.xcap_uri.specs.Cuts.{before}
 use Rattle.xcap_uri.specs.Numerals.{numeral_of}

@@ -1,6 +1,5 @@
 -- Which words spell which command. The commands are the project's own; a ROOT is that of RFC 4825, section 6.1.
-use Rattle.std.specs.Prelude.{ℕ, nat_le, List, [], ◌∷◌, chars, codes, Option, None, Some, if◌then◌else◌}
-use Rattle.std.specs.Option.{option_and_then, option_map}
+use Rattle.std.specs.Prelude.{ℕ, nat_le, List, [], ◌∷◌, chars, codes, Option, None, Some, if◌then◌else◌, option_and_then, option_map}
 use Rattle.std.specs.Str.{bytes_eq}
 use Rattle.doc_names.specs.declared.usages.Usage.{Usage}
 use Rattle.doc_names.specs.declared.usages.Usage.TheVariants.{ResourceLists, RlsServices}

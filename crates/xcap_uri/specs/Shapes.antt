@@ -1,7 +1,6 @@
 -- What the segments of an address name. The document selectors are those of RFC 4825, section 6.2; what stands under `~feed` and `~flat` is
 -- this server's own. The segments are those before the separator, decoded; the selector is the text behind it, where there is a separator.
-use Rattle.std.specs.Prelude.{◌≡◌, ◌≢◌, ◌⊎◌, ℕ, List, [], ◌∷◌, ◌++◌, encode_utf8_all, Option, None, Some}
-use Rattle.std.specs.Str.{chars}
+use Rattle.std.specs.Prelude.{◌≡◌, ◌≢◌, ◌⊎◌, ℕ, List, [], ◌∷◌, ◌++◌, encode_utf8_all, Option, None, Some, chars}
 use Rattle.doc_names.specs.declared.doc_id.Auid.{Auid}
 use Rattle.doc_names.specs.declared.doc_id.Auid.TheVariants.{RlsServices}
 use Rattle.doc_names.specs.declared.doc_id.Home.{Home}

@@ -1,7 +1,6 @@
 -- Targets of requests: what an address means, or the first of its faults. RFC 4825, section 6.
-use Rattle.std.specs.Prelude.{◌≡◌, ◌≢◌, ℕ, Bool, true, false, List, [], ◌∷◌, ◌++◌, encode_utf8_all, Option, None, Some, option_and_then, Result, Ok, Err, if◌then◌else◌}
+use Rattle.std.specs.Prelude.{◌≡◌, ◌≢◌, ℕ, Bool, true, false, List, [], ◌∷◌, ◌++◌, encode_utf8_all, Option, None, Some, option_and_then, Result, Ok, Err, if◌then◌else◌, chars}
 use Rattle.std.specs.Option.{option_or}
-use Rattle.std.specs.Str.{chars}
 use Rattle.std.specs.List.{join_with_byte}
 use Rattle.xml_tree.specs.declared.names.Decl.{Decl}
 use Rattle.node_select.specs.Faults.{IsSelectorAnswer}

@@ -1,6 +1,5 @@
 -- The words of addresses, as characters. RFC 4825, section 6.2; RFC 4826, sections 3.4 and 4.4.
-use Rattle.std.specs.Prelude.{ℕ, List, codes}
-use Rattle.std.specs.Str.{chars}
+use Rattle.std.specs.Prelude.{ℕ, List, codes, chars}
 
 -- the names of the three usages
 abbrev pub resource_lists : List ℕ

@@ -1,6 +1,5 @@
 -- Changes of a tree: of a content, of one element, and of the element at a path.
-use Rattle.std.specs.Prelude.{ℕ, zero, suc, List, [], ◌∷◌, ◌++◌, Option, IsSomeAnd, option_and_then}
-use Rattle.std.specs.List.{find}
+use Rattle.std.specs.Prelude.{ℕ, zero, suc, List, [], ◌∷◌, ◌++◌, Option, IsSomeAnd, option_and_then, find}
 use Rattle.xml_tree.specs.Tree.{Content, last, more, note, more_of, Tree, tree_of, at}
 use Rattle.xml_tree.specs.Attributes.{with_attr, without_attr, with_value, is_written_so}
 use Rattle.xml_tree.specs.declared.names.Name.{Name}

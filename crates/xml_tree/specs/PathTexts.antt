@@ -1,6 +1,5 @@
 -- The positional selector of a place. RFC 4825, section 6.3: a wildcard and a position for each step.
-use Rattle.std.specs.Prelude.{ℕ, suc, List, [], ◌∷◌, ◌++◌, codes}
-use Rattle.std.specs.Fmt.{decimal}
+use Rattle.std.specs.Prelude.{ℕ, suc, List, [], ◌∷◌, ◌++◌, codes, decimal}
 
 -- what stands behind the root's `*`: `/*[i]` for each number, counted from 1
 abbrev pub steps_text : List ℕ → List ℕ

@@ -1,6 +1,5 @@
 -- What an edit of one element wants of memory, made beforehand: room that nodes or attributes move into, and texts that are joined.
-use Rattle.std.specs.Prelude.{◌≡◌, ℕ, suc, ◌<◌, ◌≤◌, List, [], length, Option, None, Vec, vec_capacity}
-use Rattle.std.specs.List.{find}
+use Rattle.std.specs.Prelude.{◌≡◌, ℕ, suc, ◌<◌, ◌≤◌, List, [], length, Option, None, Vec, vec_capacity, find}
 use Rattle.std.specs.declared.alloc.Global.{Global}
 use Rattle.xml_tree.specs.Tree.{Content, Tree}
 use Rattle.xml_tree.specs.Nodes.{joined_beside, nodes_of, place}

@@ -1,5 +1,5 @@
 -- Reading from left to right, where the bytes may break off. This is the project's own.
-use Rattle.std.specs.Prelude.{◌≡◌, ℕ, ◌+◌, ◌*◌, ◌-◌, ◌<◌, ◌≤◌, ⊤, List, [], ◌∷◌, ◌++◌, length, slice_index_or, All, Result, Ok, Err}
+use Rattle.std.specs.Prelude.{◌≡◌, ℕ, ◌+◌, ◌*◌, ◌-◌, ◌<◌, ◌≤◌, List, [], ◌∷◌, ◌++◌, length, slice_index_or, All, Result, Ok, Err}
 use Rattle.std.specs.Int.{w16, w32, to_be_bytes}
 use Rattle.httparse.specs.Grammar.{IsToken}
 use Rattle.http_wire.specs.declared.request.Field.{Field}
@@ -16,7 +16,7 @@ abbrev pub Reads : {A B : Type 0} → (B → A) → (List ℕ → A → Type 0) 
 Reads {A} seen P bytes (Ok value) = (front rest : List ℕ) × (bytes ≡ front ++ rest) × P front (seen value)
 Reads {A} seen P bytes (Err Open) = (more : List ℕ) × (value : A) × (0 < length more) × P (bytes ++ more) value
 Reads {A} seen P bytes (Err Wrong) = (all : List ℕ) (value : A) (more rest : List ℕ) → P all value → ¬ (bytes ++ more ≡ all ++ rest)
-Reads {A} seen P bytes (Err NoMemory) = ⊤
+Reads {A} seen P bytes (Err NoMemory) = Unit {0}
 
 -- a number in four bytes, between two bounds
 abbrev pub Number : ℕ → ℕ → List ℕ → ℕ → Type 0

@@ -1,6 +1,5 @@
 -- What a change takes from the print of the element that it is made in, and what it brings, in bytes.
-use Rattle.std.specs.Prelude.{ℕ, ◌+◌, flat_map, option_to_list, slice_get, if◌then◌else◌}
-use Rattle.std.specs.List.{find}
+use Rattle.std.specs.Prelude.{ℕ, ◌+◌, flat_map, option_to_list, slice_get, if◌then◌else◌, find}
 use Rattle.xml_tree.specs.Tree.{Tree, kids_of}
 use Rattle.xml_tree.specs.Edits.{cut, final}
 use Rattle.xml_tree.specs.Print.{byte_len, is_empty, print, print_attr, print_name}

@@ -1,6 +1,5 @@
 -- The errors that the code makes of why it stopped.
-use Rattle.std.specs.Prelude.{◌≡◌, ℕ, ◌-◌, List, length}
-use Rattle.std.specs.Str.{chars}
+use Rattle.std.specs.Prelude.{◌≡◌, ℕ, ◌-◌, List, length, chars}
 use Rattle.xml_tree.specs.declared.read_error.ReadError.{ReadError}
 use Rattle.xml_tree.specs.declared.read_error.ReadError.TheVariants.{Fault, NoMemory}
 use Rattle.tree_text.specs.declared.stop.Stop.{Stop}

@@ -1,6 +1,5 @@
 -- What reading a whole text answers, from left to right.
-use Rattle.std.specs.Prelude.{ℕ, List, Option, None, Some, Result, Ok, Err}
-use Rattle.std.specs.Str.{chars}
+use Rattle.std.specs.Prelude.{ℕ, List, Option, None, Some, Result, Ok, Err, chars}
 use Rattle.grammar_rules.specs.Reading.{Stop, read_whole}
 use Rattle.tree_text.specs.declared.kind.Kind.{Kind}
 use Rattle.xml_tree.specs.declared.names.Decl.{Decl}

@@ -1,6 +1,6 @@
 -- Clashes as they are found: at an element behind its earlier siblings, and below an element.
-use Rattle.std.specs.Prelude.{◌≡◌, ℕ, ◌⊎◌, ◌↔◌, List, [], ◌∷◌, ◌++◌, Option, None, Some, IsTrue, option_map}
-use Rattle.std.specs.List.{filter_map, cons_option}
+use Rattle.std.specs.Prelude.{◌≡◌, ℕ, ◌⊎◌, ◌↔◌, List, [], ◌∷◌, ◌++◌, Option, None, Some, IsTrue, option_map, filter_map}
+use Rattle.std.specs.List.{cons_option}
 use Rattle.std.specs.BTreeSet.{BTreeSet, contains}
 use Rattle.xml_tree.specs.Tree.{Tree, kids_of}
 use Rattle.xml_tree.specs.declared.names.Attr.{Attr}

@@ -1,6 +1,6 @@
 -- Texts that octets spell in UTF-8, as every text of the program is.
-use Rattle.std.specs.Prelude.{◌≡◌, ℕ, ◌<◌, List, All, encode_utf8_all}
-use Rattle.std.specs.Str.{IsUtf8, chars}
+use Rattle.std.specs.Prelude.{◌≡◌, ℕ, ◌<◌, List, All, encode_utf8_all, chars}
+use Rattle.std.specs.Str.{IsUtf8}
 use Rattle.doc_names.specs.declared.doc_id.Home.{Home}
 use Rattle.doc_names.specs.declared.doc_id.Home.TheVariants.{Global, User}
 

@@ -1,6 +1,5 @@
 -- The texts that parts of addresses stand for, found from left to right.
-use Rattle.std.specs.Prelude.{ℕ, List, Option, None, Some, Result, Ok, Err, if◌then◌else◌}
-use Rattle.std.specs.Str.{chars}
+use Rattle.std.specs.Prelude.{ℕ, List, Option, None, Some, Result, Ok, Err, if◌then◌else◌, chars}
 use Rattle.percent_encoding.specs.Percent.{percent_decode}
 use Rattle.xml_tree.specs.declared.read_error.ReadError.TheVariants.{Fault}
 use Rattle.xcap_uri.specs.Escapes.{stands_for_text}

@@ -1,6 +1,6 @@
 -- Targets, read from left to right.
-use Rattle.std.specs.Prelude.{ℕ, List, [], ◌∷◌, encode_utf8_all, Option, None, Some, Result, Ok, Err, if◌then◌else◌}
-use Rattle.std.specs.Str.{bytes_eq, chars}
+use Rattle.std.specs.Prelude.{ℕ, List, [], ◌∷◌, encode_utf8_all, Option, None, Some, Result, Ok, Err, if◌then◌else◌, chars}
+use Rattle.std.specs.Str.{bytes_eq}
 use Rattle.std.specs.List.{join_with_byte}
 use Rattle.xml_tree.specs.declared.names.Decl.{Decl}
 use Rattle.node_select.specs.readers.Whole.{selector_read}

@@ -1,7 +1,8 @@
 use Rattle.std.proofs.Common.{◌≡◌, take, drop}
-use Rattle.grammar_rules.specs.Reading.{read_up_to, with_front}
+use Rattle.grammar_rules.specs.Reading.{read_up_to}
 use Rattle.xml_tree.specs.Characters.{is_char}
 use Rattle.tree_text.specs.declared.kind.Kind.{Kind}
+use Rattle.tree_text.proofs.RunLemmas.{with_front}
 use Rattle.tree_text.proofs.runs.up_to.Given as goal
 
 abbrev pub invariant-loop-i : goal.invariant-loop-i
