@@ -4,10 +4,10 @@ ghost use Rattle.edit_journal.specs.Records.{field_text};
 ghost use Rattle.edit_journal.specs.inner.Reading.{Reads, Value, FieldPart, FieldsAndBody, HasRoom};
 
 use crate::reading::{Stop, after, block, name};
-use http_wire::Field;
+use http_wire::{Field, token_text};
 use std::alloc::Global;
 use xcap_io::{Bytes, NoMemory};
-use xml_tree::{List, Text};
+use xml_tree::List;
 
 impl From<NoMemory> for Stop {
     ghost use Rattle.edit_journal.specs.declared.reading.Stop.{Stop};
@@ -40,22 +40,11 @@ fn value(bytes: &[u8], others: usize, left: usize) -> Result<&[u8], Stop>
     block(bytes, least_value(others, left), left - 8 - 9 * others)
 }
 
-// The text of a token, which is ASCII, so that its characters are its bytes.
-fn text_of(alloc: Global, token: &[u8]) -> Result<Text, NoMemory>
-    ensures characters_of_the_token { IfOk result (λ text. text ≡ token.now) }
-{
-    let mut text = Text::own(String::new(alloc));
-    'token: for byte in token {
-        text.push(char::from(*byte))?;
-    }
-    Ok(text)
-}
-
 fn field_of(alloc: Global, name: &[u8], value: &[u8]) -> Result<Field, NoMemory>
     ensures field_of_both { IfOk result (λ field. field ≡ record { name = name.now; value = value.now }) }
 {
     Ok(Field {
-        name: text_of(alloc, name)?,
+        name: token_text(alloc, name)?,
         value: Bytes::from(alloc, value)?,
     })
 }

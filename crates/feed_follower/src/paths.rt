@@ -39,13 +39,3 @@ pub fn lent(user: &Option<Text>) -> Option<&str>
         None => None,
     }
 }
-
-// A copy of a user's name.
-pub(crate) fn copy_user(alloc: Global, user: Option<&str>) -> Result<Option<Text>, NoMemory>
-    ensures copies_the_name { IfOk result (λ copy. copy ≡ option_map (λ name. chars name.now) user.entry) }
-{
-    match user {
-        Some(user) => Ok(Some(Text::from(alloc, user)?)),
-        None => Ok(None),
-    }
-}

@@ -1,7 +1,6 @@
 pub mod Limits
 pub mod Stops
 pub mod Heads
-pub mod Fields
 pub mod Tags
 pub mod Extents
 pub mod Inflow

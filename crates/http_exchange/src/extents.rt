@@ -2,12 +2,12 @@
 ghost use Rattle.std.specs.Prelude.{◌≡◌, ℕ, List, [], ◌∷◌, All, map, length, IfErr, Some, None, if◌then◌else◌};
 ghost use Rattle.httparse.specs.Spans.{IsHeaderWithin, header_bytes};
 ghost use Rattle.http_wire.specs.Fields.{is_number};
+ghost use Rattle.http_wire.specs.Inflow.{Found};
 ghost use Rattle.http_exchange.specs.Stops.{IsOfFields};
-ghost use Rattle.http_exchange.specs.Fields.{Found};
 ghost use Rattle.http_exchange.specs.Extents.{capped_value, within_limit, length_by, extent_by};
 
 use crate::ResponseFault;
-use crate::fields::{Named, find};
+use http_wire::{Named, find};
 use httparse::spans::HeaderSpan;
 
 /// The longest body that is read.

@@ -5,7 +5,6 @@
 
 mod extents;
 mod fault;
-mod fields;
 mod heads;
 mod inflow;
 mod laws;

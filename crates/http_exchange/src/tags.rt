@@ -5,18 +5,13 @@ ghost use Rattle.httparse.specs.Spans.{IsHeaderWithin, header_bytes};
 ghost use Rattle.preconditions.specs.Tags.{is_tag_byte};
 ghost use Rattle.http_exchange.specs.Tags.{IsQuoted, IsTagWith, TagIs};
 
-use crate::fields::{Named, find};
+use http_wire::{Named, find};
 use httparse::spans::HeaderSpan;
+use preconditions::is_tag_byte;
 use std::alloc::Global;
 use std::str::from_utf8;
 use xcap_io::NoMemory;
 use xml_tree::Text;
-
-fn is_tag_byte(byte: u8) -> bool
-    ensures tells_whether_a_tag_may_hold_it { result ≡ is_tag_byte byte }
-{
-    byte == 0x21 || (byte >= 0x23 && byte <= 0x7e) || byte >= 0x80
-}
 
 fn are_tag_bytes(bytes: &[u8]) -> bool
     ensures tells_whether_a_tag_may_hold_all { result ≡ list_all is_tag_byte bytes.now }

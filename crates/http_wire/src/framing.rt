@@ -29,11 +29,14 @@ pub enum Framing {
     Chunked,
 }
 
-// The fields of one name.
+/// The fields of one name in a head.
 #[derive(Clone, Copy)]
 pub enum Named<'b> {
+    /// There is none.
     Absent,
+    /// There is one, with this value.
     Once(&'b [u8]),
+    /// There are more.
     Repeated,
 }
 
@@ -70,7 +73,8 @@ impl<'b> Named<'b> {
     }
 }
 
-fn find<'b>(buf: &'b [u8], headers: &[HeaderSpan], name: &[u8]) -> Named<'b>
+/// What the fields of this name are among the headers of a head, whatever the case of their letters (RFC 9110, section 5.1).
+pub fn find<'b>(buf: &'b [u8], headers: &[HeaderSpan], name: &[u8]) -> Named<'b>
     requires { All (IsHeaderWithin (length buf.now)) headers.now }
     ensures finds_the_values_of_the_name { Found result (values_of name.now (map (header_bytes buf.now) headers.now)) }
 {

@@ -13,10 +13,10 @@ mod request;
 mod requests;
 mod wire;
 
-// The words and blanks of fields, which the values of other fields are told by too.
-pub use framing::{is_same_word, trim_end, trim_start};
+// Fields found by their names, and words and blanks, by which the values of other fields are told too.
+pub use framing::{Named, find, is_same_word, trim_end, trim_start};
 pub use laws::{bytes_have_one_talk, given_bytes_decide, whole_items_stay};
 pub use replies::{write_reply, write_reply_through};
-pub use request::{Asked, Field, Request};
+pub use request::{Asked, Field, Request, token_text};
 pub use requests::next_request;
 pub use wire::{ReadFault, Wire};

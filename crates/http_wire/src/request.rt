@@ -47,8 +47,11 @@ pub enum Asked {
     NoMemory,
 }
 
-// The text of a token, which is ASCII, so that its characters are its bytes.
-fn text_of(alloc: Global, token: &[u8]) -> Result<Text, NoMemory>
+/// The text of a token, which is ASCII, so that its characters are its bytes.
+///
+/// # Errors
+/// Want of memory alone.
+pub fn token_text(alloc: Global, token: &[u8]) -> Result<Text, NoMemory>
     ensures characters_of_the_token { IfOk result (λ text. text ≡ token.now) }
 {
     let mut text = Text::own(String::new(alloc));
@@ -64,7 +67,7 @@ fn fields_of(alloc: Global, bytes: &[u8], headers: &[HeaderSpan]) -> Result<List
 {
     let mut fields = List::empty(alloc);
     'fields: for header in headers {
-        let name = text_of(alloc, header.name.of(bytes))?;
+        let name = token_text(alloc, header.name.of(bytes))?;
         let value = Bytes::from(alloc, header.value.of(bytes))?;
         fields.push(Field { name, value })?;
     }
@@ -91,7 +94,7 @@ pub fn make_request(
     let fields = &headers[..spans.headers];
     let closes = before == MAX_REQUESTS - 1 || spans.version == 0 || asks_to_close(bytes, fields);
     Ok(Request {
-        method: text_of(alloc, spans.method.of(bytes))?,
+        method: token_text(alloc, spans.method.of(bytes))?,
         target: Bytes::from(alloc, spans.path.of(bytes))?,
         closes,
         fields: fields_of(alloc, bytes, fields)?,

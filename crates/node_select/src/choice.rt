@@ -15,7 +15,7 @@ use std::alloc::Global;
 use xml_tree::{Around, Attr, Decl, Declared, Element, Name, Node, Scope, Text};
 
 /// Declarations, with an index where they are many and there is memory for one. What they declare doesn't depend on that.
-pub(crate) fn declared_in<'a>(alloc: Global, decls: &'a [Decl]) -> Declared<'a>
+pub fn declared_in<'a>(alloc: Global, decls: &'a [Decl]) -> Declared<'a>
     ensures holds_the_declarations { result ≡ decls.now }
 {
     match Declared::indexed(alloc, decls) {

@@ -1,31 +1,14 @@
 //! Names that mean the same in two scopes (RFC 5261, section 4.2.3; Namespaces in XML 1.0, section 6).
 ghost use Rattle.std.specs.Prelude.{◌≡◌, option_map, chars};
-ghost use Rattle.std.specs.Str.{bytes_eq};
 ghost use Rattle.std.specs.List.{list_all, list_any};
 ghost use Rattle.xml_tree.specs.Expanded.{attr_name, element_name, same_expanded, same_uri};
 ghost use Rattle.patch_words.specs.Applied.{means_alike};
 ghost use Rattle.patch_apply.specs.inner.ByNodes.{element_alike, node_alike};
 
 use crate::names::{has_no_prefix, resolved};
+use node_select::{declared_in, same_text};
 use std::alloc::Global;
-use xml_tree::{Around, Attr, Decl, Declared, Element, Name, Node, Scope, Text};
-
-// Declarations, with an index where they are many and there is memory for one.
-fn declared_in<'a>(alloc: Global, decls: &'a [Decl]) -> Declared<'a>
-    ensures holds_the_declarations { result ≡ decls.now }
-{
-    match Declared::indexed(alloc, decls) {
-        Ok(declared) => declared,
-        Err(_) => Declared::new(alloc, decls),
-    }
-}
-
-// Whether two URIs are one.
-fn same_text(a: &str, b: &str) -> bool
-    ensures tells_equal_characters { result ≡ bytes_eq (chars a.now) (chars b.now) }
-{
-    a == b
-}
+use xml_tree::{Around, Attr, Element, Name, Node, Scope, Text};
 
 // The same where there may be none.
 fn same_uri(a: Option<&str>, b: Option<&str>) -> bool

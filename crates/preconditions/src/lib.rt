@@ -13,5 +13,5 @@ pub use faults::ConditionFault;
 pub use fields::{Conditions, read_conditions};
 pub use laws::{conditions_have_one_answer, fields_have_one_reading};
 pub use std::alloc::AllocError as NoMemory;
-pub use tags::EntityTag;
+pub use tags::{EntityTag, is_tag_byte};
 pub use verdicts::{Verdict, condition};

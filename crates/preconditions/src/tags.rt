@@ -31,7 +31,8 @@ fn is_blank(byte: u8) -> bool
     byte == b' ' || byte == b'\t'
 }
 
-fn is_tag_byte(byte: u8) -> bool
+/// Whether an entity tag may have this byte between its quotes (RFC 9110, section 8.8.3).
+pub fn is_tag_byte(byte: u8) -> bool
     ensures tells_whether_a_tag_may_hold_it { result ≡ is_tag_byte byte }
 {
     byte == 0x21 || (byte >= 0x23 && byte <= 0x7e) || byte >= 0x80

@@ -8,7 +8,11 @@ use std::alloc::Global;
 use xcap_io::{Bytes, NoMemory};
 use xml_tree::Text;
 
-fn copy_user(alloc: Global, user: Option<&str>) -> Result<Option<Text>, NoMemory>
+/// A copy of a user's name.
+///
+/// # Errors
+/// Want of memory alone.
+pub fn copy_user(alloc: Global, user: Option<&str>) -> Result<Option<Text>, NoMemory>
     ensures copies_the_name { IfOk result (λ copy. copy ≡ option_map (λ name. chars name.now) user.entry) }
 {
     match user {

@@ -12,6 +12,7 @@ mod conflicts;
 mod fault;
 mod laws;
 
+pub use asks::copy_user;
 pub use calls::{fetch, put, remove};
 pub use fault::ClientFault;
 pub use laws::{calls_make_one_connection, peer_faults_have_causes};

@@ -1,7 +1,7 @@
 use Rattle.std.proofs.Common.{ap, ◌∙◌}
 use Rattle.std.specs.Prelude.{chars}
 use Rattle.std.proofs.lemmas.Str.{chars-nil}
-use Rattle.edit_journal.proofs.record_fields.text_of.Goals as goal
+use Rattle.http_wire.proofs.request.token_text.Goals as goal
 
 pub token-init : goal.token-init
 token-init c = c.own-text.ensures.holds_the_string ∙ ap chars c.new.ensures.bytes ∙ chars-nil

@@ -1,7 +1,0 @@
-use Rattle.std.proofs.Common.{ap, ◌∙◌}
-use Rattle.std.specs.Prelude.{chars}
-use Rattle.std.proofs.lemmas.Str.{chars-nil}
-use Rattle.http_wire.proofs.request.text_of.Goals as goal
-
-pub token-init : goal.token-init
-token-init c = c.own-text.ensures.holds_the_string ∙ ap chars c.new.ensures.bytes ∙ chars-nil
