@@ -1,7 +1,7 @@
 -- Spots of a PUT: whether the node is there before, and the scope and the levels of its place.
 use Rattle.std.specs.Prelude.{slice_get, unwrap_or}
 use Rattle.std.proofs.Common.{◌≡◌, ℕ, suc, ◌<◌, ◌≤◌, ◌+◌, true, false, List, [], ◌∷◌, ◌++◌, length, length-append, Option, None, Some, IsSome, is_some, option_map, option_and_then, refl, sym, ap, subst, ◌∙◌, arith}
-use Rattle.xml_tree.specs.Edits.{front}
+use Rattle.xml_tree.specs.Edits.{parent_path}
 use Rattle.xml_tree.specs.Proper.{ProperIn}
 use Rattle.xml_tree.specs.Scopes.{scope_around, scope_at}
 use Rattle.xml_tree.specs.Tree.{Tree, at, height, kids_of}
@@ -75,13 +75,13 @@ from_chain (Some x) f h = refl
 pub parent_there : (t : Tree) (p parent : List ℕ) (n : ℕ) → p ≡ parent ++ n ∷ [] → IsSome (at p t) → IsSome (at parent t)
 parent_there t p parent n is there = from_chain (at parent t) (at (n ∷ [])) (subst (λ (o : Option Tree). IsSome o) (ap (λ (q : List ℕ). at q t) is ∙ at-append parent (n ∷ []) t) there)
 
-around_some : (p : List ℕ) (t : Tree) → 0 < length p → scope_around p t ≡ scope_at (front p) t
+around_some : (p : List ℕ) (t : Tree) → 0 < length p → scope_around p t ≡ scope_at (parent_path p) t
 around_some [] t h = absurd (omega arith)
 around_some (n ∷ p) t h = refl
 
 pub around_is : (t : Tree) (p parent : List ℕ) (n : ℕ) → p ≡ parent ++ n ∷ [] → scope_at parent t ≡ scope_around p t
 around_is t p parent n is =
-    sym (around_some p t (omega (arith, ap (λ (l : List ℕ). length l) is, length-append parent (n ∷ []))) ∙ ap (λ (l : List ℕ). scope_at l t) (ap front is ∙ front-snoc parent n))
+    sym (around_some p t (omega (arith, ap (λ (l : List ℕ). length l) is, length-append parent (n ∷ []))) ∙ ap (λ (l : List ℕ). scope_at l t) (ap parent_path is ∙ front-snoc parent n))
 
 -- ---- its levels
 
@@ -93,13 +93,13 @@ scope_len (n ∷ p) t = by (slice_get (kids_of t) n) (λ k. scope_len p k)
     by None below = omega arith
     by (Some k) below = let h = below k in omega arith
 
-front_len : (n : ℕ) (p : List ℕ) → length (front (n ∷ p)) ≡ length p
+front_len : (n : ℕ) (p : List ℕ) → length (parent_path (n ∷ p)) ≡ length p
 front_len n [] = refl
 front_len n (m ∷ p) = ap suc (front_len m p)
 
 around_len : (p : List ℕ) (t : Tree) → length (scope_around p t) ≤ length p
 around_len [] t = omega arith
-around_len (n ∷ p) t = let h = scope_len (front (n ∷ p)) t in let e = front_len n p in omega arith
+around_len (n ∷ p) t = let h = scope_len (parent_path (n ∷ p)) t in let e = front_len n p in omega arith
 
 there_low : (t : Tree) (p : List ℕ) → IsSome (at p t) → height t ≤ 64 → suc (length p) ≤ 64
 there_low t p there low = by (at p t) refl there

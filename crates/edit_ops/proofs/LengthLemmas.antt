@@ -3,7 +3,7 @@ use Rattle.std.proofs.Common.{◌≡◌, ℕ, zero, suc, ◌+◌, ◌<◌, ◌�
 use Rattle.std.specs.List.{slice_get}
 use Rattle.xml_tree.specs.Tree.{Content, last, more, note, Tree, tree_of, at, kids, kids_of}
 use Rattle.xml_tree.specs.Attributes.{with_attr, without_attr}
-use Rattle.xml_tree.specs.Edits.{cut, cut_kid, final, put_kid}
+use Rattle.xml_tree.specs.Edits.{cut, cut_kid, own_number, put_kid}
 use Rattle.xml_tree.specs.Nodes.{nodes_of, text_node}
 use Rattle.xml_tree.specs.Print.{byte_len, is_empty, print}
 use Rattle.xml_tree.specs.declared.tree.Node.{Node}
@@ -135,8 +135,8 @@ balanced (CreateDocument root) e fits = absurd fits
 balanced (Insert parent gap k) e fits = (omega (arith, put_here gap k e fits (is_empty e.content) refl), omega arith)
 balanced (Replace p other) e fits = (omega arith, omega arith)
 balanced (Remove p) e fits =
-    let kid = there (final p) (kids_of e) fits.1 in
-    let here = cut_here (final p) kid.0 e kid.1 (is_empty (cut (final p) e.content)) refl in
+    let kid = there (own_number p) (kids_of e) fits.1 in
+    let here = cut_here (own_number p) kid.0 e kid.1 (is_empty (cut (own_number p) e.content)) refl in
     let len = ap (λ o. byte_len (flat_map print (option_to_list o))) kid.1 ∙ one print kid.0 in
     (omega (arith, here, len), omega (arith, here, len))
 balanced (SetAttr p name value) e fits =

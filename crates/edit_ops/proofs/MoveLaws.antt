@@ -4,7 +4,7 @@ use Rattle.std.proofs.lemmas.Bool.{cases_eq, cases_lt, cases_order, le-leb, lt-l
 use Rattle.std.specs.List.{slice_get}
 use Rattle.std.specs.Option.{option_map, option_and_then, IsSomeAnd}
 use Rattle.xml_tree.specs.Tree.{Tree, at, kids, kids_of}
-use Rattle.xml_tree.specs.Edits.{change_at, cut_kid, cut_out, drop_at, drop_attr, final, front, put_in, put_kid, put_over, set_at, write_attr}
+use Rattle.xml_tree.specs.Edits.{change_at, cut_kid, cut_out, drop_at, drop_attr, own_number, parent_path, put_in, put_kid, put_over, set_at, write_attr}
 use Rattle.xml_tree.proofs.PathLemmas.{from_there}
 use Rattle.xml_tree.proofs.PlaceLaws.{at-change_at, kids-cut, kids-put, this_kid}
 use Rattle.edit_ops.specs.declared.change.Change.{Change}
@@ -107,9 +107,9 @@ after_insert : (q p : List ℕ) (j : ℕ) (k t : Tree) → IsSomeAnd (at q t) (�
 after_insert q p j k t fits away =
     at-under q p (made_room j) (put_kid j k) t away (λ n r e b is. room j n r k e (from_there (at q t) (λ x. j ≤ length (kids_of x)) e fits is))
 
-after_remove : (q p : List ℕ) (t : Tree) → 0 < length q → behind p q ≡ None → behind q p ≡ None → at (under (closed_up (final q)) (front q) p) (cut_out q t) ≡ at p t
+after_remove : (q p : List ℕ) (t : Tree) → 0 < length q → behind p q ≡ None → behind q p ≡ None → at (under (closed_up (own_number q)) (parent_path q) p) (cut_out q t) ≡ at p t
 after_remove q p t some away gone =
-    at-under (front q) p (closed_up (final q)) (cut_kid (final q)) t (front-none p q away) (λ n r e b is. hole (final q) n r e (front-apart q p n r some gone b))
+    at-under (parent_path q) p (closed_up (own_number q)) (cut_kid (own_number q)) t (front-none p q away) (λ n r e b is. hole (own_number q) n r e (front-apart q p n r some gone b))
 
 -- ---- a change that moves nothing
 
@@ -140,7 +140,7 @@ others_stay t (Insert parent gap element) fits p q away is =
 others_stay t (Replace w element) fits p q away is =
     let k = kept_there (behind w p) p q is in ap (λ x. at x (put_over w element t)) (sym k.1) ∙ parted w p (λ _. element) t away k.0
 others_stay t (Remove w) fits p q away is =
-    let k = kept_there (behind w p) (under (closed_up (final w)) (front w) p) q is in ap (λ x. at x (cut_out w t)) (sym k.1) ∙ after_remove w p t fits.0 away k.0
+    let k = kept_there (behind w p) (under (closed_up (own_number w)) (parent_path w) p) q is in ap (λ x. at x (cut_out w t)) (sym k.1) ∙ after_remove w p t fits.0 away k.0
 others_stay t (SetAttr w name value) fits p q away is = let e : p ≡ q = cc in ap (λ x. at x (set_at w name value t)) (sym e) ∙ unmoved w p (write_attr name value) t away (λ e. refl)
 others_stay t (DropAttr w name) fits p q away is = let e : p ≡ q = cc in ap (λ x. at x (drop_at w name t)) (sym e) ∙ unmoved w p (drop_attr name) t away (λ e. refl)
 others_stay t RemoveDocument fits p q away is = absurd fits

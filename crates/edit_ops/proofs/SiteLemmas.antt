@@ -3,7 +3,7 @@ use Rattle.std.proofs.Common.{◌≡◌, ℕ, zero, suc, ◌<◌, List, [], ◌�
 use Rattle.std.specs.List.{slice_get}
 use Rattle.std.specs.Option.{option_and_then}
 use Rattle.xml_tree.specs.Tree.{Content, last, more, note, more_of, Tree, at, kids, kids_of}
-use Rattle.xml_tree.specs.Edits.{change, change_at, change_kid, final, front}
+use Rattle.xml_tree.specs.Edits.{change, change_at, change_kid, own_number, parent_path}
 use Rattle.xml_tree.proofs.PathLemmas.{at-snoc, kid_there}
 use Rattle.edit_ops.specs.declared.change.Change.{Change}
 use Rattle.edit_ops.specs.declared.change.Change.TheVariants.{CreateDocument, Insert, Replace, Remove, SetAttr, DropAttr, RemoveDocument}
@@ -25,7 +25,7 @@ there_with None P Q f h = h
 there_with (Some e) P Q f h = f e h
 
 -- a path that isn't empty is the path of the parent and a number
-parent_and_number : (p : List ℕ) → 0 < length p → p ≡ front p ++ final p ∷ []
+parent_and_number : (p : List ℕ) → 0 < length p → p ≡ parent_path p ++ own_number p ∷ []
 parent_and_number [] h = absurd (omega arith)
 parent_and_number (n ∷ []) h = refl
 parent_and_number (n ∷ m ∷ p) h = ap (λ l. n ∷ l) (parent_and_number (m ∷ p) (omega arith))
@@ -36,8 +36,8 @@ fits_there t (CreateDocument root) fits = absurd fits
 fits_there t (Insert parent gap element) fits = fits
 fits_there t (Replace p element) fits = some_there (at p t) fits
 fits_there t (Remove p) fits =
-    let below = subst IsSome (ap (λ q. at q t) (parent_and_number p fits.0) ∙ at-snoc (front p) (final p) t) fits.1 in
-    there_with (at (front p) t) (λ e. final p < length (kids_of e)) (FitsHere (Remove p)) (λ e h. (fits.0, h)) (kid_there (at (front p) t) (final p) below)
+    let below = subst IsSome (ap (λ q. at q t) (parent_and_number p fits.0) ∙ at-snoc (parent_path p) (own_number p) t) fits.1 in
+    there_with (at (parent_path p) t) (λ e. own_number p < length (kids_of e)) (FitsHere (Remove p)) (λ e h. (fits.0, h)) (kid_there (at (parent_path p) t) (own_number p) below)
 fits_there t (SetAttr p name value) fits = some_there (at p t) fits
 fits_there t (DropAttr p name) fits = some_there (at p t) (some_before _ (at p t) fits)
 fits_there t RemoveDocument fits = absurd fits

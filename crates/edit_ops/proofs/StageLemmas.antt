@@ -1,7 +1,7 @@
 -- The memory of a change: at the element that it is made in, and in the whole tree.
 use Rattle.std.proofs.Common.{◌≡◌, ℕ, List, Option, Some, None, IsSome, IsSomeAnd, refl, sym, ap, ◌∙◌}
 use Rattle.xml_tree.specs.Tree.{Tree, at}
-use Rattle.xml_tree.specs.Edits.{TextsMeet, change_at, final, front, put_over}
+use Rattle.xml_tree.specs.Edits.{TextsMeet, change_at, own_number, parent_path, put_over}
 use Rattle.xml_tree.proofs.PathLemmas.{from_there, made_at, with_there}
 use Rattle.edit_ops.specs.declared.change.Change.{Change}
 use Rattle.edit_ops.specs.declared.change.Change.TheVariants.{CreateDocument, Insert, Replace, Remove, SetAttr, DropAttr, RemoveDocument}
@@ -33,7 +33,7 @@ pub wants_at : (t e : Tree) (change : Change) → at (site change) t ≡ Some e 
 wants_at t e (CreateDocument root) is h = absurd h
 wants_at t e (Insert parent gap element) is h = tt
 wants_at t e (Replace p element) is h = tt
-wants_at t e (Remove p) is h = with_there (at (front p) t) (λ x. TextsMeet (final p) x.content) e is h
+wants_at t e (Remove p) is h = with_there (at (parent_path p) t) (λ x. TextsMeet (own_number p) x.content) e is h
 wants_at t e (SetAttr p name value) is h = tt
 wants_at t e (DropAttr p name) is h = absurd h
 wants_at t e RemoveDocument is h = absurd h

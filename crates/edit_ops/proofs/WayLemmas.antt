@@ -4,7 +4,7 @@ use Rattle.std.proofs.lemmas.Bool.{eqb-true, eq-eqb, ne_eqb}
 use Rattle.std.proofs.lemmas.List.Elements.{recursion_from_All}
 use Rattle.std.specs.List.{AllByRecursion}
 use Rattle.std.specs.Prelude.{◌==◌}
-use Rattle.xml_tree.specs.Edits.{front, final}
+use Rattle.xml_tree.specs.Edits.{parent_path, own_number}
 use Rattle.edit_ops.specs.Moves.{behind}
 use Rattle.xml_tree.proofs.PathLemmas.{front-snoc, final-snoc}
 
@@ -33,18 +33,18 @@ none_if true x y f h = f h
 none_if false x y f h = refl
 
 -- a place that isn't on the way to another isn't on the way to its parent
-pub front-none : (p q : List ℕ) → behind p q ≡ None → behind p (front q) ≡ None
+pub front-none : (p q : List ℕ) → behind p q ≡ None → behind p (parent_path q) ≡ None
 front-none [] q h = absurd (cc)
 front-none (n ∷ p) [] h = refl
 front-none (n ∷ p) (m ∷ []) h = refl
-front-none (n ∷ p) (m ∷ k ∷ q) h = none_if (n == m) (behind p (k ∷ q)) (behind p (front (k ∷ q))) (front-none p (k ∷ q)) h
+front-none (n ∷ p) (m ∷ k ∷ q) h = none_if (n == m) (behind p (k ∷ q)) (behind p (parent_path (k ∷ q))) (front-none p (k ∷ q)) h
 
 apart_if : {A B : Type 0} (b : Bool) (x : Option A) (y : Option B) (s : B) (C : Type 0) → (x ≡ None → y ≡ Some s → C) → cond b x None ≡ None → cond b y None ≡ Some s → C
 apart_if true x y s C f h k = f h k
 apart_if false x y s C f h k = absurd (cc)
 
 -- a path that leads through the parent of a place, and not through the place, goes on by another number
-pub front-apart : (q p : List ℕ) (n : ℕ) (r : List ℕ) → 0 < length q → behind q p ≡ None → behind (front q) p ≡ Some (n ∷ r) → final q ≡ n → ⊥
+pub front-apart : (q p : List ℕ) (n : ℕ) (r : List ℕ) → 0 < length q → behind q p ≡ None → behind (parent_path q) p ≡ Some (n ∷ r) → own_number q ≡ n → ⊥
 front-apart [] p n r some h k e = absurd (omega arith)
 front-apart (m ∷ []) [] n r some h k e = absurd (cc)
 front-apart (m ∷ []) (x ∷ p) n r some h k e =
@@ -52,7 +52,7 @@ front-apart (m ∷ []) (x ∷ p) n r some h k e =
     let there : behind (m ∷ []) (x ∷ p) ≡ Some p = ap (λ b. cond b (behind [] p) None) (eq-eqb m x (e ∙ sym same)) in absurd (cc)
 front-apart (m ∷ l ∷ q) [] n r some h k e = absurd (cc)
 front-apart (m ∷ l ∷ q) (x ∷ p) n r some h k e =
-    apart_if (m == x) (behind (l ∷ q) p) (behind (front (l ∷ q)) p) (n ∷ r) ⊥ (λ h' k'. front-apart (l ∷ q) p n r (omega arith) h' k' e) h k
+    apart_if (m == x) (behind (l ∷ q) p) (behind (parent_path (l ∷ q)) p) (n ∷ r) ⊥ (λ h' k'. front-apart (l ∷ q) p n r (omega arith) h' k' e) h k
 
 -- a place by its parent and its number
 pub ruleset parents = (front-snoc, final-snoc)

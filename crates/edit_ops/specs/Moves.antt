@@ -1,7 +1,7 @@
 -- Where an element stands after a change, by its path before.
 use Rattle.std.specs.Prelude.{◌≡◌, ℕ, suc, ◌-◌, ◌==◌, nat_le, List, [], ◌∷◌, ◌++◌, Option, Some, None, if◌then◌else◌}
 use Rattle.xml_tree.specs.Tree.{Tree, at}
-use Rattle.xml_tree.specs.Edits.{front, final}
+use Rattle.xml_tree.specs.Edits.{parent_path, own_number}
 use Rattle.edit_ops.specs.Changes.{place}
 use Rattle.edit_ops.specs.declared.change.Change.{Change}
 use Rattle.edit_ops.specs.declared.change.Change.TheVariants.{CreateDocument, Insert, Replace, Remove, SetAttr, DropAttr, RemoveDocument}
@@ -41,7 +41,7 @@ abbrev pub moved : List ℕ → Change → Option (List ℕ)
 moved p (CreateDocument root) = None
 moved p (Insert parent gap element) = Some (under (made_room gap) parent p)
 moved p (Replace q element) = unless (behind q p) p
-moved p (Remove q) = unless (behind q p) (under (closed_up (final q)) (front q) p)
+moved p (Remove q) = unless (behind q p) (under (closed_up (own_number q)) (parent_path q) p)
 moved p (SetAttr q name value) = Some p
 moved p (DropAttr q name) = Some p
 moved p RemoveDocument = None

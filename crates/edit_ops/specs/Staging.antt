@@ -3,7 +3,7 @@
 use Rattle.std.specs.Prelude.{◌≡◌, IsSomeAnd, Vec}
 use Rattle.std.specs.declared.alloc.Global.{Global}
 use Rattle.xml_tree.specs.Tree.{Tree, at}
-use Rattle.xml_tree.specs.Edits.{TextsMeet, final}
+use Rattle.xml_tree.specs.Edits.{TextsMeet, own_number}
 use Rattle.xml_tree.specs.Rooms.{HasAttrRoom, HasNodeRoom, joined_around}
 use Rattle.xml_tree.specs.declared.names.Attr.{Attr}
 use Rattle.xml_tree.specs.declared.tree.Node.{Node}
@@ -18,7 +18,7 @@ abbrev pub IsStagedHere : Change → Tree → Staged → Type 0
 IsStagedHere (CreateDocument root) e made = ⊥
 IsStagedHere (Insert parent gap element) e made = (room : Vec Node Global) × (made ≡ Child element room) × HasNodeRoom e room
 IsStagedHere (Replace p element) e made = made ≡ Other element
-IsStagedHere (Remove p) e made = made ≡ Joint (joined_around (final p) e.content)
+IsStagedHere (Remove p) e made = made ≡ Joint (joined_around (own_number p) e.content)
 IsStagedHere (SetAttr p name value) e made = (room : Vec Attr Global) × (made ≡ Attribute name value room) × HasAttrRoom name e room
 IsStagedHere (DropAttr p name) e made = made ≡ Nothing
 IsStagedHere RemoveDocument e made = ⊥
@@ -32,7 +32,7 @@ abbrev pub WantsHere : Change → Tree → Type 0
 WantsHere (CreateDocument root) e = ⊥
 WantsHere (Insert parent gap element) e = Unit {0}
 WantsHere (Replace p element) e = Unit {0}
-WantsHere (Remove p) e = TextsMeet (final p) e.content
+WantsHere (Remove p) e = TextsMeet (own_number p) e.content
 WantsHere (SetAttr p name value) e = Unit {0}
 WantsHere (DropAttr p name) e = ⊥
 WantsHere RemoveDocument e = ⊥

@@ -2,7 +2,7 @@
 ghost use Rattle.std.specs.Prelude.{◌≡◌, ◌≤◌, ◌+◌, ◌++◌, ◌∷◌, suc, All, IfSome, length};
 ghost use Rattle.std.specs.Option.{option_copied};
 ghost use Rattle.edit_ops.specs.Moves.{behind, closed_up, made_room, moved, under, unless};
-ghost use Rattle.xml_tree.specs.Edits.{final, front};
+ghost use Rattle.xml_tree.specs.Edits.{own_number, parent_path};
 
 use crate::change::Change;
 use xml_tree::Path;
@@ -95,7 +95,7 @@ fn after_removal(path: &Path, parent: &Path, gone: usize) -> Path
 #[tactic(auto, using(crate::proofs::WayLemmas::parents))]
 fn after_cut(path: &Path, place: &Path) -> Option<Path>
     ensures moved_by_the_cut { result ≡ unless (behind place.now path.now)
-        (under (closed_up (final place.now)) (front place.now) path.now) }
+        (under (closed_up (own_number place.now)) (parent_path place.now) path.now) }
 {
     if way(place.numbers(), path.numbers()).is_some() {
         return None;

@@ -3,7 +3,7 @@
 ghost use Rattle.std.specs.Prelude.{◌≡◌, ◌<◌, IfErr, IfOk, Vec, length};
 ghost use Rattle.std.specs.declared.alloc.Global.{Global as AnyMemory};
 ghost use Rattle.xml_tree.specs.Tree.{kids_of};
-ghost use Rattle.xml_tree.specs.Edits.{TextsMeet, cut_kid, final};
+ghost use Rattle.xml_tree.specs.Edits.{TextsMeet, cut_kid, own_number};
 ghost use Rattle.xml_tree.specs.Rooms.{HasAttrRoom, HasNodeRoom, joined_around};
 ghost use Rattle.xml_tree.specs.declared.names.Attr.{Attr as AnAttr};
 ghost use Rattle.xml_tree.specs.declared.tree.Node.{Node as ANode};
@@ -80,9 +80,9 @@ fn attribute(
 #[tactic(auto, using(crate::proofs::WayLemmas::parents))]
 fn joint(alloc: Global, parent: &Element, place: &Path) -> Result<Staged, AllocError>
     requires below { 0 < length place.now }
-    requires there { final place.now < length (kids_of parent.now) }
-    ensures joined { IfOk result (λ made. made ≡ staging.Joint (joined_around (final place.now) parent.now.content)) }
-    ensures only_where_texts_meet { IfErr result (λ _. TextsMeet (final place.now) parent.now.content) }
+    requires there { own_number place.now < length (kids_of parent.now) }
+    ensures joined { IfOk result (λ made. made ≡ staging.Joint (joined_around (own_number place.now) parent.now.content)) }
+    ensures only_where_texts_meet { IfErr result (λ _. TextsMeet (own_number place.now) parent.now.content) }
 {
     match place.split_last() {
         None => unreachable!(),
@@ -134,9 +134,9 @@ pub fn stage(alloc: Global, root: &Element, change: &Change) -> Result<Staged, A
 #[tactic(auto, using(crate::proofs::WayLemmas::parents))]
 fn take_out(parent: &mut Element, place: &Path, joined: Option<Text>)
     requires below { 0 < length place.now }
-    requires there { final place.now < length (kids_of parent.old) }
-    requires joined { joined ≡ joined_around (final place.now) parent.old.content }
-    ensures takes_the_element_out { parent.new ≡ cut_kid (final place.now) parent.old }
+    requires there { own_number place.now < length (kids_of parent.old) }
+    requires joined { joined ≡ joined_around (own_number place.now) parent.old.content }
+    ensures takes_the_element_out { parent.new ≡ cut_kid (own_number place.now) parent.old }
 {
     match place.split_last() {
         None => unreachable!(),

@@ -3,7 +3,7 @@ use Rattle.std.proofs.Common.{◌≡◌, ◌↔◌, inl, inr, ◌-◌, ◌<◌, 
 use Rattle.std.proofs.lemmas.Option.{same_Some}
 use Rattle.doc_names.specs.declared.usages.Usage.{Usage}
 use Rattle.xml_tree.specs.Tree.{Tree, at, kids_of}
-use Rattle.xml_tree.specs.Edits.{cut_out, front, final, put_over, take_in}
+use Rattle.xml_tree.specs.Edits.{cut_out, parent_path, own_number, put_over, take_in}
 use Rattle.xml_tree.specs.Scopes.{scope_at, inside}
 use Rattle.xml_tree.proofs.PlaceLaws.{at-append}
 use Rattle.xml_tree.proofs.ScopeLemmas.{scope_at-below}
@@ -114,18 +114,18 @@ module _ (u : Usage) (t new : Tree) (all before : List Step) (s : Step) (q : Lis
 
 -- ---- a removal
 
-front_of : (q : List ℕ) (j : ℕ) → front (q ++ j ∷ []) ≡ q
+front_of : (q : List ℕ) (j : ℕ) → parent_path (q ++ j ∷ []) ≡ q
 front_of [] j = refl
 front_of (n ∷ []) j = refl
 front_of (n ∷ m ∷ q) j = ap (λ (l : List ℕ). n ∷ l) (front_of (m ∷ q) j)
 
-final_of : (q : List ℕ) (j : ℕ) → final (q ++ j ∷ []) ≡ j
+final_of : (q : List ℕ) (j : ℕ) → own_number (q ++ j ∷ []) ≡ j
 final_of [] j = refl
 final_of (n ∷ []) j = refl
 final_of (n ∷ m ∷ q) j = final_of (m ∷ q) j
 
 taken_out : (q : List ℕ) (j : ℕ) (t : Tree) → cut_out (q ++ j ∷ []) t ≡ take_in q j t
-taken_out q j t = ap (λ (p : List ℕ). take_in p (final (q ++ j ∷ [])) t) (front_of q j) ∙ ap (λ (i : ℕ). take_in q i t) (final_of q j)
+taken_out q j t = ap (λ (p : List ℕ). take_in p (own_number (q ++ j ∷ [])) t) (front_of q j) ∙ ap (λ (i : ℕ). take_in q i t) (final_of q j)
 
 found_some : (t : Tree) (selector : Selector) (p : List ℕ) → selector.end ≡ ends.Element → SelectsPath selector.steps t p → Found t selector
 found_some t selector p ends_so sel = by (at p t) refl (path_there selector.steps t p sel)

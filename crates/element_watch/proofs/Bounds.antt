@@ -5,7 +5,7 @@ use Rattle.std.specs.List.{AllByRecursion}
 use Rattle.std.proofs.lemmas.List.{length-map, map-append}
 use Rattle.std.proofs.lemmas.List.Elements.{All-from_recursion, recursion_from_All}
 use Rattle.std.proofs.lemmas.Option.{same_Some}
-use Rattle.xml_tree.specs.Edits.{final, front}
+use Rattle.xml_tree.specs.Edits.{own_number, parent_path}
 use Rattle.xml_tree.proofs.PathLemmas.{final-snoc, front-snoc}
 use Rattle.edit_ops.specs.Moves.{behind, closed_up, made_room, re_routed, under}
 use Rattle.edit_ops.specs.declared.change.Change.{Change}
@@ -30,7 +30,7 @@ room_if q b g k = cond (b && not (is_some (behind q g))) (Some (under (made_room
 pub cut_parts : (q w f : List ℕ) (i : ℕ) → w ≡ f ++ i ∷ [] → came_from q (Remove w) ≡ cond (not (is_some (behind q f))) (Some (under (made_room i) f q)) None
 cut_parts q w f i is =
     ap (λ x. came_from q (Remove x)) is
-    ∙ by (is_below_root (f ++ i ∷ [])) (front (f ++ i ∷ [])) (final (f ++ i ∷ [])) (below_root f i) (front-snoc f i) (final-snoc f i)
+    ∙ by (is_below_root (f ++ i ∷ [])) (parent_path (f ++ i ∷ [])) (own_number (f ++ i ∷ [])) (below_root f i) (front-snoc f i) (final-snoc f i)
   where
     by : (b : Bool) (g : List ℕ) (k : ℕ) → b ≡ true → g ≡ f → k ≡ i → room_if q b g k ≡ room_if q true f i
     by b g k e h j = ap (λ x. room_if q x g k) e ∙ ap (λ x. room_if q true x k) h ∙ ap (room_if q true f) j
@@ -110,7 +110,7 @@ came_within (CreateDocument root) b q p h g = cc
 came_within (Insert w j element) b q p h g = routed_if_within j b w q p (behind w q) refl (if_none _ _ p h) g
 came_within (Replace w element) b q p h g = same_within b q p (if_none _ _ p h) g
 came_within (Remove w) b q p h g =
-    subst (Within (suc b)) (same_Some (under (made_room (final w)) (front w) q) p (if_some _ _ p h)) (routed_within (made_room (final w)) b (front w) q (behind (front w) q) refl (room_within (final w) b) g)
+    subst (Within (suc b)) (same_Some (under (made_room (own_number w)) (parent_path w) q) p (if_some _ _ p h)) (routed_within (made_room (own_number w)) b (parent_path w) q (behind (parent_path w) q) refl (room_within (own_number w) b) g)
 came_within (SetAttr w name value) b q p h g = same_within b q p (if_none _ _ p h) g
 came_within (DropAttr w name) b q p h g = same_within b q p (if_none _ _ p h) g
 came_within RemoveDocument b q p h g = cc

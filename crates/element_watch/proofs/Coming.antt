@@ -5,7 +5,7 @@ use Rattle.std.specs.Str.{bytes_eq}
 use Rattle.std.proofs.lemmas.Bool.{cases_lt, cases_order, le-leb, lt-leb, ne_eqb, eq-eqb}
 use Rattle.std.proofs.lemmas.Option.{same_Some}
 use Rattle.std.proofs.lemmas.Slice.Eq.{bytes_eq-Decides}
-use Rattle.xml_tree.specs.Edits.{final, front}
+use Rattle.xml_tree.specs.Edits.{own_number, parent_path}
 use Rattle.xml_tree.specs.declared.names.Name.{Name}
 use Rattle.edit_ops.specs.Moves.{behind, closed_up, made_room, re_routed, under, unless}
 use Rattle.edit_ops.specs.declared.change.Change.{Change}
@@ -230,7 +230,7 @@ module _ (w f : List ℕ) (i : ℕ) (whole : w ≡ f ++ i ∷ []) where
         ap (behind p) whole ∙ ap (λ x. behind x (f ++ i ∷ [])) from ∙ behind-common f (m ∷ r) (i ∷ []) ∙ behind-other m i r [] (room_number i n),
       )
 
-whole_path : (n : ℕ) (w : List ℕ) → n ∷ w ≡ front (n ∷ w) ++ final (n ∷ w) ∷ []
+whole_path : (n : ℕ) (w : List ℕ) → n ∷ w ≡ parent_path (n ∷ w) ++ own_number (n ∷ w) ∷ []
 whole_path n [] = refl
 whole_path n (m ∷ w) = ap (λ l. n ∷ l) (whole_path m w)
 
@@ -280,9 +280,9 @@ passes_to (Replace w element) p q h =
     (ap Some (sym k.1))
 passes_to (Remove []) p q h = let e = h.goes_on in cc
 passes_to (Remove (n ∷ w)) p q h =
-    let k = unless_some (behind (n ∷ w) p) (under (closed_up (final (n ∷ w))) (front (n ∷ w)) p) q h.goes_on in
-    let r = remove_to (n ∷ w) (front (n ∷ w)) (final (n ∷ w)) (whole_path n w) p q (behind (front (n ∷ w)) p) refl (k.0, k.1, none_if (behind p (n ∷ w)) (λ s. h.untouched (inl s))) in
-    when_true (not (is_some (behind q (front (n ∷ w))))) (Some (under (made_room (final (n ∷ w))) (front (n ∷ w)) q)) p (true_not (is_some (behind q (front (n ∷ w)))) (not_there (behind q (front (n ∷ w))) r.0)) (ap Some r.1)
+    let k = unless_some (behind (n ∷ w) p) (under (closed_up (own_number (n ∷ w))) (parent_path (n ∷ w)) p) q h.goes_on in
+    let r = remove_to (n ∷ w) (parent_path (n ∷ w)) (own_number (n ∷ w)) (whole_path n w) p q (behind (parent_path (n ∷ w)) p) refl (k.0, k.1, none_if (behind p (n ∷ w)) (λ s. h.untouched (inl s))) in
+    when_true (not (is_some (behind q (parent_path (n ∷ w))))) (Some (under (made_room (own_number (n ∷ w))) (parent_path (n ∷ w)) q)) p (true_not (is_some (behind q (parent_path (n ∷ w)))) (not_there (behind q (parent_path (n ∷ w))) r.0)) (ap Some r.1)
 passes_to (SetAttr w name value) p q h =
     let same = same_Some p q h.goes_on in
     when_false (is_touched q w name) (Some q) p (ap (λ x. is_touched x w name) (sym same) ∙ untouched_to p w name h.untouched) (ap Some (sym same))
@@ -307,10 +307,10 @@ passes_from (Replace w element) p q h =
     }
 passes_from (Remove []) p q h = cc
 passes_from (Remove (n ∷ w)) p q h =
-    let a = if_some (not (is_some (behind q (front (n ∷ w))))) (Some (under (made_room (final (n ∷ w))) (front (n ∷ w)) q)) p h in
-    let r = remove_from (n ∷ w) (front (n ∷ w)) (final (n ∷ w)) (whole_path n w) p q (behind (front (n ∷ w)) q) refl (none_there (behind q (front (n ∷ w))) (not_true (is_some (behind q (front (n ∷ w)))) a.0)) (same_Some (under (made_room (final (n ∷ w))) (front (n ∷ w)) q) p a.1) in
+    let a = if_some (not (is_some (behind q (parent_path (n ∷ w))))) (Some (under (made_room (own_number (n ∷ w))) (parent_path (n ∷ w)) q)) p h in
+    let r = remove_from (n ∷ w) (parent_path (n ∷ w)) (own_number (n ∷ w)) (whole_path n w) p q (behind (parent_path (n ∷ w)) q) refl (none_there (behind q (parent_path (n ∷ w))) (not_true (is_some (behind q (parent_path (n ∷ w)))) a.0)) (same_Some (under (made_room (own_number (n ∷ w))) (parent_path (n ∷ w)) q) p a.1) in
     record {
-      goes_on = some_unless (behind (n ∷ w) p) (under (closed_up (final (n ∷ w))) (front (n ∷ w)) p) q r.0 r.1;
+      goes_on = some_unless (behind (n ∷ w) p) (under (closed_up (own_number (n ∷ w))) (parent_path (n ∷ w)) p) q r.0 r.1;
       untouched = λ t. ⊎_elim (no_some (behind p (n ∷ w)) r.2) (no_some (behind (n ∷ w) p) r.0) t;
     }
 passes_from (SetAttr w name value) p q h =

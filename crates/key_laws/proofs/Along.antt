@@ -5,7 +5,7 @@ use Rattle.std.proofs.lemmas.Option.{same_Some}
 use Rattle.std.proofs.lemmas.Bool.{cases_order}
 use Rattle.step_laws.specs.Selection.{IsAtPosition}
 use Rattle.xml_tree.specs.Tree.{Tree, kids_of}
-use Rattle.xml_tree.specs.Proper.{One, ProperIn}
+use Rattle.xml_tree.specs.Proper.{IsProperPart, ProperIn}
 use Rattle.xml_tree.proofs.EverywhereLaws.{Everywhere-kid}
 use Rattle.xml_tree.specs.Scopes.{inside}
 use Rattle.node_select.specs.Selection.{is_named, is_tested, SelectsAmong, SelectsChild}
@@ -84,10 +84,10 @@ selects_marked row c kids i kid step m proper unique asks there is =
 -- ---- the steps along a path
 
 kids_proper : (c : Scope) (kid : Tree) → ProperIn c kid → ProperKids (inside c kid) (kids_of kid)
-kids_proper c kid proper i k there = Everywhere-kid One (inside c kid) i kid.content k there proper.1
+kids_proper c kid proper i k there = Everywhere-kid IsProperPart (inside c kid) i kid.content k there proper.1
 
 pub root_kids_proper : (t : Tree) → ProperIn [] t → ProperKids (t.decls ∷ []) (kids_of t)
-root_kids_proper t proper i k there = Everywhere-kid One (t.decls ∷ []) i t.content k there proper.1
+root_kids_proper t proper i k there = Everywhere-kid IsProperPart (t.decls ∷ []) i t.content k there proper.1
 
 unique_below : (row : Kind) (c : Scope) (kids : List Tree) (i : ℕ) (kid : Tree) (kind : Kind) → slice_get kids i ≡ Some kid → kind_of row (inside c kid) kid.name ≡ Some kind → ((p : List ℕ) (q : Key) → RepeatsAt row c kids p q → ⊥)
     → (p : List ℕ) (q : Key) → RepeatsAt kind (inside c kid) (kids_of kid) p q → ⊥

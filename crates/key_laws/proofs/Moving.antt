@@ -5,8 +5,8 @@ use Rattle.std.specs.Str.{bytes_eq}
 use Rattle.std.proofs.lemmas.Bool.{cases_eq, cases_order, le-leb, lt-leb}
 use Rattle.std.proofs.lemmas.Slice.Eq.{bytes_eq-Decides}
 use Rattle.xml_tree.specs.Tree.{Tree, at, kids, kids_of}
-use Rattle.xml_tree.specs.Attributes.{valued, with_attr, without_attr, is_written_so as is_named}
-use Rattle.xml_tree.specs.Edits.{change_at, cut_kid, drop_attr, final, front, put_kid, write_attr}
+use Rattle.xml_tree.specs.Attributes.{with_new_value, with_attr, without_attr, is_written_so as is_named}
+use Rattle.xml_tree.specs.Edits.{change_at, cut_kid, drop_attr, own_number, parent_path, put_kid, write_attr}
 use Rattle.xml_tree.specs.declared.names.Attr.{Attr}
 use Rattle.xml_tree.specs.declared.names.Name.{Name}
 use Rattle.xml_tree.proofs.PathLemmas.{from_there}
@@ -197,10 +197,10 @@ written : (key : Key) (n : Name) (v : List ℕ) (ats : List Attr) → ((n.prefix
 written key n v [] ne = skip (is_key key (record { name = n; value = v })) (record { name = n; value = v }) None (other_key key n (record { name = n; value = v }) ne (name_is n v))
 written key n v (a ∷ ats) ne = by (is_named n a) refl (written key n v ats ne)
   where
-    by : (b : Bool) → is_named n a ≡ b → find (is_key key) (with_attr n v ats) ≡ find (is_key key) ats → find (is_key key) (cond b (valued v a ∷ ats) (a ∷ with_attr n v ats)) ≡ find (is_key key) (a ∷ ats)
+    by : (b : Bool) → is_named n a ≡ b → find (is_key key) (with_attr n v ats) ≡ find (is_key key) ats → find (is_key key) (cond b (with_new_value v a ∷ ats) (a ∷ with_attr n v ats)) ≡ find (is_key key) (a ∷ ats)
     by true e ih =
         let no = other_key key n a ne e in
-        skip (is_key key a) (valued v a) (find (is_key key) ats) no ∙ sym (skip (is_key key a) a (find (is_key key) ats) no)
+        skip (is_key key a) (with_new_value v a) (find (is_key key) ats) no ∙ sym (skip (is_key key a) a (find (is_key key) ats) no)
     by false e ih = ap (cond (is_key key a) (Some a)) ih
 
 dropped : (key : Key) (n : Name) (ats : List Attr) → ((n.prefix ≡ []) → (n.local ≡ word key) → ⊥) → find (is_key key) (without_attr n ats) ≡ find (is_key key) ats
@@ -276,13 +276,13 @@ module _ (u : Usage) (t : Tree) (p : List ℕ) where
       ap (marks_along (root_kind u) (t.decls ∷ []) (kids_of (edited t (Replace w element)))) (sym k.1 ∙ sym (unmoved w p))
       ∙ marks_under w p (λ r. r) (λ _. element) (root_kind u) (t.decls ∷ []) t (λ e r there b. absurd (no_way (behind w p) r k.0 b))
   marks_moved (Remove w) q fits is free =
-      let k = kept_there (behind w p) (under (closed_up (final w)) (front w) p) q is in
+      let k = kept_there (behind w p) (under (closed_up (own_number w)) (parent_path w) p) q is in
       ap (marks_along (root_kind u) (t.decls ∷ []) (kids_of (edited t (Remove w)))) (sym k.1)
-      ∙ marks_under (front w) p (closed_up (final w)) (cut_kid (final w)) (root_kind u) (t.decls ∷ []) t (λ e r there b. record {
+      ∙ marks_under (parent_path w) p (closed_up (own_number w)) (cut_kid (own_number w)) (root_kind u) (t.decls ∷ []) t (λ e r there b. record {
         name = refl;
         decls = refl;
         value = λ kind of_kind. refl;
-        below = λ row c. hole (final w) r e row c (λ n s eq same. front-apart w p n s fits.0 k.0 (b ∙ ap Some eq) same);
+        below = λ row c. hole (own_number w) r e row c (λ n s eq same. front-apart w p n s fits.0 k.0 (b ∙ ap Some eq) same);
       })
   marks_moved (SetAttr w name value) q fits is free =
       let e : p ≡ q = cc in
@@ -309,7 +309,7 @@ pub root_kept : (t : Tree) (p : List ℕ) (change : Change) (q : List ℕ) → F
 root_kept t p (CreateDocument root) q fits is = absurd fits
 root_kept t p (Insert parent gap element) q fits is = root_tag parent (put_kid gap element) t (refl, refl)
 root_kept t p (Replace w element) q fits is = root_beside w p (λ _. element) t (kept_there (behind w p) p q is).0
-root_kept t p (Remove w) q fits is = root_tag (front w) (cut_kid (final w)) t (refl, refl)
+root_kept t p (Remove w) q fits is = root_tag (parent_path w) (cut_kid (own_number w)) t (refl, refl)
 root_kept t p (SetAttr w name value) q fits is = root_tag w (write_attr name value) t (refl, refl)
 root_kept t p (DropAttr w name) q fits is = root_tag w (drop_attr name) t (refl, refl)
 root_kept t p RemoveDocument q fits is = absurd fits

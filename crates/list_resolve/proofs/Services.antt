@@ -3,7 +3,7 @@ use Rattle.std.proofs.Common.{◌≡◌, ◌<◌, ◌+◌, ℕ, List, [], ◌∷
 use Rattle.std.specs.Option.{option_or}
 use Rattle.std.proofs.lemmas.List.{drop_more}
 use Rattle.xml_tree.specs.Tree.{Content, last, more, note, Tree, kids}
-use Rattle.xml_tree.specs.Edits.{before}
+use Rattle.xml_tree.specs.Edits.{with_text_before}
 use Rattle.xml_tree.specs.Nodes.{content_of}
 use Rattle.xml_tree.specs.declared.tree.Node.{Node}
 use Rattle.xml_tree.specs.declared.tree.Node.TheVariants.{Elem, Chars, Comment}
@@ -16,7 +16,7 @@ first_among uri root (Elem e ∷ ns) = option_or (service_spot uri root e) (firs
 first_among uri root (Chars t ∷ ns) = first_among uri root ns
 first_among uri root (Comment x ∷ ns) = first_among uri root ns
 
-kids_before : (t : List ℕ) (c : Content) → kids (before t c) ≡ kids c
+kids_before : (t : List ℕ) (c : Content) → kids (with_text_before t c) ≡ kids c
 kids_before t (last u) = refl
 kids_before t (more u n ds ats k rest) = refl
 kids_before t (note u x rest) = refl

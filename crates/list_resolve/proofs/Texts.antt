@@ -2,7 +2,7 @@
 use Rattle.std.proofs.Common.{◌≡◌, ℕ, Bool, true, false, ◌&&◌, List, [], ◌∷◌, ◌++◌, refl, sym, ap, ◌∙◌, append_assoc, if◌then◌else◌, arith}
 use Rattle.std.specs.Str.{bytes_eq}
 use Rattle.xml_tree.specs.Tree.{Content, last, more, note}
-use Rattle.xml_tree.specs.Edits.{before}
+use Rattle.xml_tree.specs.Edits.{with_text_before}
 use Rattle.xml_tree.specs.Nodes.{content_of}
 use Rattle.xml_tree.specs.declared.tree.Node.{Node}
 use Rattle.xml_tree.specs.declared.tree.Node.TheVariants.{Elem, Chars, Comment}
@@ -17,7 +17,7 @@ nodes_text (Elem e ∷ ns) = nodes_text ns
 nodes_text (Chars t ∷ ns) = t ++ nodes_text ns
 nodes_text (Comment x ∷ ns) = nodes_text ns
 
-text_before : (t : List ℕ) (c : Content) → text_of (before t c) ≡ t ++ text_of c
+text_before : (t : List ℕ) (c : Content) → text_of (with_text_before t c) ≡ t ++ text_of c
 text_before t (last u) = refl
 text_before t (more u n ds ats k rest) = append_assoc t u (text_of rest)
 text_before t (note u x rest) = append_assoc t u (text_of rest)

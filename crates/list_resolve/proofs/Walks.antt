@@ -2,7 +2,7 @@
 use Rattle.std.proofs.Common.{◌≡◌, ◌≤◌, ◌<◌, ◌+◌, ◌-◌, ℕ, zero, suc, List, [], ◌∷◌, ◌++◌, Option, drop, get_or, length, Result, Ok, Err, IsErrAnd, subst, refl, sym, ap, ◌∙◌, arith}
 use Rattle.std.proofs.lemmas.List.{drop_more}
 use Rattle.xml_tree.specs.Tree.{Content, last, more, note, Tree}
-use Rattle.xml_tree.specs.Edits.{before}
+use Rattle.xml_tree.specs.Edits.{with_text_before}
 use Rattle.xml_tree.specs.Nodes.{content_of}
 use Rattle.xml_tree.specs.declared.tree.Node.{Node}
 use Rattle.xml_tree.specs.declared.tree.Node.TheVariants.{Elem, Chars, Comment}
@@ -26,7 +26,7 @@ nodes_items behind root row c (Elem e ∷ ns) = kid_items behind root row c e ++
 nodes_items behind root row c (Chars t ∷ ns) = nodes_items behind root row c ns
 nodes_items behind root row c (Comment x ∷ ns) = nodes_items behind root row c ns
 
-walked_before : (behind : Reference → List Item) (root : List ℕ) (row : Kind) (c : Scope) (t : List ℕ) (content : Content) → walked behind root row c (before t content) ≡ walked behind root row c content
+walked_before : (behind : Reference → List Item) (root : List ℕ) (row : Kind) (c : Scope) (t : List ℕ) (content : Content) → walked behind root row c (with_text_before t content) ≡ walked behind root row c content
 walked_before behind root row c t (last u) = refl
 walked_before behind root row c t (more u n ds ats k rest) = refl
 walked_before behind root row c t (note u x rest) = refl

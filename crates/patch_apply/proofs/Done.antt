@@ -4,7 +4,7 @@ use Rattle.std.proofs.lemmas.Bool.{ltb-true}
 use Rattle.std.proofs.lemmas.Option.{cond_some}
 use Rattle.std.specs.List.{position, position_or_len, slice_get}
 use Rattle.std.specs.Prelude.{nat_lt}
-use Rattle.xml_tree.specs.Attributes.{remove_first, valued, with_value}
+use Rattle.xml_tree.specs.Attributes.{remove_first, with_new_value, with_value}
 use Rattle.xml_tree.specs.Edits.{change_at, put_over}
 use Rattle.xml_tree.specs.Expanded.{attr_name, same_expanded}
 use Rattle.xml_tree.specs.Nodes.{exchange_nodes, nodes_of, text_node}
@@ -155,7 +155,7 @@ written_by f v (a ∷ ats) h = by (f a) (written_by f v ats) h
   where
     by : (b : Bool) → (position_or_len f ats < length ats → rewritten f v ats ≡ with_value (position_or_len f ats) v ats)
         → cond (not b) (1 + position_or_len f ats) 0 < suc (length ats)
-        → cond b (valued v a ∷ ats) (a ∷ rewritten f v ats) ≡ with_value (cond (not b) (1 + position_or_len f ats) 0) v (a ∷ ats)
+        → cond b (with_new_value v a ∷ ats) (a ∷ rewritten f v ats) ≡ with_value (cond (not b) (1 + position_or_len f ats) 0) v (a ∷ ats)
     by true ih h = refl
     by false ih h =
         let more : suc (position_or_len f ats) ≡ 1 + position_or_len f ats = omega arith in

@@ -2,7 +2,7 @@
 use Rattle.std.proofs.Common.{◌≡◌, ◌≤◌, ℕ, suc, ◌+◌, ◌-◌, Bool, true, false, List, [], ◌∷◌, ◌++◌, length, remove, Some, IsSome, Ok, Err, refl, ◌∙◌}
 use Rattle.std.specs.Prelude.{nat_le}
 use Rattle.xml_tree.specs.Attributes.{with_value}
-use Rattle.xml_tree.specs.Edits.{change_at, front, put_over}
+use Rattle.xml_tree.specs.Edits.{change_at, parent_path, put_over}
 use Rattle.xml_tree.specs.Expanded.{attr_name, same_expanded}
 use Rattle.xml_tree.specs.Nodes.{exchange_nodes, nodes_of, text_node}
 use Rattle.xml_tree.specs.Scopes.{scope_around, scope_at}
@@ -75,8 +75,8 @@ module _ (c : List (List Decl)) (p : List ℕ) (w : Tree) (content : Content) (t
 
 -- ---- an element is taken out
 
-pub remove_made : (before after : Bool) (p : List ℕ) (content : Content) (t : Tree) → IsSome (at (front p) t) → height t ≤ 64
+pub remove_made : (before after : Bool) (p : List ℕ) (content : Content) (t : Tree) → IsSome (at (parent_path p) t) → height t ≤ 64
     → is_below p ≡ true → is_bare content ≡ true → space_fits before after p t ≡ true → remove_done before after (AtElement p) content t ≡ Ok (cut_element before after p t)
 remove_made before after p content t there low below bare fits =
     remove_well before after p content t below bare fits
-    ∙ made_well (cut_element before after p t) true (shallow_low (front p) (own_place p t - one_if before) (suc (own_place p t) + one_if after) [] t there low refl) refl
+    ∙ made_well (cut_element before after p t) true (shallow_low (parent_path p) (own_place p t - one_if before) (suc (own_place p t) + one_if after) [] t there low refl) refl

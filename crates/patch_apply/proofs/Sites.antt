@@ -2,7 +2,7 @@
 use Rattle.std.proofs.Common.{◌≡◌, ℕ, zero, suc, ◌<◌, true, false, List, [], ◌∷◌, ◌++◌, length, Option, None, Some, IsSome, option_map, option_and_then, unwrap_or, refl, sym, ap, ◌∙◌, subst, arith}
 use Rattle.std.specs.List.{slice_get}
 use Rattle.std.specs.Prelude.{is_some}
-use Rattle.xml_tree.specs.Edits.{front}
+use Rattle.xml_tree.specs.Edits.{parent_path}
 use Rattle.xml_tree.specs.Nodes.{nodes_of, place, text_of}
 use Rattle.xml_tree.specs.Scopes.{scope_around, scope_at}
 use Rattle.xml_tree.specs.Tree.{Content, Tree, at, kids, kids_of}
@@ -26,8 +26,8 @@ scope_above path parent k t is = ap (λ q. scope_around q t) is ∙ around paren
     around [] = refl
     around (n ∷ p) = ap (λ q. scope_at q t) (front-snoc (n ∷ p) k)
 
-pub front_is : (path parent : List ℕ) (k : ℕ) → path ≡ parent ++ k ∷ [] → parent ≡ front path
-front_is path parent k is = sym (ap front is ∙ front-snoc parent k)
+pub front_is : (path parent : List ℕ) (k : ℕ) → path ≡ parent ++ k ∷ [] → parent ≡ parent_path path
+front_is path parent k is = sym (ap parent_path is ∙ front-snoc parent k)
 
 -- what is there can't be missing
 pub is_there : (o : Option Tree) → None ≡ o → IsSome o → ⊥

@@ -1,6 +1,6 @@
 //! Places among the nodes of a tree, and edits there, in place.
 ghost use Rattle.std.specs.Prelude.{◌≡◌, ◌≤◌, ◌<◌, ◌+◌, suc, length, nat_le, true, IsSome, IsSomeAnd, OnOk};
-ghost use Rattle.xml_tree.specs.Edits.{change_at, front};
+ghost use Rattle.xml_tree.specs.Edits.{change_at, parent_path};
 ghost use Rattle.xml_tree.specs.Nodes.{exchange_nodes, nodes_of};
 ghost use Rattle.xml_tree.specs.Tree.{at, height};
 ghost use Rattle.patch_words.specs.Applied.{is_below, means_alike, nodes_at, off_root, own_place};
@@ -31,7 +31,7 @@ pub struct Gap {
 pub(crate) fn place_in_parent(tree: &Element, path: &Path) -> Gap
     requires below { 0 < length path.now }
     requires there { IsSome (at path.now tree.now) }
-    ensures parent { result.path ≡ front path.now }
+    ensures parent { result.path ≡ parent_path path.now }
     ensures place { result.place ≡ own_place path.now tree.now }
     ensures within { IsSomeAnd (at result.path tree.now) (λ e. result.place < length (nodes_of e.content)) }
 {

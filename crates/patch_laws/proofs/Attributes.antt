@@ -3,7 +3,7 @@ use Rattle.std.proofs.Common.{◌≡◌, ◌≢◌, ℕ, Bool, true, false, cond
 use Rattle.std.specs.Prelude.{unwrap_or, ◌==◌, option_and_then}
 use Rattle.std.specs.List.{AllByRecursion, IsDistinct, find, list_all, list_any}
 use Rattle.std.proofs.lemmas.Slice.Eq.{bytes_eq-Decides}
-use Rattle.xml_tree.specs.Attributes.{change_first, remove_first, valued, with_attr, is_written_so as is_named}
+use Rattle.xml_tree.specs.Attributes.{change_first, remove_first, with_new_value, with_attr, is_written_so as is_named}
 use Rattle.xml_tree.specs.Characters.{is_name, is_name_start, is_name_char}
 use Rattle.xml_tree.specs.Expanded.{Expanded, attr_name, same_expanded, same_uri}
 use Rattle.xml_tree.specs.Print.{print_name}
@@ -37,11 +37,11 @@ module _ (f g : Attr → Bool) where
   removed_agree (a ∷ ats) h = λ i. cond (h.0 i) ats (a ∷ removed_agree ats h.1 i)
 
   -- where some attribute passes
-  pub rewritten_agree : (v : List ℕ) (x : Attr) (ats : List Attr) → Agree ats → IsSome (find g ats) → rewritten f v ats ≡ change_first g (valued v) x ats
+  pub rewritten_agree : (v : List ℕ) (x : Attr) (ats : List Attr) → Agree ats → IsSome (find g ats) → rewritten f v ats ≡ change_first g (with_new_value v) x ats
   rewritten_agree v x [] h s = cc
   rewritten_agree v x (a ∷ ats) h s = by (g a) refl (λ k. rewritten_agree v x ats h.1 k)
     where
-      by : (b : Bool) → g a ≡ b → (IsSome (find g ats) → rewritten f v ats ≡ change_first g (valued v) x ats) → rewritten f v (a ∷ ats) ≡ change_first g (valued v) x (a ∷ ats)
+      by : (b : Bool) → g a ≡ b → (IsSome (find g ats) → rewritten f v ats ≡ change_first g (with_new_value v) x ats) → rewritten f v (a ∷ ats) ≡ change_first g (with_new_value v) x (a ∷ ats)
       by true e rest = rw (h.0, e) refl
       by false e rest = rw (h.0, e) (ap (λ l. a ∷ l) (rest (rw e at s)))
 

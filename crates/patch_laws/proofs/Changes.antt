@@ -4,7 +4,7 @@ use Rattle.std.specs.List.{find}
 use Rattle.std.proofs.lemmas.Slice.Eq.{bytes_eq-Decides}
 use Rattle.xml_tree.specs.Attributes.{with_attr, is_written_so as is_named}
 use Rattle.xml_tree.specs.Edits.{attr_at, set_at, write_attr}
-use Rattle.xml_tree.specs.Proper.{IsNamed, IsTag, One, ProperIn}
+use Rattle.xml_tree.specs.Proper.{IsNamed, IsTag, IsProperPart, ProperIn}
 use Rattle.xml_tree.specs.Scopes.{bindings_in, bound, scope_at, xmlns_prefix}
 use Rattle.xml_tree.specs.Tree.{Tree, at, height, kids_of}
 use Rattle.xml_tree.specs.declared.names.Name.{Name}
@@ -56,7 +56,7 @@ there_before f (Some k) h = refl
 -- ---- the name of an attribute
 
 pub tag_at : (p : List ℕ) (t k : Tree) → at p t ≡ Some k → ProperIn [] t → IsTag (scope_at p t) k.name k.decls k.attrs
-tag_at p t k there h = subst (λ c. IsTag c k.name k.decls k.attrs) (sym (scope_at-around p t k there)) (inside One p [] t k there h).0
+tag_at p t k there h = subst (λ c. IsTag c k.name k.decls k.attrs) (sym (scope_at-around p t k there)) (inside IsProperPart p [] t k there h).0
 
 -- the scope at a place doesn't depend on attributes
 scope_written : (p : List ℕ) (n : Name) (v : List ℕ) (t k : Tree) → at p t ≡ Some k → scope_at p (set_at p n v t) ≡ scope_at p t
@@ -122,12 +122,12 @@ module _ (d uri : List ℕ) (ne : d ≢ []) where
   applied_told t (CreateDocument root) fits before small after low = absurd fits
   applied_told t (Insert q zero e) fits before small after low =
       let k = some_and (at q t) (λ x. 0 ≤ length (kids_of x)) fits in
-      inserted_first d uri ne t q e false fits (path_positions q t small (ap is_some k.1)) (put-element One [] q 0 e t k.0 k.1 k.2 after) low
+      inserted_first d uri ne t q e false fits (path_positions q t small (ap is_some k.1)) (put-element IsProperPart [] q 0 e t k.0 k.1 k.2 after) low
   applied_told t (Insert q (suc j) e) fits before small after low =
       let k = some_and (at q t) (λ x. suc j ≤ length (kids_of x)) fits in
-      inserted_after d uri ne t q j e false fits (path_positions (q ++ j ∷ []) t small (there_before_gap q j k.0 t k.1 k.2)) (put-element One [] q (suc j) e t k.0 k.1 k.2 after) low
+      inserted_after d uri ne t q j e false fits (path_positions (q ++ j ∷ []) t small (there_before_gap q j k.0 t k.1 k.2)) (put-element IsProperPart [] q (suc j) e t k.0 k.1 k.2 after) low
   applied_told t (Replace p e) fits before small after low =
-      let k = there_of (at p t) fits in replaced d uri ne t p e false fits (path_positions p t small fits) (put-other One [] p e t k.0 k.1 after) low
+      let k = there_of (at p t) fits in replaced d uri ne t p e false fits (path_positions p t small fits) (put-other IsProperPart [] p e t k.0 k.1 after) low
   applied_told t (Remove p) fits before small after low = removed d uri ne t p false fits (path_positions p t small fits.1) low
   applied_told t (SetAttr p n v) fits before small after low =
       let k = there_of (at p t) fits in

@@ -1,7 +1,7 @@
 -- Operations declare fewer prefixes than the prints of their trees have bytes.
 use Rattle.std.proofs.Common.{◌≡◌, ℕ, zero, suc, ◌+◌, ◌*◌, ◌<◌, ◌≤◌, ◌^◌, Ordering, Less, Equal, Greater, Bool, true, false, List, [], ◌∷◌, ◌++◌, length, filter, flat_map, length-append, Option, Some, None, option_map, slice_get, refl, ap, ◌∙◌, arith}
 use Rattle.std.specs.Prelude.{unwrap_or}
-use Rattle.xml_tree.specs.Edits.{front, put, put_kid, put_over}
+use Rattle.xml_tree.specs.Edits.{parent_path, put, put_kid, put_over}
 use Rattle.xml_tree.specs.Print.{byte_len, closing, ending, is_empty, opening, print, print_content, print_decl}
 use Rattle.xml_tree.specs.inner.Gathering.{gathered, placed}
 use Rattle.xml_tree.specs.Scopes.{bindings_in, binds, joined, scope_around, scope_at}
@@ -95,7 +95,7 @@ scope_short (n ∷ p) t =
 
 around_short : (p : List ℕ) (t : Tree) → length (joined (scope_around p t)) ≤ byte_len (print t)
 around_short [] t = omega arith
-around_short (n ∷ p) t = scope_short (front (n ∷ p)) t
+around_short (n ∷ p) t = scope_short (parent_path (n ∷ p)) t
 
 -- ---- operations
 

@@ -3,7 +3,7 @@ use Rattle.std.proofs.Common.{◌≡◌, ◌≢◌, ℕ, zero, suc, ◌<◌, ◌
 use Rattle.std.specs.Prelude.{unwrap_or}
 use Rattle.notes.specs.Operations.{change_told as told}
 use Rattle.xml_tree.specs.Tree.{Tree, at, height, kids_of}
-use Rattle.xml_tree.specs.Edits.{front}
+use Rattle.xml_tree.specs.Edits.{parent_path}
 use Rattle.xml_tree.specs.Proper.{ProperIn}
 use Rattle.xml_tree.specs.Scopes.{bindings_in, bound, scope_around, scope_at}
 use Rattle.xml_tree.specs.declared.names.Decl.{Decl}
@@ -82,7 +82,7 @@ module _ (d uri : List ℕ) (ne : d ≢ []) (t : Tree) where
       → applied (around_operations d uri) (told d (bindings_in (scope_around p t)) fresh (Remove p)) t ≡ Ok (edited t (Remove p))
   removed p fresh fits small low =
       let place = scope_around p t in
-      let k = some_and (at (front p) t) (FitsHere (Remove p)) (fits_there t (Remove p) fits) in
+      let k = some_and (at (parent_path p) t) (FitsHere (Remove p)) (fits_there t (Remove p) fits) in
       applied_by (around_operations d uri) (told d (bindings_in place) fresh (Remove p)) t (path_text p) (words.Remove false false) (path_form p)
       (record { steps = own_steps place p; end = Element }) (AtElement p) refl refl refl (path_read p small) refl (path_means (own place) p) refl (locates_element (bindings_in (own place)) (unwrap_or (bound (own place) []) []) p t fits.1)
       ∙ rw (below_root p fits.0) (made_is _ _ (edited t (Remove p)) (cut_element-is p k.0 t k.1 k.2.1) low refl)

@@ -6,10 +6,10 @@ use Rattle.std.proofs.lemmas.Bool.Decides.{nat_tests}
 use Rattle.std.proofs.lemmas.Slice.Eq.{bytes_eq-Decides}
 use Rattle.xml_tree.specs.Attributes.{remove_first}
 use Rattle.xml_tree.specs.Characters.{all_chars, is_char, is_name}
-use Rattle.xml_tree.specs.Edits.{change_at, front, put_over}
+use Rattle.xml_tree.specs.Edits.{change_at, parent_path, put_over}
 use Rattle.xml_tree.specs.Expanded.{Expanded, attr_name, element_name, same_expanded}
 use Rattle.xml_tree.specs.Nodes.{exchange_nodes, nodes_of, text_node}
-use Rattle.xml_tree.specs.Proper.{IsAttribute, IsNamed, IsTag, Letters, OfNode, One, Proper, ProperIn, is_prefix}
+use Rattle.xml_tree.specs.Proper.{IsAttribute, IsNamed, IsTag, Letters, OfNode, IsProperPart, Proper, ProperIn, is_prefix}
 use Rattle.xml_tree.specs.Scopes.{bindings_in, bound, scope_around, scope_at, xmlns_prefix}
 use Rattle.xml_tree.specs.Tree.{Content, last, more, note, Tree, at, height, tree_of}
 use Rattle.xml_tree.specs.declared.names.Name.{Name}
@@ -112,8 +112,8 @@ made_sound new alike u h keeps = let m = made_ok new alike u h in (subst (Proper
 
 -- ---- content
 
-nodes_proper : (c : List (List Decl)) (k : Content) → Proper c k → AllByRecursion (OfNode One c) (nodes_of k)
-nodes_proper c k h = nodes-Everywhere One c (nodes_of k) (subst (λ x. Proper c x) (sym (content_of-nodes_of k)) h)
+nodes_proper : (c : List (List Decl)) (k : Content) → Proper c k → AllByRecursion (OfNode IsProperPart c) (nodes_of k)
+nodes_proper c k h = nodes-Everywhere IsProperPart c (nodes_of k) (subst (λ x. Proper c x) (sym (content_of-nodes_of k)) h)
 
 sole_proper : (c : List (List Decl)) (k : Content) (e : Tree) → sole_element k ≡ Some e → Proper c k → ProperIn c e
 sole_proper c (last t) e is h = cc
@@ -128,32 +128,32 @@ sole_proper c (note t x rest) e is h = by (words.is_blank t) is (λ s. sole_prop
     by true s f = f s
     by false s f = cc
 
-value_proper : (c : List (List Decl)) (k : Content) (v : List ℕ) → value_in k ≡ Some v → Proper c k → Letters One c v
-value_proper c (last t) v is h = let same : t ≡ v = cc in subst (Letters One c) same h
+value_proper : (c : List (List Decl)) (k : Content) (v : List ℕ) → value_in k ≡ Some v → Proper c k → Letters IsProperPart c v
+value_proper c (last t) v is h = let same : t ≡ v = cc in subst (Letters IsProperPart c) same h
 value_proper c (more t n ds ats k rest) v is h = cc
 value_proper c (note t x rest) v is h = by (value_in rest) refl is (λ w s. value_proper c rest w s h.2)
   where
-    by : (o : Option (List ℕ)) → value_in rest ≡ o → option_map (λ w. t ++ w) o ≡ Some v → ((w : List ℕ) → value_in rest ≡ Some w → Letters One c w) → Letters One c v
+    by : (o : Option (List ℕ)) → value_in rest ≡ o → option_map (λ w. t ++ w) o ≡ Some v → ((w : List ℕ) → value_in rest ≡ Some w → Letters IsProperPart c w) → Letters IsProperPart c v
     by None e s f = cc
-    by (Some w) e s f = let same : t ++ w ≡ v = cc in subst (Letters One c) same (Letters-append One c t w h.0 (f w e))
+    by (Some w) e s f = let same : t ++ w ≡ v = cc in subst (Letters IsProperPart c) same (Letters-append IsProperPart c t w h.0 (f w e))
 
-chars_of : (c : List (List Decl)) (v : List ℕ) → Letters One c v → all_chars v ≡ true
+chars_of : (c : List (List Decl)) (v : List ℕ) → Letters IsProperPart c v → all_chars v ≡ true
 chars_of c [] h = refl
 chars_of c (x ∷ v) h = both (is_char x) (all_chars v) h.0 (chars_of c v h.1)
 
-text_proper : (c d : List (List Decl)) (v : List ℕ) → Letters One c v → AllByRecursion (OfNode One d) (text_node v)
+text_proper : (c d : List (List Decl)) (v : List ℕ) → Letters IsProperPart c v → AllByRecursion (OfNode IsProperPart d) (text_node v)
 text_proper c d [] h = tt
 text_proper c d (x ∷ v) h = (h, tt)
 
 -- ---- nodes
 
 put_proper : (c : List (List Decl)) (pos : Position) (p : List ℕ) (k : Content) (t : Tree) → off_root pos p ≡ true → Proper (scope_of_put pos p t) k → ProperIn [] t → ProperIn [] (put_at pos p (nodes_of k) t)
-put_proper c Behind p k t off h g = with-nodes One [] p (length (words.nodes_at p t)) (length (words.nodes_at p t)) (nodes_of k) t (nodes_proper (scope_at p t) k h) g
-put_proper c Prepend p k t off h g = with-nodes One [] p 0 0 (nodes_of k) t (nodes_proper (scope_at p t) k h) g
+put_proper c Behind p k t off h g = with-nodes IsProperPart [] p (length (words.nodes_at p t)) (length (words.nodes_at p t)) (nodes_of k) t (nodes_proper (scope_at p t) k h) g
+put_proper c Prepend p k t off h g = with-nodes IsProperPart [] p 0 0 (nodes_of k) t (nodes_proper (scope_at p t) k h) g
 put_proper c Before [] k t off h g = cc
-put_proper c Before (n ∷ p) k t off h g = with-nodes One [] (front (n ∷ p)) (words.own_place (n ∷ p) t) (words.own_place (n ∷ p) t) (nodes_of k) t (nodes_proper (scope_at (front (n ∷ p)) t) k h) g
+put_proper c Before (n ∷ p) k t off h g = with-nodes IsProperPart [] (parent_path (n ∷ p)) (words.own_place (n ∷ p) t) (words.own_place (n ∷ p) t) (nodes_of k) t (nodes_proper (scope_at (parent_path (n ∷ p)) t) k h) g
 put_proper c After [] k t off h g = cc
-put_proper c After (n ∷ p) k t off h g = with-nodes One [] (front (n ∷ p)) (suc (words.own_place (n ∷ p) t)) (suc (words.own_place (n ∷ p) t)) (nodes_of k) t (nodes_proper (scope_at (front (n ∷ p)) t) k h) g
+put_proper c After (n ∷ p) k t off h g = with-nodes IsProperPart [] (parent_path (n ∷ p)) (suc (words.own_place (n ∷ p) t)) (suc (words.own_place (n ∷ p) t)) (nodes_of k) t (nodes_proper (scope_at (parent_path (n ∷ p)) t) k h) g
 
 put_sound : (c : List (List Decl)) (pos : Position) (p : List ℕ) (k : Content) (t u : Tree) → Proper c k → ProperIn [] t → put_done c pos p k t ≡ Ok u → IsSound u
 put_sound c pos p k t u h g is =
@@ -168,7 +168,7 @@ put_sound c pos p k t u h g is =
 attrs_proper : (p : List ℕ) (f : List Attr → List Attr) (t : Tree)
     → ((e : Tree) → at p t ≡ Some e → IsTag (scope_at p t) e.name e.decls e.attrs → IsTag (scope_at p t) e.name e.decls (f e.attrs)) → ProperIn [] t → ProperIn [] (change_at p (with_attrs f) t)
 attrs_proper p f t keeps h =
-    Throughout-change_at One p (with_attrs f) [] t
+    Throughout-change_at IsProperPart p (with_attrs f) [] t
     (λ e there g. let own = scope_at-around p t e there in (subst (λ c. IsTag c e.name e.decls (f e.attrs)) own (keeps e there (subst (λ c. IsTag c e.name e.decls e.attrs) (sym own) g.0)), g.1)) h
 
 rewritten_all : (c : List (List Decl)) (f : Attr → Bool) (v : List ℕ) (ats : List Attr) → all_chars v ≡ true → AllByRecursion (IsAttribute c) ats → AllByRecursion (IsAttribute c) (rewritten f v ats)
@@ -389,7 +389,7 @@ replace_sound : (c : List (List Decl)) (spot : Spot) (k : Content) (t u : Tree) 
 replace_sound c (AtElement p) k t u h g is =
     let alike = means_alike c (scope_around p t) k in
     let a = given_ok (sole_element k) words.WrongNodes (λ e. made (put_over p e t) alike) u is in
-    made_sound (put_over p a.0 t) alike u a.2 (λ same. with-other One [] p a.0 t (sole_proper (scope_around p t) k a.0 a.1 (Proper-alike c (scope_around p t) k same h)) g)
+    made_sound (put_over p a.0 t) alike u a.2 (λ same. with-other IsProperPart [] p a.0 t (sole_proper (scope_around p t) k a.0 a.1 (Proper-alike c (scope_around p t) k same h)) g)
 replace_sound c (AtAttr p f) k t u h g is =
     let a = given_ok (value_in k) words.WrongNodes (λ v. made (change_at p (with_attrs (rewritten f v)) t) true) u is in
     let chars = chars_of c a.0 (value_proper c k a.0 a.1 h) in
@@ -397,7 +397,7 @@ replace_sound c (AtAttr p f) k t u h g is =
 replace_sound c (AtText p i) k t u h g is =
     let a = given_ok (value_in k) words.WrongNodes (λ v. made (change_at p (exchange_nodes i (suc i) (text_node v)) t) true) u is in
     made_sound (change_at p (exchange_nodes i (suc i) (text_node a.0)) t) true u a.2
-    (λ _. with-nodes One [] p i (suc i) (text_node a.0) t (text_proper c (scope_at p t) a.0 (value_proper c k a.0 a.1 h)) g)
+    (λ _. with-nodes IsProperPart [] p i (suc i) (text_node a.0) t (text_proper c (scope_at p t) a.0 (value_proper c k a.0 a.1 h)) g)
 
 remove_sound : (before after : Bool) (spot : Spot) (k : Content) (t u : Tree) → ProperIn [] t → remove_done before after spot k t ≡ Ok u → IsSound u
 remove_sound before after (AtElement p) k t u g is =
@@ -405,7 +405,7 @@ remove_sound before after (AtElement p) k t u g is =
     let a = tested_ok (words.is_below p) words.RootTouched (tested (words.is_bare k) words.WrongNodes (tested (words.space_fits before after p t) words.NoSpace (made new true))) u is in
     let b = tested_ok (words.is_bare k) words.WrongNodes (tested (words.space_fits before after p t) words.NoSpace (made new true)) u a.1 in
     let d = tested_ok (words.space_fits before after p t) words.NoSpace (made new true) u b.1 in
-    made_sound new true u d.1 (λ _. with-nodes One [] (front p) (words.own_place p t - words.one_if before) (suc (words.own_place p t) + words.one_if after) [] t tt g)
+    made_sound new true u d.1 (λ _. with-nodes IsProperPart [] (parent_path p) (words.own_place p t - words.one_if before) (suc (words.own_place p t) + words.one_if after) [] t tt g)
 remove_sound before after (AtAttr p f) k t u g is =
     let new = change_at p (with_attrs (remove_first f)) t in
     let a = tested_ok (words.is_bare k) words.WrongNodes (made new true) u is in
@@ -413,7 +413,7 @@ remove_sound before after (AtAttr p f) k t u g is =
 remove_sound before after (AtText p i) k t u g is =
     let new = words.cut_nodes p i (suc i) t in
     let a = tested_ok (words.is_bare k) words.WrongNodes (made new true) u is in
-    made_sound new true u a.1 (λ _. with-nodes One [] p i (suc i) [] t tt g)
+    made_sound new true u a.1 (λ _. with-nodes IsProperPart [] p i (suc i) [] t tt g)
 
 -- ---- the whole operation
 

@@ -3,7 +3,7 @@ use Rattle.std.proofs.Common.{◌≡◌, ℕ, suc, ◌+◌, ◌-◌, ◌<◌, �
 use Rattle.std.specs.Prelude.{unwrap_or}
 use Rattle.std.specs.List.{list_all}
 use Rattle.xml_tree.specs.Tree.{Content, Tree, at, height, kids, kids_of}
-use Rattle.xml_tree.specs.Edits.{change_at, cut_kid, cut_out, final, front, put_in, put_kid, put_over}
+use Rattle.xml_tree.specs.Edits.{change_at, cut_kid, cut_out, own_number, parent_path, put_in, put_kid, put_over}
 use Rattle.xml_tree.specs.Nodes.{content_of, exchange_nodes, gap_place, nodes_of, place}
 use Rattle.xml_tree.specs.Scopes.{scope_around, scope_at}
 use Rattle.xml_tree.specs.declared.names.Decl.{Decl}
@@ -68,7 +68,7 @@ cut_there n k h =
 places : (i n : ℕ) (k : Tree) → i ≡ n → exchange_nodes (i - 0) (suc i + 0) [] k ≡ exchange_nodes n (suc n) [] k
 places i n k e = let a : i - 0 ≡ n = omega arith in let b : suc i + 0 ≡ suc n = omega arith in λ x. exchange_nodes (a x) (b x) [] k
 
-pub cut_element-is : (p : List ℕ) (k t : Tree) → at (front p) t ≡ Some k → final p < length (kids_of k) → cut_element false false p t ≡ cut_out p t
+pub cut_element-is : (p : List ℕ) (k t : Tree) → at (parent_path p) t ≡ Some k → own_number p < length (kids_of k) → cut_element false false p t ≡ cut_out p t
 cut_element-is p k t there h =
-    change_at-agree (front p) (exchange_nodes (own_place p t - 0) (suc (own_place p t) + 0) []) (cut_kid (final p)) k t there
-    (places (own_place p t) (place (final p) (nodes_of k.content)) k (ap (place (final p)) (nodes_at-there (front p) k t there)) ∙ cut_there (final p) k h)
+    change_at-agree (parent_path p) (exchange_nodes (own_place p t - 0) (suc (own_place p t) + 0) []) (cut_kid (own_number p)) k t there
+    (places (own_place p t) (place (own_number p) (nodes_of k.content)) k (ap (place (own_number p)) (nodes_at-there (parent_path p) k t there)) ∙ cut_there (own_number p) k h)

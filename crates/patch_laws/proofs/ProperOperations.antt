@@ -2,12 +2,12 @@
 use Rattle.std.proofs.Common.{◌≡◌, ◌≢◌, ℕ, zero, suc, ◌≤◌, Bool, true, false, List, [], ◌∷◌, ◌++◌, length, Option, Some, None, IsSome, is_some, bytes_eq, codes, decimal, option_and_then, refl, sym, ap, ◌∙◌, subst, arith}
 use Rattle.std.specs.List.{AllByRecursion, IsDistinct, find, list_all}
 use Rattle.std.proofs.lemmas.Bool.Decides.{nat_tests}
-use Rattle.xml_tree.specs.Attributes.{valued, with_attr, is_written_so as is_named}
+use Rattle.xml_tree.specs.Attributes.{with_new_value, with_attr, is_written_so as is_named}
 use Rattle.xml_tree.specs.Characters.{all_chars, is_char, is_name, is_name_char, is_name_start}
 use Rattle.xml_tree.specs.Edits.{put_over, set_at, write_attr}
 use Rattle.xml_tree.specs.Expanded.{Expanded, attr_name, same_expanded}
 use Rattle.xml_tree.specs.Print.{print_name}
-use Rattle.xml_tree.specs.Proper.{IsAttribute, IsNamed, IsTag, Letters, One, Proper, ProperIn, is_prefix}
+use Rattle.xml_tree.specs.Proper.{IsAttribute, IsNamed, IsTag, Letters, IsProperPart, Proper, ProperIn, is_prefix}
 use Rattle.xml_tree.specs.Scopes.{bindings_in, bound, scope_around, scope_at, xml_prefix, xmlns_prefix}
 use Rattle.xml_tree.specs.Tree.{Tree, at, height, kids_of, of_kids}
 use Rattle.xml_tree.specs.declared.names.Name.{Name}
@@ -72,7 +72,7 @@ type_chars n w = qname_chars n.prefix n.local w.prefix w.local
 attr_chars : (p : List ℕ) (n : Name) → ArePositions p → IsWritten n → all_chars (attr_path_text p n) ≡ true
 attr_chars p n h w = chars-append (path_text p) (47 ∷ 64 ∷ print_name n) (path_chars p h) (type_chars n w)
 
-letters : (c : List (List Decl)) (t : List ℕ) → all_chars t ≡ true → Letters One c t
+letters : (c : List (List Decl)) (t : List ℕ) → all_chars t ≡ true → Letters IsProperPart c t
 letters c [] h = tt
 letters c (x ∷ t) h = let b = parts (is_char x) (all_chars t) h in (b.0, letters c t b.1)
 
@@ -82,7 +82,7 @@ written_value c n v [] h = h.0.value
 written_value c n v (a ∷ ats) h = by (is_named n a) refl h (written_value c n v ats)
   where
     by : (b : Bool) → is_named n a ≡ b → AllByRecursion (IsAttribute c) (with_attr n v (a ∷ ats)) → (AllByRecursion (IsAttribute c) (with_attr n v ats) → all_chars v ≡ true) → all_chars v ≡ true
-    by true e g rest = let z : AllByRecursion (IsAttribute c) (valued v a ∷ ats) = rw e at g in z.0.value
+    by true e g rest = let z : AllByRecursion (IsAttribute c) (with_new_value v a ∷ ats) = rw e at g in z.0.value
     by false e g rest = let z : AllByRecursion (IsAttribute c) (a ∷ with_attr n v ats) = rw e at g in rest z.1
 
 -- ---- tags
@@ -176,18 +176,18 @@ module _ (d : List ℕ) (p : IsDiffPrefix d) where
   proper_told t (Insert q zero e) fresh fits before small after free =
       let k = some_and (at q t) (λ x. 0 ≤ length (kids_of x)) fits in (
         sel_pos (scope_at q t) (path_text q) (codes "prepend") free (bindings_declared q t before) (path_chars q (path_positions q t small (ap is_some k.1))) refl,
-        alone_proper (scope_at q t) e (put-element One [] q 0 e t k.0 k.1 k.2 after),
+        alone_proper (scope_at q t) e (put-element IsProperPart [] q 0 e t k.0 k.1 k.2 after),
       )
   proper_told t (Insert q (suc j) e) fresh fits before small after free =
       let k = some_and (at q t) (λ x. suc j ≤ length (kids_of x)) fits in (
         sel_pos (scope_at q t) (path_text (q ++ j ∷ [])) (codes "after") free (bindings_declared q t before)
             (path_chars (q ++ j ∷ []) (path_positions (q ++ j ∷ []) t small (there_before_gap q j k.0 t k.1 k.2))) refl,
-        alone_proper (scope_at q t) e (put-element One [] q (suc j) e t k.0 k.1 k.2 after),
+        alone_proper (scope_at q t) e (put-element IsProperPart [] q (suc j) e t k.0 k.1 k.2 after),
       )
   proper_told t (Replace q e) fresh fits before small after free =
       let k = there_of (at q t) fits in (
         sel_alone (scope_around q t) (codes "replace") (path_text q) refl free (bindings_declared_around q t before) (path_chars q (path_positions q t small fits)),
-        alone_proper (scope_around q t) e (put-other One [] q e t k.0 k.1 after),
+        alone_proper (scope_around q t) e (put-other IsProperPart [] q e t k.0 k.1 after),
       )
   proper_told t (Remove q) fresh fits before small after free =
       (sel_alone (scope_around q t) (codes "remove") (path_text q) refl free (bindings_declared_around q t before) (path_chars q (path_positions q t small fits.1)), tt)

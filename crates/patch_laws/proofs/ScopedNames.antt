@@ -7,9 +7,9 @@ use Rattle.std.proofs.lemmas.Slice.Eq.{bytes_eq-Decides}
 use Rattle.xml_tree.specs.declared.names.Name.{Name}
 use Rattle.xml_tree.specs.declared.names.Decl.{Decl}
 use Rattle.xml_tree.specs.declared.names.Attr.{Attr}
-use Rattle.xml_tree.specs.Edits.{front}
+use Rattle.xml_tree.specs.Edits.{parent_path}
 use Rattle.xml_tree.specs.Expanded.{attr_name, same_expanded}
-use Rattle.xml_tree.specs.Proper.{IsAttribute, IsNamed, IsTag, One, Proper, ProperIn, is_declaration}
+use Rattle.xml_tree.specs.Proper.{IsAttribute, IsNamed, IsTag, IsProperPart, Proper, ProperIn, is_declaration}
 use Rattle.xml_tree.specs.Scopes.{AreInOrder, bindings_in, binds, joined, scope_around, scope_at}
 use Rattle.xml_tree.specs.inner.Gathering.{gathered, placed}
 use Rattle.xml_tree.specs.Tree.{Content, last, more, note, Tree, kids_of}
@@ -97,14 +97,14 @@ scope_declared (n ∷ p) c t h =
     by : (o : Option Tree) → slice_get (kids_of t) n ≡ o → ((k : Tree) → ProperIn (c ++ t.decls ∷ []) k → AllByRecursion MayStand (joined (scope_at p k)))
         → AllByRecursion MayStand (joined (unwrap_or (option_map (scope_at p) o) []))
     by None is f = tt
-    by (Some k) is f = f k (Everywhere-kid One (c ++ t.decls ∷ []) n t.content k is h.1)
+    by (Some k) is f = f k (Everywhere-kid IsProperPart (c ++ t.decls ∷ []) n t.content k is h.1)
 
 pub bindings_declared : (p : List ℕ) (t : Tree) → ProperIn [] t → AllByRecursion MayStand (bindings_in (scope_at p t))
 bindings_declared p t h = all-bindings_in MayStand (scope_at p t) (scope_declared p [] t h)
 
 pub bindings_declared_around : (p : List ℕ) (t : Tree) → ProperIn [] t → AllByRecursion MayStand (bindings_in (scope_around p t))
 bindings_declared_around [] t h = tt
-bindings_declared_around (n ∷ p) t h = bindings_declared (front (n ∷ p)) t h
+bindings_declared_around (n ∷ p) t h = bindings_declared (parent_path (n ∷ p)) t h
 
 -- ---- no prefix twice
 

@@ -9,7 +9,7 @@ use Rattle.std.specs.Cmp.Lexicographic.{texts_ties}
 use Rattle.std.specs.List.{list_any}
 use Rattle.std.specs.Set.{is_member}
 use Rattle.xml_tree.specs.Tree.{Content, last, more, note}
-use Rattle.xml_tree.specs.Edits.{before}
+use Rattle.xml_tree.specs.Edits.{with_text_before}
 use Rattle.xml_tree.specs.Nodes.{content_of}
 use Rattle.xml_tree.specs.declared.names.Decl.{Decl}
 use Rattle.xml_tree.specs.declared.tree.Node.{Node}
@@ -84,7 +84,7 @@ gains-decls ds es a b same h = subst (λ (l : List (List ℕ)). Gains l a b) (ap
 
 -- ---- nodes
 
-prefixes-before : (t : List ℕ) (k : Content) → prefixes_in (before t k) ≡ prefixes_in k
+prefixes-before : (t : List ℕ) (k : Content) → prefixes_in (with_text_before t k) ≡ prefixes_in k
 prefixes-before t (last u) = refl
 prefixes-before t (more u n ds ats c rest) = refl
 prefixes-before t (note u x rest) = refl

@@ -2,9 +2,9 @@
 use Rattle.std.specs.Prelude.{ℕ, zero, suc, ◌+◌, ◌-◌, ◌==◌, Bool, true, false, not, ◌&&◌, ◌||◌, nat_le, codes, List, [], ◌∷◌, ◌++◌, length, Option, None, Some, is_some, option_map, option_and_then, unwrap_or, slice_get, Result, Ok, Err, if◌then◌else◌, find}
 use Rattle.std.specs.List.{list_all, list_any}
 use Rattle.std.specs.Str.{bytes_eq}
-use Rattle.xml_tree.specs.Attributes.{remove_first, valued, is_written_so}
+use Rattle.xml_tree.specs.Attributes.{remove_first, with_new_value, is_written_so}
 use Rattle.xml_tree.specs.Characters.{is_name, is_space}
-use Rattle.xml_tree.specs.Edits.{change_at, final, front, put_over}
+use Rattle.xml_tree.specs.Edits.{change_at, own_number, parent_path, put_over}
 use Rattle.xml_tree.specs.Expanded.{element_name, attr_name, same_expanded}
 use Rattle.xml_tree.specs.Nodes.{exchange_nodes, is_text, nodes_of, place, text_node, text_of}
 use Rattle.xml_tree.specs.Scopes.{bindings_in, bound, scope_around, scope_at, xmlns_prefix}
@@ -218,7 +218,7 @@ nodes_at p t = unwrap_or (option_map (λ e. nodes_of e.content) (at p t)) []
 
 -- the number of the element at a path among the nodes of its parent
 abbrev pub own_place : List ℕ → Tree → ℕ
-own_place p t = place (final p) (nodes_at (front p) t)
+own_place p t = place (own_number p) (nodes_at (parent_path p) t)
 
 -- nodes put before the i-th node of the element at a path, and those from one number to before another taken out
 abbrev pub put_nodes : List ℕ → ℕ → List Node → Tree → Tree
@@ -230,8 +230,8 @@ cut_nodes p i j = change_at p (exchange_nodes i j [])
 abbrev pub put_at : Position → List ℕ → List Node → Tree → Tree
 put_at Behind p ns t = put_nodes p (length (nodes_at p t)) ns t
 put_at Prepend p ns t = put_nodes p 0 ns t
-put_at Before p ns t = put_nodes (front p) (own_place p t) ns t
-put_at After p ns t = put_nodes (front p) (suc (own_place p t)) ns t
+put_at Before p ns t = put_nodes (parent_path p) (own_place p t) ns t
+put_at After p ns t = put_nodes (parent_path p) (suc (own_place p t)) ns t
 
 -- how many nodes white space takes
 abbrev pub one_if : Bool → ℕ
@@ -239,7 +239,7 @@ one_if true = 1
 one_if false = 0
 
 abbrev pub cut_element : Bool → Bool → List ℕ → Tree → Tree
-cut_element before after p t = let i = own_place p t in cut_nodes (front p) (i - one_if before) (suc i + one_if after) t
+cut_element before after p t = let i = own_place p t in cut_nodes (parent_path p) (i - one_if before) (suc i + one_if after) t
 
 abbrev pub with_attrs : (List Attr → List Attr) → Tree → Tree
 with_attrs f e = record e { attrs = f e.attrs }
@@ -250,7 +250,7 @@ attr_of name value = record { name = name; value = value }
 -- the first attribute that passes gets the value; there is one
 abbrev pub rewritten : (Attr → Bool) → List ℕ → List Attr → List Attr
 rewritten f v [] = []
-rewritten f v (a ∷ ats) = if f a then (valued v a ∷ ats) else (a ∷ rewritten f v ats)
+rewritten f v (a ∷ ats) = if f a then (with_new_value v a ∷ ats) else (a ∷ rewritten f v ats)
 
 -- the white space that a `remove` takes is there: the node of that number is a text of white space alone
 abbrev pub is_space_at : ℕ → List Node → Bool
@@ -262,7 +262,7 @@ space_before (suc i) ns = is_space_at i ns
 
 abbrev pub space_fits : Bool → Bool → List ℕ → Tree → Bool
 space_fits before after p t =
-    let ns = nodes_at (front p) t in let i = own_place p t in (not before || space_before i ns) && (not after || is_space_at (suc i) ns)
+    let ns = nodes_at (parent_path p) t in let i = own_place p t in (not before || space_before i ns) && (not after || is_space_at (suc i) ns)
 
 -- ---- names that mean the same at the operation and at its place
 

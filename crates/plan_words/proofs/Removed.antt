@@ -2,7 +2,7 @@
 use Rattle.std.proofs.Common.{◌≡◌, ◌⊎◌, ◌↔◌, inl, inr, ℕ, zero, suc, ◌<◌, ◌≤◌, List, [], ◌∷◌, ◌++◌, remove, Some, option_and_then, slice_get, refl, sym, ap, ◌∙◌, subst, append_assoc, arith}
 use Rattle.std.proofs.lemmas.Bool.{cases_lt}
 use Rattle.xml_tree.specs.Tree.{Content, last, more, note, Tree, kids_of, at}
-use Rattle.xml_tree.specs.Edits.{before, cut, cut_kid, take_in}
+use Rattle.xml_tree.specs.Edits.{with_text_before, cut, cut_kid, take_in}
 use Rattle.xml_tree.specs.Scopes.{scope_at}
 use Rattle.xml_tree.proofs.PlaceLaws.{kids-cut}
 use Rattle.xml_tree.proofs.ScopeLemmas.{scope_at-below}
@@ -22,7 +22,7 @@ use Rattle.plan_words.proofs.StaysSelected.{stays_selected, last_step_after}
 
 -- ---- constraints
 
-text_before : (t : List ℕ) (rest : Content) → text_of (before t rest) ≡ t ++ text_of rest
+text_before : (t : List ℕ) (rest : Content) → text_of (with_text_before t rest) ≡ t ++ text_of rest
 text_before t (last u) = refl
 text_before t (more u n ds ats k rest) = append_assoc t u (text_of rest)
 text_before t (note u x rest) = append_assoc t u (text_of rest)
@@ -34,7 +34,7 @@ text_cut (suc i) (more t n ds ats k rest) = ap (λ s. t ++ s) (text_cut i rest)
 text_cut i (note t x rest) = ap (λ s. t ++ s) (text_cut i rest)
 
 module _ (row : Kind) (c : Scope) where
-  formed_before : (t : List ℕ) (rest : Content) → AllFormed row c rest → AllFormed row c (before t rest)
+  formed_before : (t : List ℕ) (rest : Content) → AllFormed row c rest → AllFormed row c (with_text_before t rest)
   formed_before t (last u) h = h
   formed_before t (more u n ds ats k rest) h = h
   formed_before t (note u x rest) h = h

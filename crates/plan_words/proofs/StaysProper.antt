@@ -10,11 +10,11 @@ use Rattle.step_laws.specs.Places.{PlanIs}
 use Rattle.doc_names.specs.declared.usages.Usage.{Usage}
 use Rattle.xml_tree.specs.Characters.{all_chars, is_name}
 use Rattle.xml_tree.specs.Tree.{Tree, at, height, kids_of, tree_of}
-use Rattle.xml_tree.specs.Attributes.{remove_first, same_name, valued, with_attr, without_attr}
+use Rattle.xml_tree.specs.Attributes.{remove_first, same_name, with_new_value, with_attr, without_attr}
 use Rattle.xml_tree.specs.Attributes as attributes
-use Rattle.xml_tree.specs.Edits.{change_at, drop_attr, final, front, put_in, write_attr}
+use Rattle.xml_tree.specs.Edits.{change_at, drop_attr, own_number, parent_path, put_in, write_attr}
 use Rattle.xml_tree.specs.Expanded.{Expanded, attr_name, same_expanded, same_uri}
-use Rattle.xml_tree.specs.Proper.{IsAttribute, IsTag, One, ProperIn, is_declaration, is_prefix, may_stand}
+use Rattle.xml_tree.specs.Proper.{IsAttribute, IsTag, IsProperPart, ProperIn, is_declaration, is_prefix, may_stand}
 use Rattle.xml_tree.specs.Scopes.{bound, declared, joined, scope_around, scope_at, some_text, xml_prefix}
 use Rattle.xml_tree.specs.declared.names.Name.{Name}
 use Rattle.xml_tree.specs.declared.names.Attr.{Attr}
@@ -62,14 +62,14 @@ over_leaves t steps p e there proper low new room =
     let old = some_there (at p t) there in
     record {
       fits = there;
-      proper = with-other One [] p e t new proper;
+      proper = with-other IsProperPart [] p e t new proper;
       low = let h = height-put_over p e old.0 t old.1 in omega (arith, h, low, room);
     }
 
 under_leaves : (t : Tree) (q : List ℕ) (gap : ℕ) (e parent : Tree) → at q t ≡ Some parent → gap ≤ length (kids_of parent) → ProperIn [] t → height t ≤ 64 → ProperIn (scope_at q t) e → length q + suc (height e) ≤ 64 → LeavesProper t (Insert q gap e)
 under_leaves t q gap e parent there le proper low new room = record {
   fits = fits_under (at q t) parent gap there le;
-  proper = with-element One [] q gap e t new proper;
+  proper = with-element IsProperPart [] q gap e t new proper;
   low = let h = height-put_in q gap e parent t there le in omega (arith, h, low, room);
 }
 
@@ -107,7 +107,7 @@ unfolding AllDeclared
 scope_declared [] c t e there h = declared_more t.decls [] h.0.declarations tt
 scope_declared (n ∷ p) c t e there h =
     let k = through_kid n p t e there in
-    let rest = scope_declared p (c ++ t.decls ∷ []) k.0 e k.1.1 (Everywhere-kid One (c ++ t.decls ∷ []) n t.content k.0 k.1.0 h.1) in
+    let rest = scope_declared p (c ++ t.decls ∷ []) k.0 e k.1.1 (Everywhere-kid IsProperPart (c ++ t.decls ∷ []) n t.content k.0 k.1.0 h.1) in
     subst (λ (o : Option Tree). AllDeclared (joined (t.decls ∷ unwrap_or (option_map (scope_at p) o) []))) (sym k.1.0) (declared_more t.decls (joined (scope_at p k.0)) h.0.declarations rest)
 
 first_holds : (a b : Bool) → IsTrue (a && b) → IsTrue a
@@ -360,7 +360,7 @@ last_passes c uri local n v (x ∷ ats) a none h = by (is_attr c uri local x) re
     by true e d f rest = let z : Some x ≡ None = rw e at none in cc
     by false e true f rest =
         let none' : find (is_attr c uri local) ats ≡ None = rw e at none in
-        let h' : find (is_attr c uri local) (valued v x ∷ ats) ≡ Some a = rw f at h in
+        let h' : find (is_attr c uri local) (with_new_value v x ∷ ats) ≡ Some a = rw f at h in
         let h'' : find (is_attr c uri local) ats ≡ Some a = rw e at h' in
         let z : None ≡ Some a = sym none' ∙ h'' in cc
     by false e false f rest =
@@ -378,7 +378,7 @@ retagged_low p f e t there same low = let h = height-bounded p (height e) f e t 
 -- an element whose tag is exchanged for another one that may stand there
 retagged_proper : (p : List ℕ) (f : Tree → Tree) (ats : List Attr) (e t : Tree) → at p t ≡ Some e → f e ≡ tree_of e.name e.decls ats e.content → ProperIn [] t
     → (IsTag (scope_at p t) e.name e.decls e.attrs → IsTag (scope_at p t) e.name e.decls ats) → ProperIn [] (change_at p f t)
-retagged_proper p f ats e t there is proper keeps = Throughout-change_at One p f [] t (λ x there_x h. by x (same_Some e x (sym there ∙ there_x)) h) proper
+retagged_proper p f ats e t there is proper keeps = Throughout-change_at IsProperPart p f [] t (λ x there_x h. by x (same_Some e x (sym there ∙ there_x)) h) proper
   where
     scope : scope_at p t ≡ scope_around p t ++ e.decls ∷ []
     scope = scope_at-around p t e there
@@ -414,20 +414,20 @@ written_leaves u t steps uri local p value plan h proper low may chars =
 
 -- ---- DELETE
 
-front_there : (n : ℕ) (p : List ℕ) (t e : Tree) → at (n ∷ p) t ≡ Some e → (k : Tree) × (at (front (n ∷ p)) t ≡ Some k)
+front_there : (n : ℕ) (p : List ℕ) (t e : Tree) → at (n ∷ p) t ≡ Some e → (k : Tree) × (at (parent_path (n ∷ p)) t ≡ Some k)
 front_there n [] t e there = (t, refl)
 front_there n (m ∷ p) t e there =
     let k = through_kid n (m ∷ p) t e there in
     let below = front_there m p k.0 e k.1.1 in
-    (below.0, ap (option_and_then (at (front (m ∷ p)))) k.1.0 ∙ below.1)
+    (below.0, ap (option_and_then (at (parent_path (m ∷ p)))) k.1.0 ∙ below.1)
 
 removal_leaves : (n : ℕ) (p : List ℕ) (t e : Tree) → at (n ∷ p) t ≡ Some e → ProperIn [] t → height t ≤ 64 → LeavesProper t (Remove (n ∷ p))
 removal_leaves n p t e there proper low =
     let k = front_there n p t e there in
     record {
       fits = (omega arith, subst (λ (o : Option Tree). IsSome o) (sym there) refl);
-      proper = without One [] (n ∷ p) t proper;
-      low = let h = height-take_in (front (n ∷ p)) (final (n ∷ p)) k.0 t k.1 in omega (arith, h, low);
+      proper = without IsProperPart [] (n ∷ p) t proper;
+      low = let h = height-take_in (parent_path (n ∷ p)) (own_number (n ∷ p)) k.0 t k.1 in omega (arith, h, low);
     }
 
 attrs_without : (c : List (List Decl)) (test : Attr → Bool) (ats : List Attr) → AllByRecursion (IsAttribute c) ats → AllByRecursion (IsAttribute c) (remove_first test ats)

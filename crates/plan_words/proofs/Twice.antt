@@ -8,7 +8,7 @@ use Rattle.step_laws.specs.Places.{PlanIs}
 use Rattle.step_laws.proofs.Inserted.{get-insert_at}
 use Rattle.doc_names.specs.declared.usages.Usage.{Usage}
 use Rattle.xml_tree.specs.Tree.{Tree, at, kids_of, tree_of}
-use Rattle.xml_tree.specs.Attributes.{same_name, valued, with_attr}
+use Rattle.xml_tree.specs.Attributes.{same_name, with_new_value, with_attr}
 use Rattle.xml_tree.specs.Attributes as attributes
 use Rattle.xml_tree.specs.Edits.{put_in, put_kid, put_over, set_at, write_attr}
 use Rattle.xml_tree.specs.Scopes.{scope_at}
@@ -196,7 +196,7 @@ module _ (c : List (List Decl)) (uri local : List ℕ) (n : Name) (v : List ℕ)
   kept_found (x ∷ ats) a h is = by (means x) refl (attributes.is_written_so n x) refl (kept_found ats a)
     where
       by : (b : Bool) → means x ≡ b → (d : Bool) → attributes.is_written_so n x ≡ d → (find means ats ≡ Some a → a.name ≡ n → (b : Attr) × (find means (with_attr n v ats) ≡ Some b) × (b.name ≡ n)) → (b : Attr) × (find means (with_attr n v (x ∷ ats)) ≡ Some b) × (b.name ≡ n)
-      by true e true d rest = (valued v x, rw d (rw e refl), alike_named x.name n d)
+      by true e true d rest = (with_new_value v x, rw d (rw e refl), alike_named x.name n d)
       by true e false d rest =
           let same : x ≡ a = same_Some x a (rw e at h) in
           let z : IsTrue (same_name x.name n) = subst (λ (m : Name). IsTrue (same_name x.name m)) (ap (λ (y : Attr). y.name) same ∙ is) (named_alike x.name) in
@@ -222,7 +222,7 @@ module _ (c : List (List Decl)) (uri local : List ℕ) (n : Name) (v : List ℕ)
       by true e d e' rest = let z : Some x ≡ None = rw e at none in cc
       by false e true d rest =
           let none' : find means ats ≡ None = rw e at none in
-          let h' : find means (valued v x ∷ ats) ≡ Some b = rw d at h in
+          let h' : find means (with_new_value v x ∷ ats) ≡ Some b = rw d at h in
           let h'' : find means ats ≡ Some b = rw e at h' in
           let z : None ≡ Some b = sym none' ∙ h'' in cc
       by false e false d rest =

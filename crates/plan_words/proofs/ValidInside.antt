@@ -3,7 +3,7 @@ use Rattle.std.proofs.Common.{◌≡◌, ◌↔◌, ℕ, zero, suc, List, [], �
 use Rattle.std.proofs.lemmas.Option.{same_Some}
 use Rattle.std.specs.Option.{ForSome}
 use Rattle.xml_tree.specs.Tree.{Content, last, more, note, more_of, Tree, tree_of, kids, kids_of, at}
-use Rattle.xml_tree.specs.Edits.{before, change, change_at, change_kid, cut, cut_kid, put_over, take_in}
+use Rattle.xml_tree.specs.Edits.{with_text_before, change, change_at, change_kid, cut, cut_kid, put_over, take_in}
 use Rattle.xml_tree.specs.Scopes.{scope_at, scope_below, inside}
 use Rattle.xml_tree.proofs.PlaceLaws.{change_at-append}
 use Rattle.xml_tree.proofs.ScopeLemmas.{scope_at-below}
@@ -127,12 +127,12 @@ module _ (row : Kind) (c : Scope) where
   first_follows (more t n ds ats k rest) b v = v.1
   first_follows (note t x rest) b v = first_follows rest b v.1
 
-  join_from : (t : List ℕ) (rest : Content) (b : ℕ) → IsTrue (text_passes row t) → Walks row c b rest → Walks row c b (before t rest)
+  join_from : (t : List ℕ) (rest : Content) (b : ℕ) → IsTrue (text_passes row t) → Walks row c b rest → Walks row c b (with_text_before t rest)
   join_from t (last u) b p v = ((passes_append row t u).1 (p, v.0), v.1)
   join_from t (more u n ds ats k rest) b p v = ((passes_append row t u).1 (p, v.0), v.1, v.2, v.3)
   join_from t (note u x rest) b p v = ((passes_append row t u).1 (p, v.0), v.1)
 
-  join_to : (t : List ℕ) (rest : Content) (b : ℕ) → Walks row c b (before t rest) → Walks row c b rest
+  join_to : (t : List ℕ) (rest : Content) (b : ℕ) → Walks row c b (with_text_before t rest) → Walks row c b rest
   join_to t (last u) b v = (((passes_append row t u).0 v.0).1, v.1)
   join_to t (more u n ds ats k rest) b v = (((passes_append row t u).0 v.0).1, v.1, v.2, v.3)
   join_to t (note u x rest) b v = (((passes_append row t u).0 v.0).1, v.1)

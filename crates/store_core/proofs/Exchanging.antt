@@ -12,8 +12,8 @@ use Rattle.edit_ops.specs.Changes.{Fits, edited}
 use Rattle.edit_ops.specs.declared.change.Change.{Change}
 use Rattle.edit_ops.specs.declared.change.Change.TheVariants.{CreateDocument, Insert, Replace, Remove, SetAttr, DropAttr, RemoveDocument}
 use Rattle.xml_tree.specs.Attributes.{change_item}
-use Rattle.xml_tree.specs.Edits.{change_at, change_kid, cut_kid, drop_attr, final, front, put_kid, write_attr}
-use Rattle.xml_tree.specs.Proper.{One, ProperIn}
+use Rattle.xml_tree.specs.Edits.{change_at, change_kid, cut_kid, drop_attr, own_number, parent_path, put_kid, write_attr}
+use Rattle.xml_tree.specs.Proper.{IsProperPart, ProperIn}
 use Rattle.xml_tree.specs.Scopes.{inside}
 use Rattle.xml_tree.specs.Tree.{Tree, at, kids_of}
 use Rattle.xml_tree.specs.declared.names.Name.{Name}
@@ -234,7 +234,7 @@ module _ (t : Tree) (i : ℕ) (k : Tree) (there : slice_get (kids_of t) i ≡ So
   dropped-kid : ProperIn [] t → (b : Bool) → is_uri n ≡ b → Schema usages.RlsServices (change_kid i (drop_attr n) t) → service_uris t ≡ service_uris (change_kid i (drop_attr n) t)
   dropped-kid proper true e new =
       let f = drop_attr n in
-      let tag = (Everywhere-kid One (t.decls ∷ []) i t.content k there proper.1).0 in
+      let tag = (Everywhere-kid IsProperPart (t.decls ∷ []) i t.content k there proper.1).0 in
       let then : Serves (t.decls ∷ []) (f k) = served t i k there old f new in
       absurd (nothing (value_of Uri (f k).attrs) then.1.0 (uri-dropped (inside (t.decls ∷ []) k) n k.attrs e tag.names) then.1.1)
   dropped-kid proper false e new = kept-kid t i k there old (drop_attr n) new (other-dropped n e k.attrs)
@@ -262,9 +262,9 @@ services-exchanged t (Remove (i ∷ [])) fits proper old new =
     (any-place i 0 (service_uris t) (address kid.0) (service_uris (cut_kid i t)) (removed-kid t i kid.0 kid.1 old new))
 services-exchanged t (Remove (i ∷ j ∷ q)) fits proper old new =
     let kid = there-below (at (j ∷ q)) (slice_get (kids_of t) i) fits.1 in
-    let f = cut_kid (final (j ∷ q)) in
+    let f = cut_kid (own_number (j ∷ q)) in
     none-exchanged 0 (service_uris t) (service_uris (edited t (Remove (i ∷ j ∷ q))))
-    (kept-attrs t i kid.0 kid.1 old (change_at (front (j ∷ q)) f) new (same-attrs (front (j ∷ q)) f (λ x. refl) kid.0))
+    (kept-attrs t i kid.0 kid.1 old (change_at (parent_path (j ∷ q)) f) new (same-attrs (parent_path (j ∷ q)) f (λ x. refl) kid.0))
 services-exchanged t (SetAttr [] n v) fits proper old new = none-either (is_uri n) 0 (service_uris t) (service_uris t) refl
 services-exchanged t (SetAttr (i ∷ []) n v) fits proper old new =
     let kid = there-below (at []) (slice_get (kids_of t) i) fits in

@@ -6,7 +6,7 @@ use Rattle.std.specs.List.{AllByRecursion, IsDistinct}
 use Rattle.std.specs.Option.{ForSome, option_map_or}
 use Rattle.std.specs.Str.{bytes_eq}
 use Rattle.doc_names.specs.declared.usages.Usage.TheVariants as usages
-use Rattle.xml_tree.specs.Attributes.{is_written_so, valued, with_attr, without_attr}
+use Rattle.xml_tree.specs.Attributes.{is_written_so, with_new_value, with_attr, without_attr}
 use Rattle.xml_tree.specs.Expanded.{Expanded, attr_name, same_expanded}
 use Rattle.xml_tree.specs.Scopes.{bound, inside}
 use Rattle.xml_tree.specs.Tree.{Content, last, more, note, Tree, kids, kids_of}
@@ -138,10 +138,10 @@ module _ (n : Name) (v : List ℕ) where
   written-other other (a ∷ ats) = by (is_written_so n a) refl (written-other other ats)
     where
       by : (b : Bool) → is_written_so n a ≡ b → find (is_key Uri) (with_attr n v ats) ≡ find (is_key Uri) ats
-          → find (is_key Uri) (cond b (valued v a ∷ ats) (a ∷ with_attr n v ats)) ≡ find (is_key Uri) (a ∷ ats)
+          → find (is_key Uri) (cond b (with_new_value v a ∷ ats) (a ∷ with_attr n v ats)) ≡ find (is_key Uri) (a ∷ ats)
       by true e ih =
           let not-it = tested n a e ∙ other in
-          skip (is_key Uri a) (valued v a) (find (is_key Uri) ats) not-it ∙ sym (skip (is_key Uri a) a (find (is_key Uri) ats) not-it)
+          skip (is_key Uri a) (with_new_value v a) (find (is_key Uri) ats) not-it ∙ sym (skip (is_key Uri a) a (find (is_key Uri) ats) not-it)
       by false e ih = ap (cond (is_key Uri a) (Some a)) ih
 
   abbrev value : Option Attr → Option (List ℕ)
@@ -152,8 +152,8 @@ module _ (n : Name) (v : List ℕ) where
   written-so same (a ∷ ats) = by (is_written_so n a) refl (written-so same ats)
     where
       by : (b : Bool) → is_written_so n a ≡ b → value (find (is_key Uri) (with_attr n v ats)) ≡ Some v
-          → value (find (is_key Uri) (cond b (valued v a ∷ ats) (a ∷ with_attr n v ats))) ≡ Some v
-      by true e ih = ap value (hit (is_key Uri a) (valued v a) (find (is_key Uri) ats) (tested n a e ∙ same))
+          → value (find (is_key Uri) (cond b (with_new_value v a ∷ ats) (a ∷ with_attr n v ats))) ≡ Some v
+      by true e ih = ap value (hit (is_key Uri a) (with_new_value v a) (find (is_key Uri) ats) (tested n a e ∙ same))
       by false e ih = ap value (skip (is_key Uri a) a (find (is_key Uri) (with_attr n v ats)) (sym (same-test n a same) ∙ e)) ∙ ih
 
   -- what is written as another attribute leaves the address, and what is written as this one is it

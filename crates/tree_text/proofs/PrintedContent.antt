@@ -5,7 +5,7 @@ use Rattle.std.specs.List.{list_all, AllByRecursion}
 use Rattle.grammar_rules.specs.Reading.{Stop, Reader, ◌>>=◌, head_is, starts, read_up_to, read_valued}
 use Rattle.xml_tree.specs.Characters.{is_char, is_name_start}
 use Rattle.xml_tree.specs.Comments.{is_kept_char, hyphens_apart, is_comment}
-use Rattle.xml_tree.specs.Edits.{before, with_text, with_elem, with_comment}
+use Rattle.xml_tree.specs.Edits.{with_text_before, with_text, with_elem, with_comment}
 use Rattle.xml_tree.specs.Print.{print_comment, print_text, text_escape}
 use Rattle.xml_tree.specs.Tree.{Content, last, more, note, more_of, Tree}
 use Rattle.tree_text.specs.readers.Words.{comment_start, dashes, section_end, greater}
@@ -34,29 +34,29 @@ no_mark m d f t = by (nat_eq m d) refl
 
 -- ---- content put together from left to right, with a text before it
 
-text-before : (s t : List ℕ) (k : Content) → with_text s (before t k) ≡ before t (with_text s k)
+text-before : (s t : List ℕ) (k : Content) → with_text s (with_text_before t k) ≡ with_text_before t (with_text s k)
 text-before s t (last u) = ap last (append_assoc t u s)
 text-before s t (more u n ds ats c rest) = refl
 text-before s t (note u x rest) = refl
 
-elem-before : (e : Tree) (t : List ℕ) (k : Content) → with_elem e (before t k) ≡ before t (with_elem e k)
+elem-before : (e : Tree) (t : List ℕ) (k : Content) → with_elem e (with_text_before t k) ≡ with_text_before t (with_elem e k)
 elem-before e t (last u) = refl
 elem-before e t (more u n ds ats c rest) = refl
 elem-before e t (note u x rest) = refl
 
-comment-before : (s t : List ℕ) (k : Content) → with_comment s (before t k) ≡ before t (with_comment s k)
+comment-before : (s t : List ℕ) (k : Content) → with_comment s (with_text_before t k) ≡ with_text_before t (with_comment s k)
 comment-before s t (last u) = refl
 comment-before s t (more u n ds ats c rest) = refl
 comment-before s t (note u x rest) = refl
 
-markup-before : (m : Markup) (t : List ℕ) (k : Content) → with_markup m (before t k) ≡ before t (with_markup m k)
+markup-before : (m : Markup) (t : List ℕ) (k : Content) → with_markup m (with_text_before t k) ≡ with_text_before t (with_markup m k)
 markup-before (Reference c) t k = text-before (c ∷ []) t k
 markup-before (Section cs) t k = text-before cs t k
 markup-before (Comment cs) t k = comment-before cs t k
 markup-before Instruction t k = refl
 markup-before (Inner e) t k = elem-before e t k
 
-pieces-before : (ps : List (Markup × List ℕ)) (t : List ℕ) (k : Content) → with_pieces (before t k) ps ≡ before t (with_pieces k ps)
+pieces-before : (ps : List (Markup × List ℕ)) (t : List ℕ) (k : Content) → with_pieces (with_text_before t k) ps ≡ with_text_before t (with_pieces k ps)
 pieces-before [] t k = refl
 pieces-before ((m, cs) ∷ ps) t k =
     ap (λ (z : Content). with_pieces (with_text cs z) ps) (markup-before m t k) ∙ ap (λ (z : Content). with_pieces z ps) (text-before cs t (with_markup m k))
@@ -78,12 +78,12 @@ pieces-note ((Comment s, cs) ∷ ps) x k = pieces-note ps x (with_text cs (with_
 pieces-note ((Instruction, cs) ∷ ps) x k = pieces-note ps x (with_text cs k)
 pieces-note ((Inner t, cs) ∷ ps) x k = pieces-note ps x (with_text cs (with_markup (Inner t) k))
 
-before-none : (k : Content) → before [] k ≡ k
+before-none : (k : Content) → with_text_before [] k ≡ k
 before-none (last u) = refl
 before-none (more u n ds ats c rest) = refl
 before-none (note u x rest) = refl
 
-before-cons : (c : ℕ) (t : List ℕ) (k : Content) → before (c ∷ []) (before t k) ≡ before (c ∷ t) k
+before-cons : (c : ℕ) (t : List ℕ) (k : Content) → with_text_before (c ∷ []) (with_text_before t k) ≡ with_text_before (c ∷ t) k
 before-cons c t (last u) = refl
 before-cons c t (more u n ds ats k rest) = refl
 before-cons c t (note u x rest) = refl
@@ -162,7 +162,7 @@ module _ (inner : Reader Kind Tree) where
   pub content_none : (rest : List ℕ) → IsContent (60 ∷ 47 ∷ rest) (last []) (60 ∷ 47 ∷ rest)
   content_none rest = record { first = []; pieces = []; between = between_none (60 ∷ 47 ∷ rest) (record { read = refl }) refl; spelled = refl; no_greater = refl; no_end = refl }
 
-  content_raw : (c : ℕ) (text : List ℕ) (k : Content) (tail : List ℕ) → plain_text c ≡ true → IsContent text k tail → IsContent (c ∷ text) (before (c ∷ []) k) tail
+  content_raw : (c : ℕ) (text : List ℕ) (k : Content) (tail : List ℕ) → plain_text c ≡ true → IsContent text k tail → IsContent (c ∷ text) (with_text_before (c ∷ []) k) tail
   content_raw c text k tail p h =
       let a = both (is_raw c) (not (c == 13) && not (c == 62)) p in
       let b = both (not (c == 13)) (not (c == 62)) a.1 in
@@ -170,7 +170,7 @@ module _ (inner : Reader Kind Tree) where
         first = c ∷ h.first;
         pieces = h.pieces;
         between = record { next = between.next; first = more_chars c text h.first between.next p h.no_end between.first; shorter = (let le = between.shorter in omega (arith, le)); members = between.members };
-        spelled = pieces-before h.pieces (c ∷ []) (last h.first) ∙ ap (before (c ∷ [])) h.spelled;
+        spelled = pieces-before h.pieces (c ∷ []) (last h.first) ∙ ap (with_text_before (c ∷ [])) h.spelled;
         no_greater = rw (same_test 62 c) (hyphen_by (c == 62) true b.1);
         no_end = cond_false (nat_eq 93 c) (starts (62 ∷ []) text) (λ _. h.no_greater);
       }
@@ -188,26 +188,26 @@ module _ (inner : Reader Kind Tree) where
         no_end = ap (starts (93 ∷ 62 ∷ [])) e;
       }
 
-  content_reference : (text after : List ℕ) (c : ℕ) (next : List ℕ) (k : Content) (tail : List ℕ) → text ≡ (38 ∷ after) ++ next → Reads read_reference text c next → IsContent next k tail → IsContent text (before (c ∷ []) k) tail
+  content_reference : (text after : List ℕ) (c : ℕ) (next : List ℕ) (k : Content) (tail : List ℕ) → text ≡ (38 ∷ after) ++ next → Reads read_reference text c next → IsContent next k tail → IsContent text (with_text_before (c ∷ []) k) tail
   content_reference text after c next k tail e r h =
       let gap : Reads read_chars (38 ∷ (after ++ next)) [] (38 ∷ (after ++ next)) = record { read = refl } in record {
         first = [];
         pieces = (Reference c, h.first) ∷ h.pieces;
         between = between_more (subst (λ (z : List ℕ). Reads read_chars z [] z) (sym e) gap) (ap markup_follows e) (reads_left (head_is (λ d. d == 38)) _ (ap (head_is (λ d. d == 38)) e) (reads_valued Reference r)) (longer text after next 38 e) h.between;
-        spelled = pieces-before h.pieces (c ∷ []) (last h.first) ∙ ap (before (c ∷ [])) h.spelled;
+        spelled = pieces-before h.pieces (c ∷ []) (last h.first) ∙ ap (with_text_before (c ∷ [])) h.spelled;
         no_greater = ap (starts (62 ∷ [])) e;
         no_end = ap (starts (93 ∷ 62 ∷ [])) e;
       }
 
-  pub content_text : (t text : List ℕ) (k : Content) (tail : List ℕ) → AllByRecursion (λ (x : ℕ). IsTrue (is_char x)) t → IsContent text k tail → IsContent (print_text t ++ text) (before t k) tail
+  pub content_text : (t text : List ℕ) (k : Content) (tail : List ℕ) → AllByRecursion (λ (x : ℕ). IsTrue (is_char x)) t → IsContent text k tail → IsContent (print_text t ++ text) (with_text_before t k) tail
   content_text [] text k tail h i = subst (λ (z : Content). IsContent text z tail) (sym (before-none k)) i
   content_text (c ∷ t) text k tail h i =
       let later = content_text t text k tail h.1 i in
-      let one = content_char c (text_escape c) (print_text t ++ text) (before t k) tail (text_stands c h.0) later in
-      subst (λ (z : List ℕ). IsContent z (before (c ∷ t) k) tail) (sym (append_assoc (text_escape c) (print_text t) text)) (subst (λ (z : Content). IsContent (text_escape c ++ (print_text t ++ text)) z tail) (before-cons c t k) one)
+      let one = content_char c (text_escape c) (print_text t ++ text) (with_text_before t k) tail (text_stands c h.0) later in
+      subst (λ (z : List ℕ). IsContent z (with_text_before (c ∷ t) k) tail) (sym (append_assoc (text_escape c) (print_text t) text)) (subst (λ (z : Content). IsContent (text_escape c ++ (print_text t ++ text)) z tail) (before-cons c t k) one)
     where
-      content_char : (c : ℕ) (w next : List ℕ) (k : Content) (tail : List ℕ) → Stands plain_text c w → IsContent next k tail → IsContent (w ++ next) (before (c ∷ []) k) tail
-      content_char c w next k tail (as_it_is e p) h = subst (λ (z : List ℕ). IsContent (z ++ next) (before (c ∷ []) k) tail) (sym e) (content_raw c next k tail p h)
+      content_char : (c : ℕ) (w next : List ℕ) (k : Content) (tail : List ℕ) → Stands plain_text c w → IsContent next k tail → IsContent (w ++ next) (with_text_before (c ∷ []) k) tail
+      content_char c w next k tail (as_it_is e p) h = subst (λ (z : List ℕ). IsContent (z ++ next) (with_text_before (c ∷ []) k) tail) (sym e) (content_raw c next k tail p h)
       content_char c w next k tail (as_reference after e r) h = content_reference (w ++ next) after c next k tail (ap (λ (z : List ℕ). z ++ next) e) (r next) h
 
   pub content_note : (x next : List ℕ) (k : Content) (tail : List ℕ) → is_comment x ≡ true → IsContent next k tail → IsContent (print_comment x ++ next) (note [] x k) tail

@@ -2,7 +2,7 @@
 use Rattle.std.proofs.Common.{◌≡◌, ℕ, zero, suc, ◌+◌, ◌<◌, ◌≤◌, Bool, true, false, cond, List, [], ◌∷◌, ◌++◌, length, None, refl, sym, ap, subst, ◌∙◌, append_assoc, append-nil, flat_map, length-append, arith}
 use Rattle.grammar_rules.specs.Reading.{Reader}
 use Rattle.xml_tree.specs.Characters.{is_name_start, is_space}
-use Rattle.xml_tree.specs.Edits.{before}
+use Rattle.xml_tree.specs.Edits.{with_text_before}
 use Rattle.xml_tree.specs.Print.{opening, ending, closing, is_empty, print, print_attr, print_content, print_decl, print_name, print_text, print_comment}
 use Rattle.xml_tree.specs.Proper.{IsTag, Proper, ProperIn}
 use Rattle.xml_tree.specs.Scopes.{bound, xmlns_prefix}
@@ -100,7 +100,7 @@ content_read (more t n ds ats k others) scope (suc levels) depth rest u h le =
     let shorter : length after < length (elem ++ after) = (let m = ap length begins.2 in let l = length-append elem after in let f = filled n ds ats (ending n (is_empty k) (print_content k)) in omega (arith, l, f)) in
     let all = content_text inner t (elem ++ after) _ tail h.0 (content_elem inner (elem ++ after) begins.0 begins.1 (tree_of n ds ats k) after others tail begins.2 begins.3 read shorter later) in
     let whole : print_content (more t n ds ats k others) ++ tail ≡ print_text t ++ (elem ++ after) = append_assoc (print_text t) (elem ++ print_content others) tail ∙ ap (λ (z : List ℕ). print_text t ++ z) (append_assoc elem (print_content others) tail) in
-    let joined : before t (more [] n ds ats k others) ≡ more t n ds ats k others = ap (λ (z : List ℕ). more z n ds ats k others) (append-nil t) in
+    let joined : with_text_before t (more [] n ds ats k others) ≡ more t n ds ats k others = ap (λ (z : List ℕ). more z n ds ats k others) (append-nil t) in
     subst (λ (z : List ℕ). IsContent inner z (more t n ds ats k others) tail) (sym whole) (subst (λ (z : Content). IsContent inner (print_text t ++ (elem ++ after)) z tail) joined all)
   where
     filled : (n : Name) (ds : List Decl) (ats : List Attr) (rest : List ℕ) → 0 < length (opening n ds ats ++ rest)
@@ -111,7 +111,7 @@ content_read (note t x others) scope levels depth rest u h le =
     let after = print_content others ++ tail in
     let all = content_text inner t (print_comment x ++ after) (note [] x others) tail h.0 (content_note inner x after others tail h.1 (content_read others scope levels depth rest u h.2 le)) in
     let whole : print_content (note t x others) ++ tail ≡ print_text t ++ (print_comment x ++ after) = append_assoc (print_text t) (print_comment x ++ print_content others) tail ∙ ap (λ (z : List ℕ). print_text t ++ z) (append_assoc (print_comment x) (print_content others) tail) in
-    let joined : before t (note [] x others) ≡ note t x others = ap (λ (z : List ℕ). note z x others) (append-nil t) in
+    let joined : with_text_before t (note [] x others) ≡ note t x others = ap (λ (z : List ℕ). note z x others) (append-nil t) in
     subst (λ (z : List ℕ). IsContent inner z (note t x others) tail) (sym whole) (subst (λ (z : Content). IsContent inner (print_text t ++ (print_comment x ++ after)) z tail) joined all)
 
 -- a proper element within the levels, whatever follows it

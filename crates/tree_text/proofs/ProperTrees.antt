@@ -7,7 +7,7 @@ use Rattle.xml_tree.specs.Characters.{is_char}
 use Rattle.xml_tree.specs.Comments.{is_comment}
 use Rattle.xml_tree.specs.Tree.{Content, last, more, note, Tree, height, content_height}
 use Rattle.xml_tree.specs.Edits.{with_text, with_elem, with_comment}
-use Rattle.xml_tree.specs.Proper.{Letters, One, Proper, ProperIn}
+use Rattle.xml_tree.specs.Proper.{Letters, IsProperPart, Proper, ProperIn}
 use Rattle.xml_tree.specs.declared.names.Name.{Name}
 use Rattle.xml_tree.specs.declared.names.Decl.{Decl}
 use Rattle.xml_tree.proofs.EverywhereLaws.{Letters-append}
@@ -62,18 +62,18 @@ module _ (limit : ℕ) where
 
 -- # Content
 
-letters : (c : List (List Decl)) (cs : List ℕ) → AllPass is_char cs → Letters One c cs
+letters : (c : List (List Decl)) (cs : List ℕ) → AllPass is_char cs → Letters IsProperPart c cs
 letters c [] h = tt
 letters c (x ∷ cs) h = (h.0, letters c cs h.1)
 
-chars_letters : (c : List (List Decl)) (u cs : List ℕ) → chars.Spells u cs → Letters One c cs
+chars_letters : (c : List (List Decl)) (u cs : List ℕ) → chars.Spells u cs → Letters IsProperPart c cs
 chars_letters c u cs m = letters c cs (subst (AllPass is_char) (sym m.2) (lines_chars m.0 (weaker is_raw is_char raw_char m.0 (subst (AllPass is_raw) (sym m.1.2) m.1.0))))
 
 pass_front : (p : ℕ → Bool) (u v : List ℕ) → AllPass p (u ++ v) → AllPass p u
 pass_front p [] v h = tt
 pass_front p (c ∷ u) v h = (h.0, pass_front p u v h.1)
 
-section_letters : (c : List (List Decl)) (u cs : List ℕ) → section.Spells u cs → Letters One c cs
+section_letters : (c : List (List Decl)) (u cs : List ℕ) → section.Spells u cs → Letters IsProperPart c cs
 section_letters c u cs m =
     let b = m.1.1.back_is in
     let k : AllPass is_char m.0 = subst (AllPass is_char) (sym m.1.2) (pass_front is_char m.1.0.1 _ (subst (AllPass is_char) b.0 b.1)) in
@@ -86,13 +86,13 @@ module _ (c : List (List Decl)) (room : ℕ) where
   -- a piece of markup
   abbrev MayStand : Markup → Type 0
   MayStand (Reference x) = is_char x ≡ true
-  MayStand (Section cs) = Letters One c cs
+  MayStand (Section cs) = Letters IsProperPart c cs
   MayStand (Comment cs) = is_comment cs ≡ true
   MayStand Instruction = Unit {0}
   MayStand (Inner t) = ProperIn c t × (height t ≤ room)
 
-  fits_text : (s : List ℕ) (k : Content) → Letters One c s → Fits k → Fits (with_text s k)
-  fits_text s (last t) h f = (Letters-append One c t s f.0 h, f.1)
+  fits_text : (s : List ℕ) (k : Content) → Letters IsProperPart c s → Fits k → Fits (with_text s k)
+  fits_text s (last t) h f = (Letters-append IsProperPart c t s f.0 h, f.1)
   fits_text s (more t n ds ats k rest) h f = let r = fits_text s rest h (f.0.3, omega (arith, f.1)) in ((f.0.0, f.0.1, f.0.2, r.0), omega (arith, f.1, r.1))
   fits_text s (note t x rest) h f = let r = fits_text s rest h (f.0.2, f.1) in ((f.0.0, f.0.1, r.0), r.1)
 
@@ -115,7 +115,7 @@ module _ (c : List (List Decl)) (room : ℕ) where
 
   abbrev AllMayStand : List (Markup × List ℕ) → Type 0
   AllMayStand [] = Unit {0}
-  AllMayStand (x ∷ xs) = MayStand x.0 × Letters One c x.1 × AllMayStand xs
+  AllMayStand (x ∷ xs) = MayStand x.0 × Letters IsProperPart c x.1 × AllMayStand xs
 
   fits_pieces : (xs : List (Markup × List ℕ)) (k : Content) → AllMayStand xs → Fits k → Fits (with_pieces k xs)
   fits_pieces [] k h f = f

@@ -1,7 +1,7 @@
 -- No scope in a proper tree binds `xmlns`.
 use Rattle.std.proofs.Common.{◌≡◌, ℕ, List, [], ◌∷◌, ◌++◌, Option, None, Some, refl, subst, append_assoc, option_map, unwrap_or}
 use Rattle.std.specs.List.{slice_get}
-use Rattle.xml_tree.specs.Proper.{One, ProperIn}
+use Rattle.xml_tree.specs.Proper.{IsProperPart, ProperIn}
 use Rattle.xml_tree.specs.Scopes.{bound, scope_at, xmlns_prefix}
 use Rattle.xml_tree.specs.Tree.{Tree, kids_of}
 use Rattle.xml_tree.specs.declared.names.Decl.{Decl}
@@ -12,7 +12,7 @@ module _ (path : List ℕ) (n : ℕ) (scope : List (List Decl)) (root : Tree) (u
     (below : (kid : Tree) → ProperIn (scope ++ root.decls ∷ []) kid → bound ((scope ++ root.decls ∷ []) ++ scope_at path kid) xmlns_prefix ≡ None) where
   by_kid : (o : Option Tree) → slice_get (kids_of root) n ≡ o → bound (scope ++ root.decls ∷ unwrap_or (option_map (scope_at path) o) []) xmlns_prefix ≡ None
   by_kid None e = unbound
-  by_kid (Some kid) e = subst (λ (z : List (List Decl)). bound z xmlns_prefix ≡ None) (append_assoc scope (root.decls ∷ []) (scope_at path kid)) (below kid (Everywhere-kid One (scope ++ root.decls ∷ []) n root.content kid e proper.1))
+  by_kid (Some kid) e = subst (λ (z : List (List Decl)). bound z xmlns_prefix ≡ None) (append_assoc scope (root.decls ∷ []) (scope_at path kid)) (below kid (Everywhere-kid IsProperPart (scope ++ root.decls ∷ []) n root.content kid e proper.1))
 
 pub never_bound : (path : List ℕ) (scope : List (List Decl)) (root : Tree) → bound scope xmlns_prefix ≡ None → ProperIn scope root → bound (scope ++ scope_at path root) xmlns_prefix ≡ None
 never_bound [] scope root u h = still_unbound scope root.decls u h.0.declarations

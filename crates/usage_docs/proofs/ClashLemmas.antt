@@ -4,7 +4,7 @@ use Rattle.std.specs.List.{cons_option}
 use Rattle.std.proofs.lemmas.Option.{same_Some}
 use Rattle.std.proofs.lemmas.Bool.{cases_lt}
 use Rattle.xml_tree.specs.Tree.{Content, last, more, note, Tree, kids, kids_of}
-use Rattle.xml_tree.specs.Edits.{before}
+use Rattle.xml_tree.specs.Edits.{with_text_before}
 use Rattle.xml_tree.specs.Nodes.{content_of}
 use Rattle.xml_tree.specs.declared.names.Attr.{Attr}
 use Rattle.xml_tree.specs.declared.names.Decl.{Decl}
@@ -66,7 +66,7 @@ value_in kind key ats k = rw k
 
 -- ---- nodes and the elements among them
 
-kids_before : (t : List ℕ) (content : Content) → kids (before t content) ≡ kids content
+kids_before : (t : List ℕ) (content : Content) → kids (with_text_before t content) ≡ kids content
 kids_before t (last u) = refl
 kids_before t (more u n ds ats k rest) = refl
 kids_before t (note u x rest) = refl

@@ -1,7 +1,7 @@
 -- The references in a content have their form exactly where those in its nodes do.
 use Rattle.std.proofs.Common.{◌≡◌, ◌↔◌, ℕ, List, [], ◌∷◌, sym, subst}
 use Rattle.xml_tree.specs.Tree.{Content, last, more, note}
-use Rattle.xml_tree.specs.Edits.{before}
+use Rattle.xml_tree.specs.Edits.{with_text_before}
 use Rattle.xml_tree.specs.Nodes.{content_of}
 use Rattle.xml_tree.specs.declared.tree.Node.{Node}
 use Rattle.xml_tree.specs.declared.tree.Node.TheVariants.{Elem, Chars, Comment}
@@ -13,7 +13,7 @@ abbrev pub FormedNodes : Kind → Scope → List Node → Type 0
 FormedNodes row c [] = Unit {0}
 FormedNodes row c (n ∷ ns) = IsNodeFormed row c n × FormedNodes row c ns
 
-formed_before : (row : Kind) (c : Scope) (t : List ℕ) (content : Content) → AllFormed row c (before t content) ↔ AllFormed row c content
+formed_before : (row : Kind) (c : Scope) (t : List ℕ) (content : Content) → AllFormed row c (with_text_before t content) ↔ AllFormed row c content
 formed_before row c t (last u) = (λ f. f, λ f. f)
 formed_before row c t (more u n ds ats k rest) = (λ f. f, λ f. f)
 formed_before row c t (note u x rest) = (λ f. f, λ f. f)

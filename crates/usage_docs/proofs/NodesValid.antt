@@ -1,7 +1,7 @@
 -- A content is valid exactly where the nodes that it stands for are, each behind the one before it.
 use Rattle.std.proofs.Common.{◌≡◌, ◌↔◌, ℕ, List, [], ◌∷◌, IsTrue, sym, subst}
 use Rattle.xml_tree.specs.Tree.{Content, last, more, note}
-use Rattle.xml_tree.specs.Edits.{before}
+use Rattle.xml_tree.specs.Edits.{with_text_before}
 use Rattle.xml_tree.specs.Nodes.{content_of}
 use Rattle.xml_tree.specs.declared.tree.Node.{Node}
 use Rattle.xml_tree.specs.declared.tree.Node.TheVariants.{Elem, Chars, Comment}
@@ -18,12 +18,12 @@ abbrev pub ValidNodes : Kind → Scope → ℕ → List Node → Type 0
 ValidNodes row c b [] = IsTrue (follows row b end)
 ValidNodes row c b (n ∷ ns) = IsNodeValid row c b n × ValidNodes row c (part_behind row c b n) ns
 
-before_to : (row : Kind) (c : Scope) (b : ℕ) (t : List ℕ) (content : Content) → Walks row c b (before t content) → IsTrue (text_passes row t) × Walks row c b content
+before_to : (row : Kind) (c : Scope) (b : ℕ) (t : List ℕ) (content : Content) → Walks row c b (with_text_before t content) → IsTrue (text_passes row t) × Walks row c b content
 before_to row c b t (last u) v = let p = (passes_append row t u).0 v.0 in (p.0, (p.1, v.1))
 before_to row c b t (more u n ds ats k rest) v = let p = (passes_append row t u).0 v.0 in (p.0, (p.1, v.1, v.2, v.3))
 before_to row c b t (note u x rest) v = let p = (passes_append row t u).0 v.0 in (p.0, (p.1, v.1))
 
-before_from : (row : Kind) (c : Scope) (b : ℕ) (t : List ℕ) (content : Content) → IsTrue (text_passes row t) → Walks row c b content → Walks row c b (before t content)
+before_from : (row : Kind) (c : Scope) (b : ℕ) (t : List ℕ) (content : Content) → IsTrue (text_passes row t) → Walks row c b content → Walks row c b (with_text_before t content)
 before_from row c b t (last u) p v = ((passes_append row t u).1 (p, v.0), v.1)
 before_from row c b t (more u n ds ats k rest) p v = ((passes_append row t u).1 (p, v.0), v.1, v.2, v.3)
 before_from row c b t (note u x rest) p v = ((passes_append row t u).1 (p, v.0), v.1)

@@ -1,7 +1,7 @@
 -- The text of an element, read node by node.
 use Rattle.std.proofs.Common.{◌≡◌, ℕ, List, [], ◌∷◌, ◌++◌, fold, refl, ap, sym, ◌∙◌, append_assoc}
 use Rattle.xml_tree.specs.Tree.{Content, last, more, note}
-use Rattle.xml_tree.specs.Edits.{before}
+use Rattle.xml_tree.specs.Edits.{with_text_before}
 use Rattle.xml_tree.specs.Nodes.{content_of}
 use Rattle.xml_tree.specs.declared.tree.Node.{Node}
 use Rattle.xml_tree.specs.declared.tree.Node.TheVariants.{Elem, Chars, Comment}
@@ -14,7 +14,7 @@ after_nodes f a (Elem e ∷ ns) = after_nodes f a ns
 after_nodes f a (Chars t ∷ ns) = after_nodes f (fold f a t) ns
 after_nodes f a (Comment x ∷ ns) = after_nodes f a ns
 
-text_before : (t : List ℕ) (c : Content) → text_of (before t c) ≡ t ++ text_of c
+text_before : (t : List ℕ) (c : Content) → text_of (with_text_before t c) ≡ t ++ text_of c
 text_before t (last u) = refl
 text_before t (more u n ds ats k rest) = append_assoc t u (text_of rest)
 text_before t (note u x rest) = append_assoc t u (text_of rest)

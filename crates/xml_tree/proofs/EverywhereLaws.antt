@@ -5,7 +5,7 @@ use Rattle.xml_tree.specs.declared.names.Decl.{Decl}
 use Rattle.xml_tree.specs.declared.tree.Node.{Node}
 use Rattle.xml_tree.specs.declared.tree.Node.TheVariants.{Elem, Chars, Comment}
 use Rattle.xml_tree.specs.Tree.{Content, last, more, note, Tree, tree_of, at, kids, kids_of}
-use Rattle.xml_tree.specs.Edits.{before, change, change_at, cut, front, put}
+use Rattle.xml_tree.specs.Edits.{with_text_before, change, change_at, cut, parent_path, put}
 use Rattle.xml_tree.specs.Nodes.{content_of}
 use Rattle.xml_tree.specs.Scopes.{scope_around, scope_at}
 use Rattle.xml_tree.specs.Proper.{Part, Everywhere, Letters, OfNode, Throughout}
@@ -15,7 +15,7 @@ use Rattle.xml_tree.specs.Proper.{Part, Everywhere, Letters, OfNode, Throughout}
 -- the scope around a place below an element child begins with the element's declarations
 pub scope_around-below : (n : ℕ) (p : List ℕ) (t k : Tree) → slice_get (kids_of t) n ≡ Some k → scope_around (n ∷ p) t ≡ t.decls ∷ scope_around p k
 scope_around-below n [] t k is = refl
-scope_around-below n (m ∷ p) t k is = ap (λ o. t.decls ∷ unwrap_or (option_map (scope_at (front (m ∷ p))) o) []) is
+scope_around-below n (m ∷ p) t k is = ap (λ o. t.decls ∷ unwrap_or (option_map (scope_at (parent_path (m ∷ p))) o) []) is
 
 -- the scope at a place is that around it with the declarations of the element there
 pub scope_at-around : (p : List ℕ) (t e : Tree) → at p t ≡ Some e → scope_at p t ≡ scope_around p t ++ e.decls ∷ []
@@ -43,12 +43,12 @@ module _ (P : List (List Decl) → Part → Type 0) where
   last_letters c [] u h = h
   last_letters c (x ∷ t) u h = last_letters c t u h.1
 
-  pub Everywhere-before : (c : List (List Decl)) (t : List ℕ) (k : Content) → Letters P c t → Everywhere P c k → Everywhere P c (before t k)
+  pub Everywhere-before : (c : List (List Decl)) (t : List ℕ) (k : Content) → Letters P c t → Everywhere P c k → Everywhere P c (with_text_before t k)
   Everywhere-before c t (last u) h g = Letters-append c t u h g
   Everywhere-before c t (more u n ds ats k rest) h g = (Letters-append c t u h g.0, g.1, g.2, g.3)
   Everywhere-before c t (note u x rest) h g = (Letters-append c t u h g.0, g.1, g.2)
 
-  parts-before : (c : List (List Decl)) (t : List ℕ) (k : Content) → Everywhere P c (before t k) → Letters P c t × Everywhere P c k
+  parts-before : (c : List (List Decl)) (t : List ℕ) (k : Content) → Everywhere P c (with_text_before t k) → Letters P c t × Everywhere P c k
   parts-before c t (last u) h = (first_letters c t u h, last_letters c t u h)
   parts-before c t (more u n ds ats k rest) h = (first_letters c t u h.0, (last_letters c t u h.0, h.1, h.2, h.3))
   parts-before c t (note u x rest) h = (first_letters c t u h.0, (last_letters c t u h.0, h.1, h.2))

@@ -2,7 +2,7 @@
 use Rattle.std.proofs.Common.{◌≡◌, ℕ, zero, suc, List, [], ◌∷◌, ◌++◌, Option, Some, None, IsSome, IsSomeAnd, option_and_then, refl, sym, ap, ◌∙◌, subst, ◌<◌, length, arith}
 use Rattle.std.specs.List.{slice_get}
 use Rattle.xml_tree.specs.Tree.{Content, last, more, note, more_of, Tree, kids, kids_of, at}
-use Rattle.xml_tree.specs.Edits.{change, change_at, put_over, front, final}
+use Rattle.xml_tree.specs.Edits.{change, change_at, put_over, parent_path, own_number}
 
 -- functions that agree on the element change it alike
 change-agree : (n : ℕ) (f g : Tree → Tree) (c : Content) → ((k : Tree) → slice_get (kids c) n ≡ Some k → f k ≡ g k) → change n f c ≡ change n g c
@@ -42,12 +42,12 @@ same_at p here left t new there same put = made_at p (λ e. e) here left t new t
 
 -- ---- the last number of a path
 
-pub front-snoc : (p : List ℕ) (n : ℕ) → front (p ++ n ∷ []) ≡ p
+pub front-snoc : (p : List ℕ) (n : ℕ) → parent_path (p ++ n ∷ []) ≡ p
 front-snoc [] n = refl
 front-snoc (m ∷ []) n = refl
 front-snoc (m ∷ k ∷ p) n = ap (λ x. m ∷ x) (front-snoc (k ∷ p) n)
 
-pub final-snoc : (p : List ℕ) (n : ℕ) → final (p ++ n ∷ []) ≡ n
+pub final-snoc : (p : List ℕ) (n : ℕ) → own_number (p ++ n ∷ []) ≡ n
 final-snoc [] n = refl
 final-snoc (m ∷ []) n = refl
 final-snoc (m ∷ k ∷ p) n = final-snoc (k ∷ p) n

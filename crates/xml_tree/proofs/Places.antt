@@ -2,7 +2,7 @@
 use Rattle.std.proofs.Common.{◌≡◌, ℕ, zero, suc, ◌<◌, ◌≤◌, List, [], ◌∷◌, ◌++◌, length, get_or, slice_set, insert, Some, IsSome, true, false, true≢false, refl, sym, ap, ◌∙◌, subst, arith, append_assoc, append-nil}
 use Rattle.std.specs.List.{slice_get}
 use Rattle.xml_tree.specs.Tree.{Content, last, more, note, more_of, Tree, tree_of, kids, content_height}
-use Rattle.xml_tree.specs.Edits.{before, put, change, with_comment, with_elem, with_text, IsFull}
+use Rattle.xml_tree.specs.Edits.{with_text_before, put, change, with_comment, with_elem, with_text, IsFull}
 use Rattle.xml_tree.specs.inner.Falls.{content_height-before}
 use Rattle.xml_tree.specs.Nodes.{content_of, nodes_of, text_node, ends_in_text, is_text, node_with, node_height, StartsApart, AreNormal, place, gap_place, elem_of}
 use Rattle.xml_tree.specs.declared.tree.Node.{Node}
@@ -10,28 +10,28 @@ use Rattle.xml_tree.specs.declared.tree.Node.TheVariants.{Elem, Chars, Comment}
 
 -- ---- a text before a content
 
-pub before-nil : (c : Content) → before [] c ≡ c
+pub before-nil : (c : Content) → with_text_before [] c ≡ c
 before-nil (last u) = refl
 before-nil (more u n ds ats c rest) = refl
 before-nil (note u c rest) = refl
 
-pub before-before : (t u : List ℕ) (c : Content) → before (t ++ u) c ≡ before t (before u c)
+pub before-before : (t u : List ℕ) (c : Content) → with_text_before (t ++ u) c ≡ with_text_before t (with_text_before u c)
 before-before t u (last v) = ap last (append_assoc t u v)
 before-before t u (more v n ds ats c rest) = ap (λ x. more x n ds ats c rest) (append_assoc t u v)
 before-before t u (note v c rest) = ap (λ x. note x c rest) (append_assoc t u v)
 
-pub kids-before : (t : List ℕ) (c : Content) → kids (before t c) ≡ kids c
+pub kids-before : (t : List ℕ) (c : Content) → kids (with_text_before t c) ≡ kids c
 kids-before t (last u) = refl
 kids-before t (more u n ds ats c rest) = refl
 kids-before t (note u c rest) = refl
 
-pub change-before : (t : List ℕ) (c : Content) (i : ℕ) (f : Tree → Tree) → change i f (before t c) ≡ before t (change i f c)
+pub change-before : (t : List ℕ) (c : Content) (i : ℕ) (f : Tree → Tree) → change i f (with_text_before t c) ≡ with_text_before t (change i f c)
 change-before t (last u) i f = refl
 change-before t (more u n ds ats c rest) zero f = refl
 change-before t (more u n ds ats c rest) (suc i) f = refl
 change-before t (note u c rest) i f = refl
 
-pub put-before : (t : List ℕ) (c : Content) (j : ℕ) (e : Tree) → put (suc j) e (before t c) ≡ before t (put (suc j) e c)
+pub put-before : (t : List ℕ) (c : Content) (j : ℕ) (e : Tree) → put (suc j) e (with_text_before t c) ≡ with_text_before t (put (suc j) e c)
 put-before t (last u) j e = refl
 put-before t (more u n ds ats c rest) j e = refl
 put-before t (note u c rest) j e = refl
@@ -78,7 +78,7 @@ kid_within n ns k is = there_below n (kids_in ns) k is
 pub content_of-kid : (n : ℕ) (ns : List Node) (f : Tree → Tree) (k w : Tree) → slice_get (kids_in ns) n ≡ Some k → f k ≡ w
     → content_of (slice_set ns (place n ns) (Elem w)) ≡ change n f (content_of ns)
 content_of-kid n [] f k w is made = cc
-content_of-kid n (Chars t ∷ ns) f k w is made = ap (before t) (content_of-kid n ns f k w (rw kids-before at is) made) ∙ sym (change-before t (content_of ns) n f)
+content_of-kid n (Chars t ∷ ns) f k w is made = ap (with_text_before t) (content_of-kid n ns f k w (rw kids-before at is) made) ∙ sym (change-before t (content_of ns) n f)
 content_of-kid n (Comment c ∷ ns) f k w is made = ap (note [] c) (content_of-kid n ns f k w is made)
 content_of-kid zero (Elem e ∷ ns) f k w is made = ap (λ x. more_of [] x (content_of ns)) (sym made ∙ ap f (sym (cc)))
 content_of-kid (suc n) (Elem e ∷ ns) f k w is made = ap (more_of [] e) (content_of-kid n ns f k w is made)
@@ -111,7 +111,7 @@ AreNormal-set (suc n) (Elem e ∷ ns) w a = AreNormal-set n ns w a
 
 content_of-insert_behind : (j : ℕ) (ns : List Node) (e : Tree) → j < length (kids_in ns) → content_of (insert ns (suc (place j ns)) (Elem e)) ≡ put (suc j) e (content_of ns)
 content_of-insert_behind j [] e h = absurd (omega arith)
-content_of-insert_behind j (Chars t ∷ ns) e h = ap (before t) (content_of-insert_behind j ns e (rw kids-before at h)) ∙ sym (put-before t (content_of ns) j e)
+content_of-insert_behind j (Chars t ∷ ns) e h = ap (with_text_before t) (content_of-insert_behind j ns e (rw kids-before at h)) ∙ sym (put-before t (content_of ns) j e)
 content_of-insert_behind j (Comment c ∷ ns) e h = ap (note [] c) (content_of-insert_behind j ns e h)
 content_of-insert_behind zero (Elem k ∷ ns) e h = refl
 content_of-insert_behind (suc j) (Elem k ∷ ns) e h = ap (more_of [] k) (content_of-insert_behind j ns e (omega arith))
@@ -159,14 +159,14 @@ AreNormal-append (Chars t ∷ x ∷ xs) ys a b apart = (a.0, StartsApart-append 
 
 -- ---- an element behind all nodes
 
-with_elem-before : (t : List ℕ) (c : Content) (e : Tree) → with_elem e (before t c) ≡ before t (with_elem e c)
+with_elem-before : (t : List ℕ) (c : Content) (e : Tree) → with_elem e (with_text_before t c) ≡ with_text_before t (with_elem e c)
 with_elem-before t (last u) e = refl
 with_elem-before t (more u n ds ats c rest) e = refl
 with_elem-before t (note u c rest) e = refl
 
 pub content_of-push_elem : (ns : List Node) (e : Tree) → content_of (ns ++ Elem e ∷ []) ≡ with_elem e (content_of ns)
 content_of-push_elem [] e = refl
-content_of-push_elem (Chars t ∷ ns) e = ap (before t) (content_of-push_elem ns e) ∙ sym (with_elem-before t (content_of ns) e)
+content_of-push_elem (Chars t ∷ ns) e = ap (with_text_before t) (content_of-push_elem ns e) ∙ sym (with_elem-before t (content_of ns) e)
 content_of-push_elem (Elem k ∷ ns) e = ap (more_of [] k) (content_of-push_elem ns e)
 content_of-push_elem (Comment c ∷ ns) e = ap (note [] c) (content_of-push_elem ns e)
 
@@ -175,14 +175,14 @@ AreNormal-push_elem ns e a = AreNormal-append ns (Elem e ∷ []) a tt (λ h. tt)
 
 -- ---- a comment behind all nodes
 
-with_comment-before : (t : List ℕ) (c : Content) (s : List ℕ) → with_comment s (before t c) ≡ before t (with_comment s c)
+with_comment-before : (t : List ℕ) (c : Content) (s : List ℕ) → with_comment s (with_text_before t c) ≡ with_text_before t (with_comment s c)
 with_comment-before t (last u) s = refl
 with_comment-before t (more u n ds ats c rest) s = refl
 with_comment-before t (note u c rest) s = refl
 
 pub content_of-push_comment : (ns : List Node) (s : List ℕ) → content_of (ns ++ Comment s ∷ []) ≡ with_comment s (content_of ns)
 content_of-push_comment [] s = refl
-content_of-push_comment (Chars t ∷ ns) s = ap (before t) (content_of-push_comment ns s) ∙ sym (with_comment-before t (content_of ns) s)
+content_of-push_comment (Chars t ∷ ns) s = ap (with_text_before t) (content_of-push_comment ns s) ∙ sym (with_comment-before t (content_of ns) s)
 content_of-push_comment (Elem k ∷ ns) s = ap (more_of [] k) (content_of-push_comment ns s)
 content_of-push_comment (Comment c ∷ ns) s = ap (note [] c) (content_of-push_comment ns s)
 
@@ -191,7 +191,7 @@ AreNormal-push_comment ns s a = AreNormal-append ns (Comment s ∷ []) a tt (λ 
 
 -- ---- a text behind all nodes
 
-with_text-before : (t : List ℕ) (c : Content) (s : List ℕ) → with_text s (before t c) ≡ before t (with_text s c)
+with_text-before : (t : List ℕ) (c : Content) (s : List ℕ) → with_text s (with_text_before t c) ≡ with_text_before t (with_text s c)
 with_text-before t (last u) s = ap last (append_assoc t u s)
 with_text-before t (more u n ds ats c rest) s = refl
 with_text-before t (note u c rest) s = refl
@@ -217,7 +217,7 @@ content_of-join_at (Chars t ∷ []) zero s d h e = ap last (append-nil (t ++ s) 
 content_of-join_at (Chars t ∷ x ∷ ns) zero s d h e = absurd (omega arith)
 content_of-join_at (Elem k ∷ ns) (suc i) s d h e = ap (more_of [] k) (content_of-join_at ns i s d (omega arith) e)
 content_of-join_at (Comment c ∷ ns) (suc i) s d h e = ap (note [] c) (content_of-join_at ns i s d (omega arith) e)
-content_of-join_at (Chars t ∷ ns) (suc i) s d h e = ap (before t) (content_of-join_at ns i s d (omega arith) e) ∙ sym (with_text-before t (content_of ns) s)
+content_of-join_at (Chars t ∷ ns) (suc i) s d h e = ap (with_text_before t) (content_of-join_at ns i s d (omega arith) e) ∙ sym (with_text-before t (content_of ns) s)
 
 -- a text that stands last grows
 pub content_of-join : (ns : List Node) (i : ℕ) (x y : Node) (s : List ℕ) → suc i ≡ length ns → x ≡ get_or ns i x → is_text x ≡ true → y ≡ node_with s x
@@ -262,7 +262,7 @@ AreNormal-unjoined ns i x y is h made a = subst (λ z. AreNormal (slice_set ns i
 
 pub content_of-push_text : (ns : List Node) (s : List ℕ) → content_of (ns ++ Chars s ∷ []) ≡ with_text s (content_of ns)
 content_of-push_text [] s = rw append-nil
-content_of-push_text (Chars t ∷ ns) s = ap (before t) (content_of-push_text ns s) ∙ sym (with_text-before t (content_of ns) s)
+content_of-push_text (Chars t ∷ ns) s = ap (with_text_before t) (content_of-push_text ns s) ∙ sym (with_text-before t (content_of ns) s)
 content_of-push_text (Elem k ∷ ns) s = ap (more_of [] k) (content_of-push_text ns s)
 content_of-push_text (Comment c ∷ ns) s = ap (note [] c) (content_of-push_text ns s)
 
@@ -306,7 +306,7 @@ opens (Elem e ∷ ns) a = tt
 opens (Chars t ∷ ns) a = absurd a
 opens (Comment c ∷ ns) a = tt
 
-nodes_of-before : (t : List ℕ) (c : Content) → IsFull t → OpensApart c → nodes_of (before t c) ≡ Chars t ∷ nodes_of c
+nodes_of-before : (t : List ℕ) (c : Content) → IsFull t → OpensApart c → nodes_of (with_text_before t c) ≡ Chars t ∷ nodes_of c
 nodes_of-before [] c f o = absurd f
 nodes_of-before (x ∷ xs) (last []) f o = ap (λ z. Chars (x ∷ z) ∷ []) (append-nil xs)
 nodes_of-before (x ∷ xs) (last (c ∷ cs)) f o = absurd o
@@ -326,7 +326,7 @@ nodes_of-content_of (Chars t ∷ ns) a = nodes_of-before t (content_of ns) a.0 (
 pub same_nodes : (ns ms : List Node) → AreNormal ns → AreNormal ms → content_of ns ≡ content_of ms → ns ≡ ms
 same_nodes ns ms a b e = sym (nodes_of-content_of ns a) ∙ ap nodes_of e ∙ nodes_of-content_of ms b
 
-text_content : (t : List ℕ) (ns : List Node) → content_of (text_node t ++ ns) ≡ before t (content_of ns)
+text_content : (t : List ℕ) (ns : List Node) → content_of (text_node t ++ ns) ≡ with_text_before t (content_of ns)
 text_content [] ns = sym (before-nil (content_of ns))
 text_content (c ∷ cs) ns = refl
 

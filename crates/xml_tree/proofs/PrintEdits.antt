@@ -3,8 +3,8 @@ use Rattle.std.proofs.Common.{◌≡◌, ℕ, zero, suc, ◌+◌, ◌≤◌, Boo
 use Rattle.std.specs.List.{slice_get, find}
 use Rattle.std.specs.Cmp.Lexicographic.{bytes_decides}
 use Rattle.xml_tree.specs.Tree.{Content, last, more, note, more_of, Tree, tree_of, kids, kids_of, at}
-use Rattle.xml_tree.specs.Attributes.{valued, with_attr, without_attr, is_written_so as is_named}
-use Rattle.xml_tree.specs.Edits.{before, change, change_at, change_kid, cut, put}
+use Rattle.xml_tree.specs.Attributes.{with_new_value, with_attr, without_attr, is_written_so as is_named}
+use Rattle.xml_tree.specs.Edits.{with_text_before, change, change_at, change_kid, cut, put}
 use Rattle.xml_tree.specs.Print.{byte_len, is_empty, opening, print, print_attr, print_comment, print_content, print_name, print_text}
 use Rattle.xml_tree.specs.declared.names.Name.{Name}
 use Rattle.xml_tree.specs.declared.names.Attr.{Attr}
@@ -28,7 +28,7 @@ content-note t x rest =
     let behind = byte_len-append (print_comment x) (print_content rest) in
     omega (arith, parts, behind)
 
-content-before : (t : List ℕ) (c : Content) → byte_len (print_content (before t c)) ≡ byte_len (print_text t) + byte_len (print_content c)
+content-before : (t : List ℕ) (c : Content) → byte_len (print_content (with_text_before t c)) ≡ byte_len (print_text t) + byte_len (print_content c)
 content-before t c = ap byte_len (print-before t c) ∙ byte_len-append (print_text t) (print_content c)
 
 -- ---- what stands behind the attributes, besides the nodes
@@ -149,10 +149,10 @@ print-alike m n true true p q h = λ i. print_name (record { prefix = (bytes_dec
 print-alike m n true false p q h = cc
 print-alike m n false b p q h = cc
 
-valued_len : (n : Name) (v : List ℕ) (a : Attr) → is_named n a ≡ true → byte_len (print_attr (valued v a)) ≡ byte_len (print_attr (record { name = n; value = v }))
+valued_len : (n : Name) (v : List ℕ) (a : Attr) → is_named n a ≡ true → byte_len (print_attr (with_new_value v a)) ≡ byte_len (print_attr (record { name = n; value = v }))
 valued_len n v a h =
     let same = print-alike a.name n (bytes_eq a.name.prefix n.prefix) (bytes_eq a.name.local n.local) refl refl h in
-    omega (arith, byte_len-attr (valued v a), byte_len-attr (record { name = n; value = v }), ap byte_len same)
+    omega (arith, byte_len-attr (with_new_value v a), byte_len-attr (record { name = n; value = v }), ap byte_len same)
 
 -- one is written, in the place of the old one where there is one
 pub attrs-written : (n : Name) (v : List ℕ) (ats : List Attr)
@@ -160,9 +160,9 @@ pub attrs-written : (n : Name) (v : List ℕ) (ats : List Attr)
 attrs-written n v [] = omega (arith, attrs-cons (record { name = n; value = v }) [])
 attrs-written n v (a ∷ ats) =
     tested (is_named n) a
-    (λ b. attrs_len (cond b (valued v a ∷ ats) (a ∷ with_attr n v ats)) + attrs_len (option_to_list (cond b (Some a) (find (is_named n) ats)))
+    (λ b. attrs_len (cond b (with_new_value v a ∷ ats) (a ∷ with_attr n v ats)) + attrs_len (option_to_list (cond b (Some a) (find (is_named n) ats)))
     ≡ attrs_len (a ∷ ats) + byte_len (print_attr (record { name = n; value = v })))
-    (λ e. omega (arith, attrs-cons (valued v a) ats, attrs-cons a ats, attrs-cons a [], valued_len n v a e))
+    (λ e. omega (arith, attrs-cons (with_new_value v a) ats, attrs-cons a ats, attrs-cons a [], valued_len n v a e))
     (λ e. omega (arith, attrs-cons a (with_attr n v ats), attrs-cons a ats, attrs-written n v ats))
 
 -- one is taken out, where it is there

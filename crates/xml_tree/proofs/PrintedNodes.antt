@@ -2,7 +2,7 @@
 use Rattle.std.proofs.Common.{◌≡◌, ℕ, ◌+◌, ◌<◌, ◌≤◌, min, true, false, List, [], ◌∷◌, ◌++◌, length, drop, get_or, refl, sym, ap, ◌∙◌, append_assoc, arith}
 use Rattle.std.proofs.lemmas.Grind.{flat_map-append}
 use Rattle.xml_tree.specs.Tree.{Content, last, more, note, Tree}
-use Rattle.xml_tree.specs.Edits.{before}
+use Rattle.xml_tree.specs.Edits.{with_text_before}
 use Rattle.xml_tree.specs.Nodes.{content_of, AreNormal}
 use Rattle.xml_tree.specs.declared.tree.Node.{Node}
 use Rattle.xml_tree.specs.declared.tree.Node.TheVariants.{Elem, Chars, Comment}
@@ -10,7 +10,7 @@ use Rattle.xml_tree.specs.Print.{byte_len, closing, ending, is_empty, opening, p
 use Rattle.xml_tree.proofs.ScopeLemmas.{drop_item}
 use Rattle.xml_tree.proofs.PrintLengths.{byte_len-append, ascii}
 
-pub print-before : (t : List ℕ) (c : Content) → print_content (before t c) ≡ print_text t ++ print_content c
+pub print-before : (t : List ℕ) (c : Content) → print_content (with_text_before t c) ≡ print_text t ++ print_content c
 print-before t (last u) = flat_map-append text_escape t u
 print-before t (more u n ds ats c rest) =
     let after = (opening n ds ats ++ ending n (is_empty c) (print_content c)) ++ print_content rest in
@@ -32,7 +32,7 @@ byte_len-nodes ns i n within is =
     ∙ byte_len-append (print_node n) (print_content (content_of (drop (i + 1) ns)))
 
 -- a content has no nodes where it is one of no nodes
-before-full : (c : ℕ) (cs : List ℕ) (k : Content) → is_empty (before (c ∷ cs) k) ≡ false
+before-full : (c : ℕ) (cs : List ℕ) (k : Content) → is_empty (with_text_before (c ∷ cs) k) ≡ false
 before-full c cs (last u) = refl
 before-full c cs (more u n ds ats k rest) = refl
 before-full c cs (note u x rest) = refl
@@ -75,7 +75,7 @@ module _ (m : ℕ) where
   bare_sum a o r p begins made whole = omega arith
 
   pub next_sum : (t x y z w r n : ℕ) → min (t + w) m ≡ z → n ≡ min x m → r ≡ min (t + n) m → w ≡ x + y → min (r + y) m ≡ z
-  next_sum t x y z w r n before one made parts = omega arith
+  next_sum t x y z w r n with_text_before one made parts = omega arith
 
   pub whole_sum : (a b c n o i r s u p k : ℕ) → o ≡ min a m → min (i + k) m ≡ min b m → i ≤ m → k ≡ 0 → n ≡ min c m
       → r ≡ min (o + i) m → s ≡ min (r + n) m → u ≡ min (s + 4) m → p ≡ a + b + (c + 3) + 1 → u ≡ min p m

@@ -5,7 +5,7 @@ use Rattle.std.specs.List.{AllByRecursion, slice_get}
 use Rattle.xml_tree.specs.declared.names.Decl.{Decl}
 use Rattle.xml_tree.specs.declared.tree.Node.{Node}
 use Rattle.xml_tree.specs.Tree.{Content, last, more, note, Tree, tree_of, at, kids, kids_of}
-use Rattle.xml_tree.specs.Edits.{change, change_at, cut, cut_out, final, front, put, put_in, put_kid, put_over}
+use Rattle.xml_tree.specs.Edits.{change, change_at, cut, cut_out, own_number, parent_path, put, put_in, put_kid, put_over}
 use Rattle.xml_tree.specs.Nodes.{exchanged, exchange_nodes, nodes_of}
 use Rattle.xml_tree.specs.Scopes.{scope_around, scope_at}
 use Rattle.xml_tree.specs.Proper.{Part, Everywhere, OfNode, Throughout}
@@ -66,7 +66,7 @@ module _ (P : List (List Decl) → Part → Type 0) where
   with-other c p e t h = Throughout-change_at P p (λ _. e) c t (λ _ _ _. h)
 
   pub without : (c : List (List Decl)) (p : List ℕ) (t : Tree) → Throughout P c t → Throughout P c (cut_out p t)
-  without c p t = with-content c (front p) (λ k. cut (final p) k) t (λ k g. Everywhere-cut P (c ++ scope_at (front p) t) (final p) k g)
+  without c p t = with-content c (parent_path p) (λ k. cut (own_number p) k) t (λ k g. Everywhere-cut P (c ++ scope_at (parent_path p) t) (own_number p) k g)
 
   -- ---- other nodes
   All-append : (s : List (List Decl)) (xs ys : List Node) → AllByRecursion (OfNode P s) xs → AllByRecursion (OfNode P s) ys → AllByRecursion (OfNode P s) (xs ++ ys)

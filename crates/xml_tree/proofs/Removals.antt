@@ -2,13 +2,13 @@
 use Rattle.std.proofs.Common.{◌≡◌, ℕ, zero, suc, ◌+◌, ◌-◌, ◌<◌, List, [], ◌∷◌, length, slice_set, remove, Option, Some, None, IsSome, false, refl, sym, ap, ◌∙◌, subst, arith}
 use Rattle.std.specs.List.{slice_get}
 use Rattle.xml_tree.specs.Tree.{Content, last, more, note, more_of, Tree}
-use Rattle.xml_tree.specs.Edits.{before, cut, IsFull, first_text, TextsMeet}
+use Rattle.xml_tree.specs.Edits.{with_text_before, cut, IsFull, first_text, TextsMeet}
 use Rattle.xml_tree.specs.Nodes.{content_of, StartsApart, AreNormal, place, is_text, elem_of, text_of, text_at, joined_beside, removed_joined, text_of_both as joined}
 use Rattle.xml_tree.specs.declared.tree.Node.{Node}
 use Rattle.xml_tree.specs.declared.tree.Node.TheVariants.{Elem, Chars, Comment}
 use Rattle.xml_tree.proofs.Places.{before-nil, before-before, kids-before, kids_in, IsFull-append}
 
-pub cut-before : (t : List ℕ) (c : Content) (i : ℕ) → cut i (before t c) ≡ before t (cut i c)
+pub cut-before : (t : List ℕ) (c : Content) (i : ℕ) → cut i (with_text_before t c) ≡ with_text_before t (cut i c)
 cut-before t (last u) i = refl
 cut-before t (more u n ds ats c rest) zero = before-before t u rest
 cut-before t (more u n ds ats c rest) (suc i) = refl
@@ -17,14 +17,14 @@ cut-before t (note u c rest) i = refl
 -- the element taken out of the nodes is taken out of their content
 pub content_of-remove : (n : ℕ) (ns : List Node) → n < length (kids_in ns) → content_of (remove ns (place n ns)) ≡ cut n (content_of ns)
 content_of-remove n [] h = absurd (omega arith)
-content_of-remove n (Chars t ∷ ns) h = ap (before t) (content_of-remove n ns (rw kids-before at h)) ∙ sym (cut-before t (content_of ns) n)
+content_of-remove n (Chars t ∷ ns) h = ap (with_text_before t) (content_of-remove n ns (rw kids-before at h)) ∙ sym (cut-before t (content_of ns) n)
 content_of-remove n (Comment c ∷ ns) h = ap (note [] c) (content_of-remove n ns h)
 content_of-remove zero (Elem e ∷ ns) h = sym (before-nil (content_of ns))
 content_of-remove (suc n) (Elem e ∷ ns) h = ap (more_of [] e) (content_of-remove n ns (omega arith))
 
 content_of-cons : (x : Node) (ns ms : List Node) → content_of ns ≡ content_of ms → content_of (x ∷ ns) ≡ content_of (x ∷ ms)
 content_of-cons (Elem e) ns ms h = ap (more_of [] e) h
-content_of-cons (Chars t) ns ms h = ap (before t) h
+content_of-cons (Chars t) ns ms h = ap (with_text_before t) h
 content_of-cons (Comment c) ns ms h = ap (note [] c) h
 
 -- two texts side by side may be exchanged for one
@@ -41,7 +41,7 @@ rejoined zero (x ∷ y ∷ []) t is = absurd (none (text_of x) is)
     none : (o : Option (List ℕ)) → joined o None ≡ Some t → ⊥
     none None h = cc
     none (Some u) h = cc
-rejoined zero (Chars a ∷ y ∷ Chars b ∷ ns) t is = ap (λ x. before x (content_of ns)) (sym (cc)) ∙ before-before a b (content_of ns)
+rejoined zero (Chars a ∷ y ∷ Chars b ∷ ns) t is = ap (λ x. with_text_before x (content_of ns)) (sym (cc)) ∙ before-before a b (content_of ns)
 rejoined zero (Chars a ∷ y ∷ Elem e ∷ ns) t is = cc
 rejoined zero (Chars a ∷ y ∷ Comment c ∷ ns) t is = cc
 rejoined zero (Elem e ∷ y ∷ z ∷ ns) t is = cc
@@ -111,14 +111,14 @@ later x ns (suc k) f h = h
 
 texts_meet_behind : (t : List ℕ) (n : ℕ) (ns : List Node) → IsFull t → StartsApart ns → n < length (kids_in ns)
     → ((k : ℕ) → k < length (kids_in ns) → AreNormal ns → IsSome (joined_beside (place k ns) ns) → TextsMeet k (content_of ns))
-    → AreNormal ns → IsSome (joined_beside (suc (place n ns)) (Chars t ∷ ns)) → TextsMeet n (before t (content_of ns))
+    → AreNormal ns → IsSome (joined_beside (suc (place n ns)) (Chars t ∷ ns)) → TextsMeet n (with_text_before t (content_of ns))
 texts_meet_behind t n [] f s h ih a m = absurd (omega arith)
 texts_meet_behind t zero (Elem e ∷ []) f s h ih a m = cc
 texts_meet_behind t zero (Elem e ∷ Elem k ∷ ns) f s h ih a m = cc
 texts_meet_behind t zero (Elem e ∷ Comment c ∷ ns) f s h ih a m = cc
 texts_meet_behind t zero (Elem e ∷ Chars u ∷ ns) f s h ih a m = (IsFull-append t [] f, first_full u (content_of ns) a.0)
   where
-    first_full : (x : List ℕ) (c : Content) → IsFull x → IsFull (first_text (before x c))
+    first_full : (x : List ℕ) (c : Content) → IsFull x → IsFull (first_text (with_text_before x c))
     first_full x (last y) g = IsFull-append x y g
     first_full x (more y n' ds ats c rest) g = IsFull-append x y g
     first_full x (note y c rest) g = IsFull-append x y g

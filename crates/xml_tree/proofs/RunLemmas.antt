@@ -1,7 +1,7 @@
 -- Runs of nodes, one behind another.
 use Rattle.std.proofs.Common.{◌≡◌, ℕ, zero, suc, ◌<◌, ◌≤◌, List, [], ◌∷◌, ◌++◌, length, take, drop, Some, None, false, true≢false, refl, sym, ap, ◌∙◌, arith}
 use Rattle.xml_tree.specs.Tree.{Content, last, more, note, more_of}
-use Rattle.xml_tree.specs.Edits.{before}
+use Rattle.xml_tree.specs.Edits.{with_text_before}
 use Rattle.xml_tree.specs.Nodes.{content_of, StartsApart, AreNormal, ends_in_text, is_text, text_at}
 use Rattle.xml_tree.specs.declared.tree.Node.{Node}
 use Rattle.xml_tree.specs.declared.tree.Node.TheVariants.{Elem, Chars, Comment}
@@ -9,11 +9,11 @@ use Rattle.xml_tree.proofs.Places.{AreNormal-append, before-nil, before-before}
 
 -- a content behind another
 abbrev followed : Content → Content → Content
-followed (last t) d = before t d
+followed (last t) d = with_text_before t d
 followed (more t n ds ats c rest) d = more t n ds ats c (followed rest d)
 followed (note t c rest) d = note t c (followed rest d)
 
-followed-before : (t : List ℕ) (c d : Content) → followed (before t c) d ≡ before t (followed c d)
+followed-before : (t : List ℕ) (c d : Content) → followed (with_text_before t c) d ≡ with_text_before t (followed c d)
 followed-before t (last u) d = before-before t u d
 followed-before t (more u n ds ats c rest) d = refl
 followed-before t (note u c rest) d = refl
@@ -22,7 +22,7 @@ content_of-append : (xs ys : List Node) → content_of (xs ++ ys) ≡ followed (
 content_of-append [] ys = sym (before-nil (content_of ys))
 content_of-append (Elem e ∷ xs) ys = ap (more_of [] e) (content_of-append xs ys)
 content_of-append (Comment c ∷ xs) ys = ap (note [] c) (content_of-append xs ys)
-content_of-append (Chars t ∷ xs) ys = ap (before t) (content_of-append xs ys) ∙ sym (followed-before t (content_of xs) (content_of ys))
+content_of-append (Chars t ∷ xs) ys = ap (with_text_before t) (content_of-append xs ys) ∙ sym (followed-before t (content_of xs) (content_of ys))
 
 -- what is behind and what is in front doesn't matter to what stands between
 pub content_of-between : (ws xs ys zs : List Node) → content_of xs ≡ content_of ys → content_of (ws ++ (xs ++ zs)) ≡ content_of (ws ++ (ys ++ zs))

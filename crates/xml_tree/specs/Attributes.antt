@@ -13,8 +13,8 @@ abbrev pub is_written_so : Name → Attr → Bool
 is_written_so n a = same_name a.name n
 
 -- the attribute with another value
-abbrev pub valued : List ℕ → Attr → Attr
-valued v a = record a { value = v }
+abbrev pub with_new_value : List ℕ → Attr → Attr
+with_new_value v a = record a { value = v }
 
 -- the first item that passes the test is changed by f; where none passes, x stands behind all
 abbrev pub change_first : {A : Type 0} → (A → Bool) → (A → A) → A → List A → List A
@@ -39,7 +39,7 @@ change_item (suc i) f (y ∷ ys) = y ∷ change_item i f ys
 
 -- the attribute of this name gets the value, at its place; where there is none, one stands behind the others
 abbrev pub with_attr : Name → List ℕ → List Attr → List Attr
-with_attr n v ats = change_first (is_written_so n) (valued v) (record { name = n; value = v }) ats
+with_attr n v ats = change_first (is_written_so n) (with_new_value v) (record { name = n; value = v }) ats
 
 -- without the attribute of this name
 abbrev pub without_attr : Name → List Attr → List Attr
@@ -47,4 +47,4 @@ without_attr n ats = remove_first (is_written_so n) ats
 
 -- the i-th attribute gets the value
 abbrev pub with_value : ℕ → List ℕ → List Attr → List Attr
-with_value i v ats = change_item i (valued v) ats
+with_value i v ats = change_item i (with_new_value v) ats

@@ -19,10 +19,10 @@ first_text (more t n ds ats c rest) = t
 first_text (note t c rest) = t
 
 -- with a text before it, which joins the first one
-abbrev pub before : List ℕ → Content → Content
-before t (last u) = last (t ++ u)
-before t (more u n ds ats c rest) = more (t ++ u) n ds ats c rest
-before t (note u c rest) = note (t ++ u) c rest
+abbrev pub with_text_before : List ℕ → Content → Content
+with_text_before t (last u) = last (t ++ u)
+with_text_before t (more u n ds ats c rest) = more (t ++ u) n ds ats c rest
+with_text_before t (note u c rest) = note (t ++ u) c rest
 
 -- with a text behind it, which joins the last one
 abbrev pub with_text : List ℕ → Content → Content
@@ -52,7 +52,7 @@ put (suc j) e (note t c rest) = note t c (put (suc j) e rest)
 -- without its i-th element, counted from 0; the texts beside it are joined
 abbrev pub cut : ℕ → Content → Content
 cut i (last t) = last t
-cut zero (more t n ds ats c rest) = before t rest
+cut zero (more t n ds ats c rest) = with_text_before t rest
 cut (suc i) (more t n ds ats c rest) = more t n ds ats c (cut i rest)
 cut i (note t c rest) = note t c (cut i rest)
 
@@ -93,16 +93,16 @@ drop_attr n e = record e { attrs = without_attr n e.attrs }
 -- ---- the element at a path, and nothing else
 
 -- the number that stands last on a path; 0 on the empty one
-abbrev pub final : List ℕ → ℕ
-final [] = 0
-final (n ∷ []) = n
-final (n ∷ m ∷ p) = final (m ∷ p)
+abbrev pub own_number : List ℕ → ℕ
+own_number [] = 0
+own_number (n ∷ []) = n
+own_number (n ∷ m ∷ p) = own_number (m ∷ p)
 
 -- a path without its last number
-abbrev pub front : List ℕ → List ℕ
-front [] = []
-front (n ∷ []) = []
-front (n ∷ m ∷ p) = n ∷ front (m ∷ p)
+abbrev pub parent_path : List ℕ → List ℕ
+parent_path [] = []
+parent_path (n ∷ []) = []
+parent_path (n ∷ m ∷ p) = n ∷ parent_path (m ∷ p)
 
 -- the element at the path is changed by f
 abbrev pub change_at : List ℕ → (Tree → Tree) → Tree → Tree
@@ -123,11 +123,11 @@ put_over p w = change_at p (λ _. w)
 
 -- the element at the path, which isn't the root, is taken out, and texts that meet are joined
 abbrev pub cut_out : List ℕ → Tree → Tree
-cut_out p = take_in (front p) (final p)
+cut_out p = take_in (parent_path p) (own_number p)
 
 -- texts stand directly on both sides of the element at the path, which isn't the root
 abbrev pub TextsMeetAt : List ℕ → Tree → Type 0
-TextsMeetAt p t = IsSomeAnd (at (front p) t) (λ parent. TextsMeet (final p) parent.content)
+TextsMeetAt p t = IsSomeAnd (at (parent_path p) t) (λ parent. TextsMeet (own_number p) parent.content)
 
 -- the attribute of this name of the element at the path
 abbrev pub attr_at : List ℕ → Name → Tree → Option Attr

@@ -1,7 +1,7 @@
 -- A list of nodes, and the content that it stands for.
 use Rattle.std.specs.Prelude.{ℕ, zero, suc, Bool, true, false, List, [], ◌∷◌, ◌++◌, Option, None, Some, take, drop, option_and_then, slice_get, slice_set, remove}
 use Rattle.xml_tree.specs.Tree.{Content, last, more, note, more_of, Tree, tree_of, height}
-use Rattle.xml_tree.specs.Edits.{before, IsFull}
+use Rattle.xml_tree.specs.Edits.{with_text_before, IsFull}
 use Rattle.xml_tree.specs.declared.tree.Node.{Node}
 use Rattle.xml_tree.specs.declared.tree.Node.TheVariants.{Elem, Chars, Comment}
 
@@ -9,7 +9,7 @@ use Rattle.xml_tree.specs.declared.tree.Node.TheVariants.{Elem, Chars, Comment}
 abbrev pub content_of : List Node → Content
 content_of [] = last []
 content_of (Elem e ∷ ns) = more_of [] e (content_of ns)
-content_of (Chars t ∷ ns) = before t (content_of ns)
+content_of (Chars t ∷ ns) = with_text_before t (content_of ns)
 content_of (Comment c ∷ ns) = note [] c (content_of ns)
 
 -- a text as a node; none where it is empty

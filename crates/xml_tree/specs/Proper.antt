@@ -84,15 +84,15 @@ pub record IsTag (c : List (List Decl)) (n : Name) (ds : List Decl) (ats : List 
   pub prefixes : IsDistinct bytes_eq (map (λ d. d.prefix) ds)
   pub names : IsDistinct same_expanded (map (λ a. attr_name c a.name) ats)
 
--- what each part of a proper content is
-abbrev pub One : List (List Decl) → Part → Type 0
-One c (letter x) = IsTrue (is_char x)
-One c (remark t) = IsTrue (is_comment t)
-One c (tag n ds ats) = IsTag c n ds ats
+-- what each part of a proper content is, in its scope
+abbrev pub IsProperPart : List (List Decl) → Part → Type 0
+IsProperPart c (letter x) = IsTrue (is_char x)
+IsProperPart c (remark t) = IsTrue (is_comment t)
+IsProperPart c (tag n ds ats) = IsTag c n ds ats
 
 -- a proper content, and a proper element in the scope around it
 abbrev pub Proper : List (List Decl) → Content → Type 0
-Proper = Everywhere One
+Proper = Everywhere IsProperPart
 
 abbrev pub ProperIn : List (List Decl) → Tree → Type 0
-ProperIn = Throughout One
+ProperIn = Throughout IsProperPart

@@ -7,7 +7,7 @@ use Rattle.std.specs.Ordering.{is_lt, nat_cmp}
 use Rattle.std.specs.Str.{bytes_eq}
 use Rattle.std.specs.declared.cmp.Ordering.TheVariants.{Less}
 use Rattle.xml_tree.specs.Tree.{Tree, kids_of}
-use Rattle.xml_tree.specs.Edits.{front}
+use Rattle.xml_tree.specs.Edits.{parent_path}
 use Rattle.xml_tree.specs.declared.names.Decl.{Decl}
 
 -- ---- the reserved names (Namespaces in XML 1.0, section 3)
@@ -61,7 +61,7 @@ scope_below (n ∷ p) e = unwrap_or (option_map (scope_at p) (slice_get (kids_of
 -- those of all elements around the one at the path
 abbrev pub scope_around : List ℕ → Tree → List (List Decl)
 scope_around [] e = []
-scope_around (n ∷ p) e = scope_at (front (n ∷ p)) e
+scope_around (n ∷ p) e = scope_at (parent_path (n ∷ p)) e
 
 -- the scope inside an element, by the scope around it
 abbrev pub inside : List (List Decl) → Tree → List (List Decl)

@@ -3,7 +3,7 @@ ghost use Rattle.std.specs.Prelude.{◌≡◌, ◌≤◌, ◌++◌, ℕ, List, S
 ghost use Rattle.std.specs.List.{AllByRecursion};
 ghost use Rattle.xml_tree.specs.Edits.{change_at, cut_out, put_in, put_over};
 ghost use Rattle.xml_tree.specs.Nodes.{exchange_nodes};
-ghost use Rattle.xml_tree.specs.Proper.{OfNode, One, ProperIn};
+ghost use Rattle.xml_tree.specs.Proper.{OfNode, IsProperPart, ProperIn};
 ghost use Rattle.xml_tree.specs.Scopes.{bound, scope_around, scope_at};
 ghost use Rattle.xml_tree.specs.Tree.{Tree, at, kids_of};
 ghost use Rattle.xml_tree.specs.declared.names.Decl.{Decl};
@@ -23,7 +23,7 @@ pub fn proper_after_an_edit()
     ensures inserted { (c : List (List Decl)) (p : List ℕ) (j : ℕ) (e t : Tree) → ProperIn (c ++ scope_at p t) e → ProperIn c t → ProperIn c (put_in p j e t) }
     ensures exchanged { (c : List (List Decl)) (p : List ℕ) (e t : Tree) → ProperIn (c ++ scope_around p t) e → ProperIn c t → ProperIn c (put_over p e t) }
     ensures removed { (c : List (List Decl)) (p : List ℕ) (t : Tree) → ProperIn c t → ProperIn c (cut_out p t) }
-    ensures nodes { (c : List (List Decl)) (p : List ℕ) (from to : ℕ) (ns : List Node) (t : Tree) → AllByRecursion (OfNode One (c ++ scope_at p t)) ns → ProperIn c t
+    ensures nodes { (c : List (List Decl)) (p : List ℕ) (from to : ℕ) (ns : List Node) (t : Tree) → AllByRecursion (OfNode IsProperPart (c ++ scope_at p t)) ns → ProperIn c t
         → ProperIn c (change_at p (exchange_nodes from to ns) t) }
 {}
 

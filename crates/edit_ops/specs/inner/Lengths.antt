@@ -1,7 +1,7 @@
 -- What a change takes from the print of the element that it is made in, and what it brings, in bytes.
 use Rattle.std.specs.Prelude.{ℕ, ◌+◌, flat_map, option_to_list, slice_get, if◌then◌else◌, find}
 use Rattle.xml_tree.specs.Tree.{Tree, kids_of}
-use Rattle.xml_tree.specs.Edits.{cut, final}
+use Rattle.xml_tree.specs.Edits.{cut, own_number}
 use Rattle.xml_tree.specs.Print.{byte_len, is_empty, print, print_attr, print_name}
 use Rattle.xml_tree.specs.declared.names.Name.{Name}
 use Rattle.xml_tree.specs.Attributes.{is_written_so}
@@ -18,7 +18,7 @@ lost (CreateDocument root) e = 0
 lost (Insert parent gap element) e = 0
 lost (Replace p element) e = byte_len (print e)
 lost (Remove p) e =
-    byte_len (flat_map print (option_to_list (slice_get (kids_of e) (final p)))) + (if is_empty (cut (final p) e.content) then end_tag_len e.name else 0)
+    byte_len (flat_map print (option_to_list (slice_get (kids_of e) (own_number p)))) + (if is_empty (cut (own_number p) e.content) then end_tag_len e.name else 0)
 lost (SetAttr p name value) e = byte_len (flat_map print_attr (option_to_list (find (is_written_so name) e.attrs)))
 lost (DropAttr p name) e = byte_len (flat_map print_attr (option_to_list (find (is_written_so name) e.attrs)))
 lost RemoveDocument e = 0

@@ -1,7 +1,7 @@
 -- Where an element stood before changes that don't touch it, computed.
 use Rattle.std.specs.Prelude.{ℕ, Bool, true, false, ◌==◌, ◌&&◌, ◌||◌, not, List, [], ◌∷◌, ◌++◌, Option, None, Some, is_some, option_map, option_and_then, if◌then◌else◌}
 use Rattle.std.specs.Str.{bytes_eq}
-use Rattle.xml_tree.specs.Edits.{final, front}
+use Rattle.xml_tree.specs.Edits.{own_number, parent_path}
 use Rattle.xml_tree.specs.declared.names.Name.{Name}
 use Rattle.edit_ops.specs.Moves.{behind, closed_up, made_room, under}
 use Rattle.edit_ops.specs.declared.change.Change.{Change}
@@ -32,7 +32,7 @@ abbrev pub came_from : List ℕ → Change → Option (List ℕ)
 came_from q (CreateDocument root) = None
 came_from q (Insert parent gap element) = if is_some (behind q parent) then None else re_routed_if (without_gap gap) parent q (behind parent q)
 came_from q (Replace w element) = if is_some (behind q w) || is_some (behind w q) then None else Some q
-came_from q (Remove w) = if is_below_root w && not (is_some (behind q (front w))) then Some (under (made_room (final w)) (front w) q) else None
+came_from q (Remove w) = if is_below_root w && not (is_some (behind q (parent_path w))) then Some (under (made_room (own_number w)) (parent_path w) q) else None
 came_from q (SetAttr w name value) = if is_touched q w name then None else Some q
 came_from q (DropAttr w name) = if is_touched q w name then None else Some q
 came_from q RemoveDocument = None

@@ -3,7 +3,7 @@ use Rattle.std.specs.Prelude.{ℕ, suc, Bool, true, not, ◌&&◌, ◌||◌, cod
 use Rattle.std.specs.List.{list_any}
 use Rattle.std.specs.Str.{bytes_eq}
 use Rattle.xml_tree.specs.Attributes.{with_value}
-use Rattle.xml_tree.specs.Edits.{change_at, front}
+use Rattle.xml_tree.specs.Edits.{change_at, parent_path}
 use Rattle.xml_tree.specs.Expanded.{attr_name, element_name, same_expanded}
 use Rattle.xml_tree.specs.Nodes.{exchange_nodes, nodes_of}
 use Rattle.xml_tree.specs.Scopes.{scope_at}
@@ -30,8 +30,8 @@ selector_tested here sel task =
 abbrev pub site_of : Position → List ℕ → List ℕ
 site_of Behind p = p
 site_of Prepend p = p
-site_of Before p = front p
-site_of After p = front p
+site_of Before p = parent_path p
+site_of After p = parent_path p
 
 abbrev pub gap_of : Position → List ℕ → Tree → ℕ
 gap_of Behind p t = length (nodes_at p t)

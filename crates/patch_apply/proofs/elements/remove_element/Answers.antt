@@ -1,5 +1,5 @@
 use Rattle.std.proofs.Common.{◌+◌, ◌-◌, suc, ℕ, List, IsSome, Ok, sym, subst, ap, ◌∙◌}
-use Rattle.xml_tree.specs.Edits.{front}
+use Rattle.xml_tree.specs.Edits.{parent_path}
 use Rattle.xml_tree.specs.Tree.{at}
 use Rattle.patch_words.specs.Applied.{cut_nodes, one_if}
 use Rattle.patch_apply.specs.inner.Stages.{has_space_beside}
@@ -33,7 +33,7 @@ returns c = record {
   by_the_words =
       let p = c.args.path.now in let t = c.args.tree in let before = c.args.before in let after = c.args.after in
       let same = sym c.place_in_parent-gap.ensures.parent in let here = sym c.place_in_parent-gap.ensures.place in
-      let there : IsSome (at (front p) t) = subst (λ (q : List ℕ). IsSome (at q t)) c.place_in_parent-gap.ensures.parent (some_if (at c.place_in_parent-gap.result.path t) _ c.place_in_parent-gap.ensures.within) in
+      let there : IsSome (at (parent_path p) t) = subst (λ (q : List ℕ). IsSome (at q t)) c.place_in_parent-gap.ensures.parent (some_if (at c.place_in_parent-gap.result.path t) _ c.place_in_parent-gap.ensures.within) in
       remove_made before after p c.args.operation.now.content t there c.requires.low (sym c.is_below.ensures.tells_whether_it_is_below ∙ c.if-not-is_below.false)
       (sym c.is_bare.ensures.tells_whether_it_is_bare ∙ c.if-not-is_bare.false)
       ((λ i. has_space_beside before after (same i) (here i) t) ∙ sym c.space_fits.ensures.tells_whether_it_is_there ∙ c.if-not-space_fits.false)

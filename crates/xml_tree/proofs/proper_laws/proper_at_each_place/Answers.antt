@@ -1,6 +1,6 @@
-use Rattle.xml_tree.specs.Proper.{One}
+use Rattle.xml_tree.specs.Proper.{IsProperPart}
 use Rattle.xml_tree.proofs.EverywhereLaws.{inside, Throughout-change_at}
 use Rattle.xml_tree.proofs.proper_laws.proper_at_each_place.Goals as goal
 
 pub returns : goal.returns
-returns c = record { inside = inside One; changed = Throughout-change_at One }
+returns c = record { inside = inside IsProperPart; changed = Throughout-change_at IsProperPart }

@@ -1,6 +1,6 @@
-use Rattle.xml_tree.specs.Proper.{One}
+use Rattle.xml_tree.specs.Proper.{IsProperPart}
 use Rattle.xml_tree.proofs.ProperEdits.{put-element, put-other}
 use Rattle.xml_tree.proofs.proper_laws.proper_when_put.Goals as goal
 
 pub returns : goal.returns
-returns c = record { inserted = put-element One; exchanged = put-other One }
+returns c = record { inserted = put-element IsProperPart; exchanged = put-other IsProperPart }

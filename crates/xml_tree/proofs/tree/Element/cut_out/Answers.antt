@@ -1,7 +1,7 @@
 use Rattle.std.proofs.Common.{IsSome, IsSomeAnd, OnErr, sym, ap, ◌∙◌, subst}
 use Rattle.std.proofs.lemmas.Result.{IfOk-weaker, on_ok_weaker}
 use Rattle.xml_tree.specs.Tree.{at}
-use Rattle.xml_tree.specs.Edits.{TextsMeet, take_in, front, final}
+use Rattle.xml_tree.specs.Edits.{TextsMeet, take_in, parent_path, own_number}
 use Rattle.xml_tree.proofs.PathLemmas.{at-snoc, final-snoc, front-snoc, kid_is, kid_there}
 use Rattle.xml_tree.proofs.tree.Element.cut_out.Goals as goal
 
@@ -20,14 +20,14 @@ returns-clause-taken c =
 pub returns-clause-ok : goal.returns-clause-ok
 returns-clause-ok c =
     let p = c.in-Some.parent in let n = c.in-Some.child in let t = c.args.self.now in
-    let up = ap front c.in-Some.ensures.parts ∙ front-snoc p n in
-    let low = ap final c.in-Some.ensures.parts ∙ final-snoc p n in
+    let up = ap parent_path c.in-Some.ensures.parts ∙ front-snoc p n in
+    let low = ap own_number c.in-Some.ensures.parts ∙ final-snoc p n in
     on_ok_weaker c.take_in.result (λ made. made ∙ sym (λ i. take_in (up i) (low i) t)) c.take_in.ensures.ok
 
 pub returns-clause-only_where_texts_meet : goal.returns-clause-only_where_texts_meet
 returns-clause-only_where_texts_meet c =
     let p = c.in-Some.parent in let n = c.in-Some.child in let t = c.args.self.now in
-    let up = ap front c.in-Some.ensures.parts ∙ front-snoc p n in
-    let low = ap final c.in-Some.ensures.parts ∙ final-snoc p n in
-    subst (λ q. OnErr c.take_in.result (IsSomeAnd (at q t) (λ parent. TextsMeet (final c.args.path.now) parent.content))) (sym up)
+    let up = ap parent_path c.in-Some.ensures.parts ∙ front-snoc p n in
+    let low = ap own_number c.in-Some.ensures.parts ∙ final-snoc p n in
+    subst (λ q. OnErr c.take_in.result (IsSomeAnd (at q t) (λ parent. TextsMeet (own_number c.args.path.now) parent.content))) (sym up)
     (subst (λ m. OnErr c.take_in.result (IsSomeAnd (at p t) (λ parent. TextsMeet m parent.content))) (sym low) c.take_in.ensures.only_where_texts_meet)
