@@ -11,7 +11,7 @@ use Rattle.std.specs.List.{list_all}
 use Rattle.std.specs.Str.{IsAscii}
 use Rattle.percent_encoding.specs.Percent.{percent_decode}
 use Rattle.percent_encoding.proofs.PercentLemmas.{percent_decode-nil, percent_decode_not_percent}
-use Rattle.grammar_rules.specs.Digits.{decimal}
+use Rattle.grammar_rules.specs.Digits.{decimal_digits}
 use Rattle.grammar_rules.specs.Rules.{AllPass, number_from}
 use Rattle.tree_text.specs.Faults.{is_other}
 use Rattle.xml_tree.specs.Limits.{greatest_u64}
@@ -29,7 +29,7 @@ on_test false f g = g refl
 -- the octets of a numeral are digits
 pub numeral_digits : (octets : List ℕ) (n : ℕ) → numeral_of octets ≡ Some n → list_all is_ascii_digit octets ≡ true
 numeral_digits octets n is =
-    let small = nat_le (number_from decimal 0 octets) greatest_u64 in
+    let small = nat_le (number_from decimal_digits 0 octets) greatest_u64 in
     on_test (begins_with_digit octets && (list_all is_ascii_digit octets && small))
     (λ h. (and_parts (list_all is_ascii_digit octets) small (and_parts (begins_with_digit octets) (list_all is_ascii_digit octets && small) h).1).0)
     (λ h. let never : None ≡ Some n = rw h at is in absurd cc)
@@ -108,11 +108,11 @@ tests = record {
     from_range : (c : ℕ) → (48 ≤ c) × (c ≤ 57) → is_ascii_digit c ≡ true
     from_range c h = and_from (nat_le 48 c) (nat_le c 57) (le-leb 48 c h.0) (le-leb c 57 h.1)
 
-folds : FoldsDigits (number_from decimal)
+folds : FoldsDigits (number_from decimal_digits)
 folds = record { empty = λ n. refl; more = λ n c cs low. refl }
 
-own : IsNumeralModel (λ digits. list_all is_ascii_digit digits ≡ true) (number_from decimal 0)
-own = numerals_by_fold (λ digits. list_all is_ascii_digit digits ≡ true) tests (number_from decimal) folds
+own : IsNumeralModel (λ digits. list_all is_ascii_digit digits ≡ true) (number_from decimal_digits 0)
+own = numerals_by_fold (λ digits. list_all is_ascii_digit digits ≡ true) tests (number_from decimal_digits) folds
 
 begins : (digits : List ℕ) → list_all is_ascii_digit digits ≡ true → 48 < get_or digits 0 0 → begins_with_digit digits ≡ true
 begins [] are some = absurd (omega (arith, some))

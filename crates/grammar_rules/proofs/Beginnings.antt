@@ -4,7 +4,7 @@ use Rattle.std.proofs.Common.{◌≡◌, ℕ, Bool, List, [], ◌∷◌, ◌++�
 use Rattle.std.specs.Prelude.{Some}
 use Rattle.std.proofs.lemmas.List.{append_cancel_left}
 use Rattle.grammar_rules.specs.Digits.{Digits}
-use Rattle.grammar_rules.specs.Rules.{Begin, Rule, Split, never, empty, one, word, run, run_without, up_to, number, sequence, either, Each, many, valued, sized, only, marked, judged, trap, optional, between, some_of, before, behind, quoted, name_rule as name_of}
+use Rattle.grammar_rules.specs.Rules.{Begin, Rule, Split, never, empty, one, word, run, run_without, up_to, number, sequence, either, Each, many, valued, sized, only, marked, judged, trap, optional, between, some_of, keeping_first, keeping_second, quoted, name_rule as name_of}
 use Rattle.grammar_rules.proofs.Exact.{Rest}
 use Rattle.grammar_rules.proofs.Fronts.{compare, pass_front, lacks_front, last_front}
 use Rattle.grammar_rules.proofs.Greedy.{digits_front}
@@ -105,10 +105,10 @@ module _ {Kind : Type 0} where
   pub fronted_optional : {A : Type 0} {r : Rule Kind A} → Fronted r → Fronted (optional r)
   fronted_optional h = fronted_either (fronted_valued Some h) fronted_empty
 
-  pub fronted_before : {A B : Type 0} {r : Rule Kind A} {s : Rule Kind B} → Lawful r → Fronted r → Fronted s → Fronted (before r s)
+  pub fronted_before : {A B : Type 0} {r : Rule Kind A} {s : Rule Kind B} → Lawful r → Fronted r → Fronted s → Fronted (keeping_first r s)
   fronted_before l h i = fronted_valued (λ x. x.0) (fronted_sequence l h (λ _. i))
 
-  pub fronted_behind : {A B : Type 0} {r : Rule Kind A} {s : Rule Kind B} → Lawful r → Fronted r → Fronted s → Fronted (behind r s)
+  pub fronted_behind : {A B : Type 0} {r : Rule Kind A} {s : Rule Kind B} → Lawful r → Fronted r → Fronted s → Fronted (keeping_second r s)
   fronted_behind l h i = fronted_valued (λ x. x.1) (fronted_sequence l h (λ _. i))
 
   pub fronted_name_of : {p q : ℕ → Bool} → Fronted (name_of p q)

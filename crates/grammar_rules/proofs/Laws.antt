@@ -3,7 +3,7 @@ use Rattle.std.proofs.Common.{◌≡◌, ℕ, ◌+◌, ◌<◌, ◌≤◌, Bool,
 use Rattle.std.specs.Prelude.{Some}
 use Rattle.std.proofs.lemmas.List.{length-append, append-nil}
 use Rattle.grammar_rules.specs.Digits.{Digits}
-use Rattle.grammar_rules.specs.Rules.{Begin, Mark, Rule, never, empty, one, word, run, run_without, up_to, number, sequence, either, Each, many, valued, sized, only, atomic, marked, judged, trap, optional, between, some_of, before, behind, quoted, name_rule as name_of}
+use Rattle.grammar_rules.specs.Rules.{Begin, Mark, Rule, never, empty, one, word, run, run_without, up_to, number, sequence, either, Each, many, valued, sized, only, atomic, marked, judged, trap, optional, between, some_of, keeping_first, keeping_second, quoted, name_rule as name_of}
 use Rattle.grammar_rules.proofs.Exact.{Rest, ahead, under}
 
 -- A beginning goes beyond the place of a mark.
@@ -138,10 +138,10 @@ module _ {Kind : Type 0} where
   pub lawful_optional : {A : Type 0} {r : Rule Kind A} → Lawful r → Lawful (optional r)
   lawful_optional h = lawful_either (lawful_valued Some h) lawful_empty
 
-  pub lawful_before : {A B : Type 0} {r : Rule Kind A} {s : Rule Kind B} → Lawful r → Lawful s → Lawful (before r s)
+  pub lawful_before : {A B : Type 0} {r : Rule Kind A} {s : Rule Kind B} → Lawful r → Lawful s → Lawful (keeping_first r s)
   lawful_before h i = lawful_valued (λ x. x.0) (lawful_sequence h (λ _. i))
 
-  pub lawful_behind : {A B : Type 0} {r : Rule Kind A} {s : Rule Kind B} → Lawful r → Lawful s → Lawful (behind r s)
+  pub lawful_behind : {A B : Type 0} {r : Rule Kind A} {s : Rule Kind B} → Lawful r → Lawful s → Lawful (keeping_second r s)
   lawful_behind h i = lawful_valued (λ x. x.1) (lawful_sequence h (λ _. i))
 
   pub lawful_name_of : {p q : ℕ → Bool} → Lawful (name_of p q)
@@ -203,10 +203,10 @@ module _ {Kind : Type 0} where
   pub quiet_optional : {A : Type 0} {r : Rule Kind A} → Quiet r → Quiet (optional r)
   quiet_optional h = quiet_either (quiet_valued Some h) quiet_empty
 
-  pub quiet_before : {A B : Type 0} {r : Rule Kind A} {s : Rule Kind B} → Quiet r → Quiet s → Quiet (before r s)
+  pub quiet_before : {A B : Type 0} {r : Rule Kind A} {s : Rule Kind B} → Quiet r → Quiet s → Quiet (keeping_first r s)
   quiet_before h i = quiet_valued (λ x. x.0) (quiet_sequence h (λ _. i))
 
-  pub quiet_behind : {A B : Type 0} {r : Rule Kind A} {s : Rule Kind B} → Quiet r → Quiet s → Quiet (behind r s)
+  pub quiet_behind : {A B : Type 0} {r : Rule Kind A} {s : Rule Kind B} → Quiet r → Quiet s → Quiet (keeping_second r s)
   quiet_behind h i = quiet_valued (λ x. x.1) (quiet_sequence h (λ _. i))
 
   pub quiet_name_of : {p q : ℕ → Bool} → Quiet (name_of p q)

@@ -1,7 +1,7 @@
 -- Rules whose texts begin with one word and then a character of a class: the character behind the word tells which rule is there.
 use Rattle.std.proofs.Common.{◌≡◌, ℕ, ◌≤◌, Bool, true, false, List, [], ◌∷◌, ◌++◌, length, Result, Ok, Err, ◌⊎◌, inl, inr, ⊎_elim, refl, sym, ap, subst, ◌∙◌, append_assoc, arith}
 use Rattle.std.proofs.lemmas.List.{length-append, append-nil, append_cancel_left}
-use Rattle.grammar_rules.specs.Rules.{Event, Begin, Mark, Rule, word, sequence, either, valued, sized, only, judged, marked, trap, before, behind}
+use Rattle.grammar_rules.specs.Rules.{Event, Begin, Mark, Rule, word, sequence, either, valued, sized, only, judged, marked, trap, keeping_first, keeping_second}
 use Rattle.grammar_rules.specs.Reading.{Stop, Syntax, Faulty, ◌>>=◌, starts}
 use Rattle.grammar_rules.specs.Answers.{Faults}
 use Rattle.grammar_rules.proofs.Exact.{Rest, ahead, regroup, Passed, IsStopped, Outcome}
@@ -144,10 +144,10 @@ module _ {Kind : Type 0} where
       trap_meets Begin v m = inl (refl, m.0, m.1)
       trap_meets (Mark k b) v m = inr (record { next = d; rest = rest; joined = m.2; is = is })
 
-  pub led_before : {A B : Type 0} {w : List ℕ} {Q : ℕ → Type 0} {r : Rule Kind A} (s : Rule Kind B) → Led w Q r → Led w Q (before r s)
+  pub led_before : {A B : Type 0} {w : List ℕ} {Q : ℕ → Type 0} {r : Rule Kind A} (s : Rule Kind B) → Led w Q r → Led w Q (keeping_first r s)
   led_before s h = led_valued (λ x. x.0) (led_sequence (λ _. s) h)
 
-  pub led_behind : {A B : Type 0} {w : List ℕ} {Q : ℕ → Type 0} {r : Rule Kind A} (s : Rule Kind B) → Led w Q r → Led w Q (behind r s)
+  pub led_behind : {A B : Type 0} {w : List ℕ} {Q : ℕ → Type 0} {r : Rule Kind A} (s : Rule Kind B) → Led w Q r → Led w Q (keeping_second r s)
   led_behind s h = led_valued (λ x. x.1) (led_sequence (λ _. s) h)
 
   -- What is led by a longer word is led by a shorter one.

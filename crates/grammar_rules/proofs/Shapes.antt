@@ -1,7 +1,7 @@
 -- The shapes that grammars often have are read exactly.
 use Rattle.std.proofs.Common.{◌≡◌, ℕ, ◌<◌, Bool, true, false, List, [], ◌∷◌, ◌++◌, length, ◌⊎◌, inl, inr, ⊎_elim, refl, sym, ap, subst, ◌∙◌, append_assoc}
 use Rattle.std.specs.Prelude.{Some, None}
-use Rattle.grammar_rules.specs.Rules.{Event, Begin, Mark, Rule, empty, word, AllPass, run, run_without, sequence, either, many, valued, optional, between, some_of, before, behind, quoted, name_rule as name_of}
+use Rattle.grammar_rules.specs.Rules.{Event, Begin, Mark, Rule, empty, word, AllPass, run, run_without, sequence, either, many, valued, optional, between, some_of, keeping_first, keeping_second, quoted, name_rule as name_of}
 use Rattle.grammar_rules.specs.Reading.{Reader, read_run, read_run_without, read_optional, read_between, read_some_of, read_name_of, read_before, read_behind, read_quoted}
 use Rattle.grammar_rules.specs.Answers.{Faults}
 use Rattle.grammar_rules.proofs.Exact.{Rest, ahead, Exact, exact_sequence, exact_sequence_if}
@@ -77,10 +77,10 @@ module _ {Kind : Type 0} {faults : Faults Kind} where
 
   -- # Shapes
 
-  pub exact_before : {A B : Type 0} {r : Rule Kind A} {s : Rule Kind B} {K : A → Rest Kind} {p : Reader Kind A} {q : Reader Kind B} → Exact faults r (λ a. ahead s (λ _. K a)) p → ((a : A) → Exact faults s (λ _. K a) q) → Exact faults (before r s) K (read_before p q)
+  pub exact_before : {A B : Type 0} {r : Rule Kind A} {s : Rule Kind B} {K : A → Rest Kind} {p : Reader Kind A} {q : Reader Kind B} → Exact faults r (λ a. ahead s (λ _. K a)) p → ((a : A) → Exact faults s (λ _. K a) q) → Exact faults (keeping_first r s) K (read_before p q)
   exact_before {A} {B} {r} {s} {K} h i = exact_valued (λ x. x.0) (exact_sequence {s = λ _. s} {K = λ x. K x.0} h i)
 
-  pub exact_behind : {A B : Type 0} {r : Rule Kind A} {s : Rule Kind B} {K : B → Rest Kind} {p : Reader Kind A} {q : Reader Kind B} → Exact faults r (λ _. ahead s K) p → Exact faults s K q → Exact faults (behind r s) K (read_behind p q)
+  pub exact_behind : {A B : Type 0} {r : Rule Kind A} {s : Rule Kind B} {K : B → Rest Kind} {p : Reader Kind A} {q : Reader Kind B} → Exact faults r (λ _. ahead s K) p → Exact faults s K q → Exact faults (keeping_second r s) K (read_behind p q)
   exact_behind {A} {B} {r} {s} {K} h i = exact_valued (λ x. x.1) (exact_sequence {s = λ _. s} {K = λ x. K x.1} h (λ _. i))
 
   pub exact_some_of : {p : ℕ → Bool} {K : List ℕ → Rest Kind} → ((cs : List ℕ) → Heads (Not p) (K cs)) → Exact faults (some_of p) K (read_some_of p)
@@ -90,7 +90,7 @@ module _ {Kind : Type 0} {faults : Faults Kind} where
   exact_name_of {first} {others} {K} h = exact_valued (λ x. x.0 ∷ x.1) (exact_sequence {K = λ x. K (x.0 ∷ x.1)} exact_one (λ c. exact_run (λ cs. h (c ∷ cs))))
 
   pub exact_quoted : {A : Type 0} {is_quote : ℕ → Bool} {inside : ℕ → Rule Kind A} {K : A → Rest Kind} {p : ℕ → Reader Kind A} → ((q : ℕ) → is_quote q ≡ true → Exact faults (inside q) (λ a. ahead (word (q ∷ [])) (λ _. K a)) (p q)) → Exact faults (quoted is_quote inside) K (read_quoted is_quote p)
-  exact_quoted {A} {is_quote} {inside} {K} h = exact_valued (λ x. x.1) (exact_sequence_if {s = λ q. before (inside q) (word (q ∷ []))} {K = λ x. K x.1} exact_one (λ q u s. exact_before (h q s.0) (λ _. exact_word)))
+  exact_quoted {A} {is_quote} {inside} {K} h = exact_valued (λ x. x.1) (exact_sequence_if {s = λ q. keeping_first (inside q) (word (q ∷ []))} {K = λ x. K x.1} exact_one (λ q u s. exact_before (h q s.0) (λ _. exact_word)))
 
   -- A rule that may be absent: the test tells whether it is there.
   pub exact_optional : {A : Type 0} {r : Rule Kind A} {K : Rest Kind} {p : Reader Kind A} (test : List ℕ → Bool) → Exact faults r (λ _. K) p → ((text : List ℕ) → test text ≡ true → Covers faults text K (ahead r (λ _. K))) → ((text : List ℕ) → test text ≡ false → Covers faults text (ahead r (λ _. K)) K) → Exact faults (optional r) (λ _. K) (read_optional test p)
@@ -140,19 +140,19 @@ module _ {Kind : Type 0} where
   pub starts_name_of : {P : ℕ → Type 0} {first : ℕ → Bool} (others : ℕ → Bool) → ((c : ℕ) → first c ≡ true → P c) → Starts {Kind = Kind} P (name_of first others)
   starts_name_of {P} {first} others h = starts_valued (λ x. x.0 ∷ x.1) (starts_sequence (λ _. run others) (starts_one h))
 
-  pub starts_before : {A B : Type 0} {P : ℕ → Type 0} {r : Rule Kind A} (s : Rule Kind B) → Starts P r → Starts P (before r s)
+  pub starts_before : {A B : Type 0} {P : ℕ → Type 0} {r : Rule Kind A} (s : Rule Kind B) → Starts P r → Starts P (keeping_first r s)
   starts_before s h = starts_valued (λ x. x.0) (starts_sequence (λ _. s) h)
 
-  pub starts_behind : {A B : Type 0} {P : ℕ → Type 0} {r : Rule Kind A} (s : Rule Kind B) → Starts P r → Starts P (behind r s)
+  pub starts_behind : {A B : Type 0} {P : ℕ → Type 0} {r : Rule Kind A} (s : Rule Kind B) → Starts P r → Starts P (keeping_second r s)
   starts_behind s h = starts_valued (λ x. x.1) (starts_sequence (λ _. s) h)
 
   pub starts_quoted : {A : Type 0} {P : ℕ → Type 0} {is_quote : ℕ → Bool} (inside : ℕ → Rule Kind A) → ((c : ℕ) → is_quote c ≡ true → P c) → Starts P (quoted is_quote inside)
-  starts_quoted inside h = starts_valued (λ x. x.1) (starts_sequence (λ q. before (inside q) (word (q ∷ []))) (starts_one h))
+  starts_quoted inside h = starts_valued (λ x. x.1) (starts_sequence (λ q. keeping_first (inside q) (word (q ∷ []))) (starts_one h))
 
-  pub heads_before : {A B : Type 0} {P : ℕ → Type 0} {r : Rule Kind A} {s : Rule Kind B} {K : A → Rest Kind} → Heads P (ahead r (λ a. ahead s (λ _. K a))) → Heads P (ahead (before r s) K)
+  pub heads_before : {A B : Type 0} {P : ℕ → Type 0} {r : Rule Kind A} {s : Rule Kind B} {K : A → Rest Kind} → Heads P (ahead r (λ a. ahead s (λ _. K a))) → Heads P (ahead (keeping_first r s) K)
   heads_before {A} {B} {P} {r} {s} {K} h = heads_valued (λ x. x.0) (heads_sequence {s = λ _. s} {K = λ x. K x.0} h)
 
-  pub heads_behind : {A B : Type 0} {P : ℕ → Type 0} {r : Rule Kind A} {s : Rule Kind B} {K : B → Rest Kind} → Heads P (ahead r (λ _. ahead s K)) → Heads P (ahead (behind r s) K)
+  pub heads_behind : {A B : Type 0} {P : ℕ → Type 0} {r : Rule Kind A} {s : Rule Kind B} {K : B → Rest Kind} → Heads P (ahead r (λ _. ahead s K)) → Heads P (ahead (keeping_second r s) K)
   heads_behind {A} {B} {P} {r} {s} {K} h = heads_valued (λ x. x.1) (heads_sequence {s = λ _. s} {K = λ x. K x.1} h)
 
   pub inside_past_member : {A B : Type 0} {gap : Rule Kind A} {member : Rule Kind B} {K : Rest Kind} → Lawful gap → Lawful member → member.Meets Begin [] → Inside K → (b : B) → Inside (past_member gap member K b)

@@ -2,7 +2,7 @@
 use Rattle.std.proofs.Common.{◌≡◌, ℕ, ◌<◌, Bool, true, false, List, [], ◌∷◌, ◌++◌, length, ◌⊎◌, inl, inr, ⊎_elim, refl, sym, ap, subst, ◌∙◌, arith}
 use Rattle.std.specs.Prelude.{◌&&◌, Option, Some, None}
 use Rattle.std.proofs.lemmas.List.{length-append, append-nil}
-use Rattle.grammar_rules.specs.Rules.{Event, Begin, Mark, Rule, AllPass, empty, run, sequence, many, valued, sized, optional, some_of, before, behind}
+use Rattle.grammar_rules.specs.Rules.{Event, Begin, Mark, Rule, AllPass, empty, run, sequence, many, valued, sized, optional, some_of, keeping_first, keeping_second}
 use Rattle.grammar_rules.specs.Reading.{Reader, head_is, after_front, spaced, read_many, read_optional}
 use Rattle.grammar_rules.specs.Answers.{Faults}
 use Rattle.grammar_rules.proofs.Exact.{Rest, ahead, regroup, sequence_meets, sequence_whole, Exact}
@@ -124,7 +124,7 @@ module _ {Kind : Type 0} (space : ℕ → Bool) where
       head_space c x [] back j lt a = absurd (omega arith)
       head_space c x (d ∷ front) back j lt a = let same : c ≡ d = cc in ap space same ∙ a.0
 
-  pub leads_behind : {A B : Type 0} {P : ℕ → Type 0} {r : Rule Kind A} {s : Rule Kind B} → ((c : ℕ) → P c → space c ≡ false) → Blank space r → Starts P s → Leads space P (behind r s)
+  pub leads_behind : {A B : Type 0} {P : ℕ → Type 0} {r : Rule Kind A} {s : Rule Kind B} → ((c : ℕ) → P c → space c ≡ false) → Blank space r → Starts P s → Leads space P (keeping_second r s)
   leads_behind apart h i = leads_valued (λ x. x.1) (leads_sequence apart h i)
 
   -- # What follows
@@ -198,10 +198,10 @@ module _ {Kind : Type 0} (space : ℕ → Bool) where
     whole = λ v m. h.whole v (valued_whole f r K v m);
   }
 
-  pub spaced_behind : {A B : Type 0} {P : ℕ → Type 0} {r : Rule Kind A} {s : Rule Kind B} {K : B → Rest Kind} → Spaced space P (ahead r (λ _. ahead s K)) → Spaced space P (ahead (behind r s) K)
+  pub spaced_behind : {A B : Type 0} {P : ℕ → Type 0} {r : Rule Kind A} {s : Rule Kind B} {K : B → Rest Kind} → Spaced space P (ahead r (λ _. ahead s K)) → Spaced space P (ahead (keeping_second r s) K)
   spaced_behind {A} {B} {P} {r} {s} {K} h = spaced_valued (λ x. x.1) (spaced_sequence {s = λ _. s} {K = λ x. K x.1} h)
 
-  pub spaced_before : {A B : Type 0} {P : ℕ → Type 0} {r : Rule Kind A} {s : Rule Kind B} {K : A → Rest Kind} → Spaced space P (ahead r (λ a. ahead s (λ _. K a))) → Spaced space P (ahead (before r s) K)
+  pub spaced_before : {A B : Type 0} {P : ℕ → Type 0} {r : Rule Kind A} {s : Rule Kind B} {K : A → Rest Kind} → Spaced space P (ahead r (λ a. ahead s (λ _. K a))) → Spaced space P (ahead (keeping_first r s) K)
   spaced_before {A} {B} {P} {r} {s} {K} h = spaced_valued (λ x. x.0) (spaced_sequence {s = λ _. s} {K = λ x. K x.0} h)
 
   -- a rule behind white space that may be absent

@@ -8,8 +8,8 @@ pub record Digits : Type 0 where
   pub is_digit : ℕ → Bool
   pub value : ℕ → ℕ
 
-abbrev pub decimal : Digits
-decimal = record { base = 10; is_digit = is_ascii_digit; value = λ c. c - 48 }
+abbrev pub decimal_digits : Digits
+decimal_digits = record { base = 10; is_digit = is_ascii_digit; value = λ c. c - 48 }
 
 abbrev pub hexadecimal : Digits
 hexadecimal = record { base = 16; is_digit = is_ascii_hexdigit; value = λ c. if nat_le c 57 then c - 48 else if nat_le c 70 then c - 55 else c - 87 }

@@ -220,13 +220,13 @@ some_of p = valued (λ x. x.0 ∷ x.1) (sequence (one p) (λ _. run p))
 abbrev pub name_rule : {Kind : Type 0} → (ℕ → Bool) → (ℕ → Bool) → Rule Kind (List ℕ)
 name_rule first others = valued (λ x. x.0 ∷ x.1) (sequence (one first) (λ _. run others))
 
--- What stands before something, and what stands behind something.
-abbrev pub before : {Kind A B : Type 0} → Rule Kind A → Rule Kind B → Rule Kind A
-before r s = valued (λ x. x.0) (sequence r (λ _. s))
+-- One thing and then another: the value is that of the first, or of the second.
+abbrev pub keeping_first : {Kind A B : Type 0} → Rule Kind A → Rule Kind B → Rule Kind A
+keeping_first r s = valued (λ x. x.0) (sequence r (λ _. s))
 
-abbrev pub behind : {Kind A B : Type 0} → Rule Kind A → Rule Kind B → Rule Kind B
-behind r s = valued (λ x. x.1) (sequence r (λ _. s))
+abbrev pub keeping_second : {Kind A B : Type 0} → Rule Kind A → Rule Kind B → Rule Kind B
+keeping_second r s = valued (λ x. x.1) (sequence r (λ _. s))
 
 -- A pair of equal quotes, and what stands between them, which may depend on the quote.
 abbrev pub quoted : {Kind A : Type 0} → (ℕ → Bool) → (ℕ → Rule Kind A) → Rule Kind A
-quoted is_quote inside = valued (λ x. x.1) (sequence (one is_quote) (λ q. before (inside q) (word (q ∷ []))))
+quoted is_quote inside = valued (λ x. x.1) (sequence (one is_quote) (λ q. keeping_first (inside q) (word (q ∷ []))))

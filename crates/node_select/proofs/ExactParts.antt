@@ -5,8 +5,8 @@ use Rattle.std.proofs.lemmas.Bool.{eqb-true, eq-eqb}
 use Rattle.std.specs.Int.{is_in_range as within}
 use Rattle.std.specs.Char.{is_ascii_digit as is_digit, is_ascii_hexdigit as is_hex_digit}
 use Rattle.xml_tree.specs.Characters.{is_char, is_name_start, is_name_char}
-use Rattle.grammar_rules.specs.Digits.{decimal, hexadecimal}
-use Rattle.grammar_rules.specs.Rules.{word, either, optional, before, behind, number}
+use Rattle.grammar_rules.specs.Digits.{decimal_digits, hexadecimal}
+use Rattle.grammar_rules.specs.Rules.{word, either, optional, keeping_first, keeping_second, number}
 use Rattle.grammar_rules.specs.Reading.{starts, read_word, read_either, read_valued}
 use Rattle.grammar_rules.specs.Answers.{Faults}
 use Rattle.grammar_rules.proofs.Exact.{Rest, ahead, Exact, exact_sequence}
@@ -67,7 +67,7 @@ abbrev pub in_qname : ℕ → Bool
 in_qname c = is_name_char c || (c == 58)
 
 module _ {K : Rest Kind} where
-  colon_heads : Heads (Not in_qname) K → (cs : List ℕ) → Heads (Not is_name_char) (ahead (optional (behind (word colon) name)) (λ _. K))
+  colon_heads : Heads (Not in_qname) K → (cs : List ℕ) → Heads (Not is_name_char) (ahead (optional (keeping_second (word colon) name)) (λ _. K))
   colon_heads h cs = heads_optional (starts_behind name (starts_word refl)) (heads_weaker (λ c m. left_false (is_name_char c) (c == 58) m) h)
 
 module _ {faults : Faults Kind} {K : Rest Kind} where
@@ -82,7 +82,7 @@ pub lawful_qname : Lawful qname
 lawful_qname = lawful_valued qname_of (lawful_sequence lawful_name_of (λ _. lawful_optional (lawful_behind (lawful_word colon) lawful_name_of)))
 
 pub starts_qname : Starts (λ c. is_name_start c ≡ true) qname
-starts_qname = starts_valued qname_of (starts_sequence (λ _. optional (behind (word colon) name)) (starts_name_of is_name_char (λ c m. m)))
+starts_qname = starts_valued qname_of (starts_sequence (λ _. optional (keeping_second (word colon) name)) (starts_name_of is_name_char (λ c m. m)))
 
 -- ---- references
 starts_stands : {P : ℕ → Type 0} (c d : ℕ) (w : List ℕ) → P d → Starts P (stands_for c (d ∷ w))
@@ -122,22 +122,22 @@ module _ {faults : Faults Kind} {K : ℕ → Rest Kind} where
   exact_numbered h =
       exact_behind exact_word
       (exact_either_head (λ c. c == 120) (starts_behind (number hexadecimal last_char is_char) (starts_word refl)) (λ c m. m)
-      (heads_starts (starts_number decimal last_char is_char (λ c d. other is_digit c 120 refl d))) (λ c t m. clash (c == 120) t m)
+      (heads_starts (starts_number decimal_digits last_char is_char (λ c d. other is_digit c 120 refl d))) (λ c t m. clash (c == 120) t m)
       (exact_behind exact_word (exact_number hexadecimal last_char is_char h))
-      (exact_number decimal last_char is_char (λ n. heads_weaker (λ c m. left_false (within 48 57 c) (within 65 70 c) (left_false (within 48 57 c || within 65 70 c) (within 97 102 c) m)) (h n))))
+      (exact_number decimal_digits last_char is_char (λ n. heads_weaker (λ c m. left_false (within 48 57 c) (within 65 70 c) (left_false (within 48 57 c || within 65 70 c) (within 97 102 c) m)) (h n))))
 
 module _ {faults : Faults Kind} {K : ℕ → Rest Kind} where
   pub exact_reference : Exact faults reference K read_reference
   exact_reference =
       exact_behind exact_word
       (exact_before
-      (exact_either_head (λ c. c == 35) (starts_behind (either (behind (word small_x) (number hexadecimal last_char is_char)) (number decimal last_char is_char)) (starts_word refl)) (λ c m. m)
+      (exact_either_head (λ c. c == 35) (starts_behind (either (keeping_second (word small_x) (number hexadecimal last_char is_char)) (number decimal_digits last_char is_char)) (starts_word refl)) (λ c m. m)
       (heads_starts (starts_entity (λ c. c == 35) refl refl refl refl)) (λ c t m. clash (c == 35) t m)
       (exact_numbered (λ n. heads_starts (starts_word refl))) exact_entity)
       (λ n. exact_word))
 
 pub starts_reference : Starts (λ c. (c == 38) ≡ true) reference
-starts_reference = starts_behind (before (either numbered entity) (word semicolon)) (starts_word refl)
+starts_reference = starts_behind (keeping_first (either numbered entity) (word semicolon)) (starts_word refl)
 
 -- ---- values
 raw_not_ampersand : (q c : ℕ) → (c == 38) ≡ true → is_raw_in q c ≡ false
@@ -168,7 +168,7 @@ pub lawful_reference : Lawful reference
 lawful_reference =
     lawful_behind (lawful_word ampersand)
     (lawful_before
-    (lawful_either (lawful_behind (lawful_word hash) (lawful_either (lawful_behind (lawful_word small_x) (lawful_number hexadecimal last_char is_char)) (lawful_number decimal last_char is_char)))
+    (lawful_either (lawful_behind (lawful_word hash) (lawful_either (lawful_behind (lawful_word small_x) (lawful_number hexadecimal last_char is_char)) (lawful_number decimal_digits last_char is_char)))
     (lawful_either (stands 60 lt) (lawful_either (stands 62 gt) (lawful_either (stands 34 quot) (lawful_either (stands 39 apos) (stands 38 amp))))))
     (lawful_word semicolon))
   where

@@ -4,7 +4,7 @@ use Rattle.std.specs.Prelude.{◌||◌, not, ◌==◌, Option, None, Some}
 use Rattle.std.proofs.lemmas.Bool.{eqb-true}
 use Rattle.std.proofs.lemmas.List.{append_cancel_right, append_cancel_left, length-append, take-append-drop}
 use Rattle.xml_tree.specs.Characters.{is_name_start}
-use Rattle.grammar_rules.specs.Rules.{Event, Begin, Mark, Rule, word, many, only, judged, optional, behind, valued}
+use Rattle.grammar_rules.specs.Rules.{Event, Begin, Mark, Rule, word, many, only, judged, optional, keeping_second, valued}
 use Rattle.grammar_rules.specs.Reading.{Stop, Syntax, Faulty, ◌>>=◌, all_of, Reader, head_is, starts, read_word, read_behind, read_optional, read_valued, read_whole}
 use Rattle.grammar_rules.specs.Answers.{Answers, Faults}
 use Rattle.grammar_rules.proofs.Exact.{Rest, ahead, Exact, IsRead, IsStopped, exact_sequence}
@@ -87,7 +87,7 @@ module _ (bindings : List Decl) (default : List ℕ) (on : Bool) where
   step = Grammar.step bindings default
 
   abbrev next_step : Rule Kind Step
-  next_step = behind (word slash) step
+  next_step = keeping_second (word slash) step
 
   abbrev steps : Rule Kind (List Step)
   steps = Grammar.steps bindings default
@@ -134,7 +134,7 @@ module _ (bindings : List Decl) (default : List ℕ) (on : Bool) where
 
   module _ {E : Type 0} (last : Rule Kind E) (f : Option E → E) (lawful_last : Lawful last) where
     abbrev pub tail : Rule Kind E
-    tail = valued f (optional (behind (word slash) last))
+    tail = valued f (optional (keeping_second (word slash) last))
 
     abbrev pub tail_rest : Rest Kind
     tail_rest = ahead tail (λ _. ends)
@@ -175,7 +175,7 @@ module _ (bindings : List Decl) (default : List ℕ) (on : Bool) where
       stops_at : (text t : List ℕ) → text ≡ 47 ∷ t → follows text ≡ false → Covers faults text (ahead next_step (λ _. after_step)) tail_rest
       stops_at text t j h =
           covered_valued f (λ _. ends)
-          (covers_by (into_optional (behind (word slash) last) ends)
+          (covers_by (into_optional (keeping_second (word slash) last) ends)
           (covers_valued (λ x. x.1) (covers_sequence (covered_valued (λ x. x.1) (λ _. ends) (covered_sequence (λ _. last) (λ _. ends)
           (subst (λ (z : List ℕ). Covers faults z (ahead (word slash) (λ _. ahead step (λ _. after_step))) (ahead (word slash) (λ _. ahead last (λ _. ends)))) (sym j)
           (slash_covers t (a.no_step t (ap follows (sym j) ∙ h)))))))))

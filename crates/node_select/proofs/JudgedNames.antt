@@ -7,7 +7,7 @@ use Rattle.std.proofs.lemmas.List.{length-append, append-nil}
 use Rattle.xml_tree.specs.declared.names.Name.{Name}
 use Rattle.xml_tree.specs.declared.names.Decl.{Decl}
 use Rattle.xml_tree.specs.Characters.{is_name_start, is_name_char}
-use Rattle.grammar_rules.specs.Rules.{Event, Begin, Mark, Rule, AllPass, word, only, judged, optional, behind}
+use Rattle.grammar_rules.specs.Rules.{Event, Begin, Mark, Rule, AllPass, word, only, judged, optional, keeping_second}
 use Rattle.grammar_rules.specs.Reading.{Stop, Syntax, Faulty, Reader, ◌>>=◌, front_of, after_front, read_judged, read_only, judgement}
 use Rattle.grammar_rules.proofs.Exact.{Rest, ahead, Exact, IsRead, IsAtFault, Outcome, Passed, Behind, Later}
 use Rattle.grammar_rules.proofs.Laws.{Lawful, Quiet, Inside, inside_ahead, lawful_judged}
@@ -86,7 +86,7 @@ pub record ReadSo (p : Reader Kind Name) (text : List ℕ) (n : Name) : Type 0 w
 abbrev pub HasPrefix : Name → Type 0
 HasPrefix n = bytes_eq n.prefix [] ≡ false
 
-prefixed_by : (text u v w f : List ℕ) (o : Option (List ℕ)) → text ≡ (u ++ v) ++ w → name.Spells u f → (optional (behind (word {Kind = Kind} colon) name)).Spells v o → HasPrefix (qname_by f o) → ReadSo read_qname text (qname_by f o)
+prefixed_by : (text u v w f : List ℕ) (o : Option (List ℕ)) → text ≡ (u ++ v) ++ w → name.Spells u f → (optional (keeping_second (word {Kind = Kind} colon) name)).Spells v o → HasPrefix (qname_by f o) → ReadSo read_qname text (qname_by f o)
 prefixed_by text u v w f None j m s h = absurd cc
 prefixed_by text u v w f (Some l) j m (inl s) h =
     let sp = s.1.1 in
@@ -116,7 +116,7 @@ prefixed_attribute text v w n j m h =
     record { read = s.read; rest = s.rest; read_is = rw (s.read_is, may_name n s.read s.prefix_is h) refl; prefix_is = s.prefix_is }
 
 -- how long a name is
-written_long : (u v f : List ℕ) (o : Option (List ℕ)) → name.Spells u f → (optional (behind (word {Kind = Kind} colon) name)).Spells v o → length (written (qname_by f o)) ≡ length (u ++ v)
+written_long : (u v f : List ℕ) (o : Option (List ℕ)) → name.Spells u f → (optional (keeping_second (word {Kind = Kind} colon) name)).Spells v o → length (written (qname_by f o)) ≡ length (u ++ v)
 written_long u v f None m (inl s) = absurd (let e = s.2 in cc)
 written_long u v f None m (inr s) = ap length ((is_name_of u f m).same ∙ sym (append-nil u) ∙ ap (λ (z : List ℕ). u ++ z) (sym s.0))
 written_long u v f (Some l) m (inr s) = absurd (let e = s.1 in cc)

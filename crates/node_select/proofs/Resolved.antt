@@ -1,7 +1,7 @@
 -- A selector that is read with widths and then resolved is the one that is read where each name is resolved at its place.
 use Rattle.std.proofs.Common.{◌≡◌, ℕ, zero, suc, ◌+◌, ◌-◌, Bool, true, false, cond, List, [], ◌∷◌, length, Result, Ok, Err, refl, sym, ap, ◌∙◌, arith}
 use Rattle.std.specs.Prelude.{Option, None, Some, option_map, nat_eq, map}
-use Rattle.grammar_rules.specs.Rules.{word, behind, only}
+use Rattle.grammar_rules.specs.Rules.{word, keeping_second, only}
 use Rattle.grammar_rules.specs.Reading.{Stop, Syntax, Reader, ◌>>=◌, read_word, read_sequence, read_valued, read_sized, read_only, read_optional, read_behind}
 use Rattle.grammar_rules.proofs.Exact.{Exact}
 use Rattle.grammar_rules.proofs.Leaves.{exact_word}
@@ -88,7 +88,7 @@ module _ (bindings : List Decl) (default : List ℕ) (on : Bool) (whole : List �
   word_follows w = let e : Exact (marks on) (word w) (λ _. ends) (read_word w) = exact_word in plain on whole e
 
   equals_follows : Follows on whole (read_behind (read_word equals_sign) read_value) (read_behind (read_word equals_sign) read_value) (λ a. a) (no_name on whole)
-  equals_follows = let e : Exact (marks on) (behind (word equals_sign) value) (λ _. ends) (read_behind (read_word equals_sign) read_value) = exact_behind exact_word exact_value in plain on whole e
+  equals_follows = let e : Exact (marks on) (keeping_second (word equals_sign) value) (λ _. ends) (read_behind (read_word equals_sign) read_value) = exact_behind exact_word exact_value in plain on whole e
 
   position_follows_so : Follows on whole (read_optional position_follows read_position) (read_optional position_follows read_position) (option_map (λ a. a)) (if_some on whole (no_name on whole))
   position_follows_so = let e : Exact (marks on) position (λ _. ends) read_position = exact_position in optional on whole position_follows (plain on whole e)

@@ -2,7 +2,7 @@
 use Rattle.std.proofs.Common.{ℕ, List, inl, refl}
 use Rattle.xml_tree.specs.Characters.{is_char}
 use Rattle.xml_tree.specs.declared.names.Decl.{Decl}
-use Rattle.grammar_rules.specs.Digits.{decimal, hexadecimal}
+use Rattle.grammar_rules.specs.Digits.{decimal_digits, hexadecimal}
 use Rattle.grammar_rules.proofs.Laws.{Lawful, lawful_valued, lawful_sequence, lawful_optional, lawful_behind, lawful_word, lawful_name_of, lawful_either, lawful_number, lawful_between, lawful_run, lawful_some_of}
 use Rattle.grammar_rules.proofs.Beginnings.{Fronted, fronted_word, fronted_run, fronted_number, fronted_sequence, fronted_either, fronted_valued, fronted_only, fronted_judged, fronted_optional, fronted_before, fronted_behind, fronted_name_of, fronted_some_of, fronted_quoted, fronted_between}
 use Rattle.tree_text.specs.readers.Words.{colon, ampersand, semicolon, hash, small_x, amp, lt, gt, quot, apos}
@@ -17,10 +17,10 @@ fronted_qname : Fronted qname
 fronted_qname = fronted_valued qname_of (fronted_sequence lawful_name_of fronted_name_of (λ _. fronted_optional (fronted_behind (lawful_word colon) (fronted_word colon) fronted_name_of)))
 
 lawful_numbered : Lawful numbered
-lawful_numbered = lawful_behind (lawful_word hash) (lawful_either (lawful_behind (lawful_word small_x) (lawful_number hexadecimal last_char is_char)) (lawful_number decimal last_char is_char))
+lawful_numbered = lawful_behind (lawful_word hash) (lawful_either (lawful_behind (lawful_word small_x) (lawful_number hexadecimal last_char is_char)) (lawful_number decimal_digits last_char is_char))
 
 fronted_numbered : Fronted numbered
-fronted_numbered = fronted_behind (lawful_word hash) (fronted_word hash) (fronted_either (fronted_behind (lawful_word small_x) (fronted_word small_x) (fronted_number hexadecimal last_char is_char)) (fronted_number decimal last_char is_char))
+fronted_numbered = fronted_behind (lawful_word hash) (fronted_word hash) (fronted_either (fronted_behind (lawful_word small_x) (fronted_word small_x) (fronted_number hexadecimal last_char is_char)) (fronted_number decimal_digits last_char is_char))
 
 lawful_stands : (c : ℕ) (w : List ℕ) → Lawful (stands_for c w)
 lawful_stands c w = lawful_valued (λ _. c) (lawful_word w)

@@ -14,8 +14,8 @@ use Rattle.std.specs.Char.{is_ascii_digit}
 use Rattle.xml_tree.specs.Scopes.{xmlns_prefix}
 use Rattle.xml_tree.specs.declared.names.Name.{Name}
 use Rattle.xml_tree.specs.declared.names.Decl.{Decl}
-use Rattle.grammar_rules.specs.Digits.{decimal}
-use Rattle.grammar_rules.specs.Rules.{Rule, word, run, number_from, sequence, either, many, valued, only, judged, optional, between, some_of, before, behind, quoted}
+use Rattle.grammar_rules.specs.Digits.{decimal_digits}
+use Rattle.grammar_rules.specs.Rules.{Rule, word, run, number_from, sequence, either, many, valued, only, judged, optional, between, some_of, keeping_first, keeping_second, quoted}
 use Rattle.tree_text.specs.declared.kind.Kind.{Kind}
 use Rattle.tree_text.specs.declared.kind.Kind.TheVariants.{Unbound}
 use Rattle.tree_text.specs.Pieces.{written}
@@ -53,11 +53,11 @@ abbrev pub greatest_position : ℕ
 greatest_position = 4294967295
 
 abbrev pub position_of : List ℕ → ℕ
-position_of digits = if nat_le (number_from decimal 0 digits) greatest_position then number_from decimal 0 digits else 0
+position_of digits = if nat_le (number_from decimal_digits 0 digits) greatest_position then number_from decimal_digits 0 digits else 0
 
 -- "[" 1*DIGIT "]"
 abbrev pub position : Rule Kind ℕ
-position = behind (word (codes "[")) (before (valued position_of (some_of is_ascii_digit)) (word (codes "]")))
+position = keeping_second (word (codes "[")) (keeping_first (valued position_of (some_of is_ascii_digit)) (word (codes "]")))
 
 -- `xmlns`, which declares, is no name of an attribute
 abbrev pub names_attribute : Name → Bool
@@ -102,21 +102,21 @@ module _ (bindings : List Decl) (default : List ℕ) where
 
   -- "@" QName
   abbrev pub attribute : Rule Kind Name
-  attribute = behind (word (codes "@")) (judged (IsUnbound bindings) (only names_attribute qname))
+  attribute = keeping_second (word (codes "@")) (judged (IsUnbound bindings) (only names_attribute qname))
 
   abbrev pub attr_test : Name × List ℕ → AttrTest
   attr_test x = record { uri = attr_uri bindings x.0; local = x.0.local; value = x.1 }
 
   -- "[" "@" QName "=" value "]"
   abbrev pub test : Rule Kind AttrTest
-  test = behind (word (codes "[")) (before (valued attr_test (sequence attribute (λ _. behind (word (codes "=")) value))) (word (codes "]")))
+  test = keeping_second (word (codes "[")) (keeping_first (valued attr_test (sequence attribute (λ _. keeping_second (word (codes "=")) value))) (word (codes "]")))
 
   abbrev pub step : Rule Kind Step
   step = valued step_of (sequence (sequence node_name (λ _. optional position)) (λ _. optional test))
 
   -- step *( "/" step )
   abbrev pub steps : Rule Kind (List Step)
-  steps = valued first_step_of (sequence step (λ _. many (behind (word (codes "/")) step)))
+  steps = valued first_step_of (sequence step (λ _. many (keeping_second (word (codes "/")) step)))
 
   -- ---- selectors
 
@@ -128,7 +128,7 @@ module _ (bindings : List Decl) (default : List ℕ) where
   end = either (valued attribute_end attribute) (valued (λ _. Namespaces) (word (codes "namespace::*")))
 
   abbrev pub selector : Rule Kind Selector
-  selector = valued selector_of (sequence steps (λ _. valued end_or_element (optional (behind (word (codes "/")) end))))
+  selector = valued selector_of (sequence steps (λ _. valued end_or_element (optional (keeping_second (word (codes "/")) end))))
 
   -- ---- selectors of patches
 
@@ -137,9 +137,9 @@ module _ (bindings : List Decl) (default : List ℕ) where
 
   -- "@" QName / "text()" [ "[" 1*DIGIT "]" ]
   abbrev pub patch_end : Rule Kind PatchEnd
-  patch_end = either (valued patch_attribute_end attribute) (valued (λ n. patch_ends.Chars n) (behind (word (codes "text()")) (optional position)))
+  patch_end = either (valued patch_attribute_end attribute) (valued (λ n. patch_ends.Chars n) (keeping_second (word (codes "text()")) (optional position)))
 
   abbrev pub patch_selector : Rule Kind PatchSelector
   patch_selector =
-      behind (optional (word (codes "/")))
-      (valued patch_selector_of (sequence steps (λ _. valued patch_end_or_element (optional (behind (word (codes "/")) patch_end)))))
+      keeping_second (optional (word (codes "/")))
+      (valued patch_selector_of (sequence steps (λ _. valued patch_end_or_element (optional (keeping_second (word (codes "/")) patch_end)))))

@@ -1,6 +1,6 @@
 //! Steps of selectors, read from left to right.
 ghost use Rattle.std.specs.Prelude.{◌≡◌, ◌+◌, ◌-◌, ◌<◌, ◌^◌, ◌++◌, ◌∷◌, map, Some, option_map, OnOk, Ok};
-ghost use Rattle.grammar_rules.specs.Digits.{decimal};
+ghost use Rattle.grammar_rules.specs.Digits.{decimal_digits};
 ghost use Rattle.std.specs.Str.{bytes_eq};
 ghost use Rattle.grammar_rules.specs.Reading.{read_optional, read_sequence};
 ghost use Rattle.tree_text.specs.readers.Gives.{Gives};
@@ -38,7 +38,7 @@ fn node_name(text: &[char]) -> Result<(Option<Written<'_>>, &[char]), Stop<'_>>
 
 // What a digit is worth.
 fn digit_value(c: char) -> u64
-    ensures value { result ≡ decimal.value c }
+    ensures value { result ≡ decimal_digits.value c }
     ensures small { result < 2 ^ 21 }
 {
     (c as u64).saturating_sub(48)

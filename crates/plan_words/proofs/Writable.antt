@@ -6,7 +6,7 @@ use Rattle.std.specs.List.{list_all}
 use Rattle.std.proofs.Common.{◌≡◌, ◌⊎◌, inl, inr, ℕ, Bool, true, false, List, [], ◌∷◌, ◌++◌, length, Option, Some, None, IsTrue, Result, Ok, Err, refl, sym, ap, ◌∙◌, subst, append_assoc}
 use Rattle.std.proofs.lemmas.List.{append-nil}
 use Rattle.std.proofs.lemmas.Option.{same_Some}
-use Rattle.grammar_rules.specs.Rules.{AllPass, Event, Mark, Rule, Split, behind, empty, judged, only, optional, sequence, valued, word}
+use Rattle.grammar_rules.specs.Rules.{AllPass, Event, Mark, Rule, Split, keeping_second, empty, judged, only, optional, sequence, valued, word}
 use Rattle.grammar_rules.specs.Reading.{Stop}
 use Rattle.grammar_rules.specs.Answers.{Answers, IsCalm}
 use Rattle.xml_tree.specs.Characters.{is_name, is_name_char, is_name_start}
@@ -39,7 +39,7 @@ both_true false b p q = cc
 name_is : (u l : List ℕ) → name.Spells u l → is_name l ≡ true
 name_is u l m = ap is_name m.2 ∙ both_true (is_name_start m.0.0) (list_all is_name_char m.0.1) m.1.front_is.0 (pass_all is_name_char m.0.1 (subst (AllPass is_name_char) (sym m.1.back_is.1) m.1.back_is.0))
 
-local_by_rest : (f v : List ℕ) (o : Option (List ℕ)) → is_name f ≡ true → (optional (behind (word {Kind = Kind} colon) name)).Spells v o → is_name (qname_of (f, o)).local ≡ true
+local_by_rest : (f v : List ℕ) (o : Option (List ℕ)) → is_name f ≡ true → (optional (keeping_second (word {Kind = Kind} colon) name)).Spells v o → is_name (qname_of (f, o)).local ≡ true
 local_by_rest f v o h (inl r) =
     subst (λ (z : Option (List ℕ)). is_name (qname_of (f, z)).local ≡ true) (sym r.2) (ap is_name r.1.2 ∙ name_is r.1.1.back r.1.0.1 r.1.1.back_is)
 local_by_rest f v o h (inr r) = subst (λ (z : Option (List ℕ)). is_name (qname_of (f, z)).local ≡ true) (sym r.1) h
@@ -124,12 +124,12 @@ module _ (bindings : List Decl) (default uri local : List ℕ) where
   at_end text e (inr m) is = let none : ends.Namespaces ≡ ends.Attribute uri local = sym m.2 ∙ is in cc
 
   abbrev tail : Rule Kind (Option End)
-  tail = optional (behind (word slash) (end bindings default))
+  tail = optional (keeping_second (word slash) (end bindings default))
 
   at_tail : (text : List ℕ) (o : Option End) → tail.Spells text o → end_or_element o ≡ ends.Attribute uri local → EndsSo tail text
   at_tail text o (inl m) is =
       let same : m.1.0.1 ≡ ends.Attribute uri local = sym m.1.2 ∙ sym (ap end_or_element m.2) ∙ is in
-      in_left (behind (word slash) (end bindings default)).Meets (empty {Kind = Kind} {A = Option End} None).Meets text
+      in_left (keeping_second (word slash) (end bindings default)).Meets (empty {Kind = Kind} {A = Option End} None).Meets text
       (in_sequence (word slash) (λ _. end bindings default) tt text (record {
         front = m.1.1.front;
         back = m.1.1.back;

@@ -5,7 +5,7 @@ use Rattle.std.proofs.lemmas.List.{length-append, append-nil}
 use Rattle.xml_tree.specs.Characters.{is_name_start, is_name_char, is_space}
 use Rattle.xml_tree.specs.declared.names.Name.{Name}
 use Rattle.xml_tree.specs.declared.names.Decl.{Decl}
-use Rattle.grammar_rules.specs.Rules.{Each, word, sequence, many, optional, before, behind, name_rule as name_of}
+use Rattle.grammar_rules.specs.Rules.{Each, word, sequence, many, optional, keeping_first, keeping_second, name_rule as name_of}
 use Rattle.grammar_rules.proofs.Heads.{uses}
 use Rattle.grammar_rules.proofs.Marks.{Judges}
 use Rattle.tree_text.specs.readers.Words.{colon}
@@ -29,7 +29,7 @@ name_is first others u l m = m.1.joined ∙ ap (λ (z : List ℕ). z ++ m.1.back
 name_some : (first others : ℕ → Bool) (u l : List ℕ) → (name_of {Kind = Kind} first others).Spells u l → 0 < length u
 name_some first others u l m = omega (arith, ap length (name_is first others u l m), ap length m.2)
 
-rest_size : (f v : List ℕ) (o : Option (List ℕ)) → 0 < length f → (optional (behind (word {Kind = Kind} colon) name)).Spells v o → length (written (qname_of (f, o))) ≡ length f + length v
+rest_size : (f v : List ℕ) (o : Option (List ℕ)) → 0 < length f → (optional (keeping_second (word {Kind = Kind} colon) name)).Spells v o → length (written (qname_of (f, o))) ≡ length f + length v
 rest_size f v o h (inl m) =
     let e : length (written (qname_of (f, o))) ≡ length (written (qname_of (f, Some m.0))) = ap (λ (z : Option (List ℕ)). length (written (qname_of (f, z)))) m.2 in
     let p : length (written (qname_of (f, Some m.0))) ≡ length f + 1 + length m.0 = prefixed_size f m.0 h in
@@ -84,7 +84,7 @@ record Fits (v : List ℕ) (x : Name × (List Said × Bool)) : Type 0 where
   room : length (written x.0) + widths x.1.0 + 1 ≤ length v
   some : AllSome x.1.0
 
-inside_fits : (v : List ℕ) (x : Name × (List Said × Bool)) → (sequence qname (λ _. sequence (before (many said) spaces) (λ _. tag_end))).Spells v x → Fits v x
+inside_fits : (v : List ℕ) (x : Name × (List Said × Bool)) → (sequence qname (λ _. sequence (keeping_first (many said) spaces) (λ _. tag_end))).Spells v x → Fits v x
 inside_fits v x m =
     let s = m.back_is in
     let b = s.front_is in

@@ -9,8 +9,8 @@ use Rattle.xml_tree.specs.Expanded.{attr_name, same_expanded}
 use Rattle.xml_tree.specs.Proper.{is_prefix, may_stand, is_declaration, IsNamed, IsAttribute, IsTag}
 use Rattle.xml_tree.specs.declared.names.Name.{Name}
 use Rattle.xml_tree.specs.declared.names.Decl.{Decl}
-use Rattle.grammar_rules.specs.Digits.{decimal, hexadecimal}
-use Rattle.grammar_rules.specs.Rules.{AllPass, Each, word, run, number, sequence, either, optional, behind}
+use Rattle.grammar_rules.specs.Digits.{decimal_digits, hexadecimal}
+use Rattle.grammar_rules.specs.Rules.{AllPass, Each, word, run, number, sequence, either, optional, keeping_second}
 use Rattle.grammar_rules.proofs.Fronts.{pass_append}
 use Rattle.tree_text.specs.readers.Words.{colon, small_x}
 use Rattle.tree_text.specs.declared.kind.Kind.{Kind}
@@ -47,7 +47,7 @@ record IsQName (n : Name) : Type 0 where
   prefix : is_prefix n.prefix ≡ true
   local : is_name n.local ≡ true
 
-qname_by_rest : (f v : List ℕ) (o : Option (List ℕ)) → is_name f ≡ true → (optional (behind (word {Kind = Kind} colon) name)).Spells v o → IsQName (qname_of (f, o))
+qname_by_rest : (f v : List ℕ) (o : Option (List ℕ)) → is_name f ≡ true → (optional (keeping_second (word {Kind = Kind} colon) name)).Spells v o → IsQName (qname_of (f, o))
 qname_by_rest f v o h (inl r) = subst (λ (z : Option (List ℕ)). IsQName (qname_of (f, z))) (sym r.2) (record {
   prefix = or_right (bytes_eq f []) (is_name f) h;
   local = ap is_name r.1.2 ∙ name_proper r.1.1.back r.1.0.1 r.1.1.back_is;
@@ -90,7 +90,7 @@ blanks_chars (c ∷ cs) h = (blank_by (c == 9 || c == 10) c h.0, blanks_chars cs
 raw_chars : (q : ℕ) (cs : List ℕ) → AllPass (is_raw_in q) cs → AllPass is_char (raw cs)
 raw_chars q cs h = blanks_chars (line_ends cs) (lines_chars cs (weaker (is_raw_in q) is_char (λ c k. raw_char c (two_true (is_raw c) _ k)) cs h))
 
-number_char : (v : List ℕ) (c : ℕ) → (either (behind (word {Kind = Kind} small_x) (number hexadecimal last_char is_char)) (number decimal last_char is_char)).Spells v c → is_char c ≡ true
+number_char : (v : List ℕ) (c : ℕ) → (either (keeping_second (word {Kind = Kind} small_x) (number hexadecimal last_char is_char)) (number decimal_digits last_char is_char)).Spells v c → is_char c ≡ true
 number_char v c (inl m) = ap is_char m.2 ∙ m.1.back_is.3
 number_char v c (inr m) = m.3
 

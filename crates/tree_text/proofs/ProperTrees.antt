@@ -11,7 +11,7 @@ use Rattle.xml_tree.specs.Proper.{Letters, IsProperPart, Proper, ProperIn}
 use Rattle.xml_tree.specs.declared.names.Name.{Name}
 use Rattle.xml_tree.specs.declared.names.Decl.{Decl}
 use Rattle.xml_tree.proofs.EverywhereLaws.{Letters-append}
-use Rattle.grammar_rules.specs.Rules.{Mark, Rule, Split, AllPass, Each, word, sequence, many, judged, optional, before, behind}
+use Rattle.grammar_rules.specs.Rules.{Mark, Rule, Split, AllPass, Each, word, sequence, many, judged, optional, keeping_first, keeping_second}
 use Rattle.grammar_rules.specs.Answers.{IsCalm, IsSpelled}
 use Rattle.grammar_rules.proofs.Laws.{Lawful}
 use Rattle.tree_text.specs.readers.Words.{byte_order_mark}
@@ -184,8 +184,8 @@ document_proper limit n scope u t larger h =
     let b = a.1.back_is in
     let c = b.1.back_is in
     let d = c.1.back_is in
-    let calm_b = calm_second limit (dropped (optional (word byte_order_mark))) (λ _. behind (dropped (optional (judged IsForeign xml_declaration))) (behind prolog (before (element (suc n) scope 1) epilog))) a.0.0 u _ a.1 calm in
-    let calm_c = calm_second limit (dropped (optional (judged IsForeign xml_declaration))) (λ _. behind prolog (before (element (suc n) scope 1) epilog)) b.0.0 a.1.back _ b.1 calm_b in
-    let calm_d = calm_second limit prolog (λ _. before (element (suc n) scope 1) epilog) c.0.0 b.1.back _ c.1 calm_c in
+    let calm_b = calm_second limit (dropped (optional (word byte_order_mark))) (λ _. keeping_second (dropped (optional (judged IsForeign xml_declaration))) (keeping_second prolog (keeping_first (element (suc n) scope 1) epilog))) a.0.0 u _ a.1 calm in
+    let calm_c = calm_second limit (dropped (optional (judged IsForeign xml_declaration))) (λ _. keeping_second prolog (keeping_first (element (suc n) scope 1) epilog)) b.0.0 a.1.back _ b.1 calm_b in
+    let calm_d = calm_second limit prolog (λ _. keeping_first (element (suc n) scope 1) epilog) c.0.0 b.1.back _ c.1 calm_c in
     let r = element_proper limit (suc n) scope 1 d.1.front d.0.0 d.1.front_is (calm_first limit (element (suc n) scope 1) (λ _. epilog) c.1.back _ _ d.1 calm_d) in
     subst (λ (z : Tree). ProperIn scope z × (height z ≤ limit)) (sym (a.2 ∙ b.2 ∙ c.2 ∙ d.2)) (r.0, omega (arith, r.1))

@@ -7,7 +7,7 @@ use Rattle.xml_tree.specs.Characters.{is_space, is_name_start}
 use Rattle.xml_tree.specs.Tree.{Tree}
 use Rattle.xml_tree.specs.declared.names.Decl.{Decl}
 use Rattle.std.specs.Char.{is_ascii_digit as is_digit}
-use Rattle.grammar_rules.specs.Rules.{Begin, Rule, word, either, judged, trap, optional, before, behind}
+use Rattle.grammar_rules.specs.Rules.{Begin, Rule, word, either, judged, trap, optional, keeping_first, keeping_second}
 use Rattle.grammar_rules.specs.Reading.{Reader, Stop, Syntax, head_is, starts, read_whole, read_word, read_behind, read_before}
 use Rattle.grammar_rules.specs.Answers.{Faults, Answers}
 use Rattle.grammar_rules.proofs.Exact.{Rest, ahead, IsStopped, Outcome, Exact}
@@ -113,7 +113,7 @@ module _ (faults : Faults Kind) where
   exact_yes_or_no q h = exact_either_head (λ c. c == 121) (starts_word {P = λ c. c ≡ 121} refl) (same 121) (heads_starts (starts_word refl)) (apart 121) exact_word exact_word
 
   abbrev Ended : Rule Kind (Unit {0})
-  Ended = behind spaces (word instruction_end)
+  Ended = keeping_second spaces (word instruction_end)
 
   abbrev Alone : Rule Kind (Option (Unit {0}))
   Alone = optional (declared standalone yes_or_no)
@@ -264,10 +264,10 @@ module _ (limit : ℕ) where
 
   module _ (n : ℕ) (scope : List (List Decl)) (more : limit + 1 < suc n) where
     abbrev Root : Rule Kind Tree
-    Root = before (element (suc n) scope 1) epilog
+    Root = keeping_first (element (suc n) scope 1) epilog
 
     abbrev Rooted : Rule Kind Tree
-    Rooted = behind prolog Root
+    Rooted = keeping_second prolog Root
 
     read_rooted : Reader Kind Tree
     read_rooted = read_behind read_prolog (read_before (read_element limit scope 1) read_epilog)

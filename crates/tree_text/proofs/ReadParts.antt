@@ -4,8 +4,8 @@ use Rattle.std.specs.Prelude.{◌==◌}
 use Rattle.std.proofs.lemmas.Bool.Decides.{nat_tests}
 use Rattle.std.specs.Char.{is_ascii_digit as is_digit, is_ascii_hexdigit as is_hex_digit}
 use Rattle.xml_tree.specs.Characters.{is_char, is_space, is_name_start, is_name_char}
-use Rattle.grammar_rules.specs.Digits.{decimal, hexadecimal}
-use Rattle.grammar_rules.specs.Rules.{word, behind}
+use Rattle.grammar_rules.specs.Digits.{decimal_digits, hexadecimal}
+use Rattle.grammar_rules.specs.Rules.{word, keeping_second}
 use Rattle.grammar_rules.specs.Answers.{Faults}
 use Rattle.grammar_rules.proofs.Exact.{Rest, ahead, Exact, exact_sequence}
 use Rattle.grammar_rules.proofs.Leaves.{exact_word}
@@ -70,7 +70,7 @@ module _ (faults : Faults Kind) where
   pub exact_name : {K : Rest Kind} → Heads NoName K → Exact faults name (λ _. K) read_name
   exact_name h = exact_name_of (λ _. h)
 
-  starts_colon : {P : ℕ → Type 0} → P 58 → Starts P (behind (word {Kind = Kind} colon) name)
+  starts_colon : {P : ℕ → Type 0} → P 58 → Starts P (keeping_second (word {Kind = Kind} colon) name)
   starts_colon h = starts_behind name (starts_word h)
 
   pub exact_qname : {K : Rest Kind} → Heads NoQName K → Exact faults qname (λ _. K) read_qname
@@ -120,9 +120,9 @@ module _ (faults : Faults Kind) where
   exact_numbered : {K : Rest Kind} → Heads (λ c. (is_digit c ≡ false) × (is_hex_digit c ≡ false)) K → Exact faults numbered (λ _. K) read_numbered
   exact_numbered {K} h = exact_behind exact_word
       (exact_either_head (λ c. c == 120) (starts_behind _ (starts_word {P = λ c. c ≡ 120} refl)) (same 120)
-      (heads_starts (starts_number {P = λ c. (c == 120) ≡ false} decimal last_char is_char digit_no_x)) (apart 120)
+      (heads_starts (starts_number {P = λ c. (c == 120) ≡ false} decimal_digits last_char is_char digit_no_x)) (apart 120)
       (exact_behind exact_word (exact_number hexadecimal last_char is_char (λ _. heads_weaker (λ c x. x.1) h)))
-      (exact_number decimal last_char is_char (λ _. heads_weaker (λ c x. x.0) h)))
+      (exact_number decimal_digits last_char is_char (λ _. heads_weaker (λ c x. x.0) h)))
     where
       digit_no_x : (c : ℕ) → is_digit c ≡ true → (c == 120) ≡ false
       digit_no_x c t = grind (arith, nat_tests)
@@ -141,13 +141,13 @@ module _ (faults : Faults Kind) where
 
   pub lawful_reference : Lawful reference
   lawful_reference = lawful_behind (lawful_word ampersand) (lawful_before (lawful_either
-      (lawful_behind (lawful_word hash) (lawful_either (lawful_behind (lawful_word small_x) (lawful_number hexadecimal last_char is_char)) (lawful_number decimal last_char is_char)))
+      (lawful_behind (lawful_word hash) (lawful_either (lawful_behind (lawful_word small_x) (lawful_number hexadecimal last_char is_char)) (lawful_number decimal_digits last_char is_char)))
       (lawful_either (lawful_valued _ (lawful_word lt)) (lawful_either (lawful_valued _ (lawful_word gt)) (lawful_either (lawful_valued _ (lawful_word quot)) (lawful_either (lawful_valued _ (lawful_word apos)) (lawful_valued _ (lawful_word amp)))))))
       (lawful_word semicolon))
 
   pub quiet_reference : Quiet reference
   quiet_reference = quiet_behind (quiet_word ampersand) (quiet_before (quiet_either
-      (quiet_behind (quiet_word hash) (quiet_either (quiet_behind (quiet_word small_x) (quiet_number hexadecimal last_char is_char)) (quiet_number decimal last_char is_char)))
+      (quiet_behind (quiet_word hash) (quiet_either (quiet_behind (quiet_word small_x) (quiet_number hexadecimal last_char is_char)) (quiet_number decimal_digits last_char is_char)))
       (quiet_either (quiet_valued _ (quiet_word lt)) (quiet_either (quiet_valued _ (quiet_word gt)) (quiet_either (quiet_valued _ (quiet_word quot)) (quiet_either (quiet_valued _ (quiet_word apos)) (quiet_valued _ (quiet_word amp)))))))
       (quiet_word semicolon))
 

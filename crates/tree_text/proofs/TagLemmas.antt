@@ -3,7 +3,7 @@ use Rattle.std.proofs.Common.{◌≡◌, ℕ, ◌+◌, ◌≤◌, List, [], ◌�
 use Rattle.std.specs.Prelude.{◌==◌}
 use Rattle.grammar_rules.specs.Reading.{head_is, starts}
 use Rattle.tree_text.specs.readers.Words.{ampersand, semicolon, hash, small_x, amp, lt, gt, quot, apos}
-use Rattle.grammar_rules.specs.Digits.{decimal, hexadecimal}
+use Rattle.grammar_rules.specs.Digits.{decimal_digits, hexadecimal}
 use Rattle.xml_tree.specs.Characters.{is_char, is_space, is_name_start, is_name_char}
 use Rattle.xml_tree.specs.declared.names.Name.{Name}
 use Rattle.tree_text.specs.declared.said.Said.{Said}
@@ -34,7 +34,7 @@ shrinks_entity =
 
 shrinks_numbered : Shrinks read_numbered
 shrinks_numbered = shrinks_valued (λ x. x.1) (shrinks_sequence (shrinks_word hash) (λ _.
-    shrinks_either (head_is (λ c. c == 120)) (shrinks_valued (λ x. x.1) (shrinks_sequence (shrinks_word small_x) (λ _. shrinks_number hexadecimal last_char is_char))) (shrinks_number decimal last_char is_char)))
+    shrinks_either (head_is (λ c. c == 120)) (shrinks_valued (λ x. x.1) (shrinks_sequence (shrinks_word small_x) (λ _. shrinks_number hexadecimal last_char is_char))) (shrinks_number decimal_digits last_char is_char)))
 
 pub shrinks_reference : Shrinks read_reference
 shrinks_reference = shrinks_valued (λ x. x.1) (shrinks_sequence (shrinks_word ampersand) (λ _.

@@ -7,8 +7,8 @@ use Rattle.xml_tree.specs.Characters.{is_char, is_space, is_name_start, is_name_
 use Rattle.xml_tree.specs.Tree.{Content, last, Tree}
 use Rattle.xml_tree.specs.declared.names.Name.{Name}
 use Rattle.xml_tree.specs.declared.names.Decl.{Decl}
-use Rattle.grammar_rules.specs.Digits.{decimal, hexadecimal}
-use Rattle.grammar_rules.specs.Rules.{Rule, never, empty, one, word, run, run_without, up_to, number, sequence, either, many, valued, sized, only, atomic, marked, judged, trap, optional, between, some_of, before, behind, quoted, name_rule}
+use Rattle.grammar_rules.specs.Digits.{decimal_digits, hexadecimal}
+use Rattle.grammar_rules.specs.Rules.{Rule, never, empty, one, word, run, run_without, up_to, number, sequence, either, many, valued, sized, only, atomic, marked, judged, trap, optional, between, some_of, keeping_first, keeping_second, quoted, name_rule}
 use Rattle.tree_text.specs.declared.kind.Kind.{Kind}
 use Rattle.tree_text.specs.declared.kind.Kind.TheVariants.{Encoded, Doctyped, Depth}
 use Rattle.tree_text.specs.declared.said.Said.{Said}
@@ -23,7 +23,7 @@ name = name_rule is_name_start is_name_char
 
 -- [N7] QName: an NCName, or two with `:` between
 abbrev pub qname : Rule Kind Name
-qname = valued qname_of (sequence name (λ _. optional (behind (word (codes ":")) name)))
+qname = valued qname_of (sequence name (λ _. optional (keeping_second (word (codes ":")) name)))
 
 -- [3] S, where it may be absent, and where it may not
 abbrev pub spaces : Rule Kind (List ℕ)
@@ -34,7 +34,7 @@ some_spaces = some_of is_space
 
 -- [25] Eq: S? `=` S?
 abbrev pub equals : Rule Kind (List ℕ)
-equals = behind spaces (behind (word (codes "=")) spaces)
+equals = keeping_second spaces (keeping_second (word (codes "=")) spaces)
 
 -- ---- references and values
 
@@ -52,11 +52,11 @@ last_char = 0x10FFFF
 
 -- [66] `#` and digits, or `#x` and hexadecimal digits: the number so far is at most that of the last Char, the whole one is that of a Char
 abbrev pub numbered : Rule Kind ℕ
-numbered = behind (word (codes "#")) (either (behind (word (codes "x")) (number hexadecimal last_char is_char)) (number decimal last_char is_char))
+numbered = keeping_second (word (codes "#")) (either (keeping_second (word (codes "x")) (number hexadecimal last_char is_char)) (number decimal_digits last_char is_char))
 
 -- [67] Reference: `&`, a number or an entity, `;`
 abbrev pub reference : Rule Kind ℕ
-reference = behind (word (codes "&")) (before (either numbered entity) (word (codes ";")))
+reference = keeping_second (word (codes "&")) (keeping_first (either numbered entity) (word (codes ";")))
 
 -- either quote
 abbrev pub is_quote : ℕ → Bool
@@ -77,7 +77,7 @@ value quote = valued value_spelled (between (run (is_raw_in quote)) reference)
 
 -- [41] Attribute: a name, Eq and a value in quotes
 abbrev pub attribute : Rule Kind (Name × List ℕ)
-attribute = sequence qname (λ _. behind equals (quoted is_quote value))
+attribute = sequence qname (λ _. keeping_second equals (quoted is_quote value))
 
 -- an attribute behind white space
 abbrev pub said : Rule Kind Said
@@ -89,21 +89,21 @@ tag_end = either (valued (λ _. true) (word (codes "/>"))) (valued (λ _. false)
 
 -- [40] STag and [44] EmptyElemTag: `<`, a name, attributes each after S, S?, and `>` or `/>`
 abbrev pub tag : Rule Kind Tag
-tag = valued tag_of (sized (behind (word (codes "<")) (sequence qname (λ _. sequence (before (many said) spaces) (λ _. tag_end)))))
+tag = valued tag_of (sized (keeping_second (word (codes "<")) (sequence qname (λ _. sequence (keeping_first (many said) spaces) (λ _. tag_end)))))
 
 -- [42] ETag: `</`, the name of the start tag, S?, `>`
 abbrev pub end_tag : Name → Rule Kind (Unit {0})
-end_tag n = behind (word (codes "</")) (behind (word (written n)) (behind spaces (word (codes ">"))))
+end_tag n = keeping_second (word (codes "</")) (keeping_second (word (written n)) (keeping_second spaces (word (codes ">"))))
 
 -- ---- content
 
 -- [15] Comment: `<!--`, Chars without `--` that don't end in `-`, `-->`; so its first `--` stands before the `>`
 abbrev pub comment : Rule Kind (List ℕ)
-comment = valued line_ends (behind (word (codes "<!--")) (before (up_to is_char (codes "--")) (word (codes ">"))))
+comment = valued line_ends (keeping_second (word (codes "<!--")) (keeping_first (up_to is_char (codes "--")) (word (codes ">"))))
 
 -- [18] CDSect: `<![CDATA[`, Chars up to the first `]]>`
 abbrev pub section : Rule Kind (List ℕ)
-section = valued line_ends (behind (word (codes "<![CDATA[")) (up_to is_char (codes "]]>")))
+section = valued line_ends (keeping_second (word (codes "<![CDATA[")) (up_to is_char (codes "]]>")))
 
 -- [17] PITarget: an NCName that isn't `xml`, without regard to ASCII case
 abbrev pub is_target : List ℕ → Bool
@@ -115,11 +115,11 @@ dropped r = valued (λ _. tt) r
 
 -- what stands behind a target: nothing, or white space and Chars, up to the first `?>`
 abbrev pub instructed : Rule Kind (Unit {0})
-instructed = either (dropped (behind (one is_space) (up_to is_char (codes "?>")))) (word (codes "?>"))
+instructed = either (dropped (keeping_second (one is_space) (up_to is_char (codes "?>")))) (word (codes "?>"))
 
 -- [16] PI: `<?`, a target and what stands behind it
 abbrev pub instruction : Rule Kind (Unit {0})
-instruction = behind (word (codes "<?")) (behind (only is_target name) instructed)
+instruction = keeping_second (word (codes "<?")) (keeping_second (only is_target name) instructed)
 
 -- [14] CharData: raw characters without `]]>`
 abbrev pub chars : Rule Kind (List ℕ)
@@ -139,7 +139,7 @@ content inner = valued (λ x. with_pieces (last x.0) x.1) (between chars (markup
 -- what stands behind a start tag: content and the end tag; behind the tag of an empty element nothing
 abbrev pub behind_tag : Rule Kind Tree → Name → Bool → Rule Kind Content
 behind_tag inner n true = empty (last [])
-behind_tag inner n false = before (content inner) (end_tag n)
+behind_tag inner n false = keeping_first (content inner) (end_tag n)
 
 -- a start tag's `<`, with the first character of its name
 abbrev pub StartsTag : List ℕ → Type 0
@@ -157,7 +157,7 @@ element (suc n) scope depth =
 
 -- [26] VersionNum: `1.` and digits
 abbrev pub version_number : Rule Kind (Unit {0})
-version_number = dropped (behind (word (codes "1.")) (some_of is_ascii_digit))
+version_number = dropped (keeping_second (word (codes "1.")) (some_of is_ascii_digit))
 
 abbrev pub is_encoding_char : ℕ → Bool
 is_encoding_char c = is_ascii_alphabetic c || is_ascii_digit c || c == 46 || c == 95 || c == 45
@@ -171,13 +171,13 @@ yes_or_no = either (word (codes "yes")) (word (codes "no"))
 
 -- S, a word, Eq and something in quotes
 abbrev pub declared : {A : Type 0} → List ℕ → Rule Kind A → Rule Kind A
-declared w r = behind some_spaces (behind (word w) (behind equals (quoted is_quote (λ _. r))))
+declared w r = keeping_second some_spaces (keeping_second (word w) (keeping_second equals (quoted is_quote (λ _. r))))
 
 -- [23] XMLDecl: `<?xml`, the version, perhaps the encoding, perhaps whether it stands alone, S?, `?>`. Its value is the encoding.
 abbrev pub xml_declaration : Rule Kind (Option (List ℕ))
 xml_declaration =
-    behind (word (codes "<?xml")) (behind (declared (codes "version") version_number) (before (optional (declared (codes "encoding") encoding_name))
-    (behind (optional (declared (codes "standalone") yes_or_no)) (behind spaces (word (codes "?>"))))))
+    keeping_second (word (codes "<?xml")) (keeping_second (declared (codes "version") version_number) (keeping_first (optional (declared (codes "encoding") encoding_name))
+    (keeping_second (optional (declared (codes "standalone") yes_or_no)) (keeping_second spaces (word (codes "?>"))))))
 
 -- an encoding that is read, without regard to ASCII case
 abbrev pub is_our_encoding : List ℕ → Bool
@@ -204,8 +204,8 @@ epilog = miscs misc
 -- [1] document: perhaps a byte order mark (U+FEFF), perhaps an XML declaration, Misc, one element, Misc. A fragment is the same, in a scope.
 abbrev pub document : ℕ → List (List Decl) → Rule Kind Tree
 document n scope =
-    behind (dropped (optional (word (0xFEFF ∷ [])))) (behind (dropped (optional (judged IsForeign xml_declaration)))
-    (behind prolog (before (element n scope 1) epilog)))
+    keeping_second (dropped (optional (word (0xFEFF ∷ [])))) (keeping_second (dropped (optional (judged IsForeign xml_declaration)))
+    (keeping_second prolog (keeping_first (element n scope 1) epilog)))
 
 -- ---- bodies that spell a value
 

@@ -3,7 +3,7 @@ use Rattle.std.specs.Prelude.{ℕ, ◌+◌, ◌-◌, ◌*◌, Bool, false, ◌&&
 use Rattle.std.specs.List.{list_all}
 use Rattle.std.specs.Char.{is_ascii_digit}
 use Rattle.xml_tree.specs.Limits.{greatest_u64}
-use Rattle.grammar_rules.specs.Digits.{decimal}
+use Rattle.grammar_rules.specs.Digits.{decimal_digits}
 use Rattle.grammar_rules.specs.Rules.{number_from}
 
 -- the first octet is a digit other than 0
@@ -14,7 +14,7 @@ begins_with_digit (c ∷ cs) = is_ascii_digit c && nat_le 49 c
 -- the number of a numeral from 1 to the greatest 64-bit number, of digits alone and without leading zero
 abbrev pub numeral_of : List ℕ → Option ℕ
 numeral_of octets =
-    if begins_with_digit octets && (list_all is_ascii_digit octets && nat_le (number_from decimal 0 octets) greatest_u64) then Some (number_from decimal 0 octets) else None
+    if begins_with_digit octets && (list_all is_ascii_digit octets && nat_le (number_from decimal_digits 0 octets) greatest_u64) then Some (number_from decimal_digits 0 octets) else None
 
 -- the same worked out digit by digit, behind digits that are worth n
 abbrev pub number_behind : ℕ → List ℕ → Option ℕ

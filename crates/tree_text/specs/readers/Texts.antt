@@ -6,7 +6,7 @@ use Rattle.xml_tree.specs.Characters.{is_char, is_space, is_name_start, is_name_
 use Rattle.xml_tree.specs.Tree.{Content, last, Tree}
 use Rattle.xml_tree.specs.declared.names.Name.{Name}
 use Rattle.xml_tree.specs.declared.names.Decl.{Decl}
-use Rattle.grammar_rules.specs.Digits.{decimal, hexadecimal}
+use Rattle.grammar_rules.specs.Digits.{decimal_digits, hexadecimal}
 use Rattle.grammar_rules.specs.Reading.{Reader, head_is, starts, spaced, read_never, read_empty, read_one, read_word, read_run, read_run_without, read_up_to, read_number, read_sequence, read_either, read_many, read_valued, read_sized, read_only, read_atomic, read_marked, read_judged, read_trap, read_optional, read_between, read_some_of, read_name_of, read_before, read_behind, read_quoted}
 use Rattle.tree_text.specs.readers.Words.{less, greater, empty_end, end_start, equals_sign, colon, ampersand, semicolon, hash, small_x, amp, lt, gt, quot, apos, comment_start, dashes, section_start, section_end, instruction_start, instruction_end, declaration_start, version, one_dot, encoding, standalone, yes, not_alone, bang, bang_bracket, doctype, byte_order_mark}
 use Rattle.tree_text.specs.declared.kind.Kind.{Kind}
@@ -52,7 +52,7 @@ read_entity =
     (read_either (starts (97 ∷ 112 ∷ [])) (read_stands_for 39 apos) (read_stands_for 38 amp))))
 
 abbrev pub read_numbered : Reader Kind ℕ
-read_numbered = read_behind (read_word hash) (read_either (head_is (λ c. c == 120)) (read_behind (read_word small_x) (read_number hexadecimal last_char is_char)) (read_number decimal last_char is_char))
+read_numbered = read_behind (read_word hash) (read_either (head_is (λ c. c == 120)) (read_behind (read_word small_x) (read_number hexadecimal last_char is_char)) (read_number decimal_digits last_char is_char))
 
 abbrev pub read_named : Reader Kind ℕ
 read_named = read_either (head_is (λ c. c == 35)) read_numbered read_entity
