@@ -1,7 +1,7 @@
 -- Rounds, one after the other.
 use Rattle.std.proofs.Common.{◌≡◌, ℕ, suc, ◌+◌, ◌≤◌, ◌<◌, List, Option, Some, Result, Ok, refl, sym, subst, add-one, arith}
 use Rattle.xcap_io.specs.Causes.{LineState}
-use Rattle.patch_words.specs.Replay.{Held}
+use Rattle.patch_words.specs.Replay.{CopyHeld}
 use Rattle.stream_texts.specs.Outputs.{TakesAll, TakesSome}
 use Rattle.feed_follower.specs.Rounds.{Rounds}
 use Rattle.feed_follower.specs.States.{Following}
@@ -35,8 +35,8 @@ rounds_more n f g f' peer asked peer' output written output' made round =
     subst (λ (k : ℕ). RoundsMade k f f' peer peer' output output') (sym (add-one n)) (g, asked, written, made, round)
 
 -- all rounds were made, and the document was written
-pub followed_to_the_end : (n count : ℕ) (f f' : Following) (held : Held) (ended : Ended) (peer peer' output written output' : LineState) → n ≡ count → held ≡ f'.held
+pub followed_to_the_end : (n count : ℕ) (f f' : Following) (held : CopyHeld) (ended : Ended) (peer peer' output written output' : LineState) → n ≡ count → held ≡ f'.held
     → RoundsMade n f f' peer peer' output written → WritesCopy held ended written output' → FollowsOn count f ended peer peer' output output'
 followed_to_the_end n count f f' held ended peer peer' output written output' all is made writes =
     follows_to_the_end f' written (subst (λ (k : ℕ). RoundsMade k f f' peer peer' output written) all made)
-    (subst (λ (h : Held). WritesCopy h ended written output') is writes)
+    (subst (λ (h : CopyHeld). WritesCopy h ended written output') is writes)

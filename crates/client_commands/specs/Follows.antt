@@ -2,7 +2,7 @@
 use Rattle.std.specs.Prelude.{◌≡◌, ℕ, zero, suc, ◌≤◌, ◌<◌, List, Option, None, Some, Result, Ok, Err}
 use Rattle.xcap_io.specs.Causes.{LineState}
 use Rattle.doc_names.specs.declared.doc_id.DocId.{DocId}
-use Rattle.patch_words.specs.Replay.{Held}
+use Rattle.patch_words.specs.Replay.{CopyHeld}
 use Rattle.stream_texts.specs.Outputs.{TakesAll, TakesSome}
 use Rattle.feed_follower.specs.Rounds.{Rounds}
 use Rattle.feed_follower.specs.Starts.{Starts}
@@ -43,7 +43,7 @@ MakesRound f f' None peer peer' output output' = RoundMade f f' peer peer' outpu
 MakesRound f f' (Some ended) peer peer' output output' = RoundEnds f f' ended peer peer' output output'
 
 -- the document was written, if one is held; or some of it; or memory was wanted for that
-abbrev pub WritesCopy : Held → Ended → LineState → LineState → Type 0
+abbrev pub WritesCopy : CopyHeld → Ended → LineState → LineState → Type 0
 WritesCopy held Done output output' = TakesAll (copy_text held) output output'
 WritesCopy held InputFailed output output' = ⊥
 WritesCopy held OutputFailed output output' = TakesSome (copy_text held) output output'

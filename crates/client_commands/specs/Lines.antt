@@ -2,7 +2,7 @@
 use Rattle.std.specs.Prelude.{ℕ, List, [], ◌∷◌, ◌++◌, Option, None, Some, codes, decimal, encode_utf8_all}
 use Rattle.tree_text.specs.Printing.{document_print}
 use Rattle.http_exchange.specs.declared.response.Response.{Response}
-use Rattle.patch_words.specs.Replay.{Held}
+use Rattle.patch_words.specs.Replay.{CopyHeld}
 
 -- of a GET: the body
 abbrev pub body_of : Response → List ℕ
@@ -26,11 +26,11 @@ abbrev pub put_line : Response → List ℕ
 put_line response = tagged_line response.status response.tag
 
 -- of a round: the tag that is held then, or a dash
-abbrev pub tag_line : Held → List ℕ
+abbrev pub tag_line : CopyHeld → List ℕ
 tag_line None = codes "-\n"
 tag_line (Some held) = encode_utf8_all held.0 ++ codes "\n"
 
 -- of the copy: the document as it is printed
-abbrev pub copy_text : Held → List ℕ
+abbrev pub copy_text : CopyHeld → List ℕ
 copy_text None = []
 copy_text (Some held) = encode_utf8_all (document_print held.1)

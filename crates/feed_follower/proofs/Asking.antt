@@ -5,7 +5,7 @@ use Rattle.xml_tree.specs.Tree.{Tree}
 use Rattle.doc_names.specs.declared.doc_id.DocId.{DocId}
 use Rattle.http_exchange.specs.declared.request.Ask.{Ask}
 use Rattle.http_exchange.specs.declared.response.Response.{Response}
-use Rattle.patch_words.specs.Replay.{Held}
+use Rattle.patch_words.specs.Replay.{CopyHeld}
 use Rattle.xcap_client.specs.Asks.{getting}
 use Rattle.xcap_client.specs.Calls.{Calls}
 use Rattle.xcap_client.specs.Exchanges.{not_begun}
@@ -32,7 +32,7 @@ pub not_started : (root : List ℕ) (user : Option (List ℕ)) (doc : DocId) (li
 not_started root user doc line result is = record { fetched = Err faults.NoMemory; fetches = not_fetched root user doc line; told = is }
 
 -- the feed was asked for, and something is held then
-pub feed_asked : (f : Following) (tag : List ℕ) (tree : Tree) (given : Result Response ClientFault) (held : Held) (old new : LineState) (result : Result (Option Round) FollowerFault)
+pub feed_asked : (f : Following) (tag : List ℕ) (tree : Tree) (given : Result Response ClientFault) (held : CopyHeld) (old new : LineState) (result : Result (Option Round) FollowerFault)
     → f.held ≡ Some (tag, tree) → Calls f.root (getting f.user (feed_path tag f.doc)) old new given → TakesFeed f.doc given f.held held result
     → AsksFeed f (record f { held = held }) old new result
 feed_asked f tag tree given held old new result holds calls takes = asks tag tree given holds calls takes refl

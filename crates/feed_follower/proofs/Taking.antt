@@ -11,7 +11,7 @@ use Rattle.tree_text.specs.declared.fault.TextFault.{TextFault}
 use Rattle.doc_names.specs.declared.doc_id.DocId.{DocId}
 use Rattle.http_exchange.specs.declared.response.Response.{Response}
 use Rattle.name_words.specs.Naming.{is_name_of}
-use Rattle.patch_words.specs.Replay.{Answer, Held, Fault, Outcome, Same, Patched, Removed, Fetch, WrongDocument, answered, documents, all_taken, is_all_mine, replayed, then_next}
+use Rattle.patch_words.specs.Replay.{CopyAnswer, CopyHeld, CopyFault, Outcome, Same, Patched, Removed, Fetch, WrongDocument, copy_answer, documents, all_taken, is_all_mine, replayed, then_next}
 use Rattle.patch_laws.specs.Replayed.{HoldsSound}
 use Rattle.patch_apply.specs.Applying.{Applies}
 use Rattle.patch_apply.specs.Reading.{NoticeAnswer}
@@ -48,49 +48,49 @@ document_taken given response version result is brings told =
 
 -- ---- notices
 
-pub sound_is_low : (held : Held) → HoldsSound held → IsLow held
+pub sound_is_low : (held : CopyHeld) → HoldsSound held → IsLow held
 sound_is_low None sound = tt
 sound_is_low (Some h) sound = sound.1
 
-pub notice_refused : (doc : DocId) (body : List ℕ) (held : Held) (error : ReadError NoticeFault) (result : Result (Option Round) FollowerFault)
+pub notice_refused : (doc : DocId) (body : List ℕ) (held : CopyHeld) (error : ReadError NoticeFault) (result : Result (Option Round) FollowerFault)
     → Answered (NoticeAnswer body) (Err error) → result ≡ Err (of_notice error) → TakesNotice doc body held held result
 notice_refused doc body held (errors.Fault fault) result answer is = is_none fault answer refl is
 notice_refused doc body held errors.NoMemory result answer is = lacks_memory refl is
 
 -- what an answer says of the version that is held then, and whether it is that the document has to be fetched
-abbrev held_after : Result (Answer × Held) Fault → Held
+abbrev held_after : Result (CopyAnswer × CopyHeld) CopyFault → CopyHeld
 held_after (Ok x) = x.1
 held_after (Err fault) = None
 
-abbrev is_fetch_answer : Answer → Bool
+abbrev is_fetch_answer : CopyAnswer → Bool
 is_fetch_answer Same = false
 is_fetch_answer Patched = false
 is_fetch_answer Removed = false
 is_fetch_answer (Fetch tag) = true
 
-abbrev is_fetch : Result (Answer × Held) Fault → Bool
+abbrev is_fetch : Result (CopyAnswer × CopyHeld) CopyFault → Bool
 is_fetch (Ok x) = is_fetch_answer x.0
 is_fetch (Err fault) = false
 
 -- nothing else is held where the document has to be fetched
-by_outcome : (outcome : Result Outcome Fault) (ds : List Tree) (held held' : Held) (tag : List ℕ)
-    → then_next outcome (λ end. Ok (answered ds held end)) ≡ Ok (Fetch tag, held') → held' ≡ held
+by_outcome : (outcome : Result Outcome CopyFault) (ds : List Tree) (held held' : CopyHeld) (tag : List ℕ)
+    → then_next outcome (λ end. Ok (copy_answer ds held end)) ≡ Ok (Fetch tag, held') → held' ≡ held
 by_outcome (Err fault) ds held held' tag same = absurd (false≢true (ap is_fetch same))
 by_outcome (Ok None) ds held held' tag same = sym (ap held_after same)
 by_outcome (Ok (Some new)) [] held held' tag same = absurd (false≢true (ap is_fetch same))
 by_outcome (Ok (Some None)) (d ∷ ds) held held' tag same = absurd (false≢true (ap is_fetch same))
 by_outcome (Ok (Some (Some h))) (d ∷ ds) held held' tag same = absurd (false≢true (ap is_fetch same))
 
-by_mine : (mine : Bool) (outcome : Result Outcome Fault) (ds : List Tree) (held held' : Held) (tag : List ℕ)
-    → (if mine then then_next outcome (λ end. Ok (answered ds held end)) else Err WrongDocument) ≡ Ok (Fetch tag, held') → held' ≡ held
+by_mine : (mine : Bool) (outcome : Result Outcome CopyFault) (ds : List Tree) (held held' : CopyHeld) (tag : List ℕ)
+    → (if mine then then_next outcome (λ end. Ok (copy_answer ds held end)) else Err WrongDocument) ≡ Ok (Fetch tag, held') → held' ≡ held
 by_mine true outcome ds held held' tag same = by_outcome outcome ds held held' tag same
 by_mine false outcome ds held held' tag same = absurd (false≢true (ap is_fetch same))
 
-fetch_keeps : (is_mine : List ℕ → Bool) (notice : Tree) (held held' : Held) (tag : List ℕ) → replayed is_mine notice held ≡ Ok (Fetch tag, held') → held' ≡ held
+fetch_keeps : (is_mine : List ℕ → Bool) (notice : Tree) (held held' : CopyHeld) (tag : List ℕ) → replayed is_mine notice held ≡ Ok (Fetch tag, held') → held' ≡ held
 fetch_keeps is_mine notice held held' tag same =
     by_mine (is_all_mine is_mine (documents notice)) (all_taken 0 (notice.decls ∷ []) (documents notice) held) (documents notice) held held' tag same
 
-applied_keeps : (is_mine : List ℕ → Bool) (notice : Tree) (held held' : Held) (applied : Result Applied (ReadError ApplyFault))
+applied_keeps : (is_mine : List ℕ → Bool) (notice : Tree) (held held' : CopyHeld) (applied : Result Applied (ReadError ApplyFault))
     → Applies (replayed is_mine notice held) held applied held' → KeepsUnlessTold held held' (outcome_of applied)
 applied_keeps is_mine notice held held' (Ok answers.Same) a = tt
 applied_keeps is_mine notice held held' (Ok answers.Patched) a = tt
@@ -99,7 +99,7 @@ applied_keeps is_mine notice held held' (Ok (answers.Fetch tag)) a = fetch_keeps
 applied_keeps is_mine notice held held' (Err (errors.Fault fault)) a = a.1
 applied_keeps is_mine notice held held' (Err errors.NoMemory) a = a
 
-pub notice_keeps : (doc : DocId) (body : List ℕ) (held held' : Held) (result : Result (Option Round) FollowerFault) → TakesNotice doc body held held' result → KeepsUnlessTold held held' result
+pub notice_keeps : (doc : DocId) (body : List ℕ) (held held' : CopyHeld) (result : Result (Option Round) FollowerFault) → TakesNotice doc body held held' result → KeepsUnlessTold held held' result
 notice_keeps doc body held held' result (applies notice applied spelled by_words is) =
     subst (λ (r : Result (Option Round) FollowerFault). KeepsUnlessTold held held' r) (sym is) (applied_keeps (is_name_of doc) notice held held' applied by_words)
 notice_keeps doc body held held' result (is_none fault spelled same is) =
@@ -107,7 +107,7 @@ notice_keeps doc body held held' result (is_none fault spelled same is) =
 notice_keeps doc body held held' result (lacks_memory same is) =
     subst (λ (r : Result (Option Round) FollowerFault). KeepsUnlessTold held held' r) (sym is) same
 
-pub feed_taken : (doc : DocId) (given : Result Response ClientFault) (response : Response) (bytes : List ℕ) (held held' : Held) (result : Result (Option Round) FollowerFault)
+pub feed_taken : (doc : DocId) (given : Result Response ClientFault) (response : Response) (bytes : List ℕ) (held held' : CopyHeld) (result : Result (Option Round) FollowerFault)
     → given ≡ Ok response → bytes ≡ response.body → TakesNotice doc bytes held held' result → TakesFeed doc given held held' result
 feed_taken doc given response bytes held held' result is same taken =
     subst (λ (g : Result Response ClientFault). TakesFeed doc g held held' result) (sym is)

@@ -5,7 +5,7 @@ use Rattle.xml_tree.specs.declared.read_error.ReadError.{ReadError}
 use Rattle.doc_names.specs.declared.doc_id.DocId.{DocId}
 use Rattle.http_exchange.specs.declared.response.Response.{Response}
 use Rattle.name_words.specs.Naming.{is_name_of}
-use Rattle.patch_words.specs.Replay.{Held, replayed}
+use Rattle.patch_words.specs.Replay.{CopyHeld, replayed}
 use Rattle.patch_apply.specs.Applying.{Applies}
 use Rattle.patch_apply.specs.Reading.{NoticeAnswer}
 use Rattle.patch_apply.specs.declared.fault.ApplyFault.{ApplyFault}
@@ -29,7 +29,7 @@ outcome_of (Ok (answers.Fetch tag)) = Ok None
 outcome_of (Err error) = Err (of_apply error)
 
 -- The body spells a notice, which was applied to what was held, or spells none; but memory may run out while it is read.
-pub data TakesNotice (doc : DocId) (body : List ℕ) (held held' : Held) (result : Result (Option Round) FollowerFault) : Type 0 where
+pub data TakesNotice (doc : DocId) (body : List ℕ) (held held' : CopyHeld) (result : Result (Option Round) FollowerFault) : Type 0 where
   applies : (notice : Tree) (applied : Result Applied (ReadError ApplyFault)) → NoticeAnswer body (Ok notice)
       → Applies (replayed (is_name_of doc) notice held) held applied held' → result ≡ outcome_of applied
       → TakesNotice doc body held held' result
@@ -39,13 +39,13 @@ pub data TakesNotice (doc : DocId) (body : List ℕ) (held held' : Held) (result
 
 -- what was answered: a response with a notice; 410, by which the tag is no longer known and the document has to be fetched; or another
 -- fault
-abbrev pub TakesFeed : DocId → Result Response ClientFault → Held → Held → Result (Option Round) FollowerFault → Type 0
+abbrev pub TakesFeed : DocId → Result Response ClientFault → CopyHeld → CopyHeld → Result (Option Round) FollowerFault → Type 0
 TakesFeed doc (Ok response) held held' result = TakesNotice doc response.body held held' result
 TakesFeed doc (Err fault) held held' result =
     (held' ≡ held) × (result ≡ (if is_refused_with 410 fault then Ok None else Err (of_client fault)))
 
 -- only where a notice told what came of the document, something else may be held than before
-abbrev pub KeepsUnlessTold : Held → Held → Result (Option Round) FollowerFault → Type 0
+abbrev pub KeepsUnlessTold : CopyHeld → CopyHeld → Result (Option Round) FollowerFault → Type 0
 KeepsUnlessTold held held' (Ok (Some round)) = Unit {0}
 KeepsUnlessTold held held' (Ok None) = held' ≡ held
 KeepsUnlessTold held held' (Err fault) = held' ≡ held

@@ -20,7 +20,7 @@ use Rattle.xcap_uri.specs.declared.target.Target.TheVariants.{Feed}
 use Rattle.xcap_uri.proofs.TargetAnswers.{one_target}
 use Rattle.notes.specs.Notes.{Note}
 use Rattle.patch_words.specs.Notices.{gone_notice}
-use Rattle.patch_words.specs.Replay.{Answer as Outcome, Held as Copy, Removed}
+use Rattle.patch_words.specs.Replay.{CopyAnswer as Outcome, CopyHeld as Copy, Removed}
 use Rattle.patch_text.specs.Modes.{notice_of}
 use Rattle.reply_text.specs.Heads.{plain}
 use Rattle.http_wire.specs.declared.request.Request.{Request}

@@ -11,7 +11,7 @@ use Rattle.xcap_uri.specs.declared.target.Mode.{Mode}
 use Rattle.xcap_uri.specs.declared.target.Mode.TheVariants.{NoPatching, XcapPatching, Aggregate}
 use Rattle.xcap_uri.specs.declared.target.Target.TheVariants.{Feed}
 use Rattle.notes.specs.declared.edit.Edit.{Edit}
-use Rattle.patch_words.specs.Replay.{Answer, Held, Removed, is_notice, replayed}
+use Rattle.patch_words.specs.Replay.{CopyAnswer, CopyHeld, Removed, is_notice, replayed}
 use Rattle.reply_text.specs.Heads.{Sent}
 use Rattle.http_wire.specs.declared.request.Request.{Request}
 use Rattle.request_terms.specs.Methods.{method_of}
@@ -24,7 +24,7 @@ use Rattle.machine_words.specs.Machine.{KeptStep}
 use Rattle.replay_laws.specs.Subscribers.{answer_between, fetch_between, subscribed}
 
 -- the body is the text of a notice, and who holds this of the document and applies the notice gets the answer and then holds that
-pub record Updates (id : DocId) (body : List ℕ) (held : Held) (answer : Answer) (new : Held) : Type 0 where
+pub record Updates (id : DocId) (body : List ℕ) (held : CopyHeld) (answer : CopyAnswer) (new : CopyHeld) : Type 0 where
   pub notice : Tree
   pub is_read : TextAnswer 67 [] body (Ok notice)
   pub form : is_notice notice ≡ true

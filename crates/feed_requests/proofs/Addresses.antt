@@ -22,7 +22,7 @@ use Rattle.doc_names.specs.declared.doc_id.Auid.{Auid}
 use Rattle.doc_names.specs.declared.doc_id.DocId.{DocId}
 use Rattle.doc_names.specs.declared.doc_id.Home.{Home}
 use Rattle.doc_names.specs.declared.doc_id.Home.TheVariants.{Global, User}
-use Rattle.xcap_uri.specs.Cuts.{after, before, behind, behind_first, pieces}
+use Rattle.xcap_uri.specs.Cuts.{rest_after_front, front_before, rest_behind, behind_first, pieces}
 use Rattle.xcap_uri.specs.Escapes.{StandsFor, StandForOptional}
 use Rattle.xcap_uri.specs.Numerals.{numeral_of}
 use Rattle.xcap_uri.specs.Roots.{slash}
@@ -48,7 +48,7 @@ not_true : (t : Bool) → not t ≡ true → t ≡ false
 not_true true h = sym h
 not_true false h = refl
 
-before_append : (stop : ℕ) (u v : List ℕ) → AllPass (is_other stop) u → before stop (u ++ v) ≡ u ++ before stop v
+before_append : (stop : ℕ) (u v : List ℕ) → AllPass (is_other stop) u → front_before stop (u ++ v) ≡ u ++ front_before stop v
 before_append stop [] v all = refl
 before_append stop (b ∷ u) v all = rw (not_true (b == stop) all.0) (ap (λ (l : List ℕ). b ∷ l) (before_append stop u v all.1))
 
@@ -60,7 +60,7 @@ pieces_more : (stop : ℕ) (u v : List ℕ) → AllPass (is_other stop) u → pi
 pieces_more stop [] v all = rw (eq-eqb stop stop refl) refl
 pieces_more stop (b ∷ u) v all = rw (not_true (b == stop) all.0) (ap (onto_first b) (pieces_more stop u v all.1))
 
-after_append : (u v : List ℕ) → after u (u ++ v) ≡ Some v
+after_append : (u v : List ℕ) → rest_after_front u (u ++ v) ≡ Some v
 after_append [] v = refl
 after_append (b ∷ u) v = rw (eq-eqb b b refl) (after_append u v)
 
@@ -85,14 +85,14 @@ regrouped r a m s d i =
     ∙ append_assoc (r ++ a) m (s ++ (d ++ (s ++ i))) ∙ append_assoc r a (m ++ (s ++ (d ++ (s ++ i))))
 
 module _ (mode : Mode) (digits : List ℕ) (are : list_all is_ascii_digit digits ≡ true) where
-  cut_before : (id : List ℕ) → before question (behind_root mode digits id) ≡ behind_root mode digits (before question id)
+  cut_before : (id : List ℕ) → front_before question (behind_root mode digits id) ≡ behind_root mode digits (front_before question id)
   cut_before id =
       before_append question (codes "~feed") (slash ∷ (mode_text mode ++ (slash ∷ (digits ++ (slash ∷ id))))) (pass_word (is_other question) (codes "~feed") refl)
       ∙ ap (λ (l : List ℕ). codes "~feed" ++ (slash ∷ l))
       (before_append question (mode_text mode) (slash ∷ (digits ++ (slash ∷ id))) (mode_passes question mode refl refl refl)
       ∙ ap (λ (l : List ℕ). mode_text mode ++ (slash ∷ l)) (before_append question digits (slash ∷ id) (digits_pass question refl digits are)))
 
-  cut_behind : (id : List ℕ) → behind question (behind_root mode digits id) ≡ behind question id
+  cut_behind : (id : List ℕ) → rest_behind question (behind_root mode digits id) ≡ rest_behind question id
   cut_behind id =
       ap behind_first
       (behind_append question (codes "~feed") (slash ∷ (mode_text mode ++ (slash ∷ (digits ++ (slash ∷ id))))) (pass_word (is_other question) (codes "~feed") refl)
@@ -225,12 +225,12 @@ module _ (mode : Mode) (n : ℕ) (tag : List ℕ) (doc : DocId) (has : HasFeed d
   segments_in_front segments texts selector are =
       (feed_stands, feed_differs, (mode_stands mode, mode_differs mode, (tag_stands, no_tag (codes "~~") tag n (word_letters (codes "~~") refl) refl is_tag, are)))
 
-  path_in_front : (id : List ℕ) (texts : List (List ℕ)) (selector : Option (List ℕ)) → IsPath (before question id) (texts, selector)
-      → IsPath (before question (behind_root mode (encode_utf8_all tag) id)) (with_front texts, selector)
+  path_in_front : (id : List ℕ) (texts : List (List ℕ)) (selector : Option (List ℕ)) → IsPath (front_before question id) (texts, selector)
+      → IsPath (front_before question (behind_root mode (encode_utf8_all tag) id)) (with_front texts, selector)
   path_in_front id texts selector are =
-      let cut : pieces slash (before question (behind_root mode (encode_utf8_all tag) id)) ≡ codes "~feed" ∷ mode_text mode ∷ encode_utf8_all tag ∷ pieces slash (before question id) =
-      ap (pieces slash) (cut_before mode (encode_utf8_all tag) digits_are id) ∙ parts mode (encode_utf8_all tag) digits_are (before question id) in
-      subst (λ (l : List (List ℕ)). AreSegments l (with_front texts) selector) (sym cut) (segments_in_front (pieces slash (before question id)) texts selector are)
+      let cut : pieces slash (front_before question (behind_root mode (encode_utf8_all tag) id)) ≡ codes "~feed" ∷ mode_text mode ∷ encode_utf8_all tag ∷ pieces slash (front_before question id) =
+      ap (pieces slash) (cut_before mode (encode_utf8_all tag) digits_are id) ∙ parts mode (encode_utf8_all tag) digits_are (front_before question id) in
+      subst (λ (l : List (List ℕ)). AreSegments l (with_front texts) selector) (sym cut) (segments_in_front (pieces slash (front_before question id)) texts selector are)
 
   -- what follows the path, by the query's text
   abbrev BehindPath : Option (List ℕ) → List (List ℕ) → Option (List ℕ) → Result Target UriFault → Type 0
@@ -250,7 +250,7 @@ module _ (mode : Mode) (n : ℕ) (tag : List ℕ) (doc : DocId) (has : HasFeed d
         (with_front path.0.0, path.0.1),
         path_in_front id path.0.0 path.0.1 path.1,
         subst (λ (q : Option (List ℕ)). BehindPath q (with_front path.0.0) path.0.1 asked) (sym (cut_behind mode (encode_utf8_all tag) digits_are id))
-            (by_path (behind question id) path.0.0 path.0.1 path.2),
+            (by_path (rest_behind question id) path.0.0 path.0.1 path.2),
       )
 
 -- ---- the whole address

@@ -9,7 +9,7 @@ use Rattle.store_core.specs.Held.{Stock}
 use Rattle.machine_words.proofs.Cases.{at_true}
 use Rattle.machine_words.specs.Answers.{unchanged}
 use Rattle.machine_words.specs.Requests.{IsAnswer}
-use Rattle.patch_words.specs.Replay.{Held}
+use Rattle.patch_words.specs.Replay.{CopyHeld}
 use Rattle.patch_apply.specs.declared.replica.Applied.{Applied}
 use Rattle.followed_feeds.specs.Following.{Follows, FollowsHeld, OrNoMemory, Takes}
 use Rattle.followed_feeds.specs.inner.Asking.{AsksFrom}
@@ -27,7 +27,7 @@ one_there (Some n) none same is = (n, refl)
 
 -- ---- the reply
 
-pub follows : (root : List ℕ) (c : Stock) (mode : Mode) (id mine : DocId) (old : Held) (result : Result Applied FollowFault) (new : Held) (request : Request) (reply : Sent)
+pub follows : (root : List ℕ) (c : Stock) (mode : Mode) (id mine : DocId) (old : CopyHeld) (result : Result Applied FollowFault) (new : CopyHeld) (request : Request) (reply : Sent)
     → AsksFrom root mode id old request → IsAnswer root c request (unchanged reply) → OrNoMemory old result new (Takes mine old result new reply)
     → OrNoMemory old result new (Follows root c mode id mine old result new)
 follows root c mode id mine old result new request reply asks is (inl takes) =

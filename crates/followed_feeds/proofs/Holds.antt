@@ -21,7 +21,7 @@ use Rattle.store_core.specs.State.{Document, State, Version, versions}
 use Rattle.machine_words.proofs.Cases.{either}
 use Rattle.machine_words.specs.Answers.{unchanged}
 use Rattle.machine_words.specs.Requests.{IsAnswer}
-use Rattle.patch_words.specs.Replay.{Answer, Held, Removed}
+use Rattle.patch_words.specs.Replay.{CopyAnswer, CopyHeld, Removed}
 use Rattle.patch_apply.specs.Reading.{NoticeAnswer}
 use Rattle.patch_apply.specs.declared.fault.NoticeFault.{NoticeFault}
 use Rattle.patch_apply.specs.declared.replica.Applied.{Applied}
@@ -58,7 +58,7 @@ small_tag m id d from last kept next small is =
 
 -- ---- what was answered
 
-module _ (root : List ℕ) (c : Stock) (m : State) (stands : Stands c m) (mode : Mode) (id : DocId) (old : Held) (result : Result Applied FollowFault) (new : Held)
+module _ (root : List ℕ) (c : Stock) (m : State) (stands : Stands c m) (mode : Mode) (id : DocId) (old : CopyHeld) (result : Result Applied FollowFault) (new : CopyHeld)
     (asks : (tag : List ℕ) (n : ℕ) → tag_spelled tag ≡ Some n → AsksForFeed root mode n id (feed_request root mode tag id))
     (holds : (tag : List ℕ) (reply : Sent) → IsAnswer root c (feed_request root mode tag id) (unchanged reply) → SubscribersHold root m (feed_request root mode tag id) reply) where
   -- with a version whose tag is spelled the machine was asked
@@ -70,7 +70,7 @@ module _ (root : List ℕ) (c : Stock) (m : State) (stands : Stands c m) (mode :
 
   -- and its answer holds a notice of what the subscriber is to hold
   pub told : (tag : ℕ) (tree : Tree) → 1 ≤ tag → tag ≤ greatest_u64 → old ≡ Some (decimal tag, tree) → since c id tag ≢ Unknown → Follows root c mode id id old result new
-      → (answer : Answer) (then : Held) → ((body : List ℕ) → UpdatesHeld mode tag id body (document_in document_name m.documents id) → Updates id body old answer then) → Gets result new answer then
+      → (answer : CopyAnswer) (then : CopyHeld) → ((body : List ℕ) → UpdatesHeld mode tag id body (document_in document_name m.documents id) → Updates id body old answer then) → Gets result new answer then
   told tag tree some small is known follows answer then updates =
       let from = asked tag tree some small is follows in
       let reply = from.0 in
@@ -97,7 +97,7 @@ module _ (root : List ℕ) (c : Stock) (m : State) (stands : Stands c m) (mode :
       let u : UpdatesFrom mode from.tag id body d = subst (UpdatesHeld mode from.tag id body) retained.there h in
       let same : from ≡ u.from = u.only from retained.number retained.is_version refl in
       let to : UpdatesTo mode id body from d.now = subst (λ (v : Version). UpdatesTo mode id body v d.now) (sym same) u.updates in
-      subst (λ (held : Held). Updates id body held (answer_between from d.now) (subscribed d.now)) (sym is) (by_mode mode patching body from d.now to))
+      subst (λ (held : CopyHeld). Updates id body held (answer_between from d.now) (subscribed d.now)) (sym is) (by_mode mode patching body from d.now to))
 
   never_unknown : (tag : ℕ) → document_in document_name m.documents id ≡ None → since c id tag ≢ Unknown
   never_unknown tag none unknown =
@@ -112,11 +112,11 @@ module _ (root : List ℕ) (c : Stock) (m : State) (stands : Stands c m) (mode :
       told tag tree some small is (never_unknown tag none) follows Removed None
       (λ body h.
       let drops : (t : Tree) → Updates id body (Some (decimal tag, t)) Removed None = subst (UpdatesHeld mode tag id body) none h in
-      subst (λ (held : Held). Updates id body held Removed None) (sym is) (drops tree))
+      subst (λ (held : CopyHeld). Updates id body held Removed None) (sym is) (drops tree))
 
 -- ---- want of memory aside
 
-pub unless_memory : (old : Held) (result : Result Applied FollowFault) (new : Held) (P : Type 0) (answer : Answer) (then : Held) → (P → Gets result new answer then) → OrNoMemory old result new P
+pub unless_memory : (old : CopyHeld) (result : Result Applied FollowFault) (new : CopyHeld) (P : Type 0) (answer : CopyAnswer) (then : CopyHeld) → (P → Gets result new answer then) → OrNoMemory old result new P
     → Gets result new answer then
 unless_memory old result new P answer then gets (inl p) = gets p
 unless_memory old result new P answer then gets (inr none) = inr none.0
@@ -128,7 +128,7 @@ pub record Lawful (root : List ℕ) (c : Stock) (m : State) (mode : Mode) (id : 
   pub asks : (tag : List ℕ) (n : ℕ) → tag_spelled tag ≡ Some n → AsksForFeed root mode n id (feed_request root mode tag id)
   pub holds : (tag : List ℕ) (reply : Sent) → IsAnswer root c (feed_request root mode tag id) (unchanged reply) → SubscribersHold root m (feed_request root mode tag id) reply
 
-module _ (root : List ℕ) (c : Stock) (m : State) (mode : Mode) (id mine : DocId) (old : Held) (result : Result Applied FollowFault) (new : Held) (lawful : Lawful root c m mode id) (same : mine ≡ id)
+module _ (root : List ℕ) (c : Stock) (m : State) (mode : Mode) (id mine : DocId) (old : CopyHeld) (result : Result Applied FollowFault) (new : CopyHeld) (lawful : Lawful root c m mode id) (same : mine ≡ id)
     (follows : OrNoMemory old result new (Follows root c mode id mine old result new)) where
   its_own : OrNoMemory old result new (Follows root c mode id id old result new)
   its_own = subst (λ (doc : DocId). OrNoMemory old result new (Follows root c mode id doc old result new)) same follows

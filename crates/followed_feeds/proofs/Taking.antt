@@ -8,7 +8,7 @@ use Rattle.xml_tree.specs.declared.read_error.ReadError.TheVariants as errors
 use Rattle.tree_text.proofs.OneAnswer.{one_text}
 use Rattle.doc_names.specs.declared.doc_id.DocId.{DocId}
 use Rattle.name_words.specs.Naming.{is_name_of}
-use Rattle.patch_words.specs.Replay.{Answer, Fault, Held, is_notice, replayed}
+use Rattle.patch_words.specs.Replay.{CopyAnswer, CopyFault, CopyHeld, is_notice, replayed}
 use Rattle.patch_apply.specs.Applying as words
 use Rattle.patch_apply.specs.Reading.{NoticeAnswer, taken_as}
 use Rattle.patch_apply.specs.Views.{told_as}
@@ -24,9 +24,9 @@ use Rattle.followed_feeds.specs.Holding.{Gets}
 use Rattle.followed_feeds.specs.declared.fault.FollowFault.{FollowFault}
 use Rattle.followed_feeds.specs.declared.fault.FollowFault.TheVariants as faults
 
-module _ (id : DocId) (old : Held) (result : Result Applied FollowFault) (new : Held) where
+module _ (id : DocId) (old : CopyHeld) (result : Result Applied FollowFault) (new : CopyHeld) where
   -- what was said of the one reading holds of this one
-  pub updated : (body : List ℕ) (read : Result Tree NoticeFault) (held : Held) (answer : Answer) (then : Held) → Updates id body held answer then → NoticeAnswer body read → old ≡ held
+  pub updated : (body : List ℕ) (read : Result Tree NoticeFault) (held : CopyHeld) (answer : CopyAnswer) (then : CopyHeld) → Updates id body held answer then → NoticeAnswer body read → old ≡ held
       → TakesNotice id old result new read → Gets result new answer then
   updated body read held answer then u is same takes =
       let text : is.text ≡ Ok u.notice = one_text 67 [] body is.text (Ok u.notice) is.by_grammar u.is_read in
@@ -36,8 +36,8 @@ module _ (id : DocId) (old : Held) (result : Result Applied FollowFault) (new : 
       inl (subst (Applies old result new) known applies)
 
 -- what is refused where a notice is read and applied
-module _ (mine : DocId) (old : Held) (result : Result Applied FollowFault) (new : Held) where
-  refuses_all : (stated : Result (Answer × Held) Fault) (error : ReadError ApplyFault) → result ≡ Err (apply_fault error) → words.Applies stated old (Err error) new → OrNoMemory old result new (Applies old result new stated)
+module _ (mine : DocId) (old : CopyHeld) (result : Result Applied FollowFault) (new : CopyHeld) where
+  refuses_all : (stated : Result (CopyAnswer × CopyHeld) CopyFault) (error : ReadError ApplyFault) → result ≡ Err (apply_fault error) → words.Applies stated old (Err error) new → OrNoMemory old result new (Applies old result new stated)
   refuses_all stated (errors.Fault fault) is applies =
       let told = applies.0 in
       let refused : Refuses old result new (faults.Apply (told_as told.stated_fault)) = (is ∙ ap (λ (f : ApplyFault). let r : Result Applied FollowFault = Err (faults.Apply f) in r) told.told, applies.1) in

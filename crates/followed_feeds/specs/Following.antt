@@ -11,7 +11,7 @@ use Rattle.reply_text.specs.Heads.{Sent}
 use Rattle.store_core.specs.Held.{Stock}
 use Rattle.machine_words.specs.Answers.{unchanged}
 use Rattle.machine_words.specs.Requests.{IsAnswer}
-use Rattle.patch_words.specs.Replay.{Answer, Fault, Held, replayed}
+use Rattle.patch_words.specs.Replay.{CopyAnswer, CopyFault, CopyHeld, replayed}
 use Rattle.patch_apply.specs.Reading.{NoticeAnswer}
 use Rattle.patch_apply.specs.Views.{answer_in, told_as}
 use Rattle.patch_apply.specs.declared.fault.NoticeFault.{NoticeFault}
@@ -21,7 +21,7 @@ use Rattle.followed_feeds.specs.declared.fault.FollowFault.{FollowFault}
 use Rattle.followed_feeds.specs.declared.fault.FollowFault.TheVariants.{Nothing, BadTag, Status, Notice, Apply, NoMemory}
 
 -- What was held, what is answered, and what is held then.
-module _ (old : Held) (result : Result Applied FollowFault) (new : Held) where
+module _ (old : CopyHeld) (result : Result Applied FollowFault) (new : CopyHeld) where
   -- a fault, after which what was held is held
   abbrev pub Refuses : FollowFault → Type 0
   Refuses fault = (result ≡ Err fault) × (new ≡ old)
@@ -31,12 +31,12 @@ module _ (old : Held) (result : Result Applied FollowFault) (new : Held) where
   OrNoMemory Comes = Comes ⊎ Refuses NoMemory
 
   -- what a notice makes of a version, or why it can't be applied
-  abbrev pub Applies : Result (Answer × Held) Fault → Type 0
+  abbrev pub Applies : Result (CopyAnswer × CopyHeld) CopyFault → Type 0
   Applies (Ok x) = (applied : Applied) × (result ≡ Ok applied) × (answer_in applied ≡ x.0) × (new ≡ x.1)
   Applies (Err fault) = Refuses (Apply (told_as fault))
 
 -- What a reply makes of a copy of the document `mine`.
-module _ (mine : DocId) (old : Held) (result : Result Applied FollowFault) (new : Held) where
+module _ (mine : DocId) (old : CopyHeld) (result : Result Applied FollowFault) (new : CopyHeld) where
   -- a notice is applied; a body that is none is refused
   abbrev pub TakesNotice : Result Tree NoticeFault → Type 0
   TakesNotice (Ok notice) = Applies old result new (replayed (is_name_of mine) notice old)
@@ -50,7 +50,7 @@ module _ (mine : DocId) (old : Held) (result : Result Applied FollowFault) (new 
       (Refuses old result new (Status reply.status))
 
 -- What comes of following the document `id` of the machine of this root, where this is held, with a copy of the document `mine`.
-module _ (root : List ℕ) (c : Stock) (mode : Mode) (id mine : DocId) (old : Held) (result : Result Applied FollowFault) (new : Held) where
+module _ (root : List ℕ) (c : Stock) (mode : Mode) (id mine : DocId) (old : CopyHeld) (result : Result Applied FollowFault) (new : CopyHeld) where
   -- the machine's reply to the request for the feed since a tag
   abbrev pub FollowsFrom : List ℕ → Type 0
   FollowsFrom tag = (reply : Sent) × IsAnswer root c (feed_request root mode tag id) (unchanged reply) × Takes mine old result new reply

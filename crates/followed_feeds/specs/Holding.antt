@@ -9,7 +9,7 @@ use Rattle.store_core.specs.Changing.{document_in, document_name}
 use Rattle.store_core.specs.Held.{stock_of}
 use Rattle.store_core.specs.Since.{Unknown, since}
 use Rattle.store_core.specs.State.{Document, State, Version, versions}
-use Rattle.patch_words.specs.Replay.{Answer, Held, Removed}
+use Rattle.patch_words.specs.Replay.{CopyAnswer, CopyHeld, Removed}
 use Rattle.patch_apply.specs.Views.{answer_in}
 use Rattle.patch_apply.specs.declared.replica.Applied.{Applied}
 use Rattle.replay_laws.specs.Subscribers.{answer_between, subscribed}
@@ -30,18 +30,18 @@ pub record IsRetained (m : State) (id : DocId) (d : Document) (from : Version) :
   pub retained : since (stock_of m) id from.tag ≢ Unknown
 
 -- this is answered, and this is held then; or memory was wanted
-abbrev pub Gets : Result Applied FollowFault → Held → Answer → Held → Type 0
+abbrev pub Gets : Result Applied FollowFault → CopyHeld → CopyAnswer → CopyHeld → Type 0
 Gets result new answer held =
     ((applied : Applied) × (result ≡ Ok applied) × (answer_in applied ≡ answer) × (new ≡ held)) ⊎ (result ≡ Err NoMemory)
 
 -- who holds a version that is retained gets the version that the document has now, in a mode that tells changes
-abbrev pub HoldsThePresent : State → Mode → DocId → Held → Result Applied FollowFault → Held → Type 0
+abbrev pub HoldsThePresent : State → Mode → DocId → CopyHeld → Result Applied FollowFault → CopyHeld → Type 0
 HoldsThePresent m mode id old result new =
     (d : Document) (from : Version) → IsPatching mode → IsRetained m id d from → old ≡ subscribed from
     → Gets result new (answer_between from d.now) (subscribed d.now)
 
 -- who holds a version of a document that is gone holds nothing then, in every mode
-abbrev pub DropsWhatIsGone : State → DocId → Held → Result Applied FollowFault → Held → Type 0
+abbrev pub DropsWhatIsGone : State → DocId → CopyHeld → Result Applied FollowFault → CopyHeld → Type 0
 DropsWhatIsGone m id old result new =
     (tag : ℕ) (tree : Tree) → document_in document_name m.documents id ≡ None → 1 ≤ tag → tag ≤ greatest_u64 → old ≡ Some (decimal tag, tree)
     → Gets result new Removed None

@@ -17,7 +17,7 @@ use Rattle.http_exchange.specs.Heads.{BeginsWithHead, HasNoHead, NeverHasHead}
 use Rattle.http_exchange.specs.Tags.{TagIs}
 use Rattle.http_exchange.specs.Extents.{extent_by, body_by, body_to, LacksMore}
 use Rattle.http_exchange.specs.Inflow.{IsHeadAt, HeadOrNone, Settles}
-use Rattle.http_exchange.specs.Responses.{extent_of, response_of, no_head, refused, responds, IsSaid, IsUnfinished, lacks_head, lacks_body, Answers, GivesBody}
+use Rattle.http_exchange.specs.Responses.{extent_of, response_of, no_head, refused, responds, IsDecided, IsUnfinished, lacks_head, lacks_body, Answers, GivesBody}
 use Rattle.http_exchange.proofs.Fronts.{begins-append}
 
 -- what holds by the cause of a fault, of another answer with that fault
@@ -41,13 +41,13 @@ of_fields (faults.Short have wanted) L S of is = is
 of_fields faults.NoMemory L S of is = absurd of
 
 -- a head that is refused by the bytes behind it, or by itself
-said_refused : (given : List ℕ) (left : Inward) (head : ResponseHead) (rest : List ℕ) (fault : ResponseFault) → BeginsWithHead given head rest → Settles (body_to (extent_of head)) rest left (Err fault) → IsSaid given left.ended (Err fault)
+said_refused : (given : List ℕ) (left : Inward) (head : ResponseHead) (rest : List ℕ) (fault : ResponseFault) → BeginsWithHead given head rest → Settles (body_to (extent_of head)) rest left (Err fault) → IsDecided given left.ended (Err fault)
 said_refused given left head rest fault begins (inl all) = inl (λ more. refused head (rest ++ more) fault (begins-append given more head rest begins) (all more) refl)
 said_refused given left head rest fault begins (inr is) = inr (is.1.0, refused head rest fault begins is.0 refl)
 
 -- a head whose body is there
 said_responds : (given : List ℕ) (left : Inward) (head : ResponseHead) (rest : List ℕ) (tag : Option (List ℕ)) (body : List ℕ) → BeginsWithHead given head rest → TagIs (map name_and_value head.fields) tag → Settles (body_to (extent_of head)) rest left (Ok body)
-    → IsSaid given left.ended (Ok (response_of head tag body))
+    → IsDecided given left.ended (Ok (response_of head tag body))
 said_responds given left head rest tag body begins tagged (inl all) = inl (λ more. responds head (rest ++ more) tag body (begins-append given more head rest begins) tagged (all more) refl)
 said_responds given left head rest tag body begins tagged (inr is) = inr (is.1.0, responds head rest tag body begins tagged is.0 refl)
 
@@ -59,7 +59,7 @@ given_is held left left' gains = subst (Gave left left') (sym gains.added) gains
 pub answers_none : (held : List ℕ) (headers : List HeaderSpan) (left left' : Inward) → Gains [] held left left' → HeadOrNone held left' headers None → Answers left left' (Err faults.Head)
 answers_none held headers left left' gains none = record { read = held; given = given_is held left left' gains; answer = by_end none }
   where
-    by_end : NeverHasHead held ⊎ (HasNoHead held × IsEnded left') → IsSaid held left'.ended (Err faults.Head)
+    by_end : NeverHasHead held ⊎ (HasNoHead held × IsEnded left') → IsDecided held left'.ended (Err faults.Head)
     by_end (inl never) = inl (λ more. no_head (never more) refl)
     by_end (inr (lacks, ends)) = inr (ends.0, no_head lacks refl)
 
@@ -80,7 +80,7 @@ pub answers_refused : (held : List ℕ) (headers : List HeaderSpan) (spans : Res
 answers_refused held headers spans head fault left left' gains at of is = record {
   read = held;
   given = given_is held left left' gains;
-  answer = of_fields fault (IsUnfinished held) (IsSaid held left'.ended) of (said_refused held left' head (drop spans.len held) fault at.begins (inl (λ more. ap (λ (e : Result Extent ResponseFault). body_to e (drop spans.len held ++ more)) is)));
+  answer = of_fields fault (IsUnfinished held) (IsDecided held left'.ended) of (said_refused held left' head (drop spans.len held) fault at.begins (inl (λ more. ap (λ (e : Result Extent ResponseFault). body_to e (drop spans.len held ++ more)) is)));
 }
 
 -- the body has one, or reading it stopped
@@ -91,7 +91,7 @@ answers_body_fault held headers spans head extent fault left mid left' gains at 
     record {
       read = held ++ gives.read;
       given = gave_on left mid left' held gives.read (given_is held left mid gains) gives.given;
-      answer = by_cause fault (LacksMore extent rest) (IsUnfinished (held ++ gives.read)) (Settles (body_by extent) rest left') (IsSaid (held ++ gives.read) left'.ended) (lacks_body head rest extent begins is) (λ e settled. said_refused (held ++ gives.read) left' head rest e begins (subst (λ (x : Result Extent ResponseFault). Settles (body_to x) rest left' (Err e)) (sym is) settled)) gives.body;
+      answer = by_cause fault (LacksMore extent rest) (IsUnfinished (held ++ gives.read)) (Settles (body_by extent) rest left') (IsDecided (held ++ gives.read) left'.ended) (lacks_body head rest extent begins is) (λ e settled. said_refused (held ++ gives.read) left' head rest e begins (subst (λ (x : Result Extent ResponseFault). Settles (body_to x) rest left' (Err e)) (sym is) settled)) gives.body;
     }
 
 -- the body is there
@@ -105,5 +105,5 @@ answers_response held headers spans head extent tag body left mid left' gains at
     record {
       read = given;
       given = gave_on left mid left' held gives.read (given_is held left mid gains) gives.given;
-      answer = subst (λ (r : Response). IsSaid given left'.ended (Ok r)) same (said_responds given left' head rest tag body begins (subst (λ (f : List (List ℕ × List ℕ)). TagIs f tag) at.parts.fields tagged) (subst (λ (x : Result Extent ResponseFault). Settles (body_to x) rest left' (Ok body)) (sym is) gives.body));
+      answer = subst (λ (r : Response). IsDecided given left'.ended (Ok r)) same (said_responds given left' head rest tag body begins (subst (λ (f : List (List ℕ × List ℕ)). TagIs f tag) at.parts.fields tagged) (subst (λ (x : Result Extent ResponseFault). Settles (body_to x) rest left' (Ok body)) (sym is) gives.body));
     }

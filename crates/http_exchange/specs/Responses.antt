@@ -35,8 +35,8 @@ pub data Says (bytes : List ℕ) (answer : Result Response ResponseFault) : Type
       → answer ≡ Ok (response_of head tag body) → Says bytes answer
 
 -- These bytes were given, and this is what the bytes of the connection say: however they go on, or as a read found their end.
-abbrev pub IsSaid : List ℕ → Bool → Result Response ResponseFault → Type 0
-IsSaid given ended answer = ((more : List ℕ) → Says (given ++ more) answer) ⊎ ((ended ≡ true) × Says given answer)
+abbrev pub IsDecided : List ℕ → Bool → Result Response ResponseFault → Type 0
+IsDecided given ended answer = ((more : List ℕ) → Says (given ++ more) answer) ⊎ ((ended ≡ true) × Says given answer)
 
 -- These bytes don't decide what is said: there is no head in them, or more of the body is due.
 pub data IsUnfinished (bytes : List ℕ) : Type 0 where
@@ -48,7 +48,7 @@ pub data IsUnfinished (bytes : List ℕ) : Type 0 where
 pub record Answers (source source' : Inward) (result : Result Response ResponseFault) : Type 0 where
   pub read : List ℕ
   pub given : Gave source source' read
-  pub answer : ByCause result (IsUnfinished read) (IsSaid read source'.ended)
+  pub answer : ByCause result (IsUnfinished read) (IsDecided read source'.ended)
 
 -- Bytes were read behind those that were held, and the body is by them all; where a read failed, they don't decide.
 pub record GivesBody (extent : Extent) (held : List ℕ) (source source' : Inward) (result : Result (List ℕ) ResponseFault) : Type 0 where

@@ -12,7 +12,7 @@ use Rattle.http_wire.specs.Items.{AsksFor}
 use Rattle.http_wire.specs.Serving.{EndsBy, GoesOn, Run}
 use Rattle.http_wire.proofs.Connections.{run_none, run_more, run-append}
 use Rattle.http_serve.specs.declared.connection.Ended.{Ended}
-use Rattle.http_serve.specs.Endings.{ending_of, Exchanges, FaultsBy, FaultsSoFar}
+use Rattle.http_serve.specs.Endings.{ending_of, KeepsTheRest, FaultsBy, FaultsSoFar}
 use Rattle.http_serve.specs.Fixed.{fixed}
 use Rattle.http_serve.proofs.Faults.{faults_on}
 use Rattle.http_serve.specs.inner.Turns.{GivesOn, Turn}
@@ -28,10 +28,10 @@ pub few_requests : {M E : Type 0} (Step : M → Request → List ℕ → M → O
 few_requests Step before machine next bytes written rest edit below g = let e = open_below before bytes g.request rest g.asked g.stays in grind (arith, nat_tests)
 
 -- exchanges, one after the other
-pub exchanges_none : (line : LineState) → Exchanges line line
+pub exchanges_none : (line : LineState) → KeepsTheRest line line
 exchanges_none line = record { same_holds = refl; same_aside = refl; same_port = refl; same_peer = refl }
 
-pub exchanges_on : (old mid new : LineState) → Exchanges old mid → Exchanges mid new → Exchanges old new
+pub exchanges_on : (old mid new : LineState) → KeepsTheRest old mid → KeepsTheRest mid new → KeepsTheRest old new
 exchanges_on old mid new a b = record { same_holds = b.same_holds ∙ a.same_holds; same_aside = b.same_aside ∙ a.same_aside; same_port = b.same_port ∙ a.same_port; same_peer = b.same_peer ∙ a.same_peer }
 
 module _ {M W E : Type 0} (Step : M → Request → List ℕ → M → Option E → Type 0) (Keeps : List E → W → W → Type 0) where
@@ -48,7 +48,7 @@ module _ {M W E : Type 0} (Step : M → Request → List ℕ → M → Option E 
     pub kept : Keeps edits watchers watchers'
     pub same_reads : mid.read_faults ≡ old.read_faults
     pub same_writes : mid.write_faults ≡ old.write_faults
-    pub exchanges : Exchanges old mid
+    pub exchanges : KeepsTheRest old mid
 
   -- it begins
   pub at_first : (machine : M) (wire : WireState) (line : LineState) (watchers : W) → wire ≡ fresh_wire → Keeps [] watchers watchers → SoFar machine machine wire line line watchers watchers
@@ -77,7 +77,7 @@ module _ {M W E : Type 0} (Step : M → Request → List ℕ → M → Option E 
     run_on bytes = run-append Step fixed 0 machine now so_far.given bytes wire.held so_far.written so_far.requests so_far.edits so_far.run
 
     -- one turn more
-    pub one_more : Turn Step Keeps None wire wire' now next mid new b c → wire'.requests ≡ wire.requests + 1 → (new.read_faults ≡ mid.read_faults) × (new.write_faults ≡ mid.write_faults) → Exchanges mid new → SoFar machine next wire' old new a c
+    pub one_more : Turn Step Keeps None wire wire' now next mid new b c → wire'.requests ≡ wire.requests + 1 → (new.read_faults ≡ mid.read_faults) × (new.write_faults ≡ mid.write_faults) → KeepsTheRest mid new → SoFar machine next wire' old new a c
     one_more t counted faults exchanges =
         let did : GoesOn Step fixed wire.requests now (wire.held ++ t.read) t.written next t.edit wire'.held = t.did in
         let before : wire.requests ≡ 0 + length so_far.requests = omega (arith, so_far.count) in
@@ -98,7 +98,7 @@ module _ {M W E : Type 0} (Step : M → Request → List ℕ → M → Option E 
         }
 
     -- one turn more, by what a turn says of itself where it answered that the connection goes on
-    pub another : (result : Option Ended) → result ≡ None → Turn Step Keeps result wire wire' now next mid new b c → (result ≡ None → GivesOn wire wire') → FaultsSoFar result mid new → Exchanges mid new → wire.requests < 1000
+    pub another : (result : Option Ended) → result ≡ None → Turn Step Keeps result wire wire' now next mid new b c → (result ≡ None → GivesOn wire wire') → FaultsSoFar result mid new → KeepsTheRest mid new → wire.requests < 1000
         → SoFar machine next wire' old new a c × ((wire'.spent ≡ false) × (wire'.requests < 1000))
     another result is t gives faults exchanges below =
         let goes = gives is in
@@ -108,7 +108,7 @@ module _ {M W E : Type 0} (Step : M → Request → List ℕ → M → Option E 
         (one_more one goes.requests (subst (λ (r : Option Ended). FaultsSoFar r mid new) is faults) exchanges, (goes.open_still, omega (arith, goes.requests, few)))
 
     -- the last turn
-    pub at_end : (ended : Ended) → Turn Step Keeps (Some ended) wire wire' now next mid new b c → FaultsBy ended mid new → Exchanges mid new → ServesLine Step Keeps ended machine next old new a c
+    pub at_end : (ended : Ended) → Turn Step Keeps (Some ended) wire wire' now next mid new b c → FaultsBy ended mid new → KeepsTheRest mid new → ServesLine Step Keeps ended machine next old new a c
     at_end ended t faults exchanges =
         let bytes = wire.held ++ t.read in
         record {

@@ -6,7 +6,7 @@ use Rattle.xcap_io.specs.Causes.{LineState}
 use Rattle.xcap_io.specs.Histories.{Traffic}
 use Rattle.xcap_io.specs.Passing.{Gave, Took}
 use Rattle.http_serve.specs.declared.connection.Ended.{Ended}
-use Rattle.http_serve.specs.Endings.{ending_of, Exchanges, FaultsBy}
+use Rattle.http_serve.specs.Endings.{ending_of, KeepsTheRest, FaultsBy}
 use Rattle.http_serve.specs.Fixed.{fixed}
 
 -- A connection was served: this passed over the line, the bytes that its reads gave, whether the last of them found the end, and
@@ -21,4 +21,4 @@ pub record ServesLine {M W E : Type 0} (Step : M → Request → List ℕ → M 
   pub serves : Serves Step fixed (ending_of ended) machine passed next edits
   pub kept : Keeps edits watchers watchers'
   pub faults : FaultsBy ended old new
-  pub exchanges : Exchanges old new
+  pub exchanges : KeepsTheRest old new

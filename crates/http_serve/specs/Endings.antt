@@ -22,7 +22,7 @@ FaultsSoFar None old new = (new.read_faults ≡ old.read_faults) × (new.write_f
 FaultsSoFar (Some ended) old new = FaultsBy ended old new
 
 -- Between the two there were reads and writes of one connection alone, if any.
-pub record Exchanges (old new : LineState) : Type 0 where
+pub record KeepsTheRest (old new : LineState) : Type 0 where
   pub same_holds : new.holds ≡ old.holds
   pub same_aside : new.aside ≡ old.aside
   pub same_port : new.port ≡ old.port

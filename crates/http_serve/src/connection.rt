@@ -3,7 +3,7 @@ ghost use Rattle.std.specs.Prelude.{◌≡◌, ◌≢◌, ℕ, suc, ◌+◌, fal
 ghost use Rattle.reply_text.specs.Statuses.{is_status};
 ghost use Rattle.http_wire.specs.Asking.{fresh_wire};
 ghost use Rattle.http_serve.specs.Connections.{ServesLine};
-ghost use Rattle.http_serve.specs.Endings.{Exchanges, FaultsSoFar};
+ghost use Rattle.http_serve.specs.Endings.{KeepsTheRest, FaultsSoFar};
 ghost use Rattle.http_serve.specs.Fixed.{fixed_reply};
 ghost use Rattle.http_serve.specs.Reading.{IsRead};
 ghost use Rattle.http_serve.specs.inner.Turns.{AnswersAsked, AsksRead, GivesOn, Turn};
@@ -97,7 +97,7 @@ fn serve_next<M: Machine, L: Source + Sink, W: Watchers<M::Edit>>(
         watchers.old watchers.new }
     ensures goes_on { result ≡ None → GivesOn buffers.old.wire buffers.new.wire }
     ensures faults { FaultsSoFar result (L.state line.old) (L.state line.new) }
-    ensures exchanges { Exchanges (L.state line.old) (L.state line.new) }
+    ensures exchanges { KeepsTheRest (L.state line.old) (L.state line.new) }
     ensures takes_one_fewer { (n : ℕ) → M.takes machine.old (suc n) → M.takes machine.new n }
 {
     let asked = match next_request(buffers.alloc, line, &mut buffers.wire) {

@@ -8,7 +8,7 @@ use Rattle.std.specs.List.{flat_map}
 use Rattle.xml_tree.specs.declared.names.Name.{Name}
 use Rattle.usage_docs.specs.declared.rows.Kind.{Kind}
 use Rattle.usage_docs.specs.declared.rows.Kind.TheVariants.{ResourceLists, EntryList, Entry, EntryRef, External, DisplayName, RlsServices, Service, ResourceList, Packages, Package}
-use Rattle.usage_docs.specs.Rows.{Scope, child_named, children_in, items_in, kind_by, kind_in, kind_of, model_of, own_space, space_of, word_of}
+use Rattle.usage_docs.specs.Rows.{Scope, child_named, children_in, items_in, kind_by, kind_in, kind_of, model_of, space_of_children, space_of, word_of}
 
 -- the kind of that local name
 abbrev word_kind : List ℕ → Option Kind
@@ -59,8 +59,8 @@ if_so : (b : Bool) (o : Option Kind) (k : Kind) → cond b o None ≡ Some k →
 if_so true o k h = (refl, h)
 if_so false o k h = cc
 
-pub in_space : (row : Kind) (space w : List ℕ) (k : Kind) → kind_by row space w ≡ Some k → (space ≡ own_space row) × (child_named row w ≡ Some k)
-in_space row space w k h = let r = if_so (bytes_eq space (own_space row)) (child_named row w) k h in ((bytes_eq-Decides space (own_space row)).0 r.0, r.1)
+pub in_space : (row : Kind) (space w : List ℕ) (k : Kind) → kind_by row space w ≡ Some k → (space ≡ space_of_children row) × (child_named row w ≡ Some k)
+in_space row space w k h = let r = if_so (bytes_eq space (space_of_children row)) (child_named row w) k h in ((bytes_eq-Decides space (space_of_children row)).0 r.0, r.1)
 
 -- one name is that of one kind, below whichever rows
 pub one_kind : (row row' : Kind) (space w : List ℕ) (k k' : Kind) → kind_by row space w ≡ Some k → kind_by row' space w ≡ Some k' → k ≡ k'

@@ -25,7 +25,7 @@ use Rattle.list_resolve.specs.declared.reference.Reference.{Reference}
 use Rattle.list_resolve.specs.Places.{place_of}
 use Rattle.list_resolve.specs.References.{is_wanted}
 use Rattle.list_resolve.specs.Spots.{Spot, list_spot}
-use Rattle.list_resolve.specs.Leads.{Ground, Lead, LeadsTo, AreLeads, is_own, lead, lead_at, lead_by, lead_if, lead_of, tree_held}
+use Rattle.list_resolve.specs.Leads.{Ground, Lead, ReferenceLeadsTo, AreLeads, is_own, lead, lead_at, lead_by, lead_if, lead_of, tree_held}
 use Rattle.list_resolve.specs.declared.leads.Lead.{Lead as CodeLead}
 use Rattle.list_resolve.specs.inner.Views.{lead_in, spot_in}
 use Rattle.list_resolve.specs.inner.Passing.{leads_in, lists_named, spot_at, target_meant}
@@ -47,7 +47,7 @@ is_meant root target = (some_target root (encode_utf8_all target)).1
 pub are_leads : (g : Ground) → AreLeads g (leads_in g)
 are_leads g = λ r. (target_meant g.root r.target, is_meant g.root r.target, refl)
 
-one_lead : (g : Ground) (r : Reference) (found : Option Lead) → LeadsTo g r found → found ≡ leads_in g r
+one_lead : (g : Ground) (r : Reference) (found : Option Lead) → ReferenceLeadsTo g r found → found ≡ leads_in g r
 one_lead g r found (read, is, e) = e ∙ led g r read is
 
 -- there is one map of all references

@@ -73,9 +73,9 @@ lead_of g wanted (Ok (Flat doc service)) = None
 lead_of g wanted (Err fault) = None
 
 -- a reference leads there: what its target means tells where
-abbrev pub LeadsTo : Ground → Reference → Option Lead → Type 0
-LeadsTo g r found = (read : Result Target UriFault) × TargetAnswer g.root (encode_utf8_all r.target) read × (found ≡ lead_of g r.wanted read)
+abbrev pub ReferenceLeadsTo : Ground → Reference → Option Lead → Type 0
+ReferenceLeadsTo g r found = (read : Result Target UriFault) × TargetAnswer g.root (encode_utf8_all r.target) read × (found ≡ lead_of g r.wanted read)
 
 -- of all references, this tells where each leads
 abbrev pub AreLeads : Ground → (Reference → Option Lead) → Type 0
-AreLeads g leads = (r : Reference) → LeadsTo g r (leads r)
+AreLeads g leads = (r : Reference) → ReferenceLeadsTo g r (leads r)

@@ -7,7 +7,7 @@ use Rattle.doc_names.specs.declared.doc_id.DocId.{DocId}
 use Rattle.node_select.specs.declared.fault.SelectorFault.{SelectorFault}
 use Rattle.node_select.specs.declared.selector.Selector.{Selector}
 use Rattle.plan_words.proofs.Writable.{attribute_writable}
-use Rattle.xcap_uri.specs.Cuts.{behind}
+use Rattle.xcap_uri.specs.Cuts.{rest_behind}
 use Rattle.xcap_uri.specs.Order.{Where}
 use Rattle.xcap_uri.specs.Queries.{IsQuery}
 use Rattle.xcap_uri.specs.Targets.{IsPartAnswer, Means, NamedAnswer, RestAnswer, TargetAnswer, element_feed_of, is_element, node_of, question, raw_text}
@@ -65,7 +65,7 @@ of_rest : (t : Target) (rest : List ℕ) → RestAnswer rest (Ok t) → IsWritab
 of_rest t rest (inr h) = never t BadEscape h.1
 of_rest t rest (inl (path, p, inr h)) = never t BadEscape h.1
 of_rest t rest (inl (path, p, inl (selector, s, inr h))) = never t BadEscape h.1
-of_rest t rest (inl (path, p, inl (selector, s, inl h))) = of_names t path.0 selector h.0 (raw_text path.1 (behind question rest)) h.2
+of_rest t rest (inl (path, p, inl (selector, s, inl h))) = of_names t path.0 selector h.0 (raw_text path.1 (rest_behind question rest)) h.2
 
 pub writable : (root target : List ℕ) (t : Target) → TargetAnswer root target (Ok t) → IsWritableTarget t
 writable root target t (inr h) = never t OutsideRoot h.1

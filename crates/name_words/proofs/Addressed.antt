@@ -12,7 +12,7 @@ use Rattle.node_select.specs.declared.fault.SelectorFault.{SelectorFault}
 use Rattle.node_select.specs.declared.selector.End.{End}
 use Rattle.node_select.specs.declared.selector.End.TheVariants as ends
 use Rattle.node_select.specs.declared.selector.Selector.{Selector}
-use Rattle.xcap_uri.specs.Cuts.{before, behind, pieces}
+use Rattle.xcap_uri.specs.Cuts.{front_before, rest_behind, pieces}
 use Rattle.xcap_uri.specs.Escapes.{StandsFor, has_whole_escapes}
 use Rattle.xcap_uri.specs.Roots.{slash}
 use Rattle.xcap_uri.specs.Shapes.{Names, auid_word, below, changes, doc_of, flat_list, mode_word, part, part_changes, whole}
@@ -99,7 +99,7 @@ module _ (mode : Mode) (tag : ℕ) (doc : DocId) where
       let path = there (Feed mode tag doc) is in
       let selector = there (Feed mode tag doc) path.2 in
       let query = there (Feed mode tag doc) selector.2 in
-      by_names path.0.0 selector.0 query.0 (raw_text path.0.1 (behind question rest)) (texts_encodable (pieces slash (before question rest)) path.0.0 path.0.1 path.1) query.2
+      by_names path.0.0 selector.0 query.0 (raw_text path.0.1 (rest_behind question rest)) (texts_encodable (pieces slash (front_before question rest)) path.0.0 path.0.1 path.1) query.2
 
 pub addressed : (root target : List ℕ) (mode : Mode) (tag : ℕ) (doc : DocId) → TargetAnswer root target (Ok (Feed mode tag doc)) → is_encodable doc ≡ true
 addressed root target mode tag doc is =

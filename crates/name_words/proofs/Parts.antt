@@ -8,7 +8,7 @@ use Rattle.std.specs.Str.{all_scalars}
 use Rattle.percent_encoding.specs.Percent.{percent_decode, percent_encode_byte}
 use Rattle.doc_names.specs.Escapes.{escaped, escaped_octet, escaped_part, is_plain}
 use Rattle.doc_names.proofs.Escaped.{parts_decoded}
-use Rattle.xcap_uri.specs.Cuts.{before, behind}
+use Rattle.xcap_uri.specs.Cuts.{front_before, rest_behind}
 use Rattle.xcap_uri.specs.Escapes.{has_whole_escapes}
 use Rattle.name_words.specs.Naming.{are_parts, is_part}
 use Rattle.name_words.proofs.Octets.{octets}
@@ -30,19 +30,19 @@ other b bs h = not_true (b == 47) (and_parts (not (b == 47)) (has_no_slash bs) h
 others : (b : ℕ) (bs : List ℕ) → has_no_slash (b ∷ bs) ≡ true → has_no_slash bs ≡ true
 others b bs h = (and_parts (not (b == 47)) (has_no_slash bs) h).1
 
-before_slash : (part rest : List ℕ) → has_no_slash part ≡ true → before 47 (part ++ 47 ∷ rest) ≡ part
+before_slash : (part rest : List ℕ) → has_no_slash part ≡ true → front_before 47 (part ++ 47 ∷ rest) ≡ part
 before_slash [] rest h = refl
 before_slash (b ∷ bs) rest h = rw (other b bs h) (ap (λ (l : List ℕ). b ∷ l) (before_slash bs rest (others b bs h)))
 
-behind_slash : (part rest : List ℕ) → has_no_slash part ≡ true → behind 47 (part ++ 47 ∷ rest) ≡ Some rest
+behind_slash : (part rest : List ℕ) → has_no_slash part ≡ true → rest_behind 47 (part ++ 47 ∷ rest) ≡ Some rest
 behind_slash [] rest h = refl
 behind_slash (b ∷ bs) rest h = rw (other b bs h) (behind_slash bs rest (others b bs h))
 
-before_none : (part : List ℕ) → has_no_slash part ≡ true → before 47 part ≡ part
+before_none : (part : List ℕ) → has_no_slash part ≡ true → front_before 47 part ≡ part
 before_none [] h = refl
 before_none (b ∷ bs) h = rw (other b bs h) (ap (λ (l : List ℕ). b ∷ l) (before_none bs (others b bs h)))
 
-behind_none : (part : List ℕ) → has_no_slash part ≡ true → behind 47 part ≡ None
+behind_none : (part : List ℕ) → has_no_slash part ≡ true → rest_behind 47 part ≡ None
 behind_none [] h = refl
 behind_none (b ∷ bs) h = rw (other b bs h) (behind_none bs (others b bs h))
 
@@ -50,14 +50,14 @@ behind_none (b ∷ bs) h = rw (other b bs h) (behind_none bs (others b bs h))
 
 pub last_part : (octets part : List ℕ) → has_no_slash part ≡ true → is_part octets part ≡ true → are_parts (octets ∷ []) (Some part) ≡ true
 last_part octets part free is =
-    ap (λ (p : List ℕ). is_part octets p && are_parts [] (behind 47 part)) (before_none part free)
-    ∙ and_from (is_part octets part) (are_parts [] (behind 47 part)) is (ap (are_parts []) (behind_none part free))
+    ap (λ (p : List ℕ). is_part octets p && are_parts [] (rest_behind 47 part)) (before_none part free)
+    ∙ and_from (is_part octets part) (are_parts [] (rest_behind 47 part)) is (ap (are_parts []) (behind_none part free))
 
 pub one_more_part : (octets part rest : List ℕ) (all : List (List ℕ)) → has_no_slash part ≡ true → is_part octets part ≡ true → are_parts all (Some rest) ≡ true
     → are_parts (octets ∷ all) (Some (part ++ 47 ∷ rest)) ≡ true
 one_more_part octets part rest all free is more =
-    ap (λ (p : List ℕ). is_part octets p && are_parts all (behind 47 (part ++ 47 ∷ rest))) (before_slash part rest free)
-    ∙ and_from (is_part octets part) (are_parts all (behind 47 (part ++ 47 ∷ rest))) is (ap (are_parts all) (behind_slash part rest free) ∙ more)
+    ap (λ (p : List ℕ). is_part octets p && are_parts all (rest_behind 47 (part ++ 47 ∷ rest))) (before_slash part rest free)
+    ∙ and_from (is_part octets part) (are_parts all (rest_behind 47 (part ++ 47 ∷ rest))) is (ap (are_parts all) (behind_slash part rest free) ∙ more)
 
 -- ---- what is escaped
 

@@ -6,7 +6,7 @@ use Rattle.doc_names.specs.Usages.{auid_text}
 use Rattle.doc_names.specs.declared.doc_id.Home.{Home}
 use Rattle.doc_names.specs.declared.doc_id.Home.TheVariants.{Global, User}
 use Rattle.doc_names.specs.declared.doc_id.DocId.{DocId}
-use Rattle.xcap_uri.specs.Cuts.{before, behind}
+use Rattle.xcap_uri.specs.Cuts.{front_before, rest_behind}
 use Rattle.xcap_uri.specs.Escapes.{has_whole_escapes}
 
 -- a part of an address stands for these octets: its escapes are whole, and decoded it is these
@@ -18,7 +18,7 @@ abbrev pub are_parts : List (List ℕ) → Option (List ℕ) → Bool
 are_parts [] None = true
 are_parts [] (Some address) = false
 are_parts (octets ∷ all) None = false
-are_parts (octets ∷ all) (Some address) = is_part octets (before 47 address) && are_parts all (behind 47 address)
+are_parts (octets ∷ all) (Some address) = is_part octets (front_before 47 address) && are_parts all (rest_behind 47 address)
 
 -- what the parts of a document's name stand for: AUID, `global`, NAME, or AUID, `users`, XUI, NAME
 abbrev pub home_parts : Home → List (List ℕ)

@@ -11,7 +11,7 @@ use Rattle.xml_tree.specs.declared.names.Decl.{Decl}
 use Rattle.xml_tree.specs.declared.names.Name.{Name}
 use Rattle.node_select.specs.declared.selector.PatchSelector.{PatchSelector}
 use Rattle.node_select.specs.readers.Raw.{RawPatchSelector}
-use Rattle.patch_words.specs.Applied.{Directive, NoSpace, Prefix, RootTouched, Unlocated, Wrong, WrongNodes, Task, Put, NewAttr, Replace, Remove, Spot, AtElement, AtAttr, AtText, applied, attr_of, cut_element, cut_nodes, done, end_of, form_of, given, is_bare, is_below, is_bound_type, is_known, located, made, meaning_in, means_alike, off_root, path_of, plain_value, put_at, rewritten, scope_of_put, sole_element, space_fits, suits, task_of, tested, value_in, with_attrs, within_depth, word_of}
+use Rattle.patch_words.specs.Applied.{Directive, NoSpace, Prefix, RootTouched, Unlocated, Wrong, WrongNodes, Task, Put, NewAttr, Replace, Remove, Spot, AtElement, AtAttr, AtText, applied, attr_of, cut_element, cut_nodes, done, end_of, form_of, given, is_bare, is_below, is_bound_type, is_known, located, made, meaning_in, means_alike, off_root, path_of, plain_value, put_at, rewritten, scope_of_put, sole_element, space_fits, suits, task_of, tested, value_in, with_attrs, within_depth, operation_word}
 use Rattle.patch_apply.proofs.Depths.{low_made}
 
 abbrev Low : Tree → Type 0
@@ -110,6 +110,6 @@ applied_low c o t x e =
     let type = plain_value (codes "type") o.attrs in
     let ws = plain_value (codes "ws") o.attrs in
     low_made x (
-    chain_low (plain_value (codes "sel") o.attrs) (list_all is_known o.attrs) (option_and_then (λ w. task_of w pos type ws) (word_of o.name.local)) form_of (λ y f. suits y (end_of f)) (meaning_in here)
+    chain_low (plain_value (codes "sel") o.attrs) (list_all is_known o.attrs) (option_and_then (λ w. task_of w pos type ws) (operation_word o.name.local)) form_of (λ y f. suits y (end_of f)) (meaning_in here)
     (is_bound_type here) (λ s. located s t) (λ y spot. done here y spot o.content t) x (λ y spot h. done_low here o.content t x y spot h) e
     )

@@ -5,7 +5,7 @@ use Rattle.xml_tree.specs.declared.read_error.ReadError.TheVariants.{Fault, NoMe
 use Rattle.xml_tree.specs.Proper.{ProperIn}
 use Rattle.xml_tree.specs.Tree.{Tree}
 use Rattle.patch_words.specs.Replay as replay
-use Rattle.patch_words.specs.Replay.{Answer, Fetch, Held, Outcome, Same, WrongDocument, all_taken, answered, documents, ended, is_all_mine, last_new, replayed, then_next}
+use Rattle.patch_words.specs.Replay.{CopyAnswer, Fetch, CopyHeld, Outcome, Same, WrongDocument, all_taken, copy_answer, documents, end_answer, is_all_mine, last_new, replayed, then_next}
 use Rattle.patch_laws.specs.Replayed.{HoldsSound}
 use Rattle.patch_laws.proofs.OnwardNotices.{replayed_sound}
 use Rattle.patch_apply.specs.Applying.{Applies}
@@ -13,35 +13,35 @@ use Rattle.patch_apply.specs.Views.{answer_in}
 use Rattle.patch_apply.specs.declared.fault.ApplyFault.{ApplyFault}
 use Rattle.patch_apply.specs.declared.replica.Applied.{Applied}
 
-module _ (is_mine : List ℕ → Bool) (notice : Tree) (held : Held) where
-  abbrev answer_of : Result Outcome replay.Fault → Result (Answer × Held) replay.Fault
-  answer_of r = then_next r (λ end. Ok (answered (documents notice) held end))
+module _ (is_mine : List ℕ → Bool) (notice : Tree) (held : CopyHeld) where
+  abbrev answer_of : Result Outcome replay.CopyFault → Result (CopyAnswer × CopyHeld) replay.CopyFault
+  answer_of r = then_next r (λ end. Ok (copy_answer (documents notice) held end))
 
-  abbrev taken_all : Result Outcome replay.Fault
+  abbrev taken_all : Result Outcome replay.CopyFault
   taken_all = all_taken 0 (notice.decls ∷ []) (documents notice) held
 
   pub not_mine : is_all_mine is_mine (documents notice) ≡ false → replayed is_mine notice held ≡ Err WrongDocument
   not_mine e = ap (λ b. cond b (answer_of taken_all) (Err WrongDocument)) e
 
   module _ (mine : is_all_mine is_mine (documents notice) ≡ true) where
-    pub of_mine : replayed is_mine notice held ≡ then_next (all_taken 0 (notice.decls ∷ []) (documents notice) held) (λ end. Ok (answered (documents notice) held end))
+    pub of_mine : replayed is_mine notice held ≡ then_next (all_taken 0 (notice.decls ∷ []) (documents notice) held) (λ end. Ok (copy_answer (documents notice) held end))
     of_mine = ap (λ b. cond b (answer_of taken_all) (Err WrongDocument)) mine
 
     pub no_documents : documents notice ≡ [] → replayed is_mine notice held ≡ Ok (Same, held)
-    no_documents none = of_mine ∙ ap (λ (ds : List Tree). then_next (all_taken 0 (notice.decls ∷ []) ds held) (λ end. Ok (answered ds held end))) none
+    no_documents none = of_mine ∙ ap (λ (ds : List Tree). then_next (all_taken 0 (notice.decls ∷ []) ds held) (λ end. Ok (copy_answer ds held end))) none
 
     pub untold : all_taken 0 (notice.decls ∷ []) (documents notice) held ≡ Ok None → replayed is_mine notice held ≡ Ok (Fetch (last_new [] (documents notice)), held)
     untold e = of_mine ∙ ap answer_of e
 
-    pub done_with : (new : Held) → 0 < length (documents notice) → all_taken 0 (notice.decls ∷ []) (documents notice) held ≡ Ok (Some new) → replayed is_mine notice held ≡ Ok (ended new, new)
+    pub done_with : (new : CopyHeld) → 0 < length (documents notice) → all_taken 0 (notice.decls ∷ []) (documents notice) held ≡ Ok (Some new) → replayed is_mine notice held ≡ Ok (end_answer new, new)
     done_with new some e = of_mine ∙ ap answer_of e ∙ ap Ok (answer_is (documents notice) some)
       where
-        answer_is : (ds : List Tree) → 0 < length ds → answered ds held (Some new) ≡ (ended new, new)
+        answer_is : (ds : List Tree) → 0 < length ds → copy_answer ds held (Some new) ≡ (end_answer new, new)
         answer_is [] h = absurd (omega arith)
         answer_is (d ∷ ds) h = refl
 
 -- what is held stays proper and low
-pub stays_sound : (is_mine : List ℕ → Bool) (notice : Tree) (old : Held) (r : Result Applied (ReadError ApplyFault)) (new : Held) → ProperIn [] notice → Applies (replayed is_mine notice old) old r new → HoldsSound old → HoldsSound new
+pub stays_sound : (is_mine : List ℕ → Bool) (notice : Tree) (old : CopyHeld) (r : Result Applied (ReadError ApplyFault)) (new : CopyHeld) → ProperIn [] notice → Applies (replayed is_mine notice old) old r new → HoldsSound old → HoldsSound new
 stays_sound is_mine notice old (Ok answer) new proper h sound = replayed_sound is_mine notice old new (answer_in answer) proper sound h
 stays_sound is_mine notice old (Err (Fault fault)) new proper h sound = subst HoldsSound (sym h.1) sound
 stays_sound is_mine notice old (Err NoMemory) new proper h sound = subst HoldsSound (sym h) sound

@@ -6,7 +6,7 @@ use Rattle.xml_tree.specs.Limits.{greatest_u64}
 use Rattle.xml_tree.specs.Tree.{Tree}
 use Rattle.xml_tree.specs.declared.names.Decl.{Decl}
 use Rattle.patch_words.specs.Applied.{Wrong, applied}
-use Rattle.patch_words.specs.Replay.{AtOperation, Fault, Held, Missing, Now, Outcome, Turn, WrongTag, all_applied, all_taken, by_tags, changed, held_tag, is_tag, numbered, operation_count, renewed, says_same, taken, then_next, unless_missing}
+use Rattle.patch_words.specs.Replay.{AtOperation, CopyFault, CopyHeld, Missing, Now, Outcome, Turn, WrongTag, all_applied, all_taken, by_tags, changed, held_tag, is_tag, numbered, operation_count, renewed_copy, says_same, document_taken, then_next, unless_missing}
 use Rattle.patch_apply.specs.inner.Giving.{Tells}
 use Rattle.patch_apply.specs.Views.{fault_told}
 use Rattle.patch_apply.specs.inner.Seen.{fault_at, wrong_in}
@@ -38,23 +38,23 @@ module _ (n : ℕ) (c : List (List Decl)) (tag : List ℕ) (h : List ℕ × Tree
   changed_tree [] some e = absurd (omega arith)
   changed_tree (o ∷ os) some e = ap (λ b. cond b (Ok (Now (Some (tag, h.1)))) (then_next (all_applied n c (o ∷ os) h.1) (λ t. Ok (Now (Some (tag, t)))))) e
 
-module _ (n : ℕ) (c : List (List Decl)) (os : List Tree) (previous : List ℕ) (new : Option (List ℕ)) (held : Held) where
+module _ (n : ℕ) (c : List (List Decl)) (os : List Tree) (previous : List ℕ) (new : Option (List ℕ)) (held : CopyHeld) where
   pub other_tag : is_tag previous (held_tag held) ≡ false → by_tags n c os (Some previous) new held ≡ Err (WrongTag (held_tag held) previous)
-  other_tag e = ap (λ b. cond b (renewed n c os new held) (Err (WrongTag (held_tag held) previous))) e
+  other_tag e = ap (λ b. cond b (renewed_copy n c os new held) (Err (WrongTag (held_tag held) previous))) e
 
-  pub same_tag : is_tag previous (held_tag held) ≡ true → by_tags n c os (Some previous) new held ≡ renewed n c os new held
-  same_tag e = ap (λ b. cond b (renewed n c os new held) (Err (WrongTag (held_tag held) previous))) e
+  pub same_tag : is_tag previous (held_tag held) ≡ true → by_tags n c os (Some previous) new held ≡ renewed_copy n c os new held
+  same_tag e = ap (λ b. cond b (renewed_copy n c os new held) (Err (WrongTag (held_tag held) previous))) e
 
 -- ---- documents
 
-module _ (n : ℕ) (c : List (List Decl)) (d : Tree) (ds : List Tree) (held : Held) where
-  pub taken_next : (now : Held) → taken n c d held ≡ Ok (Now now) → all_taken n c (d ∷ ds) held ≡ all_taken (n + operation_count c d) c ds now
+module _ (n : ℕ) (c : List (List Decl)) (d : Tree) (ds : List Tree) (held : CopyHeld) where
+  pub taken_next : (now : CopyHeld) → document_taken n c d held ≡ Ok (Now now) → all_taken n c (d ∷ ds) held ≡ all_taken (n + operation_count c d) c ds now
   taken_next now e = ap (λ r. then_next r (λ turn. unless_missing turn (all_taken (n + operation_count c d) c ds))) e
 
-  pub taken_missing : taken n c d held ≡ Ok Missing → all_taken n c (d ∷ ds) held ≡ Ok None
+  pub taken_missing : document_taken n c d held ≡ Ok Missing → all_taken n c (d ∷ ds) held ≡ Ok None
   taken_missing e = ap (λ r. then_next r (λ turn. unless_missing turn (all_taken (n + operation_count c d) c ds))) e
 
-  pub taken_fault : (f : Fault) → taken n c d held ≡ Err f → all_taken n c (d ∷ ds) held ≡ Err f
+  pub taken_fault : (f : CopyFault) → document_taken n c d held ≡ Err f → all_taken n c (d ∷ ds) held ≡ Err f
   taken_fault f e = ap (λ r. then_next r (λ turn. unless_missing turn (all_taken (n + operation_count c d) c ds))) e
 
 -- ---- an item of a list that is gone over
@@ -101,10 +101,10 @@ pub so_many : (before count n k : ℕ) → before ≡ min n greatest_u64 → cou
 so_many before count n k e is = omega (arith, e, is)
 
 -- what is stated may be said in other words
-pub tells_same : {X Y : Type 0} (view : X → Y) (a b : Result Y Fault) (r : Result X (ReadError ApplyFault)) → a ≡ b → Tells view a r → Tells view b r
+pub tells_same : {X Y : Type 0} (view : X → Y) (a b : Result Y CopyFault) (r : Result X (ReadError ApplyFault)) → a ≡ b → Tells view a r → Tells view b r
 tells_same view a b r same h = subst (λ s. Tells view s r) same h
 
-pub error_alike : {X Z Y : Type 0} (v : X → Y) (u : Z → Y) (a b : Result Y Fault) (e : ReadError ApplyFault) → a ≡ b → Tells v a (Err e) → Tells u b (Err e)
+pub error_alike : {X Z Y : Type 0} (v : X → Y) (u : Z → Y) (a b : Result Y CopyFault) (e : ReadError ApplyFault) → a ≡ b → Tells v a (Err e) → Tells u b (Err e)
 error_alike v u a b (errors.Fault fault) same h = record { stated_fault = h.stated_fault; is = sym same ∙ h.is; told = h.told }
 error_alike v u a b errors.NoMemory same h = tt
 
@@ -113,12 +113,12 @@ pub wrong_told : (n : ℕ) (stated : Result Tree Wrong) (w : CodeWrong) (told : 
 wrong_told n stated w told is same = record { stated_fault = AtOperation (suc n) (wrong_in w); is = ap (numbered n) is; told = same ∙ told_at (suc n) w }
 
 -- a fault of a document ends the documents behind it
-pub turn_fault : {X Z : Type 0} (v : X → Turn) (u : Z → Outcome) (n : ℕ) (c : List (List Decl)) (d : Tree) (ds : List Tree) (held : Held) (all : Result Outcome Fault) (e : ReadError ApplyFault)
-    → all ≡ all_taken n c (d ∷ ds) held → Tells v (taken n c d held) (Err e) → Tells u all (Err e)
+pub turn_fault : {X Z : Type 0} (v : X → Turn) (u : Z → Outcome) (n : ℕ) (c : List (List Decl)) (d : Tree) (ds : List Tree) (held : CopyHeld) (all : Result Outcome CopyFault) (e : ReadError ApplyFault)
+    → all ≡ all_taken n c (d ∷ ds) held → Tells v (document_taken n c d held) (Err e) → Tells u all (Err e)
 turn_fault v u n c d ds held all (errors.Fault fault) same h = record { stated_fault = h.stated_fault; is = same ∙ taken_fault n c d ds held h.stated_fault h.is; told = h.told }
 turn_fault v u n c d ds held all errors.NoMemory same h = tt
 
 -- a fault ends what comes behind it
-pub fault_ends : {X Y Z W : Type 0} (v : X → Y) (u : Z → W) (a : Result Y Fault) (k : Y → Result W Fault) (e : ReadError ApplyFault) → Tells v a (Err e) → Tells u (then_next a k) (Err e)
+pub fault_ends : {X Y Z W : Type 0} (v : X → Y) (u : Z → W) (a : Result Y CopyFault) (k : Y → Result W CopyFault) (e : ReadError ApplyFault) → Tells v a (Err e) → Tells u (then_next a k) (Err e)
 fault_ends v u a k (errors.Fault fault) h = record { stated_fault = h.stated_fault; is = ap (λ r. then_next r k) h.is; told = h.told }
 fault_ends v u a k errors.NoMemory h = tt

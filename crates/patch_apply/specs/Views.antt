@@ -22,7 +22,7 @@ fault_told n words.WrongNodes = faults.NodeTypes (min n greatest_u64)
 fault_told n words.NoSpace = faults.Whitespace (min n greatest_u64)
 
 -- how a fault is told
-abbrev pub told_as : replay.Fault → ApplyFault
+abbrev pub told_as : replay.CopyFault → ApplyFault
 told_as replay.WrongDocument = faults.WrongDocument
 told_as (replay.WrongTag held wanted) = faults.WrongTag held wanted
 told_as (replay.AtOperation n wrong) = fault_told n wrong
@@ -32,15 +32,15 @@ told_as (replay.AtOperation n wrong) = fault_told n wrong
 abbrev pub version_in : Held → List ℕ × Tree
 version_in h = (h.tag, h.root)
 
-abbrev pub held_in : Option Held → replay.Held
+abbrev pub held_in : Option Held → replay.CopyHeld
 held_in held = option_map version_in held
 
 -- the tree that is held has as many levels as a document may have
-abbrev pub IsLow : replay.Held → Type 0
+abbrev pub IsLow : replay.CopyHeld → Type 0
 IsLow None = Unit {0}
 IsLow (Some h) = height h.1 ≤ most_levels
 
-abbrev pub answer_in : Applied → replay.Answer
+abbrev pub answer_in : Applied → replay.CopyAnswer
 answer_in answers.Same = replay.Same
 answer_in answers.Patched = replay.Patched
 answer_in answers.Removed = replay.Removed

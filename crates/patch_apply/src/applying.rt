@@ -3,7 +3,7 @@ ghost use Rattle.std.specs.Prelude.{◌≡◌, ◌<◌, ℕ, [], codes, IfOk, le
 ghost use Rattle.std.specs.Option.{option_copied};
 ghost use Rattle.xml_tree.specs.Limits.{greatest_u64};
 ghost use Rattle.patch_words.specs.Applied.{plain_value};
-ghost use Rattle.patch_words.specs.Replay.{all_taken, ended, is_all_mine, last_new, operation_count, replayed, taken};
+ghost use Rattle.patch_words.specs.Replay.{all_taken, end_answer, is_all_mine, last_new, operation_count, replayed, document_taken};
 ghost use Rattle.patch_words.specs.Replay as words;
 ghost use Rattle.patch_laws.specs.Replayed.{HoldsSound};
 ghost use Rattle.patch_apply.specs.Applying.{Applies};
@@ -101,7 +101,7 @@ fn turn_of(
 ) -> Result<(Turn, usize), ReadError<ApplyFault>>
     requires room { length scope.now < 66 }
     requires low { IsLow (held_in held) }
-    ensures by_the_words { (n : ℕ) → before ≡ min n greatest_u64 → Tells (λ x. turn_in x.0) (taken n scope.now document.now (held_in held)) result }
+    ensures by_the_words { (n : ℕ) → before ≡ min n greatest_u64 → Tells (λ x. turn_in x.0) (document_taken n scope.now document.now (held_in held)) result }
     ensures count { IfOk result (λ x. x.1 ≡ operation_count scope.now document.now) }
     ensures low { IfOk result (λ x. IsLowTurn x.0) }
 {
@@ -139,7 +139,7 @@ fn all_taken(
 
 // The answer where what is held afterwards is this.
 fn ended(held: &Option<Held>) -> Applied
-    ensures patched_or_removed { answer_in result ≡ ended (held_in held.now) }
+    ensures patched_or_removed { answer_in result ≡ end_answer (held_in held.now) }
 {
     match held {
         None => Applied::Removed,

@@ -1,7 +1,7 @@
 //! What an operation says, by its name and its attributes (RFC 5261, sections 4.3 to 4.5).
 ghost use Rattle.std.specs.Prelude.{◌≡◌, [], IfOk, option_map};
 ghost use Rattle.std.specs.Option.{option_copied};
-ghost use Rattle.patch_words.specs.Applied.{adding, cut_name, cutting, no_declaration, position_of, space_of, task_of, type_of, with_prefix, word_of};
+ghost use Rattle.patch_words.specs.Applied.{adding, cut_name, cutting, no_declaration, position_of, white_space_of, task_of, type_of, with_prefix, operation_word};
 ghost use Rattle.patch_apply.specs.inner.Stages.{task_said};
 ghost use Rattle.patch_apply.specs.inner.Seen.{position_in, task_in, word_in};
 
@@ -44,7 +44,7 @@ pub enum Task {
 
 #[tactic(auto, using(crate::proofs::Words::words))]
 fn word_of(local: &Text) -> Option<Word>
-    ensures word_of_that_name { option_map word_in result ≡ word_of local.now }
+    ensures word_of_that_name { option_map word_in result ≡ operation_word local.now }
 {
     if local.is("add") {
         return Some(Word::Add);
@@ -76,7 +76,7 @@ fn position_of(text: &Text) -> Option<Position>
 
 #[tactic(auto, using(crate::proofs::Words::words))]
 fn space_of(text: &Text) -> Option<(bool, bool)>
-    ensures spaces_of_that_word { result ≡ space_of text.now }
+    ensures spaces_of_that_word { result ≡ white_space_of text.now }
 {
     if text.is("before") {
         return Some((true, false));

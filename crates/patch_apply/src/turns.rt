@@ -4,7 +4,7 @@ ghost use Rattle.std.specs.Option.{option_copied};
 ghost use Rattle.xml_tree.specs.Limits.{greatest_u64};
 ghost use Rattle.xml_tree.specs.Tree.{Tree, height};
 ghost use Rattle.patch_words.specs.Applied as words;
-ghost use Rattle.patch_words.specs.Replay.{WrongTag, all_applied, by_tags, changed, held_tag, is_tag, numbered, renewed};
+ghost use Rattle.patch_words.specs.Replay.{WrongTag, all_applied, by_tags, changed, held_tag, is_tag, numbered, renewed_copy};
 ghost use Rattle.patch_apply.specs.inner.Giving.{Gives, Tells};
 ghost use Rattle.patch_apply.specs.Views.{IsLow, held_in, version_in};
 ghost use Rattle.patch_apply.specs.inner.Seen.{IsLowTurn, counted_in, turn_in};
@@ -141,7 +141,7 @@ fn renewed(
 ) -> Result<Turn, ReadError<ApplyFault>>
     requires room { length scope.now < 67 }
     requires low { IsLow (held_in held) }
-    ensures by_the_words { (n : ℕ) → before ≡ min n greatest_u64 → Tells turn_in (renewed n scope.now (map (λ x. x.now) operations.now) (option_copied tag.entry) (held_in held)) result }
+    ensures by_the_words { (n : ℕ) → before ≡ min n greatest_u64 → Tells turn_in (renewed_copy n scope.now (map (λ x. x.now) operations.now) (option_copied tag.entry) (held_in held)) result }
     ensures low { IfOk result IsLowTurn }
 {
     let Some(tag) = tag else {

@@ -338,7 +338,7 @@ task_named words.Cut pos type ws n is = by (is_some pos || is_some type) ws is
     by : (b : Bool) (ws : Option (List ℕ)) → cond b None (words.cutting ws) ≡ Some (words.NewAttr n) → IsTyped n
     by true ws e = absurd (cc)
     by false None e = absurd (cc)
-    by false (Some ws) e = inner (words.space_of ws) e
+    by false (Some ws) e = inner (words.white_space_of ws) e
 
 known_there : (c : List (List Decl)) (p : List ℕ) → (bytes_eq p [] || is_some (prefix_uri (bindings_in c) p)) ≡ true → p ≢ [] → IsSome (bound c p)
 known_there c p h ne = by (bytes_eq p xmlns_prefix) refl

@@ -6,8 +6,8 @@ use Rattle.xml_tree.specs.Tree.{Content, last, more, note, Tree, kids, kids_of}
 use Rattle.xml_tree.specs.declared.names.Decl.{Decl}
 use Rattle.node_select.specs.readers.Raw.{RawPatchSelector}
 use Rattle.node_select.specs.declared.selector.PatchSelector.{PatchSelector}
-use Rattle.patch_words.specs.Applied.{Spot, Task, Word, Wrong, Directive, Prefix, Unlocated, applied, done, end_of, form_of, given, is_bound_type, is_known, located, meaning_in, plain_value, suits, task_of, tested, word_of}
-use Rattle.patch_words.specs.Replay.{Answer, Fault, WrongTag, WrongDocument, Held, Outcome, Turn, Now, Missing, all_applied, all_taken, answered, by_tags, changed, documents, held_tag, is_all_mine, is_called, is_ours, is_tag, numbered, operation_count, operations_in, renewed, replayed, says_same, taken, then_next, unless_missing}
+use Rattle.patch_words.specs.Applied.{Spot, Task, Word, Wrong, Directive, Prefix, Unlocated, applied, done, end_of, form_of, given, is_bound_type, is_known, located, meaning_in, plain_value, suits, task_of, tested, operation_word}
+use Rattle.patch_words.specs.Replay.{CopyAnswer, CopyFault, WrongTag, WrongDocument, CopyHeld, Outcome, Turn, Now, Missing, all_applied, all_taken, copy_answer, by_tags, changed, documents, held_tag, is_all_mine, is_called, is_ours, is_tag, numbered, operation_count, operations_in, renewed_copy, replayed, says_same, document_taken, then_next, unless_missing}
 use Rattle.patch_laws.specs.Premises.{IsSound}
 use Rattle.patch_laws.specs.Replayed.{HoldsSound}
 use Rattle.patch_laws.proofs.Onward.{done_sound, given_ok, task_named, tested_ok}
@@ -50,14 +50,14 @@ applied_sound c o t u h g is =
     let pos = plain_value (codes "pos") o.attrs in
     let type = plain_value (codes "type") o.attrs in
     let ws = plain_value (codes "ws") o.attrs in
-    let r = chain (plain_value (codes "sel") o.attrs) (list_all is_known o.attrs) (option_and_then (λ w. task_of w pos type ws) (word_of o.name.local)) form_of (λ y f. suits y (end_of f)) (meaning_in here)
+    let r = chain (plain_value (codes "sel") o.attrs) (list_all is_known o.attrs) (option_and_then (λ w. task_of w pos type ws) (operation_word o.name.local)) form_of (λ y f. suits y (end_of f)) (meaning_in here)
     (is_bound_type here) (λ s. located s t) (λ y spot. done here y spot o.content t) u is in
-    let w = word_there (word_of o.name.local) (λ x. task_of x pos type ws) r.0 r.2 in
+    let w = word_there (operation_word o.name.local) (λ x. task_of x pos type ws) r.0 r.2 in
     done_sound here r.0 r.1 o.content t u (λ n same. task_named w.0 pos type ws n (w.1 ∙ ap (λ x. Some x) same)) r.3 h.1 g r.4
 
 -- ---- operations in order
 
-next_ok : {A B : Type 0} (r : Result A Fault) (k : A → Result B Fault) (u : B) → then_next r k ≡ Ok u → (x : A) × (r ≡ Ok x) × (k x ≡ Ok u)
+next_ok : {A B : Type 0} (r : Result A CopyFault) (k : A → Result B CopyFault) (u : B) → then_next r k ≡ Ok u → (x : A) × (r ≡ Ok x) × (k x ≡ Ok u)
 next_ok (Ok x) k u h = (x, refl, h)
 next_ok (Err f) k u h = cc
 
@@ -86,7 +86,7 @@ kept_proper c f (e ∷ es) h = by (f e) refl (kept_proper c f es h.1)
     by true is rest = rw is (h.0, rest)
     by false is rest = rw is rest
 
-changed_sound : (n : ℕ) (c : List (List Decl)) (os : List Tree) (tag : List ℕ) (held new : Held) → AllByRecursion (ProperIn c) os → HoldsSound held → changed n c os tag held ≡ Ok (Now new) → HoldsSound new
+changed_sound : (n : ℕ) (c : List (List Decl)) (os : List Tree) (tag : List ℕ) (held new : CopyHeld) → AllByRecursion (ProperIn c) os → HoldsSound held → changed n c os tag held ≡ Ok (Now new) → HoldsSound new
 changed_sound n c os tag None new h g is = absurd (cc)
 changed_sound n c [] tag (Some x) new h g is = absurd (cc)
 changed_sound n c (o ∷ os) tag (Some x) new h g is = by (says_same c (o ∷ os)) is
@@ -98,55 +98,55 @@ changed_sound n c (o ∷ os) tag (Some x) new h g is = by (says_same c (o ∷ os
         let same : Some (tag, a.0) ≡ new = now_is (Some (tag, a.0)) new a.2 in
         subst HoldsSound same (all_applied_sound n c (o ∷ os) x.1 a.0 h g a.1)
       where
-        now_is : (x y : Held) → ◌≡◌ {A = Result Turn Fault} (Ok (Now x)) (Ok (Now y)) → x ≡ y
+        now_is : (x y : CopyHeld) → ◌≡◌ {A = Result Turn CopyFault} (Ok (Now x)) (Ok (Now y)) → x ≡ y
         now_is x y e = cc
 
-renewed_sound : (n : ℕ) (c : List (List Decl)) (os : List Tree) (tag : Option (List ℕ)) (held new : Held) → AllByRecursion (ProperIn c) os → HoldsSound held → renewed n c os tag held ≡ Ok (Now new) → HoldsSound new
+renewed_sound : (n : ℕ) (c : List (List Decl)) (os : List Tree) (tag : Option (List ℕ)) (held new : CopyHeld) → AllByRecursion (ProperIn c) os → HoldsSound held → renewed_copy n c os tag held ≡ Ok (Now new) → HoldsSound new
 renewed_sound n c os None held new h g is = let same : None ≡ new = cc in subst HoldsSound same tt
 renewed_sound n c os (Some tag) held new h g is = changed_sound n c os tag held new h g is
 
-tags_sound : (n : ℕ) (c : List (List Decl)) (os : List Tree) (previous tag : Option (List ℕ)) (held new : Held) → AllByRecursion (ProperIn c) os → HoldsSound held → by_tags n c os previous tag held ≡ Ok (Now new) → HoldsSound new
+tags_sound : (n : ℕ) (c : List (List Decl)) (os : List Tree) (previous tag : Option (List ℕ)) (held new : CopyHeld) → AllByRecursion (ProperIn c) os → HoldsSound held → by_tags n c os previous tag held ≡ Ok (Now new) → HoldsSound new
 tags_sound n c os None tag held new h g is = absurd (cc)
 tags_sound n c os (Some previous) tag held new h g is = by (is_tag previous (held_tag held)) is
   where
-    by : (b : Bool) → cond b (renewed n c os tag held) (Err (WrongTag (held_tag held) previous)) ≡ Ok (Now new) → HoldsSound new
+    by : (b : Bool) → cond b (renewed_copy n c os tag held) (Err (WrongTag (held_tag held) previous)) ≡ Ok (Now new) → HoldsSound new
     by true e = renewed_sound n c os tag held new h g e
     by false e = absurd (cc)
 
-taken_sound : (n : ℕ) (c : List (List Decl)) (d : Tree) (held new : Held) → ProperIn c d → HoldsSound held → taken n c d held ≡ Ok (Now new) → HoldsSound new
+taken_sound : (n : ℕ) (c : List (List Decl)) (d : Tree) (held new : CopyHeld) → ProperIn c d → HoldsSound held → document_taken n c d held ≡ Ok (Now new) → HoldsSound new
 taken_sound n c d held new h g is =
     let here = c ++ d.decls ∷ [] in
     tags_sound n here (operations_in c d) (plain_value (codes "previous-etag") d.attrs) (plain_value (codes "new-etag") d.attrs) held new
     (kept_proper here (is_ours here) (kids_of d) (kids_proper here d.content h.1)) g is
 
-all_taken_sound : (n : ℕ) (c : List (List Decl)) (ds : List Tree) (held new : Held) → AllByRecursion (ProperIn c) ds → HoldsSound held → all_taken n c ds held ≡ Ok (Some new) → HoldsSound new
+all_taken_sound : (n : ℕ) (c : List (List Decl)) (ds : List Tree) (held new : CopyHeld) → AllByRecursion (ProperIn c) ds → HoldsSound held → all_taken n c ds held ≡ Ok (Some new) → HoldsSound new
 all_taken_sound n c [] held new h g is = let same : held ≡ new = held_is held new is in subst HoldsSound same g
   where
-    held_is : (x y : Held) → ◌≡◌ {A = Result Outcome Fault} (Ok (Some x)) (Ok (Some y)) → x ≡ y
+    held_is : (x y : CopyHeld) → ◌≡◌ {A = Result Outcome CopyFault} (Ok (Some x)) (Ok (Some y)) → x ≡ y
     held_is x y e = cc
 all_taken_sound n c (d ∷ ds) held new h g is =
     let m = n + operation_count c d in
-    let a = next_ok (taken n c d held) (λ now. unless_missing now (all_taken m c ds)) (Some new) is in
+    let a = next_ok (document_taken n c d held) (λ now. unless_missing now (all_taken m c ds)) (Some new) is in
     by a.0 a.1 a.2 (λ x s k. all_taken_sound m c ds x new h.1 s k)
   where
-    by : (now : Turn) → taken n c d held ≡ Ok now → unless_missing now (all_taken (n + operation_count c d) c ds) ≡ Ok (Some new)
-        → ((x : Held) → HoldsSound x → all_taken (n + operation_count c d) c ds x ≡ Ok (Some new) → HoldsSound new) → HoldsSound new
+    by : (now : Turn) → document_taken n c d held ≡ Ok now → unless_missing now (all_taken (n + operation_count c d) c ds) ≡ Ok (Some new)
+        → ((x : CopyHeld) → HoldsSound x → all_taken (n + operation_count c d) c ds x ≡ Ok (Some new) → HoldsSound new) → HoldsSound new
     by Missing e k f = absurd (cc)
     by (Now x) e k f = f x (taken_sound n c d held x h.0 g e) k
 
 -- ---- the whole notice
 
-abbrev got : Held → Result (Answer × Held) Fault → Held
+abbrev got : CopyHeld → Result (CopyAnswer × CopyHeld) CopyFault → CopyHeld
 got held (Ok x) = x.1
 got held (Err f) = held
 
-answered_sound : (ds : List Tree) (end : Outcome) (held new : Held) (answer : Answer) → ◌≡◌ {A = Result (Answer × Held) Fault} (Ok (answered ds held end)) (Ok (answer, new)) → HoldsSound held
-    → ((x : Held) → end ≡ Some x → HoldsSound x) → HoldsSound new
+answered_sound : (ds : List Tree) (end : Outcome) (held new : CopyHeld) (answer : CopyAnswer) → ◌≡◌ {A = Result (CopyAnswer × CopyHeld) CopyFault} (Ok (copy_answer ds held end)) (Ok (answer, new)) → HoldsSound held
+    → ((x : CopyHeld) → end ≡ Some x → HoldsSound x) → HoldsSound new
 answered_sound ds None held new answer e g f = subst HoldsSound (ap (got held) e) g
 answered_sound [] (Some x) held new answer e g f = subst HoldsSound (ap (got held) e) (f x refl)
 answered_sound (d ∷ ds) (Some x) held new answer e g f = subst HoldsSound (ap (got held) e) (f x refl)
 
-pub replayed_sound : (is_mine : List ℕ → Bool) (notice : Tree) (held new : Held) (answer : Answer) → ProperIn [] notice → HoldsSound held → replayed is_mine notice held ≡ Ok (answer, new) → HoldsSound new
+pub replayed_sound : (is_mine : List ℕ → Bool) (notice : Tree) (held new : CopyHeld) (answer : CopyAnswer) → ProperIn [] notice → HoldsSound held → replayed is_mine notice held ≡ Ok (answer, new) → HoldsSound new
 replayed_sound is_mine notice held new answer h g is = by (is_all_mine is_mine (documents notice)) is
   where
     here : List (List Decl)
@@ -155,8 +155,8 @@ replayed_sound is_mine notice held new answer h g is = by (is_all_mine is_mine (
     docs : AllByRecursion (ProperIn (notice.decls ∷ [])) (documents notice)
     docs = kept_proper (notice.decls ∷ []) (is_called (notice.decls ∷ []) (codes "document")) (kids_of notice) (kids_proper (notice.decls ∷ []) notice.content h.1)
 
-    by : (b : Bool) → cond b (then_next (all_taken 0 (notice.decls ∷ []) (documents notice) held) (λ end. Ok (answered (documents notice) held end))) (Err WrongDocument) ≡ Ok (answer, new) → HoldsSound new
+    by : (b : Bool) → cond b (then_next (all_taken 0 (notice.decls ∷ []) (documents notice) held) (λ end. Ok (copy_answer (documents notice) held end))) (Err WrongDocument) ≡ Ok (answer, new) → HoldsSound new
     by true e =
-        let a = next_ok (all_taken 0 (notice.decls ∷ []) (documents notice) held) (λ end. Ok (answered (documents notice) held end)) (answer, new) e in
+        let a = next_ok (all_taken 0 (notice.decls ∷ []) (documents notice) held) (λ end. Ok (copy_answer (documents notice) held end)) (answer, new) e in
         answered_sound (documents notice) a.0 held new answer a.2 g (λ x same. all_taken_sound 0 (notice.decls ∷ []) (documents notice) held x docs g (a.1 ∙ ap (λ z. Ok z) same))
     by false e = absurd (cc)

@@ -32,11 +32,11 @@ digits_pass : (ds : List ℕ) → AllBelowBase 10 ds → AllPass is_digit (map (
 digits_pass [] h = tt
 digits_pass (d ∷ ds) h = (digit d h.0, digits_pass ds h.1)
 
-digits_worth : (ds : List ℕ) (n : ℕ) → number_from digits.decimal n (map (λ d. 48 + d) ds) ≡ number_from_digits_after 10 n ds
+digits_worth : (ds : List ℕ) (n : ℕ) → number_from digits.decimal_digits n (map (λ d. 48 + d) ds) ≡ number_from_digits_after 10 n ds
 digits_worth [] n = refl
 digits_worth (d ∷ ds) n =
     let back : 48 + d - 48 ≡ d = omega arith in
-    ap (λ x. number_from digits.decimal (n * 10 + x) (map (λ k. 48 + k) ds)) back ∙ digits_worth ds (n * 10 + d)
+    ap (λ x. number_from digits.decimal_digits (n * 10 + x) (map (λ k. 48 + k) ds)) back ∙ digits_worth ds (n * 10 + d)
 
 written : (n : ℕ) → IsPosition n → decimal (suc n) ≡ map (λ d. 48 + d) (digits_of 10 (suc n))
 written n h = decimal-digits_of (suc n) (omega arith) (omega arith)
@@ -44,14 +44,14 @@ written n h = decimal-digits_of (suc n) (omega arith) (omega arith)
 pass : (n : ℕ) → IsPosition n → AllPass is_digit (decimal (suc n))
 pass n h = subst (AllPass is_digit) (sym (written n h)) (digits_pass (digits_of 10 (suc n)) (all_below_base_digits_of 10 (suc n) (omega arith)))
 
-worth : (n : ℕ) → IsPosition n → number_from digits.decimal 0 (decimal (suc n)) ≡ suc n
-worth n h = ap (number_from digits.decimal 0) (written n h) ∙ digits_worth (digits_of 10 (suc n)) 0 ∙ number_digits_of 10 (suc n) (omega arith)
+worth : (n : ℕ) → IsPosition n → number_from digits.decimal_digits 0 (decimal (suc n)) ≡ suc n
+worth n h = ap (number_from digits.decimal_digits 0) (written n h) ∙ digits_worth (digits_of 10 (suc n)) 0 ∙ number_digits_of 10 (suc n) (omega arith)
 
 within : (v m : ℕ) → v ≡ m → m ≤ greatest_position → cond (nat_le v greatest_position) v 0 ≡ m
 within v m e h = rw e (rw (le-leb m greatest_position h) refl)
 
 position : (n : ℕ) → IsPosition n → position_of (decimal (suc n)) ≡ suc n
-position n h = within (number_from digits.decimal 0 (decimal (suc n))) (suc n) (worth n h) (omega arith)
+position n h = within (number_from digits.decimal_digits 0 (decimal (suc n))) (suc n) (worth n h) (omega arith)
 
 some_read : (ds rest : List ℕ) → 0 < length ds → AllPass is_digit ds → head_is is_digit rest ≡ false → Reads (read_some_of is_digit) (ds ++ rest) ds rest
 some_read [] rest h p e = absurd (omega arith)

@@ -12,7 +12,7 @@ use Rattle.edit_ops.specs.declared.change.Change.TheVariants.{CreateDocument, In
 use Rattle.notes.specs.Notes.{AreNotesOf, Note, tag_after, tree_after}
 use Rattle.patch_words.specs.Notices.{all_at_once, declares, diff, diff_uri, document, one_by_one, operations}
 use Rattle.notes.specs.Operations.{operation, change_told as told}
-use Rattle.patch_words.specs.Replay.{Held, Now, all_taken, answered, documents, is_all_mine, is_called, is_ours, operation_count, operations_in, replayed, says_same, taken, then_next, unless_missing}
+use Rattle.patch_words.specs.Replay.{CopyHeld, Now, all_taken, copy_answer, documents, is_all_mine, is_called, is_ours, operation_count, operations_in, replayed, says_same, document_taken, then_next, unless_missing}
 use Rattle.patch_laws.specs.Premises.{AreTold, around_operations}
 use Rattle.patch_laws.specs.Replayed.{answer_for}
 use Rattle.patch_laws.proofs.Changes.{all_applied_notes, first_told}
@@ -105,11 +105,11 @@ module _ (d : List ℕ) (some : d ≢ []) (other : bytes_eq d xml_prefix ≡ fal
   pub document_called : (sel : List ℕ) (from to : ℕ) (os : List Tree) → is_called top (codes "document") (document d sel from to os) ≡ true
   document_called sel from to os = ours (bound (around_operations d diff_uri) d) bound_document
 
-  abbrev as_held : ℕ → Tree → Held
+  abbrev as_held : ℕ → Tree → CopyHeld
   as_held tag t = Some (decimal tag, t)
 
   taken_document : (count from to : ℕ) (sel : List ℕ) (tag : ℕ) (t : Tree) (n : Note) (ns : List Note) → AllByRecursion (λ n. declares d n.bindings ≡ false) (n ∷ ns) → AreNotesOf tag t (n ∷ ns) → AreTold t (n ∷ ns)
-      → taken count top (document d sel from to (operations d (n ∷ ns))) (as_held from t) ≡ Ok (Now (as_held to (tree_after t (n ∷ ns))))
+      → document_taken count top (document d sel from to (operations d (n ∷ ns))) (as_held from t) ≡ Ok (Now (as_held to (tree_after t (n ∷ ns))))
   taken_document count from to sel tag t n ns free h told =
       rw (same_text (decimal from), document_operations sel from to (n ∷ ns) free, operations_change (around_operations d diff_uri) d (n ∷ ns))
       (ap (λ r. then_next r (λ u. Ok (Now (as_held to u)))) (all_applied_notes d diff_uri some count tag t (n ∷ ns) h told))
@@ -118,8 +118,8 @@ module _ (d : List ℕ) (some : d ≢ []) (other : bytes_eq d xml_prefix ≡ fal
       → all_taken count top (one_by_one d sel ns) (as_held tag t) ≡ Ok (Some (as_held (tag_after tag ns) (tree_after t ns)))
   taken_one_by_one count tag sel t [] free h told = refl
   taken_one_by_one count tag sel t (n ∷ ns) free h told =
-      let first : taken count top (document d sel n.previous n.next (operation d n ∷ [])) (as_held tag t) ≡ Ok (Now (as_held n.next (edited t n.change))) =
-      ap (λ x. taken count top (document d sel x n.next (operation d n ∷ [])) (as_held tag t)) (ap (λ (m : Note). m.previous) h.1)
+      let first : document_taken count top (document d sel n.previous n.next (operation d n ∷ [])) (as_held tag t) ≡ Ok (Now (as_held n.next (edited t n.change))) =
+      ap (λ x. document_taken count top (document d sel x n.next (operation d n ∷ [])) (as_held tag t)) (ap (λ (m : Note). m.previous) h.1)
       ∙ taken_document count tag n.next sel tag t n [] (free.0, tt) (h.0, h.1, tt) (told.0, first_told d diff_uri some (edited t n.change) ns told.1) in
       ap (λ r. then_next r (λ now. unless_missing now (all_taken (count + operation_count top (document d sel n.previous n.next (operation d n ∷ []))) top (one_by_one d sel ns)))) first
       ∙ taken_one_by_one (count + operation_count top (document d sel n.previous n.next (operation d n ∷ []))) n.next sel (edited t n.change) ns free.1 h.2 told.1
@@ -154,15 +154,15 @@ module _ (d : List ℕ) (some : d ≢ []) (other : bytes_eq d xml_prefix ≡ fal
   mine_at_once is_mine sel tag [] h = refl
   mine_at_once is_mine sel tag (n ∷ ns) h = both (is_mine sel) true h refl
 
-  by_documents : (is_mine : List ℕ → Bool) (root : List ℕ) (ds : List Tree) (held new : Held) → documents (diff d root ds) ≡ ds → is_all_mine is_mine ds ≡ true → all_taken 0 top ds held ≡ Ok (Some new)
-      → replayed is_mine (diff d root ds) held ≡ Ok (answered ds held (Some new))
-  by_documents is_mine root ds held new docs mine taken = rw docs (rw mine (rw taken refl))
+  by_documents : (is_mine : List ℕ → Bool) (root : List ℕ) (ds : List Tree) (held new : CopyHeld) → documents (diff d root ds) ≡ ds → is_all_mine is_mine ds ≡ true → all_taken 0 top ds held ≡ Ok (Some new)
+      → replayed is_mine (diff d root ds) held ≡ Ok (copy_answer ds held (Some new))
+  by_documents is_mine root ds held new docs mine document_taken = rw docs (rw mine (rw document_taken refl))
 
-  answered_one_by_one : (sel : List ℕ) (ns : List Note) (held : Held) (tag : ℕ) (t : Tree) → answered (one_by_one d sel ns) held (Some (as_held tag t)) ≡ (answer_for ns, as_held tag t)
+  answered_one_by_one : (sel : List ℕ) (ns : List Note) (held : CopyHeld) (tag : ℕ) (t : Tree) → copy_answer (one_by_one d sel ns) held (Some (as_held tag t)) ≡ (answer_for ns, as_held tag t)
   answered_one_by_one sel [] held tag t = refl
   answered_one_by_one sel (n ∷ ns) held tag t = refl
 
-  answered_at_once : (sel : List ℕ) (from : ℕ) (ns : List Note) (held : Held) (tag : ℕ) (t : Tree) → answered (all_at_once d sel from ns) held (Some (as_held tag t)) ≡ (answer_for ns, as_held tag t)
+  answered_at_once : (sel : List ℕ) (from : ℕ) (ns : List Note) (held : CopyHeld) (tag : ℕ) (t : Tree) → copy_answer (all_at_once d sel from ns) held (Some (as_held tag t)) ≡ (answer_for ns, as_held tag t)
   answered_at_once sel from [] held tag t = refl
   answered_at_once sel from (n ∷ ns) held tag t = refl
 

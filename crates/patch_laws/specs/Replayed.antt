@@ -9,7 +9,7 @@ use Rattle.tree_text.specs.Faults.{TextAnswer}
 use Rattle.tree_text.specs.Printing.{document_print}
 use Rattle.notes.specs.Notes.{Note}
 use Rattle.patch_words.specs.Notices.{declares}
-use Rattle.patch_words.specs.Replay.{Held, Answer, Same, Patched, is_notice}
+use Rattle.patch_words.specs.Replay.{CopyHeld, CopyAnswer, Same, Patched, is_notice}
 use Rattle.patch_laws.specs.Premises.{IsSound}
 
 -- the prefix of a notice: not the default, not `xml`, and none that an operation of these notes declares
@@ -19,7 +19,7 @@ pub record IsPrefixFor (prefix : List ℕ) (ns : List Note) : Type 0 where
   pub free : AllByRecursion (λ n. declares prefix n.bindings ≡ false) ns
 
 -- what the notice of these notes answers
-abbrev pub answer_for : List Note → Answer
+abbrev pub answer_for : List Note → CopyAnswer
 answer_for [] = Same
 answer_for (n ∷ ns) = Patched
 
@@ -30,6 +30,6 @@ pub record IsReadBack (notice : Tree) : Type 0 where
   pub proper : ProperIn [] notice
 
 -- what a replica may hold: nothing, or a tree with its tag
-abbrev pub HoldsSound : Held → Type 0
+abbrev pub HoldsSound : CopyHeld → Type 0
 HoldsSound None = Unit {0}
 HoldsSound (Some h) = IsSound h.1

@@ -20,7 +20,7 @@ ghost use Rattle.notes.specs.Notes.{AreNotesOf, Note, note_of, tag_after, tree_a
 ghost use Rattle.notes.specs.Operations.{attr_path_text, operation};
 ghost use Rattle.patch_words.specs.Applied.{AtAttr, AtElement, applied};
 ghost use Rattle.patch_words.specs.Notices.{aggregate_notice, declarations, gone_notice, operations, patching_notice, prefix_for, tags_notice};
-ghost use Rattle.patch_words.specs.Replay.{Answer, Fetch, Held, Removed, Same, all_applied, replayed};
+ghost use Rattle.patch_words.specs.Replay.{CopyAnswer, Fetch, CopyHeld, Removed, Same, all_applied, replayed};
 ghost use Rattle.patch_laws.specs.Premises.{AreFew, ArePositions, AreTold, IsSound, IsTold, Meets, around_operations};
 ghost use Rattle.patch_laws.specs.Replayed.{HoldsSound, IsPrefixFor, IsReadBack, answer_for};
 ghost use Rattle.patch_laws.specs.Selecting.{IsTakenAs, selected_by};
@@ -92,7 +92,7 @@ pub fn other_notices_are_replayed()
 /// operation that is applied.
 pub fn replicas_stay_sound()
     ensures operation { (c : List (List Decl)) (o t u : Tree) → ProperIn c o → ProperIn [] t → applied c o t ≡ Ok u → IsSound u }
-    ensures notice { (is_mine : List ℕ → Bool) (notice : Tree) (held new : Held) (answer : Answer) → ProperIn [] notice → HoldsSound held
+    ensures notice { (is_mine : List ℕ → Bool) (notice : Tree) (held new : CopyHeld) (answer : CopyAnswer) → ProperIn [] notice → HoldsSound held
         → replayed is_mine notice held ≡ Ok (answer, new) → HoldsSound new }
 {}
 

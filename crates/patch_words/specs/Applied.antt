@@ -49,8 +49,8 @@ pub data Word : Type 0 where
   Exchange : Word
   Cut : Word
 
-abbrev pub word_of : List ℕ → Option Word
-word_of local =
+abbrev pub operation_word : List ℕ → Option Word
+operation_word local =
     if bytes_eq local (codes "add") then Some Add else (if bytes_eq local (codes "replace") then Some Exchange else (if bytes_eq local (codes "remove") then Some Cut else None))
 
 -- the value of the attribute of this local name that has no prefix, and so no namespace
@@ -91,8 +91,8 @@ type_of [] = None
 type_of (c ∷ cs) = if c == 64 then option_and_then no_declaration (cut_name [] cs) else None
 
 -- which white space a `remove` takes with it: before the element, and behind it
-abbrev pub space_of : List ℕ → Option (Bool × Bool)
-space_of text =
+abbrev pub white_space_of : List ℕ → Option (Bool × Bool)
+white_space_of text =
     if bytes_eq text (codes "before") then Some (true, false) else (if bytes_eq text (codes "after") then Some (false, true) else (if bytes_eq text (codes "both") then Some (true, true) else None))
 
 -- an operation as it is read: what is to be done
@@ -111,7 +111,7 @@ adding (Some pos) (Some type) = None
 
 abbrev pub cutting : Option (List ℕ) → Option Task
 cutting None = Some (Remove false false)
-cutting (Some ws) = option_map (λ s. Remove s.0 s.1) (space_of ws)
+cutting (Some ws) = option_map (λ s. Remove s.0 s.1) (white_space_of ws)
 
 -- each word takes its own attributes and no others
 abbrev pub task_of : Word → Option (List ℕ) → Option (List ℕ) → Option (List ℕ) → Option Task
@@ -352,7 +352,7 @@ applied c o t =
     let here = c ++ o.decls ∷ [] in
     given (plain_value (codes "sel") o.attrs) Directive (λ sel.
     tested (list_all is_known o.attrs) Directive (
-    given (option_and_then (λ w. task_of w (plain_value (codes "pos") o.attrs) (plain_value (codes "type") o.attrs) (plain_value (codes "ws") o.attrs)) (word_of o.name.local)) Directive (λ task.
+    given (option_and_then (λ w. task_of w (plain_value (codes "pos") o.attrs) (plain_value (codes "type") o.attrs) (plain_value (codes "ws") o.attrs)) (operation_word o.name.local)) Directive (λ task.
     given (form_of sel) Directive (λ form.
     tested (suits task (end_of form)) Directive (
     given (meaning_in here form) Prefix (λ s.

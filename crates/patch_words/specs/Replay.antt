@@ -48,33 +48,33 @@ is_notice t = is_called [] (codes "xcap-diff") t && (is_some (plain_value (codes
 -- ---- what is held, what a notice answers, and what is wrong with it
 
 -- the tag and the tree of the document, where one is held
-abbrev pub Held : Type 0
-Held = Option (List ℕ × Tree)
+abbrev pub CopyHeld : Type 0
+CopyHeld = Option (List ℕ × Tree)
 
-pub data Answer : Type 0 where
-  Same : Answer
-  Patched : Answer
-  Removed : Answer
-  Fetch : List ℕ → Answer
+pub data CopyAnswer : Type 0 where
+  Same : CopyAnswer
+  Patched : CopyAnswer
+  Removed : CopyAnswer
+  Fetch : List ℕ → CopyAnswer
 
 -- with the number of the operation, counted from 1 over the whole notice, or with the tag held and the tag that is wanted
-pub data Fault : Type 0 where
-  WrongDocument : Fault
-  WrongTag : Option (List ℕ) → List ℕ → Fault
-  AtOperation : ℕ → Wrong → Fault
+pub data CopyFault : Type 0 where
+  WrongDocument : CopyFault
+  WrongTag : Option (List ℕ) → List ℕ → CopyFault
+  AtOperation : ℕ → Wrong → CopyFault
 
 -- ---- operations in order
 
 -- the first that is wrong, by its number; n operations stand before these
-abbrev pub numbered : {A : Type 0} → ℕ → Result A Wrong → Result A Fault
+abbrev pub numbered : {A : Type 0} → ℕ → Result A Wrong → Result A CopyFault
 numbered n (Ok x) = Ok x
 numbered n (Err w) = Err (AtOperation (suc n) w)
 
-abbrev pub then_next : {A B : Type 0} → Result A Fault → (A → Result B Fault) → Result B Fault
+abbrev pub then_next : {A B : Type 0} → Result A CopyFault → (A → Result B CopyFault) → Result B CopyFault
 then_next (Ok x) k = k x
 then_next (Err f) k = Err f
 
-abbrev pub all_applied : ℕ → List (List Decl) → List Tree → Tree → Result Tree Fault
+abbrev pub all_applied : ℕ → List (List Decl) → List Tree → Tree → Result Tree CopyFault
 all_applied n c [] t = Ok t
 all_applied n c (o ∷ os) t = then_next (numbered n (applied c o t)) (all_applied (suc n) c os)
 
@@ -82,10 +82,10 @@ all_applied n c (o ∷ os) t = then_next (numbered n (applied c o t)) (all_appli
 
 -- what one document makes of what is held; `Missing` where it changed without being told how
 pub data Turn : Type 0 where
-  Now : Held → Turn
+  Now : CopyHeld → Turn
   Missing : Turn
 
-abbrev pub held_tag : Held → Option (List ℕ)
+abbrev pub held_tag : CopyHeld → Option (List ℕ)
 held_tag None = None
 held_tag (Some h) = Some h.0
 
@@ -94,25 +94,25 @@ is_tag wanted None = false
 is_tag wanted (Some tag) = bytes_eq wanted tag
 
 -- the document with the new tag: its operations, the same body, or neither
-abbrev pub changed : ℕ → List (List Decl) → List Tree → List ℕ → Held → Result Turn Fault
+abbrev pub changed : ℕ → List (List Decl) → List Tree → List ℕ → CopyHeld → Result Turn CopyFault
 changed n c os tag None = Ok Missing
 changed n c [] tag (Some h) = Ok Missing
 changed n c (o ∷ os) tag (Some h) =
     if says_same c (o ∷ os) then Ok (Now (Some (tag, h.1))) else then_next (all_applied n c (o ∷ os) h.1) (λ t. Ok (Now (Some (tag, t))))
 
 -- a document with a new tag; without one nothing is held afterwards, and its operations aren't looked at
-abbrev pub renewed : ℕ → List (List Decl) → List Tree → Option (List ℕ) → Held → Result Turn Fault
-renewed n c os None held = Ok (Now None)
-renewed n c os (Some tag) held = changed n c os tag held
+abbrev pub renewed_copy : ℕ → List (List Decl) → List Tree → Option (List ℕ) → CopyHeld → Result Turn CopyFault
+renewed_copy n c os None held = Ok (Now None)
+renewed_copy n c os (Some tag) held = changed n c os tag held
 
 -- the tag before is the one that is held; without it the change isn't told
-abbrev pub by_tags : ℕ → List (List Decl) → List Tree → Option (List ℕ) → Option (List ℕ) → Held → Result Turn Fault
+abbrev pub by_tags : ℕ → List (List Decl) → List Tree → Option (List ℕ) → Option (List ℕ) → CopyHeld → Result Turn CopyFault
 by_tags n c os None new held = Ok Missing
 by_tags n c os (Some previous) new held =
-    if is_tag previous (held_tag held) then renewed n c os new held else Err (WrongTag (held_tag held) previous)
+    if is_tag previous (held_tag held) then renewed_copy n c os new held else Err (WrongTag (held_tag held) previous)
 
-abbrev pub taken : ℕ → List (List Decl) → Tree → Held → Result Turn Fault
-taken n c d held =
+abbrev pub document_taken : ℕ → List (List Decl) → Tree → CopyHeld → Result Turn CopyFault
+document_taken n c d held =
     by_tags n (c ++ d.decls ∷ []) (operations_in c d) (plain_value (codes "previous-etag") d.attrs) (plain_value (codes "new-etag") d.attrs) held
 
 -- how many operations it has, where `body-not-changed` is none
@@ -126,34 +126,34 @@ last_new tag (d ∷ ds) = last_new (unwrap_or (plain_value (codes "new-etag") d.
 
 -- what all documents make of what is held: the first that misses its operations ends the reading, and what was held stays
 abbrev pub Outcome : Type 0
-Outcome = Option Held
+Outcome = Option CopyHeld
 
-abbrev pub unless_missing : Turn → (Held → Result Outcome Fault) → Result Outcome Fault
+abbrev pub unless_missing : Turn → (CopyHeld → Result Outcome CopyFault) → Result Outcome CopyFault
 unless_missing Missing k = Ok None
 unless_missing (Now held) k = k held
 
-abbrev pub all_taken : ℕ → List (List Decl) → List Tree → Held → Result Outcome Fault
+abbrev pub all_taken : ℕ → List (List Decl) → List Tree → CopyHeld → Result Outcome CopyFault
 all_taken n c [] held = Ok (Some held)
-all_taken n c (d ∷ ds) held = then_next (taken n c d held) (λ now. unless_missing now (all_taken (n + operation_count c d) c ds))
+all_taken n c (d ∷ ds) held = then_next (document_taken n c d held) (λ now. unless_missing now (all_taken (n + operation_count c d) c ds))
 
 -- ---- the whole notice
 
-abbrev pub ended : Held → Answer
-ended None = Removed
-ended (Some h) = Patched
+abbrev pub end_answer : CopyHeld → CopyAnswer
+end_answer None = Removed
+end_answer (Some h) = Patched
 
-abbrev pub answered : List Tree → Held → Outcome → Answer × Held
-answered ds held None = (Fetch (last_new [] ds), held)
-answered [] held (Some new) = (Same, new)
-answered (d ∷ ds) held (Some new) = (ended new, new)
+abbrev pub copy_answer : List Tree → CopyHeld → Outcome → CopyAnswer × CopyHeld
+copy_answer ds held None = (Fetch (last_new [] ds), held)
+copy_answer [] held (Some new) = (Same, new)
+copy_answer (d ∷ ds) held (Some new) = (end_answer new, new)
 
 -- whether each document speaks of the replica's
 abbrev pub is_all_mine : (List ℕ → Bool) → List Tree → Bool
 is_all_mine is_mine ds = list_all (λ d. is_mine (unwrap_or (plain_value (codes "sel") d.attrs) [])) ds
 
 -- the answer and what is held then, or the first fault; `is_mine` says of a printed name whether it is that of the replica's document
-abbrev pub replayed : (List ℕ → Bool) → Tree → Held → Result (Answer × Held) Fault
+abbrev pub replayed : (List ℕ → Bool) → Tree → CopyHeld → Result (CopyAnswer × CopyHeld) CopyFault
 replayed is_mine notice held =
     if is_all_mine is_mine (documents notice)
-    then then_next (all_taken 0 (notice.decls ∷ []) (documents notice) held) (λ end. Ok (answered (documents notice) held end))
+    then then_next (all_taken 0 (notice.decls ∷ []) (documents notice) held) (λ end. Ok (copy_answer (documents notice) held end))
     else Err WrongDocument

@@ -13,7 +13,7 @@ use Rattle.name_words.proofs.Printed.{names}
 use Rattle.xcap_uri.specs.Roots.{IsRoot, authority_of, path_of}
 use Rattle.edit_ops.specs.Changes.{edited}
 use Rattle.notes.specs.Notes.{Note, tag_after, tree_after}
-use Rattle.patch_words.specs.Replay.{Answer, Fault, Fetch, Held, Patched, Removed, Same, replayed}
+use Rattle.patch_words.specs.Replay.{CopyAnswer, CopyFault, Fetch, CopyHeld, Patched, Removed, Same, replayed}
 use Rattle.patch_words.specs.Notices.{aggregate_notice, gone_notice, patching_notice, tags_notice}
 use Rattle.patch_laws.specs.Premises.{AreFew, AreTold, IsTold}
 use Rattle.patch_laws.specs.Replayed.{answer_for}
@@ -50,7 +50,7 @@ record AreBetween (next : ℕ) (from to : Version) (ns : List Note) : Type 0 whe
   answer : answer_for ns ≡ answer_between from to
 
 -- what the notice of tags alone answers
-abbrev tags_answer : ℕ → List Note → Answer
+abbrev tags_answer : ℕ → List Note → CopyAnswer
 tags_answer tag [] = Same
 tags_answer tag (n ∷ ns) = Fetch (decimal (tag_after tag (n ∷ ns)))
 
@@ -72,7 +72,7 @@ module _ (id : DocId) (root : List ℕ) (next : ℕ) (from to : Version) (ns : L
   are_few : AreFew ns
   are_few = omega (arith, between.few)
 
-  reached : ◌≡◌ {A = Result (Answer × Held) Fault} (Ok (answer_for ns, Some (decimal (tag_after from.tag ns), tree_after from.tree ns))) (Ok (answer_between from to, subscribed to))
+  reached : ◌≡◌ {A = Result (CopyAnswer × CopyHeld) CopyFault} (Ok (answer_for ns, Some (decimal (tag_after from.tag ns), tree_after from.tree ns))) (Ok (answer_between from to, subscribed to))
   reached = λ i. Ok (between.answer i, Some (decimal (between.leads.tag i), between.leads.tree i))
 
   patched : Brings id (patching_notice root (id_text id) from.tag ns) (subscribed from) (answer_between from to) (subscribed to)
@@ -92,7 +92,7 @@ module _ (id : DocId) (root : List ℕ) (next : ℕ) (from to : Version) (ns : L
     is_read = tags_read root (id_text id) from.tag ns chars (id_chars id);
     is_applied =
         tags_told (is_name_of id) root (id_text id) from.tag from.tree ns mine
-        ∙ ap (λ (a : Answer). let r : Result (Answer × Held) Fault = Ok (a, subscribed from) in r) (fetched from to ns (to.tag == from.tag) between.answer between.leads.tag);
+        ∙ ap (λ (a : CopyAnswer). let r : Result (CopyAnswer × CopyHeld) CopyFault = Ok (a, subscribed from) in r) (fetched from to ns (to.tag == from.tag) between.answer between.leads.tag);
   }
 
 -- ---- the version that is held is the one that the notes lead from

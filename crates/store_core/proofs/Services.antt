@@ -11,7 +11,7 @@ use Rattle.xml_tree.specs.declared.names.Attr.{Attr}
 use Rattle.xml_tree.specs.Scopes.{inside}
 use Rattle.usage_docs.specs.Clashes.{Unique, mark, mark_of}
 use Rattle.usage_docs.specs.Keys.{attribute_of, key_of, key_value, value_of}
-use Rattle.usage_docs.specs.Rows.{Scope, child_named, kind_of, model_of, own_space, root_kind, space_of, word_of}
+use Rattle.usage_docs.specs.Rows.{Scope, child_named, kind_of, model_of, space_of_children, root_kind, space_of, word_of}
 use Rattle.usage_docs.specs.Services.{service_uri, service_uris}
 use Rattle.usage_docs.specs.declared.keys.Clash.{Clash}
 use Rattle.usage_docs.specs.declared.rows.Kind.{Kind}
@@ -106,7 +106,7 @@ of-space false s kind h = cc
 
 kind-of-child : (c : Scope) (e : Tree) (kind : Kind) → kind_of RlsServices (inside c e) e.name ≡ Some kind → kind ≡ Service
 unfolding kind_of child_named model_of word_of
-kind-of-child c e kind h = of-space (bytes_eq (space_of (inside c e) e.name) (own_space RlsServices)) (bytes_eq e.name.local (codes "service")) kind h
+kind-of-child c e kind h = of-space (bytes_eq (space_of (inside c e) e.name) (space_of_children RlsServices)) (bytes_eq e.name.local (codes "service")) kind h
 
 key-of-service : (ats : List Attr) → key_value Service ats ≡ value_of Uri ats
 unfolding key_value key_of attribute_of

@@ -15,11 +15,11 @@ use Rattle.tree_text.specs.readers.Gives.{Fails}
 use Rattle.tree_text.specs.readers.Members.{filled, tree_with, with_chars, with_one, read_chars_onto, read_member, read_child, read_onto, read_filled, read_filled_behind}
 use Rattle.tree_text.specs.Names.{decls_of, attrs_of, element_of}
 use Rattle.tree_text.specs.readers.Judging.{counted_back, first_of_tag, tag_fault}
-use Rattle.tree_text.specs.Pieces.{Markup, Inner, Tag, with_pieces}
+use Rattle.tree_text.specs.Pieces.{Markup, Inner, StartTag, with_pieces}
 use Rattle.tree_text.specs.readers.Texts.{markup_follows, read_chars, read_markup, read_tag, read_behind_tag, read_element}
 use Rattle.tree_text.proofs.Loops.{finish, start, valued_ok, valued_err, valued_stops}
 
-abbrev dressed_read : Tag → Result (Content × List ℕ) (Stop Kind) → Result (Tree × List ℕ) (Stop Kind)
+abbrev dressed_read : StartTag → Result (Content × List ℕ) (Stop Kind) → Result (Tree × List ℕ) (Stop Kind)
 dressed_read t out = out >>= λ y. Ok (element_of (t, y.0), y.1)
 
 -- an element without declarations and attributes, of this name
@@ -57,20 +57,20 @@ child_stops tree inner text s h = valued_stops (with_one tree) (read_valued Inne
 -- # Elements
 
 -- the names of a tag are judged in the scope inside it
-module _ (scope here : List (List Decl)) (decls : List Decl) (text left : List ℕ) (t : Tag)
+module _ (scope here : List (List Decl)) (decls : List Decl) (text left : List ℕ) (t : StartTag)
     (read : read_tag text ≡ Ok (t, left)) (declared : decls ≡ decls_of t.said) (inner : here ≡ scope ++ decls ∷ []) where
-  abbrev judged : List (List Decl) → Result (Tag × List ℕ) (Stop Kind)
+  abbrev judged : List (List Decl) → Result (StartTag × List ℕ) (Stop Kind)
   judged z = judgement text (t, left) (counted_back t.size (first_of_tag z t))
 
   pub judged_is : read_judged (tag_fault scope) read_tag text ≡ judged here
   judged_is =
       let scopes : scope ++ decls_of t.said ∷ [] ≡ here = ap (λ (z : List Decl). scope ++ z ∷ []) (sym declared) ∙ sym inner in
-      ap (λ (r : Result (Tag × List ℕ) (Stop Kind)). r >>= λ x. judgement text x (tag_fault scope x.0)) read ∙ ap judged scopes
+      ap (λ (r : Result (StartTag × List ℕ) (Stop Kind)). r >>= λ x. judgement text x (tag_fault scope x.0)) read ∙ ap judged scopes
 
   pub misjudged : (s : CodeStop) → Fails s (judged here) → Fails s (read_judged (tag_fault scope) read_tag text)
   misjudged s h = subst (Fails s) (sym judged_is) h
 
-module _ (levels i depth : ℕ) (scope here : List (List Decl)) (decls : List Decl) (text left : List ℕ) (t : Tag) (level : levels ≡ i + 1)
+module _ (levels i depth : ℕ) (scope here : List (List Decl)) (decls : List Decl) (text left : List ℕ) (t : StartTag) (level : levels ≡ i + 1)
     (tagged : read_judged (tag_fault scope) read_tag text ≡ Ok (t, left)) (declared : decls ≡ decls_of t.said) (inner : here ≡ scope ++ decls ∷ []) where
   abbrev behind : Result (Content × List ℕ) (Stop Kind)
   behind = read_behind_tag (read_element i here (depth + 1)) t.name t.is_empty left
@@ -82,7 +82,7 @@ module _ (levels i depth : ℕ) (scope here : List (List Decl)) (decls : List De
       let inside : read_behind_tag (read_element i (scope ++ decls_of t.said ∷ []) (depth + 1)) t.name t.is_empty left ≡ out = ap (λ (z : List (List Decl)). read_behind_tag (read_element i z (depth + 1)) t.name t.is_empty left) (sym scopes) ∙ h in
       rw up (rw tagged (rw inside (by_out out)))
     where
-      by_out : (out : Result (Content × List ℕ) (Stop Kind)) → (out >>= λ y. let z : (Tag × Content) × List ℕ = ((t, y.0), y.1) in Ok z) >>= (λ x. let z : Tree × List ℕ = (element_of x.0, x.1) in Ok z) ≡ dressed_read t out
+      by_out : (out : Result (Content × List ℕ) (Stop Kind)) → (out >>= λ y. let z : (StartTag × Content) × List ℕ = ((t, y.0), y.1) in Ok z) >>= (λ x. let z : Tree × List ℕ = (element_of x.0, x.1) in Ok z) ≡ dressed_read t out
       by_out (Ok y) = refl
       by_out (Err e) = refl
 
@@ -109,7 +109,7 @@ tag_err levels i depth scope text (stops.Syntax rest) level h = tag_by levels i 
 tag_err levels i depth scope text (stops.Faulty kind rest) level h = tag_by levels i depth scope text (Faulty kind rest.now) level h
 
 untagged_by : (levels i depth : ℕ) (scope : List (List Decl)) (text : List ℕ) (s : Stop Kind) → levels ≡ i + 1 → read_tag text ≡ Err s → read_element levels scope depth text ≡ Err s
-untagged_by levels i depth scope text s level h = tag_by levels i depth scope text s level (ap (λ (r : Result (Tag × List ℕ) (Stop Kind)). r >>= λ x. judgement text x (tag_fault scope x.0)) h)
+untagged_by levels i depth scope text s level h = tag_by levels i depth scope text s level (ap (λ (r : Result (StartTag × List ℕ) (Stop Kind)). r >>= λ x. judgement text x (tag_fault scope x.0)) h)
 
 pub untagged : (levels i depth : ℕ) (scope : List (List Decl)) (text : List ℕ) (s : CodeStop) → levels ≡ i + 1 → Fails s (read_tag text) → Fails s (read_element levels scope depth text)
 untagged levels i depth scope text stops.Memory level h = tt

@@ -13,7 +13,7 @@ use Rattle.tree_text.specs.declared.kind.Kind.{Kind}
 use Rattle.tree_text.specs.declared.kind.Kind.TheVariants.{Encoded, Doctyped, Depth, Unbound, Repeated}
 use Rattle.tree_text.specs.declared.said.Said.{Said}
 use Rattle.tree_text.specs.Kinds.{is_fault, rank, faults}
-use Rattle.tree_text.specs.Pieces.{Tag, qname_of, written}
+use Rattle.tree_text.specs.Pieces.{StartTag, qname_of, written}
 use Rattle.tree_text.specs.Names.{is_misnamed, is_repeated, IsWrongSaid, widths, IsWrong, inside_tag as inside, opening_size as opening, is_unbound_in as is_unbound}
 use Rattle.tree_text.specs.readers.Judging.{wrong_said, or_later, first_wrong, first_of_tag, counted_back, tag_fault}
 use Rattle.tree_text.specs.Grammar.{name, qname, spaces, said, tag_end, tag}
@@ -101,12 +101,12 @@ inside_fits v x m =
     }
 
 -- a whole tag has its size, and its names stand in it
-pub record Sizes (u : List ℕ) (t : Tag) : Type 0 where
+pub record Sizes (u : List ℕ) (t : StartTag) : Type 0 where
   pub is_size : t.size ≡ length u
   pub room : opening t + widths t.said + 1 ≤ length u
   pub some : AllSome t.said
 
-pub tag_sizes : (u : List ℕ) (t : Tag) → tag.Spells u t → Sizes u t
+pub tag_sizes : (u : List ℕ) (t : StartTag) → tag.Spells u t → Sizes u t
 tag_sizes u t m =
     let h = m.1.0 in
     let f : Fits h.1.back m.0.0 = subst (Fits h.1.back) (sym h.2) (inside_fits h.1.back h.0.1 h.1.back_is) in
@@ -220,7 +220,7 @@ module _ (here : List (List Decl)) where
 -- # Tags
 
 -- the element's own name, or one of the others
-abbrev WrongIn : List (List Decl) → Tag → Kind → ℕ → Type 0
+abbrev WrongIn : List (List Decl) → StartTag → Kind → ℕ → Type 0
 WrongIn here t k p = ((is_unbound here t.name ≡ true) × (k ≡ Unbound) × (p ≡ 1)) ⊎ Wrong here [] (opening t) t.said k p
 
 no_less : (p : ℕ) (Q : Type 0) → 1 ≤ p → Q → (1 < p) ⊎ ((p ≡ 1) × Q)
@@ -228,14 +228,14 @@ no_less zero Q h q = absurd (omega (arith, h))
 no_less (suc zero) Q h q = inr (refl, q)
 no_less (suc (suc p)) Q h q = inl (omega arith)
 
-name_first : (here : List (List Decl)) (t : Tag) → is_unbound here t.name ≡ true → Judged (WrongIn here t) (Some (Unbound, 1))
+name_first : (here : List (List Decl)) (t : StartTag) → is_unbound here t.name ≡ true → Judged (WrongIn here t) (Some (Unbound, 1))
 name_first here t e = (inl (e, refl, refl), first)
   where
     first : (k : Kind) (p : ℕ) → WrongIn here t k p → (1 < p) ⊎ ((p ≡ 1) × (rank Unbound ≤ rank k))
     first k p (inl m) = inr (m.2, omega (arith, ap rank m.1))
     first k p (inr m) = no_less p (rank Unbound ≤ rank k) (omega (arith, m.place_is)) (unbound_least here m.front m.said k m.wrong)
 
-name_right : (here : List (List Decl)) (t : Tag) (o : Option (Kind × ℕ)) → is_unbound here t.name ≡ false → Judged (Wrong here [] (opening t) t.said) o → Judged (WrongIn here t) o
+name_right : (here : List (List Decl)) (t : StartTag) (o : Option (Kind × ℕ)) → is_unbound here t.name ≡ false → Judged (Wrong here [] (opening t) t.said) o → Judged (WrongIn here t) o
 name_right here t None e h = none
   where
     none : (k : Kind) (p : ℕ) → WrongIn here t k p → ⊥
@@ -247,11 +247,11 @@ name_right here t (Some x) e h = (inr h.0, first)
     first k p (inl m) = let u = m.0 in absurd cc
     first k p (inr m) = h.1 k p m
 
-name_by : (here : List (List Decl)) (t : Tag) (b : Bool) (o : Option (Kind × ℕ)) → is_unbound here t.name ≡ b → Judged (Wrong here [] (opening t) t.said) o → Judged (WrongIn here t) (cond b (Some (Unbound, 1)) o)
+name_by : (here : List (List Decl)) (t : StartTag) (b : Bool) (o : Option (Kind × ℕ)) → is_unbound here t.name ≡ b → Judged (Wrong here [] (opening t) t.said) o → Judged (WrongIn here t) (cond b (Some (Unbound, 1)) o)
 name_by here t true o e h = name_first here t e
 name_by here t false o e h = name_right here t o e h
 
-tag_judged : (here : List (List Decl)) (t : Tag) → AllSome t.said → Judged (WrongIn here t) (first_of_tag here t)
+tag_judged : (here : List (List Decl)) (t : StartTag) → AllSome t.said → Judged (WrongIn here t) (first_of_tag here t)
 tag_judged here t some = name_by here t (is_unbound here t.name) (first_wrong here [] (opening t) t.said) refl (judged here t.said [] (opening t) some)
 
 -- # Counted from the end of the tag
@@ -277,17 +277,17 @@ counted_some n (Some y) x e = (y, refl, some_is e)
 
 module _ (scope : List (List Decl)) where
   -- from its front
-  from_front : (t : Tag) (k : Kind) (b : ℕ) → IsWrong scope t k b → (p : ℕ) × WrongIn (inside scope t) t k p × (b + p ≡ t.size)
+  from_front : (t : StartTag) (k : Kind) (b : ℕ) → IsWrong scope t k b → (p : ℕ) × WrongIn (inside scope t) t k p × (b + p ≡ t.size)
   from_front t k b (inl w) = (1, inl (w.wrong, w.kind_is, refl), w.place)
   from_front t k b (inr w) = (opening t + widths w.earlier + w.said.gap, inr (record { front = w.earlier; said = w.said; back = w.later; among = w.among; wrong = w.wrong; place_is = refl }), w.place)
 
-  place_fits : (u : List ℕ) (t : Tag) (k : Kind) (p : ℕ) → Sizes u t → WrongIn (inside scope t) t k p → p + 1 ≤ t.size
+  place_fits : (u : List ℕ) (t : StartTag) (k : Kind) (p : ℕ) → Sizes u t → WrongIn (inside scope t) t k p → p + 1 ≤ t.size
   place_fits u t k p z (inl m) = omega (arith, z.is_size, z.room, m.2)
   place_fits u t k p z (inr m) =
       let w : widths t.said ≡ widths (m.front ++ m.said ∷ m.back) = ap widths m.among in
       omega (arith, z.is_size, z.room, m.place_is, w, widths_parts m.front m.said m.back)
 
-  from_end : (u : List ℕ) (t : Tag) (k : Kind) (p : ℕ) → Sizes u t → WrongIn (inside scope t) t k p → IsWrong scope t k (t.size - p)
+  from_end : (u : List ℕ) (t : StartTag) (k : Kind) (p : ℕ) → Sizes u t → WrongIn (inside scope t) t k p → IsWrong scope t k (t.size - p)
   from_end u t k p z (inl m) =
       let f = place_fits u t k p z (inl m) in
       inl (record { wrong = m.0; kind_is = m.1; place = omega (arith, f, m.2) })
@@ -302,28 +302,28 @@ said_fault limit here earlier s Encoded m = absurd m
 said_fault limit here earlier s Doctyped m = absurd m
 said_fault limit here earlier s (Depth d) m = absurd m
 
-pub is_wrong_fault : (limit : ℕ) (scope : List (List Decl)) (t : Tag) (k : Kind) (b : ℕ) → IsWrong scope t k b → is_fault limit k ≡ true
+pub is_wrong_fault : (limit : ℕ) (scope : List (List Decl)) (t : StartTag) (k : Kind) (b : ℕ) → IsWrong scope t k b → is_fault limit k ≡ true
 is_wrong_fault limit scope t k b (inl w) = ap (is_fault limit) w.kind_is
 is_wrong_fault limit scope t k b (inr w) = said_fault limit (inside scope t) w.earlier w.said k w.wrong
 
 module _ (limit : ℕ) (scope : List (List Decl)) where
-  judged_at : (u : List ℕ) (t : Tag) → tag.Spells u t → (o : Option (Kind × ℕ)) → first_of_tag (inside scope t) t ≡ o → Judged (WrongIn (inside scope t) t) o
+  judged_at : (u : List ℕ) (t : StartTag) → tag.Spells u t → (o : Option (Kind × ℕ)) → first_of_tag (inside scope t) t ≡ o → Judged (WrongIn (inside scope t) t) o
   judged_at u t s o e = subst (Judged (WrongIn (inside scope t) t)) e (tag_judged (inside scope t) t (tag_sizes u t s).some)
 
-  tag_within : (u : List ℕ) (t : Tag) (k : Kind) (b : ℕ) → tag.Spells u t → IsWrong scope t k b → (0 < b) × (b ≤ length u)
+  tag_within : (u : List ℕ) (t : StartTag) (k : Kind) (b : ℕ) → tag.Spells u t → IsWrong scope t k b → (0 < b) × (b ≤ length u)
   tag_within u t k b s m =
       let z = tag_sizes u t s in
       let f = from_front scope t k b m in
       let g = place_fits scope u t k f.0 z f.1 in
       (omega (arith, f.2, g), omega (arith, f.2, z.is_size))
 
-  tag_says : (u : List ℕ) (t : Tag) → tag.Spells u t → (x : Kind × ℕ) → tag_fault scope t ≡ Some x → IsWrong scope t x.0 x.1
+  tag_says : (u : List ℕ) (t : StartTag) → tag.Spells u t → (x : Kind × ℕ) → tag_fault scope t ≡ Some x → IsWrong scope t x.0 x.1
   tag_says u t s x e =
       let c = counted_some t.size (first_of_tag (inside scope t) t) x e in
       let j = judged_at u t s (Some c.0) c.1 in
       subst (λ (z : Kind × ℕ). IsWrong scope t z.0 z.1) c.2 (from_end scope u t c.0.0 c.0.1 (tag_sizes u t s) j.0)
 
-  tag_first : (u : List ℕ) (t : Tag) → tag.Spells u t → (x : Kind × ℕ) → tag_fault scope t ≡ Some x → (k : Kind) (b : ℕ) → IsWrong scope t k b → (b < x.1) ⊎ ((b ≡ x.1) × (rank x.0 ≤ rank k))
+  tag_first : (u : List ℕ) (t : StartTag) → tag.Spells u t → (x : Kind × ℕ) → tag_fault scope t ≡ Some x → (k : Kind) (b : ℕ) → IsWrong scope t k b → (b < x.1) ⊎ ((b ≡ x.1) × (rank x.0 ≤ rank k))
   tag_first u t s x e k b m =
       let c = counted_some t.size (first_of_tag (inside scope t) t) x e in
       let j = judged_at u t s (Some c.0) c.1 in

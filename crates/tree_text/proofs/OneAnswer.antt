@@ -13,16 +13,16 @@ use Rattle.tree_text.specs.declared.kind.Kind.{Kind}
 use Rattle.tree_text.specs.declared.kind.Kind.TheVariants.{Encoded, Doctyped, Depth, Unbound, Repeated}
 use Rattle.tree_text.specs.Kinds.{faults, rank}
 use Rattle.tree_text.specs.Grammar.{document, spelling}
-use Rattle.tree_text.specs.Faults.{place, fault_of, TextAnswer, spelling_of, body_told, BodyAnswer, text_told as told}
+use Rattle.tree_text.specs.Faults.{byte_at, fault_of, TextAnswer, spelling_of, body_told, BodyAnswer, text_told as told}
 
 -- the fault of a rank
 by_rank : List ℕ → List ℕ → ℕ → TextFault
 by_rank bytes left n =
-    if n == 0 then texts.TooDeep (place bytes left)
-    else if n == 1 then texts.Namespace (place bytes left)
-    else if n == 2 then texts.RepeatedAttribute (place bytes left)
+    if n == 0 then texts.TooDeep (byte_at bytes left)
+    else if n == 1 then texts.Namespace (byte_at bytes left)
+    else if n == 2 then texts.RepeatedAttribute (byte_at bytes left)
     else if n == 3 then texts.NotUtf8
-    else texts.Doctype (place bytes left)
+    else texts.Doctype (byte_at bytes left)
 
 ranked : (bytes left : List ℕ) (kind : Kind) → fault_of bytes (Faulty kind left) ≡ by_rank bytes left (rank kind)
 unfolding by_rank

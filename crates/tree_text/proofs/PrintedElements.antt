@@ -13,7 +13,7 @@ use Rattle.xml_tree.specs.declared.names.Attr.{Attr}
 use Rattle.tree_text.specs.readers.Words.{end_start, greater}
 use Rattle.tree_text.specs.declared.kind.Kind.{Kind}
 use Rattle.tree_text.specs.Names.{decls_of, attrs_of, element_of, inside_tag as inside}
-use Rattle.tree_text.specs.Pieces.{Tag, written, written_by}
+use Rattle.tree_text.specs.Pieces.{StartTag, written, written_by}
 use Rattle.tree_text.specs.readers.Texts.{read_end_tag, read_behind_tag, read_element}
 use Rattle.tree_text.proofs.ReadFronts.{Reads, reads_sequence, reads_valued, reads_before, reads_behind, reads_word, reads_none}
 use Rattle.tree_text.proofs.PrintedNames.{printed_head}
@@ -62,7 +62,7 @@ module _ (levels depth : ℕ) (scope : List (List Decl)) (n : Name) (ds : List D
       let t = tag_read scope n ds ats empty (behind empty rest) unbound tag in
       let said = (tag_from n ds ats empty t.size).said in
       let after = subst (λ (z : List Decl). Reads (read_behind_tag (inner z) n empty) (behind empty rest) k rest) (sym t.decls) (behind_read empty rest e) in
-      let whole = reads_valued element_of (reads_sequence (λ (x : Tag). read_behind_tag (read_element levels (inside scope x) (depth + 1)) x.name x.is_empty) t.read after) in
+      let whole = reads_valued element_of (reads_sequence (λ (x : StartTag). read_behind_tag (read_element levels (inside scope x) (depth + 1)) x.name x.is_empty) t.read after) in
       let same : tree_of n (decls_of said) (attrs_of said) k ≡ tree_of n ds ats k = ap (λ (z : List Decl). tree_of n z (attrs_of said) k) t.decls ∙ ap (λ (z : List Attr). tree_of n ds z k) t.attrs in
       subst (λ (z : Tree). Reads (read_element (suc levels) scope depth) (opening n ds ats ++ (tag_mark empty ++ behind empty rest)) z rest) same whole
 

@@ -22,7 +22,7 @@ use Rattle.tree_text.specs.declared.said.Said.{Said}
 use Rattle.tree_text.specs.Names.{decls_of, attrs_of, is_misnamed, says_again, is_repeated, said_decl as decl_of, is_declaring as declares, is_unbound_in as is_unbound}
 use Rattle.tree_text.specs.readers.Judging.{wrong_said, first_wrong, first_of_tag, counted_back, tag_fault}
 use Rattle.tree_text.specs.Names as names
-use Rattle.tree_text.specs.Pieces.{Tag, tag_of}
+use Rattle.tree_text.specs.Pieces.{StartTag, tag_of}
 use Rattle.tree_text.specs.readers.Texts.{read_spaces, read_said, said_follows, read_tag_end, read_tag}
 use Rattle.tree_text.proofs.ReadFronts.{Reads, reads_sequence, reads_valued, reads_before, reads_behind, reads_judged, sized_by, reads_word, reads_none, reads_many}
 use Rattle.tree_text.proofs.PrintedValues.{not_true}
@@ -207,7 +207,7 @@ module _ (here : List (List Decl)) where
 -- ---- the tag as it is read
 
 -- the tag of these, of so many characters
-abbrev pub tag_from : Name → List Decl → List Attr → Bool → ℕ → Tag
+abbrev pub tag_from : Name → List Decl → List Attr → Bool → ℕ → StartTag
 tag_from n ds ats empty size = record { name = n; said = said_all ds ats; is_empty = empty; size = size }
 
 -- `/>` or `>`
@@ -254,7 +254,7 @@ no_space : (empty : Bool) (rest : List ℕ) → Reads read_spaces (tag_mark empt
 no_space true rest = reads_none is_space (47 ∷ 62 ∷ rest) refl
 no_space false rest = reads_none is_space (62 ∷ rest) refl
 
-abbrev pub read_judged_tag : List (List Decl) → Reader Kind Tag
+abbrev pub read_judged_tag : List (List Decl) → Reader Kind StartTag
 read_judged_tag scope = read_judged (tag_fault scope) read_tag
 
 abbrev tag_text : Name → List Decl → List Attr → Bool → List ℕ → List ℕ

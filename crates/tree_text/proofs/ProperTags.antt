@@ -16,7 +16,7 @@ use Rattle.tree_text.specs.readers.Words.{colon, small_x}
 use Rattle.tree_text.specs.declared.kind.Kind.{Kind}
 use Rattle.tree_text.specs.declared.kind.Kind.TheVariants.{Unbound, Repeated}
 use Rattle.tree_text.specs.declared.said.Said.{Said}
-use Rattle.tree_text.specs.Pieces.{Tag, qname_of, line_ends, blanks, raw, more_value}
+use Rattle.tree_text.specs.Pieces.{StartTag, qname_of, line_ends, blanks, raw, more_value}
 use Rattle.tree_text.specs.Names.{attr_of, decls_of, attrs_of, is_misnamed, says_again, is_repeated, widths, IsWrong, inside_tag as inside, opening_size as opening, said_decl as decl_of, is_declaring as declares, is_unbound_in as is_unbound}
 use Rattle.tree_text.specs.Grammar.{last_char, name, qname, reference, numbered, entity, is_raw, is_raw_in, value, said, tag}
 use Rattle.tree_text.proofs.JudgeTags.{widths_parts, tag_sizes}
@@ -286,20 +286,20 @@ record IsSpelledWell (x : Name × (List Said × Bool)) : Type 0 where
   named : IsQName x.0
   said : AllSaid x.1.0
 
-tag_parts : (u : List ℕ) (t : Tag) → tag.Spells u t → IsQName t.name × AllSaid t.said
+tag_parts : (u : List ℕ) (t : StartTag) → tag.Spells u t → IsQName t.name × AllSaid t.said
 tag_parts u t m =
     let h = m.1.0 in
     let s = h.1.back_is in
     let b = s.back_is.front_is in
     let inside : IsSpelledWell h.0.1 = record { named = qname_proper s.front h.0.1.0 s.front_is; said = subst AllSaid (sym b.2) (each_proper b.0.0 b.1.front b.1.front_is) } in
     let whole : IsSpelledWell m.0.0 = subst IsSpelledWell (sym h.2) inside in
-    subst (λ (z : Tag). IsQName z.name × AllSaid z.said) (sym m.2) (whole.named, whole.said)
+    subst (λ (z : StartTag). IsQName z.name × AllSaid z.said) (sym m.2) (whole.named, whole.said)
 
 -- nothing is said of a tag
-abbrev Silent : List (List Decl) → Tag → Type 0
+abbrev Silent : List (List Decl) → StartTag → Type 0
 Silent scope t = (k : Kind) (b : ℕ) → IsWrong scope t k b → ⊥
 
-module _ (scope : List (List Decl)) (t : Tag) (fits : opening t + widths t.said ≤ t.size) (silent : Silent scope t) where
+module _ (scope : List (List Decl)) (t : StartTag) (fits : opening t + widths t.said ≤ t.size) (silent : Silent scope t) where
   right_from : (ss earlier : List Said) → t.said ≡ earlier ++ ss → AllRight (inside scope t) earlier ss
   right_from [] earlier j = tt
   right_from (s ∷ ss) earlier j =
@@ -325,7 +325,7 @@ module _ (scope : List (List Decl)) (t : Tag) (fits : opening t + widths t.said 
       }
 
 -- A tag of which nothing is said is proper.
-pub tag_proper : (scope : List (List Decl)) (u : List ℕ) (t : Tag) → tag.Spells u t → Silent scope t → IsTag (inside scope t) t.name (decls_of t.said) (attrs_of t.said)
+pub tag_proper : (scope : List (List Decl)) (u : List ℕ) (t : StartTag) → tag.Spells u t → Silent scope t → IsTag (inside scope t) t.name (decls_of t.said) (attrs_of t.said)
 tag_proper scope u t m silent =
     let z = tag_sizes u t m in
     let p = tag_parts u t m in

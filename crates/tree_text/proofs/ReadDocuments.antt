@@ -29,7 +29,7 @@ use Rattle.tree_text.specs.readers.Words.{instruction_start, instruction_end, de
 use Rattle.tree_text.specs.declared.kind.Kind.{Kind}
 use Rattle.tree_text.specs.declared.kind.Kind.TheVariants.{Encoded, Doctyped}
 use Rattle.tree_text.specs.Kinds.{is_fault, rank, faults}
-use Rattle.tree_text.specs.Grammar.{spaces, is_quote, comment, is_target, instructed, instruction, dropped, element, version_number, is_encoding_char, encoding_name, yes_or_no, declared, xml_declaration, is_our_encoding, IsForeign, misc, prolog, epilog, document}
+use Rattle.tree_text.specs.Grammar.{spaces, is_quote, comment, is_target, instructed, instruction, dropped, element, version_number, is_encoding_char, encoding_name, yes_or_no, pseudo_attribute, xml_declaration, is_our_encoding, IsForeign, misc, prolog, epilog, document}
 use Rattle.tree_text.specs.readers.Texts.{read_spaces, read_dropped, read_element, read_version_number, read_encoding_name, read_yes_or_no, read_declared, read_xml_declaration, encoding_fault, declaration_follows, read_misc, misc_follows, read_prolog_misc, read_prolog, less_follows, read_epilog, read_text}
 use Rattle.tree_text.proofs.ReadParts.{NoSpace, quote_no_space, exact_spaces, exact_equals, lawful_equals, quiet_equals, same, apart}
 use Rattle.tree_text.proofs.ReadTexts.{closed_comment, lawful_comment, led_comment, led_bang_comment, closed_instruction, lawful_instruction, led_instruction}
@@ -90,16 +90,16 @@ foreign_said a k b none m = by_ours (is_our_encoding m.0) m.2 (ap encoding_fault
 
 module _ (faults : Faults Kind) where
   module _ {A : Type 0} (c : ℕ) (cs : List ℕ) (no_space : is_space c ≡ false) (r : Rule Kind A) where
-    lawful_declared : Lawful r → Lawful (declared (c ∷ cs) r)
+    lawful_declared : Lawful r → Lawful (pseudo_attribute (c ∷ cs) r)
     lawful_declared h = lawful_behind lawful_some_of (lawful_behind (lawful_word (c ∷ cs)) (lawful_behind (lawful_equals faults) (lawful_quoted (λ _. h))))
 
-    quiet_declared : Quiet r → Quiet (declared (c ∷ cs) r)
+    quiet_declared : Quiet r → Quiet (pseudo_attribute (c ∷ cs) r)
     quiet_declared h = quiet_behind quiet_some_of (quiet_behind (quiet_word (c ∷ cs)) (quiet_behind (quiet_equals faults) (quiet_quoted (λ _. h))))
 
-    leads_declared : Leads is_space (λ d. d ≡ c) (declared (c ∷ cs) r)
+    leads_declared : Leads is_space (λ d. d ≡ c) (pseudo_attribute (c ∷ cs) r)
     leads_declared = leads_behind is_space (letter_no_space c no_space) (blank_some_of is_space) (starts_behind _ (starts_word refl))
 
-    closed_declared : (p : Reader Kind A) → ((q : ℕ) → is_quote q ≡ true → Exact faults r (λ _. ahead (word (q ∷ [])) (λ _. anything)) p) → Exact faults (declared (c ∷ cs) r) (λ _. anything) (read_declared (c ∷ cs) p)
+    closed_declared : (p : Reader Kind A) → ((q : ℕ) → is_quote q ≡ true → Exact faults r (λ _. ahead (word (q ∷ [])) (λ _. anything)) p) → Exact faults (pseudo_attribute (c ∷ cs) r) (λ _. anything) (read_declared (c ∷ cs) p)
     closed_declared p h = exact_behind (exact_some_of (λ _. heads_starts (starts_behind _ (starts_word no_space))))
         (exact_behind exact_word (exact_behind (exact_equals faults (heads_starts (starts_quoted (λ _. r) quote_no_space))) (exact_quoted h)))
 
@@ -116,10 +116,10 @@ module _ (faults : Faults Kind) where
   Ended = keeping_second spaces (word instruction_end)
 
   abbrev Alone : Rule Kind (Option (Unit {0}))
-  Alone = optional (declared standalone yes_or_no)
+  Alone = optional (pseudo_attribute standalone yes_or_no)
 
   abbrev Encoding : Rule Kind (Option (List ℕ))
-  Encoding = optional (declared encoding encoding_name)
+  Encoding = optional (pseudo_attribute encoding encoding_name)
 
   -- no white space, and neither of these letters
   abbrev NoLetter : ℕ → ℕ → Type 0

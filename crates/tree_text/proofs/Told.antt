@@ -11,7 +11,7 @@ use Rattle.tree_text.specs.declared.fault.TextFault.{TextFault}
 use Rattle.tree_text.specs.declared.fault.TextFault.TheVariants as texts
 use Rattle.tree_text.specs.declared.stop.Stop.{Stop as CodeStop}
 use Rattle.tree_text.specs.declared.stop.Stop.TheVariants as stops
-use Rattle.tree_text.specs.Faults.{body_told, body_place, place, in_quotes, spelling_of, text_told as told, closing_len as closing}
+use Rattle.tree_text.specs.Faults.{body_told, body_place, byte_at, in_quotes, spelling_of, text_told as told, closing_len as closing}
 use Rattle.tree_text.specs.declared.fault.ValueFault.{ValueFault}
 use Rattle.tree_text.specs.declared.fault.ValueFault.TheVariants as bodies
 use Rattle.xml_tree.specs.declared.read_error.ReadError.{ReadError}
@@ -65,13 +65,13 @@ module _ (bytes text all part : List ℕ) (behind : ℕ) (same : text ≡ bytes)
   pub body_ok_told : (value : List ℕ) → read_whole read_spelling part ≡ Ok value → (let answer : Result (List ℕ) ValueFault = Ok value in answer ≡ body_read bytes)
   body_ok_told value h = sym (body_is_read (Ok value) h)
 
-  at_place : (left : List ℕ) → place bytes left - behind ≡ body_place (chars bytes) bytes left
-  at_place left = ap (λ (z : ℕ). place bytes left - z) (rest ∙ ap (λ (z : List ℕ). closing (in_quotes z)) body_is)
+  at_place : (left : List ℕ) → byte_at bytes left - behind ≡ body_place (chars bytes) bytes left
+  at_place left = ap (λ (z : ℕ). byte_at bytes left - z) (rest ∙ ap (λ (z : List ℕ). closing (in_quotes z)) body_is)
 
   abbrev BodyTells : ReadError ValueFault → Type 0
   BodyTells error = let answer : Result (List ℕ) (ReadError ValueFault) = Err error in Answered (λ answer. answer ≡ body_read bytes) answer
 
-  no_value : (left : List ℕ) (error : ReadError ValueFault) → error ≡ errors.Fault (bodies.NotValue (place bytes left - behind)) → error ≡ errors.Fault (bodies.NotValue (body_place (chars bytes) bytes left))
+  no_value : (left : List ℕ) (error : ReadError ValueFault) → error ≡ errors.Fault (bodies.NotValue (byte_at bytes left - behind)) → error ≡ errors.Fault (bodies.NotValue (body_place (chars bytes) bytes left))
   no_value left error f = f ∙ ap (λ (n : ℕ). let z : ReadError ValueFault = errors.Fault (bodies.NotValue n) in z) (at_place left)
 
   pub body_fault_told : (stop : CodeStop) (error : ReadError ValueFault) → Fails stop (read_whole read_spelling part) → BodyFaultOf bytes behind stop error → BodyTells error

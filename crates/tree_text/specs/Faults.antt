@@ -15,19 +15,19 @@ use Rattle.tree_text.specs.Kinds.{faults}
 use Rattle.tree_text.specs.Grammar.{is_quote, document, spelling}
 
 -- the byte at which this rest of the text begins
-abbrev pub place : List ℕ → List ℕ → ℕ
-place bytes left = length bytes - length (encode_utf8_all left)
+abbrev pub byte_at : List ℕ → List ℕ → ℕ
+byte_at bytes left = length bytes - length (encode_utf8_all left)
 
 -- ---- documents and fragments
 
 -- the fault that each stop is: behind the longest beginning, or at the place of the first fault
 abbrev pub fault_of : List ℕ → Stop Kind → TextFault
-fault_of bytes (Syntax left) = texts.NotWellFormed (place bytes left)
+fault_of bytes (Syntax left) = texts.NotWellFormed (byte_at bytes left)
 fault_of bytes (Faulty Encoded left) = texts.NotUtf8
-fault_of bytes (Faulty Doctyped left) = texts.Doctype (place bytes left)
-fault_of bytes (Faulty (Depth depth) left) = texts.TooDeep (place bytes left)
-fault_of bytes (Faulty Unbound left) = texts.Namespace (place bytes left)
-fault_of bytes (Faulty Repeated left) = texts.RepeatedAttribute (place bytes left)
+fault_of bytes (Faulty Doctyped left) = texts.Doctype (byte_at bytes left)
+fault_of bytes (Faulty (Depth depth) left) = texts.TooDeep (byte_at bytes left)
+fault_of bytes (Faulty Unbound left) = texts.Namespace (byte_at bytes left)
+fault_of bytes (Faulty Repeated left) = texts.RepeatedAttribute (byte_at bytes left)
 
 -- the tree, or the fault
 abbrev pub text_told : List ℕ → Result Tree (Stop Kind) → Result Tree TextFault
@@ -72,7 +72,7 @@ closing_len (Some inside) = 1
 
 -- the byte of a body at which this rest of its spelling begins
 abbrev pub body_place : List ℕ → List ℕ → List ℕ → ℕ
-body_place body bytes left = place bytes left - closing_len (in_quotes body)
+body_place body bytes left = byte_at bytes left - closing_len (in_quotes body)
 
 -- the value, or the fault
 abbrev pub body_told : List ℕ → List ℕ → Result (List ℕ) (Stop Kind) → Result (List ℕ) ValueFault

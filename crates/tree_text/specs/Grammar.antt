@@ -12,7 +12,7 @@ use Rattle.grammar_rules.specs.Rules.{Rule, never, empty, one, word, run, run_wi
 use Rattle.tree_text.specs.declared.kind.Kind.{Kind}
 use Rattle.tree_text.specs.declared.kind.Kind.TheVariants.{Encoded, Doctyped, Depth}
 use Rattle.tree_text.specs.declared.said.Said.{Said}
-use Rattle.tree_text.specs.Pieces.{Markup, Reference, Section, Comment, Instruction, Inner, line_ends, qname_of, written, said_of, Tag, tag_of, same_letters, with_pieces, value_spelled}
+use Rattle.tree_text.specs.Pieces.{Markup, Reference, Section, Comment, Instruction, Inner, line_ends, qname_of, written, said_of, StartTag, tag_of, same_letters, with_pieces, value_spelled}
 use Rattle.tree_text.specs.Names.{IsWrong, element_of, inside_tag}
 
 -- ---- names and white space
@@ -88,7 +88,7 @@ abbrev pub tag_end : Rule Kind Bool
 tag_end = either (valued (λ _. true) (word (codes "/>"))) (valued (λ _. false) (word (codes ">")))
 
 -- [40] STag and [44] EmptyElemTag: `<`, a name, attributes each after S, S?, and `>` or `/>`
-abbrev pub tag : Rule Kind Tag
+abbrev pub tag : Rule Kind StartTag
 tag = valued tag_of (sized (keeping_second (word (codes "<")) (sequence qname (λ _. sequence (keeping_first (many said) spaces) (λ _. tag_end)))))
 
 -- [42] ETag: `</`, the name of the start tag, S?, `>`
@@ -170,14 +170,14 @@ abbrev pub yes_or_no : Rule Kind (Unit {0})
 yes_or_no = either (word (codes "yes")) (word (codes "no"))
 
 -- S, a word, Eq and something in quotes
-abbrev pub declared : {A : Type 0} → List ℕ → Rule Kind A → Rule Kind A
-declared w r = keeping_second some_spaces (keeping_second (word w) (keeping_second equals (quoted is_quote (λ _. r))))
+abbrev pub pseudo_attribute : {A : Type 0} → List ℕ → Rule Kind A → Rule Kind A
+pseudo_attribute w r = keeping_second some_spaces (keeping_second (word w) (keeping_second equals (quoted is_quote (λ _. r))))
 
 -- [23] XMLDecl: `<?xml`, the version, perhaps the encoding, perhaps whether it stands alone, S?, `?>`. Its value is the encoding.
 abbrev pub xml_declaration : Rule Kind (Option (List ℕ))
 xml_declaration =
-    keeping_second (word (codes "<?xml")) (keeping_second (declared (codes "version") version_number) (keeping_first (optional (declared (codes "encoding") encoding_name))
-    (keeping_second (optional (declared (codes "standalone") yes_or_no)) (keeping_second spaces (word (codes "?>"))))))
+    keeping_second (word (codes "<?xml")) (keeping_second (pseudo_attribute (codes "version") version_number) (keeping_first (optional (pseudo_attribute (codes "encoding") encoding_name))
+    (keeping_second (optional (pseudo_attribute (codes "standalone") yes_or_no)) (keeping_second spaces (word (codes "?>"))))))
 
 -- an encoding that is read, without regard to ASCII case
 abbrev pub is_our_encoding : List ℕ → Bool

@@ -12,7 +12,7 @@ use Rattle.xml_tree.specs.declared.names.Attr.{Attr}
 use Rattle.tree_text.specs.declared.kind.Kind.{Kind}
 use Rattle.tree_text.specs.declared.kind.Kind.TheVariants.{Encoded, Doctyped, Depth, Unbound, Repeated}
 use Rattle.tree_text.specs.declared.said.Said.{Said}
-use Rattle.tree_text.specs.Pieces.{Tag, written}
+use Rattle.tree_text.specs.Pieces.{StartTag, written}
 
 -- ---- declarations and attributes
 
@@ -37,11 +37,11 @@ attrs_of [] = []
 attrs_of (s ∷ ss) = if is_declaring s.name then attrs_of ss else (attr_of s ∷ attrs_of ss)
 
 -- the scope inside a tag
-abbrev pub inside_tag : List (List Decl) → Tag → List (List Decl)
+abbrev pub inside_tag : List (List Decl) → StartTag → List (List Decl)
 inside_tag scope t = scope ++ decls_of t.said ∷ []
 
 -- the element of a tag and of what stands behind it
-abbrev pub element_of : Tag × Content → Tree
+abbrev pub element_of : StartTag × Content → Tree
 element_of x = tree_of x.0.name (decls_of x.0.said) (attrs_of x.0.said) x.1
 
 -- ---- what is wrong with a name, in the scope inside its tag
@@ -81,17 +81,17 @@ widths [] = 0
 widths (s ∷ ss) = s.gap + s.size + widths ss
 
 -- how many characters of a tag stand before its attributes: `<` and the name
-abbrev pub opening_size : Tag → ℕ
+abbrev pub opening_size : StartTag → ℕ
 opening_size t = suc (length (written t.name))
 
 -- the element's own name is wrong, so many characters before the end of the tag
-pub record IsWrongName (scope : List (List Decl)) (t : Tag) (kind : Kind) (back : ℕ) : Type 0 where
+pub record IsWrongName (scope : List (List Decl)) (t : StartTag) (kind : Kind) (back : ℕ) : Type 0 where
   pub wrong : is_unbound_in (inside_tag scope t) t.name ≡ true
   pub kind_is : kind ≡ Unbound
   pub place : back + 1 ≡ t.size
 
 -- one of the tag's attributes and declarations is wrong, its name standing so many characters before the end of the tag
-pub record HasWrongSaid (scope : List (List Decl)) (t : Tag) (kind : Kind) (back : ℕ) : Type 0 where
+pub record HasWrongSaid (scope : List (List Decl)) (t : StartTag) (kind : Kind) (back : ℕ) : Type 0 where
   pub earlier : List Said
   pub said : Said
   pub later : List Said
@@ -100,5 +100,5 @@ pub record HasWrongSaid (scope : List (List Decl)) (t : Tag) (kind : Kind) (back
   pub place : back + (opening_size t + widths earlier + said.gap) ≡ t.size
 
 -- A whole tag says of each name in it that is wrong what is wrong with it, at the name.
-abbrev pub IsWrong : List (List Decl) → Tag → Kind → ℕ → Type 0
+abbrev pub IsWrong : List (List Decl) → StartTag → Kind → ℕ → Type 0
 IsWrong scope t kind back = IsWrongName scope t kind back ⊎ HasWrongSaid scope t kind back

@@ -58,13 +58,13 @@ abbrev pub said_of : List ℕ × ((Name × List ℕ) × ℕ) → Said
 said_of x = record { name = x.1.0.0; value = x.1.0.1; gap = length x.0; size = x.1.1 }
 
 -- a start tag, or the tag of an empty element
-pub record Tag : Type 0 where
+pub record StartTag : Type 0 where
   pub name : Name
   pub said : List Said
   pub is_empty : Bool
   pub size : ℕ  -- how many characters it has
 
-abbrev pub tag_of : (Name × (List Said × Bool)) × ℕ → Tag
+abbrev pub tag_of : (Name × (List Said × Bool)) × ℕ → StartTag
 tag_of x = record { name = x.0.0; said = x.0.1.0; is_empty = x.0.1.1; size = x.1 }
 
 -- whether two words are one without regard to ASCII case, the second being in small letters

@@ -1,6 +1,6 @@
 //! Places in texts.
 ghost use Rattle.std.specs.Prelude.{◌≡◌, ◌-◌, length, drop};
-ghost use Rattle.tree_text.specs.Faults.{place};
+ghost use Rattle.tree_text.specs.Faults.{byte_at};
 
 /// The place so many characters before this rest of a text.
 pub fn before<'a>(text: &'a [char], rest: &[char], back: usize) -> &'a [char]
@@ -11,7 +11,7 @@ pub fn before<'a>(text: &'a [char], rest: &[char], back: usize) -> &'a [char]
 
 /// The byte of a text at which this rest of it begins.
 pub fn place(bytes: &[u8], rest: &[char]) -> usize
-    ensures place_of_the_rest { result ≡ place bytes.now rest.now }
+    ensures place_of_the_rest { result ≡ byte_at bytes.now rest.now }
 {
     let mut at = bytes.len();
     for &c in rest {

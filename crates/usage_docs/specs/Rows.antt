@@ -30,18 +30,18 @@ root_kind usage.ResourceLists = ResourceLists
 root_kind usage.RlsServices = RlsServices
 
 -- the namespace of a row's children
-unfoldable pub own_space : Kind → List ℕ
-own_space ResourceLists = lists_space
-own_space EntryList = lists_space
-own_space Entry = lists_space
-own_space EntryRef = lists_space
-own_space External = lists_space
-own_space DisplayName = lists_space
-own_space RlsServices = services_space
-own_space Service = services_space
-own_space ResourceList = services_space
-own_space Packages = services_space
-own_space Package = services_space
+unfoldable pub space_of_children : Kind → List ℕ
+space_of_children ResourceLists = lists_space
+space_of_children EntryList = lists_space
+space_of_children Entry = lists_space
+space_of_children EntryRef = lists_space
+space_of_children External = lists_space
+space_of_children DisplayName = lists_space
+space_of_children RlsServices = services_space
+space_of_children Service = services_space
+space_of_children ResourceList = services_space
+space_of_children Packages = services_space
+space_of_children Package = services_space
 
 -- the local name of an element of a kind; both `list` elements, that of resource-lists and that of rls-services, are one kind
 unfoldable pub word_of : Kind → List ℕ
@@ -138,11 +138,11 @@ child_named row local = find (λ kind. bytes_eq local (word_of kind)) (filter_ma
 
 -- by namespace and local name
 abbrev pub kind_by : Kind → List ℕ → List ℕ → Option Kind
-kind_by row space local = if bytes_eq space (own_space row) then child_named row local else None
+kind_by row space local = if bytes_eq space (space_of_children row) then child_named row local else None
 
 -- of another namespace, and not of none
 abbrev pub is_foreign : Kind → List ℕ → Bool
-is_foreign row space = not (bytes_eq space (own_space row)) && not (bytes_eq space [])
+is_foreign row space = not (bytes_eq space (space_of_children row)) && not (bytes_eq space [])
 
 -- the kind of a child, by the row of its parent; foreign elements have none
 unfoldable pub kind_of : Kind → Scope → Name → Option Kind
@@ -154,4 +154,4 @@ child_of row c n = option_map_or known (kind_by row (space_of c n) n.local) (if 
 
 -- the name of a document's root
 unfoldable pub is_root : Usage → Scope → Name → Bool
-is_root u c n = bytes_eq (space_of c n) (own_space (root_kind u)) && bytes_eq n.local (word_of (root_kind u))
+is_root u c n = bytes_eq (space_of c n) (space_of_children (root_kind u)) && bytes_eq n.local (word_of (root_kind u))

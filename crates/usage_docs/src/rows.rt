@@ -3,7 +3,7 @@ ghost use Rattle.std.specs.Prelude.{◌≡◌, Some, None, IsTrue, chars, if◌t
 ghost use Rattle.usage_docs.specs.Words.{is_ascii};
 ghost use Rattle.std.specs.Str.{bytes_eq};
 ghost use Rattle.usage_docs.specs.declared.rows.Kind.TheVariants as Kind;
-ghost use Rattle.usage_docs.specs.Rows.{lists_space, services_space, root_kind, word_of, own_space, child_named, space_of, kind_by, is_foreign, kind_of, is_root};
+ghost use Rattle.usage_docs.specs.Rows.{lists_space, services_space, root_kind, word_of, space_of_children, child_named, space_of, kind_by, is_foreign, kind_of, is_root};
 
 use doc_names::Usage;
 use xml_tree::{Around, Name, Text};
@@ -92,9 +92,9 @@ fn root_word(usage: Usage) -> &'static str
 }
 
 // The namespace of a row's children.
-#[tactic(auto, unfolding(crate::specs::Rows::own_space))]
+#[tactic(auto, unfolding(crate::specs::Rows::space_of_children))]
 fn own_space(row: Kind) -> &'static str
-    ensures value { result.now ≡ own_space row }
+    ensures value { result.now ≡ space_of_children row }
     ensures ascii { IsTrue (is_ascii result.now) }
 {
     match row {

@@ -2,7 +2,7 @@
 use Rattle.std.specs.Prelude.{ℕ, Bool, ◌&&◌, ◌==◌, not, nat_le, List, chars, codes, encode_utf8_all, length, Option, None, Some, if◌then◌else◌, option_and_then, option_map}
 use Rattle.std.specs.List.{list_all}
 use Rattle.std.specs.Str.{bytes_eq}
-use Rattle.xcap_uri.specs.Cuts.{before}
+use Rattle.xcap_uri.specs.Cuts.{front_before}
 use Rattle.xcap_uri.specs.Numerals.{numeral_of}
 use Rattle.xcap_uri.specs.Roots.{root_of}
 use Rattle.client_commands.specs.declared.asker.Asker.{Asker}
@@ -27,7 +27,7 @@ user_of word = if bytes_eq word (codes "-") then None else Some (chars word)
 
 -- `http` stands before the first colon
 abbrev pub begins_with_http : List ℕ → Bool
-begins_with_http text = bytes_eq (before 58 text) (codes "http")
+begins_with_http text = bytes_eq (front_before 58 text) (codes "http")
 
 -- it is the scheme of a root
 abbrev pub is_http : List ℕ → Bool

@@ -1,12 +1,12 @@
 -- The address of the connections to a root (RFC 3986, section 3.2; RFC 9110, section 4.2.1).
 use Rattle.std.specs.Prelude.{ℕ, Bool, ◌==◌, List, ◌++◌, reverse, codes, encode_utf8_all, if◌then◌else◌}
 use Rattle.std.specs.List.{list_any}
-use Rattle.xcap_uri.specs.Cuts.{before}
+use Rattle.xcap_uri.specs.Cuts.{front_before}
 use Rattle.xcap_uri.specs.Roots.{authority_of}
 
 -- a `:` stands behind the last `]`, which ends a number of IPv6, or anywhere where there is none
 abbrev pub names_port : List ℕ → Bool
-names_port authority = list_any (λ c. c == 58) (before 93 (reverse authority))
+names_port authority = list_any (λ c. c == 58) (front_before 93 (reverse authority))
 
 -- the authority of the root, with the port of HTTP where it names none
 abbrev pub address_of : List ℕ → List ℕ

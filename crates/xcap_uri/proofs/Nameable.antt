@@ -15,7 +15,7 @@ use Rattle.xcap_uri.specs.declared.shape.Shape.{Shape}
 use Rattle.xcap_uri.specs.declared.shape.Shape.TheVariants.{Whole, Part, Below, Changes, PartChanges, FlatList}
 use Rattle.xcap_uri.specs.declared.target.Mode.{Mode}
 use Rattle.xcap_uri.specs.declared.target.Target.{Target}
-use Rattle.xcap_uri.specs.Cuts.{before, behind, pieces}
+use Rattle.xcap_uri.specs.Cuts.{front_before, rest_behind, pieces}
 use Rattle.xcap_uri.specs.readers.Escapes.{text_read, optional_text_read}
 use Rattle.xcap_uri.specs.Gives.{UriError, ◌>>=◌}
 use Rattle.doc_names.specs.Ids.{IsNameable, IsReadable, IsReadableHome}
@@ -177,12 +177,12 @@ target_ok (FlatList doc service) bindings raw good = good
 -- what stands under the root
 rest_ok : (rest : List ℕ) → IfOk (rest_read rest) IsReadableTarget
 rest_ok rest =
-    bind_ok (path_read (before question rest)) _ (λ x. AreFree x.0) IsReadableTarget (free (pieces slash (before question rest))) (λ path names.
+    bind_ok (path_read (front_before question rest)) _ (λ x. AreFree x.0) IsReadableTarget (free (pieces slash (front_before question rest))) (λ path names.
     bind_ok (optional_text_read path.1) _ (λ _. Unit {0}) IsReadableTarget (always _) (λ selector _.
-    bind_ok (optional_text_read (behind question rest)) _ (λ _. Unit {0}) IsReadableTarget (always _) (λ query _.
+    bind_ok (optional_text_read (rest_behind question rest)) _ (λ _. Unit {0}) IsReadableTarget (always _) (λ query _.
     bind_ok (Shapes.shape_of path.0 selector) _ ReadableShape IsReadableTarget (unless_empty path.0 selector (list_any Shapes.is_empty path.0) refl names) (λ shape good.
     bind_ok (optional_bindings_read query) _ (λ _. Unit {0}) IsReadableTarget (always _) (λ bindings _.
-    target_ok shape bindings (raw_text path.1 (behind question rest)) good)))))
+    target_ok shape bindings (raw_text path.1 (rest_behind question rest)) good)))))
 
 -- and where nothing does
 under_ok : (rest : Option (List ℕ)) → IfOk (under_read rest) IsReadableTarget

@@ -5,7 +5,7 @@ use Rattle.std.specs.List.{list_all, onto_first as with_first}
 use Rattle.tree_text.specs.Faults.{is_other}
 use Rattle.grammar_rules.specs.Reading.{after_front}
 use Rattle.grammar_rules.specs.Rules.{AllPass}
-use Rattle.xcap_uri.specs.Cuts.{after, before, behind, behind_first, pieces}
+use Rattle.xcap_uri.specs.Cuts.{rest_after_front, front_before, rest_behind, behind_first, pieces}
 use Rattle.xcap_uri.specs.Roots.{is_some_of}
 
 -- a test, either way
@@ -21,11 +21,11 @@ pieces_behind stop None = []
 pieces_behind stop (Some rest) = pieces stop rest
 
 -- one character more in front, which is the stop or isn't
-one_more : (stop b : ℕ) (bs : List ℕ) (t : Bool) → b == stop ≡ t → pieces stop bs ≡ before stop bs ∷ pieces_behind stop (behind stop bs) → pieces stop (b ∷ bs) ≡ before stop (b ∷ bs) ∷ pieces_behind stop (behind stop (b ∷ bs))
+one_more : (stop b : ℕ) (bs : List ℕ) (t : Bool) → b == stop ≡ t → pieces stop bs ≡ front_before stop bs ∷ pieces_behind stop (rest_behind stop bs) → pieces stop (b ∷ bs) ≡ front_before stop (b ∷ bs) ∷ pieces_behind stop (rest_behind stop (b ∷ bs))
 one_more stop b bs true h e = rw (h) refl
 one_more stop b bs false h e = rw (h) (ap (with_first b) e)
 
-pub pieces_cut : (stop : ℕ) (text : List ℕ) → pieces stop text ≡ before stop text ∷ pieces_behind stop (behind stop text)
+pub pieces_cut : (stop : ℕ) (text : List ℕ) → pieces stop text ≡ front_before stop text ∷ pieces_behind stop (rest_behind stop text)
 pieces_cut stop [] = refl
 pieces_cut stop (b ∷ bs) = one_more stop b bs (b == stop) refl (pieces_cut stop bs)
 
@@ -42,7 +42,7 @@ first_less : (rest tail : List ℕ) → behind_first rest ≡ Some tail → leng
 first_less [] tail e = cc
 first_less (b ∷ bs) tail e = let same : length bs ≡ length tail = ap (λ o. length (unwrap_or o [])) e in omega (arith, same)
 
-pub behind_shorter : (stop : ℕ) (text tail : List ℕ) → behind stop text ≡ Some tail → length tail < length text
+pub behind_shorter : (stop : ℕ) (text tail : List ℕ) → rest_behind stop text ≡ Some tail → length tail < length text
 behind_shorter stop text tail e = omega (arith, after_le (is_other stop) text, first_less (after_front (is_other stop) text) tail e)
 
 -- one or more of a class, where there is one
@@ -52,13 +52,13 @@ some_of p (c ∷ cs) some = refl
 
 -- what is said of all pieces, one cut at a time
 module _ (p : List ℕ → Bool) (stop : ℕ) (rest : List ℕ) where
-  pub first_fails : p (before stop rest) ≡ false → list_all p (pieces stop rest) ≡ false
+  pub first_fails : p (front_before stop rest) ≡ false → list_all p (pieces stop rest) ≡ false
   first_fails h = ap (list_all p) (pieces_cut stop rest) ∙ rw h refl
 
-  pub only_piece : p (before stop rest) ≡ true → behind stop rest ≡ None → list_all p (pieces stop rest) ≡ true
+  pub only_piece : p (front_before stop rest) ≡ true → rest_behind stop rest ≡ None → list_all p (pieces stop rest) ≡ true
   only_piece h none = ap (list_all p) (pieces_cut stop rest) ∙ rw (h, none) refl
 
-  pub first_passes : (tail : List ℕ) → p (before stop rest) ≡ true → behind stop rest ≡ Some tail → list_all p (pieces stop rest) ≡ list_all p (pieces stop tail)
+  pub first_passes : (tail : List ℕ) → p (front_before stop rest) ≡ true → rest_behind stop rest ≡ Some tail → list_all p (pieces stop rest) ≡ list_all p (pieces stop tail)
   first_passes tail h some = ap (list_all p) (pieces_cut stop rest) ∙ rw (h, some) refl
 
 -- ---- cuts where nothing is cut, and behind a front
@@ -67,7 +67,7 @@ not_true : (t : Bool) → not t ≡ true → t ≡ false
 not_true true h = sym h
 not_true false h = refl
 
-pub before_all : (stop : ℕ) (xs : List ℕ) → AllPass (is_other stop) xs → before stop xs ≡ xs
+pub before_all : (stop : ℕ) (xs : List ℕ) → AllPass (is_other stop) xs → front_before stop xs ≡ xs
 before_all stop [] all = refl
 before_all stop (b ∷ bs) all = rw (not_true (b == stop) all.0) (ap (λ (l : List ℕ). b ∷ l) (before_all stop bs all.1))
 
@@ -75,7 +75,7 @@ after_all : (stop : ℕ) (xs : List ℕ) → AllPass (is_other stop) xs → afte
 after_all stop [] all = refl
 after_all stop (b ∷ bs) all = rw (not_true (b == stop) all.0) (after_all stop bs all.1)
 
-pub behind_all : (stop : ℕ) (xs : List ℕ) → AllPass (is_other stop) xs → behind stop xs ≡ None
+pub behind_all : (stop : ℕ) (xs : List ℕ) → AllPass (is_other stop) xs → rest_behind stop xs ≡ None
 behind_all stop xs all = ap behind_first (after_all stop xs all)
 
 pub pieces_one : (stop : ℕ) (xs : List ℕ) → AllPass (is_other stop) xs → pieces stop xs ≡ xs ∷ []
@@ -90,11 +90,11 @@ pieces_more stop [] ys all = rw (self_eq stop) refl
 pieces_more stop (b ∷ bs) ys all = rw (not_true (b == stop) all.0) (ap (with_first b) (pieces_more stop bs ys all.1))
 
 -- a front that is there
-pub after_append : (xs ys : List ℕ) → after xs (xs ++ ys) ≡ Some ys
+pub after_append : (xs ys : List ℕ) → rest_after_front xs (xs ++ ys) ≡ Some ys
 after_append [] ys = refl
 after_append (x ∷ xs) ys = rw (self_eq x) (after_append xs ys)
 
-pub front_there : (front text rest : List ℕ) → after front text ≡ Some rest → text ≡ front ++ rest
+pub front_there : (front text rest : List ℕ) → rest_after_front front text ≡ Some rest → text ≡ front ++ rest
 front_there [] text rest e = cc
 front_there (c ∷ cs) [] rest e = absurd cc
 front_there (c ∷ cs) (d ∷ text) rest e =

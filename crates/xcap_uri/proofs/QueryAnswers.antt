@@ -4,7 +4,7 @@ use Rattle.grammar_rules.specs.Reading.{head_is, after_front}
 use Rattle.xml_tree.specs.Characters.{is_name_start, is_space}
 use Rattle.xml_tree.specs.declared.names.Decl.{Decl}
 use Rattle.xml_tree.specs.declared.read_error.ReadError.TheVariants.{Fault}
-use Rattle.xcap_uri.specs.Cuts.{after}
+use Rattle.xcap_uri.specs.Cuts.{rest_after_front}
 use Rattle.xcap_uri.specs.Gives.{UriError, ◌>>=◌}
 use Rattle.xcap_uri.specs.Queries.{is_bracket_or_caret, is_blank, IsQuery}
 use Rattle.xcap_uri.specs.readers.Queries
@@ -58,7 +58,7 @@ past_bad None = bad _
 past_bad (Some rest) = good rest
 
 equals_bad : (text : List ℕ) → OnlyBad (Queries.equals_past text)
-equals_bad text = bind_bad (Queries.past (after (codes "=") (after_front is_space text))) (λ rest. Ok (after_front is_space rest)) (past_bad _) (λ rest. good _)
+equals_bad text = bind_bad (Queries.past (rest_after_front (codes "=") (after_front is_space text))) (λ rest. Ok (after_front is_space rest)) (past_bad _) (λ rest. good _)
 
 prefix_bad : (text : List ℕ) → OnlyBad (Queries.prefix_read text)
 prefix_bad text = if_bad (head_is is_name_start text) _ _ (good _) (bad _)
@@ -75,7 +75,7 @@ item_of p u = Ok (record { prefix = p.0; uri = u.0 }, u.1)
 item_bad : (text : List ℕ) → OnlyBad (Queries.item_read text)
 unfolding item_of
 item_bad text =
-    bind_bad (Queries.past (after (codes "xmlns(") text)) _ (past_bad _)
+    bind_bad (Queries.past (rest_after_front (codes "xmlns(") text)) _ (past_bad _)
     (λ inner. bind_bad (Queries.free_prefix_read inner) _ (free_prefix_bad inner)
     (λ p. bind_bad (Queries.equals_past p.1 >>= Queries.uri_read) (item_of p) (bind_bad (Queries.equals_past p.1) Queries.uri_read (equals_bad p.1) uri_bad)
     (λ u. good _)))

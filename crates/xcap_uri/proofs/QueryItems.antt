@@ -12,7 +12,7 @@ use Rattle.xml_tree.specs.Characters.{is_name, is_name_start, is_name_char, is_s
 use Rattle.xml_tree.specs.declared.names.Decl.{Decl}
 use Rattle.xml_tree.specs.declared.read_error.ReadError.TheVariants.{Fault}
 use Rattle.tree_text.proofs.ReadParts.{space_no_name}
-use Rattle.xcap_uri.specs.Cuts.{after}
+use Rattle.xcap_uri.specs.Cuts.{rest_after_front}
 use Rattle.xcap_uri.specs.Gives.{UriError, ◌>>=◌}
 use Rattle.xcap_uri.specs.Queries.{is_bracket_or_caret, is_blank, SpellsUri, ends, plain, escaped, nested, IsItem, AreItems, IsQuery}
 use Rattle.xcap_uri.specs.readers.Queries.{Read, past, equals_past, prefix_read, is_reserved, unreserved, free_prefix_read, some_uri, uri_chars, uri_read, item_read, items_read, optional_bindings_read}
@@ -156,8 +156,8 @@ record IsEquals (text rest : List ℕ) : Type 0 where
 
 equals_found : (text rest : List ℕ) → equals_past text ≡ Ok rest → IsEquals text rest
 equals_found text rest e =
-    let s = steps (past (after (codes "=") (after_front is_space text))) (λ x. let r : Result (List ℕ) UriError = Ok (after_front is_space x) in r) rest e in
-    let word = front_there (codes "=") (after_front is_space text) s.first (past_there (after (codes "=") (after_front is_space text)) s.first s.first_is) in
+    let s = steps (past (rest_after_front (codes "=") (after_front is_space text))) (λ x. let r : Result (List ℕ) UriError = Ok (after_front is_space x) in r) rest e in
+    let word = front_there (codes "=") (after_front is_space text) s.first (past_there (rest_after_front (codes "=") (after_front is_space text)) s.first s.first_is) in
     let same : after_front is_space s.first ≡ rest = cc (s.then_is) in
     record {
       before = front_of is_space text;
@@ -274,13 +274,13 @@ found_by text inner equals y tail binding word p q u = record {
 
 item_found : (text : List ℕ) (binding : Decl) (tail : List ℕ) → item_read text ≡ Ok (binding, tail) → FoundItem text binding tail
 item_found text binding tail e =
-    let a = steps (past (after (codes "xmlns(") text)) behind_word (binding, tail) e in
+    let a = steps (past (rest_after_front (codes "xmlns(") text)) behind_word (binding, tail) e in
     let b = steps (free_prefix_read a.first) behind_prefix (binding, tail) a.then_is in
     let c = steps (equals_past b.first.1 >>= uri_read) (bound_in b.first) (binding, tail) b.then_is in
     let d = steps (equals_past b.first.1) uri_read c.first c.first_is in
     let made : Decl = record { prefix = b.first.0; uri = c.first.0 } in
     let same = same_read (made, c.first.1) (binding, tail) c.then_is in
-    let word = front_there (codes "xmlns(") text a.first (past_there (after (codes "xmlns(") text) a.first a.first_is) in
+    let word = front_there (codes "xmlns(") text a.first (past_there (rest_after_front (codes "xmlns(") text) a.first a.first_is) in
     let found = found_by text a.first b.first.1 d.first c.first.1 made word (prefix_found a.first b.first.0 b.first.1 b.first_is) (equals_found b.first.1 d.first d.first_is) (uri_found d.first c.first.0 c.first.1 d.then_is) in
     subst (λ (x : Decl × List ℕ). FoundItem text x.0 x.1) same found
 

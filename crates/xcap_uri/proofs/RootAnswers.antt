@@ -9,7 +9,7 @@ use Rattle.std.specs.Str.{bytes_eq}
 use Rattle.tree_text.specs.Faults.{is_other}
 use Rattle.grammar_rules.specs.Reading.{after_front}
 use Rattle.grammar_rules.specs.Rules.{AllPass}
-use Rattle.xcap_uri.specs.Cuts.{after, before, behind, pieces}
+use Rattle.xcap_uri.specs.Cuts.{rest_after_front, front_before, rest_behind, pieces}
 use Rattle.xcap_uri.specs.Roots.{slash, is_authority_char, is_segment_char, is_some_of, path_in, IsRoot, is_scheme, are_parts, third, authority_of, path_of, is_root_text as is_root}
 use Rattle.xcap_uri.specs.readers.Roots.{behind_scheme, are_authority_and_segments, has_form, reads_as_root}
 use Rattle.xcap_uri.proofs.Pieces.{on_test, pieces_behind, pieces_cut, pieces_one, pieces_more, after_append, front_there}
@@ -84,13 +84,13 @@ behind_http text rest e = record { scheme = codes "http:"; is = refl; cut = ap (
 behind_https : (text rest : List ℕ) → text ≡ codes "https://" ++ rest → Behind text rest
 behind_https text rest e = record { scheme = codes "https:"; is = refl; cut = ap (pieces slash) e }
 
-by_scheme : (text rest : List ℕ) (first second : Option (List ℕ)) → after (codes "http://") text ≡ first → after (codes "https://") text ≡ second → option_or first second ≡ Some rest → Behind text rest
+by_scheme : (text rest : List ℕ) (first second : Option (List ℕ)) → rest_after_front (codes "http://") text ≡ first → rest_after_front (codes "https://") text ≡ second → option_or first second ≡ Some rest → Behind text rest
 by_scheme text rest (Some x) second e f h = behind_http text rest (front_there (codes "http://") text rest (e ∙ h))
 by_scheme text rest None (Some x) e f h = behind_https text rest (front_there (codes "https://") text rest (f ∙ h))
 by_scheme text rest None None e f h = absurd cc
 
 cut_behind : (text rest : List ℕ) → behind_scheme text ≡ Some rest → Behind text rest
-cut_behind text rest e = by_scheme text rest (after (codes "http://") text) (after (codes "https://") text) refl refl e
+cut_behind text rest e = by_scheme text rest (rest_after_front (codes "http://") text) (rest_after_front (codes "https://") text) refl refl e
 
 -- the code finds a scheme in front of each root
 some_or : (first second : Option (List ℕ)) (x : List ℕ) → second ≡ Some x → option_or first second ≡ None → ⊥
@@ -102,12 +102,12 @@ not_behind text h none =
     let rest = h.authority ++ path_in h.segments in
     ⊎_elim
     (λ e.
-    let there : after (codes "http://") text ≡ Some rest = ap (after (codes "http://")) (spelled text h ∙ ap (λ (l : List ℕ). l ++ (slash ∷ slash ∷ rest)) e) ∙ after_append (codes "http://") rest in
-    let never : Some rest ≡ None = sym (ap (λ (o : Option (List ℕ)). option_or o (after (codes "https://") text)) there) ∙ none in
+    let there : rest_after_front (codes "http://") text ≡ Some rest = ap (rest_after_front (codes "http://")) (spelled text h ∙ ap (λ (l : List ℕ). l ++ (slash ∷ slash ∷ rest)) e) ∙ after_append (codes "http://") rest in
+    let never : Some rest ≡ None = sym (ap (λ (o : Option (List ℕ)). option_or o (rest_after_front (codes "https://") text)) there) ∙ none in
     cc)
     (λ e.
-    let there : after (codes "https://") text ≡ Some rest = ap (after (codes "https://")) (spelled text h ∙ ap (λ (l : List ℕ). l ++ (slash ∷ slash ∷ rest)) e) ∙ after_append (codes "https://") rest in
-    some_or (after (codes "http://") text) (after (codes "https://") text) rest there none)
+    let there : rest_after_front (codes "https://") text ≡ Some rest = ap (rest_after_front (codes "https://")) (spelled text h ∙ ap (λ (l : List ℕ). l ++ (slash ∷ slash ∷ rest)) e) ∙ after_append (codes "https://") rest in
+    some_or (rest_after_front (codes "http://") text) (rest_after_front (codes "https://") text) rest there none)
     h.scheme_is
 
 -- what is found behind the scheme is judged as the pieces are
@@ -133,14 +133,14 @@ no_root text e = ap (λ (b : Bool). nat_le (length text) 256 && b) (same_form te
 pub some_root : (text rest : List ℕ) → behind_scheme text ≡ Some rest → length text ≤ 256 → are_authority_and_segments (pieces slash rest) ≡ true → is_root text ≡ true
 some_root text rest e short form = and_from _ _ (le-leb (length text) 256 short) (same_form text (Some rest) e ∙ form)
 
-pub authority_behind : (text rest : List ℕ) → behind_scheme text ≡ Some rest → authority_of text ≡ before slash rest
+pub authority_behind : (text rest : List ℕ) → behind_scheme text ≡ Some rest → authority_of text ≡ front_before slash rest
 authority_behind text rest e = let b = cut_behind text rest e in ap third (b.cut ∙ ap (λ (ps : List (List ℕ)). b.scheme ∷ [] ∷ ps) (pieces_cut slash rest))
 
 -- the path begins at the first slash
 slashed_behind : (text : List ℕ) → path_in (pieces slash text) ≡ slash ∷ text
-slashed_behind text = ap path_in (pieces_cut slash text) ∙ ap (λ (l : List ℕ). slash ∷ l) (sym (slashed (before slash text) (pieces_behind slash (behind slash text))) ∙ ap (joined slash) (sym (pieces_cut slash text)) ∙ joined_pieces slash text)
+slashed_behind text = ap path_in (pieces_cut slash text) ∙ ap (λ (l : List ℕ). slash ∷ l) (sym (slashed (front_before slash text) (pieces_behind slash (rest_behind slash text))) ∙ ap (joined slash) (sym (pieces_cut slash text)) ∙ joined_pieces slash text)
 
-tail_behind : (rest : List ℕ) → path_in (pieces_behind slash (behind slash rest)) ≡ after_front (is_other slash) rest
+tail_behind : (rest : List ℕ) → path_in (pieces_behind slash (rest_behind slash rest)) ≡ after_front (is_other slash) rest
 tail_behind [] = refl
 tail_behind (c ∷ cs) =
     on_test (c == slash)

@@ -16,7 +16,7 @@ use Rattle.xml_tree.specs.Memory.{Answered}
 use Rattle.doc_names.specs.Usages.{namespace_of}
 use Rattle.doc_names.specs.declared.doc_id.Auid.{Auid}
 use Rattle.doc_names.specs.declared.doc_id.DocId.{DocId}
-use Rattle.xcap_uri.specs.Cuts.{before, behind}
+use Rattle.xcap_uri.specs.Cuts.{front_before, rest_behind}
 use Rattle.xcap_uri.specs.Escapes.{StandForOptional}
 use Rattle.xcap_uri.specs.Gives.{UriError, ◌>>=◌}
 use Rattle.xcap_uri.specs.Order.{Where, Given}
@@ -173,7 +173,7 @@ module _ (segments : List (List ℕ)) (selector query : Option (List ℕ)) (raw 
 
 module _ (rest : List ℕ) where
   abbrev Query : Option (List ℕ)
-  Query = behind question rest
+  Query = rest_behind question rest
 
   abbrev Path : Type 0
   Path = List (List ℕ) × Option (List ℕ)
@@ -205,7 +205,7 @@ module _ (rest : List ℕ) where
   cut_meets path = step (StandForOptional path.1) BadEscape (Selected path) (optional_text_read path.1) (selected path) (optional_decided path.1) (λ selector is. selected_meets path selector)
 
   rest_meets : Meets (RestAnswer rest) (rest_read rest)
-  rest_meets = step (IsPath (before question rest)) BadEscape Cut (path_read (before question rest)) cut (path_decided (before question rest)) (λ path is. cut_meets path)
+  rest_meets = step (IsPath (front_before question rest)) BadEscape Cut (path_read (front_before question rest)) cut (path_decided (front_before question rest)) (λ path is. cut_meets path)
 
   one_selected : (path : Path) (selector : Option (List ℕ)) (x y : Answer) → Selected path selector x → Selected path selector y → x ≡ y
   one_selected path selector =
@@ -215,7 +215,7 @@ module _ (rest : List ℕ) where
   one_cut path = one_step (StandForOptional path.1) BadEscape (Selected path) (optional_text_read path.1) (optional_decided path.1) (λ selector x y p q. one_selected path selector x y p q)
 
   one_rest : (x y : Answer) → RestAnswer rest x → RestAnswer rest y → x ≡ y
-  one_rest = one_step (IsPath (before question rest)) BadEscape Cut (path_read (before question rest)) (path_decided (before question rest)) (λ path x y p q. one_cut path x y p q)
+  one_rest = one_step (IsPath (front_before question rest)) BadEscape Cut (path_read (front_before question rest)) (path_decided (front_before question rest)) (λ path x y p q. one_cut path x y p q)
 
 -- ---- the whole target
 

@@ -9,12 +9,12 @@ behind_first [] = None
 behind_first (b ∷ bs) = Some bs
 
 -- what stands before the first `stop`: all, where there is none
-abbrev pub before : ℕ → List ℕ → List ℕ
-before stop text = front_of (is_other stop) text
+abbrev pub front_before : ℕ → List ℕ → List ℕ
+front_before stop text = front_of (is_other stop) text
 
 -- what stands behind the first `stop`, where there is one
-abbrev pub behind : ℕ → List ℕ → Option (List ℕ)
-behind stop text = behind_first (after_front (is_other stop) text)
+abbrev pub rest_behind : ℕ → List ℕ → Option (List ℕ)
+rest_behind stop text = behind_first (after_front (is_other stop) text)
 
 -- the pieces between the `stop`s: one more than there are `stop`s
 abbrev pub pieces : ℕ → List ℕ → List (List ℕ)
@@ -22,7 +22,7 @@ pieces stop [] = [] ∷ []
 pieces stop (b ∷ bs) = if b == stop then [] ∷ pieces stop bs else onto_first b (pieces stop bs)
 
 -- what follows a front of a text, where the text begins with it
-abbrev pub after : List ℕ → List ℕ → Option (List ℕ)
-after [] text = Some text
-after (c ∷ cs) [] = None
-after (c ∷ cs) (d ∷ text) = if nat_eq c d then after cs text else None
+abbrev pub rest_after_front : List ℕ → List ℕ → Option (List ℕ)
+rest_after_front [] text = Some text
+rest_after_front (c ∷ cs) [] = None
+rest_after_front (c ∷ cs) (d ∷ text) = if nat_eq c d then rest_after_front cs text else None

@@ -9,7 +9,7 @@ use Rattle.node_select.specs.declared.fault.SelectorFault.TheVariants as selecto
 use Rattle.node_select.specs.declared.selector.Selector.{Selector}
 use Rattle.node_select.specs.declared.selector.End.{End}
 use Rattle.node_select.specs.declared.selector.End.TheVariants as ends
-use Rattle.xcap_uri.specs.Cuts.{after, before, behind, pieces}
+use Rattle.xcap_uri.specs.Cuts.{rest_after_front, front_before, rest_behind, pieces}
 use Rattle.xcap_uri.specs.Escapes.{StandsFor, StandForOptional}
 use Rattle.doc_names.specs.Escapes.{escaped, is_visible}
 use Rattle.doc_names.specs.Ids.{IsReadable, IsReadableHome, separator}
@@ -35,7 +35,7 @@ question = 63
 
 -- what follows a front and a slash
 abbrev pub under : List ℕ → List ℕ → Option (List ℕ)
-under front target = option_and_then (after (slash ∷ [])) (after front target)
+under front target = option_and_then (rest_after_front (slash ∷ [])) (rest_after_front front target)
 
 -- what follows the whole root or the root's path, and a slash
 abbrev pub under_root : List ℕ → List ℕ → Option (List ℕ)
@@ -113,10 +113,10 @@ NamedAnswer segments selector query raw =
 -- what stands under the root: a path, and a query behind the first `?`
 abbrev pub RestAnswer : List ℕ → Result Target UriFault → Type 0
 RestAnswer rest =
-    Where (IsPath (before question rest)) BadEscape (λ path.
+    Where (IsPath (front_before question rest)) BadEscape (λ path.
     Where (StandForOptional path.1) BadEscape (λ selector.
-    Where (StandForOptional (behind question rest)) BadEscape (λ query.
-    NamedAnswer path.0 selector query (raw_text path.1 (behind question rest)))))
+    Where (StandForOptional (rest_behind question rest)) BadEscape (λ query.
+    NamedAnswer path.0 selector query (raw_text path.1 (rest_behind question rest)))))
 
 -- the answer for a target under a root: what it means, or the first of its faults
 abbrev pub TargetAnswer : List ℕ → List ℕ → Result Target UriFault → Type 0

@@ -5,7 +5,7 @@ ghost use Rattle.std.specs.Str.{bytes_eq};
 ghost use Rattle.grammar_rules.specs.Reading.{after_front, head_is};
 ghost use Rattle.xml_tree.specs.Characters.{is_name_char, is_name_start, is_space};
 ghost use Rattle.tree_text.specs.readers.Runs.{run_len};
-ghost use Rattle.xcap_uri.specs.Cuts.{after};
+ghost use Rattle.xcap_uri.specs.Cuts.{rest_after_front};
 ghost use Rattle.xcap_uri.specs.Gives.{Gives};
 ghost use Rattle.xcap_uri.specs.Queries.{is_blank, is_bracket_or_caret};
 ghost use Rattle.xcap_uri.specs.readers.Queries.{bindings_read, equals_past, is_reserved, item_read, optional_bindings_read, prefix_read, free_prefix_read, uri_chars, uri_read};
@@ -96,7 +96,7 @@ fn past_blanks(text: &[char]) -> &[char]
 
 // What follows a word, where the text begins with it.
 fn after<'a>(text: &'a [char], word: &[char]) -> Option<&'a [char]>
-    ensures rest_behind_the_word { option_map (λ x. x.now) result ≡ after word.now text.now }
+    ensures rest_behind_the_word { option_map (λ x. x.now) result ≡ rest_after_front word.now text.now }
 {
     let mut rest = text;
     for &expected in word {

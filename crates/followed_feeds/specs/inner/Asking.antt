@@ -5,13 +5,13 @@ use Rattle.doc_names.specs.declared.doc_id.DocId.{DocId}
 use Rattle.xcap_uri.specs.Shapes.{tag_spelled}
 use Rattle.xcap_uri.specs.declared.target.Mode.{Mode}
 use Rattle.http_wire.specs.declared.request.Request.{Request}
-use Rattle.patch_words.specs.Replay.{Held}
+use Rattle.patch_words.specs.Replay.{CopyHeld}
 use Rattle.feed_requests.specs.Asking.{AsksForFeed, feed_request}
 use Rattle.followed_feeds.specs.declared.fault.FollowFault.{FollowFault}
 use Rattle.followed_feeds.specs.declared.fault.FollowFault.TheVariants.{Nothing, BadTag, Status, Notice, Apply, NoMemory}
 
 -- it asks for the feed since the tag of the version that is held
-pub record AsksFrom (root : List ℕ) (mode : Mode) (id : DocId) (held : Held) (request : Request) : Type 0 where
+pub record AsksFrom (root : List ℕ) (mode : Mode) (id : DocId) (held : CopyHeld) (request : Request) : Type 0 where
   pub version : List ℕ × Tree
   pub is_held : held ≡ Some version
   pub number : ℕ
@@ -20,7 +20,7 @@ pub record AsksFrom (root : List ℕ) (mode : Mode) (id : DocId) (held : Held) (
   pub asks : AsksForFeed root mode number id request
 
 -- that request, or why there is none
-abbrev pub Asks : List ℕ → Mode → DocId → Held → Result Request FollowFault → Type 0
+abbrev pub Asks : List ℕ → Mode → DocId → CopyHeld → Result Request FollowFault → Type 0
 Asks root mode id held (Ok request) = AsksFrom root mode id held request
 Asks root mode id held (Err Nothing) = held ≡ None
 Asks root mode id held (Err BadTag) = (version : List ℕ × Tree) × (held ≡ Some version) × (tag_spelled version.0 ≡ None)

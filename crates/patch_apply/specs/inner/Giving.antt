@@ -16,7 +16,7 @@ Gives view stated (Err (Fault wrong)) = stated ≡ Err (wrong_in wrong)
 Gives view stated (Err NoMemory) = Unit {0}
 
 -- of documents: the value, seen so, or the first fault
-abbrev pub Tells : {X Y : Type 0} → (X → Y) → Result Y replay.Fault → Result X (ReadError ApplyFault) → Type 0
+abbrev pub Tells : {X Y : Type 0} → (X → Y) → Result Y replay.CopyFault → Result X (ReadError ApplyFault) → Type 0
 Tells view stated (Ok x) = stated ≡ Ok (view x)
 Tells view stated (Err (Fault fault)) = IsTold stated fault
 Tells view stated (Err NoMemory) = Unit {0}

@@ -13,13 +13,13 @@ use Rattle.xml_tree.specs.declared.names.Decl.{Decl}
 use Rattle.xml_tree.specs.declared.names.Name.{Name}
 use Rattle.node_select.specs.Names.{uri_of}
 use Rattle.node_select.specs.declared.selector.PatchSelector.{PatchSelector}
-use Rattle.patch_words.specs.Applied.{Wrong, Directive, Prefix, Unlocated, WrongNodes, Task, Position, Behind, Prepend, Before, After, done, end_of, form_of, given, is_bare, is_bound_type, is_space_at, located, made, meaning_in, means_alike, nodes_at, own_place, plain_value, space_before, suits, task_of, tested, value_in, with_attrs, word_of}
+use Rattle.patch_words.specs.Applied.{Wrong, Directive, Prefix, Unlocated, WrongNodes, Task, Position, Behind, Prepend, Before, After, done, end_of, form_of, given, is_bare, is_bound_type, is_space_at, located, made, meaning_in, means_alike, nodes_at, own_place, plain_value, space_before, suits, task_of, tested, value_in, with_attrs, operation_word}
 use Rattle.patch_words.specs.Notices.{diff_uri}
 use Rattle.patch_words.specs.Replay.{is_ours}
 
 -- what is to be done, by the name and the attributes of an operation
 abbrev pub task_said : Name → List Attr → Option Task
-task_said name attrs = option_and_then (λ w. task_of w (plain_value (codes "pos") attrs) (plain_value (codes "type") attrs) (plain_value (codes "ws") attrs)) (word_of name.local)
+task_said name attrs = option_and_then (λ w. task_of w (plain_value (codes "pos") attrs) (plain_value (codes "type") attrs) (plain_value (codes "ws") attrs)) (operation_word name.local)
 
 -- the selector, where it suits what is to be done and its prefixes are bound
 abbrev pub selector_tested : List (List Decl) → List ℕ → Task → Result PatchSelector Wrong

@@ -4,7 +4,7 @@ use Rattle.xml_tree.specs.declared.names.Decl.{Decl}
 use Rattle.tree_text.specs.declared.kind.Kind.{Kind}
 use Rattle.tree_text.specs.declared.kind.Kind.TheVariants.{Unbound, Repeated}
 use Rattle.tree_text.specs.declared.said.Said.{Said}
-use Rattle.tree_text.specs.Pieces.{Tag}
+use Rattle.tree_text.specs.Pieces.{StartTag}
 use Rattle.tree_text.specs.Names.{is_misnamed, is_repeated, inside_tag, opening_size, is_unbound_in}
 
 -- what is wrong with one: Unbound comes first
@@ -21,7 +21,7 @@ abbrev pub first_wrong : List (List Decl) → List Said → ℕ → List Said �
 first_wrong here earlier at [] = None
 first_wrong here earlier at (s ∷ later) = or_later (wrong_said here earlier s) (at + s.gap) (first_wrong here (earlier ++ s ∷ []) (at + (s.gap + s.size)) later)
 
-abbrev pub first_of_tag : List (List Decl) → Tag → Option (Kind × ℕ)
+abbrev pub first_of_tag : List (List Decl) → StartTag → Option (Kind × ℕ)
 first_of_tag here t = if is_unbound_in here t.name then Some (Unbound, 1) else first_wrong here [] (opening_size t) t.said
 
 -- counted back from the end of the tag
@@ -29,5 +29,5 @@ abbrev pub counted_back : ℕ → Option (Kind × ℕ) → Option (Kind × ℕ)
 counted_back size None = None
 counted_back size (Some found) = Some (found.0, size - found.1)
 
-abbrev pub tag_fault : List (List Decl) → Tag → Option (Kind × ℕ)
+abbrev pub tag_fault : List (List Decl) → StartTag → Option (Kind × ℕ)
 tag_fault scope t = counted_back t.size (first_of_tag (inside_tag scope t) t)

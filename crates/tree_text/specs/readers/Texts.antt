@@ -12,7 +12,7 @@ use Rattle.tree_text.specs.readers.Words.{less, greater, empty_end, end_start, e
 use Rattle.tree_text.specs.declared.kind.Kind.{Kind}
 use Rattle.tree_text.specs.declared.kind.Kind.TheVariants.{Encoded, Doctyped, Depth}
 use Rattle.tree_text.specs.declared.said.Said.{Said}
-use Rattle.tree_text.specs.Pieces.{Markup, Reference, Section, Comment, Instruction, Inner, line_ends, qname_of, written, said_of, Tag, tag_of, with_pieces, value_spelled}
+use Rattle.tree_text.specs.Pieces.{Markup, Reference, Section, Comment, Instruction, Inner, line_ends, qname_of, written, said_of, StartTag, tag_of, with_pieces, value_spelled}
 use Rattle.tree_text.specs.Names.{element_of, inside_tag}
 use Rattle.tree_text.specs.readers.Judging.{tag_fault}
 use Rattle.tree_text.specs.Grammar.{last_char, is_quote, is_raw, is_raw_in, is_target, is_encoding_char, is_our_encoding}
@@ -89,7 +89,7 @@ read_all_said = read_many said_follows read_said
 abbrev pub read_tag_end : Reader Kind Bool
 read_tag_end = read_either (head_is (λ c. c == 47)) (read_valued (λ _. true) (read_word empty_end)) (read_valued (λ _. false) (read_word greater))
 
-abbrev pub read_tag : Reader Kind Tag
+abbrev pub read_tag : Reader Kind StartTag
 read_tag = read_valued tag_of (read_sized (read_behind (read_word less) (read_sequence read_qname (λ _. read_sequence (read_before read_all_said read_spaces) (λ _. read_tag_end)))))
 
 abbrev pub read_end_tag : Name → Reader Kind (Unit {0})

@@ -4,7 +4,7 @@ use Rattle.grammar_rules.specs.Digits.{Digits, decimal_digits, hexadecimal}
 use Rattle.xml_tree.specs.declared.names.Name.{Name}
 use Rattle.tree_text.specs.declared.written.Written.{Written}
 use Rattle.tree_text.specs.declared.tags.Tag.{Tag as CodeTag}
-use Rattle.tree_text.specs.Pieces.{Tag}
+use Rattle.tree_text.specs.Pieces.{StartTag}
 
 -- how a numeral is written: with hexadecimal digits, or with decimal ones
 abbrev pub digits_of : Bool → Digits
@@ -16,5 +16,5 @@ abbrev pub name_in : Written → Name
 name_in w = record { prefix = w.prefix.now; local = w.local.now }
 
 -- the tag that the code has read
-abbrev pub tag_in : CodeTag → Tag
+abbrev pub tag_in : CodeTag → StartTag
 tag_in t = record { name = name_in t.written; said = t.said.items; is_empty = t.is_empty; size = t.size }

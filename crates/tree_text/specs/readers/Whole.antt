@@ -12,7 +12,7 @@ use Rattle.tree_text.specs.declared.fault.ValueFault.{ValueFault}
 use Rattle.tree_text.specs.declared.fault.ValueFault.TheVariants as bodies
 use Rattle.tree_text.specs.declared.stop.Stop.{Stop}
 use Rattle.tree_text.specs.declared.stop.Stop.TheVariants as stops
-use Rattle.tree_text.specs.Faults.{place, fault_of, spelling_of, body_told, text_told}
+use Rattle.tree_text.specs.Faults.{byte_at, fault_of, spelling_of, body_told, text_told}
 use Rattle.tree_text.specs.readers.Texts.{read_text, read_spelling}
 
 -- ---- documents and fragments
@@ -34,6 +34,6 @@ body_read bytes = if is_utf8 bytes then body_told (chars bytes) bytes (read_whol
 
 -- the same of a body behind whose spelling so many bytes stand
 abbrev pub BodyFaultOf : List ℕ → ℕ → Stop → ReadError ValueFault → Type 0
-BodyFaultOf bytes behind (stops.Syntax rest) error = error ≡ errors.Fault (bodies.NotValue (place bytes rest.now - behind))
-BodyFaultOf bytes behind (stops.Faulty kind rest) error = error ≡ errors.Fault (bodies.NotValue (place bytes rest.now - behind))
+BodyFaultOf bytes behind (stops.Syntax rest) error = error ≡ errors.Fault (bodies.NotValue (byte_at bytes rest.now - behind))
+BodyFaultOf bytes behind (stops.Faulty kind rest) error = error ≡ errors.Fault (bodies.NotValue (byte_at bytes rest.now - behind))
 BodyFaultOf bytes behind stops.Memory error = error ≡ errors.NoMemory

@@ -6,7 +6,7 @@ use Rattle.grammar_rules.specs.Reading.{front_of, after_front, head_is}
 use Rattle.xml_tree.specs.Characters.{is_name_start, is_name_char, is_space}
 use Rattle.xml_tree.specs.declared.names.Decl.{Decl}
 use Rattle.xml_tree.specs.declared.read_error.ReadError.TheVariants.{Fault}
-use Rattle.xcap_uri.specs.Cuts.{after}
+use Rattle.xcap_uri.specs.Cuts.{rest_after_front}
 use Rattle.xcap_uri.specs.Gives.{UriError, ◌>>=◌}
 use Rattle.xcap_uri.specs.Queries.{is_bracket_or_caret, is_blank}
 use Rattle.xcap_uri.specs.declared.fault.UriFault.TheVariants.{BadQuery}
@@ -44,7 +44,7 @@ past (Some rest) = Ok rest
 
 -- white space and `=` and white space, which may be absent
 abbrev pub equals_past : List ℕ → Result (List ℕ) UriError
-equals_past text = past (after (codes "=") (after_front is_space text)) >>= λ rest. Ok (after_front is_space rest)
+equals_past text = past (rest_after_front (codes "=") (after_front is_space text)) >>= λ rest. Ok (after_front is_space rest)
 
 -- an NCName
 abbrev pub prefix_read : List ℕ → Read (List ℕ)
@@ -63,7 +63,7 @@ free_prefix_read text = prefix_read text >>= unreserved
 -- an item, and what follows it
 abbrev pub item_read : List ℕ → Read Decl
 item_read text =
-    past (after (codes "xmlns(") text) >>= λ inner.
+    past (rest_after_front (codes "xmlns(") text) >>= λ inner.
     free_prefix_read inner >>= λ p.
     equals_past p.1 >>= uri_read >>= λ u.
     Ok (record { prefix = p.0; uri = u.0 }, u.1)

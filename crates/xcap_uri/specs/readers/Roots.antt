@@ -2,12 +2,12 @@
 use Rattle.std.specs.Prelude.{ℕ, Bool, false, ◌&&◌, nat_le, List, [], ◌∷◌, codes, length, Option, None, Some}
 use Rattle.std.specs.List.{list_all}
 use Rattle.std.specs.Option.{option_or}
-use Rattle.xcap_uri.specs.Cuts.{after, pieces}
+use Rattle.xcap_uri.specs.Cuts.{rest_after_front, pieces}
 use Rattle.xcap_uri.specs.Roots.{slash, is_authority_char, is_segment_char, is_some_of}
 
 -- what follows the scheme
 abbrev pub behind_scheme : List ℕ → Option (List ℕ)
-behind_scheme text = option_or (after (codes "http://") text) (after (codes "https://") text)
+behind_scheme text = option_or (rest_after_front (codes "http://") text) (rest_after_front (codes "https://") text)
 
 -- an authority, and then segments
 abbrev pub are_authority_and_segments : List (List ℕ) → Bool

@@ -13,7 +13,7 @@ use Rattle.xml_tree.specs.declared.read_error.ReadError.TheVariants.{Fault, NoMe
 use Rattle.doc_names.specs.Ids.{separator}
 use Rattle.doc_names.specs.Usages.{namespace_of}
 use Rattle.doc_names.specs.declared.doc_id.Auid.{Auid}
-use Rattle.xcap_uri.specs.Cuts.{before, behind, pieces}
+use Rattle.xcap_uri.specs.Cuts.{front_before, rest_behind, pieces}
 use Rattle.xcap_uri.specs.Gives.{UriError, ◌>>=◌}
 use Rattle.xcap_uri.specs.readers.Queries.{optional_bindings_read}
 use Rattle.xcap_uri.specs.Roots.{slash}
@@ -74,12 +74,12 @@ target_of (FlatList doc service) bindings raw = Ok (Flat doc service)
 -- escapes, then the shape, then the query, then the selector
 abbrev pub rest_read : List ℕ → Result Target UriError
 rest_read rest =
-    path_read (before question rest) >>= λ path.
+    path_read (front_before question rest) >>= λ path.
     optional_text_read path.1 >>= λ selector.
-    optional_text_read (behind question rest) >>= λ query.
+    optional_text_read (rest_behind question rest) >>= λ query.
     shape_of path.0 selector >>= λ shape.
     optional_bindings_read query >>= λ bindings.
-    target_of shape bindings (raw_text path.1 (behind question rest))
+    target_of shape bindings (raw_text path.1 (rest_behind question rest))
 
 abbrev pub under_read : Option (List ℕ) → Result Target UriError
 under_read None = Err (Fault OutsideRoot)

@@ -1,6 +1,6 @@
 use Rattle.std.proofs.Common.{◌≡◌, ◌<◌, ℕ, zero, suc, eqb, true, false, Option, Ok, List, [], ◌∷◌, ◌++◌, length, sym, subst, ap, ◌∙◌, arith}
 use Rattle.xml_tree.specs.Tree.{Tree}
-use Rattle.patch_words.specs.Replay.{Answer, all_taken, documents, is_all_mine}
+use Rattle.patch_words.specs.Replay.{CopyAnswer, all_taken, documents, is_all_mine}
 use Rattle.name_words.specs.Naming.{is_name_of}
 use Rattle.patch_apply.specs.Views.{held_in}
 use Rattle.patch_apply.specs.inner.Seen.{outcome_in}
@@ -23,4 +23,4 @@ returns-clause-by_the_words c =
     let scope = c.with-scope.ensures.adds_the_list ∙ (λ i. c.empty.ensures.declares_nothing i ++ c.decls.ensures.lends_the_declarations i ∷ []) in
     let held = c.in_ok-held.ensures.copies_what_is_held in
     let taken = (λ i. all_taken 0 (sym scope i) (sym docs i) (held_in (sym held i))) ∙ c.in_ok-outcome.ensures.by_the_words ∙ ap (λ (o : Option (Option Held)). Ok (outcome_in o)) c.in-Some.is in
-    done_with is_mine notice (held_in c.args.replica.now.held) mine (held_in c.in-Some.held) some taken ∙ ap (λ (a : Answer). Ok (a, held_in c.in-Some.held)) (sym c.ended-answer.ensures.patched_or_removed)
+    done_with is_mine notice (held_in c.args.replica.now.held) mine (held_in c.in-Some.held) some taken ∙ ap (λ (a : CopyAnswer). Ok (a, held_in c.in-Some.held)) (sym c.ended-answer.ensures.patched_or_removed)
