@@ -1,14 +1,13 @@
 -- Connections of a port, served one after the other.
-use Rattle.std.proofs.Common.{◌≡◌, ℕ, ◌+◌, ◌-◌, ◌^◌, ◌<◌, inl, inr, Bool, true, false, true≢false, List, [], ◌∷◌, ◌++◌, length, Option, None, Some, IfSome, Ok, refl, sym, ap, subst, ◌∙◌, arith, append_assoc, append-nil, ⊎_elim}
-use Rattle.std.proofs.lemmas.Bool.{cases_lt}
+use Rattle.std.proofs.Common.{◌≡◌, ℕ, ◌+◌, ◌<◌, Bool, true, false, true≢false, List, [], ◌∷◌, ◌++◌, length, Option, None, Some, IfSome, Ok, refl, sym, ap, subst, ◌∙◌, arith, append_assoc, append-nil}
 use Rattle.std.proofs.lemmas.List.{length_push}
 use Rattle.std.specs.Io.KnownBytes.{Consumes, IsAtEnd}
-use Rattle.xcap_io.specs.Causes.{Begun, Inward, LineState, PortState, Rose}
+use Rattle.xcap_io.specs.Causes.{Begun, Inward, LineState, PortState, Rose, RoseBy}
 use Rattle.xcap_io.specs.Connections.{Comes, Next, NextFailed, OnlyNext, carried, traffic}
 use Rattle.xcap_io.specs.Histories.{Traffic, carried_by}
 use Rattle.xcap_io.specs.Passing.{Gave, IsTruthful, Took}
 use Rattle.http_wire.specs.declared.request.Request.{Request}
-use Rattle.http_wire.specs.Serving.{Ending, closed, read_failed, write_failed, HasBytes, HaveBytes, IsBounded, Serves, ServesEach, read_failures, write_failures}
+use Rattle.http_wire.specs.Serving.{Ending, closed, read_failed, write_failed, HasBytes, HaveBytes, Serves, ServesEach, read_failures, write_failures}
 use Rattle.http_serve.specs.declared.connection.Ended.{Ended}
 use Rattle.http_serve.specs.declared.connection.Ended.TheVariants.{Closed, ReadFailed, WriteFailed}
 use Rattle.http_serve.specs.declared.port.Served.{Served}
@@ -42,22 +41,18 @@ writes_added (read_failed ∷ endings) ending = writes_added endings ending
 writes_added (write_failed ∷ endings) ending = omega (arith, writes_added endings ending)
 
 -- a bound where the count stayed, and where it rose
-bound_stays : (n k before mid now : ℕ) → k ≡ n + 0 → now ≡ mid → IsBounded n before mid → IsBounded k before now
-bound_stays n k before mid now e same b = ⊎_elim (λ h. inl (omega (arith, e, same, h))) (λ h. inr (omega (arith, same, h))) b
+bound_stays : (n k before mid now : ℕ) → k ≡ n + 0 → now ≡ mid → RoseBy n before mid → RoseBy k before now
+bound_stays n k before mid now e same b = omega (arith, e, same, b)
 
-bound_rises : (n k before mid now : ℕ) → k ≡ n + 1 → Rose mid now → IsBounded n before mid → IsBounded k before now
-bound_rises n k before mid now e rose b =
-    ⊎_elim
-    (λ h. ⊎_elim (λ lt. inl (omega (arith, e, rose, h, lt))) (λ ge. inr (omega (arith, rose, ge))) (cases_lt mid (2 ^ 64 - 1)))
-    (λ h. inr (omega (arith, rose, h)))
-    b
+bound_rises : (n k before mid now : ℕ) → k ≡ n + 1 → Rose mid now → RoseBy n before mid → RoseBy k before now
+bound_rises n k before mid now e rose b = omega (arith, e, rose, b)
 
-reads_bound : (ended : Ended) (endings : List Ending) (first : ℕ) (mid new : LineState) → FaultsBy ended mid new → IsBounded (read_failures endings) first mid.read_faults → IsBounded (read_failures (endings ++ ending_of ended ∷ [])) first new.read_faults
+reads_bound : (ended : Ended) (endings : List Ending) (first : ℕ) (mid new : LineState) → FaultsBy ended mid new → RoseBy (read_failures endings) first mid.read_faults → RoseBy (read_failures (endings ++ ending_of ended ∷ [])) first new.read_faults
 reads_bound Closed endings first mid new f b = bound_stays (read_failures endings) _ first mid.read_faults new.read_faults (reads_added endings closed) f.0 b
 reads_bound ReadFailed endings first mid new f b = bound_rises (read_failures endings) _ first mid.read_faults new.read_faults (reads_added endings read_failed) f.0 b
 reads_bound WriteFailed endings first mid new f b = bound_stays (read_failures endings) _ first mid.read_faults new.read_faults (reads_added endings write_failed) f.0 b
 
-writes_bound : (ended : Ended) (endings : List Ending) (first : ℕ) (mid new : LineState) → FaultsBy ended mid new → IsBounded (write_failures endings) first mid.write_faults → IsBounded (write_failures (endings ++ ending_of ended ∷ [])) first new.write_faults
+writes_bound : (ended : Ended) (endings : List Ending) (first : ℕ) (mid new : LineState) → FaultsBy ended mid new → RoseBy (write_failures endings) first mid.write_faults → RoseBy (write_failures (endings ++ ending_of ended ∷ [])) first new.write_faults
 writes_bound Closed endings first mid new f b = bound_stays (write_failures endings) _ first mid.write_faults new.write_faults (writes_added endings closed) f.1 b
 writes_bound ReadFailed endings first mid new f b = bound_stays (write_failures endings) _ first mid.write_faults new.write_faults (writes_added endings read_failed) f.1 b
 writes_bound WriteFailed endings first mid new f b = bound_rises (write_failures endings) _ first mid.write_faults new.write_faults (writes_added endings write_failed) f.1 b
@@ -162,8 +157,8 @@ module _ {M W E : Type 0} (Step : M → Request → List ℕ → M → Option E 
     pub came : Came old.port.to_come mid.port.to_come connections
     pub all_carried : carried mid ≡ carried old ++ connections
     pub each : ServesEach Step fixed machine connections endings now edits
-    pub read_bound : IsBounded (read_failures endings) old.read_faults mid.read_faults
-    pub write_bound : IsBounded (write_failures endings) old.write_faults mid.write_faults
+    pub read_bound : RoseBy (read_failures endings) old.read_faults mid.read_faults
+    pub write_bound : RoseBy (write_failures endings) old.write_faults mid.write_faults
     pub ended : ending_of last ≡ last_of endings
     pub same_faults : mid.port.faults ≡ old.port.faults
     pub kept : Keeps edits watchers watchers'
@@ -181,8 +176,8 @@ module _ {M W E : Type 0} (Step : M → Request → List ℕ → M → Option E 
     came = came_none port.port.to_come;
     all_carried = sym (append-nil (carried port));
     each = (refl, refl, refl);
-    read_bound = inl (omega arith);
-    write_bound = inl (omega arith);
+    read_bound = omega arith;
+    write_bound = omega arith;
     ended = refl;
     same_faults = refl;
     kept = none;
@@ -260,8 +255,8 @@ module _ {M W E : Type 0} (Step : M → Request → List ℕ → M → Option E 
       serves = record {
         endings = s.endings;
         each = s.each;
-        read_bound = subst (IsBounded (read_failures s.endings) old.read_faults) (sym f.same_read_faults) s.read_bound;
-        write_bound = subst (IsBounded (write_failures s.endings) old.write_faults) (sym f.same_write_faults) s.write_bound;
+        read_bound = subst (RoseBy (read_failures s.endings) old.read_faults) (sym f.same_read_faults) s.read_bound;
+        write_bound = subst (RoseBy (write_failures s.endings) old.write_faults) (sym f.same_write_faults) s.write_bound;
       };
       last = s.ended;
       stop = (few, subst (λ (n : ℕ). Rose n new.port.faults) s.same_faults f.rose);

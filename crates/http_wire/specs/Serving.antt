@@ -2,7 +2,8 @@
 -- change is E, and its step says which bytes answer a request, in which state it goes on, and what it tells. `fixed` gives the
 -- bytes of the reply without body that has a status and ends the connection. Of a connection only the bytes count that were
 -- given on it, and whether a read found their end; so this says what was done on a real socket, too.
-use Rattle.std.specs.Prelude.{◌≡◌, ℕ, ◌+◌, ◌<◌, ◌≤◌, ◌⊎◌, ◌^◌, ◌-◌, Bool, true, false, List, [], ◌∷◌, ◌++◌, length, take, Option, None, option_to_list}
+use Rattle.std.specs.Prelude.{◌≡◌, ℕ, ◌+◌, ◌<◌, ◌⊎◌, Bool, true, false, List, [], ◌∷◌, ◌++◌, length, take, Option, None, option_to_list}
+use Rattle.xcap_io.specs.Causes.{RoseBy}
 use Rattle.xcap_io.specs.Histories.{Traffic}
 use Rattle.http_wire.specs.declared.request.Request.{Request}
 use Rattle.http_wire.specs.Items.{Item, asks, bad, too_long, coded, IsFirst, AsksFor, ends_connection, IsUnfinished}
@@ -121,13 +122,9 @@ write_failures (closed ∷ endings) = write_failures endings
 write_failures (read_failed ∷ endings) = write_failures endings
 write_failures (write_failed ∷ endings) = write_failures endings + 1
 
--- so many failures at most: as many as the count rose by, or any where it has reached the greatest value of a count
-abbrev pub IsBounded : ℕ → ℕ → ℕ → Type 0
-IsBounded failures before now = (before + failures ≤ now) ⊎ (2 ^ 64 - 1 ≤ now)
-
 -- All connections, where each failure is one of the reads or writes that failed.
 pub record ServesAll {M E : Type 0} (Step : M → Request → List ℕ → M → Option E → Type 0) (fixed : ℕ → List ℕ) (machine : M) (connections : List Traffic) (next : M) (edits : List E) (reads reads' writes writes' : ℕ) : Type 0 where
   pub endings : List Ending
   pub each : ServesEach Step fixed machine connections endings next edits
-  pub read_bound : IsBounded (read_failures endings) reads reads'
-  pub write_bound : IsBounded (write_failures endings) writes writes'
+  pub read_bound : RoseBy (read_failures endings) reads reads'
+  pub write_bound : RoseBy (write_failures endings) writes writes'

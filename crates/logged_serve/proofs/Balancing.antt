@@ -1,12 +1,10 @@
 -- A machine whose accepted requests are logged, beside its books: what its journal holds, and how many records couldn't be added.
-use Rattle.std.proofs.Common.{◌≡◌, ℕ, ◌+◌, ◌^◌, ◌-◌, inl, inr, Bool, true, false, List, [], ◌∷◌, ◌++◌, length, take, Option, refl, sym, ap, subst, ◌∙◌, arith, append-nil, append_assoc, length-append, ⊎_elim}
-use Rattle.std.proofs.lemmas.Bool.{cases_lt}
+use Rattle.std.proofs.Common.{◌≡◌, ℕ, ◌+◌, inl, inr, Bool, true, false, List, [], ◌∷◌, ◌++◌, length, take, Option, refl, sym, ap, subst, ◌∙◌, arith, append-nil, append_assoc, length-append}
 use Rattle.std.proofs.lemmas.List.Elements.{All-append, All-cons, All-nil}
 use Rattle.std.specs.Bool.{MatchBool}
 use Rattle.reply_text.specs.Heads.{Sent}
 use Rattle.http_wire.specs.declared.request.Request.{Request}
-use Rattle.http_wire.specs.Serving.{IsBounded}
-use Rattle.xcap_io.specs.Causes.{LineState, Rose}
+use Rattle.xcap_io.specs.Causes.{LineState, Rose, RoseBy}
 use Rattle.edit_journal.specs.Journals.{Goes, IsFirstOf, JournalState}
 use Rattle.edit_journal.specs.Logs.{Fits, HoldsRecords, KeepsWhole, LogState, log_with}
 use Rattle.edit_journal.specs.Records.{IsRecordable, record_of, recorded}
@@ -107,12 +105,8 @@ holds_so P Q log requests bytes so h = record { rest = h.rest; told = h.told; sp
 
 -- ---- how many records couldn't be added
 
-bound_rises : (n before mid now : ℕ) → Rose mid now → IsBounded n before mid → IsBounded (n + 1) before now
-bound_rises n before mid now rose b =
-    ⊎_elim
-    (λ h. ⊎_elim (λ lt. inl (omega (arith, rose, h, lt))) (λ ge. inr (omega (arith, rose, ge))) (cases_lt mid (2 ^ 64 - 1)))
-    (λ h. inr (omega (arith, rose, h)))
-    b
+bound_rises : (n before mid now : ℕ) → Rose mid now → RoseBy n before mid → RoseBy (n + 1) before now
+bound_rises n before mid now rose b = omega (arith, rose, b)
 
 -- ---- one request after the other
 
@@ -141,7 +135,7 @@ module _ {S M E : Type 0} (old new : S) (Step : M → Request → Sent → M →
   record Balances (faults : ℕ) (now : Wrapped M) (books : Booked M) : Type 0 where
     same : now.machine ≡ books.machine
     holds : HoldsLog (Accepts Step books.machine) now.log books.requests now.journal.held
-    bound : IsBounded books.failures faults now.journal.faults
+    bound : RoseBy books.failures faults now.journal.faults
 
   balances_on : (faults : ℕ) (now next : Wrapped M) (books : Booked M) (request : Request) (reply : Sent) (edit : Option E) → Balances faults now books
       → Answers Step now.machine now.log now.journal request reply edit next.machine next.log next.journal
@@ -156,12 +150,12 @@ module _ {S M E : Type 0} (old new : S) (Step : M → Request → Sent → M →
           → (books' : Booked M) × Balances faults next books' × LoggedStep Step books request reply books' edit
       by_answer (stays none step same log journal) holds = (
         record { machine = next.machine; requests = books.requests ++ accepted request edit; failures = books.failures },
-        record { same = refl; holds = holds; bound = subst (λ (j : JournalState). IsBounded books.failures faults j.faults) (sym journal) b.bound },
+        record { same = refl; holds = holds; bound = subst (λ (j : JournalState). RoseBy books.failures faults j.faults) (sym journal) b.bound },
         answered (subst (λ (e : Option E). Step books.machine request reply next.machine e) (sym none) step) refl refl,
       )
       by_answer (entered made is step can adds) holds = (
         record { machine = next.machine; requests = books.requests ++ accepted request edit; failures = books.failures },
-        record { same = refl; holds = holds; bound = subst (IsBounded books.failures faults) (sym adds.2) b.bound },
+        record { same = refl; holds = holds; bound = subst (RoseBy books.failures faults) (sym adds.2) b.bound },
         answered (subst (λ (e : Option E). Step books.machine request reply next.machine e) (sym is) step) refl refl,
       )
       by_answer (not_entered none accepts is same can adds) holds =
@@ -205,7 +199,7 @@ module _ {S M E : Type 0} (old new : S) (Step : M → Request → Sent → M →
         → ServesLogged Step Keeps most served requests (view old).machine (view new).machine (view new).log (view old).journal (view new).journal port port' watchers watchers'
     port_logged requests holds =
         let books : Booked M = record { machine = (view old).machine; requests = requests; failures = 0 } in
-        let first : Balances (view old).journal.faults (view old) books = record { same = refl; holds = holds; bound = inl (omega arith) } in
+        let first : Balances (view old).journal.faults (view old) books = record { same = refl; holds = holds; bound = omega arith } in
         let o = port_by (InBytes Steps) (InBytes (LoggedStep Step)) (λ (s : S) (b : Booked M). Balances (view old).journal.faults (view s) b) balanced Keeps most served old new books port port' watchers watchers' first all in
         subst (λ (m : M). ServesLogged Step Keeps most served requests (view old).machine m (view new).log (view old).journal (view new).journal port port' watchers watchers') (sym o.1.same)
         (record {

@@ -2,8 +2,7 @@
 use Rattle.std.specs.Prelude.{ℕ, ◌+◌, ◌*◌, ◌≤◌, List, Option}
 use Rattle.reply_text.specs.Heads.{Sent}
 use Rattle.http_wire.specs.declared.request.Request.{Request}
-use Rattle.http_wire.specs.Serving.{IsBounded}
-use Rattle.xcap_io.specs.Causes.{LineState}
+use Rattle.xcap_io.specs.Causes.{LineState, RoseBy}
 use Rattle.edit_journal.specs.Journals.{JournalState}
 use Rattle.edit_journal.specs.Logs.{LogState}
 use Rattle.http_serve.specs.declared.port.Served.{Served}
@@ -24,4 +23,4 @@ pub record ServesLogged {M W E : Type 0} (Step : M → Request → Sent → M �
   pub failures : ℕ
   pub serves : ServesPort (InBytes (LoggedStep Step)) Keeps most served (record { machine = machine; requests = requests; failures = 0 }) (record { machine = next; requests = accepted; failures = failures }) old new watchers watchers'
   pub holds : HoldsLog (Accepts Step next) log' accepted journal'.held
-  pub bound : IsBounded failures journal.faults journal'.faults
+  pub bound : RoseBy failures journal.faults journal'.faults

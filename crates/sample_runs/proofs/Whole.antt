@@ -1,9 +1,9 @@
 -- Connections whose bytes are known, served by a port that never fails, are served to their end.
-use Rattle.std.proofs.Common.{◌≡◌, ℕ, suc, inl, inr, Bool, true, List, [], ◌∷◌, ◌++◌, length, map, Option, Some, IfSome, refl, sym, ap, subst, ◌∙◌, arith, length-append, append-nil}
-use Rattle.xcap_io.specs.Causes.{LineState}
+use Rattle.std.proofs.Common.{◌≡◌, ℕ, suc, Bool, true, List, [], ◌∷◌, ◌++◌, length, map, Option, Some, IfSome, refl, sym, ap, subst, ◌∙◌, arith, length-append, append-nil}
+use Rattle.xcap_io.specs.Causes.{LineState, RoseBy}
 use Rattle.xcap_io.specs.Histories.{Traffic}
 use Rattle.http_wire.specs.declared.request.Request.{Request}
-use Rattle.http_wire.specs.Serving.{Ending, closed, read_failed, write_failed, HaveBytes, IsBounded, ServesAll, ServesEach, counted_each, read_failures, write_failures}
+use Rattle.http_wire.specs.Serving.{Ending, closed, read_failed, write_failed, HaveBytes, ServesAll, ServesEach, counted_each, read_failures, write_failures}
 use Rattle.http_wire.proofs.Counting.{counts_each}
 use Rattle.http_serve.specs.Fixed.{fixed}
 use Rattle.http_serve.specs.Ports.{Came, ServesPort, Stops}
@@ -31,9 +31,8 @@ none_left NoMore all came rest connections count old new f g t is have many stop
 none_left PortFailed all came rest connections count old new f g t is have many stops = absurd (omega (arith, f, g, stops.1))
 
 -- no read failed
-no_failure : (n : ℕ) → IsBounded n 0 0 → n ≡ 0
-no_failure n (inl h) = omega (arith, h)
-no_failure n (inr h) = absurd (omega (arith, h))
+no_failure : (n : ℕ) → RoseBy n 0 0 → n ≡ 0
+no_failure n few = omega (arith, few)
 
 -- of all connections all bytes count, and their end was found
 abbrev AllGiven : List Traffic → List (List ℕ) → List Ending → Type 0
@@ -70,8 +69,8 @@ module _ {M E : Type 0} (Step : M → Request → List ℕ → M → Option E �
       let none : came.1 ≡ [] = none_left served.stop all came.0 came.1 v.connections served.connections old new f g came.3 came.2 came.4 v.count v.stop in
       let are : came.0 ≡ all = sym (append-nil came.0) ∙ ap (λ (l : List (List ℕ)). came.0 ++ l) (sym none) ∙ sym came.2 in
       let have : HaveBytes all v.connections = subst (λ (l : List (List ℕ)). HaveBytes l v.connections) are came.4 in
-      let reads : IsBounded (read_failures v.serves.endings) 0 0 = subst (λ (n : ℕ). IsBounded (read_failures v.serves.endings) 0 n) r' (subst (λ (n : ℕ). IsBounded (read_failures v.serves.endings) n new.read_faults) r v.serves.read_bound) in
-      let writes : IsBounded (write_failures v.serves.endings) 0 0 = subst (λ (n : ℕ). IsBounded (write_failures v.serves.endings) 0 n) t' (subst (λ (n : ℕ). IsBounded (write_failures v.serves.endings) n new.write_faults) t v.serves.write_bound) in
+      let reads : RoseBy (read_failures v.serves.endings) 0 0 = subst (λ (n : ℕ). RoseBy (read_failures v.serves.endings) 0 n) r' (subst (λ (n : ℕ). RoseBy (read_failures v.serves.endings) n new.read_faults) r v.serves.read_bound) in
+      let writes : RoseBy (write_failures v.serves.endings) 0 0 = subst (λ (n : ℕ). RoseBy (write_failures v.serves.endings) 0 n) t' (subst (λ (n : ℕ). RoseBy (write_failures v.serves.endings) n new.write_faults) t v.serves.write_bound) in
       let given = all_given machine next v.edits all v.connections v.serves.endings have v.serves.each (no_failure (read_failures v.serves.endings) reads) in (
         counted_each v.connections all v.serves.endings,
         given.0,

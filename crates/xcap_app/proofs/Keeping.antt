@@ -5,8 +5,7 @@ use Rattle.std.proofs.lemmas.List.{length-take, take_all}
 use Rattle.std.specs.Bool.{MatchBool}
 use Rattle.notes.specs.declared.edit.Edit.{Edit}
 use Rattle.http_wire.specs.declared.request.Request.{Request}
-use Rattle.http_wire.specs.Serving.{IsBounded}
-use Rattle.xcap_io.specs.Causes.{LineState, Rose}
+use Rattle.xcap_io.specs.Causes.{LineState, Rose, RoseBy}
 use Rattle.xcap_io.specs.Connections.{listening_at}
 use Rattle.edit_journal.specs.Journals.{IsFirstOf, JournalState}
 use Rattle.edit_journal.specs.Logs.{Fits, LogState}
@@ -123,9 +122,8 @@ nothing_behind : (P : Type 0) (rest : List ℕ) (len held faults : ℕ) (is_torn
 nothing_behind P rest len held faults true none fits b = absurd (omega (arith, none, fits.1))
 nothing_behind P rest len held faults false none fits b = b
 
-no_failures : (failures faults : ℕ) → faults ≡ 0 → IsBounded failures 0 faults → failures ≡ 0
-no_failures failures faults none (inl few) = omega (arith, none, few)
-no_failures failures faults none (inr full) = absurd (omega (arith, none, full))
+no_failures : (failures faults : ℕ) → faults ≡ 0 → RoseBy failures 0 faults → failures ≡ 0
+no_failures failures faults none few = omega (arith, none, few)
 
 not_failed : (faults : ℕ) → nat_lt 0 faults ≡ false → faults ≡ 0
 not_failed faults h = grind (arith, nat_tests)
@@ -170,7 +168,7 @@ module _ {W : Type 0} (Keeps : List Edit → W → W → Type 0) (address : List
   kept_whole : nat_lt 0 journal'.faults ≡ false → ServesKept Keeps IsWritten HasFailed address s.root count served requests m port port' watchers watchers' [] 0
   kept_whole well =
       let now : journal'.faults ≡ 0 = not_failed journal'.faults well in
-      served_kept [] 0 (no_failures v.serves.failures journal'.faults now (subst (λ (n : ℕ). IsBounded v.serves.failures n journal'.faults) none v.serves.bound))
+      served_kept [] 0 (no_failures v.serves.failures journal'.faults now (subst (λ (n : ℕ). RoseBy v.serves.failures n journal'.faults) none v.serves.bound))
       (nothing_behind ((request : Request) × IsRecordable request × AcceptedAt s.root v.next request × IsFirstOf v.serves.holds.rest (record_of request)) v.serves.holds.rest log'.len (length journal'.held) journal'.faults log'.is_torn now fits v.serves.holds.behind)
 
   pub kept_done : nat_lt 0 journal'.faults ≡ false → IsComplete served.stop → KeepsOn Keeps IsWritten HasFailed address s.root count Done requests m port port' watchers watchers'

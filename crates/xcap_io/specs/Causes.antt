@@ -87,9 +87,12 @@ pub record LineState : Type 0 where
   pub port : PortState
   pub peer : PeerState
 
--- the count is greater now than before, or it stands at the greatest `u64`
+-- the count is greater now than before by so much at least, or it stands at the greatest `u64`
+abbrev pub RoseBy : ℕ → ℕ → ℕ → Type 0
+RoseBy n before now = min (before + n) (2 ^ 64 - 1) ≤ now
+
 abbrev pub Rose : ℕ → ℕ → Type 0
-Rose before now = min (before + 1) (2 ^ 64 - 1) ≤ now
+Rose before now = RoseBy 1 before now
 
 -- the count stayed where the call answered `Ok`, and rose where it failed
 abbrev pub Counts : {T E : Type 0} → ℕ → ℕ → Result T E → Type 0

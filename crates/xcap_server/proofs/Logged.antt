@@ -7,7 +7,7 @@ use Rattle.reply_text.specs.Heads.{Sent, plain}
 use Rattle.request_terms.specs.Methods.{is_reading, method_of}
 use Rattle.request_terms.specs.declared.method.Method.{Method}
 use Rattle.request_terms.specs.declared.method.Method.TheVariants.{Get, Head, Put, Delete, Other}
-use Rattle.xcap_io.specs.Causes.{LineState}
+use Rattle.xcap_io.specs.Causes.{LineState, RoseBy}
 use Rattle.xcap_uri.specs.Roots.{IsRoot, authority_of, path_of}
 use Rattle.edit_journal.specs.Journals.{JournalState}
 use Rattle.edit_journal.specs.Logs.{AddsRecord, LogState}
@@ -30,7 +30,6 @@ use Rattle.http_serve.specs.declared.machine.Answered.{Answered}
 use Rattle.http_serve.specs.declared.port.Served.{Served}
 use Rattle.http_serve.specs.Written.{InBytes}
 use Rattle.http_serve.proofs.Simulations.{port_by}
-use Rattle.http_wire.specs.Serving.{IsBounded}
 use Rattle.logged_serve.specs.Books.{Booked, HoldsLog, LoggedStep, accepted, answered, not_logged}
 use Rattle.logged_serve.specs.Logging.{Accepts, Answers, IsLoggable, entered, not_entered, stays}
 use Rattle.logged_serve.specs.Ports.{ServesLogged}
@@ -344,7 +343,7 @@ module _ {W : Type 0} (Keeps : List Edit → W → W → Type 0) (s now s' : Ser
           serves = o.2;
           holds = subst (λ (rs : List Request). HoldsLog (AcceptedAt now.root o.0.machine) log' rs journal'.held) o.1.same_requests
               (holds_so (Accepts AnswersRequest s') (AcceptedAt now.root o.0.machine) log' v.accepted journal'.held (forth now.root on_root s' o.0.machine o.1.here) v.holds);
-          bound = subst (λ (n : ℕ). IsBounded n journal.faults journal'.faults) o.1.same_failures v.bound;
+          bound = subst (λ (n : ℕ). RoseBy n journal.faults journal'.faults) o.1.same_failures v.bound;
         };
         redone = o.1.redone;
       }
