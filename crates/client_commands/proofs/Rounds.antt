@@ -1,5 +1,5 @@
 -- Rounds, one after the other.
-use Rattle.std.proofs.Common.{◌≡◌, ℕ, suc, ◌+◌, ◌≤◌, ◌<◌, List, Option, Some, Result, Ok, refl, sym, subst, add-one, arith}
+use Rattle.std.proofs.Common.{◌≡◌, ℕ, ◌+◌, List, Ok, refl, sym, subst, add-one}
 use Rattle.xcap_io.specs.Causes.{LineState}
 use Rattle.patch_words.specs.Replay.{CopyHeld}
 use Rattle.stream_texts.specs.Outputs.{TakesAll, TakesSome}
@@ -7,7 +7,7 @@ use Rattle.feed_follower.specs.Rounds.{Rounds}
 use Rattle.feed_follower.specs.States.{Following}
 use Rattle.feed_follower.specs.declared.feeds.Round.{Round}
 use Rattle.client_commands.specs.Endings.{Writes}
-use Rattle.client_commands.specs.Follows.{FollowsOn, MakesRound, RoundEnds, RoundMade, RoundsMade, WritesCopy, follows_to_the_end, stops_in_a_round}
+use Rattle.client_commands.specs.Follows.{FollowsOn, RoundEnds, RoundMade, RoundsMade, WritesCopy, follows_to_the_end}
 use Rattle.client_commands.specs.Lines.{tag_line}
 use Rattle.client_commands.specs.declared.ended.Ended.{Ended}
 use Rattle.client_commands.specs.declared.ended.Ended.TheVariants.{Done, InputFailed, OutputFailed, TooLarge, Failed, OutOfMemory}

@@ -1,5 +1,5 @@
 -- What a command did that makes one call, by how it ended. This is the project's own.
-use Rattle.std.specs.Prelude.{◌≡◌, ℕ, List, Result, Ok, Err}
+use Rattle.std.specs.Prelude.{◌≡◌, ℕ, List, Ok, Err}
 use Rattle.xcap_io.specs.Causes.{LineState}
 use Rattle.http_exchange.specs.declared.request.Ask.{Ask}
 use Rattle.http_exchange.specs.declared.response.Response.{Response}

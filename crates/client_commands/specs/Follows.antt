@@ -1,5 +1,5 @@
 -- What the command that follows a document did, by how it ended. This is the project's own.
-use Rattle.std.specs.Prelude.{◌≡◌, ℕ, zero, suc, ◌≤◌, ◌<◌, List, Option, None, Some, Result, Ok, Err}
+use Rattle.std.specs.Prelude.{◌≡◌, ℕ, zero, suc, ◌<◌, List, Option, None, Some, Ok, Err}
 use Rattle.xcap_io.specs.Causes.{LineState}
 use Rattle.doc_names.specs.declared.doc_id.DocId.{DocId}
 use Rattle.patch_words.specs.Replay.{CopyHeld}

@@ -1,5 +1,5 @@
 -- What the commands of the client write of responses. This is the project's own.
-use Rattle.std.specs.Prelude.{ℕ, List, [], ◌∷◌, ◌++◌, Option, None, Some, codes, decimal, encode_utf8_all}
+use Rattle.std.specs.Prelude.{ℕ, List, [], ◌++◌, Option, None, Some, codes, decimal, encode_utf8_all}
 use Rattle.tree_text.specs.Printing.{document_print}
 use Rattle.http_exchange.specs.declared.response.Response.{Response}
 use Rattle.patch_words.specs.Replay.{CopyHeld}

@@ -1,5 +1,5 @@
 -- What a follower asked for, by the calls that it made.
-use Rattle.std.proofs.Common.{◌≡◌, ℕ, List, Option, None, Some, Result, Ok, Err, refl, sym, subst}
+use Rattle.std.proofs.Common.{◌≡◌, ℕ, List, Option, None, Some, Result, Ok, Err, refl, subst}
 use Rattle.xcap_io.specs.Causes.{LineState}
 use Rattle.xml_tree.specs.Tree.{Tree}
 use Rattle.doc_names.specs.declared.doc_id.DocId.{DocId}

@@ -1,5 +1,5 @@
 -- What a follower makes of the answer to a GET of its document (RFC 4825, section 7.3; RFC 9110, section 15).
-use Rattle.std.specs.Prelude.{◌≡◌, ℕ, Bool, true, false, ◌==◌, List, [], Option, None, Some, Result, Ok, Err, if◌then◌else◌}
+use Rattle.std.specs.Prelude.{◌≡◌, ℕ, Bool, false, ◌==◌, List, [], Option, None, Some, Result, Ok, Err, if◌then◌else◌}
 use Rattle.xcap_io.specs.Causes.{LineState}
 use Rattle.xml_tree.specs.Tree.{Tree}
 use Rattle.tree_text.specs.Faults.{TextAnswer}

@@ -1,5 +1,5 @@
 -- What a follower makes of the answer to a GET of the feed of its document's changes (RFC 5874, section 3; RFC 5875).
-use Rattle.std.specs.Prelude.{◌≡◌, ℕ, Bool, List, Option, None, Some, Result, Ok, Err, if◌then◌else◌}
+use Rattle.std.specs.Prelude.{◌≡◌, ℕ, List, Option, None, Some, Result, Ok, Err, if◌then◌else◌}
 use Rattle.xml_tree.specs.Tree.{Tree}
 use Rattle.xml_tree.specs.declared.read_error.ReadError.{ReadError}
 use Rattle.doc_names.specs.declared.doc_id.DocId.{DocId}

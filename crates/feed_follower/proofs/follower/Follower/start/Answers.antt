@@ -1,5 +1,5 @@
 use Rattle.std.proofs.Common.{ap, ◌∙◌}
-use Rattle.std.specs.Prelude.{Err, chars, option_map}
+use Rattle.std.specs.Prelude.{Err}
 use Rattle.std.proofs.lemmas.Result.{err_from_is_err_and}
 use Rattle.feed_follower.proofs.Asking.{not_started}
 use Rattle.feed_follower.proofs.follower.Follower.start.Goals as goal
