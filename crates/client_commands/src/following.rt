@@ -1,7 +1,6 @@
 // The command that follows a document.
-ghost use Rattle.std.specs.Prelude.{◌≡◌, ◌≤◌, [], None, IfOk, MatchOption};
+ghost use Rattle.std.specs.Prelude.{None};
 ghost use Rattle.patch_apply.specs.Views.{held_in};
-ghost use Rattle.client_commands.specs.Endings.{Writes};
 ghost use Rattle.client_commands.specs.Follows.{FollowsOn, Follows, MakesRound, WritesCopy};
 
 use crate::asker::Asker;

@@ -1,6 +1,5 @@
 // The fields and the body of a record, read from bytes that may break off.
-ghost use Rattle.std.specs.Prelude.{◌≡◌, ◌≤◌, ◌<◌, ◌+◌, ◌-◌, ◌*◌, ◌++◌, drop, take, length, IfOk, OnOk, if◌then◌else◌, ◌==◌};
-ghost use Rattle.edit_journal.specs.Records.{field_text};
+ghost use Rattle.std.specs.Prelude.{◌≡◌, ◌≤◌, ◌<◌, ◌+◌, ◌-◌, ◌*◌, drop, take, length, IfOk, OnOk, if◌then◌else◌, ◌==◌};
 ghost use Rattle.edit_journal.specs.inner.Reading.{Reads, Value, FieldPart, FieldsAndBody, HasRoom};
 
 use crate::reading::{Stop, after, block, name};

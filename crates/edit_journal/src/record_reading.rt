@@ -1,5 +1,5 @@
 // A record, read from bytes that may break off.
-ghost use Rattle.std.specs.Prelude.{◌≡◌, ◌≤◌, ◌<◌, ◌+◌, ◌-◌, drop, nat_lt, if◌then◌else◌};
+ghost use Rattle.std.specs.Prelude.{◌≡◌, ◌≤◌, ◌+◌, ◌-◌, nat_lt, if◌then◌else◌};
 ghost use Rattle.edit_journal.specs.inner.Reading.{Reads, Method, Rest, Content, Record};
 
 use crate::reading::{Stop, after, block, number, short};

@@ -1,6 +1,6 @@
 // Records of requests, as they are written.
-ghost use Rattle.std.specs.Prelude.{◌≡◌, ◌<◌, ◌≤◌, ◌^◌, ◌++◌, ◌∷◌, [], length, All, IfOk, OnOk};
-ghost use Rattle.std.specs.Int.{w16, to_be_bytes};
+ghost use Rattle.std.specs.Prelude.{◌≡◌, ◌<◌, ◌^◌, ◌++◌, length, All, IfOk, OnOk};
+ghost use Rattle.std.specs.Int.{to_be_bytes};
 ghost use Rattle.edit_journal.specs.Records.{method_number, block, field_text, fields_text, content, record_of, IsRecordable};
 ghost use Rattle.edit_journal.specs.inner.Writing.{IsWritable};
 

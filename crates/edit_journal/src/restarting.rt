@@ -1,8 +1,8 @@
 // How a server is brought back from an old journal.
-ghost use Rattle.std.specs.Prelude.{◌≡◌, ◌+◌, ◌<◌, ◌≤◌, ◌^◌, ℕ, List, [], ◌∷◌, ◌++◌, length, false, OnOk};
+ghost use Rattle.std.specs.Prelude.{◌≡◌, ◌+◌, ◌≤◌, ℕ, List, [], ◌++◌, length, false, OnOk};
 ghost use Rattle.edit_journal.specs.Logs.{Fits};
 ghost use Rattle.edit_journal.specs.Records.{record_of};
-ghost use Rattle.edit_journal.specs.Texts.{IsTold, text, HasNoRecord, IsTorn};
+ghost use Rattle.edit_journal.specs.Texts.{IsTold, HasNoRecord, IsTorn};
 ghost use Rattle.edit_journal.specs.Restarts.{Restarts};
 ghost use Rattle.edit_journal.specs.inner.Redoing.{RedoesHeld};
 

@@ -10,9 +10,7 @@ ghost use Rattle.edit_ops.specs.Rebuilding.{FitsHere, made_here};
 
 use crate::change::{Change, site_of};
 use std::alloc::{AllocError, Global};
-use xml_tree::{
-    Attr, Element, Name, Node, Path, Text, copy_nodes, copy_tree, place_of, place_of_gap,
-};
+use xml_tree::{Attr, Element, Name, Node, Text, copy_nodes, copy_tree, place_of, place_of_gap};
 
 // ---- an element, part by part
 

@@ -1,5 +1,5 @@
 // The document that a follower copies, as its server has it.
-ghost use Rattle.std.specs.Prelude.{◌≡◌, IfOk, chars, option_map};
+ghost use Rattle.std.specs.Prelude.{IfOk, chars, option_map};
 ghost use Rattle.patch_apply.specs.Views.{held_in};
 ghost use Rattle.patch_laws.specs.Premises.{IsSound};
 ghost use Rattle.patch_laws.specs.Replayed.{HoldsSound};

@@ -1,5 +1,5 @@
 // The feed of a document's changes, and what a follower makes of it.
-ghost use Rattle.std.specs.Prelude.{◌≡◌, OnErr};
+ghost use Rattle.std.specs.Prelude.{◌≡◌};
 ghost use Rattle.patch_apply.specs.Views.{held_in};
 ghost use Rattle.patch_laws.specs.Replayed.{HoldsSound};
 ghost use Rattle.feed_follower.specs.Feeds.{KeepsUnlessTold, TakesFeed, TakesNotice, outcome_of};

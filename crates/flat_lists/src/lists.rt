@@ -17,7 +17,6 @@ use request_terms::{Method, as_asked};
 use std::alloc::{AllocError, Global};
 use store_core::Store;
 use tree_text::print_document;
-use xcap_io::Bytes;
 use xcap_uri::Root;
 use xml_tree::{Element, ReadError, Text};
 

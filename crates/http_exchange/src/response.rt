@@ -1,5 +1,5 @@
 // A response, read from a connection that ends behind it.
-ghost use Rattle.std.specs.Prelude.{◌+◌, Option, length, Ok};
+ghost use Rattle.std.specs.Prelude.{◌+◌, Option, Ok};
 ghost use Rattle.xcap_io.specs.Causes.{Reads};
 ghost use Rattle.http_exchange.specs.Stops.{CountsFault};
 ghost use Rattle.http_exchange.specs.Responses.{Answers, GivesBody};

@@ -1,5 +1,5 @@
 //! What a walk comes by.
-ghost use Rattle.std.specs.Prelude.{◌≡◌, ◌≤◌, ◌∷◌, [], chars, IfOk, OnOk, OnErr, IfErr};
+ghost use Rattle.std.specs.Prelude.{◌≡◌, ◌≤◌, ◌∷◌, [], chars, IfOk, OnOk, IfErr};
 ghost use Rattle.list_resolve.specs.Places.{is_on};
 ghost use Rattle.list_resolve.specs.Walks.{address, mark};
 ghost use Rattle.list_resolve.specs.inner.Gathering.{Fails, gathering, nothing, passing};

@@ -1,5 +1,5 @@
 //! Reading selectors.
-ghost use Rattle.std.specs.Prelude.{◌≡◌, ◌+◌, ◌-◌, ◌<◌, ◌^◌, length, map, IfOk, chars, encode_utf8_all};
+ghost use Rattle.std.specs.Prelude.{◌≡◌, ◌-◌, ◌<◌, ◌^◌, length, map, IfOk, chars, encode_utf8_all};
 ghost use Rattle.xml_tree.specs.Memory.{Answered};
 ghost use Rattle.node_select.specs.Faults.{IsPatchFormAnswer, IsPatchSelectorAnswer, IsSelectorAnswer, byte_of};
 ghost use Rattle.node_select.specs.readers.Raw.{HasRoom, first_unbound, first_unbound_in_patch, patch_selector_of, selector_of};

@@ -1,5 +1,5 @@
 //! What a selector selects in a tree.
-ghost use Rattle.std.specs.Prelude.{◌≡◌, ◌≤◌, ◌<◌, ◌+◌, ◌++◌, ◌↔◌, ℕ, List, [], ◌∷◌, length, option_map, Some};
+ghost use Rattle.std.specs.Prelude.{◌≡◌, ◌≤◌, ◌+◌, ◌++◌, ◌↔◌, ℕ, List, [], ◌∷◌, length, option_map, Some};
 ghost use Rattle.xml_tree.specs.Tree.{height, kids_of};
 ghost use Rattle.node_select.specs.Selection.{IsLongestMatch, SelectsPath, depth_among, longest_in, selected_among, selected_in};
 

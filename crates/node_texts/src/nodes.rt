@@ -1,5 +1,5 @@
 //! What a selector finds in a document, as it is sent (RFC 4825, sections 7.6, 7.9, 7.10 and 10).
-ghost use Rattle.std.specs.Prelude.{◌≡◌, ◌≤◌, ◌<◌, [], Some, IfOk, is_some};
+ghost use Rattle.std.specs.Prelude.{◌≡◌, ◌≤◌, [], Some, IfOk, is_some};
 ghost use Rattle.std.specs.List.{find};
 ghost use Rattle.std.specs.Option.{option_copied};
 ghost use Rattle.xml_tree.specs.Print.{print};

@@ -1,5 +1,5 @@
 //! Lists of notes.
-ghost use Rattle.std.specs.Prelude.{◌≡◌, ◌+◌, ◌++◌, slice_get};
+ghost use Rattle.std.specs.Prelude.{◌≡◌, ◌++◌, slice_get};
 ghost use Rattle.std.specs.Option.{option_copied};
 
 use crate::edit_note::EditNote;

@@ -3,7 +3,7 @@
 //! The terms are those of RFC 4825, sections 6.3, 8.2 and 8.4; nothing here runs.
 #![tactic(auto)]
 
-ghost use Rattle.std.specs.Prelude.{◌≡◌, ◌↔◌, ℕ, ◌<◌, ◌≤◌, Bool, IsTrue, List, length, take, insert, remove, slice_set, slice_get, count_by, Option, None, Some, Result};
+ghost use Rattle.std.specs.Prelude.{◌≡◌, ◌↔◌, ℕ, ◌≤◌, Bool, IsTrue, List, length, take, insert, remove, slice_set, slice_get, count_by, Option, None, Some, Result};
 ghost use Rattle.step_laws.specs.Selection.{AreAlike, IsAtPosition, Matches, Selects, selected};
 ghost use Rattle.step_laws.specs.Places.{IsFree, Lawful, PlanIs, plan_of};
 ghost use Rattle.step_laws.specs.Edits.{IsNextMatch, IsPassedOver, shifted};

@@ -1,5 +1,5 @@
 //! Elements: their tags, their content, and the elements in it, no deeper than a limit.
-ghost use Rattle.std.specs.Prelude.{◌≡◌, ◌+◌, ◌-◌, ◌≤◌, ◌<◌, ◌++◌, true, [], ◌∷◌, length, IfOk, OnOk, Ok, Err};
+ghost use Rattle.std.specs.Prelude.{◌≡◌, ◌+◌, ◌≤◌, ◌<◌, ◌++◌, true, [], ◌∷◌, length, IfOk, OnOk, Ok, Err};
 ghost use Rattle.grammar_rules.specs.Reading.{starts, judgement};
 ghost use Rattle.xml_tree.specs.Edits.{with_text};
 ghost use Rattle.xml_tree.specs.Tree.{last, tree_of};

@@ -1,5 +1,5 @@
 // The words of the client's commands.
-ghost use Rattle.std.specs.Prelude.{◌≡◌, IfOk, chars};
+ghost use Rattle.std.specs.Prelude.{◌≡◌, IfOk};
 ghost use Rattle.std.specs.List.{list_all};
 ghost use Rattle.xcap_app.specs.AskingWords.{asker_of, begins_with_http, delete_of, fetch_of, follow_of, http_root_of, is_http, is_visible, is_word, put_of, rounds_of, text_of, user_of};
 

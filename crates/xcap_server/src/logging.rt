@@ -1,5 +1,5 @@
 // The documents under a root, as what answers requests and enters those that it accepts in a log.
-ghost use Rattle.std.specs.Prelude.{◌≡◌, ◌≤◌, None, is_some, IfOk, OnErr};
+ghost use Rattle.std.specs.Prelude.{◌≡◌, None, is_some};
 ghost use Rattle.reply_text.specs.Heads.{plain};
 ghost use Rattle.document_writes.specs.Deciding.{answer_of};
 

@@ -1,5 +1,5 @@
 //! The server, whose accepted requests are entered in a log before their changes are made.
-ghost use Rattle.std.specs.Prelude.{◌≡◌, ◌≤◌, ◌*◌, List, IfOk, OnErr, MatchResult};
+ghost use Rattle.std.specs.Prelude.{◌≡◌, ◌≤◌, ◌*◌, List, IfOk, OnErr};
 ghost use Rattle.http_wire.specs.declared.request.Request.{Request as TheRequest};
 ghost use Rattle.edit_journal.specs.Journals.{Goes};
 ghost use Rattle.edit_journal.specs.Logs.{Fits};

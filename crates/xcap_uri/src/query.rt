@@ -1,5 +1,5 @@
 //! Queries of addresses (RFC 4825, section 6.4): rows of `xmlns()` parts, which bind prefixes.
-ghost use Rattle.std.specs.Prelude.{◌≡◌, ◌<◌, ◌+◌, ◌^◌, ◌∷◌, chars, length, option_map};
+ghost use Rattle.std.specs.Prelude.{◌≡◌, ◌<◌, ◌+◌, ◌^◌, ◌∷◌, length, option_map};
 ghost use Rattle.xcap_io.specs.Wanting.{StatedOr};
 ghost use Rattle.std.specs.Str.{bytes_eq};
 ghost use Rattle.grammar_rules.specs.Reading.{after_front, head_is};
