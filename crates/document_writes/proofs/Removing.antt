@@ -14,7 +14,7 @@ use Rattle.edit_ops.specs.declared.change.Change.TheVariants.{Remove, DropAttr}
 use Rattle.plan_words.specs.Deletions.{FindsNothingAfter, IsDeletePlan, IsPlanFor, IsRemoval}
 use Rattle.plan_words.specs.Plans.{IsTested, by_fault}
 use Rattle.plan_words.specs.declared.refusal.EditRefusal.{EditRefusal}
-use Rattle.plan_words.specs.declared.refusal.EditRefusal.TheVariants.{NotFound, CannotDelete, Schema}
+use Rattle.plan_words.specs.declared.refusal.EditRefusal.TheVariants.{NotFound, CannotDelete, Faulty}
 use Rattle.http_wire.specs.declared.request.Request.{Request}
 use Rattle.machine_words.specs.Fragments.{is_there}
 use Rattle.document_writes.specs.inner.Planning.{IsCut, IsPlanOf, MayBeMade}
@@ -35,7 +35,7 @@ tested_never lawful u t change (inl h) = let z : ◌≡◌ {A = Result Change Ed
 tested_never lawful u t change (inr h) = judged_never change h.1.0 h.1.1.1
 
 removal_never : (u : Usage) (t : Tree) (selector : Selector) (p : List ℕ) → IsRemoval u t selector p (Err NotFound) → ⊥
-removal_never u t selector [] h = let z : ◌≡◌ {A = Result Change EditRefusal} (Err NotFound) (Err Schema) = h in cc
+removal_never u t selector [] h = let z : ◌≡◌ {A = Result Change EditRefusal} (Err NotFound) (Err (Faulty Invalid)) = h in cc
 removal_never u t selector (n ∷ p) h = tested_never (FindsNothingAfter selector t (Remove (n ∷ p))) u t (Remove (n ∷ p)) h
 
 found_never : (u : Usage) (t : Tree) (selector : Selector) (p : List ℕ) (e : Tree) (end : End) → IsPlanFor u t selector p e end (Err NotFound) → ⊥

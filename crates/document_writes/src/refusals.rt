@@ -2,19 +2,19 @@
 ghost use Rattle.std.specs.Prelude.{◌≡◌, IfOk};
 ghost use Rattle.machine_words.specs.Answers.{conflict};
 ghost use Rattle.machine_words.specs.Fragments.{plan_refused};
-ghost use Rattle.machine_words.specs.Writing.{clash_field, refused};
+ghost use Rattle.machine_words.specs.Writing.{clash_field, fault_conflict, refused};
 ghost use Rattle.conflict_docs.specs.declared.conflicts.ErrorBody.TheVariants as conflicts;
 
 use crate::NoMemory;
-use crate::conflicts::{conflict, uniqueness};
+use crate::conflicts::{conflict, fault_conflict, uniqueness};
 use conflict_docs::ErrorBody;
 use edit_plans::EditRefusal;
 use reply_text::Reply;
 use std::alloc::Global;
 use store_core::StoreRefusal;
-use usage_docs::Clash;
+use usage_docs::{Clash, Fault};
 
-// The reply to a key that is there already: a sibling's, or a service address of another document.
+// The reply to a service address that another document has.
 fn taken(alloc: Global, clash: Clash, closes: bool) -> Result<Reply, NoMemory>
     ensures tells_the_clash { IfOk result (λ reply. reply ≡ conflict (conflicts.Unique (clash_field clash)) closes) }
 {
@@ -35,6 +35,14 @@ pub(crate) fn refused(alloc: Global, refusal: StoreRefusal, closes: bool) -> Res
     }
 }
 
+// The reply to a change that would make a document with this fault.
+fn faulty(alloc: Global, fault: Fault, closes: bool) -> Result<Reply, NoMemory>
+    ensures tells_the_fault { IfOk result (λ reply. reply ≡ conflict (fault_conflict fault) closes) }
+{
+    let body = fault_conflict(alloc, &fault)?;
+    conflict(alloc, &body, closes)
+}
+
 /// The reply to a change of a node for which there is no plan.
 pub(crate) fn unplanned(alloc: Global, why: EditRefusal, closes: bool) -> Result<Reply, NoMemory>
     ensures tells_the_refusal { IfOk result (λ reply. reply ≡ plan_refused why closes) }
@@ -43,8 +51,6 @@ pub(crate) fn unplanned(alloc: Global, why: EditRefusal, closes: bool) -> Result
         EditRefusal::NotFound => Ok(Reply::fixed(404, closes)),
         EditRefusal::CannotInsert => conflict(alloc, &ErrorBody::CannotInsert, closes),
         EditRefusal::CannotDelete => conflict(alloc, &ErrorBody::CannotDelete, closes),
-        EditRefusal::Schema => conflict(alloc, &ErrorBody::Schema, closes),
-        EditRefusal::Constraint => conflict(alloc, &ErrorBody::Constraint, closes),
-        EditRefusal::Unique(clash) => taken(alloc, clash, closes),
+        EditRefusal::Faulty(fault) => faulty(alloc, fault, closes),
     }
 }

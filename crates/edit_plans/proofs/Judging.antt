@@ -17,6 +17,7 @@ use Rattle.usage_docs.specs.Forms.{Constraints, IsNodeFormed}
 use Rattle.xml_tree.specs.declared.tree.Node.TheVariants.{Elem}
 use Rattle.usage_docs.specs.Validity.{Schema}
 use Rattle.usage_docs.specs.declared.judging.Fault.{Fault}
+use Rattle.usage_docs.specs.declared.judging.Fault.TheVariants as faults
 use Rattle.usage_docs.specs.declared.judging.Fault.TheVariants.{Unformed, Repeated}
 use Rattle.usage_docs.specs.Reading.Siblings.{IsFirst}
 use Rattle.edit_ops.specs.Changes.{edited}
@@ -37,10 +38,10 @@ true_false b t f = cc
 -- ---- a new element in a gap
 
 module _ (formed : Type 0) (row : Option Kind) (c : Scope) (kids : List Tree) (new : Tree) (q : List ℕ) (gap : ℕ) where
-  pub judged_unformed : (formed → ⊥) → IsJudgedIn formed row c kids new q gap (Err refusals.Constraint)
+  pub judged_unformed : (formed → ⊥) → IsJudgedIn formed row c kids new q gap (Err (refusals.Faulty Unformed))
   judged_unformed fails = inl (refl, fails)
 
-  pub judged_clash : (kind : Kind) (clash : Clash) → row ≡ Some kind → formed → IsFirst (ClashesBeside kind c kids new gap) q (Some clash) → IsJudgedIn formed row c kids new q gap (Err (refusals.Unique clash))
+  pub judged_clash : (kind : Kind) (clash : Clash) → row ≡ Some kind → formed → IsFirst (ClashesBeside kind c kids new gap) q (Some clash) → IsJudgedIn formed row c kids new q gap (Err (refusals.Faulty (Repeated clash)))
   judged_clash kind clash is h first = inr (inl (clash, (refl, h, (kind, (is, first)))))
 
   pub judged_ok : (kind : Kind) → row ≡ Some kind → formed → IsFirst (ClashesBeside kind c kids new gap) q None → IsJudgedIn formed row c kids new q gap (Ok gap)
@@ -85,9 +86,9 @@ module _ (row : Option Kind) (c : Scope) (step : Step) (parent new : Tree) (q : 
   placed_unlawful (inl h) = record { gap = Err refusals.CannotInsert; is_chosen = inl (refl, h.1); then = refl }
   placed_unlawful (inr h) = absurd (unlawful_is_not h.0)
 
-  pub placed_invalid : Chosen (Err Invalid) → IsPlacedIn row c step parent new q (Err refusals.Schema)
+  pub placed_invalid : Chosen (Err Invalid) → IsPlacedIn row c step parent new q (Err (refusals.Faulty faults.Invalid))
   placed_invalid (inl h) = absurd (invalid_is_not h.0)
-  placed_invalid (inr h) = record { gap = Err refusals.Schema; is_chosen = inr (refl, h.1); then = refl }
+  placed_invalid (inr h) = record { gap = Err (refusals.Faulty faults.Invalid); is_chosen = inr (refl, h.1); then = refl }
 
 -- ---- of the new document
 

@@ -16,8 +16,9 @@ use Rattle.usage_docs.specs.Rows.{Scope}
 use Rattle.usage_docs.specs.Validity as usage
 use Rattle.edit_ops.specs.declared.change.Change.{Change}
 use Rattle.edit_ops.specs.declared.change.Change.TheVariants.{Insert}
+use Rattle.usage_docs.specs.declared.judging.Fault.TheVariants.{Invalid}
 use Rattle.plan_words.specs.declared.refusal.EditRefusal.{EditRefusal}
-use Rattle.plan_words.specs.declared.refusal.EditRefusal.TheVariants.{CannotInsert, Schema}
+use Rattle.plan_words.specs.declared.refusal.EditRefusal.TheVariants.{CannotInsert, Faulty}
 use Rattle.usage_docs.specs.Kinds.{kind_at}
 use Rattle.plan_words.specs.Lawful.{LawfulGap}
 use Rattle.plan_words.specs.Plans.{IsJudged, by_fault}
@@ -70,7 +71,7 @@ insertion_is u t parent new q first steps s placed there faultless selects h =
     let V = FitsIn (kind_at u t q) (scope_at q t) parent.content new in
     let all = first ∷ (steps ++ s ∷ []) in
     let V' : ℕ → Type 0 = λ j. usage.Schema u (put_in q j new t) in
-    let chosen = plan_alike CannotInsert Schema L (LawfulGap all t new q) V V' (many + 1) h.gap
+    let chosen = plan_alike CannotInsert (Faulty Invalid) L (LawfulGap all t new q) V V' (many + 1) h.gap
     (λ j lt. let x = lawful_gap first steps s t parent new q j selects there (omega arith) in (λ a. x.1 a, λ a. x.0 a))
     (λ j lt. let x = valid_beside u t parent new q j there (omega arith) faultless.0 in (λ a. x.1 a, λ a. x.0 a))
     h.is_chosen in
@@ -79,7 +80,7 @@ insertion_is u t parent new q first steps s placed there faultless selects h =
       there = there;
       gap = h.gap;
       is_chosen = chosen;
-      then = from_gap u t parent new q there faultless h.gap placed (λ j is. within_plan CannotInsert Schema (LawfulGap all t new q) V' many j h.gap chosen is) h.then;
+      then = from_gap u t parent new q there faultless h.gap placed (λ j is. within_plan CannotInsert (Faulty Invalid) (LawfulGap all t new q) V' many j h.gap chosen is) h.then;
     }
 
 -- as the selector's spot says it

@@ -18,7 +18,7 @@ use xml_tree::{Element, NoMemory, Path};
 
 /// What is answered of the element at a path, which the selector's steps select, with this tag:
 /// `CannotInsert` or `CannotDelete` where the attribute wouldn't be found as it should be; then
-/// `Schema`, `Constraint` and `Unique`.
+/// `Faulty`.
 ///
 /// # Errors
 /// `NoMemory` for want of memory.

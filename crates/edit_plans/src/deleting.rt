@@ -19,6 +19,7 @@ use edit_ops::{Change, tag_of};
 use node_select::{End, Selector, find_attr, select};
 use plan_words::EditRefusal;
 use std::alloc::Global;
+use usage_docs::Fault;
 use xml_tree::{Element, Name, NoMemory, Path, Scope, Text, element_at};
 
 // The removal of the element at a path, where it may be made.
@@ -58,7 +59,7 @@ fn plan_removal(
     ensures plans_the_removal { IfOk result (IsDeletePlan usage root.now selector.now) }
 {
     let Some((place, child)) = path.split_last() else {
-        return Ok(Err(EditRefusal::Schema));
+        return Ok(Err(EditRefusal::Faulty(Fault::Invalid)));
     };
     let [.., step] = selector.steps.as_slice() else {
         unreachable!()
@@ -105,9 +106,9 @@ fn plan_drop<'a>(
 
 /// The change that a DELETE of an element or an attribute makes; the selector doesn't end in
 /// `namespace::*`. The document is one that its usage accepts. Of the document only what the steps
-/// pass, the way to the parent and the parent's children are looked at. There is none: `NotFound` exactly where nothing is found; `Schema` for the root element; `CannotDelete` exactly
-/// where the selector would still find something; then `Schema`, `Constraint`, and `Unique` with
-/// the first clash.
+/// pass, the way to the parent and the parent's children are looked at. There is none: `NotFound`
+/// exactly where nothing is found; `Faulty` for the root element; `CannotDelete` exactly where the
+/// selector would still find something; then `Faulty` with the first fault of the new document.
 ///
 /// # Errors
 /// `NoMemory` for want of memory.

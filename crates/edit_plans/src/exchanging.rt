@@ -12,7 +12,7 @@ use crate::siblings::Siblings;
 use node_select::Step;
 use plan_words::EditRefusal;
 use std::alloc::Global;
-use usage_docs::Kind;
+use usage_docs::{Fault, Kind};
 use xml_tree::{Around, Element, NoMemory, Path};
 
 // Whether a new element is valid by itself, and may stand between the neighbours of a child.
@@ -35,7 +35,7 @@ fn fits_over(
 }
 
 /// What is answered of a new element in the place of a child, which the step selects: the parent is
-/// at this place. `CannotInsert` where the step wouldn't select the new element, `Schema` where the
+/// at this place. `CannotInsert` where the step wouldn't select the new element, `Faulty` where the
 /// parent wouldn't be valid; then as `judged`.
 ///
 /// # Errors
@@ -58,7 +58,7 @@ pub(crate) fn exchanged_in(
         return Ok(Err(EditRefusal::CannotInsert));
     }
     if !fits_over(alloc, row, scope, parent, child, new)? {
-        return Ok(Err(EditRefusal::Schema));
+        return Ok(Err(EditRefusal::Faulty(Fault::Invalid)));
     }
     let siblings = Siblings::without(parent, child);
     judged_new(alloc, row, scope, &siblings, place, new, child)

@@ -8,7 +8,7 @@ use crate::siblings::{Siblings, first_beside};
 use node_select::Step;
 use plan_words::EditRefusal;
 use std::alloc::Global;
-use usage_docs::{Kind, is_formed_child};
+use usage_docs::{Fault, Kind, is_formed_child};
 use xml_tree::{Around, Element, NoMemory, Path};
 
 // Whether the references of a new element, and of those in it, have their form, where its parent
@@ -28,7 +28,7 @@ fn is_formed_in(
 }
 
 /// What is answered of a new element in a gap among its siblings: the parent is at this place, and
-/// the references in the new element have their form or not. `Constraint`, else `Unique` with the
+/// the references in the new element have their form or not. `Unformed`, else `Repeated` with the
 /// first clash.
 ///
 /// # Errors
@@ -49,13 +49,13 @@ pub(crate) fn judged(
     ensures judges_by_the_form { IfOk result (IsJudgedIn (IsTrue formed) row scope.now (others siblings.now.left_out (kids_of siblings.now.parent.now)) new.now place.now gap) }
 {
     if !formed {
-        return Ok(Err(EditRefusal::Constraint));
+        return Ok(Err(EditRefusal::Faulty(Fault::Unformed)));
     }
     let Some(kind) = row else {
         return Ok(Ok(gap));
     };
     match first_beside(alloc, kind, scope, siblings, new, gap, place)? {
-        Some(clash) => Ok(Err(EditRefusal::Unique(clash))),
+        Some(clash) => Ok(Err(EditRefusal::Faulty(Fault::Repeated(clash)))),
         None => Ok(Ok(gap)),
     }
 }
@@ -83,7 +83,7 @@ pub(crate) fn judged_new(
 }
 
 /// The gap of a parent, which is at this place, for a new element. `CannotInsert` where the step
-/// would select the new element in no gap, `Schema` where the parent would be valid in none of
+/// would select the new element in no gap, `Faulty` where the parent would be valid in none of
 /// these; then as `judged`.
 ///
 /// # Errors
@@ -104,6 +104,6 @@ pub(crate) fn placed_in(
     match choose_gap(alloc, row, scope, step, parent, new)? {
         Ok(gap) => judged_new(alloc, row, scope, &Siblings::all(parent), place, new, gap),
         Err(NoGap::Unlawful) => Ok(Err(EditRefusal::CannotInsert)),
-        Err(NoGap::Invalid) => Ok(Err(EditRefusal::Schema)),
+        Err(NoGap::Invalid) => Ok(Err(EditRefusal::Faulty(Fault::Invalid))),
     }
 }

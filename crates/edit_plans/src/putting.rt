@@ -113,8 +113,8 @@ fn plan_over(
 /// Neither the document nor the element is copied, and of the document only the way to the parent
 /// and the parent's children are looked at. There is none: `CannotInsert` exactly where the address
 /// wouldn't select the element afterwards, wherever it is put, or the spot is beside the root;
-/// `Schema` exactly where it would, and the new document would be valid nowhere; then `Constraint`,
-/// and `Unique` with the first clash.
+/// `Faulty` exactly where it would, and the new document would have a fault: it is `Invalid` where
+/// it would be valid nowhere.
 ///
 /// # Errors
 /// `NoMemory` for want of memory.

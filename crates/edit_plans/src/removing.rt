@@ -12,7 +12,7 @@ use crate::gaps::part_in;
 use node_select::Step;
 use plan_words::EditRefusal;
 use std::alloc::Global;
-use usage_docs::{END, Kind, follows};
+use usage_docs::{END, Fault, Kind, follows};
 use xml_tree::{Around, Element, Node};
 
 // Whether the i-th child stands behind another one and has the step's name.
@@ -137,7 +137,7 @@ fn closes_up(
 /// What is answered of the parent without a child, which the step selects.
 ///
 /// # Errors
-/// `CannotDelete` where the step would still select a child, else `Schema` where the parent
+/// `CannotDelete` where the step would still select a child, else `Faulty` where the parent
 /// wouldn't be valid.
 pub(crate) fn removed_in(
     alloc: Global,
@@ -154,7 +154,7 @@ pub(crate) fn removed_in(
         return Err(EditRefusal::CannotDelete);
     }
     if !closes_up(alloc, row, scope, parent, child) {
-        return Err(EditRefusal::Schema);
+        return Err(EditRefusal::Faulty(Fault::Invalid));
     }
     Ok(child)
 }

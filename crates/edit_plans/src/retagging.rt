@@ -13,7 +13,7 @@ use crate::siblings::Siblings;
 use node_select::{Step, attr_in};
 use plan_words::EditRefusal;
 use std::alloc::Global;
-use usage_docs::{Kind, attrs_pass, is_formed, kind_of};
+use usage_docs::{Fault, Kind, attrs_pass, is_formed, kind_of};
 use xml_tree::{Around, Declared, Element, NoMemory, Path, Text};
 
 /// An attribute that an address names, and what it is to be found with: this value, or not at all.
@@ -156,7 +156,7 @@ fn attrs_formed_in(
 }
 
 /// What is answered of a child, which the step selects, with this tag: the parent is at this place.
-/// `CannotInsert` or `CannotDelete` where the attribute wouldn't be found as it should be, `Schema`
+/// `CannotInsert` or `CannotDelete` where the attribute wouldn't be found as it should be, `Faulty`
 /// where it may not stand or has to be there; then as `judged`.
 ///
 /// # Errors
@@ -180,7 +180,7 @@ pub(crate) fn retagged_in(
         return Ok(Err(unfound(sought.value)));
     }
     if !attrs_pass_in(alloc, row, scope, tag)? {
-        return Ok(Err(EditRefusal::Schema));
+        return Ok(Err(EditRefusal::Faulty(Fault::Invalid)));
     }
     let formed = attrs_formed_in(alloc, row, scope, tag)?;
     let siblings = Siblings::without(parent, child);

@@ -3,7 +3,6 @@
 ghost use Rattle.std.specs.Prelude.{◌≡◌, ◌≤◌, [], ℕ, List, IfOk};
 ghost use Rattle.xml_tree.specs.Tree.{height};
 ghost use Rattle.node_select.specs.Selection.{SelectsPath};
-ghost use Rattle.plan_words.specs.Plans.{refusal};
 ghost use Rattle.plan_words.specs.declared.refusal.EditRefusal.TheVariants.{CannotInsert};
 ghost use Rattle.edit_plans.specs.inner.Asking.{IsRootRetagged};
 ghost use Rattle.edit_plans.specs.inner.Tested.{IsTestedAs};
@@ -16,20 +15,8 @@ use std::alloc::Global;
 use usage_docs::{Fault, attrs_pass, judge, root_kind};
 use xml_tree::{Around, Declared, Element, NoMemory};
 
-// The refusal by the first fault of a document.
-fn refusal(fault: Fault) -> EditRefusal
-    ensures refuses_by_the_fault { result ≡ refusal fault }
-{
-    match fault {
-        Fault::Invalid => EditRefusal::Schema,
-        Fault::Unformed => EditRefusal::Constraint,
-        Fault::Repeated(clash) => EditRefusal::Unique(clash),
-    }
-}
-
 /// What is answered of another root, where the steps select the root and nothing below it:
-/// `CannotInsert` where they wouldn't select the new one; then `Schema`, `Constraint` and `Unique`
-/// by what is in it.
+/// `CannotInsert` where they wouldn't select the new one; then `Faulty` by what is in it.
 ///
 /// # Errors
 /// `NoMemory` for want of memory.
@@ -47,14 +34,14 @@ pub(crate) fn root_exchanged(
         return Ok(Err(EditRefusal::CannotInsert));
     }
     match judge(alloc, usage, new)? {
-        Some(fault) => Ok(Err(refusal(fault))),
+        Some(fault) => Ok(Err(EditRefusal::Faulty(fault))),
         None => Ok(Ok(0)),
     }
 }
 
 /// What is answered of the root, which the step selects and which is valid, within the constraints
 /// and unique, with this tag: `CannotInsert` or `CannotDelete` where the attribute wouldn't be found
-/// as it should be, `Schema` where it may not stand.
+/// as it should be, `Faulty` where it may not stand.
 ///
 /// # Errors
 /// `NoMemory` for want of memory.
@@ -74,7 +61,7 @@ pub(crate) fn root_retagged(
     let empty = Around::empty();
     let inside = empty.inside(&declared);
     if !attrs_pass(root_kind(usage), &inside, tag.attrs()) {
-        return Ok(Err(EditRefusal::Schema));
+        return Ok(Err(EditRefusal::Faulty(Fault::Invalid)));
     }
     Ok(Ok(0))
 }

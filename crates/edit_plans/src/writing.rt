@@ -179,8 +179,8 @@ fn plan_value(
 /// is there keeps its place and its prefix; a new one stands last, with the least prefix by code
 /// point that its namespace is bound to. Of the document only the way to the element, its
 /// attributes and its siblings are looked at. There is none: `CannotInsert` exactly where there is
-/// no such prefix, or the address wouldn't find the value afterwards; then `Schema`, `Constraint`,
-/// and `Unique` with the first clash.
+/// no such prefix, or the address wouldn't find the value afterwards; then `Faulty` with
+/// the first fault of the new document.
 ///
 /// # Errors
 /// `NoMemory` for want of memory.

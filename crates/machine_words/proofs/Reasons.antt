@@ -103,9 +103,7 @@ module _ (request : Request) (a : Answer) where
     by_plan (Err plans.NotFound) is = fine _ refl is
     by_plan (Err plans.CannotInsert) is = fine _ refl is
     by_plan (Err plans.CannotDelete) is = fine _ refl is
-    by_plan (Err plans.Schema) is = fine _ refl is
-    by_plan (Err plans.Constraint) is = fine _ refl is
-    by_plan (Err (plans.Unique clash)) is = fine _ refl is
+    by_plan (Err (plans.Faulty fault)) is = fine _ refl is
     by_plan (Ok change) is = by_store (changing c id change) is
 
 -- ---- reading

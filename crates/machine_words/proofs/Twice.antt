@@ -36,8 +36,9 @@ use Rattle.plan_words.specs.Attributes.{FindsValue, IsAttrPlan}
 use Rattle.plan_words.specs.Lawful.{LawfulGap, LawfulOver}
 use Rattle.plan_words.specs.Puts.{FromGap, IsInsertion, IsPutPlan}
 use Rattle.plan_words.specs.Spots.{IsSpotOf}
+use Rattle.usage_docs.specs.declared.judging.Fault.TheVariants.{Invalid}
 use Rattle.plan_words.specs.declared.refusal.EditRefusal.{EditRefusal}
-use Rattle.plan_words.specs.declared.refusal.EditRefusal.TheVariants.{CannotInsert, Schema}
+use Rattle.plan_words.specs.declared.refusal.EditRefusal.TheVariants.{CannotInsert, Faulty}
 use Rattle.plan_words.specs.declared.spot.NoParent.{NoParent}
 use Rattle.plan_words.specs.declared.spot.Spot.{Spot}
 use Rattle.plan_words.specs.declared.spot.Spot.TheVariants.{Over, Under, Beside, Value}
@@ -132,7 +133,7 @@ pub record SamePlace (t after : Tree) (spot : Spot) (path : List ℕ) : Type 0 w
 same_under : (u : Usage) (t : Tree) (steps : List Step) (q : List ℕ) (e : Tree) (change : Change) (path : List ℕ) → IsInsertion u t steps q e (Ok change) → SelectsPath steps (edited t change) path → SamePlace t (edited t change) (Under q) path
 same_under u t steps q e change path h selects = by h.gap h.is_chosen h.then
   where
-    by : (g : Result ℕ EditRefusal) → PlanIs CannotInsert Schema (LawfulGap steps t e q) (λ j. usage.Schema u (put_in q j e t)) (length (kids_of h.parent) + 1) g → FromGap u t q e g (Ok change) → SamePlace t (edited t change) (Under q) path
+    by : (g : Result ℕ EditRefusal) → PlanIs CannotInsert (Faulty Invalid) (LawfulGap steps t e q) (λ j. usage.Schema u (put_in q j e t)) (length (kids_of h.parent) + 1) g → FromGap u t q e g (Ok change) → SamePlace t (edited t change) (Under q) path
     by (Err why) chosen then = let z = then in cc
     by (Ok gap) chosen then =
         let j = judged_ok u t (Insert q gap e) change then in

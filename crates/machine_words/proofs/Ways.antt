@@ -139,9 +139,7 @@ module _ (method : Method) (c : Content) (request : Request) (a : Answer) where
   plan_refuses plans.NotFound is = refuses _ refl refl refl is
   plan_refuses plans.CannotInsert is = refuses _ refl refl refl is
   plan_refuses plans.CannotDelete is = refuses _ refl refl refl is
-  plan_refuses plans.Schema is = refuses _ refl refl refl is
-  plan_refuses plans.Constraint is = refuses _ refl refl refl is
-  plan_refuses (plans.Unique clash) is = refuses _ refl refl refl is
+  plan_refuses (plans.Faulty fault) is = conflicts_so (fault_conflict fault) is
 
   -- a plan, whose change may be asked for, where each reply to one that is made tells it
   by_plan : (id : DocId) (reply : Note → Sent) (plan : Result Change EditRefusal) → ((change : Change) → plan ≡ Ok change → AllSound c → Asks c id change)

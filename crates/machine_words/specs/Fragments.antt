@@ -23,7 +23,7 @@ use Rattle.plan_words.specs.declared.spot.Spot.{Spot}
 use Rattle.plan_words.specs.declared.spot.Spot.TheVariants.{Over, Under, Beside, Value}
 use Rattle.plan_words.specs.declared.spot.NoParent.{NoParent}
 use Rattle.plan_words.specs.declared.refusal.EditRefusal.{EditRefusal}
-use Rattle.plan_words.specs.declared.refusal.EditRefusal.TheVariants.{NotFound, CannotInsert, CannotDelete, Schema, Constraint, Unique}
+use Rattle.plan_words.specs.declared.refusal.EditRefusal.TheVariants.{NotFound, CannotInsert, CannotDelete, Faulty}
 use Rattle.plan_words.specs.Attributes.{IsAttrPlan, IsWritable}
 use Rattle.plan_words.specs.Deletions.{IsDeletePlan}
 use Rattle.plan_words.specs.Puts.{IsPutPlan}
@@ -36,7 +36,7 @@ use Rattle.request_terms.specs.MediaTypes.{has_type}
 use Rattle.xcap_uri.specs.Ancestors.{ancestor_uri}
 use Rattle.machine_words.specs.Answers.{Answer, BehindConditions, unchanged, conflict, tagged}
 use Rattle.machine_words.specs.Resources.{version_of}
-use Rattle.machine_words.specs.Writing.{change_answer, clash_field, put_reply, puts_deeper, text_conflict}
+use Rattle.machine_words.specs.Writing.{change_answer, fault_conflict, put_reply, puts_deeper, text_conflict}
 
 -- ---- the attribute that a selector ends in
 
@@ -51,9 +51,7 @@ abbrev pub plan_refused : EditRefusal → Bool → Sent
 plan_refused NotFound closes = plain 404 closes
 plan_refused CannotInsert closes = conflict conflicts.CannotInsert closes
 plan_refused CannotDelete closes = conflict conflicts.CannotDelete closes
-plan_refused Schema closes = conflict conflicts.Schema closes
-plan_refused Constraint closes = conflict conflicts.Constraint closes
-plan_refused (Unique clash) closes = conflict (conflicts.Unique (clash_field clash)) closes
+plan_refused (Faulty fault) closes = conflict (fault_conflict fault) closes
 
 -- a planned change is asked of the store, whose note the reply goes by
 abbrev pub plan_answer : Stock → DocId → Bool → (Note → Sent) → Result Change EditRefusal → Answer

@@ -24,8 +24,9 @@ use Rattle.edit_ops.specs.declared.change.Change.TheVariants.{Insert, Replace, R
 use Rattle.plan_words.specs.declared.spot.Spot.{Spot}
 use Rattle.plan_words.specs.declared.spot.Spot.TheVariants.{Over, Under, Beside, Value}
 use Rattle.plan_words.specs.declared.spot.NoParent.{NoParent}
+use Rattle.usage_docs.specs.declared.judging.Fault.TheVariants.{Invalid}
 use Rattle.plan_words.specs.declared.refusal.EditRefusal.{EditRefusal}
-use Rattle.plan_words.specs.declared.refusal.EditRefusal.TheVariants.{CannotInsert, CannotDelete, Schema}
+use Rattle.plan_words.specs.declared.refusal.EditRefusal.TheVariants.{CannotInsert, CannotDelete, Faulty}
 use Rattle.plan_words.specs.Attributes.{FindsValue, IsAttrPlan, IsValuePlan, IsWriting, written_name}
 use Rattle.plan_words.specs.Deletions.{FindsNothingAfter, IsDeletePlan, IsDrop, IsPlanFor, IsRemoval}
 use Rattle.plan_words.specs.Lawful.{LawfulGap, LawfulOver}
@@ -56,8 +57,8 @@ one_insertion u t steps q e r s a b =
     let many : length (kids_of b.parent) ≡ length (kids_of a.parent) = ap (λ (x : Tree). length (kids_of x)) (same_Some _ _ (sym b.there ∙ a.there)) in
     let L = LawfulGap steps t e q in
     let V : ℕ → Type 0 = λ j. usage.Schema u (put_in q j e t) in
-    let other = subst (λ (n : ℕ). PlanIs CannotInsert Schema L V (n + 1) b.gap) many b.is_chosen in
-    let same : a.gap ≡ b.gap = one_plan CannotInsert Schema L V (length (kids_of a.parent) + 1) a.gap b.gap a.is_chosen other in
+    let other = subst (λ (n : ℕ). PlanIs CannotInsert (Faulty Invalid) L V (n + 1) b.gap) many b.is_chosen in
+    let same : a.gap ≡ b.gap = one_plan CannotInsert (Faulty Invalid) L V (length (kids_of a.parent) + 1) a.gap b.gap a.is_chosen other in
     from_one_gap u t q e b.gap r s (subst (λ (g : Result ℕ EditRefusal). FromGap u t q e g r) same a.then) b.then
 
 pub one_put : (u : Usage) (t : Tree) (steps : List Step) (spot : Spot) (e : Tree) (r s : Result Change EditRefusal) → IsPutPlan u t steps spot e r → IsPutPlan u t steps spot e s → r ≡ s

@@ -31,7 +31,7 @@ use Rattle.plan_words.specs.declared.spot.Spot.{Spot}
 use Rattle.plan_words.specs.declared.spot.Spot.TheVariants.{Over, Under, Beside, Value}
 use Rattle.plan_words.specs.declared.spot.NoParent.{NoParent}
 use Rattle.plan_words.specs.declared.refusal.EditRefusal.{EditRefusal}
-use Rattle.plan_words.specs.declared.refusal.EditRefusal.TheVariants.{CannotInsert, CannotDelete, NotFound, Schema}
+use Rattle.plan_words.specs.declared.refusal.EditRefusal.TheVariants.{CannotInsert, CannotDelete, NotFound, Faulty}
 use Rattle.plan_words.specs.Attributes.{FindsValue, IsAttrPlan, IsValuePlan, IsWriting, written_name}
 use Rattle.plan_words.specs.Deletions.{FindsNothingAfter, IsDeletePlan, IsDrop, IsPlanFor, IsRemoval}
 use Rattle.plan_words.specs.Lawful.{LawfulGap, LawfulOver}
@@ -102,12 +102,12 @@ some_tested unlawful lawful u t change (inr fails) = (Err unlawful, inl (refl, f
 
 -- ---- PUT of an element
 
-some_gap : (L V : ℕ → Type 0) → ((j : ℕ) → Known (L j)) → ((j : ℕ) → Known (V j)) → (n : ℕ) → (r : Result ℕ EditRefusal) × PlanIs CannotInsert Schema L V n r
-some_gap L V l v zero = (Err CannotInsert, plan_none CannotInsert Schema L V)
+some_gap : (L V : ℕ → Type 0) → ((j : ℕ) → Known (L j)) → ((j : ℕ) → Known (V j)) → (n : ℕ) → (r : Result ℕ EditRefusal) × PlanIs CannotInsert (Faulty Invalid) L V n r
+some_gap L V l v zero = (Err CannotInsert, plan_none CannotInsert (Faulty Invalid) L V)
 some_gap L V l v (suc n) =
     let below = some_gap L V l v n in
-    let next = plan_with Schema below.0 n (l n).0 (v n).0 in
-    (next, subst (λ k. PlanIs CannotInsert Schema L V k next) (add-one n) (plan_more CannotInsert Schema L V n below.0 (l n).0 (v n).0 below.1 (l n).1 (v n).1))
+    let next = plan_with (Faulty Invalid) below.0 n (l n).0 (v n).0 in
+    (next, subst (λ k. PlanIs CannotInsert (Faulty Invalid) L V k next) (add-one n) (plan_more CannotInsert (Faulty Invalid) L V n below.0 (l n).0 (v n).0 below.1 (l n).1 (v n).1))
 
 from_some_gap : (u : Usage) (t : Tree) (q : List ℕ) (e : Tree) (g : Result ℕ EditRefusal) → (r : Result Change EditRefusal) × FromGap u t q e g r
 from_some_gap u t q e (Ok gap) = some_judged u t (Insert q gap e)
@@ -197,7 +197,7 @@ nothing_decided selector t change = by (found_decided (edited t change) selector
     by (inr fails) = inl fails
 
 some_removal : (u : Usage) (t : Tree) (selector : Selector) (p : List ℕ) → (r : Result Change EditRefusal) × IsRemoval u t selector p r
-some_removal u t selector [] = (Err Schema, refl)
+some_removal u t selector [] = (Err (Faulty Invalid), refl)
 some_removal u t selector (n ∷ p) = some_tested CannotDelete (FindsNothingAfter selector t (Remove (n ∷ p))) u t (Remove (n ∷ p)) (nothing_decided selector t (Remove (n ∷ p)))
 
 -- some attribute passes, so one is found

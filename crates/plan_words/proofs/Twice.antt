@@ -30,8 +30,9 @@ use Rattle.edit_ops.specs.declared.change.Change.{Change}
 use Rattle.edit_ops.specs.declared.change.Change.TheVariants.{Insert, Replace, Remove, SetAttr, DropAttr}
 use Rattle.plan_words.specs.declared.spot.Spot.{Spot}
 use Rattle.plan_words.specs.declared.spot.Spot.TheVariants.{Over, Under, Beside, Value}
+use Rattle.usage_docs.specs.declared.judging.Fault.TheVariants.{Invalid}
 use Rattle.plan_words.specs.declared.refusal.EditRefusal.{EditRefusal}
-use Rattle.plan_words.specs.declared.refusal.EditRefusal.TheVariants.{CannotInsert, CannotDelete, Schema}
+use Rattle.plan_words.specs.declared.refusal.EditRefusal.TheVariants.{CannotInsert, CannotDelete, Faulty}
 use Rattle.plan_words.specs.Attributes.{FindsValue, IsAttrPlan, IsValuePlan, IsWriting, kept_name, new_name, written_name}
 use Rattle.plan_words.specs.Deletions.{FindsNothingAfter, IsDeletePlan, IsPlanFor, IsRemoval}
 use Rattle.plan_words.specs.Lawful.{LawfulGap, LawfulOver}
@@ -95,7 +96,7 @@ in_gap t parent e q gap there le =
 put_under_is : (u : Usage) (t : Tree) (steps : List Step) (q : List ℕ) (e : Tree) (plan : Change) → IsInsertion u t steps q e (Ok plan) → Put u t steps e plan
 put_under_is u t steps q e plan h = by h.gap h.is_chosen h.then
   where
-    by : (g : Result ℕ EditRefusal) → PlanIs CannotInsert Schema (LawfulGap steps t e q) (λ j. usage.Schema u (put_in q j e t)) (length (kids_of h.parent) + 1) g → FromGap u t q e g (Ok plan) → Put u t steps e plan
+    by : (g : Result ℕ EditRefusal) → PlanIs CannotInsert (Faulty Invalid) (LawfulGap steps t e q) (λ j. usage.Schema u (put_in q j e t)) (length (kids_of h.parent) + 1) g → FromGap u t q e g (Ok plan) → Put u t steps e plan
     by (Err why) chosen then = let z = then in cc
     by (Ok gap) chosen then =
         let j = judged_ok u t (Insert q gap e) plan then in

@@ -11,8 +11,9 @@ use Rattle.node_select.specs.declared.selector.Selector.{Selector}
 use Rattle.edit_ops.specs.Changes.{edited}
 use Rattle.edit_ops.specs.declared.change.Change.{Change}
 use Rattle.edit_ops.specs.declared.change.Change.TheVariants.{Remove, DropAttr}
+use Rattle.usage_docs.specs.declared.judging.Fault.TheVariants.{Invalid}
 use Rattle.plan_words.specs.declared.refusal.EditRefusal.{EditRefusal}
-use Rattle.plan_words.specs.declared.refusal.EditRefusal.TheVariants.{NotFound, CannotDelete, Schema}
+use Rattle.plan_words.specs.declared.refusal.EditRefusal.TheVariants.{NotFound, CannotDelete, Faulty}
 use Rattle.plan_words.specs.Plans.{IsTested}
 
 -- the selector finds nothing in the document that a change makes
@@ -21,7 +22,7 @@ FindsNothingAfter selector t change = Found (edited t change) selector → ⊥
 
 -- the plan for the element at p, which was found: its removal, unless it is the root, without which the document isn't valid
 abbrev pub IsRemoval : Usage → Tree → Selector → List ℕ → Result Change EditRefusal → Type 0
-IsRemoval u t selector [] result = result ≡ Err Schema
+IsRemoval u t selector [] result = result ≡ Err (Faulty Invalid)
 IsRemoval u t selector (n ∷ p) result = IsTested CannotDelete (FindsNothingAfter selector t (Remove (n ∷ p))) u t (Remove (n ∷ p)) result
 
 -- the plan for an attribute of the element at p, which was found: it is dropped

@@ -7,22 +7,15 @@ use Rattle.xml_tree.specs.Proper.{ProperIn}
 use Rattle.xml_tree.specs.Limits.{most_levels}
 use Rattle.usage_docs.specs.Judging.{Judged}
 use Rattle.usage_docs.specs.declared.judging.Fault.{Fault}
-use Rattle.usage_docs.specs.declared.judging.Fault.TheVariants.{Invalid, Unformed, Repeated}
 use Rattle.edit_ops.specs.Changes.{Fits, edited}
 use Rattle.edit_ops.specs.declared.change.Change.{Change}
 use Rattle.plan_words.specs.declared.refusal.EditRefusal.{EditRefusal}
-use Rattle.plan_words.specs.declared.refusal.EditRefusal.TheVariants.{Schema, Constraint, Unique}
+use Rattle.plan_words.specs.declared.refusal.EditRefusal.TheVariants.{Faulty}
 
--- the refusal by the first fault of the document that a change would make
-abbrev pub refusal : Fault → EditRefusal
-refusal Invalid = Schema
-refusal Unformed = Constraint
-refusal (Repeated clash) = Unique clash
-
--- the change, where the document has no fault
+-- the change, where the document that it would make has no fault
 abbrev pub by_fault : Change → Option Fault → Result Change EditRefusal
 by_fault change None = Ok change
-by_fault change (Some fault) = Err (refusal fault)
+by_fault change (Some fault) = Err (Faulty fault)
 
 -- what is answered of a change by the judgement of the document that it makes
 abbrev pub IsJudged : Usage → Tree → Change → Result Change EditRefusal → Type 0

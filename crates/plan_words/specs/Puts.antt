@@ -14,8 +14,9 @@ use Rattle.edit_ops.specs.declared.change.Change.{Change}
 use Rattle.edit_ops.specs.declared.change.Change.TheVariants.{Insert, Replace}
 use Rattle.plan_words.specs.declared.spot.Spot.{Spot}
 use Rattle.plan_words.specs.declared.spot.Spot.TheVariants.{Over, Under, Beside, Value}
+use Rattle.usage_docs.specs.declared.judging.Fault.TheVariants.{Invalid}
 use Rattle.plan_words.specs.declared.refusal.EditRefusal.{EditRefusal}
-use Rattle.plan_words.specs.declared.refusal.EditRefusal.TheVariants.{CannotInsert, Schema}
+use Rattle.plan_words.specs.declared.refusal.EditRefusal.TheVariants.{CannotInsert, Faulty}
 use Rattle.plan_words.specs.Lawful.{LawfulGap, LawfulOver}
 use Rattle.plan_words.specs.Plans.{IsJudged, IsTested}
 
@@ -25,12 +26,12 @@ FromGap u t q e (Ok gap) result = IsJudged u t (Insert q gap e) result
 FromGap u t q e (Err why) result = result ≡ Err why
 
 -- the element is put into the greatest gap of the element at q that is lawful and at which the document is valid; CannotInsert where no
--- gap is lawful, Schema where none of the lawful ones makes a valid document
+-- gap is lawful, `Invalid` where none of the lawful ones makes a valid document
 pub record IsInsertion (u : Usage) (t : Tree) (steps : List Step) (q : List ℕ) (e : Tree) (result : Result Change EditRefusal) : Type 0 where
   pub parent : Tree
   pub there : at q t ≡ Some parent
   pub gap : Result ℕ EditRefusal
-  pub is_chosen : PlanIs CannotInsert Schema (LawfulGap steps t e q) (λ j. usage.Schema u (put_in q j e t)) (length (kids_of parent) + 1) gap
+  pub is_chosen : PlanIs CannotInsert (Faulty Invalid) (LawfulGap steps t e q) (λ j. usage.Schema u (put_in q j e t)) (length (kids_of parent) + 1) gap
   pub then : FromGap u t q e gap result
 
 -- the plan at a spot of an element: over the one that is selected, under the selected parent, and beside the root never

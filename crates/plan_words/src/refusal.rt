@@ -1,7 +1,7 @@
 //! Why a PUT or DELETE of a node makes no change (RFC 4825, sections 8.2.3 to 8.2.5 and 8.4).
 
 use thiserror::Error;
-use usage_docs::Clash;
+use usage_docs::Fault;
 
 /// Why there is no change. The first of these that applies is answered, in this order.
 #[derive(Debug, Drop, Error)]
@@ -15,13 +15,7 @@ pub enum EditRefusal {
     /// The address would still select something.
     #[error("the address would still select something")]
     CannotDelete,
-    /// The document wouldn't be valid.
-    #[error("the document would not be valid")]
-    Schema,
-    /// A value wouldn't be within the constraints of the usage.
-    #[error("a value would break a constraint of the usage")]
-    Constraint,
-    /// Two siblings of one kind would have one key; this is the first clash.
-    #[error("two siblings would have one key")]
-    Unique(Clash),
+    /// The document would have this fault, its first one.
+    #[error("the document would not be one of its usage")]
+    Faulty(Fault),
 }

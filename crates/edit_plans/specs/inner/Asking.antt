@@ -16,8 +16,9 @@ use Rattle.usage_docs.specs.Rows.{Scope, root_kind}
 use Rattle.usage_docs.specs.Clashes.{RepeatsAt}
 use Rattle.usage_docs.specs.Forms.{IsNodeFormed}
 use Rattle.usage_docs.specs.Reading.Siblings.{IsFirst}
+use Rattle.usage_docs.specs.declared.judging.Fault.TheVariants.{Invalid, Unformed, Repeated}
 use Rattle.plan_words.specs.declared.refusal.EditRefusal.{EditRefusal}
-use Rattle.plan_words.specs.declared.refusal.EditRefusal.TheVariants.{CannotInsert, CannotDelete, Schema, Constraint, Unique}
+use Rattle.plan_words.specs.declared.refusal.EditRefusal.TheVariants.{CannotInsert, CannotDelete, Faulty}
 use Rattle.plan_words.specs.Beside.{ClashesBeside}
 use Rattle.plan_words.specs.Removals.{ClosesUp, StillSelects}
 use Rattle.plan_words.specs.Tags.{AttrsFormed, AttrsPass, value_in}
@@ -40,8 +41,8 @@ among (Some i) child = cond (nat_lt i child) (child - 1) child
 -- clash, else the gap. A parent without a row asks nothing
 abbrev pub IsJudgedIn : Type 0 → Option Kind → Scope → List Tree → Tree → List ℕ → ℕ → Result ℕ EditRefusal → Type 0
 IsJudgedIn formed row c kids new q gap result =
-    ((result ≡ Err Constraint) × (formed → ⊥))
-    ⊎ ((clash : Clash) × ((result ≡ Err (Unique clash)) × formed × ((kind : Kind) × ((row ≡ Some kind) × IsFirst (ClashesBeside kind c kids new gap) q (Some clash)))))
+    ((result ≡ Err (Faulty Unformed)) × (formed → ⊥))
+    ⊎ ((clash : Clash) × ((result ≡ Err (Faulty (Repeated clash))) × formed × ((kind : Kind) × ((row ≡ Some kind) × IsFirst (ClashesBeside kind c kids new gap) q (Some clash)))))
     ⊎ ((result ≡ Ok gap) × formed × ForSome row (λ kind. IsFirst (ClashesBeside kind c kids new gap) q None))
 
 -- the references in it have their form
@@ -56,7 +57,7 @@ FromGapIn row c kids new q (Err why) result = result ≡ Err why
 -- the gap at which the step selects a new element
 pub record IsPlacedIn (row : Option Kind) (c : Scope) (step : Step) (parent new : Tree) (q : List ℕ) (result : Result ℕ EditRefusal) : Type 0 where
   pub gap : Result ℕ EditRefusal
-  pub is_chosen : PlanIs CannotInsert Schema (Lawful (is_named c step) (is_tested c step) step.position (kids_of parent) new) (FitsIn row c parent.content new) (length (kids_of parent) + 1) gap
+  pub is_chosen : PlanIs CannotInsert (Faulty Invalid) (Lawful (is_named c step) (is_tested c step) step.position (kids_of parent) new) (FitsIn row c parent.content new) (length (kids_of parent) + 1) gap
   pub then : FromGapIn row c (kids_of parent) new q gap result
 
 -- the element passes both tests of the step
@@ -67,14 +68,14 @@ PassesBoth c step new = IsTrue (is_named c step new) × IsTrue (is_tested c step
 abbrev pub IsExchangedIn : Option Kind → Scope → Step → Tree → ℕ → Tree → List ℕ → Result ℕ EditRefusal → Type 0
 IsExchangedIn row c step parent i new q result =
     ((result ≡ Err CannotInsert) × (PassesBoth c step new → ⊥))
-    ⊎ ((result ≡ Err Schema) × PassesBoth c step new × (FitsOver row c parent.content new i → ⊥))
+    ⊎ ((result ≡ Err (Faulty Invalid)) × PassesBoth c step new × (FitsOver row c parent.content new i → ⊥))
     ⊎ (PassesBoth c step new × FitsOver row c parent.content new i × IsJudgedIn (FormedIn row c new) row c (remove (kids_of parent) i) new q i result)
 
 -- what is answered of the parent without the j-th child
 abbrev pub IsRemovedIn : Option Kind → Scope → Step → Tree → ℕ → Result ℕ EditRefusal → Type 0
 IsRemovedIn row c step parent j result =
     ((result ≡ Err CannotDelete) × StillSelects c step (kids_of parent) j)
-    ⊎ ((result ≡ Err Schema) × (StillSelects c step (kids_of parent) j → ⊥) × (ClosesUp row c parent.content j → ⊥))
+    ⊎ ((result ≡ Err (Faulty Invalid)) × (StillSelects c step (kids_of parent) j → ⊥) × (ClosesUp row c parent.content j → ⊥))
     ⊎ ((result ≡ Ok j) × (StillSelects c step (kids_of parent) j → ⊥) × ClosesUp row c parent.content j)
 
 -- the refusal where an attribute isn't found as it should be: with a value, or not at all
@@ -90,14 +91,14 @@ IsFoundIn c step tag sought = value_in c step sought.uri.now sought.local.now ta
 abbrev pub IsRetaggedIn : Option Kind → Scope → Step → Tree → ℕ → Tree → Sought → List ℕ → Result ℕ EditRefusal → Type 0
 IsRetaggedIn row c step parent i tag sought q result =
     ((result ≡ Err (unfound (option_copied sought.value))) × (IsFoundIn c step tag sought → ⊥))
-    ⊎ ((result ≡ Err Schema) × IsFoundIn c step tag sought × (AttrsPass row c tag → ⊥))
+    ⊎ ((result ≡ Err (Faulty Invalid)) × IsFoundIn c step tag sought × (AttrsPass row c tag → ⊥))
     ⊎ (IsFoundIn c step tag sought × AttrsPass row c tag × IsJudgedIn (AttrsFormed row c tag) row c (remove (kids_of parent) i) tag q i result)
 
 -- what is answered of the root, which the step selects, with this tag
 abbrev pub IsRootRetagged : Usage → Step → Tree → Sought → Result ℕ EditRefusal → Type 0
 IsRootRetagged u step tag sought result =
     ((result ≡ Err (unfound (option_copied sought.value))) × (IsFoundIn [] step tag sought → ⊥))
-    ⊎ ((result ≡ Err Schema) × IsFoundIn [] step tag sought × (IsTrue (attrs_pass (root_kind u) (tag.decls ∷ []) tag.attrs) → ⊥))
+    ⊎ ((result ≡ Err (Faulty Invalid)) × IsFoundIn [] step tag sought × (IsTrue (attrs_pass (root_kind u) (tag.decls ∷ []) tag.attrs) → ⊥))
     ⊎ ((result ≡ Ok 0) × IsFoundIn [] step tag sought × IsTrue (attrs_pass (root_kind u) (tag.decls ∷ []) tag.attrs))
 
 -- what is answered of what is asked

@@ -13,7 +13,7 @@ use Rattle.edit_ops.specs.declared.change.Change.{Change}
 use Rattle.edit_ops.specs.declared.change.Change.TheVariants.{Insert}
 use Rattle.plan_words.specs.declared.refusal.EditRefusal.{EditRefusal}
 use Rattle.plan_words.specs.Attributes.{FindsValue}
-use Rattle.plan_words.specs.Plans.{refusal}
+use Rattle.plan_words.specs.declared.refusal.EditRefusal.TheVariants.{Faulty}
 use Rattle.plan_words.specs.Tags.{with_attrs}
 use Rattle.edit_plans.specs.declared.retagging.Sought.{Sought}
 use Rattle.edit_plans.specs.inner.Asking.{unfound}
@@ -21,7 +21,7 @@ use Rattle.edit_plans.specs.inner.Asking.{unfound}
 -- by its first fault: a refusal, or some number where it has none
 abbrev pub IsTold : Option Fault → Result ℕ EditRefusal → Type 0
 IsTold None result = (n : ℕ) × (result ≡ Ok n)
-IsTold (Some fault) result = result ≡ Err (refusal fault)
+IsTold (Some fault) result = result ≡ Err (Faulty fault)
 
 -- by its judgement
 abbrev pub IsJudgedAs : Usage → Tree → Result ℕ EditRefusal → Type 0

@@ -1,6 +1,7 @@
 use Rattle.std.proofs.Common.{◌≡◌, ◌++◌, ◌∷◌, [], ℕ, List, refl, sym, ap, ◌∙◌, subst, Err}
 use Rattle.node_select.specs.Selection.{SelectsPath}
 use Rattle.edit_ops.specs.declared.change.Change.TheVariants.{Remove}
+use Rattle.usage_docs.specs.declared.judging.Fault.TheVariants.{Invalid}
 use Rattle.plan_words.specs.declared.refusal.EditRefusal.TheVariants as refusals
 use Rattle.plan_words.specs.Deletions.{IsRemoval}
 use Rattle.edit_plans.specs.inner.Asking.{IsRemovedIn, IsSelected}
@@ -15,7 +16,7 @@ returns-in_default c = record {
       let t = c.args.root.now in
       let selector = c.args.selector.now in
       let root : c.args.path ≡ [] = empty_path c.split_last.result c.args.path c.split_last.ensures.below c.in_default.is in
-      delete_by c.args.usage t selector c.args.path (Err refusals.Schema) c.requires.ends c.requires.selected (subst (λ (p : List ℕ). IsRemoval c.args.usage t selector p (Err refusals.Schema)) (sym root) refl);
+      delete_by c.args.usage t selector c.args.path (Err (refusals.Faulty Invalid)) c.requires.ends c.requires.selected (subst (λ (p : List ℕ). IsRemoval c.args.usage t selector p (Err (refusals.Faulty Invalid))) (sym root) refl);
 }
 
 pub answer-requires-clause-there : goal.answer-requires-clause-there

@@ -1,4 +1,4 @@
-use Rattle.std.proofs.Common.{[], inl, inr, Option, Some, None, Err, refl, ap, subst}
+use Rattle.std.proofs.Common.{[], inl, inr, Option, Some, None, refl, subst}
 use Rattle.usage_docs.specs.declared.judging.Fault.{Fault}
 use Rattle.usage_docs.specs.Judging.{Judged}
 use Rattle.edit_plans.proofs.SpotLemmas.{none_by, nothing, selected_some, some_by}
@@ -15,7 +15,7 @@ returns-in-Some c = record {
   answers_the_new_root =
       let lawful = selected_some c.args.steps.now c.args.new.now c.select_steps.result c.select_steps.ensures.selects_in_the_document (some_by c.select_steps.result c.is_none.result c.is_none.ensures c.if-is_none.false) c.requires.alone in
       let judged = subst (λ (o : Option Fault). Judged c.args.usage c.args.new.now o) c.in-Some.is (c.in_ok-fault.ensures {u = tt}).judged in
-      inr (lawful, (Some c.in-Some.fault, (judged, ap (λ e. Err e) c.refusal.ensures.refuses_by_the_fault)));
+      inr (lawful, (Some c.in-Some.fault, (judged, refl)));
 }
 
 pub returns-in-None : goal.returns-in-None
