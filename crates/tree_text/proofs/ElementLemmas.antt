@@ -1,10 +1,10 @@
 -- An element is read: its tag, and what stands behind it.
-use Rattle.std.proofs.Common.{◌≡◌, ℕ, suc, ◌+◌, List, [], ◌∷◌, ◌++◌, length, Result, Ok, Err, refl, sym, subst, ap, ◌∙◌, arith}
+use Rattle.std.proofs.Common.{◌≡◌, ℕ, suc, ◌+◌, Bool, true, false, cond, ◌||◌, List, [], ◌∷◌, ◌++◌, length, Result, Ok, Err, refl, sym, subst, ap, ◌∙◌, arith}
 use Rattle.std.proofs.lemmas.List.{same_from_push}
-use Rattle.grammar_rules.specs.Reading.{Reader, Stop, Syntax, Faulty, ◌>>=◌, judgement, read_judged, read_at_most, read_many, read_valued}
+use Rattle.std.specs.Prelude.{nat_eq, ◌==◌}
+use Rattle.grammar_rules.specs.Reading.{Reader, Stop, Syntax, Faulty, ◌>>=◌, head_is, starts, judgement, read_judged, read_at_most, read_many, read_valued}
 use Rattle.xml_tree.specs.Edits.{with_text}
 use Rattle.xml_tree.specs.Tree.{Content, last, Tree, tree_of}
-use Rattle.xml_tree.specs.declared.names.Name.{Name}
 use Rattle.xml_tree.specs.declared.names.Decl.{Decl}
 use Rattle.tree_text.specs.readers.Bindings.{AreBack, AreKept, lists}
 use Rattle.tree_text.specs.declared.bindings.Bindings.{Bindings}
@@ -16,15 +16,12 @@ use Rattle.tree_text.specs.readers.Members.{filled, tree_with, with_chars, with_
 use Rattle.tree_text.specs.Names.{decls_of, attrs_of, element_of}
 use Rattle.tree_text.specs.readers.Judging.{counted_back, first_of_tag, tag_fault}
 use Rattle.tree_text.specs.Pieces.{Markup, Inner, StartTag, with_pieces}
-use Rattle.tree_text.specs.readers.Texts.{markup_follows, read_chars, read_markup, read_tag, read_behind_tag, read_element}
+use Rattle.tree_text.specs.readers.Texts.{markup_follows, other_follows, read_chars, read_markup, read_tag, read_behind_tag, read_element}
+use Rattle.tree_text.specs.readers.Words.{bang, instruction_start}
 use Rattle.tree_text.proofs.Loops.{finish, start, valued_ok, valued_err, valued_stops}
 
 abbrev dressed_read : StartTag → Result (Content × List ℕ) (Stop Kind) → Result (Tree × List ℕ) (Stop Kind)
 dressed_read t out = out >>= λ y. Ok (element_of (t, y.0), y.1)
-
--- an element without declarations and attributes, of this name
-abbrev bare : Name → Content → Tree
-bare n content = tree_of n [] [] content
 
 -- # Content of an element that has none
 
@@ -53,6 +50,27 @@ child_ok tree inner text rest e h = ap (λ (r : Result (Tree × List ℕ) (Stop 
 
 pub child_stops : (tree : Tree) (inner : Reader Kind Tree) (text : List ℕ) (s : CodeStop) → Fails s (inner text) → Fails s (read_child tree inner text)
 child_stops tree inner text s h = valued_stops (with_one tree) (read_valued Inner inner) text s (valued_stops Inner inner text s h)
+
+-- # Markup that is an element
+
+starts_longer : (w v text : List ℕ) → starts w text ≡ false → starts (w ++ v) text ≡ false
+starts_longer [] v text h = absurd cc
+starts_longer (c ∷ w) v [] h = refl
+starts_longer (c ∷ w) v (d ∷ text) h = by (nat_eq c d) (starts_longer w v text) h
+  where
+    by : (b : Bool) → (starts w text ≡ false → starts (w ++ v) text ≡ false) → cond b (starts w text) false ≡ false → cond b (starts (w ++ v) text) false ≡ false
+    by true more k = more k
+    by false more k = refl
+
+neither : (a b : Bool) → (a || b) ≡ false → (a ≡ false) × (b ≡ false)
+neither true b h = absurd cc
+neither false b h = (refl, h)
+
+pub child_onto : (tree : Tree) (inner : Reader Kind Tree) (text : List ℕ) → other_follows text ≡ false → read_onto tree inner text ≡ read_child tree inner text
+child_onto tree inner text h =
+    let one = neither (head_is (λ c. c == 38) text || starts bang text) (starts instruction_start text) h in
+    let two = neither (head_is (λ c. c == 38) text) (starts bang text) one.0 in
+    rw (two.0, starts_longer bang (91 ∷ []) text two.1, two.1, one.1) refl
 
 -- # Elements
 
@@ -86,14 +104,14 @@ module _ (levels i depth : ℕ) (scope here : List (List Decl)) (decls : List De
       by_out (Ok y) = refl
       by_out (Err e) = refl
 
-  dressed_is : (k : Content) (e : Tree) → bare t.name k ≡ e → element_of (t, k) ≡ record e { decls = e.decls ++ decls; attrs = e.attrs ++ attrs_of t.said }
-  dressed_is k e h = ap (λ (z : List Decl). tree_of t.name z (attrs_of t.said) k) (sym declared) ∙ ap (λ (z : Tree). record z { decls = z.decls ++ decls; attrs = z.attrs ++ attrs_of t.said }) h
+  dressed_is : (k : Content) (e : Tree) → tree_of t.name [] (attrs_of t.said) k ≡ e → element_of (t, k) ≡ record e { decls = e.decls ++ decls }
+  dressed_is k e h = ap (λ (z : List Decl). tree_of t.name z (attrs_of t.said) k) (sym declared) ∙ ap (λ (z : Tree). record z { decls = z.decls ++ decls }) h
 
-  pub element_ok : (e0 e : Tree) (rest : List ℕ) → e0 ≡ bare t.name (last []) → read_filled_behind e0 (read_element i here (depth + 1)) t.name t.is_empty left ≡ Ok (e, rest) → read_element levels scope depth text ≡ Ok (record e { decls = e.decls ++ decls; attrs = e.attrs ++ attrs_of t.said }, rest)
+  pub element_ok : (e0 e : Tree) (rest : List ℕ) → e0 ≡ tree_of t.name [] (attrs_of t.said) (last []) → read_filled_behind e0 (read_element i here (depth + 1)) t.name t.is_empty left ≡ Ok (e, rest) → read_element levels scope depth text ≡ Ok (record e { decls = e.decls ++ decls }, rest)
   element_ok e0 e rest first h =
       let v = valued_ok (filled e0) behind e rest h in
-      let is_bare : bare t.name v.value ≡ e = ap (λ (z : Tree). filled z v.value) (sym first) ∙ v.made in
-      step (Ok (v.value, rest)) v.read ∙ ap (λ (z : Tree). let w : Tree × List ℕ = (z, rest) in Ok w) (dressed_is v.value e is_bare)
+      let is_dressed : tree_of t.name [] (attrs_of t.said) v.value ≡ e = ap (λ (z : Tree). filled z v.value) (sym first) ∙ v.made in
+      step (Ok (v.value, rest)) v.read ∙ ap (λ (z : Tree). let w : Tree × List ℕ = (z, rest) in Ok w) (dressed_is v.value e is_dressed)
 
   pub element_err : (e0 : Tree) (s : CodeStop) → Fails s (read_filled_behind e0 (read_element i here (depth + 1)) t.name t.is_empty left) → Fails s (read_element levels scope depth text)
   element_err e0 stops.Memory h = tt

@@ -15,6 +15,7 @@ pub mod Answering
 pub mod RawLetters
 pub mod PlainRuns
 pub mod PlainFronts
+pub mod PlainNames
 pub mod PrintLemmas
 pub mod JudgeTags
 pub mod ReadParts

@@ -120,13 +120,13 @@ value_raw quote cs h = smooth_raw cs (all_by (is_plain_in_value quote) is_smooth
 
 -- a run of characters that pass, in front of what doesn't
 module _ (p q : ℕ → Bool) (each : (c : ℕ) → q c ≡ true → p c ≡ true) (rest : List ℕ) (none : front_of p rest ≡ []) (all : after_front p rest ≡ rest) where
-  front_is : (front : List ℕ) → list_all q front ≡ true → front_of p (front ++ rest) ≡ front
+  pub front_is : (front : List ℕ) → list_all q front ≡ true → front_of p (front ++ rest) ≡ front
   front_is [] h = none
   front_is (c ∷ front) h =
       let both = and_parts (q c) (list_all q front) h in
       rw (each c both.0) (ap (λ (z : List ℕ). c ∷ z) (front_is front both.1))
 
-  rest_is : (front : List ℕ) → list_all q front ≡ true → after_front p (front ++ rest) ≡ rest
+  pub rest_is : (front : List ℕ) → list_all q front ≡ true → after_front p (front ++ rest) ≡ rest
   rest_is [] h = all
   rest_is (c ∷ front) h =
       let both = and_parts (q c) (list_all q front) h in

@@ -1,14 +1,15 @@
 //! Elements: their tags, their content, and the elements in it, no deeper than a limit.
-ghost use Rattle.std.specs.Prelude.{◌≡◌, ◌+◌, ◌≤◌, ◌<◌, ◌++◌, true, [], ◌∷◌, length, IfOk, OnOk, Ok, Err};
-ghost use Rattle.grammar_rules.specs.Reading.{starts, judgement};
+ghost use Rattle.std.specs.Prelude.{◌≡◌, ◌+◌, ◌-◌, ◌≤◌, ◌<◌, ◌++◌, true, [], ◌∷◌, length, IfOk, OnOk, Ok, Err};
+ghost use Rattle.grammar_rules.specs.Reading.{Reader, judgement};
 ghost use Rattle.xml_tree.specs.Edits.{with_text};
-ghost use Rattle.xml_tree.specs.Tree.{last, tree_of};
+ghost use Rattle.xml_tree.specs.Tree.{Tree, last, tree_of};
+ghost use Rattle.tree_text.specs.declared.kind.Kind.{Kind};
 ghost use Rattle.tree_text.specs.readers.Bindings.{AreBack, AreKept, lists};
 ghost use Rattle.tree_text.specs.readers.Gives.{Gives, Fails};
 ghost use Rattle.tree_text.specs.readers.Members.{read_chars_onto, read_onto, read_child, read_filled, read_filled_behind};
 ghost use Rattle.tree_text.specs.Names.{attrs_of, widths, opening_size};
 ghost use Rattle.tree_text.specs.readers.Judging.{counted_back, first_of_tag};
-ghost use Rattle.tree_text.specs.readers.Texts.{markup_follows, read_tag, read_element};
+ghost use Rattle.tree_text.specs.readers.Texts.{markup_follows, other_follows, read_tag, read_element};
 ghost use Rattle.tree_text.specs.readers.Views.{name_in, tag_in};
 
 use crate::bindings::Bindings;
@@ -24,7 +25,7 @@ use crate::stop::Stop;
 use crate::tags::{Tag, whole_tag};
 use crate::texts::text_of;
 use crate::values::{ends_run, reference};
-use crate::written::{end_tag, owned};
+use crate::written::end_tag;
 use std::alloc::{AllocError, Global};
 use xml_tree::{Attr, Decl, Element, Name};
 
@@ -32,19 +33,19 @@ use xml_tree::{Attr, Decl, Element, Name};
 fn judged<'a>(
     alloc: Global,
     text: &'a [char],
-    behind: &'a [char],
     here: &Bindings,
     name: &Name,
+    said: &[Said],
     tag: &Tag<'_>,
 ) -> Result<(), Stop<'a>>
     requires kept { AreKept here.now }
     requires named { name.now ≡ name_in tag.now.written }
-    requires opening { tag.now.opening ≡ opening_size (tag_in tag.now) }
-    requires sizes { tag.now.opening + widths tag.now.said.items ≤ length text.now }
-    ensures judges_the_names_of_the_tag { Gives (λ _. (tag_in tag.now, behind.now)) result (judgement text.now (tag_in tag.now, behind.now) (counted_back tag.now.size (first_of_tag (lists here.now) (tag_in tag.now)))) }
+    requires opening { tag.now.opening ≡ opening_size (tag_in tag.now said.now) }
+    requires sizes { tag.now.opening + widths said.now ≤ length text.now }
+    ensures judges_the_names_of_the_tag { Gives (λ _. (tag_in tag.now said.now, tag.now.behind.now)) result (judgement text.now (tag_in tag.now said.now, tag.now.behind.now) (counted_back tag.now.size (first_of_tag (lists here.now) (tag_in tag.now said.now)))) }
 {
-    if let Some((kind, at)) = first_of_tag(alloc, here, name, tag)? {
-        let place = before(text, behind, tag.size.saturating_sub(at));
+    if let Some((kind, at)) = first_of_tag(alloc, here, name, said, tag)? {
+        let place = before(text, tag.behind, tag.size.saturating_sub(at));
         return Err(Stop::Faulty(kind, place));
     }
     Ok(())
@@ -71,6 +72,25 @@ fn push_mixed<'a>(
 }
 
 /// The same. Most runs are short and plain, and are read in one pass.
+#[inline(never)]
+fn push_some<'a>(
+    alloc: Global,
+    text: &'a [char],
+    element: &mut Element,
+) -> Result<&'a [char], AllocError>
+    ensures reads_the_run_onto_it { IfOk result (λ rest. read_chars_onto element.old text.now ≡ Ok (element.new, rest.now)) }
+{
+    let mut bytes = [0; 64];
+    let (plain, rest) = plain_in_content(text, &mut bytes);
+    if ends_run(rest, '<') {
+        element.push_chars(plain)?;
+        return Ok(rest);
+    }
+    push_mixed(alloc, text, element)
+}
+
+/// The same. Between tags there is often no run.
+#[inline(always)]
 fn push_run<'a>(
     alloc: Global,
     text: &'a [char],
@@ -81,19 +101,16 @@ fn push_run<'a>(
     if ends_run(text, '<') {
         return Ok(text);
     }
-    let mut bytes = [0; 64];
-    let (plain, rest) = plain_in_content(text, &mut bytes);
-    if ends_run(rest, '<') {
-        element.push_chars(plain)?;
-        return Ok(rest);
-    }
-    push_mixed(alloc, text, element)
+    push_some(alloc, text, element)
 }
 
-/// Adds declarations to an element.
+/// Adds declarations to an element. Most have none.
 fn push_decls(element: &mut Element, decls: Vec<Decl>) -> Result<(), AllocError>
     ensures adds_the_declarations { OnOk result (element.new ≡ record element.old { decls = element.old.decls ++ decls.items }) }
 {
+    if decls.is_empty() {
+        return Ok(());
+    }
     for decl in decls {
         element.push_decl(decl)?;
     }
@@ -116,25 +133,15 @@ fn push_said(element: &mut Element, said: Said) -> Result<(), AllocError>
     element.push_attr(Attr { name, value })
 }
 
-/// Adds the attributes of a tag to an element.
-fn push_attrs(element: &mut Element, said: Vec<Said>) -> Result<(), AllocError>
-    ensures adds_the_attributes { OnOk result (element.new ≡ record element.old { attrs = element.old.attrs ++ attrs_of said.items }) }
+/// Adds the attributes among what a tag says to an element, and keeps nothing of it. Most say nothing.
+fn push_attrs(element: &mut Element, said: &mut Vec<Said>) -> Result<(), AllocError>
+    ensures adds_the_attributes { OnOk result (element.new ≡ record element.old { attrs = element.old.attrs ++ attrs_of said.old.items }) }
 {
-    for one in said {
+    if said.is_empty() {
+        return Ok(());
+    }
+    for one in said.drain(..) {
         push_said(element, one)?;
-    }
-    Ok(())
-}
-
-/// Adds the declarations and attributes of its tag to an element.
-fn dress(element: &mut Element, decls: Vec<Decl>, said: Vec<Said>) -> Result<(), AllocError>
-    ensures adds_the_names_of_the_tag { OnOk result (element.new ≡ record element.old { decls = element.old.decls ++ decls.items; attrs = element.old.attrs ++ attrs_of said.items }) }
-{
-    if !decls.is_empty() {
-        push_decls(element, decls)?;
-    }
-    if !said.is_empty() {
-        push_attrs(element, said)?;
     }
     Ok(())
 }
@@ -165,20 +172,27 @@ fn no_level(text: &[char], depth: usize) -> Stop<'_>
     }
 }
 
-/// Adds a piece of markup to content, and answers what follows it.
-#[cycle(nested)]
-fn push_markup<'a>(
+/// Whether markup follows that is no element.
+fn other_follows(text: &[char]) -> bool
+    ensures tells_whether_other_markup_follows { result ≡ other_follows text.now }
+{
+    match text {
+        ['&', ..] => true,
+        ['<', '!', ..] => true,
+        ['<', '?', ..] => true,
+        _ => false,
+    }
+}
+
+/// Adds a piece of markup that is no element to content, and answers what follows it. Most are elements.
+#[inline(never)]
+fn push_other<'a>(
     alloc: Global,
     text: &'a [char],
-    bindings: &mut Bindings,
-    depth: usize,
-    levels: usize,
     element: &mut Element,
 ) -> Result<&'a [char], Stop<'a>>
-    requires kept { AreKept bindings.old }
-    requires deep { depth + levels ≤ 1000 }
-    ensures read { Gives (λ rest. (element.new, rest.now)) result (read_onto element.old (read_element levels (lists bindings.old) depth) text.now) }
-    ensures back { OnOk result (AreBack bindings.old bindings.new) }
+    requires { other_follows text.now ≡ true }
+    ensures reads_other_markup_onto_it { (inner : Reader Kind Tree) → Gives (λ rest. (element.new, rest.now)) result (read_onto element.old inner text.now) }
 {
     if let ['&', ..] = text {
         let (c, rest) = reference(text)?;
@@ -195,11 +209,31 @@ fn push_markup<'a>(
         element.push_comment(chars)?;
         return Ok(rest);
     }
-    if starts(text, &['<', '?']) {
-        let rest = instruction(text)?;
-        return Ok(rest);
+    let rest = instruction(text)?;
+    Ok(rest)
+}
+
+/// Adds a piece of markup to content, and answers what follows it.
+#[cycle(nested)]
+#[tactic(auto, using(crate::proofs::ElementLemmas::child_onto))]
+fn push_markup<'a>(
+    alloc: Global,
+    text: &'a [char],
+    bindings: &mut Bindings,
+    depth: usize,
+    levels: usize,
+    said: &mut Vec<Said>,
+    element: &mut Element,
+) -> Result<&'a [char], Stop<'a>>
+    requires kept { AreKept bindings.old }
+    requires deep { depth + levels ≤ 1000 }
+    ensures read { Gives (λ rest. (element.new, rest.now)) result (read_onto element.old (read_element levels (lists bindings.old) depth) text.now) }
+    ensures back { OnOk result (AreBack bindings.old bindings.new) }
+{
+    if other_follows(text) {
+        return push_other(alloc, text, element);
     }
-    push_child(alloc, text, bindings, depth, levels, element)
+    push_child(alloc, text, bindings, depth, levels, said, element)
 }
 
 /// Adds content to an element that has none, and answers what follows it.
@@ -210,6 +244,7 @@ fn content<'a>(
     bindings: &mut Bindings,
     depth: usize,
     levels: usize,
+    said: &mut Vec<Said>,
     element: &mut Element,
 ) -> Result<&'a [char], Stop<'a>>
     requires kept { AreKept bindings.old }
@@ -224,7 +259,7 @@ fn content<'a>(
         if !markup_follows(rest) {
             break;
         }
-        let after = push_markup(alloc, rest, bindings, depth, levels, element)?;
+        let after = push_markup(alloc, rest, bindings, depth, levels, said, element)?;
         rest = push_run(alloc, after, element)?;
     }
     Ok(rest)
@@ -234,61 +269,57 @@ fn content<'a>(
 #[cycle(nested)]
 fn behind_tag<'a>(
     alloc: Global,
-    text: &'a [char],
     bindings: &mut Bindings,
     depth: usize,
     levels: usize,
-    tag: &Tag<'_>,
+    said: &mut Vec<Said>,
+    tag: &Tag<'a>,
     element: &mut Element,
 ) -> Result<&'a [char], Stop<'a>>
     requires kept { AreKept bindings.old }
     requires deep { depth + levels ≤ 1000 }
     requires empty { element.old.content ≡ last [] }
-    ensures read { Gives (λ rest. (element.new, rest.now)) result (read_filled_behind element.old (read_element levels (lists bindings.old) depth) (name_in tag.now.written) tag.now.is_empty text.now) }
+    ensures read { Gives (λ rest. (element.new, rest.now)) result (read_filled_behind element.old (read_element levels (lists bindings.old) depth) (name_in tag.now.written) tag.now.is_empty tag.now.behind.now) }
     ensures back { OnOk result (AreBack bindings.old bindings.new) }
 {
     if tag.is_empty {
-        return Ok(text);
+        return Ok(tag.behind);
     }
-    let rest = content(alloc, text, bindings, depth, levels, element)?;
+    let rest = content(alloc, tag.behind, bindings, depth, levels, said, element)?;
     let rest = end_tag(rest, &tag.written)?;
     Ok(rest)
 }
 
-/// Makes a bare element of the name of a tag that of the tag and of what stands behind it, and answers what follows.
+/// Makes a bare element of the name of a tag that of the tag, which says this, and of what stands behind it, and answers what
+/// follows.
 #[cycle(nested)]
 fn fill<'a>(
     alloc: Global,
     text: &'a [char],
-    behind: &'a [char],
     bindings: &mut Bindings,
     depth: usize,
     inner: usize,
-    tag: Tag<'_>,
+    said: &mut Vec<Said>,
+    tag: &Tag<'a>,
     element: &mut Element,
 ) -> Result<&'a [char], Stop<'a>>
     requires kept { AreKept bindings.old }
     requires deep { depth + inner < 1000 }
-    requires tagged { read_tag text.now ≡ Ok (tag_in tag, behind.now) }
-    requires opening { tag.opening ≡ opening_size (tag_in tag) }
-    requires sizes { tag.opening + widths tag.said.items ≤ length text.now }
-    requires bare { element.old ≡ tree_of (name_in tag.written) [] [] (last []) }
+    requires tagged { read_tag text.now ≡ Ok (tag_in tag.now said.old.items, tag.now.behind.now) }
+    requires opening { tag.now.opening ≡ opening_size (tag_in tag.now said.old.items) }
+    requires sizes { tag.now.opening + widths said.old.items ≤ length text.now }
+    requires bare { element.old ≡ tree_of (name_in tag.now.written) [] [] (last []) }
     ensures read { Gives (λ rest. (element.new, rest.now)) result (read_element (inner + 1) (lists bindings.old) depth text.now) }
     ensures back { OnOk result (AreBack bindings.old bindings.new) }
 {
-    let decls = decls_of(alloc, &tag.said)?;
+    let all = said.as_slice();
+    let decls = decls_of(alloc, all)?;
     bindings.enter(alloc, decls)?;
-    judged(alloc, text, behind, bindings, element.name(), &tag)?;
-    let rest = behind_tag(alloc, behind, bindings, depth + 1, inner, &tag, element)?;
+    judged(alloc, text, bindings, element.name(), all, tag)?;
+    push_attrs(element, said)?;
+    let rest = behind_tag(alloc, bindings, depth + 1, inner, said, tag, element)?;
     let decls = bindings.leave();
-    let Tag {
-        written: _,
-        said,
-        is_empty: _,
-        opening: _,
-        size: _,
-    } = tag;
-    dress(element, decls, said)?;
+    push_decls(element, decls)?;
     Ok(rest)
 }
 
@@ -300,6 +331,7 @@ fn push_child<'a>(
     bindings: &mut Bindings,
     depth: usize,
     levels: usize,
+    said: &mut Vec<Said>,
     parent: &mut Element,
 ) -> Result<&'a [char], Stop<'a>>
     requires kept { AreKept bindings.old }
@@ -310,16 +342,16 @@ fn push_child<'a>(
     let Some(inner) = levels.checked_sub(1) else {
         return Err(no_level(text, depth));
     };
-    let (tag, behind) = whole_tag(alloc, text)?;
-    let mut element = Element::new(alloc, owned(alloc, &tag.written)?);
+    let (name, tag) = whole_tag(alloc, text, said)?;
+    let mut element = Element::new(alloc, name);
     let rest = fill(
         alloc,
         text,
-        behind,
         bindings,
         depth,
         inner,
-        tag,
+        said,
+        &tag,
         &mut element,
     )?;
     parent.push_elem(element)?;
@@ -342,16 +374,17 @@ pub fn element<'a>(
     let Some(inner) = levels.checked_sub(1) else {
         return Err(no_level(text, depth));
     };
-    let (tag, behind) = whole_tag(alloc, text)?;
-    let mut element = Element::new(alloc, owned(alloc, &tag.written)?);
+    let mut said = Vec::new(alloc);
+    let (name, tag) = whole_tag(alloc, text, &mut said)?;
+    let mut element = Element::new(alloc, name);
     let rest = fill(
         alloc,
         text,
-        behind,
         bindings,
         depth,
         inner,
-        tag,
+        &mut said,
+        &tag,
         &mut element,
     )?;
     Ok((element, rest))

@@ -1,7 +1,7 @@
 //! The plain characters in front of a text: ASCII ones that are read as they stand. One pass finds their end and makes them bytes.
 ghost use Rattle.std.specs.Prelude.{◌≡◌, ◌≤◌, ◌++◌, take, chars, length, IsTrue};
 ghost use Rattle.std.specs.List.{list_all};
-ghost use Rattle.tree_text.specs.readers.Runs.{is_plain_in_content, is_plain_in_value, run_len};
+ghost use Rattle.tree_text.specs.readers.Runs.{is_plain_in_content, is_plain_in_name, is_plain_in_value, run_len};
 
 use crate::texts::ascii;
 
@@ -25,6 +25,18 @@ fn is_plain_in_value(c: char, quote: char) -> bool
     ensures tells_whether_it_is_plain_in_a_value { result ≡ is_plain_in_value quote c }
 {
     c != quote && (matches!(c, '\''..=';') || matches!(c, ' '..='%') || matches!(c, '='..='~'))
+}
+
+// Whether a character is an ASCII one that stands in names. Most are small letters.
+fn is_plain_in_name(c: char) -> bool
+    ensures tells_whether_it_is_plain_in_names { result ≡ is_plain_in_name c }
+{
+    matches!(c, 'a'..='z')
+        || c == '-'
+        || c == '.'
+        || matches!(c, '0'..='9')
+        || matches!(c, 'A'..='Z')
+        || c == '_'
 }
 
 // How many characters in front are plain in content. It writes them as bytes.
@@ -64,6 +76,24 @@ fn value_len(text: &[char], quote: char, bytes: &mut [u8; 64]) -> usize
     text.len()
 }
 
+// How many characters in front are plain in names. It writes them as bytes.
+#[tactic(auto, using(crate::proofs::RunLemmas::run_more, crate::proofs::RunLemmas::run_done))]
+fn name_len(text: &[char], bytes: &mut [u8; 64]) -> usize
+    requires few { length text.now ≤ 64 }
+    ensures size { result ≤ length text.now }
+    ensures len { result ≡ run_len is_plain_in_name text.now }
+    ensures bytes { take result bytes.new ≡ take result text.now }
+    ensures plain { IsTrue (list_all is_plain_in_name (take result text.now)) }
+{
+    for (i, &c) in text.iter().enumerate() {
+        if !is_plain_in_name(c) {
+            return i;
+        }
+        bytes[i] = c as u8;
+    }
+    text.len()
+}
+
 /// The characters in front that are plain in content, 64 at most, and what follows them.
 pub fn plain_in_content<'a, 'b>(text: &'a [char], bytes: &'b mut [u8; 64]) -> (&'b str, &'a [char])
     ensures text { text.now ≡ chars result.0.now ++ result.1.now }
@@ -85,5 +115,15 @@ pub fn plain_in_value<'a, 'b>(
     ensures plain { IsTrue (list_all (is_plain_in_value quote) (chars result.0.now)) }
 {
     let len = value_len(&text[..text.len().min(MOST)], quote, bytes);
+    (ascii(bytes, len), &text[len..])
+}
+
+/// The characters in front that are plain in names, 64 at most, and what follows them.
+pub fn plain_in_name<'a, 'b>(text: &'a [char], bytes: &'b mut [u8; 64]) -> (&'b str, &'a [char])
+    ensures text { text.now ≡ chars result.0.now ++ result.1.now }
+    ensures len { length (chars result.0.now) ≡ run_len is_plain_in_name (take 64 text.now) }
+    ensures plain { IsTrue (list_all is_plain_in_name (chars result.0.now)) }
+{
+    let len = name_len(&text[..text.len().min(MOST)], bytes);
     (ascii(bytes, len), &text[len..])
 }

@@ -229,21 +229,23 @@ pub fn first_wrong<'a>(
     }
 }
 
-/// The first wrong name of a tag of this name, in the scope inside it, and how many characters of the tag stand before it.
+/// The first wrong name of a tag of this name that says this, in the scope inside it, and how many characters of the tag stand
+/// before it.
 pub fn first_of_tag<'a>(
     alloc: Global,
     here: &Bindings,
     name: &Name,
-    tag: &'a Tag<'_>,
+    said: &'a [Said],
+    tag: &Tag<'_>,
 ) -> Result<Option<(Kind, usize)>, AllocError>
     requires kept { AreKept here.now }
     requires named { name.now ≡ name_in tag.now.written }
-    requires opening { tag.now.opening ≡ opening_size (tag_in tag.now) }
-    requires fits { tag.now.opening + widths tag.now.said.items < 2 ^ 64 }
-    ensures finds_the_first_of_the_tag { IfOk result (λ found. found ≡ first_of_tag (lists here.now) (tag_in tag.now)) }
+    requires opening { tag.now.opening ≡ opening_size (tag_in tag.now said.now) }
+    requires fits { tag.now.opening + widths said.now < 2 ^ 64 }
+    ensures finds_the_first_of_the_tag { IfOk result (λ found. found ≡ first_of_tag (lists here.now) (tag_in tag.now said.now)) }
 {
     if is_unbound(here, name) {
         return Ok(Some((Kind::Unbound, 1)));
     }
-    first_wrong(alloc, here, &tag.said, tag.opening)
+    first_wrong(alloc, here, said, tag.opening)
 }

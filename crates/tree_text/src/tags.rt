@@ -11,22 +11,22 @@ use crate::parts::{equals, some_spaces, spaces, starts_with_name, starts_with_sp
 use crate::said::Said;
 use crate::stop::Stop;
 use crate::values::{quote, value};
-use crate::written::{Written, owned, qname};
+use crate::written::{Written, own_qname};
 use std::alloc::Global;
-use xml_tree::Text;
+use xml_tree::{Name, Text};
 
-/// A start tag, or the tag of an empty element.
-#[derive(Debug, Drop)]
+/// A start tag, or the tag of an empty element, but for what it says behind its name.
+#[derive(Clone, Copy, Debug)]
 pub struct Tag<'a> {
     /// Its name, as it stands in the text.
     pub written: Written<'a>,
-    /// Its attributes and declarations, in order.
-    pub said: Vec<Said>,
     pub is_empty: bool,
     /// How many characters stand before its attributes.
     pub opening: usize,
     /// How many characters it has.
     pub size: usize,
+    /// What follows it.
+    pub behind: &'a [char],
 }
 
 /// A value in quotes, and what follows it.
@@ -39,10 +39,10 @@ fn quoted(alloc: Global, text: &[char]) -> Result<(Text, &[char]), Stop<'_>>
 }
 
 /// A name, Eq and a value in quotes, and what follows them.
-fn attribute(alloc: Global, text: &[char]) -> Result<(Written<'_>, Text, &[char]), Stop<'_>>
-    ensures reads_an_attribute { Gives (λ x. ((name_in x.0, x.1), x.2.now)) result (read_attribute text.now) }
+fn attribute(alloc: Global, text: &[char]) -> Result<(Name, Text, &[char]), Stop<'_>>
+    ensures reads_an_attribute { Gives (λ x. ((x.0, x.1), x.2.now)) result (read_attribute text.now) }
 {
-    let (name, rest) = qname(text)?;
+    let (name, _, rest) = own_qname(alloc, text)?;
     let (_, rest) = equals(rest)?;
     let (value, rest) = quoted(alloc, rest)?;
     Ok((name, value, rest))
@@ -60,7 +60,7 @@ fn push_said<'a>(
     let (white, from) = some_spaces(text)?;
     let (name, value, rest) = attribute(alloc, from)?;
     let said = Said {
-        name: owned(alloc, &name)?,
+        name,
         value,
         gap: white.len(),
         size: from.len() - rest.len(),
@@ -80,20 +80,24 @@ fn said_follows(text: &[char]) -> bool
     starts_with_name(rest)
 }
 
-/// All attributes, each behind white space, and what follows them.
-fn all_said(alloc: Global, text: &[char]) -> Result<(Vec<Said>, &[char]), Stop<'_>>
-    ensures read { Gives (λ x. (x.0.items, x.1.now)) result (read_all_said text.now) }
-    ensures sizes { IfOk result (λ x. widths x.0.items + length x.1.now ≡ length text.now) }
+/// Puts all attributes, each behind white space, in place of these, and answers what follows them.
+fn all_said<'a>(
+    alloc: Global,
+    text: &'a [char],
+    all: &mut Vec<Said>,
+) -> Result<&'a [char], Stop<'a>>
+    ensures read { Gives (λ rest. (all.new.items, rest.now)) result (read_all_said text.now) }
+    ensures sizes { IfOk result (λ rest. widths all.new.items + length rest.now ≡ length text.now) }
 {
-    let mut all = Vec::new(alloc);
+    all.clear();
     let mut rest = text;
     for _ in 0..text.len() {
         if !said_follows(rest) {
             break;
         }
-        rest = push_said(alloc, rest, &mut all)?;
+        rest = push_said(alloc, rest, all)?;
     }
-    Ok((all, rest))
+    Ok(rest)
 }
 
 /// Whether the tag is that of an empty element, and what follows its end.
@@ -113,25 +117,30 @@ fn tag_end(text: &[char]) -> Result<(bool, &[char]), Stop<'_>>
     }
 }
 
-/// A tag, and what follows it.
-pub fn whole_tag(alloc: Global, text: &[char]) -> Result<(Tag<'_>, &[char]), Stop<'_>>
-    ensures read { Gives (λ x. (tag_in x.0, x.1.now)) result (read_tag text.now) }
-    ensures opening { IfOk result (λ x. x.0.opening ≡ opening_size (tag_in x.0)) }
-    ensures sizes { IfOk result (λ x. x.0.opening + widths x.0.said.items ≤ length text.now) }
+/// A tag and its name. What the tag says behind its name is put in place of these.
+#[inline(always)]
+pub fn whole_tag<'a>(
+    alloc: Global,
+    text: &'a [char],
+    said: &mut Vec<Said>,
+) -> Result<(Name, Tag<'a>), Stop<'a>>
+    ensures read { Gives (λ x. (tag_in x.1 said.new.items, x.1.behind.now)) result (read_tag text.now) }
+    ensures named { IfOk result (λ x. x.0 ≡ name_in x.1.written) }
+    ensures opening { IfOk result (λ x. x.1.opening ≡ opening_size (tag_in x.1 said.new.items)) }
+    ensures sizes { IfOk result (λ x. x.1.opening + widths said.new.items ≤ length text.now) }
 {
     let rest = word(text, &['<'])?;
-    let (written, rest) = qname(rest)?;
+    let (name, written, rest) = own_qname(alloc, rest)?;
     let opening = text.len() - rest.len();
-    let (said, rest) = all_said(alloc, rest)?;
+    let rest = all_said(alloc, rest, said)?;
     let (_, rest) = spaces(rest);
-    let (is_empty, rest) = tag_end(rest)?;
-    let size = text.len() - rest.len();
+    let (is_empty, behind) = tag_end(rest)?;
     let tag = Tag {
         written,
-        said,
         is_empty,
         opening,
-        size,
+        size: text.len() - behind.len(),
+        behind,
     };
-    Ok((tag, rest))
+    Ok((name, tag))
 }

@@ -1,13 +1,16 @@
 //! Names as they stand in a text.
-ghost use Rattle.std.specs.Prelude.{◌≡◌, ◌+◌, length, IfOk};
-ghost use Rattle.grammar_rules.specs.Reading.{read_word};
+ghost use Rattle.std.specs.Prelude.{◌≡◌, ◌+◌, ◌-◌, ◌<◌, ◌&&◌, [], length, take, IfOk};
+ghost use Rattle.grammar_rules.specs.Reading.{head_is, read_word};
+ghost use Rattle.xml_tree.specs.Characters.{is_name_start};
 ghost use Rattle.tree_text.specs.readers.Gives.{Gives};
 ghost use Rattle.tree_text.specs.Pieces.{written};
 ghost use Rattle.tree_text.specs.readers.Texts.{colon_follows, read_qname, read_end_tag};
+ghost use Rattle.tree_text.specs.readers.Runs.{ends_name};
 ghost use Rattle.tree_text.specs.readers.Views.{name_in};
 ghost use Rattle.tree_text.specs.readers.Words.{end_start};
 
-use crate::parts::{letter, name, spaces, word};
+use crate::fronts::plain_in_name;
+use crate::parts::{letter, name, spaces, starts_with_name, word};
 use crate::stop::Stop;
 use crate::texts::{no_text, text_of};
 use std::alloc::{AllocError, Global};
@@ -79,6 +82,7 @@ fn end_start(text: &[char]) -> Result<&[char], Stop<'_>>
 }
 
 /// What follows the end tag of an element of this name.
+#[inline(always)]
 pub fn end_tag<'a>(text: &'a [char], name: &Written<'_>) -> Result<&'a [char], Stop<'a>>
     ensures reads_the_end_tag { Gives (λ rest. (tt, rest.now)) result (read_end_tag (name_in name.now) text.now) }
 {
@@ -105,4 +109,50 @@ pub fn owned(alloc: Global, name: &Written<'_>) -> Result<Name, AllocError>
     let prefix = prefix_of(alloc, name)?;
     let local = text_of(alloc, name.local)?;
     Ok(Name { prefix, local })
+}
+
+/// Whether a `>`, a space, a `=` or a `/` follows, which end most names.
+fn ends_name(text: &[char]) -> bool
+    ensures tells_whether_the_name_ends { result ≡ ends_name text.now }
+{
+    matches!(text, ['>' | ' ' | '=' | '/', ..])
+}
+
+/// Whether a name begins here, and ends before this rest of the text.
+fn is_name_up_to(text: &[char], rest: &[char]) -> bool
+    ensures tells_whether_a_name_stands_between { result ≡ (head_is is_name_start text.now && ends_name rest.now) }
+{
+    starts_with_name(text) && ends_name(rest)
+}
+
+/// The name without a prefix that stands before this rest of a text.
+fn unprefixed<'a>(text: &'a [char], rest: &[char]) -> Written<'a>
+    ensures stands_before_the_rest { name_in result ≡ record { prefix = []; local = take (length text.now - length rest.now) text.now } }
+{
+    Written {
+        prefix: &text[..0],
+        local: &text[..text.len().saturating_sub(rest.len())],
+    }
+}
+
+/// A name, with a prefix or without, that owns its parts; how it is written, and what follows it. Most names are short and plain,
+/// and are read in one pass.
+#[inline(always)]
+pub fn own_qname(alloc: Global, text: &[char]) -> Result<(Name, Written<'_>, &[char]), Stop<'_>>
+    ensures read { Gives (λ x. (x.0, x.2.now)) result (read_qname text.now) }
+    ensures written { IfOk result (λ x. x.0 ≡ name_in x.1) }
+    ensures sizes { IfOk result (λ x. length (written x.0) + length x.2.now ≡ length text.now) }
+{
+    let mut bytes = [0; 64];
+    let (plain, rest) = plain_in_name(text, &mut bytes);
+    if is_name_up_to(text, rest) {
+        let name = Name {
+            prefix: no_text(alloc),
+            local: Text::from(alloc, plain)?,
+        };
+        return Ok((name, unprefixed(text, rest), rest));
+    }
+    let (written, rest) = qname(text)?;
+    let name = owned(alloc, &written)?;
+    Ok((name, written, rest))
 }

@@ -44,6 +44,14 @@ is_plain_in_content c = within 94 126 c || c == 32 || c == 10 || within 61 92 c 
 abbrev pub is_plain_in_value : ℕ → ℕ → Bool
 is_plain_in_value quote c = not (c == quote) && (within 39 59 c || within 32 37 c || within 61 126 c)
 
+-- ASCII letters, digits, `-`, `.` and `_`: they stand in names
+abbrev pub is_plain_in_name : ℕ → Bool
+is_plain_in_name c = within 97 122 c || c == 45 || c == 46 || within 48 57 c || within 65 90 c || c == 95
+
+-- whether a `>`, a space, a `=` or a `/` follows, which end most names
+abbrev pub ends_name : List ℕ → Bool
+ends_name text = head_is (λ c. c == 62 || c == 32 || c == 61 || c == 47) text
+
 -- whether this character or a `&` follows: a `<` ends a run of content so, and the quote one in a value
 abbrev pub ends_run : ℕ → List ℕ → Bool
 ends_run end text = head_is (λ c. c == end || c == 38) text

@@ -138,6 +138,10 @@ read_markup inner =
 abbrev pub markup_follows : List ℕ → Bool
 markup_follows t = head_is (λ c. c == 38 || c == 60) t && not (starts end_start t)
 
+-- what follows is no element: a reference, `<!` or `<?`
+abbrev pub other_follows : List ℕ → Bool
+other_follows t = head_is (λ c. c == 38) t || starts bang t || starts instruction_start t
+
 abbrev pub read_content : Reader Kind Tree → Reader Kind Content
 read_content inner = read_valued (λ x. with_pieces (last x.0) x.1) (read_between markup_follows read_chars (read_markup inner))
 

@@ -1,8 +1,9 @@
 -- What the parts of the code stand for in clauses.
-use Rattle.std.specs.Prelude.{Bool, true, false}
+use Rattle.std.specs.Prelude.{Bool, true, false, List}
 use Rattle.grammar_rules.specs.Digits.{Digits, decimal_digits, hexadecimal}
 use Rattle.xml_tree.specs.declared.names.Name.{Name}
 use Rattle.tree_text.specs.declared.written.Written.{Written}
+use Rattle.tree_text.specs.declared.said.Said.{Said}
 use Rattle.tree_text.specs.declared.tags.Tag.{Tag as CodeTag}
 use Rattle.tree_text.specs.Pieces.{StartTag}
 
@@ -15,6 +16,6 @@ digits_of false = decimal_digits
 abbrev pub name_in : Written → Name
 name_in w = record { prefix = w.prefix.now; local = w.local.now }
 
--- the tag that the code has read
-abbrev pub tag_in : CodeTag → StartTag
-tag_in t = record { name = name_in t.written; said = t.said.items; is_empty = t.is_empty; size = t.size }
+-- the tag that the code has read, which says this behind its name
+abbrev pub tag_in : CodeTag → List Said → StartTag
+tag_in t said = record { name = name_in t.written; said = said; is_empty = t.is_empty; size = t.size }

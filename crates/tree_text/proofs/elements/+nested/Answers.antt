@@ -1,10 +1,13 @@
-use Rattle.std.proofs.Common.{◌+◌, refl, sym, ap, ◌∙◌, arith}
+use Rattle.std.proofs.Common.{◌≡◌, ℕ, ◌+◌, List, [], ◌++◌, Ok, refl, sym, ap, ◌∙◌, arith}
 use Rattle.std.proofs.lemmas.Result.{err_from_is_err_and}
-use Rattle.xml_tree.specs.Tree.{Tree}
+use Rattle.xml_tree.specs.Tree.{Tree, last, tree_of}
 use Rattle.tree_text.specs.readers.Bindings.{lists}
 use Rattle.tree_text.specs.readers.Members.{tree_with, with_chars, with_one, read_member, read_filled}
-use Rattle.tree_text.specs.Names.{decls_of}
-use Rattle.tree_text.specs.readers.Texts.{markup_follows, read_markup, read_chars, read_element}
+use Rattle.tree_text.specs.Names.{attrs_of}
+use Rattle.tree_text.specs.Pieces.{Tag}
+use Rattle.tree_text.specs.declared.said.Said.{Said}
+use Rattle.tree_text.specs.declared.tags.Tag.{Tag as CodeTag}
+use Rattle.tree_text.specs.readers.Texts.{markup_follows, read_tag, read_markup, read_chars, read_element}
 use Rattle.tree_text.specs.readers.Views.{tag_in}
 use Rattle.tree_text.proofs.Loops.{both_ok, first_stops, goes_on, ends, is_done, is_stopped, valued_ok, valued_fails}
 use Rattle.tree_text.proofs.ElementLemmas.{begins, piece_more, judged_is, misjudged, element_ok, element_err, tag_err, untagged, child_ok, child_stops, level_ok, level_stops, onto_ok, onto_stops, still, back_again, closed}
@@ -56,49 +59,66 @@ content-returns-clause-read t c =
 pub content-returns-clause-back : goal.content-returns-clause-back
 content-returns-clause-back t c = c.loop.invariant.back
 
+-- the tag, as it was read
+tagged : (text behind : List ℕ) (t : CodeTag) (all said : List Said) → all ≡ said → read_tag text ≡ Ok (tag_in t said, behind) → read_tag text ≡ Ok (tag_in t all, behind)
+tagged text behind t all said same h = h ∙ ap (λ (z : List Said). let x : Tag × List ℕ = (tag_in t z, behind) in Ok x) (sym same)
+
 pub fill-returns-in_err-judged-clause-read : goal.fill-returns-in_err-judged-clause-read
 fill-returns-in_err-judged-clause-read t c =
     let p = err_from_is_err_and c.from_residual-in_err-judged.result c.from_residual-in_err-judged.ensures.1 in
     let stop = c.in_err-judged.field-0.0 in
     let scope = lists c.args.bindings.now in
+    let all = c.as_slice-all.result.now in
+    let behind = c.args.tag.now.behind.now in
     rw (p.1, p.2) (tag_err (c.args.inner + 1) c.args.inner c.args.depth scope c.args.text.now stop refl
-    (misjudged scope (lists c.enter.new.self) c.in_ok-decls.decls.items c.args.text.now c.args.behind.now (tag_in c.args.tag) c.requires.tagged (c.in_ok-decls.ensures.declarations_among_them ∙ ap decls_of c.deref.ensures.value) c.in_ok-enter.ensures.inside stop c.in_err-judged.ensures.judges_the_names_of_the_tag))
+    (misjudged scope (lists c.enter.new.self) c.in_ok-decls.decls.items c.args.text.now behind (tag_in c.args.tag.now all) (tagged c.args.text.now behind c.args.tag.now all c.args.said.now.items c.as_slice-all.ensures.value c.requires.tagged)
+    c.in_ok-decls.ensures.declarations_among_them c.in_ok-enter.ensures.inside stop c.in_err-judged.ensures.judges_the_names_of_the_tag))
 
 pub fill-returns-in_err-rest-clause-read : goal.fill-returns-in_err-rest-clause-read
 fill-returns-in_err-rest-clause-read t c =
     let p = err_from_is_err_and c.from_residual-in_err-rest.result c.from_residual-in_err-rest.ensures.1 in
-    let declared = c.in_ok-decls.ensures.declarations_among_them ∙ ap decls_of c.deref.ensures.value in
+    let declared = c.in_ok-decls.ensures.declarations_among_them in
     let scope = lists c.args.bindings.now in
     let here = lists c.enter.new.self in
     let decls = c.in_ok-decls.decls.items in
-    let tag = tag_in c.args.tag in
-    rw (p.1, p.2) (element_err (c.args.inner + 1) c.args.inner c.args.depth scope here decls c.args.text.now c.args.behind.now tag refl
-    (judged_is scope here decls c.args.text.now c.args.behind.now tag c.requires.tagged declared c.in_ok-enter.ensures.inside ∙ c.in_ok-judged.ensures.judges_the_names_of_the_tag)
-    declared c.in_ok-enter.ensures.inside c.args.element.now c.in_err-rest.field-0.0 c.in_err-rest.ensures.read)
+    let all = c.as_slice-all.result.now in
+    let behind = c.args.tag.now.behind.now in
+    let tag = tag_in c.args.tag.now all in
+    let read = tagged c.args.text.now behind c.args.tag.now all c.args.said.now.items c.as_slice-all.ensures.value c.requires.tagged in
+    rw (p.1, p.2) (element_err (c.args.inner + 1) c.args.inner c.args.depth scope here decls c.args.text.now behind tag refl
+    (judged_is scope here decls c.args.text.now behind tag read declared c.in_ok-enter.ensures.inside ∙ c.in_ok-judged.ensures.judges_the_names_of_the_tag)
+    declared c.in_ok-enter.ensures.inside c.push_attrs.new.element c.in_err-rest.field-0.0 c.in_err-rest.ensures.read)
 
 pub fill-returns : goal.fill-returns
 fill-returns t c =
-    let declared = c.in_ok-decls.ensures.declarations_among_them ∙ ap decls_of c.deref.ensures.value in
+    let declared = c.in_ok-decls.ensures.declarations_among_them in
     let scope = lists c.args.bindings.now in
     let here = lists c.enter.new.self in
     let decls = c.in_ok-decls.decls.items in
-    let tag = tag_in c.args.tag in
+    let all = c.as_slice-all.result.now in
+    let same = c.as_slice-all.ensures.value in
+    let behind = c.args.tag.now.behind.now in
+    let tag = tag_in c.args.tag.now all in
     let inside = c.in_ok-enter.ensures.inside in
+    let read = tagged c.args.text.now behind c.args.tag.now all c.args.said.now.items same c.requires.tagged in
     let out = closed c.args.bindings.now c.enter.new.self c.behind_tag.new.bindings c.leave-decls.new.self decls c.leave-decls.result.items inside c.in_ok-rest.ensures.back c.leave-decls.ensures.outside c.leave-decls.ensures.kept in
+    let dressed =
+    c.in_ok-push_attrs.ensures.adds_the_attributes ∙ ap (λ (z : Tree). record z { attrs = z.attrs ++ attrs_of c.args.said.now.items }) c.requires.bare
+    ∙ ap (λ (z : List Said). tree_of tag.name [] (attrs_of z) (last [])) (sym same) in
     record {
-      read = rw c.in_ok-dress.ensures.adds_the_names_of_the_tag (rw out.0 (element_ok (c.args.inner + 1) c.args.inner c.args.depth scope here decls c.args.text.now c.args.behind.now tag refl
-          (judged_is scope here decls c.args.text.now c.args.behind.now tag c.requires.tagged declared inside ∙ c.in_ok-judged.ensures.judges_the_names_of_the_tag)
-          declared inside c.args.element.now c.behind_tag.new.element c.in_ok-rest.rest.now c.requires.bare c.in_ok-rest.ensures.read));
+      read = rw c.in_ok-push_decls.ensures.adds_the_declarations (rw out.0 (element_ok (c.args.inner + 1) c.args.inner c.args.depth scope here decls c.args.text.now behind tag refl
+          (judged_is scope here decls c.args.text.now behind tag read declared inside ∙ c.in_ok-judged.ensures.judges_the_names_of_the_tag)
+          declared inside c.push_attrs.new.element c.behind_tag.new.element c.in_ok-rest.rest.now dressed c.in_ok-rest.ensures.read));
       back = out.1;
     }
 
-pub push_child-returns-in_err-tag-clause-read : goal.push_child-returns-in_err-tag-clause-read
-push_child-returns-in_err-tag-clause-read t c =
+pub push_child-returns-in_err-name-clause-read : goal.push_child-returns-in_err-name-clause-read
+push_child-returns-in_err-name-clause-read t c =
     let p = err_from_is_err_and c.from_residual.result c.from_residual.ensures.1 in
-    let stop = c.in_err-tag.field-0.0 in
+    let stop = c.in_err-name.field-0.0 in
     let scope = lists c.args.bindings.now in
     rw (p.1, p.2) (child_stops c.args.parent.now (read_element c.args.levels scope c.args.depth) c.args.text.now stop
-    (untagged c.args.levels c.in-Some.inner c.args.depth scope c.args.text.now stop (omega (arith, c.in-Some.ensures)) c.in_err-tag.ensures.read))
+    (untagged c.args.levels c.in-Some.inner c.args.depth scope c.args.text.now stop (omega (arith, c.in-Some.ensures)) c.in_err-name.ensures.read))
 
 pub push_child-returns-in_err-rest-clause-read : goal.push_child-returns-in_err-rest-clause-read
 push_child-returns-in_err-rest-clause-read t c =

@@ -1,15 +1,6 @@
-use Rattle.std.proofs.Common.{chars, sym}
-use Rattle.tree_text.proofs.PlainFronts.{plain_chars, chars_onto, nothing_onto}
+use Rattle.std.proofs.Common.{sym}
+use Rattle.tree_text.proofs.PlainFronts.{nothing_onto}
 use Rattle.tree_text.proofs.elements.push_run.Goals as goal
 
 pub returns-then-ends_run : goal.returns-then-ends_run
 returns-then-ends_run c = record { reads_the_run_onto_it = nothing_onto c.args.element.now c.args.text.now (sym c.if-ends_run.ensures.tells_whether_the_run_ends) }
-
-pub returns-then-ends_run-2 : goal.returns-then-ends_run-2
-returns-then-ends_run-2 c = record {
-  reads_the_run_onto_it =
-      let front = c.plain_in_content.result in
-      let text = c.args.text.now in
-      let plain = chars front.0.now in
-      rw c.in_ok-push_chars.ensures.ok (chars_onto c.args.element.now text plain front.1.now (plain_chars text plain front.1.now c.plain_in_content.ensures.text c.plain_in_content.ensures.plain (sym c.if-ends_run-2.ensures.tells_whether_the_run_ends)));
-}

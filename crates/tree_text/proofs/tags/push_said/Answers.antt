@@ -1,12 +1,11 @@
 use Rattle.std.proofs.Common.{arith}
-use Rattle.tree_text.specs.readers.Views.{name_in}
 use Rattle.tree_text.proofs.TagLemmas.{attribute_small, widths-append}
 use Rattle.tree_text.proofs.tags.push_said.Goals as goal
 
 pub overflow_sub-said : goal.overflow_sub-said
-overflow_sub-said c = attribute_small c.in_ok-white.from.now c.in_ok-name.rest.now (name_in c.in_ok-name.name, c.in_ok-name.value) c.in_ok-name.ensures.reads_an_attribute
+overflow_sub-said c = attribute_small c.in_ok-white.from.now c.in_ok-name.rest.now (c.in_ok-name.name, c.in_ok-name.value) c.in_ok-name.ensures.reads_an_attribute
 
 pub returns-clause-sizes : goal.returns-clause-sizes
 returns-clause-sizes c =
-    let small = attribute_small c.in_ok-white.from.now c.in_ok-name.rest.now (name_in c.in_ok-name.name, c.in_ok-name.value) c.in_ok-name.ensures.reads_an_attribute in
+    let small = attribute_small c.in_ok-white.from.now c.in_ok-name.rest.now (c.in_ok-name.name, c.in_ok-name.value) c.in_ok-name.ensures.reads_an_attribute in
     rw c.in_ok-push.ensures.items (rw widths-append (omega (arith, small, c.in_ok-white.ensures.sizes)))
