@@ -27,26 +27,40 @@ fn putting(word: &str, at: Path, what: &str, element: Element) -> Result<Change>
     })
 }
 
+// An attribute of this name is written at a place.
+fn setting(alloc: Global, at: Path, what: &str, text: &str) -> Result<Change> {
+    let name = name(alloc, what)?;
+    let value = Text::from(alloc, text)?;
+    Ok(Change::SetAttr { at, name, value })
+}
+
+// An attribute of this name is taken out at a place.
+fn dropping(alloc: Global, at: Path, what: &str) -> Result<Change> {
+    let name = name(alloc, what)?;
+    Ok(Change::DropAttr { at, name })
+}
+
+// A change of the whole document.
+fn whole(alloc: Global, word: &str, text: &str) -> Result<Change> {
+    match word {
+        "create" => {
+            let root = element(alloc, text)?;
+            Ok(Change::CreateDocument { root })
+        }
+        "end" => Ok(Change::RemoveDocument),
+        _ => bail!("no such change"),
+    }
+}
+
 // A change at a place; `what` is a number or a name.
 fn change_at(alloc: Global, word: &str, at: Path, what: &str, text: &str) -> Result<Change> {
-    Ok(match word {
-        "insert" | "replace" => putting(word, at, what, element(alloc, text)?)?,
-        "remove" => Change::Remove { at },
-        "set" => Change::SetAttr {
-            at,
-            name: name(alloc, what)?,
-            value: Text::from(alloc, text)?,
-        },
-        "drop" => Change::DropAttr {
-            at,
-            name: name(alloc, what)?,
-        },
-        "create" => Change::CreateDocument {
-            root: element(alloc, text)?,
-        },
-        "end" => Change::RemoveDocument,
-        _ => bail!("no such change"),
-    })
+    match word {
+        "insert" | "replace" => putting(word, at, what, element(alloc, text)?),
+        "remove" => Ok(Change::Remove { at }),
+        "set" => setting(alloc, at, what, text),
+        "drop" => dropping(alloc, at, what),
+        _ => whole(alloc, word, text),
+    }
 }
 
 /// The change that a text says: `insert */*[1] 2 <entry/>`, `replace */*[1]/*[2] - <entry/>`,
@@ -80,12 +94,17 @@ pub fn read_change_in(alloc: Global, tree: &Element, text: &str) -> Result<Chang
         return read_change(alloc, text);
     }
     let at = path(place)?;
-    let scope = scope_at(tree, word, &at)?;
+    let element = put_at(alloc, tree, word, &at, spelled)?;
+    putting(word, at, what, element)
+}
+
+// The element that a text spells in the scope in which it is put.
+fn put_at(alloc: Global, tree: &Element, word: &str, at: &Path, text: &str) -> Result<Element> {
+    let scope = scope_at(tree, word, at)?;
     let Some(depth) = 67usize.checked_sub(scope.depth()) else {
         bail!("too deep");
     };
-    let element = read_fragment(alloc, spelled.as_bytes(), &scope, depth)?;
-    putting(word, at, what, element)
+    Ok(read_fragment(alloc, text.as_bytes(), &scope, depth)?)
 }
 
 // ---- whether a change fits a tree
@@ -140,28 +159,46 @@ pub fn fits(alloc: Global, root: &Element, change: &Change) -> Result<bool, NoMe
 
 // ---- both ways to make a change
 
-// The tree that a change makes in place, where it is also the one that is built from its copy.
-fn made(alloc: Global, root: Element, change: &Change) -> Result<Option<Element>, NoMemory>
-    requires { Fits root change.now }
+// Makes a change in place, and answers whether that comes to the same tree.
+fn comes_to(
+    alloc: Global,
+    root: &mut Element,
+    change: &Change,
+    built: &Element,
+) -> Result<bool, NoMemory>
+    requires { Fits root.old change.now }
 {
-    let copy = change.copy(alloc)?;
-    let built = rebuilt(alloc, &root, change)?;
-    let mut edited = root;
-    apply_change(alloc, &mut edited, change)?;
-    if equal(&built, &edited) {
+    apply_change(alloc, root, change)?;
+    Ok(equal(built, root))
+}
+
+// The tree that is built by a change, where making it in place comes to that too.
+fn made(alloc: Global, root: &mut Element, change: &Change) -> Result<Option<Element>, NoMemory>
+    requires { Fits root.old change.now }
+{
+    let built = rebuilt(alloc, root, change)?;
+    if comes_to(alloc, root, change, &built)? {
         return Ok(Some(built));
     }
     Ok(None)
 }
 
-fn edited(alloc: Global, root: Element, change: &Change) -> Result<String> {
-    if !fits(alloc, &root, change)? {
+// The print of what a change makes of a tree.
+fn printed(alloc: Global, root: &mut Element, change: &Change) -> Result<String> {
+    if !fits(alloc, root, change)? {
         bail!("it doesn't fit");
     }
     match made(alloc, root, change)? {
         Some(tree) => print(alloc, &tree),
         None => bail!("the two ways differ"),
     }
+}
+
+// The print of what a copy of a change makes of the document that a field spells.
+fn edited(alloc: Global, text: &Field, change: &Change) -> Result<String> {
+    let mut root = document(alloc, text)?;
+    let copy = change.copy(alloc)?;
+    printed(alloc, &mut root, &copy)
 }
 
 // Where the element of a place stands after a change, as a selector.
@@ -179,17 +216,20 @@ fn moved_to(alloc: Global, place: &Path, change: &Change) -> Result<String> {
     }
 }
 
+// What a change makes of a document or of a place.
+fn changed(alloc: Global, table: &str, subject: &Field, change: &Change) -> Result<String> {
+    match table {
+        "changes" => edited(alloc, subject, change),
+        "moves" => moved_to(alloc, &path(subject.text()?)?, change),
+        _ => bail!("no such table"),
+    }
+}
+
 /// What a change makes of a case: of a document, or of a place.
 pub fn answer(alloc: Global, table: &str, inputs: &[Field]) -> Result<String> {
-    match (table, inputs) {
-        ("changes", [text, change]) => {
-            let change = read_change(alloc, change.text()?)?;
-            edited(alloc, document(alloc, text)?, &change)
-        }
-        ("moves", [place, change]) => {
-            let change = read_change(alloc, change.text()?)?;
-            moved_to(alloc, &path(place.text()?)?, &change)
-        }
-        _ => bail!("the columns are others"),
-    }
+    let [subject, change] = inputs else {
+        bail!("the columns are others");
+    };
+    let change = read_change(alloc, change.text()?)?;
+    changed(alloc, table, subject, &change)
 }

@@ -9,21 +9,62 @@ use std::alloc::Global;
 use table_cases::{Field, document};
 use xml_tree::Element;
 
-fn note_in(alloc: Global, root: &Element, change: Change) -> Result<EditNote, NoMemory>
-    requires { Fits root.now change }
+fn note_in(alloc: Global, root: &Element, change: &Change) -> Result<EditNote, NoMemory>
+    requires { Fits root.now change.now }
 {
-    EditNote::of(alloc, 1, 2, root, change)
+    EditNote::of(alloc, 1, 2, root, change.copy(alloc)?)
 }
 
-fn note(alloc: Global, text: &Field, change: Change) -> Result<EditNote> {
-    if let Change::RemoveDocument = change {
-        return Ok(EditNote::of_document(alloc, 1, 2, Change::RemoveDocument));
-    }
+// The note of a change of the document that a field spells.
+fn note_of(alloc: Global, text: &Field, change: &Change) -> Result<EditNote> {
     let root = document(alloc, text)?;
-    if !fits(alloc, &root, &change)? {
+    if !fits(alloc, &root, change)? {
         bail!("it doesn't fit");
     }
     Ok(note_in(alloc, &root, change)?)
+}
+
+fn note(alloc: Global, text: &Field, change: &Change) -> Result<EditNote> {
+    match change {
+        Change::RemoveDocument => { Ok(EditNote::of_document(alloc, 1, 2, Change::RemoveDocument)) }
+        _ => note_of(alloc, text, change),
+    }
+}
+
+// What the note of a number weighs.
+fn weight_of(notes: &Notes<'_>, number: usize) -> usize {
+    match notes.get(number) {
+        Some(note) => weight(note),
+        None => 0,
+    }
+}
+
+// Whether both notes weigh so many bytes.
+fn weighed(alloc: Global, notes: &Notes<'_>, length: usize) -> Result<String> {
+    for number in 0..2usize {
+        let weighed = weight_of(notes, number);
+        if weighed != length {
+            return Ok(format!(in alloc; "{weighed} for {length}")?);
+        }
+    }
+    Ok(String::from_str(alloc, "its length")?)
+}
+
+// Whether a note weighs so many bytes, and so does its copy, in a list of the two.
+fn weighed_twice(alloc: Global, note: EditNote, length: usize) -> Result<String> {
+    let older = [note.copy(alloc)?];
+    let newer = [note];
+    let notes = Notes {
+        older: older.as_slice(),
+        newer: newer.as_slice(),
+    };
+    weighed(alloc, &notes, length)
+}
+
+// What the note of a change weighs beside a number of bytes.
+fn noted(alloc: Global, text: &Field, change: &Change, length: usize) -> Result<String> {
+    let note = note(alloc, text, change)?;
+    weighed_twice(alloc, note, length)
 }
 
 /// Whether the note of a change weighs as many bytes as a text has, and so does its copy, in a list
@@ -33,22 +74,5 @@ pub fn answer(alloc: Global, inputs: &[Field]) -> Result<String> {
         bail!("the columns are others");
     };
     let change = read_change(alloc, change.text()?)?;
-    let note = note(alloc, text, change)?;
-    let older = [note.copy(alloc)?];
-    let newer = [note];
-    let notes = Notes {
-        older: older.as_slice(),
-        newer: newer.as_slice(),
-    };
-    for number in 0..2usize {
-        let weighed = match notes.get(number) {
-            Some(note) => weight(note),
-            None => 0,
-        };
-        let length = operation.bytes().len();
-        if weighed != length {
-            return Ok(format!(in alloc; "{weighed} for {length}")?);
-        }
-    }
-    Ok(String::from_str(alloc, "its length")?)
+    noted(alloc, text, &change, operation.bytes().len())
 }

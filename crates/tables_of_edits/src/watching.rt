@@ -7,7 +7,7 @@ use edit_ops::Change;
 use notes::{Edit, EditNote};
 use std::alloc::Global;
 use table_cases::{Field, lists_of, print};
-use watchers::{Audit, Mirror, Recorder, Told, Watcher, tell_all};
+use watchers::{Audit, Mirror, Recorder, Told, Watcher, Watchers};
 use xcap_io::MemLine;
 use xml_tree::List;
 
@@ -67,18 +67,31 @@ fn mirrored(alloc: Global, doc: &DocId, notes: &[EditNote]) -> Result<String> {
     }
 }
 
-// The numbers of the changes that a recorder has of the document.
-fn recorded(alloc: Global, doc: &DocId, notes: &[EditNote]) -> Result<String> {
-    let mut recorder = Recorder::new(alloc);
-    tell(&mut recorder, doc, notes)?;
-    let mut text = String::new(alloc);
+// Adds the numbers of the changes that a recorder has of the document.
+fn push_recorded(text: &mut String, recorder: &Recorder, doc: &DocId) -> Result<()> {
     for edit in recorder.edits() {
         if edit.doc.same(doc) {
             let next = edit.note.next;
             write!(text, "{next},")?;
         }
     }
+    Ok(())
+}
+
+// The numbers of the changes that a recorder has of the document.
+fn recorded(alloc: Global, doc: &DocId, notes: &[EditNote]) -> Result<String> {
+    let mut recorder = Recorder::new(alloc);
+    tell(&mut recorder, doc, notes)?;
+    let mut text = String::new(alloc);
+    push_recorded(&mut text, &recorder, doc)?;
     Ok(text)
+}
+
+// Tells watchers of a change of the document.
+fn tell_note(alloc: Global, watchers: &mut impl Watchers<Edit>, note: EditNote) -> Result<()> {
+    let doc = lists_of(alloc, JOE)?;
+    watchers.tell(&Edit { doc, note });
+    Ok(())
 }
 
 // How many are left after each change of a mirror, an audit with room for so many bytes, and
@@ -91,22 +104,32 @@ fn left(alloc: Global, room: usize, notes: Vec<EditNote>) -> Result<String> {
     watchers.push(Box::new(alloc, Mirror::new(alloc))?)?;
     let mut text = String::new(alloc);
     for note in notes {
-        let doc = lists_of(alloc, JOE)?;
-        tell_all(&mut watchers, &Edit { doc, note });
+        tell_note(alloc, &mut watchers, note)?;
         let left = watchers.len();
         write!(text, "{left},")?;
     }
     Ok(text)
 }
 
+// What a watcher makes of changes of one document.
+fn watched(alloc: Global, table: &str, notes: &[EditNote]) -> Result<String> {
+    let doc = lists_of(alloc, JOE)?;
+    match table {
+        "audits" => audited(alloc, &doc, notes),
+        "mirrors" => mirrored(alloc, &doc, notes),
+        "recorders" => recorded(alloc, &doc, notes),
+        _ => bail!("no such table"),
+    }
+}
+
 /// What watchers make of the changes of a case.
 pub fn answer(alloc: Global, table: &str, inputs: &[Field]) -> Result<String> {
-    let doc = lists_of(alloc, JOE)?;
-    match (table, inputs) {
-        ("audits", [lines]) => audited(alloc, &doc, &notes(alloc, lines.text()?)?),
-        ("mirrors", [lines]) => mirrored(alloc, &doc, &notes(alloc, lines.text()?)?),
-        ("recorders", [lines]) => recorded(alloc, &doc, &notes(alloc, lines.text()?)?),
-        ("watchers", [room, lines]) => { left(alloc, room.count()?, notes(alloc, lines.text()?)?) }
+    match inputs {
+        [lines] => {
+            let notes = notes(alloc, lines.text()?)?;
+            watched(alloc, table, &notes)
+        }
+        [room, lines] => left(alloc, room.count()?, notes(alloc, lines.text()?)?),
         _ => bail!("the columns are others"),
     }
 }
