@@ -35,8 +35,8 @@ const CLOSING: &[u8] = b"</xcap-error>";
 /// # Errors
 /// `NoMemory` for want of memory.
 pub fn error_document(alloc: Global, body: &ErrorBody) -> Result<Bytes, NoMemory>
-    ensures bytes { IfOk result (λ document. document ≡ conflict_bytes body.now) }
-    ensures print { IsNamed body.now → IfOk result (λ document. document ≡ encode_utf8_all (document_text (conflict_root body.now))) }
+    ensures bytes_of_the_conflict { IfOk result (λ document. document ≡ conflict_bytes body.now) }
+    ensures print_of_the_conflict { IsNamed body.now → IfOk result (λ document. document ≡ encode_utf8_all (document_text (conflict_root body.now))) }
 {
     let document = document(alloc, body)?;
     Ok(document)
@@ -113,8 +113,8 @@ fn push_value(document: &mut Bytes, value: &[u8]) -> Result<(), NoMemory>
 
 // Adds a byte, as a reference where it is written as one.
 fn push_byte(document: &mut Bytes, byte: u8, reference: Option<&str>) -> Result<(), NoMemory>
-    ensures referred { IfSome reference.entry (λ letters. OnOk result (document.new ≡ document.old ++ letters.now)) }
-    ensures itself { IfNone reference.entry (OnOk result (document.new ≡ document.old ++ byte ∷ [])) }
+    ensures special_byte_is_a_reference { IfSome reference.entry (λ letters. OnOk result (document.new ≡ document.old ++ letters.now)) }
+    ensures plain_character_stands_for_itself { IfNone reference.entry (OnOk result (document.new ≡ document.old ++ byte ∷ [])) }
 {
     match reference {
         Some(letters) => document.extend(letters.as_bytes()),

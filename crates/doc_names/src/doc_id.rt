@@ -67,8 +67,8 @@ impl DocId {
 
     /// Whether two names are the same. Takes no memory.
     pub fn same(&self, other: &DocId) -> bool
-        ensures exact { IsTrue result ↔ (self.now ≡ other.now) }
-        ensures test { result ≡ same_id self.now other.now }
+        ensures tells_whether_they_are_equal { IsTrue result ↔ (self.now ≡ other.now) }
+        ensures tells_by_the_test { result ≡ same_id self.now other.now }
     {
         self == other
     }

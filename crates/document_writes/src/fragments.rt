@@ -38,7 +38,7 @@ use xml_tree::{Element, Path, ReadError, Scope};
 // The declarations of the element at a path.
 fn scope_at<'a>(tree: &'a Element, path: &Path) -> Scope<'a>
     requires there { IsSome (at path.now tree.now) }
-    ensures scope { result ≡ scope_at path.now tree.now }
+    ensures scope_of_that_place { result ≡ scope_at path.now tree.now }
 {
     match Scope::at(tree, path) {
         Some(scope) => scope,
@@ -49,7 +49,7 @@ fn scope_at<'a>(tree: &'a Element, path: &Path) -> Scope<'a>
 // The declarations of the elements around the one at a path.
 fn scope_around<'a>(tree: &'a Element, path: &Path) -> Scope<'a>
     requires there { IsSome (at path.now tree.now) }
-    ensures scope { result ≡ scope_around path.now tree.now }
+    ensures scope_of_that_place { result ≡ scope_around path.now tree.now }
 {
     match path.split_last() {
         None => Scope::empty(),
@@ -60,7 +60,7 @@ fn scope_around<'a>(tree: &'a Element, path: &Path) -> Scope<'a>
 // The declarations in scope around an element that is put at a spot.
 fn scope_for<'a>(tree: &'a Element, spot: &Spot) -> Scope<'a>
     requires spot { LeadsSomewhere tree.now spot.now }
-    ensures scope { result ≡ scope_for tree.now spot.now }
+    ensures scope_of_that_place { result ≡ scope_for tree.now spot.now }
 {
     match spot {
         Spot::Over(path) => scope_around(tree, path),
@@ -72,7 +72,7 @@ fn scope_for<'a>(tree: &'a Element, spot: &Spot) -> Scope<'a>
 
 // How many levels an element may have there.
 fn levels_for(spot: &Spot) -> usize
-    ensures levels { result ≡ levels_for spot.now }
+    ensures levels_of_the_spot { result ≡ levels_for spot.now }
 {
     match spot {
         Spot::Over(path) => DEPTH.saturating_sub(path.numbers().len()),
@@ -93,7 +93,7 @@ fn read_element(
     requires low { height tree.now ≤ 64 }
     requires spot { LeadsSomewhere tree.now spot.now }
     ensures answer_by_the_grammar { Answered (TextAnswer (levels_for spot.now) (scope_for tree.now spot.now) bytes.now) result }
-    ensures proper { IfOk result (λ e. IsProperAt tree.now spot.now e × HasRoomAt spot.now e) }
+    ensures is_proper { IfOk result (λ e. IsProperAt tree.now spot.now e × HasRoomAt spot.now e) }
 {
     let scope = scope_for(tree, spot);
     read_fragment(alloc, bytes, &scope, levels_for(spot))

@@ -85,8 +85,8 @@ impl MemJournal {
     // Counts a fault.
     fn fail(&mut self) -> Failed
         ensures counts_one_more { self.new ≡ record self.old { faults = one_more self.old.faults } }
-        ensures later { self.old.faults ≤ self.new.faults }
-        ensures rose { Rose self.old.faults self.new.faults }
+        ensures count_never_falls { self.old.faults ≤ self.new.faults }
+        ensures count_rose { Rose self.old.faults self.new.faults }
     {
         fault(&mut self.faults)
     }
@@ -115,7 +115,7 @@ impl Journal for MemJournal {
     fn append(&mut self, bytes: &[u8]) -> Result<(), Failed>
         requires { length self.old.held + length bytes.now < 2 ^ 64 }
         ensures adds_the_bytes_behind { Adds (memory_state self.old) (memory_state self.new) result bytes.now }
-        ensures exactly { MemoryAppend self.old self.new result bytes.now }
+        ensures does_what_memory_does { MemoryAppend self.old self.new result bytes.now }
     {
         let fails = self.is_failing_call();
         if !self.has_room(bytes) {
@@ -133,7 +133,7 @@ impl Journal for MemJournal {
         requires faults { 0 < self.old.faults }
         requires within { len ≤ length self.old.held }
         ensures keeps_the_first_bytes { Cuts (memory_state self.old) (memory_state self.new) result len }
-        ensures exactly { MemoryCut self.old self.new result len }
+        ensures does_what_memory_does { MemoryCut self.old self.new result len }
     {
         if self.is_failing_call() {
             return Err(self.fail());

@@ -17,9 +17,9 @@ use xml_tree::Element;
 /// dropped, and where an element is removed only if texts stand directly on both sides of it.
 pub fn apply_change(alloc: Global, root: &mut Element, change: &Change) -> Result<(), AllocError>
     requires { Fits root.old change.now }
-    ensures ok { OnOk result (root.new ≡ edited root.old change.now) }
-    ensures others { OnOk result (KeepsTheOthers root.old change.now root.new) }
-    ensures err { OnErr result (root.new ≡ root.old) }
+    ensures makes_the_change { OnOk result (root.new ≡ edited root.old change.now) }
+    ensures moves_the_others_unchanged { OnOk result (KeepsTheOthers root.old change.now root.new) }
+    ensures failure_changes_nothing { OnErr result (root.new ≡ root.old) }
     ensures only_where_wanted { OnErr result (WantsMemory root.old change.now) }
 {
     let staged = stage(alloc, root, change)?;

@@ -9,8 +9,8 @@ use xml_tree::Path;
 
 // What stands of a path behind a place, where the path begins with it.
 fn way<'a>(place: &[usize], path: &'a [usize]) -> Option<&'a [usize]>
-    ensures rest { option_copied result ≡ behind place.now path.now }
-    ensures whole { IfSome result (λ rest. path.now ≡ place.now ++ rest.now) }
+    ensures way_behind_the_place { option_copied result ≡ behind place.now path.now }
+    ensures way_completes_the_path { IfSome result (λ rest. path.now ≡ place.now ++ rest.now) }
 {
     match place.split_first() {
         None => Some(path),

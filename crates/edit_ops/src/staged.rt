@@ -81,7 +81,7 @@ fn attribute(
 fn joint(alloc: Global, parent: &Element, place: &Path) -> Result<Staged, AllocError>
     requires below { 0 < length place.now }
     requires there { own_number place.now < length (kids_of parent.now) }
-    ensures joined { IfOk result (λ made. made ≡ staging.Joint (joined_around (own_number place.now) parent.now.content)) }
+    ensures joins_the_texts_around { IfOk result (λ made. made ≡ staging.Joint (joined_around (own_number place.now) parent.now.content)) }
     ensures only_where_texts_meet { IfErr result (λ _. TextsMeet (own_number place.now) parent.now.content) }
 {
     match place.split_last() {
@@ -93,7 +93,7 @@ fn joint(alloc: Global, parent: &Element, place: &Path) -> Result<Staged, AllocE
 // What a change brings to the element that it is made in.
 fn staged_here(alloc: Global, here: &Element, change: &Change) -> Result<Staged, AllocError>
     requires { FitsHere change.now here.now }
-    ensures staged { IfOk result (λ made. IsStagedHere change.now here.now made) }
+    ensures stages_the_change { IfOk result (λ made. IsStagedHere change.now here.now made) }
     ensures only_where_wanted { IfErr result (λ _. WantsHere change.now here.now) }
 {
     match change {
@@ -119,7 +119,7 @@ fn staged_here(alloc: Global, here: &Element, change: &Change) -> Result<Staged,
 /// element is removed only if texts stand directly on both sides of it.
 pub fn stage(alloc: Global, root: &Element, change: &Change) -> Result<Staged, AllocError>
     requires { Fits root.now change.now }
-    ensures staged { IfOk result (λ made. IsStaged root.now change.now made) }
+    ensures stages_the_change { IfOk result (λ made. IsStaged root.now change.now made) }
     ensures only_where_wanted { IfErr result (λ _. WantsMemory root.now change.now) }
 {
     let Some(here) = element_at(root, &site_of(change)) else {
@@ -174,8 +174,8 @@ fn make_here(here: &mut Element, change: &Change, staged: Staged)
 pub fn make_staged(root: &mut Element, change: &Change, staged: Staged)
     requires fits { Fits root.old change.now }
     requires staged { IsStaged root.old change.now staged }
-    ensures made { root.new ≡ edited root.old change.now }
-    ensures others { KeepsTheOthers root.old change.now root.new }
+    ensures makes_the_staged_change { root.new ≡ edited root.old change.now }
+    ensures moves_the_others_unchanged { KeepsTheOthers root.old change.now root.new }
 {
     root.edit_at(
         &site_of(change),

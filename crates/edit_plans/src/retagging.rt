@@ -27,9 +27,9 @@ pub(crate) struct Sought<'a> {
 impl<'a> Sought<'a> {
     /// With this value.
     pub(crate) fn with_value(uri: &'a Text, local: &'a Text, value: &'a Text) -> Sought<'a>
-        ensures uri { result.uri.now ≡ uri.now }
-        ensures local { result.local.now ≡ local.now }
-        ensures value { option_copied result.value ≡ Some value.now }
+        ensures has_the_uri { result.uri.now ≡ uri.now }
+        ensures has_the_local_name { result.local.now ≡ local.now }
+        ensures has_the_value { option_copied result.value ≡ Some value.now }
     {
         Sought {
             uri,

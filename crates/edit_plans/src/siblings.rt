@@ -27,8 +27,8 @@ pub(crate) struct Siblings<'a> {
 impl<'a> Siblings<'a> {
     /// All children.
     pub(crate) fn all(parent: &'a Element) -> Siblings<'a>
-        ensures parent { result.parent.now ≡ parent.now }
-        ensures all { result.left_out ≡ None }
+        ensures has_the_parent { result.parent.now ≡ parent.now }
+        ensures leaves_out_none { result.left_out ≡ None }
     {
         Siblings {
             parent,
@@ -38,7 +38,7 @@ impl<'a> Siblings<'a> {
 
     /// All but one.
     pub(crate) fn without(parent: &'a Element, child: usize) -> Siblings<'a>
-        ensures parent { result.parent.now ≡ parent.now }
+        ensures has_the_parent { result.parent.now ≡ parent.now }
         ensures but_one { result.left_out ≡ Some child }
     {
         Siblings {
@@ -145,9 +145,9 @@ fn marked_child(
     siblings: &Siblings<'_>,
 ) -> Option<usize>
     requires { key_of kind ≡ Some key }
-    ensures found { IfSome result (λ i. (siblings.now.left_out ≡ Some i → ⊥) × (mark_at row scope.now (kids_of siblings.now.parent.now) i ≡ Some (mark kind (chars value.now)))) }
-    ensures fits { IfSome result (λ i. i + 1 < 2 ^ 64) }
-    ensures none { result ≡ None → (i : ℕ) → (siblings.now.left_out ≡ Some i → ⊥) → mark_at row scope.now (kids_of siblings.now.parent.now) i ≡ Some (mark kind (chars value.now)) → ⊥ }
+    ensures what_is_found_is_there { IfSome result (λ i. (siblings.now.left_out ≡ Some i → ⊥) × (mark_at row scope.now (kids_of siblings.now.parent.now) i ≡ Some (mark kind (chars value.now)))) }
+    ensures number_fits_in_64_bits { IfSome result (λ i. i + 1 < 2 ^ 64) }
+    ensures none_where_none_is_found { result ≡ None → (i : ℕ) → (siblings.now.left_out ≡ Some i → ⊥) → mark_at row scope.now (kids_of siblings.now.parent.now) i ≡ Some (mark kind (chars value.now)) → ⊥ }
 {
     let mut i: usize = 0;
     for node in siblings.parent.nodes() {
@@ -189,9 +189,9 @@ fn twin_of(
     siblings: &Siblings<'_>,
     new: &Element,
 ) -> Option<Twin>
-    ensures found { IfSome result (λ twin. IsTwin row scope.now (others siblings.now.left_out (kids_of siblings.now.parent.now)) new.now twin.child twin.key) }
-    ensures fits { IfSome result (λ twin. twin.child + 1 < 2 ^ 64) }
-    ensures none { result ≡ None → NoTwin row scope.now (others siblings.now.left_out (kids_of siblings.now.parent.now)) new.now }
+    ensures what_is_found_is_there { IfSome result (λ twin. IsTwin row scope.now (others siblings.now.left_out (kids_of siblings.now.parent.now)) new.now twin.child twin.key) }
+    ensures number_fits_in_64_bits { IfSome result (λ twin. twin.child + 1 < 2 ^ 64) }
+    ensures none_where_none_is_found { result ≡ None → NoTwin row scope.now (others siblings.now.left_out (kids_of siblings.now.parent.now)) new.now }
 {
     let Some(kind) = kind_of_kid(alloc, row, scope, new) else {
         return None;
@@ -213,8 +213,8 @@ fn twin_of(
 
 // The key of a twin that stands before the gap.
 fn key_before(twin: Option<Twin>, gap: usize) -> Option<Key>
-    ensures found { IfSome result (λ key. (t : Twin) × ((twin ≡ Some t) × (t.child < gap) × (t.key ≡ key))) }
-    ensures none { result ≡ None → (t : Twin) → twin ≡ Some t → gap ≤ t.child }
+    ensures what_is_found_is_there { IfSome result (λ key. (t : Twin) × ((twin ≡ Some t) × (t.child < gap) × (t.key ≡ key))) }
+    ensures none_where_none_is_found { result ≡ None → (t : Twin) → twin ≡ Some t → gap ≤ t.child }
 {
     match twin {
         None => None,

@@ -8,8 +8,8 @@ use xml_tree::Path;
 // What stands of a path behind a place, where the path begins with it.
 pub(crate) fn way<'a>(place: &Path, path: &'a Path) -> Option<&'a [usize]>
     ensures rest_behind_the_place { option_copied result ≡ behind place.now path.now }
-    ensures whole { IfSome result (λ rest. path.now ≡ place.now ++ rest.now) }
-    ensures fits { IfSome result (λ rest. length place.now + length rest.now ≤ 64) }
+    ensures way_completes_the_path { IfSome result (λ rest. path.now ≡ place.now ++ rest.now) }
+    ensures path_still_fits { IfSome result (λ rest. length place.now + length rest.now ≤ 64) }
 {
     path.numbers().strip_prefix(place.numbers())
 }

@@ -21,7 +21,7 @@ const MAX_LEVELS: usize = 64;
 // The version of the document that a response brings.
 fn version_in(alloc: Global, response: Response) -> Result<Held, FollowerFault>
     ensures brings_a_version { BringsVersion response result }
-    ensures sound { IfOk result (λ held. IsSound held.root) }
+    ensures stays_sound { IfOk result (λ held. IsSound held.root) }
 {
     let Response { tag, body, .. } = response;
     let Some(tag) = tag else {
@@ -34,7 +34,7 @@ fn version_in(alloc: Global, response: Response) -> Result<Held, FollowerFault>
 // The version that the answer to a GET of the document brings, or that there is no document.
 fn taken(alloc: Global, given: Result<Response, ClientFault>) -> Result<Option<Held>, FollowerFault>
     ensures takes_the_document { TakesDocument given result }
-    ensures sound { IfOk result (λ held. HoldsSound (held_in held)) }
+    ensures stays_sound { IfOk result (λ held. HoldsSound (held_in held)) }
 {
     match given {
         Ok(response) => Ok(Some(version_in(alloc, response)?)),
@@ -52,7 +52,7 @@ pub(crate) fn document<C: Peer>(
     doc: &DocId,
 ) -> Result<Option<Held>, FollowerFault>
     ensures fetches_the_document { Fetches root.now (option_map (λ name. chars name.now) user.entry) doc.now (C.state peer.old) (C.state peer.new) result }
-    ensures sound { IfOk result (λ held. HoldsSound (held_in held)) }
+    ensures stays_sound { IfOk result (λ held. HoldsSound (held_in held)) }
 {
     let path = print_doc_id(alloc, doc)?;
     let given = fetch(alloc, peer, root, user, path.as_str());

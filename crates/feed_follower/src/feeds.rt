@@ -48,7 +48,7 @@ fn take_notice(
     requires sound { HoldsSound (held_in replica.old.held) }
     ensures same_document { replica.new.doc ≡ replica.old.doc }
     ensures takes_the_notice { TakesNotice replica.old.doc body.now (held_in replica.old.held) (held_in replica.new.held) result }
-    ensures sound { HoldsSound (held_in replica.new.held) }
+    ensures stays_sound { HoldsSound (held_in replica.new.held) }
 {
     let notice = read_notice(alloc, body)?;
     outcome_of(apply_notice(alloc, replica, &notice))
@@ -65,7 +65,7 @@ pub(crate) fn take_feed(
     ensures same_document { replica.new.doc ≡ replica.old.doc }
     ensures takes_the_feed { TakesFeed replica.old.doc given (held_in replica.old.held) (held_in replica.new.held) result }
     ensures keeps_unless_told { KeepsUnlessTold (held_in replica.old.held) (held_in replica.new.held) result }
-    ensures sound { HoldsSound (held_in replica.new.held) }
+    ensures stays_sound { HoldsSound (held_in replica.new.held) }
 {
     match given {
         Ok(response) => take_notice(alloc, replica, response.body.as_slice()),

@@ -75,9 +75,9 @@ fn take(alloc: Global, replica: &mut Replica, reply: &Reply) -> Result<Applied, 
     requires low { IsLow (held_in replica.old.held) }
     ensures by_the_reply { OrNoMemory (held_in replica.old.held) result (held_in replica.new.held)
         (Takes replica.old.doc (held_in replica.old.held) result (held_in replica.new.held) reply.now) }
-    ensures doc { replica.new.doc ≡ replica.old.doc }
-    ensures low { IsLow (held_in replica.new.held) }
-    ensures sound { HoldsSound (held_in replica.old.held) → HoldsSound (held_in replica.new.held) }
+    ensures same_document { replica.new.doc ≡ replica.old.doc }
+    ensures is_low_enough { IsLow (held_in replica.new.held) }
+    ensures stays_sound { HoldsSound (held_in replica.old.held) → HoldsSound (held_in replica.new.held) }
 {
     if reply.status() != 200 {
         return Err(FollowFault::Status(reply.status()));
@@ -99,9 +99,9 @@ fn follow(
     requires low { IsLow (held_in replica.old.held) }
     ensures by_the_machine { OrNoMemory (held_in replica.old.held) result (held_in replica.new.held)
         (Follows server.old.root server.old.content mode doc.now replica.old.doc (held_in replica.old.held) result (held_in replica.new.held)) }
-    ensures doc { replica.new.doc ≡ replica.old.doc }
-    ensures low { IsLow (held_in replica.new.held) }
-    ensures sound { HoldsSound (held_in replica.old.held) → HoldsSound (held_in replica.new.held) }
+    ensures same_document { replica.new.doc ≡ replica.old.doc }
+    ensures is_low_enough { IsLow (held_in replica.new.held) }
+    ensures stays_sound { HoldsSound (held_in replica.old.held) → HoldsSound (held_in replica.new.held) }
     ensures server_as_before { (server.new.root ≡ server.old.root) × (server.new.content ≡ server.old.content) }
 {
     let request = request_since(alloc, server.root(), mode, doc, &replica.held)?;
@@ -135,9 +135,9 @@ pub fn followed(
         → HoldsThePresent m mode doc.now (held_in replica.old.held) result (held_in replica.new.held) }
     ensures drops_what_is_gone { (m : State) → Kept m → Stands server.old.content m → replica.old.doc ≡ doc.now
         → DropsWhatIsGone m doc.now (held_in replica.old.held) result (held_in replica.new.held) }
-    ensures doc { replica.new.doc ≡ replica.old.doc }
-    ensures low { IsLow (held_in replica.new.held) }
-    ensures sound { HoldsSound (held_in replica.old.held) → HoldsSound (held_in replica.new.held) }
+    ensures same_document { replica.new.doc ≡ replica.old.doc }
+    ensures is_low_enough { IsLow (held_in replica.new.held) }
+    ensures stays_sound { HoldsSound (held_in replica.old.held) → HoldsSound (held_in replica.new.held) }
     ensures server_as_before { (server.new.root ≡ server.old.root) × (server.new.content ≡ server.old.content) }
 {
     let _last = server.store().last_number();

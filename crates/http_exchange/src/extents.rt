@@ -44,8 +44,8 @@ fn capped_number(digits: &[u8]) -> Option<u64>
 }
 
 fn within_limit(len: u64) -> Result<Extent, ResponseFault>
-    ensures value { result ≡ within_limit len }
-    ensures fault { IfErr result IsOfFields }
+    ensures extent_by_the_fields { result ≡ within_limit len }
+    ensures fault_of_the_fields_alone { IfErr result IsOfFields }
 {
     if len > MAX_BODY as u64 {
         return Err(ResponseFault::TooLong(len));
@@ -55,8 +55,8 @@ fn within_limit(len: u64) -> Result<Extent, ResponseFault>
 
 #[tactic(auto, unfolding(crate::specs::Extents::length_by))]
 fn length_once(bodiless: bool, value: &[u8]) -> Result<Extent, ResponseFault>
-    ensures value { result ≡ length_by bodiless (value.now ∷ []) }
-    ensures fault { IfErr result IsOfFields }
+    ensures extent_by_the_fields { result ≡ length_by bodiless (value.now ∷ []) }
+    ensures fault_of_the_fields_alone { IfErr result IsOfFields }
 {
     match capped_number(value) {
         None => Err(ResponseFault::Length),
@@ -67,8 +67,8 @@ fn length_once(bodiless: bool, value: &[u8]) -> Result<Extent, ResponseFault>
 
 #[tactic(auto, unfolding(crate::specs::Extents::length_by))]
 fn extent_by_length(bodiless: bool, lengths: Named) -> Result<Extent, ResponseFault>
-    ensures fault { IfErr result IsOfFields }
-    ensures value { (values : List (List ℕ)) → Found lengths.entry values → result ≡ length_by bodiless values }
+    ensures fault_of_the_fields_alone { IfErr result IsOfFields }
+    ensures extent_by_the_fields { (values : List (List ℕ)) → Found lengths.entry values → result ≡ length_by bodiless values }
 {
     match lengths {
         Named::Absent if bodiless => Ok(Extent::Empty),
@@ -82,8 +82,8 @@ fn extent_by_length(bodiless: bool, lengths: Named) -> Result<Extent, ResponseFa
 #[tactic(auto, unfolding(crate::specs::Extents::extent_by))]
 pub fn read_extent(buf: &[u8], headers: &[HeaderSpan], status: u16) -> Result<Extent, ResponseFault>
     requires { All (IsHeaderWithin (length buf.now)) headers.now }
-    ensures fault { IfErr result IsOfFields }
-    ensures value { result ≡ extent_by status (map (header_bytes buf.now) headers.now) }
+    ensures fault_of_the_fields_alone { IfErr result IsOfFields }
+    ensures extent_by_the_fields { result ≡ extent_by status (map (header_bytes buf.now) headers.now) }
 {
     let Named::Absent = find(buf, headers, b"transfer-encoding") else {
         return Err(ResponseFault::Coding);

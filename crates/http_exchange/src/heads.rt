@@ -61,11 +61,11 @@ pub fn next_head<S: Source>(
     headers: &mut [HeaderSpan],
 ) -> Result<Option<ResponseSpans>, Stop>
     requires { length headers.old ≡ 64 }
-    ensures gains { Gains inflow.old inflow.new (S.state source.old).inward (S.state source.new).inward }
-    ensures ok { IfOk result (HeadOrNone inflow.new (S.state source.new).inward headers.new) }
-    ensures err { OnErr result (HasNoHead inflow.new) }
-    ensures reads { Reads (S.state source.old) (S.state source.new) }
-    ensures counts { CountsStop (S.state source.old).read_faults (S.state source.new).read_faults result }
+    ensures gains_what_the_source_gave { Gains inflow.old inflow.new (S.state source.old).inward (S.state source.new).inward }
+    ensures finds_a_head_or_none { IfOk result (HeadOrNone inflow.new (S.state source.new).inward headers.new) }
+    ensures failure_before_any_head { OnErr result (HasNoHead inflow.new) }
+    ensures only_reads_of_the_source { Reads (S.state source.old) (S.state source.new) }
+    ensures counts_each_failure { CountsStop (S.state source.old).read_faults (S.state source.new).read_faults result }
 {
     let mut seen = 0;
     'looking: loop {

@@ -32,9 +32,9 @@ impl Model for Inflow {
 // Makes room behind the first bytes, where there is none.
 fn make_room(buffer: &mut Vec<u8>, held: usize) -> Result<(), NoMemory>
     requires { held ≤ length buffer.old.items }
-    ensures inside { held ≤ length buffer.new.items }
-    ensures same { take held buffer.new.items ≡ take held buffer.old.items }
-    ensures room { OnOk result (held < length buffer.new.items) }
+    ensures room_holds_what_was_held { held ≤ length buffer.new.items }
+    ensures keeps_what_was_held { take held buffer.new.items ≡ take held buffer.old.items }
+    ensures there_is_room { OnOk result (held < length buffer.new.items) }
 {
     if held == buffer.len() {
         buffer.extend_from_slice(&[0; ROOM])?;
@@ -86,11 +86,11 @@ impl Inflow {
 
     // One read. False at the end of the source.
     pub fn fill<S: Source>(&mut self, source: &mut S) -> Result<bool, Stop>
-        ensures gains { Gains self.old self.new (S.state source.old).inward (S.state source.new).inward }
-        ensures ok { IfOk result (λ more. GainedOrEnded more self.old self.new (S.state source.new).inward) }
-        ensures err { OnErr result (self.new ≡ self.old) }
-        ensures reads { Reads (S.state source.old) (S.state source.new) }
-        ensures counts { CountsStop (S.state source.old).read_faults (S.state source.new).read_faults result }
+        ensures gains_what_the_source_gave { Gains self.old self.new (S.state source.old).inward (S.state source.new).inward }
+        ensures gains_more_or_finds_the_end { IfOk result (λ more. GainedOrEnded more self.old self.new (S.state source.new).inward) }
+        ensures failure_changes_nothing { OnErr result (self.new ≡ self.old) }
+        ensures only_reads_of_the_source { Reads (S.state source.old) (S.state source.new) }
+        ensures counts_each_failure { CountsStop (S.state source.old).read_faults (S.state source.new).read_faults result }
     {
         make_room(&mut self.buffer, self.held)?;
         match source.read(&mut self.buffer[self.held..]) {
@@ -104,11 +104,11 @@ impl Inflow {
 
     // Reads until so many bytes are held. False where the source ends before.
     pub fn hold<S: Source>(&mut self, source: &mut S, count: usize) -> Result<bool, Stop>
-        ensures gains { Gains self.old self.new (S.state source.old).inward (S.state source.new).inward }
-        ensures ok { IfOk result (λ enough. HoldsOrEnded enough count self.new (S.state source.new).inward) }
-        ensures err { OnErr result (length self.new < count) }
-        ensures reads { Reads (S.state source.old) (S.state source.new) }
-        ensures counts { CountsStop (S.state source.old).read_faults (S.state source.new).read_faults result }
+        ensures gains_what_the_source_gave { Gains self.old self.new (S.state source.old).inward (S.state source.new).inward }
+        ensures holds_enough_or_finds_the_end { IfOk result (λ enough. HoldsOrEnded enough count self.new (S.state source.new).inward) }
+        ensures failure_before_enough_came { OnErr result (length self.new < count) }
+        ensures only_reads_of_the_source { Reads (S.state source.old) (S.state source.new) }
+        ensures counts_each_failure { CountsStop (S.state source.old).read_faults (S.state source.new).read_faults result }
     {
         'reading: while self.len() < count {
             if !self.fill(source)? {

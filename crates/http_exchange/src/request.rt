@@ -96,7 +96,7 @@ fn pieces_of<'a>(root: &'a Root, ask: &'a Ask, digits: &'a [u8]) -> [&'a [u8]; 1
 // Through a gatherer that holds nothing.
 fn hand_over<S: Sink>(sink: &mut S, gatherer: &mut Gatherer, pieces: &[&[u8]]) -> Result<(), Failed>
     requires { gatherer.old ≡ [] }
-    ensures bytes { WritesAll (S.state sink.old).taken (S.state sink.new).taken result (flat_map (λ piece. piece.now) pieces.now) }
+    ensures writes_all_or_a_proper_front { WritesAll (S.state sink.old).taken (S.state sink.new).taken result (flat_map (λ piece. piece.now) pieces.now) }
     ensures only_writes { OnlyWrites (S.state sink.old) (S.state sink.new) result }
 {
     put_all(sink, gatherer, pieces)?;
@@ -109,7 +109,7 @@ fn hand_over<S: Sink>(sink: &mut S, gatherer: &mut Gatherer, pieces: &[&[u8]]) -
 /// `Failed` where a write failed; a proper prefix of the request was then taken, and the sink's count of such faults rose.
 pub fn write_request<S: Sink>(sink: &mut S, root: &Root, ask: &Ask) -> Result<(), Failed>
     requires { IsLawful ask.now }
-    ensures bytes { WritesAll (S.state sink.old).taken (S.state sink.new).taken result (request_bytes root.now ask.now) }
+    ensures writes_all_or_a_proper_front { WritesAll (S.state sink.old).taken (S.state sink.new).taken result (request_bytes root.now ask.now) }
     ensures only_writes { OnlyWrites (S.state sink.old) (S.state sink.new) result }
 {
     let mut buffer = Buffer::new();

@@ -30,9 +30,9 @@ fn read_body<S: Source>(
     mut inflow: Inflow,
     extent: Extent,
 ) -> Result<Bytes, ResponseFault>
-    ensures gives { GivesBody extent inflow (S.state source.old).inward (S.state source.new).inward result }
-    ensures reads { Reads (S.state source.old) (S.state source.new) }
-    ensures counts { CountsFault (S.state source.old).read_faults (S.state source.new).read_faults result }
+    ensures gives_the_body { GivesBody extent inflow (S.state source.old).inward (S.state source.new).inward result }
+    ensures only_reads_of_the_source { Reads (S.state source.old) (S.state source.new) }
+    ensures counts_each_failure { CountsFault (S.state source.old).read_faults (S.state source.new).read_faults result }
 {
     match extent {
         Extent::Empty => Ok(Bytes::new(alloc)),
@@ -60,9 +60,9 @@ fn read_body<S: Source>(
 /// of memory. Else the first of these that applies: `Head` where there is no head of at most 16,384 bytes and 64 field lines,
 /// `Coding`, `Length`, `TooLong` for a body of more than 16,777,216 bytes, `Short`.
 pub fn read_response<S: Source>(alloc: Global, source: &mut S) -> Result<Response, ResponseFault>
-    ensures answers { Answers (S.state source.old).inward (S.state source.new).inward result }
-    ensures reads { Reads (S.state source.old) (S.state source.new) }
-    ensures counts { CountsFault (S.state source.old).read_faults (S.state source.new).read_faults result }
+    ensures answers_what_was_given { Answers (S.state source.old).inward (S.state source.new).inward result }
+    ensures only_reads_of_the_source { Reads (S.state source.old) (S.state source.new) }
+    ensures counts_each_failure { CountsFault (S.state source.old).read_faults (S.state source.new).read_faults result }
 {
     let mut inflow = Inflow::new(alloc);
     let mut headers = [EMPTY_HEADER_SPAN; MAX_FIELDS];

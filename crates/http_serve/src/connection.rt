@@ -32,8 +32,8 @@ pub enum Ended {
 fn fixed<E>(status: u16) -> Answered<E>
     requires status { IsTrue (is_status status) }
     requires plain { (status ≢ 304) × (status ≢ 405) × (status ≢ 409) }
-    ensures reply { result.reply ≡ fixed_reply status }
-    ensures edit { result.edit ≡ None }
+    ensures is_the_fixed_reply { result.reply ≡ fixed_reply status }
+    ensures tells_no_change { result.edit ≡ None }
 {
     Answered {
         reply: Reply::fixed(status, true),
@@ -92,12 +92,12 @@ fn serve_next<M: Machine, L: Source + Sink, W: Watchers<M::Edit>>(
 ) -> Option<Ended>
     requires open_still { buffers.old.wire.spent ≡ false }
     requires room { M.takes machine.old 1 }
-    ensures turn { Turn (InBytes M.steps) W.keeps result
+    ensures makes_one_turn { Turn (InBytes M.steps) W.keeps result
         buffers.old.wire buffers.new.wire machine.old machine.new (L.state line.old) (L.state line.new)
         watchers.old watchers.new }
     ensures goes_on { result ≡ None → GivesOn buffers.old.wire buffers.new.wire }
-    ensures faults { FaultsSoFar result (L.state line.old) (L.state line.new) }
-    ensures exchanges { KeepsTheRest (L.state line.old) (L.state line.new) }
+    ensures counts_the_faults_so_far { FaultsSoFar result (L.state line.old) (L.state line.new) }
+    ensures exchanges_on_this_line_alone { KeepsTheRest (L.state line.old) (L.state line.new) }
     ensures takes_one_fewer { (n : ℕ) → M.takes machine.old (suc n) → M.takes machine.new n }
 {
     let asked = match next_request(buffers.alloc, line, &mut buffers.wire) {

@@ -33,9 +33,9 @@ pub trait Machine {
     fn answer(&mut self, request: &Request) -> Result<Answered<Self::Edit>, AllocError>
         requires read { IsRead request.now }
         requires room { takes self.old 1 }
-        ensures step { IfOk result (λ answered. steps self.old request.now answered.reply self.new answered.edit) }
-        ensures closes { IfOk result (λ answered. answered.reply.closes ≡ request.now.closes) }
-        ensures err { OnErr result (self.new ≡ self.old) }
+        ensures makes_a_step { IfOk result (λ answered. steps self.old request.now answered.reply self.new answered.edit) }
+        ensures closes_as_asked { IfOk result (λ answered. answered.reply.closes ≡ request.now.closes) }
+        ensures failure_changes_nothing { OnErr result (self.new ≡ self.old) }
         ensures takes_one_fewer { (n : ℕ) → takes self.old (suc n) → takes self.new n };
 
     /// What takes so many takes fewer.

@@ -232,8 +232,8 @@ impl Decoder {
         requires some { 0 < length raw.now }
         requires due { self.old.stage ≡ Stage.Data left }
         requires more { 0 < left }
-        ensures count { (0 < result) × (result ≤ length raw.now) }
-        ensures reads { ReadsOn self.old (take result raw.now) self.new }
+        ensures takes_some_of_it { (0 < result) × (result ≤ length raw.now) }
+        ensures reads_on_over_them { ReadsOn self.old (take result raw.now) self.new }
     {
         let count = left.min(raw.len());
         self.buffer[self.decoded..self.decoded + count].copy_from_slice(&raw[..count]);
@@ -254,8 +254,8 @@ impl Decoder {
     fn advance(&mut self, raw: &[u8]) -> usize
         requires some { 0 < length raw.now }
         requires open { is_settled self.old.stage ≡ false }
-        ensures count { (0 < result) × (result ≤ length raw.now) }
-        ensures reads { ReadsOn self.old (take result raw.now) self.new }
+        ensures takes_some_of_it { (0 < result) × (result ≤ length raw.now) }
+        ensures reads_on_over_them { ReadsOn self.old (take result raw.now) self.new }
     {
         match self.stage {
             Stage::Data { left } if left > 0 => self.take_data(raw, left),
@@ -268,9 +268,9 @@ impl Decoder {
 
     // Reads until it is settled, or all the bytes, and answers how many.
     pub fn feed(&mut self, raw: &[u8]) -> usize
-        ensures count { result ≤ length raw.now }
-        ensures reads { ReadsOn self.old (take result raw.now) self.new }
-        ensures all { is_settled self.new.stage ≡ false → result ≡ length raw.now }
+        ensures takes_no_more_than_is_there { result ≤ length raw.now }
+        ensures reads_on_over_them { ReadsOn self.old (take result raw.now) self.new }
+        ensures takes_all_unless_settled { is_settled self.new.stage ≡ false → result ≡ length raw.now }
     {
         let mut used = 0;
         while used < raw.len() && !self.is_settled() {

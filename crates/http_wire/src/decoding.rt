@@ -27,7 +27,7 @@ pub fn decode<S: Source>(
 ) -> Result<Decoded, ReadFault>
     requires inside { head ≤ length inflow.old }
     requires short { head ≤ 16_384 }
-    ensures decodes { Decodes head inflow.old (S.state source.old).inward result decoder.new.body inflow.new (S.state source.new).inward }
+    ensures decodes_the_body { Decodes head inflow.old (S.state source.old).inward result decoder.new.body inflow.new (S.state source.new).inward }
     ensures only_reads { OnlyReads (S.state source.old) (S.state source.new) result }
 {
     decoder.restart();

@@ -106,8 +106,8 @@ fn capped_number(digits: &[u8]) -> Option<usize>
 
 #[tactic(auto, unfolding(crate::specs::Framing::length_by))]
 fn length_of(value: &[u8]) -> Framing
-    ensures value { result ≡ length_by (value.now ∷ []) }
-    ensures limit { IsWithinLimit result }
+    ensures framing_by_the_fields { result ≡ length_by (value.now ∷ []) }
+    ensures within_the_limit { IsWithinLimit result }
 {
     match capped_number(value) {
         None => Framing::Bad,
@@ -126,8 +126,8 @@ fn lacks_host(buf: &[u8], headers: &[HeaderSpan], version: u8) -> bool
 
 #[tactic(auto, unfolding(crate::specs::Framing::length_by))]
 fn framing_by_length(lengths: Named) -> Framing
-    ensures limit { IsWithinLimit result }
-    ensures value { (values : List (List ℕ)) → Found lengths.entry values → result ≡ length_by values }
+    ensures within_the_limit { IsWithinLimit result }
+    ensures framing_by_the_fields { (values : List (List ℕ)) → Found lengths.entry values → result ≡ length_by values }
 {
     match lengths {
         Named::Absent => Framing::Length(0),
@@ -138,8 +138,8 @@ fn framing_by_length(lengths: Named) -> Framing
 
 #[tactic(auto, unfolding(crate::specs::Framing::coding_by))]
 fn framing_by_coding(version: u8, codings: Named, lengths: Named) -> Framing
-    ensures limit { IsWithinLimit result }
-    ensures value { (coded values : List (List ℕ)) → Found codings.entry coded
+    ensures within_the_limit { IsWithinLimit result }
+    ensures framing_by_the_fields { (coded values : List (List ℕ)) → Found codings.entry coded
         → Found lengths.entry values → result ≡ coding_by version coded values }
 {
     match codings {
@@ -155,8 +155,8 @@ fn framing_by_coding(version: u8, codings: Named, lengths: Named) -> Framing
 #[tactic(auto, unfolding(crate::specs::Framing::framing))]
 pub fn read_framing(buf: &[u8], headers: &[HeaderSpan], version: u8) -> Framing
     requires { All (IsHeaderWithin (length buf.now)) headers.now }
-    ensures limit { IsWithinLimit result }
-    ensures value { result ≡ framing version (map (header_bytes buf.now) headers.now) }
+    ensures within_the_limit { IsWithinLimit result }
+    ensures framing_by_the_fields { result ≡ framing version (map (header_bytes buf.now) headers.now) }
 {
     if lacks_host(buf, headers, version) {
         return Framing::Bad;

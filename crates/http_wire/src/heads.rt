@@ -55,9 +55,9 @@ pub fn next_head<S: Source>(
     headers: &mut [HeaderSpan],
 ) -> Result<Option<RequestSpans>, ReadFault>
     requires { length headers.old ≡ 64 }
-    ensures gains { Gains inflow.old inflow.new (S.state source.old).inward (S.state source.new).inward }
-    ensures ok { IfOk result (HeadOrNone inflow.new (S.state source.new).inward headers.new) }
-    ensures err { OnErr result (HasNoHead inflow.new) }
+    ensures gains_what_the_source_gave { Gains inflow.old inflow.new (S.state source.old).inward (S.state source.new).inward }
+    ensures finds_a_head_or_none { IfOk result (HeadOrNone inflow.new (S.state source.new).inward headers.new) }
+    ensures failure_before_any_head { OnErr result (HasNoHead inflow.new) }
     ensures only_reads { OnlyReads (S.state source.old) (S.state source.new) result }
 {
     let mut seen = 0;

@@ -10,9 +10,9 @@ use xcap_io::{Failed, Gatherer, Line, Sink, flush, put};
 // The head and the body, through a gatherer that holds nothing.
 fn hand_over<S: Sink>(sink: &mut S, gatherer: &mut Gatherer, reply: &Reply) -> Result<(), Failed>
     requires { gatherer.old ≡ [] }
-    ensures bytes { WritesAll (S.state sink.old).taken (S.state sink.new).taken result (bytes_of reply.now) }
+    ensures writes_all_or_a_proper_front { WritesAll (S.state sink.old).taken (S.state sink.new).taken result (bytes_of reply.now) }
     ensures only_writes { OnlyWrites (S.state sink.old) (S.state sink.new) result }
-    ensures none { OnOk result (gatherer.new ≡ []) }
+    ensures leaves_nothing_gathered { OnOk result (gatherer.new ≡ []) }
 {
     put(sink, gatherer, reply.head())?;
     put(sink, gatherer, reply.body())?;
@@ -30,9 +30,9 @@ pub fn write_reply_through<S: Sink>(
     reply: &Reply,
 ) -> Result<(), Failed>
     requires empty { gatherer.old ≡ [] }
-    ensures bytes { WritesAll (S.state sink.old).taken (S.state sink.new).taken result (bytes_of reply.now) }
+    ensures writes_all_or_a_proper_front { WritesAll (S.state sink.old).taken (S.state sink.new).taken result (bytes_of reply.now) }
     ensures only_writes { OnlyWrites (S.state sink.old) (S.state sink.new) result }
-    ensures empty { gatherer.new ≡ [] }
+    ensures gatherer_is_left_empty { gatherer.new ≡ [] }
 {
     if let Err(failed) = hand_over(sink, gatherer, reply) {
         *gatherer = Gatherer::new();
@@ -46,7 +46,7 @@ pub fn write_reply_through<S: Sink>(
 /// # Errors
 /// `Failed` where a write failed; a proper prefix of the reply was then taken, and the sink's count of such faults rose.
 pub fn write_reply<S: Sink>(sink: &mut S, reply: &Reply) -> Result<(), Failed>
-    ensures bytes { WritesAll (S.state sink.old).taken (S.state sink.new).taken result (bytes_of reply.now) }
+    ensures writes_all_or_a_proper_front { WritesAll (S.state sink.old).taken (S.state sink.new).taken result (bytes_of reply.now) }
     ensures only_writes { OnlyWrites (S.state sink.old) (S.state sink.new) result }
 {
     let mut gatherer = Gatherer::new();

@@ -84,12 +84,12 @@ pub fn make_request(
     before: usize,
 ) -> Result<Request, NoMemory>
     requires { IsRequestWithin bytes.now headers.now spans.now }
-    ensures method { IfOk result (λ request. request.method ≡ span_bytes bytes.now spans.now.method) }
-    ensures target { IfOk result (λ request. request.target ≡ span_bytes bytes.now spans.now.path) }
-    ensures closes { IfOk result (λ request. request.closes ≡ ((before == 999) || ((spans.now.version == 0)
+    ensures has_the_method { IfOk result (λ request. request.method ≡ span_bytes bytes.now spans.now.method) }
+    ensures has_the_target { IfOk result (λ request. request.target ≡ span_bytes bytes.now spans.now.path) }
+    ensures closes_as_it_asks { IfOk result (λ request. request.closes ≡ ((before == 999) || ((spans.now.version == 0)
         || asks_to_close (map (header_bytes bytes.now) (take spans.now.headers headers.now))))) }
-    ensures fields { IfOk result (λ request. request.fields ≡ map field_of (map (header_bytes bytes.now) (take spans.now.headers headers.now))) }
-    ensures body { IfOk result (λ request. request.body ≡ body.now) }
+    ensures has_the_fields { IfOk result (λ request. request.fields ≡ map field_of (map (header_bytes bytes.now) (take spans.now.headers headers.now))) }
+    ensures has_the_body { IfOk result (λ request. request.body ≡ body.now) }
 {
     let fields = &headers[..spans.headers];
     let closes = before == MAX_REQUESTS - 1 || spans.version == 0 || asks_to_close(bytes, fields);

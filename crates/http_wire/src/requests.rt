@@ -26,7 +26,7 @@ fn read_plain<S: Source>(
 ) -> Result<Asked, ReadFault>
     requires open_at { IsOpenAt inflow.old headers.now spans.now (Framing.Length len) }
     requires len { len ≤ 262_144 }
-    ensures asks { Asks before inflow.old (S.state source.old).inward result inflow.new (S.state source.new).inward }
+    ensures asks_for_the_first_item { Asks before inflow.old (S.state source.old).inward result inflow.new (S.state source.new).inward }
     ensures only_reads { OnlyReads (S.state source.old) (S.state source.new) result }
 {
     let end = spans.len + len;
@@ -54,7 +54,7 @@ fn read_chunked<S: Source>(
     before: usize,
 ) -> Result<Asked, ReadFault>
     requires { IsOpenAt inflow.old headers.now spans.now Framing.Chunked }
-    ensures asks { Asks before inflow.old (S.state source.old).inward result inflow.new (S.state source.new).inward }
+    ensures asks_for_the_first_item { Asks before inflow.old (S.state source.old).inward result inflow.new (S.state source.new).inward }
     ensures only_reads { OnlyReads (S.state source.old) (S.state source.new) result }
 {
     match decode(source, inflow, decoder, spans.len)? {
@@ -87,7 +87,7 @@ fn read_item<S: Source>(
     decoder: &mut Decoder,
     before: usize,
 ) -> Result<Asked, ReadFault>
-    ensures asks { Asks before inflow.old (S.state source.old).inward result inflow.new (S.state source.new).inward }
+    ensures asks_for_the_first_item { Asks before inflow.old (S.state source.old).inward result inflow.new (S.state source.new).inward }
     ensures only_reads { OnlyReads (S.state source.old) (S.state source.new) result }
 {
     let mut headers = [EMPTY_HEADER_SPAN; MAX_FIELDS];
@@ -120,11 +120,11 @@ pub fn next_request<S: Source>(
     source: &mut S,
     wire: &mut Wire,
 ) -> Result<Asked, ReadFault>
-    ensures spent { wire.old.spent ≡ true → (result ≡ Ok Asked.End) × (wire.new ≡ wire.old)
+    ensures spent_wire_gives_nothing { wire.old.spent ≡ true → (result ≡ Ok Asked.End) × (wire.new ≡ wire.old)
         × (S.state source.new ≡ S.state source.old) }
-    ensures asks { wire.old.spent ≡ false → Asks wire.old.requests wire.old.held (S.state source.old).inward
+    ensures asks_for_the_first_item { wire.old.spent ≡ false → Asks wire.old.requests wire.old.held (S.state source.old).inward
         result wire.new.held (S.state source.new).inward }
-    ensures stands { StandsAfter wire.old result wire.new }
+    ensures stands_behind_the_item { StandsAfter wire.old result wire.new }
     ensures only_reads { OnlyReads (S.state source.old) (S.state source.new) result }
 {
     if wire.spent {

@@ -63,15 +63,15 @@ impl Inflow {
     }
 
     pub fn bytes(&self) -> &[u8]
-        ensures value { result.now ≡ self.now }
-        ensures limit { length self.now ≤ 278_528 }
+        ensures lends_what_is_held { result.now ≡ self.now }
+        ensures within_the_limit { length self.now ≤ 278_528 }
     {
         &self.buffer[self.start..self.end]
     }
 
     pub fn len(&self) -> usize
-        ensures count { result ≡ length self.now }
-        ensures limit { length self.now ≤ 278_528 }
+        ensures counts_them { result ≡ length self.now }
+        ensures within_the_limit { length self.now ≤ 278_528 }
     {
         self.end - self.start
     }
@@ -102,9 +102,9 @@ impl Inflow {
     // in the bytes, and the first one for an item moves them: so no byte is moved twice.
     pub fn fill<S: Source>(&mut self, source: &mut S) -> Result<bool, ReadFault>
         requires { length self.old < 278_528 }
-        ensures gains { Gains self.old self.new (S.state source.old).inward (S.state source.new).inward }
-        ensures ok { IfOk result (λ more. GainedOrEnded more self.old self.new (S.state source.new).inward) }
-        ensures err { OnErr result (self.new ≡ self.old) }
+        ensures gains_what_the_source_gave { Gains self.old self.new (S.state source.old).inward (S.state source.new).inward }
+        ensures gains_more_or_finds_the_end { IfOk result (λ more. GainedOrEnded more self.old self.new (S.state source.new).inward) }
+        ensures failure_changes_nothing { OnErr result (self.new ≡ self.old) }
         ensures only_reads { OnlyReads (S.state source.old) (S.state source.new) result }
     {
         let held = self.end - self.start;
@@ -123,9 +123,9 @@ impl Inflow {
     // Reads until so many bytes are held. False where the source ends before.
     pub fn hold<S: Source>(&mut self, source: &mut S, count: usize) -> Result<bool, ReadFault>
         requires { count ≤ 278_528 }
-        ensures gains { Gains self.old self.new (S.state source.old).inward (S.state source.new).inward }
-        ensures ok { IfOk result (λ enough. HoldsOrEnded enough count self.new (S.state source.new).inward) }
-        ensures err { OnErr result (length self.new < count) }
+        ensures gains_what_the_source_gave { Gains self.old self.new (S.state source.old).inward (S.state source.new).inward }
+        ensures holds_enough_or_finds_the_end { IfOk result (λ enough. HoldsOrEnded enough count self.new (S.state source.new).inward) }
+        ensures failure_before_enough_came { OnErr result (length self.new < count) }
         ensures only_reads { OnlyReads (S.state source.old) (S.state source.new) result }
     {
         'reading: while self.len() < count {
@@ -185,8 +185,8 @@ impl Wire {
 
     /// How many bytes were given and are not used yet: 278,528 at most. Takes no memory.
     pub fn held(&self) -> usize
-        ensures count { result ≡ length self.now.held }
-        ensures limit { result ≤ 278_528 }
+        ensures counts_them { result ≡ length self.now.held }
+        ensures within_the_limit { result ≤ 278_528 }
     {
         self.inflow.len()
     }

@@ -66,8 +66,8 @@ impl Gatherer {
     /// # Errors
     /// `TooWide` exactly where there are too many then.
     pub(crate) fn add_mark(&mut self) -> Result<(), FlatError>
-        ensures ok { OnOk result (self.new ≡ gathering self.old mark) }
-        ensures err { IfErr result (Fails (mark ∷ []) self.old.tally) }
+        ensures gathers_the_mark { OnOk result (self.new ≡ gathering self.old mark) }
+        ensures fails_only_where_too_many { IfErr result (Fails (mark ∷ []) self.old.tally) }
     {
         if self.marks == MARK_LIMIT {
             return Err(FlatError::Fault(FlatFault::TooWide));
@@ -106,8 +106,8 @@ impl Gatherer {
     /// # Errors
     /// `NoMemory` for want of memory.
     pub(crate) fn into_uris(self) -> Result<List<Text>, NoMemory>
-        ensures uris { IfOk result (λ made. made ≡ self.tally.uris) }
-        ensures few { self.tally.marks ≤ MARK_LIMIT }
+        ensures addresses_in_order { IfOk result (λ made. made ≡ self.tally.uris) }
+        ensures gathered_few_marks { self.tally.marks ≤ MARK_LIMIT }
     {
         let Gatherer { alloc, uris, .. } = self;
         let made = uris.into_iter().collect(alloc)?;

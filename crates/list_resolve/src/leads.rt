@@ -69,8 +69,8 @@ fn is_element(end: &End) -> bool
 
 // The element at a path of a document with this name, if it is of the kind that is wanted.
 fn lead_at<'a>(wanted: Wanted, name: Text, root: &'a Element, path: Path) -> Option<Lead<'a>>
-    ensures lead { option_map lead_in result ≡ lead_at wanted name root.now path }
-    ensures lower { IfSome result (λ l. height l.spot.element.now ≤ height root.now) }
+    ensures leads_where_it_is_due { option_map lead_in result ≡ lead_at wanted name root.now path }
+    ensures is_no_higher { IfSome result (λ l. height l.spot.element.now ≤ height root.now) }
 {
     let spot = list_spot(root, &path)?;
     if !wanted.admits(spot.kind) {
@@ -91,8 +91,8 @@ fn lead_by<'a>(
     root: &'a Element,
 ) -> Option<Lead<'a>>
     requires { height root.now ≤ 64 }
-    ensures lead { option_map lead_in result ≡ lead_by wanted name selector.now root.now }
-    ensures low { IfSome result (λ l. height l.spot.element.now ≤ 64) }
+    ensures leads_where_it_is_due { option_map lead_in result ≡ lead_by wanted name selector.now root.now }
+    ensures is_low_enough { IfSome result (λ l. height l.spot.element.now ≤ 64) }
 {
     let path = select(alloc, root, selector)?;
     lead_at(wanted, name, root, path)
@@ -105,8 +105,8 @@ fn lead_to<'a>(
     doc: DocId,
     selector: &Selector,
 ) -> Option<Lead<'a>>
-    ensures lead { option_map lead_in result ≡ lead_to (ground_in ground.now) wanted doc selector.now }
-    ensures low { IfSome result (λ l. height l.spot.element.now ≤ 64) }
+    ensures leads_where_it_is_due { option_map lead_in result ≡ lead_to (ground_in ground.now) wanted doc selector.now }
+    ensures is_low_enough { IfSome result (λ l. height l.spot.element.now ≤ 64) }
 {
     if !(is_own(ground.home, &doc) && is_element(&selector.end)) {
         return None;
@@ -117,8 +117,8 @@ fn lead_to<'a>(
 
 // Where a target leads.
 fn lead_of<'a>(ground: &Ground<'a>, wanted: Wanted, target: Target) -> Option<Lead<'a>>
-    ensures lead { option_map lead_in result ≡ lead_of (ground_in ground.now) wanted (Ok target) }
-    ensures low { IfSome result (λ l. height l.spot.element.now ≤ 64) }
+    ensures leads_where_it_is_due { option_map lead_in result ≡ lead_of (ground_in ground.now) wanted (Ok target) }
+    ensures is_low_enough { IfSome result (λ l. height l.spot.element.now ≤ 64) }
 {
     match target {
         Target::Node(doc, selector) => lead_to(ground, wanted, doc, &selector),
@@ -138,9 +138,9 @@ pub(crate) fn leads<'a>(
     ground: &Ground<'a>,
     reference: &Reference,
 ) -> Result<Option<Lead<'a>>, NoMemory>
-    ensures lead { IfOk result (λ found. option_map lead_in found ≡ leads_in (ground_in ground.now) reference.now) }
-    ensures low { IfOk result (λ found. IfSome found (λ l. height l.spot.element.now ≤ 64)) }
-    ensures there { IfOk result (λ found. IfSome found (λ l. spot_at (ground_in ground.now) l.place ≡ Some (spot_in l.spot))) }
+    ensures leads_where_it_is_due { IfOk result (λ found. option_map lead_in found ≡ leads_in (ground_in ground.now) reference.now) }
+    ensures is_low_enough { IfOk result (λ found. IfSome found (λ l. height l.spot.element.now ≤ 64)) }
+    ensures lead_is_there { IfOk result (λ found. IfSome found (λ l. spot_at (ground_in ground.now) l.place ≡ Some (spot_in l.spot))) }
 {
     let target = reference.target.as_str().as_bytes();
     match read_target(ground.alloc, ground.root, target) {

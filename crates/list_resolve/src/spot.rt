@@ -18,8 +18,8 @@ pub(crate) struct Spot<'a> {
 impl<'a> Spot<'a> {
     /// The root of a document whose root is of this kind. Takes no memory.
     pub(crate) fn root(kind: Kind, root: &'a Element) -> Spot<'a>
-        ensures spot { spot_in result ≡ root_spot kind root.now }
-        ensures depth { length result.scope ≡ 1 }
+        ensures spot_that_is_meant { spot_in result ≡ root_spot kind root.now }
+        ensures scope_grows_by_one { length result.scope ≡ 1 }
     {
         Spot {
             kind,
@@ -31,9 +31,9 @@ impl<'a> Spot<'a> {
     /// A child, if it is of a kind. Takes no memory.
     pub(crate) fn below(&self, kid: &'a Element) -> Option<Spot<'a>>
         requires { length self.now.scope < 67 }
-        ensures spot { option_map spot_in result ≡ kid_spot (spot_in self.now) kid.now }
-        ensures depth { IfSome result (λ s. length s.scope ≡ length self.now.scope + 1) }
-        ensures element { IfSome result (λ s. s.element.now ≡ kid.now) }
+        ensures spot_that_is_meant { option_map spot_in result ≡ kid_spot (spot_in self.now) kid.now }
+        ensures scope_grows_by_one { IfSome result (λ s. length s.scope ≡ length self.now.scope + 1) }
+        ensures spot_of_that_child { IfSome result (λ s. s.element.now ≡ kid.now) }
     {
         let scope = self.scope.with(kid.decls());
         let kind = kind_of(self.kind, &Around::given(&scope), kid.name())?;
@@ -47,9 +47,9 @@ impl<'a> Spot<'a> {
     /// The child of this number, if there is one and it is of a kind. Takes no memory.
     pub(crate) fn kid(&self, number: usize) -> Option<Spot<'a>>
         requires { length self.now.scope < 67 }
-        ensures spot { option_map spot_in result ≡ kid_spot_at (spot_in self.now) number }
-        ensures depth { IfSome result (λ s. length s.scope ≡ length self.now.scope + 1) }
-        ensures lower { IfSome result (λ s. height s.element.now ≤ height self.now.element.now) }
+        ensures spot_that_is_meant { option_map spot_in result ≡ kid_spot_at (spot_in self.now) number }
+        ensures scope_grows_by_one { IfSome result (λ s. length s.scope ≡ length self.now.scope + 1) }
+        ensures is_no_higher { IfSome result (λ s. height s.element.now ≤ height self.now.element.now) }
     {
         let kid = self.element.kid(number)?;
         self.below(kid)
@@ -58,8 +58,8 @@ impl<'a> Spot<'a> {
 
 /// The element at a path of a document of lists, if all on the path are of a kind. Takes no memory.
 pub(crate) fn list_spot<'a>(root: &'a Element, path: &Path) -> Option<Spot<'a>>
-    ensures spot { option_map spot_in result ≡ list_spot root.now path.now }
-    ensures lower { IfSome result (λ s. height s.element.now ≤ height root.now) }
+    ensures spot_that_is_meant { option_map spot_in result ≡ list_spot root.now path.now }
+    ensures is_no_higher { IfSome result (λ s. height s.element.now ≤ height root.now) }
 {
     let mut here = Spot::root(Kind::ResourceLists, root);
     for number in path.numbers() {

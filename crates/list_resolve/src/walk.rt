@@ -252,8 +252,8 @@ fn keep_passed(
 ) -> Result<(), NoMemory>
     requires passed { gatherer.old.tally.marks ≡ marks → IsPassed (ground_in ground.now) gatherer.old.tally.uris place }
     requires sound { IsSound (ground_in ground.now) gatherer.old }
-    ensures same { OnOk result (gatherer.new.tally ≡ gatherer.old.tally) }
-    ensures sound { OnOk result (IsSound (ground_in ground.now) gatherer.new) }
+    ensures tally_stays { OnOk result (gatherer.new.tally ≡ gatherer.old.tally) }
+    ensures stays_sound { OnOk result (IsSound (ground_in ground.now) gatherer.new) }
 {
     let _ground = ground;
     if gatherer.marks() == marks {

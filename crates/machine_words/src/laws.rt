@@ -108,6 +108,6 @@ pub fn key_addresses_keep_their_elements()
 
 /// A law: where the address of a request is an attribute, it may be written.
 pub fn targets_may_be_written()
-    ensures writable { (root target : List ℕ) (t : Target) → TargetAnswer root target (Ok t)
+    ensures attribute_may_be_written { (root target : List ℕ) (t : Target) → TargetAnswer root target (Ok t)
         → IsWritableTarget t }
 {}

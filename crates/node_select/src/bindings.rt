@@ -42,8 +42,8 @@ impl Bindings {
     /// # Errors
     /// `NoMemory` for want of memory; the bindings are then as before.
     pub fn bind(&mut self, prefix: &str, uri: &str) -> Result<(), AllocError>
-        ensures ok { OnOk result (self.new ≡ self.old ++ record { prefix = chars prefix.now; uri = chars uri.now } ∷ []) }
-        ensures err { OnErr result (self.new ≡ self.old) }
+        ensures adds_the_binding { OnOk result (self.new ≡ self.old ++ record { prefix = chars prefix.now; uri = chars uri.now } ∷ []) }
+        ensures failure_changes_nothing { OnErr result (self.new ≡ self.old) }
     {
         let prefix = Text::from(self.alloc, prefix)?;
         let uri = Text::from(self.alloc, uri)?;

@@ -54,8 +54,8 @@ fn selector(alloc: Global, text: &[char]) -> Result<(RawSelector<'_>, &[char]), 
 /// A whole selector.
 pub fn raw_selector(alloc: Global, text: &[char]) -> Result<RawSelector<'_>, Stop<'_>>
     requires { length text.now < 2 ^ 62 }
-    ensures read { Gives selector_in result (read_whole read_selector text.now) }
-    ensures room { IfOk result (λ raw. HasRoom 0 (map step_in raw.steps.items)) }
+    ensures reads_as_the_rule_does { Gives selector_in result (read_whole read_selector text.now) }
+    ensures places_fit_in_64_bits { IfOk result (λ raw. HasRoom 0 (map step_in raw.steps.items)) }
 {
     let (selector, rest) = selector(alloc, text)?;
     if !rest.is_empty() {
@@ -127,8 +127,8 @@ fn patch_selector(alloc: Global, text: &[char]) -> Result<(RawPatchSelector<'_>,
 /// A whole selector of a patch.
 pub fn raw_patch_selector(alloc: Global, text: &[char]) -> Result<RawPatchSelector<'_>, Stop<'_>>
     requires { length text.now < 2 ^ 62 }
-    ensures read { Gives patch_selector_in result (read_whole read_patch_selector text.now) }
-    ensures room { IfOk result (λ raw. HasRoom raw.slash (map step_in raw.steps.items)) }
+    ensures reads_as_the_rule_does { Gives patch_selector_in result (read_whole read_patch_selector text.now) }
+    ensures places_fit_in_64_bits { IfOk result (λ raw. HasRoom raw.slash (map step_in raw.steps.items)) }
 {
     let (selector, rest) = patch_selector(alloc, text)?;
     if !rest.is_empty() {

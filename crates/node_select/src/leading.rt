@@ -22,8 +22,8 @@ pub struct Reached {
 /// alone, and the answer is the same without it.
 pub fn reach(alloc: Global, root: &Element, steps: &[Step]) -> Reached
     requires low { height root.now ≤ 64 }
-    ensures longest { IsLongestMatch steps.now root.now result.steps }
-    ensures selected { 0 < result.steps → SelectsPath (take result.steps steps.now) root.now result.path }
+    ensures longest_that_selects { IsLongestMatch steps.now root.now result.steps }
+    ensures path_is_selected { 0 < result.steps → SelectsPath (take result.steps steps.now) root.now result.path }
 {
     let [step, steps @ ..] = steps else {
         return nowhere();

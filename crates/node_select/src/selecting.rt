@@ -12,8 +12,8 @@ use xml_tree::{Around, Element, Path};
 /// taken for indexes of declarations alone, and the answer is the same without it.
 pub fn select(alloc: Global, root: &Element, selector: &Selector) -> Option<Path>
     requires { height root.now ≤ 64 }
-    ensures selected { (p : List ℕ) → (result ≡ Some p) ↔ SelectsPath selector.now.steps root.now p }
-    ensures computed { result ≡ selected_in selector.now.steps root.now }
+    ensures path_that_is_selected { (p : List ℕ) → (result ≡ Some p) ↔ SelectsPath selector.now.steps root.now p }
+    ensures computes_the_same { result ≡ selected_in selector.now.steps root.now }
 {
     select_steps(alloc, root, selector.steps.as_slice())
 }
@@ -21,7 +21,7 @@ pub fn select(alloc: Global, root: &Element, selector: &Selector) -> Option<Path
 /// The element that steps select, from the document on. Memory as for `select`.
 pub fn select_steps(alloc: Global, root: &Element, steps: &[Step]) -> Option<Path>
     requires { height root.now ≤ 64 }
-    ensures selected { (p : List ℕ) → (result ≡ Some p) ↔ SelectsPath steps.now root.now p }
+    ensures path_that_is_selected { (p : List ℕ) → (result ≡ Some p) ↔ SelectsPath steps.now root.now p }
     ensures selects_in_the_document { result ≡ selected_in steps.now root.now }
 {
     select_outside(alloc, root, steps)
@@ -80,8 +80,8 @@ fn select_below(
 /// The greatest number of first steps of a selector that select an element; 0 where not even the first one selects the root. Memory as for
 /// `select`.
 pub fn longest_match(alloc: Global, root: &Element, selector: &Selector) -> usize
-    ensures longest { IsLongestMatch selector.now.steps root.now result }
-    ensures computed { result ≡ longest_in selector.now.steps root.now }
+    ensures longest_that_selects { IsLongestMatch selector.now.steps root.now result }
+    ensures computes_the_same { result ≡ longest_in selector.now.steps root.now }
 {
     matched_steps(alloc, root, selector.steps.as_slice())
 }

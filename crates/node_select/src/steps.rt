@@ -38,8 +38,8 @@ fn node_name(text: &[char]) -> Result<(Option<Written<'_>>, &[char]), Stop<'_>>
 
 // What a digit is worth.
 fn digit_value(c: char) -> u64
-    ensures value { result ≡ decimal_digits.value c }
-    ensures small { result < 2 ^ 21 }
+    ensures worth_of_the_digit { result ≡ decimal_digits.value c }
+    ensures is_small { result < 2 ^ 21 }
 {
     (c as u64).saturating_sub(48)
 }

@@ -79,9 +79,9 @@ fn told_by<'a>(
     document: &'a Element,
 ) -> Result<Told<'a>, AllocError>
     requires { length scope.now < 67 }
-    ensures previous { IfOk result (λ told. option_copied told.previous ≡ plain_value (codes "previous-etag") document.now.attrs) }
-    ensures new { IfOk result (λ told. option_copied told.new ≡ plain_value (codes "new-etag") document.now.attrs) }
-    ensures operations { IfOk result (λ told. map (λ x. x.now) told.operations.items ≡ ours_in scope.now document.now) }
+    ensures former_tag_of_the_document { IfOk result (λ told. option_copied told.previous ≡ plain_value (codes "previous-etag") document.now.attrs) }
+    ensures new_tag_of_the_document { IfOk result (λ told. option_copied told.new ≡ plain_value (codes "new-etag") document.now.attrs) }
+    ensures lends_the_operations { IfOk result (λ told. map (λ x. x.now) told.operations.items ≡ ours_in scope.now document.now) }
 {
     let operations = operations_in(alloc, scope, document)?;
     Ok(Told {
@@ -102,8 +102,8 @@ fn turn_of(
     requires room { length scope.now < 66 }
     requires low { IsLow (held_in held) }
     ensures by_the_words { (n : ℕ) → before ≡ min n greatest_u64 → Tells (λ x. turn_in x.0) (document_taken n scope.now document.now (held_in held)) result }
-    ensures count { IfOk result (λ x. x.1 ≡ operation_count scope.now document.now) }
-    ensures low { IfOk result (λ x. IsLowTurn x.0) }
+    ensures counts_the_operations { IfOk result (λ x. x.1 ≡ operation_count scope.now document.now) }
+    ensures is_low_enough { IfOk result (λ x. IsLowTurn x.0) }
 {
     let here = scope.with(document.decls());
     let told = told_by(alloc, &here, document)?;
@@ -122,7 +122,7 @@ fn all_taken(
     requires room { length scope.now < 66 }
     requires low { IsLow (held_in held) }
     ensures by_the_words { Tells outcome_in (all_taken 0 scope.now (map (λ x. x.now) documents.now) (held_in held)) result }
-    ensures low { IfOk result IsLowOutcome }
+    ensures is_low_enough { IfOk result IsLowOutcome }
 {
     let mut held = held;
     let mut before = 0usize;
@@ -157,9 +157,9 @@ fn replay_documents(
 ) -> Result<Applied, ReadError<ApplyFault>>
     requires documents { map (λ x. x.now) documents.now ≡ words.documents notice.now }
     requires low { IsLow (held_in replica.old.held) }
-    ensures doc { replica.new.doc ≡ replica.old.doc }
+    ensures same_document { replica.new.doc ≡ replica.old.doc }
     ensures by_the_words { Applies (replayed (is_name_of replica.old.doc) notice.now (held_in replica.old.held)) (held_in replica.old.held) result (held_in replica.new.held) }
-    ensures low { IsLow (held_in replica.new.held) }
+    ensures is_low_enough { IsLow (held_in replica.new.held) }
 {
     let mine = are_mine(alloc, &replica.doc, documents)?;
     if !mine {
@@ -187,9 +187,9 @@ fn replay(
     notice: &Element,
 ) -> Result<Applied, ReadError<ApplyFault>>
     requires low { IsLow (held_in replica.old.held) }
-    ensures doc { replica.new.doc ≡ replica.old.doc }
+    ensures same_document { replica.new.doc ≡ replica.old.doc }
     ensures by_the_words { Applies (replayed (is_name_of replica.old.doc) notice.now (held_in replica.old.held)) (held_in replica.old.held) result (held_in replica.new.held) }
-    ensures low { IsLow (held_in replica.new.held) }
+    ensures is_low_enough { IsLow (held_in replica.new.held) }
 {
     let documents = documents(alloc, notice)?;
     replay_documents(alloc, replica, notice, &documents)
@@ -207,10 +207,10 @@ pub fn apply_notice(
     notice: &Notice,
 ) -> Result<Applied, ReadError<ApplyFault>>
     requires low { IsLow (held_in replica.old.held) }
-    ensures doc { replica.new.doc ≡ replica.old.doc }
+    ensures same_document { replica.new.doc ≡ replica.old.doc }
     ensures by_the_words { Applies (replayed (is_name_of replica.old.doc) notice.now (held_in replica.old.held)) (held_in replica.old.held) result (held_in replica.new.held) }
-    ensures low { IsLow (held_in replica.new.held) }
-    ensures sound { HoldsSound (held_in replica.old.held) → HoldsSound (held_in replica.new.held) }
+    ensures is_low_enough { IsLow (held_in replica.new.held) }
+    ensures stays_sound { HoldsSound (held_in replica.old.held) → HoldsSound (held_in replica.new.held) }
 {
     replay(alloc, replica, notice.root())
 }

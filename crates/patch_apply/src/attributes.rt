@@ -29,7 +29,7 @@ fn push_at(tree: &mut Element, path: &Path, attr: Attr) -> Result<(), AllocError
     tree.edit_at(
         path,
         |here: &mut Element| -> Result<(), AllocError>
-            ensures adds { OnOk result (here.new ≡ with_attrs (λ ats. ats ++ attr ∷ []) here.old) }
+            ensures adds_the_attribute_there { OnOk result (here.new ≡ with_attrs (λ ats. ats ++ attr ∷ []) here.old) }
         { here.push_attr(attr) },
     )
 }
@@ -43,7 +43,7 @@ fn write_at(tree: &mut Element, path: &Path, place: usize, value: Text)
         path,
         |here: &mut Element|
             requires { place < length here.old.attrs }
-            ensures writes { here.new ≡ with_attrs (with_value place value) here.old }
+            ensures writes_the_value_there { here.new ≡ with_attrs (with_value place value) here.old }
         {
             let _old = here.exchange_value(place, value);
         },
@@ -59,7 +59,7 @@ fn take_at(tree: &mut Element, path: &Path, place: usize)
         path,
         |here: &mut Element|
             requires { place < length here.old.attrs }
-            ensures takes { here.new ≡ with_attrs (λ ats. remove ats place) here.old }
+            ensures takes_the_attribute_out { here.new ≡ with_attrs (λ ats. remove ats place) here.old }
         {
             let _old = here.take_attr(place);
         },

@@ -31,9 +31,9 @@ pub struct Gap {
 pub(crate) fn place_in_parent(tree: &Element, path: &Path) -> Gap
     requires below { 0 < length path.now }
     requires there { IsSome (at path.now tree.now) }
-    ensures parent { result.path ≡ parent_path path.now }
-    ensures place { result.place ≡ own_place path.now tree.now }
-    ensures within { IsSomeAnd (at result.path tree.now) (λ e. result.place < length (nodes_of e.content)) }
+    ensures path_of_the_parent { result.path ≡ parent_path path.now }
+    ensures place_among_the_nodes { result.place ≡ own_place path.now tree.now }
+    ensures lies_among_the_nodes { IsSomeAnd (at result.path tree.now) (λ e. result.place < length (nodes_of e.content)) }
 {
     let Some((parent, child)) = path.split_last() else {
         unreachable!()
@@ -51,7 +51,7 @@ pub(crate) fn place_in_parent(tree: &Element, path: &Path) -> Gap
 /// The number behind that of a node of the element at a path.
 pub(crate) fn number_behind(tree: &Element, path: &Path, place: usize) -> usize
     requires within { IsSomeAnd (at path.now tree.now) (λ e. place < length (nodes_of e.content)) }
-    ensures next { result ≡ suc place }
+    ensures next_place { result ≡ suc place }
 {
     let Some(element) = element_at(tree, path) else {
         unreachable!()
@@ -62,8 +62,8 @@ pub(crate) fn number_behind(tree: &Element, path: &Path, place: usize) -> usize
 // How many nodes the element at a path has.
 fn node_count(tree: &Element, path: &Path) -> usize
     requires there { IsSome (at path.now tree.now) }
-    ensures count { result ≡ length (nodes_at path.now tree.now) }
-    ensures within { IsSomeAnd (at path.now tree.now) (λ e. result ≤ length (nodes_of e.content)) }
+    ensures counts_them { result ≡ length (nodes_at path.now tree.now) }
+    ensures lies_among_the_nodes { IsSomeAnd (at path.now tree.now) (λ e. result ≤ length (nodes_of e.content)) }
 {
     let Some(element) = element_at(tree, path) else {
         unreachable!()
@@ -97,9 +97,9 @@ pub(crate) fn off_root(position: Position, path: &Path) -> bool
 pub(crate) fn gap_of(position: Position, tree: &Element, path: Path) -> Gap
     requires there { IsSome (at path tree.now) }
     requires off_root { off_root (position_in position) path ≡ true }
-    ensures path { result.path ≡ site_of (position_in position) path }
-    ensures place { result.place ≡ gap_of (position_in position) path tree.now }
-    ensures within { IsSomeAnd (at result.path tree.now) (λ e. result.place ≤ length (nodes_of e.content)) }
+    ensures path_of_the_gap { result.path ≡ site_of (position_in position) path }
+    ensures place_of_the_gap { result.place ≡ gap_of (position_in position) path tree.now }
+    ensures lies_among_the_nodes { IsSomeAnd (at result.path tree.now) (λ e. result.place ≤ length (nodes_of e.content)) }
 {
     match position {
         Position::Behind => {
@@ -187,7 +187,7 @@ pub(crate) fn exchange_at(
         |here: &mut Element| -> Result<(), AllocError>
             requires order { from ≤ to }
             requires within { to ≤ length (nodes_of here.old.content) }
-            ensures exchanges { OnOk result (here.new ≡ exchange_nodes from to nodes.items here.old) }
+            ensures exchanges_the_nodes_there { OnOk result (here.new ≡ exchange_nodes from to nodes.items here.old) }
         { here.exchange_nodes(from, to, nodes) },
     )
 }

@@ -135,8 +135,8 @@ fn space_fits(tree: &Element, gap: &Gap, before: bool, after: bool) -> bool
 fn end_of_cut(tree: &Element, gap: &Gap, after: bool) -> usize
     requires within { IsSomeAnd (at gap.now.path tree.now) (λ e. gap.now.place < length (nodes_of e.content)) }
     requires space { (not after || is_space_at (suc gap.now.place) (nodes_at gap.now.path tree.now)) ≡ true }
-    ensures end { result ≡ suc gap.now.place + one_if after }
-    ensures within { IsSomeAnd (at gap.now.path tree.now) (λ e. result ≤ length (nodes_of e.content)) }
+    ensures end_behind_the_space { result ≡ suc gap.now.place + one_if after }
+    ensures lies_among_the_nodes { IsSomeAnd (at gap.now.path tree.now) (λ e. result ≤ length (nodes_of e.content)) }
 {
     let behind = number_behind(tree, &gap.path, gap.place);
     if !after {
@@ -155,7 +155,7 @@ fn cut_with_space(
 ) -> Result<(), AllocError>
     requires within { IsSomeAnd (at gap.now.path tree.old) (λ e. gap.now.place < length (nodes_of e.content)) }
     requires space { has_space_beside before after gap.now.path gap.now.place tree.old ≡ true }
-    ensures cuts { OnOk result (tree.new ≡ cut_nodes gap.now.path (gap.now.place - one_if before) (suc gap.now.place + one_if after) tree.old) }
+    ensures cuts_with_the_space { OnOk result (tree.new ≡ cut_nodes gap.now.path (gap.now.place - one_if before) (suc gap.now.place + one_if after) tree.old) }
 {
     let from = gap.place - usize::from(before);
     let to = end_of_cut(tree, gap, after);

@@ -12,7 +12,7 @@ use xml_tree::{Node, depth};
 fn text_number(nodes: &[Node], k: u64) -> Option<usize>
     requires { 0 < k }
     ensures place_of_that_text { result ≡ text_number 0 k nodes.now }
-    ensures within { IfSome result (λ i. i < length nodes.now) }
+    ensures lies_within { IfSome result (λ i. i < length nodes.now) }
 {
     let mut left = k;
     for (i, node) in nodes.iter().enumerate() {
@@ -42,7 +42,7 @@ fn texts_in(nodes: &[Node]) -> usize
 /// The text that is meant among nodes: that of a position, or the only one.
 pub(crate) fn selected_text(nodes: &[Node], position: Option<u64>) -> Option<usize>
     ensures number_of_the_text { result ≡ selected_text position nodes.now }
-    ensures within { IfSome result (λ i. i < length nodes.now) }
+    ensures lies_within { IfSome result (λ i. i < length nodes.now) }
 {
     match position {
         Some(k) => {
@@ -63,7 +63,7 @@ pub(crate) fn selected_text(nodes: &[Node], position: Option<u64>) -> Option<usi
 /// The number behind that of a node.
 pub(crate) fn next_number(nodes: &[Node], place: usize) -> usize
     requires { place < length nodes.now }
-    ensures next { result ≡ suc place }
+    ensures next_place { result ≡ suc place }
 {
     place + 1
 }

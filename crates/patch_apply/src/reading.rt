@@ -38,7 +38,7 @@ impl Notice {
     // Its tree.
     pub(crate) fn root(&self) -> &Element
         ensures lends_the_tree { result.now ≡ self.now }
-        ensures proper { ProperIn [] result.now }
+        ensures is_proper { ProperIn [] result.now }
     {
         &self.root
     }

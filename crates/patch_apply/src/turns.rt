@@ -56,7 +56,7 @@ fn all_applied(
     requires room { length scope.now < 67 }
     requires low { height tree ≤ 64 }
     ensures by_the_words { (n : ℕ) → before ≡ min n greatest_u64 → Tells (λ t. t) (all_applied n scope.now (map (λ x. x.now) operations.now) tree) result }
-    ensures low { IfOk result (λ made. height made ≤ 64) }
+    ensures is_low_enough { IfOk result (λ made. height made ≤ 64) }
 {
     let mut tree = tree;
     let mut number = before;
@@ -116,7 +116,7 @@ fn changed(
     requires room { length scope.now < 67 }
     requires low { height held.root ≤ 64 }
     ensures by_the_words { (n : ℕ) → before ≡ min n greatest_u64 → Tells turn_in (changed n scope.now (map (λ x. x.now) operations.now) tag.now (Some (version_in held))) result }
-    ensures low { IfOk result IsLowTurn }
+    ensures is_low_enough { IfOk result IsLowTurn }
 {
     if operations.is_empty() {
         return Ok(Turn::Missing);
@@ -142,7 +142,7 @@ fn renewed(
     requires room { length scope.now < 67 }
     requires low { IsLow (held_in held) }
     ensures by_the_words { (n : ℕ) → before ≡ min n greatest_u64 → Tells turn_in (renewed_copy n scope.now (map (λ x. x.now) operations.now) (option_copied tag.entry) (held_in held)) result }
-    ensures low { IfOk result IsLowTurn }
+    ensures is_low_enough { IfOk result IsLowTurn }
 {
     let Some(tag) = tag else {
         return Ok(Turn::Now(None));
@@ -164,7 +164,7 @@ pub(crate) fn taken(
     requires room { length scope.now < 67 }
     requires low { IsLow (held_in held) }
     ensures by_the_words { (n : ℕ) → before ≡ min n greatest_u64 → Tells turn_in (by_tags n scope.now (map (λ x. x.now) told.now.operations.items) (option_copied told.now.previous) (option_copied told.now.new) (held_in held)) result }
-    ensures low { IfOk result IsLowTurn }
+    ensures is_low_enough { IfOk result IsLowTurn }
 {
     let Some(previous) = told.previous else {
         return Ok(Turn::Missing);

@@ -36,8 +36,8 @@ pub fn selectors_are_those_of_the_grammar()
 /// name behind it, in a scope that binds what its element's scope binds, exactly the attribute of
 /// that name.
 pub fn paths_are_selected()
-    ensures element { (c : List (List Decl)) (p : List ℕ) (t : Tree) → ArePositions p → IsSome (at p t) → selected_by c (path_text p) t ≡ Some (AtElement p) }
-    ensures attribute { (c : List (List Decl)) (p : List ℕ) (n : Name) (t k : Tree) → ArePositions p → at p t ≡ Some k → ProperIn [] t → IsSome (attr_at p n t)
+    ensures path_of_an_element { (c : List (List Decl)) (p : List ℕ) (t : Tree) → ArePositions p → IsSome (at p t) → selected_by c (path_text p) t ≡ Some (AtElement p) }
+    ensures path_of_an_attribute { (c : List (List Decl)) (p : List ℕ) (n : Name) (t k : Tree) → ArePositions p → at p t ≡ Some k → ProperIn [] t → IsSome (attr_at p n t)
         → Meets (scope_at p t) c
         → (f : Attr → Bool) × (selected_by c (attr_path_text p n) t ≡ Some (AtAttr p f)) × AllByRecursion (λ a. f a ≡ is_written_so n a) k.attrs }
 {}
@@ -45,9 +45,9 @@ pub fn paths_are_selected()
 /// A law: the operation of a note, in a notice, makes of the tree before exactly the tree after,
 /// and so do the operations of notes in order.
 pub fn operations_make_changes()
-    ensures one { (prefix uri : List ℕ) (previous next : ℕ) (t : Tree) (change : Change) → prefix ≢ [] → Fits t change → IsTold t → IsTold (edited t change)
+    ensures one_change { (prefix uri : List ℕ) (previous next : ℕ) (t : Tree) (change : Change) → prefix ≢ [] → Fits t change → IsTold t → IsTold (edited t change)
         → applied (around_operations prefix uri) (operation prefix (note_of previous next t change)) t ≡ Ok (edited t change) }
-    ensures all { (prefix uri : List ℕ) (count tag : ℕ) (t : Tree) (ns : List Note) → prefix ≢ [] → AreNotesOf tag t ns → AreTold t ns
+    ensures all_changes_in_order { (prefix uri : List ℕ) (count tag : ℕ) (t : Tree) (ns : List Note) → prefix ≢ [] → AreNotesOf tag t ns → AreTold t ns
         → all_applied count (around_operations prefix uri) (operations prefix ns) t ≡ Ok (tree_after t ns) }
 {}
 
@@ -59,18 +59,18 @@ pub fn prefixes_are_free()
 /// A law: who holds the tree and the tag before some notes, and applies the notice of these, in the
 /// one patching mode or the other, holds the tree and the tag after them.
 pub fn notices_are_replayed()
-    ensures patching { (is_mine : List ℕ → Bool) (root sel : List ℕ) (tag : ℕ) (t : Tree) (ns : List Note) → is_mine sel ≡ true → AreNotesOf tag t ns → AreTold t ns → AreFew ns
+    ensures one_by_one_too { (is_mine : List ℕ → Bool) (root sel : List ℕ) (tag : ℕ) (t : Tree) (ns : List Note) → is_mine sel ≡ true → AreNotesOf tag t ns → AreTold t ns → AreFew ns
         → replayed is_mine (patching_notice root sel tag ns) (Some (decimal tag, t)) ≡ Ok (answer_for ns, Some (decimal (tag_after tag ns), tree_after t ns)) }
-    ensures aggregate { (is_mine : List ℕ → Bool) (root sel : List ℕ) (tag : ℕ) (t : Tree) (ns : List Note) → is_mine sel ≡ true → AreNotesOf tag t ns → AreTold t ns → AreFew ns
+    ensures all_at_once_too { (is_mine : List ℕ → Bool) (root sel : List ℕ) (tag : ℕ) (t : Tree) (ns : List Note) → is_mine sel ≡ true → AreNotesOf tag t ns → AreTold t ns → AreFew ns
         → replayed is_mine (aggregate_notice root sel tag ns) (Some (decimal tag, t)) ≡ Ok (answer_for ns, Some (decimal (tag_after tag ns), tree_after t ns)) }
 {}
 
 /// A law: the text of such a notice, where the root and the document's name consist of Chars, is
 /// read as exactly the notice, which has the form of one and is proper.
 pub fn notices_are_read_back()
-    ensures patching { (root sel : List ℕ) (tag : ℕ) (t : Tree) (ns : List Note) → all_chars root ≡ true → all_chars sel ≡ true → AreNotesOf tag t ns → AreTold t ns → AreFew ns
+    ensures one_by_one_too { (root sel : List ℕ) (tag : ℕ) (t : Tree) (ns : List Note) → all_chars root ≡ true → all_chars sel ≡ true → AreNotesOf tag t ns → AreTold t ns → AreFew ns
         → IsReadBack (patching_notice root sel tag ns) }
-    ensures aggregate { (root sel : List ℕ) (tag : ℕ) (t : Tree) (ns : List Note) → all_chars root ≡ true → all_chars sel ≡ true → AreNotesOf tag t ns → AreTold t ns → AreFew ns
+    ensures all_at_once_too { (root sel : List ℕ) (tag : ℕ) (t : Tree) (ns : List Note) → all_chars root ≡ true → all_chars sel ≡ true → AreNotesOf tag t ns → AreTold t ns → AreFew ns
         → IsReadBack (aggregate_notice root sel tag ns) }
 {}
 
@@ -78,11 +78,11 @@ pub fn notices_are_read_back()
 /// fetch of the last tag and changes nothing, and without notes it says that nothing changed. Their
 /// texts are read back, too.
 pub fn other_notices_are_replayed()
-    ensures gone { (is_mine : List ℕ → Bool) (root sel : List ℕ) (tag : ℕ) (t : Tree) → is_mine sel ≡ true
+    ensures gone_document_is_dropped { (is_mine : List ℕ → Bool) (root sel : List ℕ) (tag : ℕ) (t : Tree) → is_mine sel ≡ true
         → replayed is_mine (gone_notice root sel tag) (Some (decimal tag, t)) ≡ Ok (Removed, None) }
-    ensures tags { (is_mine : List ℕ → Bool) (root sel : List ℕ) (tag : ℕ) (t : Tree) (n : Note) (ns : List Note) → is_mine sel ≡ true
+    ensures tags_alone_ask_to_fetch { (is_mine : List ℕ → Bool) (root sel : List ℕ) (tag : ℕ) (t : Tree) (n : Note) (ns : List Note) → is_mine sel ≡ true
         → replayed is_mine (tags_notice root sel tag (n ∷ ns)) (Some (decimal tag, t)) ≡ Ok (Fetch (decimal (tag_after tag (n ∷ ns))), Some (decimal tag, t)) }
-    ensures same { (is_mine : List ℕ → Bool) (root sel : List ℕ) (tag : ℕ) (t : Tree)
+    ensures same_version_stays { (is_mine : List ℕ → Bool) (root sel : List ℕ) (tag : ℕ) (t : Tree)
         → replayed is_mine (tags_notice root sel tag []) (Some (decimal tag, t)) ≡ Ok (Same, Some (decimal tag, t)) }
     ensures gone_read { (root sel : List ℕ) (tag : ℕ) → all_chars root ≡ true → all_chars sel ≡ true → IsReadBack (gone_notice root sel tag) }
     ensures tags_read { (root sel : List ℕ) (tag : ℕ) (ns : List Note) → all_chars root ≡ true → all_chars sel ≡ true → IsReadBack (tags_notice root sel tag ns) }
@@ -91,8 +91,8 @@ pub fn other_notices_are_replayed()
 /// A law: what is held stays proper and at most 64 levels deep, whoever wrote the notice or the
 /// operation that is applied.
 pub fn replicas_stay_sound()
-    ensures operation { (c : List (List Decl)) (o t u : Tree) → ProperIn c o → ProperIn [] t → applied c o t ≡ Ok u → IsSound u }
-    ensures notice { (is_mine : List ℕ → Bool) (notice : Tree) (held new : CopyHeld) (answer : CopyAnswer) → ProperIn [] notice → HoldsSound held
+    ensures of_one_operation { (c : List (List Decl)) (o t u : Tree) → ProperIn c o → ProperIn [] t → applied c o t ≡ Ok u → IsSound u }
+    ensures of_a_whole_notice { (is_mine : List ℕ → Bool) (notice : Tree) (held new : CopyHeld) (answer : CopyAnswer) → ProperIn [] notice → HoldsSound held
         → replayed is_mine notice held ≡ Ok (answer, new) → HoldsSound new }
 {}
 

@@ -36,11 +36,11 @@ pub fn selection_stays_above_a_change()
 /// exactly where that step then selects the new element among the parent's children, and an element
 /// may stand over a selected one exactly where it passes that step's tests.
 pub fn lawful_by_the_last_step()
-    ensures gap { (first : Step) (steps : List Step) (step : Step) (t parent new : Tree) (q : List ℕ) (gap : ℕ)
+    ensures of_a_new_child_in_a_gap { (first : Step) (steps : List Step) (step : Step) (t parent new : Tree) (q : List ℕ) (gap : ℕ)
         → SelectsPath (first ∷ steps) t q → at q t ≡ Some parent → gap ≤ length (kids_of parent)
         → LawfulGap (first ∷ (steps ++ step ∷ [])) t new q gap
         ↔ Lawful (is_named (scope_at q t) step) (is_tested (scope_at q t) step) step.position (kids_of parent) new gap }
-    ensures over { (first : Step) (steps : List Step) (step : Step) (t new : Tree) (q : List ℕ) (i : ℕ)
+    ensures of_an_exchanged_child { (first : Step) (steps : List Step) (step : Step) (t new : Tree) (q : List ℕ) (i : ℕ)
         → SelectsPath (first ∷ (steps ++ step ∷ [])) t (q ++ i ∷ [])
         → LawfulOver (first ∷ (steps ++ step ∷ [])) t new (q ++ i ∷ [])
         ↔ (IsTrue (is_named (scope_at q t) step new) × IsTrue (is_tested (scope_at q t) step new)) }
@@ -51,13 +51,13 @@ pub fn lawful_by_the_last_step()
 /// another likewise, and without an element where the two neighbours may meet. A foreign parent, or
 /// one in a foreign element, has no row and takes everything.
 pub fn validity_beside_a_change()
-    ensures insertion { (u : Usage) (t parent new : Tree) (q : List ℕ) (gap : ℕ) → at q t ≡ Some parent → gap ≤ length (kids_of parent) → Schema u t
+    ensures of_an_insertion { (u : Usage) (t parent new : Tree) (q : List ℕ) (gap : ℕ) → at q t ≡ Some parent → gap ≤ length (kids_of parent) → Schema u t
         → Schema u (put_in q gap new t) ↔ ForSome (kind_at u t q) (λ kind. FollowsGap kind (scope_at q t) parent.content new gap) }
-    ensures exchange { (u : Usage) (t parent kid new : Tree) (q : List ℕ) (i : ℕ) → at q t ≡ Some parent → slice_get (kids_of parent) i ≡ Some kid → Schema u t
+    ensures of_an_exchange { (u : Usage) (t parent kid new : Tree) (q : List ℕ) (i : ℕ) → at q t ≡ Some parent → slice_get (kids_of parent) i ≡ Some kid → Schema u t
         → Schema u (put_over (q ++ i ∷ []) new t) ↔ ForSome (kind_at u t q) (λ kind. ValidChild kind (scope_at q t) new
         × IsTrue (follows kind (part_before kind (scope_at q t) 0 i parent.content) (part_of_kid kind (scope_at q t) new))
         × IsTrue (follows kind (part_of_kid kind (scope_at q t) new) (part_after kind (scope_at q t) (suc i) parent.content))) }
-    ensures removal { (u : Usage) (t parent kid : Tree) (q : List ℕ) (i : ℕ) → at q t ≡ Some parent → slice_get (kids_of parent) i ≡ Some kid → Schema u t
+    ensures of_a_removal { (u : Usage) (t parent kid : Tree) (q : List ℕ) (i : ℕ) → at q t ≡ Some parent → slice_get (kids_of parent) i ≡ Some kid → Schema u t
         → Schema u (take_in q i t) ↔ ClosesUp (kind_at u t q) (scope_at q t) parent.content i }
 {}
 
@@ -66,29 +66,29 @@ pub fn validity_beside_a_change()
 /// element over another has the other children as its siblings. Without an element a document stays
 /// unique.
 pub fn clashes_beside_a_change()
-    ensures insertion { (u : Usage) (t parent new : Tree) (q : List ℕ) (gap : ℕ) → at q t ≡ Some parent → gap ≤ length (kids_of parent) → Unique u t
+    ensures of_an_insertion { (u : Usage) (t parent new : Tree) (q : List ℕ) (gap : ℕ) → at q t ≡ Some parent → gap ≤ length (kids_of parent) → Unique u t
         → Unique u (put_in q gap new t)
         ↔ ForSome (kind_at u t q) (λ kind. NoTwin kind (scope_at q t) (kids_of parent) new × UniqueInside kind (scope_at q t) new) }
     ensures first_of_an_insertion { (u : Usage) (t parent new : Tree) (q : List ℕ) (gap : ℕ) (kind : Kind) (found : Option Clash)
         → at q t ≡ Some parent → gap ≤ length (kids_of parent) → Unique u t → kind_at u t q ≡ Some kind
         → IsFirst (ClashesBeside kind (scope_at q t) (kids_of parent) new gap) q found ↔ IsFirstClash u (put_in q gap new t) found }
-    ensures exchange { (u : Usage) (t parent kid new : Tree) (q : List ℕ) (i : ℕ) → at q t ≡ Some parent → slice_get (kids_of parent) i ≡ Some kid → Unique u t
+    ensures of_an_exchange { (u : Usage) (t parent kid new : Tree) (q : List ℕ) (i : ℕ) → at q t ≡ Some parent → slice_get (kids_of parent) i ≡ Some kid → Unique u t
         → Unique u (put_over (q ++ i ∷ []) new t)
         ↔ ForSome (kind_at u t q) (λ kind. NoTwin kind (scope_at q t) (remove (kids_of parent) i) new × UniqueInside kind (scope_at q t) new) }
     ensures first_of_an_exchange { (u : Usage) (t parent kid new : Tree) (q : List ℕ) (i : ℕ) (kind : Kind) (found : Option Clash)
         → at q t ≡ Some parent → slice_get (kids_of parent) i ≡ Some kid → Unique u t → kind_at u t q ≡ Some kind
         → IsFirst (ClashesBeside kind (scope_at q t) (remove (kids_of parent) i) new i) q found ↔ IsFirstClash u (put_over (q ++ i ∷ []) new t) found }
-    ensures removal { (u : Usage) (t parent : Tree) (q : List ℕ) (i : ℕ) → at q t ≡ Some parent → Unique u t → Unique u (take_in q i t) }
+    ensures of_a_removal { (u : Usage) (t parent : Tree) (q : List ℕ) (i : ℕ) → at q t ≡ Some parent → Unique u t → Unique u (take_in q i t) }
 {}
 
 /// A document within the constraints, with a new element in a gap or over another, is within them
 /// exactly where the element is, by the row of its parent. Without an element it stays within them.
 pub fn constraints_beside_a_change()
-    ensures insertion { (u : Usage) (t parent new : Tree) (q : List ℕ) (gap : ℕ) → at q t ≡ Some parent → gap ≤ length (kids_of parent) → Constraints u t
+    ensures of_an_insertion { (u : Usage) (t parent new : Tree) (q : List ℕ) (gap : ℕ) → at q t ≡ Some parent → gap ≤ length (kids_of parent) → Constraints u t
         → Constraints u (put_in q gap new t) ↔ ForSome (kind_at u t q) (λ kind. IsNodeFormed kind (scope_at q t) (Elem new)) }
-    ensures exchange { (u : Usage) (t parent kid new : Tree) (q : List ℕ) (i : ℕ) → at q t ≡ Some parent → slice_get (kids_of parent) i ≡ Some kid → Constraints u t
+    ensures of_an_exchange { (u : Usage) (t parent kid new : Tree) (q : List ℕ) (i : ℕ) → at q t ≡ Some parent → slice_get (kids_of parent) i ≡ Some kid → Constraints u t
         → Constraints u (put_over (q ++ i ∷ []) new t) ↔ ForSome (kind_at u t q) (λ kind. IsNodeFormed kind (scope_at q t) (Elem new)) }
-    ensures removal { (u : Usage) (t parent : Tree) (q : List ℕ) (i : ℕ) → at q t ≡ Some parent → Constraints u t → Constraints u (take_in q i t) }
+    ensures of_a_removal { (u : Usage) (t parent : Tree) (q : List ℕ) (i : ℕ) → at q t ≡ Some parent → Constraints u t → Constraints u (take_in q i t) }
 {}
 
 /// Once a child is taken out, the steps select something exactly where the last one does among the
@@ -103,9 +103,9 @@ pub fn selection_after_a_removal()
 /// constraints, exactly where its tag passes; the first clash is that of its tag among the other
 /// children.
 pub fn new_attributes_beside_a_change()
-    ensures valid { (u : Usage) (t parent kid : Tree) (q : List ℕ) (i : ℕ) (attrs : List Attr) → at q t ≡ Some parent → slice_get (kids_of parent) i ≡ Some kid → at (q ++ i ∷ []) t ≡ Some kid → Schema u t
+    ensures element_stays_valid { (u : Usage) (t parent kid : Tree) (q : List ℕ) (i : ℕ) (attrs : List Attr) → at q t ≡ Some parent → slice_get (kids_of parent) i ≡ Some kid → at (q ++ i ∷ []) t ≡ Some kid → Schema u t
         → Schema u (put_over (q ++ i ∷ []) (with_attrs attrs kid) t) ↔ AttrsPass (kind_at u t q) (scope_at q t) (tag_with attrs kid) }
-    ensures formed { (u : Usage) (t parent kid : Tree) (q : List ℕ) (i : ℕ) (attrs : List Attr) → at q t ≡ Some parent → slice_get (kids_of parent) i ≡ Some kid → at (q ++ i ∷ []) t ≡ Some kid → Constraints u t
+    ensures references_stay_formed { (u : Usage) (t parent kid : Tree) (q : List ℕ) (i : ℕ) (attrs : List Attr) → at q t ≡ Some parent → slice_get (kids_of parent) i ≡ Some kid → at (q ++ i ∷ []) t ≡ Some kid → Constraints u t
         → Constraints u (put_over (q ++ i ∷ []) (with_attrs attrs kid) t) ↔ AttrsFormed (kind_at u t q) (scope_at q t) (tag_with attrs kid) }
     ensures first_clash { (u : Usage) (t parent kid : Tree) (q : List ℕ) (i : ℕ) (attrs : List Attr) (kind : Kind) (found : Option Clash)
         → at q t ≡ Some parent → slice_get (kids_of parent) i ≡ Some kid → at (q ++ i ∷ []) t ≡ Some kid → Unique u t → kind_at u t q ≡ Some kind

@@ -29,23 +29,23 @@ ghost use Rattle.plan_words.specs.Spots.{IsSpot, IsSpotOf};
 /// After the planned PUT of an element the address selects exactly it, and the document has no
 /// fault.
 pub fn what_was_put_is_selected()
-    ensures selected { (u : Usage) (t : Tree) (selector : Selector) (spot : Spot) (e : Tree) (change : Change) → IsPutPlan u t selector.steps spot e (Ok change)
+    ensures address_selects_what_was_put { (u : Usage) (t : Tree) (selector : Selector) (spot : Spot) (e : Tree) (change : Change) → IsPutPlan u t selector.steps spot e (Ok change)
         → (p : List ℕ) × SelectsPath selector.steps (edited t change) p × (at p (edited t change) ≡ Some e) }
-    ensures faultless { (u : Usage) (t : Tree) (selector : Selector) (spot : Spot) (e : Tree) (change : Change) → IsPutPlan u t selector.steps spot e (Ok change) → Judged u (edited t change) None }
+    ensures planned_document_is_faultless { (u : Usage) (t : Tree) (selector : Selector) (spot : Spot) (e : Tree) (change : Change) → IsPutPlan u t selector.steps spot e (Ok change) → Judged u (edited t change) None }
 {}
 
 /// After the planned PUT of an attribute the address finds it with the value, and the document has
 /// no fault.
 pub fn what_was_written_is_found()
-    ensures found { (u : Usage) (t : Tree) (selector : Selector) (uri local p value : List ℕ) (change : Change) → IsAttrPlan u t selector.steps (ends.Attribute uri local) p value (Ok change)
+    ensures value_is_found_there { (u : Usage) (t : Tree) (selector : Selector) (uri local p value : List ℕ) (change : Change) → IsAttrPlan u t selector.steps (ends.Attribute uri local) p value (Ok change)
         → FindsValue selector.steps uri local (edited t change) p value }
-    ensures faultless { (u : Usage) (t : Tree) (selector : Selector) (uri local p value : List ℕ) (change : Change) → IsAttrPlan u t selector.steps (ends.Attribute uri local) p value (Ok change) → Judged u (edited t change) None }
+    ensures planned_document_is_faultless { (u : Usage) (t : Tree) (selector : Selector) (uri local p value : List ℕ) (change : Change) → IsAttrPlan u t selector.steps (ends.Attribute uri local) p value (Ok change) → Judged u (edited t change) None }
 {}
 
 /// After the planned DELETE the address finds nothing, and the document has no fault.
 pub fn what_was_deleted_is_not_found()
     ensures not_found { (u : Usage) (t : Tree) (selector : Selector) (change : Change) → IsDeletePlan u t selector (Ok change) → Found (edited t change) selector → ⊥ }
-    ensures faultless { (u : Usage) (t : Tree) (selector : Selector) (change : Change) → IsDeletePlan u t selector (Ok change) → Judged u (edited t change) None }
+    ensures planned_document_is_faultless { (u : Usage) (t : Tree) (selector : Selector) (change : Change) → IsDeletePlan u t selector (Ok change) → Judged u (edited t change) None }
 {}
 
 /// Where an element was put, the address means its place, the plan of the same is to exchange it
@@ -64,29 +64,29 @@ pub fn an_attribute_is_put_twice()
 
 /// The words allow one answer each: one spot, and one plan of a PUT and of a DELETE.
 pub fn each_plan_has_one_answer()
-    ensures spot { (t : Tree) (selector : Selector) (r s : Result Spot NoParent) → IsSpot t selector r → IsSpot t selector s → r ≡ s }
-    ensures element { (u : Usage) (t : Tree) (selector : Selector) (spot : Spot) (e : Tree) (r s : Result Change EditRefusal) → IsPutPlan u t selector.steps spot e r → IsPutPlan u t selector.steps spot e s → r ≡ s }
-    ensures attribute { (u : Usage) (t : Tree) (selector : Selector) (end : End) (p value : List ℕ) (r s : Result Change EditRefusal) → IsAttrPlan u t selector.steps end p value r → IsAttrPlan u t selector.steps end p value s → r ≡ s }
-    ensures deletion { (u : Usage) (t : Tree) (selector : Selector) (r s : Result Change EditRefusal) → IsDeletePlan u t selector r → IsDeletePlan u t selector s → r ≡ s }
+    ensures of_a_spot { (t : Tree) (selector : Selector) (r s : Result Spot NoParent) → IsSpot t selector r → IsSpot t selector s → r ≡ s }
+    ensures of_an_element { (u : Usage) (t : Tree) (selector : Selector) (spot : Spot) (e : Tree) (r s : Result Change EditRefusal) → IsPutPlan u t selector.steps spot e r → IsPutPlan u t selector.steps spot e s → r ≡ s }
+    ensures of_an_attribute { (u : Usage) (t : Tree) (selector : Selector) (end : End) (p value : List ℕ) (r s : Result Change EditRefusal) → IsAttrPlan u t selector.steps end p value r → IsAttrPlan u t selector.steps end p value s → r ≡ s }
+    ensures of_a_deletion { (u : Usage) (t : Tree) (selector : Selector) (r s : Result Change EditRefusal) → IsDeletePlan u t selector r → IsDeletePlan u t selector s → r ≡ s }
 {}
 
 /// The words have an answer for each tree: each address has a spot or none, each PUT at a spot a
 /// plan, and so has each DELETE of what isn't read only.
 pub fn each_plan_has_an_answer()
-    ensures spot { (t : Tree) (selector : Selector) → (r : Result Spot NoParent) × IsSpot t selector r }
-    ensures element { (u : Usage) (t : Tree) (selector : Selector) (spot : Spot) (e : Tree) → selector.end ≡ ends.Element → IsSpotOf t selector spot → (r : Result Change EditRefusal) × IsPutPlan u t selector.steps spot e r }
-    ensures attribute { (u : Usage) (t : Tree) (selector : Selector) (p value : List ℕ) → IsSpotOf t selector (Value p) → (r : Result Change EditRefusal) × IsAttrPlan u t selector.steps selector.end p value r }
-    ensures deletion { (u : Usage) (t : Tree) (selector : Selector) → (selector.end ≡ ends.Namespaces → ⊥) → (r : Result Change EditRefusal) × IsDeletePlan u t selector r }
+    ensures of_a_spot { (t : Tree) (selector : Selector) → (r : Result Spot NoParent) × IsSpot t selector r }
+    ensures of_an_element { (u : Usage) (t : Tree) (selector : Selector) (spot : Spot) (e : Tree) → selector.end ≡ ends.Element → IsSpotOf t selector spot → (r : Result Change EditRefusal) × IsPutPlan u t selector.steps spot e r }
+    ensures of_an_attribute { (u : Usage) (t : Tree) (selector : Selector) (p value : List ℕ) → IsSpotOf t selector (Value p) → (r : Result Change EditRefusal) × IsAttrPlan u t selector.steps selector.end p value r }
+    ensures of_a_deletion { (u : Usage) (t : Tree) (selector : Selector) → (selector.end ≡ ends.Namespaces → ⊥) → (r : Result Change EditRefusal) × IsDeletePlan u t selector r }
 {}
 
 /// A planned change is one of the document, and leaves it proper and within 64 levels, where what
 /// is put is proper in the scope of its place and has room there.
 pub fn planned_changes_leave_proper_documents()
-    ensures element { (u : Usage) (t : Tree) (selector : Selector) (spot : Spot) (e : Tree) (change : Change) → IsPutPlan u t selector.steps spot e (Ok change) → IsSpotOf t selector spot
+    ensures of_an_element { (u : Usage) (t : Tree) (selector : Selector) (spot : Spot) (e : Tree) (change : Change) → IsPutPlan u t selector.steps spot e (Ok change) → IsSpotOf t selector spot
         → ProperIn [] t → height t ≤ 64 → IsProperAt t spot e → HasRoomAt spot e → LeavesProper t change }
-    ensures attribute { (u : Usage) (t : Tree) (selector : Selector) (uri local p value : List ℕ) (change : Change) → IsAttrPlan u t selector.steps (ends.Attribute uri local) p value (Ok change)
+    ensures of_an_attribute { (u : Usage) (t : Tree) (selector : Selector) (uri local p value : List ℕ) (change : Change) → IsAttrPlan u t selector.steps (ends.Attribute uri local) p value (Ok change)
         → ProperIn [] t → height t ≤ 64 → IsWritable uri local → IsTrue (all_chars value) → LeavesProper t change }
-    ensures deletion { (u : Usage) (t : Tree) (selector : Selector) (change : Change) → IsDeletePlan u t selector (Ok change) → ProperIn [] t → height t ≤ 64 → LeavesProper t change }
+    ensures of_a_deletion { (u : Usage) (t : Tree) (selector : Selector) (change : Change) → IsDeletePlan u t selector (Ok change) → ProperIn [] t → height t ≤ 64 → LeavesProper t change }
 {}
 
 /// The attribute that a selector ends in may be written.

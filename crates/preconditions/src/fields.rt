@@ -49,8 +49,8 @@ fn joined(alloc: Global, first: &Bytes, others: &[Bytes]) -> Result<Bytes, NoMem
 }
 
 fn read_text(alloc: Global, text: &[u8]) -> Result<Field, ConditionFault>
-    ensures read { IfOk result (λ field. text_value text.now ≡ Some (value_of field)) }
-    ensures refused { IsErrOf result ConditionFault.BadCondition → text_value text.now ≡ None }
+    ensures reads_as_the_rule_does { IfOk result (λ field. text_value text.now ≡ Some (value_of field)) }
+    ensures refused_has_no_reading { IsErrOf result ConditionFault.BadCondition → text_value text.now ≡ None }
 {
     if text == b"*".as_slice() {
         return Ok(Field::Star);
@@ -63,8 +63,8 @@ fn read_text(alloc: Global, text: &[u8]) -> Result<Field, ConditionFault>
 }
 
 fn read_field(alloc: Global, lines: &[Bytes]) -> Result<Field, ConditionFault>
-    ensures read { IfOk result (λ field. field_value lines.now ≡ Some (value_of field)) }
-    ensures refused { IsErrOf result ConditionFault.BadCondition → field_value lines.now ≡ None }
+    ensures reads_as_the_rule_does { IfOk result (λ field. field_value lines.now ≡ Some (value_of field)) }
+    ensures refused_has_no_reading { IsErrOf result ConditionFault.BadCondition → field_value lines.now ≡ None }
 {
     match lines {
         [] => Ok(Field::Missing),

@@ -39,8 +39,8 @@ pub fn is_tag_byte(byte: u8) -> bool
 }
 
 fn behind_blanks(mut text: &[u8]) -> &[u8]
-    ensures value { result.now ≡ behind_blanks text.now }
-    ensures shorter { length result.now ≤ length text.now }
+    ensures rest_behind_the_blanks { result.now ≡ behind_blanks text.now }
+    ensures rest_is_shorter { length result.now ≤ length text.now }
 {
     'blanks: while let [first, rest @ ..] = text
         && is_blank(*first)
@@ -51,8 +51,8 @@ fn behind_blanks(mut text: &[u8]) -> &[u8]
 }
 
 fn opaque_len(text: &[u8]) -> usize
-    ensures value { result ≡ prefix_len is_tag_byte text.now }
-    ensures within { result ≤ length text.now }
+    ensures length_of_the_opaque_front { result ≡ prefix_len is_tag_byte text.now }
+    ensures lies_within { result ≤ length text.now }
 {
     for (len, byte) in text.iter().enumerate() {
         if !is_tag_byte(*byte) {
@@ -120,9 +120,9 @@ fn read_part<'a>(
     text: &'a [u8],
     tags: &mut Vec<EntityTag>,
 ) -> Result<&'a [u8], NoMemory>
-    ensures read { IfOk result (λ rest. with_tags tags.old.items (tags_from Before text.now) ≡ with_tags tags.new.items (tags_from Behind rest.now)) }
-    ensures trimmed { IfOk result (λ rest. IsTrimmed rest.now) }
-    ensures shorter { IfOk result (λ rest. length rest.now ≤ length text.now) }
+    ensures reads_as_the_rule_does { IfOk result (λ rest. with_tags tags.old.items (tags_from Before text.now) ≡ with_tags tags.new.items (tags_from Behind rest.now)) }
+    ensures no_blank_in_front { IfOk result (λ rest. IsTrimmed rest.now) }
+    ensures rest_is_shorter { IfOk result (λ rest. length rest.now ≤ length text.now) }
 {
     let text = behind_blanks(text);
     match first_tag(text) {
@@ -140,8 +140,8 @@ fn read_part<'a>(
 /// `BadCondition` where the text is no such list; `NoMemory` for want of memory.
 #[tactic(auto, using(crate::proofs::Fronts::comma_reads))]
 pub(crate) fn read_tags(alloc: Global, text: &[u8]) -> Result<Vec<EntityTag>, ConditionFault>
-    ensures read { IfOk result (λ tags. tags_from Before text.now ≡ Some tags.items) }
-    ensures refused { IsErrOf result ConditionFault.BadCondition → tags_from Before text.now ≡ None }
+    ensures reads_as_the_rule_does { IfOk result (λ tags. tags_from Before text.now ≡ Some tags.items) }
+    ensures refused_has_no_reading { IsErrOf result ConditionFault.BadCondition → tags_from Before text.now ≡ None }
 {
     let mut tags = Vec::new(alloc);
     let mut rest = text;

@@ -28,10 +28,10 @@ pub fn notes_are_told_since_a_version()
 /// document has now. In `no-patching` the notice asks for a fetch, unless that is the one that is
 /// held. Each notice's text is read as the notice (RFC 5875, section 4.3).
 pub fn versions_are_replayed()
-    ensures patching { (c : Stock) (m : State) (id : DocId) (d : Document) (from : Version) (ns : List Note) (root : List ℕ)
+    ensures one_by_one_too { (c : Stock) (m : State) (id : DocId) (d : Document) (from : Version) (ns : List Note) (root : List ℕ)
         → TellsSince c m id d from ns → is_root_text root ≡ true → is_encodable id ≡ true
         → Brings id (patching_notice root (id_text id) from.tag ns) (subscribed from) (answer_between from d.now) (subscribed d.now) }
-    ensures aggregate { (c : Stock) (m : State) (id : DocId) (d : Document) (from : Version) (ns : List Note) (root : List ℕ)
+    ensures all_at_once_too { (c : Stock) (m : State) (id : DocId) (d : Document) (from : Version) (ns : List Note) (root : List ℕ)
         → TellsSince c m id d from ns → is_root_text root ≡ true → is_encodable id ≡ true
         → Brings id (aggregate_notice root (id_text id) from.tag ns) (subscribed from) (answer_between from d.now) (subscribed d.now) }
     ensures tags_alone { (c : Stock) (m : State) (id : DocId) (d : Document) (from : Version) (ns : List Note) (root : List ℕ)
@@ -44,7 +44,7 @@ pub fn versions_are_replayed()
 /// A law: who holds a version of a document that is gone, and applies the notice that says so, holds
 /// nothing.
 pub fn removed_documents_are_dropped()
-    ensures gone { (id : DocId) (tag : ℕ) (t : Tree) (root : List ℕ) → is_root_text root ≡ true → is_encodable id ≡ true
+    ensures gone_document_is_dropped { (id : DocId) (tag : ℕ) (t : Tree) (root : List ℕ) → is_root_text root ≡ true → is_encodable id ≡ true
         → Brings id (gone_notice root (id_text id) tag) (Some (decimal tag, t)) Removed None }
 {
     roots_are_spelled_by_the_grammar();

@@ -61,8 +61,8 @@ impl HeadText {
     // Adds a number's digits.
     fn push_number(&mut self, number: u64)
         requires { length self.old ≤ 344 }
-        ensures value { self.new ≡ self.old ++ decimal number }
-        ensures short { length self.new ≤ length self.old + 40 }
+        ensures adds_its_bytes { self.new ≡ self.old ++ decimal number }
+        ensures within_so_many_bytes { length self.new ≤ length self.old + 40 }
     {
         let mut buffer = Buffer::new();
         self.push(buffer.format(number).as_bytes());
@@ -73,8 +73,8 @@ impl HeadText {
     pub(crate) fn push_status(&mut self, status: u16)
         requires status { IsTrue (is_status status) }
         requires room { length self.old ≤ 300 }
-        ensures value { self.new ≡ self.old ++ status_line status }
-        ensures short { length self.new ≤ length self.old + 74 }
+        ensures adds_its_bytes { self.new ≡ self.old ++ status_line status }
+        ensures within_so_many_bytes { length self.new ≤ length self.old + 74 }
     {
         self.push(b"HTTP/1.1 ");
         self.push_number(u64::from(status));
@@ -87,8 +87,8 @@ impl HeadText {
     #[tactic(auto, unfolding(crate::specs::Heads::tag_line))]
     fn push_tag_line(&mut self, tag: u64)
         requires { length self.old ≤ 300 }
-        ensures value { self.new ≡ self.old ++ tag_line tag }
-        ensures short { length self.new ≤ length self.old + 50 }
+        ensures adds_its_bytes { self.new ≡ self.old ++ tag_line tag }
+        ensures within_so_many_bytes { length self.new ≤ length self.old + 50 }
     {
         self.push(b"ETag: \"");
         self.push_number(tag);
@@ -98,8 +98,8 @@ impl HeadText {
     /// Adds that field, if there is a tag.
     pub(crate) fn push_tag(&mut self, tag: Option<u64>)
         requires { length self.old ≤ 300 }
-        ensures value { self.new ≡ self.old ++ option_map_or tag_line tag [] }
-        ensures short { length self.new ≤ length self.old + 50 }
+        ensures adds_its_bytes { self.new ≡ self.old ++ option_map_or tag_line tag [] }
+        ensures within_so_many_bytes { length self.new ≤ length self.old + 50 }
     {
         if let Some(tag) = tag {
             self.push_tag_line(tag);
@@ -110,8 +110,8 @@ impl HeadText {
     #[tactic(auto, unfolding(crate::specs::Heads::allow_line))]
     fn push_allow_line(&mut self, read_only: bool)
         requires { length self.old ≤ 340 }
-        ensures value { self.new ≡ self.old ++ allow_line read_only }
-        ensures short { length self.new ≤ length self.old + 31 }
+        ensures adds_its_bytes { self.new ≡ self.old ++ allow_line read_only }
+        ensures within_so_many_bytes { length self.new ≤ length self.old + 31 }
     {
         if read_only {
             self.push(b"Allow: GET, HEAD\r\n");
@@ -123,8 +123,8 @@ impl HeadText {
     /// Adds that field, if it applies.
     pub(crate) fn push_allow(&mut self, read_only: Option<bool>)
         requires { length self.old ≤ 340 }
-        ensures value { self.new ≡ self.old ++ option_map_or allow_line read_only [] }
-        ensures short { length self.new ≤ length self.old + 31 }
+        ensures adds_its_bytes { self.new ≡ self.old ++ option_map_or allow_line read_only [] }
+        ensures within_so_many_bytes { length self.new ≤ length self.old + 31 }
     {
         if let Some(read_only) = read_only {
             self.push_allow_line(read_only);
@@ -135,8 +135,8 @@ impl HeadText {
     #[tactic(auto, unfolding(crate::specs::Heads::media_line))]
     fn push_media_line(&mut self, media: Media)
         requires { length self.old ≤ 330 }
-        ensures value { self.new ≡ self.old ++ media_line media }
-        ensures short { length self.new ≤ length self.old + 46 }
+        ensures adds_its_bytes { self.new ≡ self.old ++ media_line media }
+        ensures within_so_many_bytes { length self.new ≤ length self.old + 46 }
     {
         self.push(b"Content-Type: ");
         self.push(media_type(media).as_bytes());
@@ -146,8 +146,8 @@ impl HeadText {
     /// Adds that field, if there is a media type.
     pub(crate) fn push_media(&mut self, media: Option<Media>)
         requires { length self.old ≤ 330 }
-        ensures value { self.new ≡ self.old ++ option_map_or media_line media [] }
-        ensures short { length self.new ≤ length self.old + 46 }
+        ensures adds_its_bytes { self.new ≡ self.old ++ option_map_or media_line media [] }
+        ensures within_so_many_bytes { length self.new ≤ length self.old + 46 }
     {
         if let Some(media) = media {
             self.push_media_line(media);
@@ -158,8 +158,8 @@ impl HeadText {
     #[tactic(auto, unfolding(crate::specs::Heads::length_line))]
     fn push_length_line(&mut self, size: usize)
         requires { length self.old ≤ 320 }
-        ensures value { self.new ≡ self.old ++ length_line size }
-        ensures short { length self.new ≤ length self.old + 58 }
+        ensures adds_its_bytes { self.new ≡ self.old ++ length_line size }
+        ensures within_so_many_bytes { length self.new ≤ length self.old + 58 }
     {
         self.push(b"Content-Length: ");
         self.push_number(size as u64);
@@ -169,8 +169,8 @@ impl HeadText {
     /// Adds that field, unless the status is 304.
     pub(crate) fn push_length(&mut self, status: u16, size: usize)
         requires { length self.old ≤ 320 }
-        ensures value { self.new ≡ self.old ++ (if status == 304 then [] else length_line size) }
-        ensures short { length self.new ≤ length self.old + 58 }
+        ensures adds_its_bytes { self.new ≡ self.old ++ (if status == 304 then [] else length_line size) }
+        ensures within_so_many_bytes { length self.new ≤ length self.old + 58 }
     {
         if status != 304 {
             self.push_length_line(size);
@@ -181,8 +181,8 @@ impl HeadText {
     #[tactic(auto, unfolding(crate::specs::Heads::close_line))]
     pub(crate) fn push_close(&mut self, closes: bool)
         requires { length self.old ≤ 360 }
-        ensures value { self.new ≡ self.old ++ (if closes then close_line else []) }
-        ensures short { length self.new ≤ length self.old + 19 }
+        ensures adds_its_bytes { self.new ≡ self.old ++ (if closes then close_line else []) }
+        ensures within_so_many_bytes { length self.new ≤ length self.old + 19 }
     {
         if closes {
             self.push(b"Connection: close\r\n");

@@ -18,8 +18,8 @@ pub enum Media {
 /// The name of a media type, of at most 30 bytes. Takes no memory.
 #[tactic(auto, unfolding(crate::specs::Heads::media_type))]
 pub fn media_type(media: Media) -> &'static str
-    ensures value { result.now ≡ media_type media }
-    ensures short { length result.now ≤ 30 }
+    ensures word_that_is_due { result.now ≡ media_type media }
+    ensures within_so_many_bytes { length result.now ≤ 30 }
 {
     match media {
         Media::ResourceLists => "application/resource-lists+xml",

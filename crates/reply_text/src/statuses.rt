@@ -6,8 +6,8 @@ ghost use Rattle.reply_text.specs.Statuses.{is_status, reason};
 #[tactic(auto, unfolding(crate::specs::Statuses::reason))]
 pub fn reason(status: u16) -> &'static str
     requires { IsTrue (is_status status) }
-    ensures value { result.now ≡ reason status }
-    ensures short { length result.now ≤ 22 }
+    ensures word_that_is_due { result.now ≡ reason status }
+    ensures within_so_many_bytes { length result.now ≤ 22 }
 {
     match status {
         200 => "OK",

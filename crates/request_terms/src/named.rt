@@ -21,9 +21,9 @@ fn is_word(text: &Text, word: &[u8]) -> bool
 // The value of the first field of that name, and the fields behind it.
 fn first_named<'a>(mut fields: &'a [Field], name: &[u8]) -> Option<(&'a Bytes, &'a [Field])>
     requires { IsTrue (list_all is_ascii name.now) }
-    ensures value { MatchOption result (fields_named name.now fields.now ≡ [])
+    ensures finds_the_first_of_the_name { MatchOption result (fields_named name.now fields.now ≡ [])
         (λ found. fields_named name.now fields.now ≡ found.0.now ∷ fields_named name.now found.1.now) }
-    ensures shorter { MatchOption result (Unit {0}) (λ found. length found.1.now < length fields.now) }
+    ensures rest_is_shorter { MatchOption result (Unit {0}) (λ found. length found.1.now < length fields.now) }
 {
     'fields: while let [field, rest @ ..] = fields {
         if is_word(&field.name, name) {

@@ -93,7 +93,7 @@ impl ServerPeer {
 
     // The server replies to what was written since it replied last, if anything was.
     fn settle(&mut self)
-        ensures settles { Settles self.old self.new }
+        ensures settles_what_was_written { Settles self.old self.new }
     {
         let asked = self.written.unserved();
         if asked.is_empty() {
@@ -106,10 +106,10 @@ impl ServerPeer {
     // Gives the next bytes of the replies.
     fn give(&mut self, buf: &mut [u8]) -> Result<usize, Failed>
         requires { 0 < length buf.old }
-        ensures bound { ReadsAtMost result buf.new }
-        ensures bytes { ReadGave (peer_line self.old).inward (peer_line self.new).inward result buf.new }
+        ensures within_the_piece_or_buffer { ReadsAtMost result buf.new }
+        ensures writes_all_or_a_proper_front { ReadGave (peer_line self.old).inward (peer_line self.new).inward result buf.new }
         ensures only_reads { OnlyReads (peer_line self.old) (peer_line self.new) result }
-        ensures exact { GivesReplies self.old self.new (length buf.old) result }
+        ensures does_what_memory_does { GivesReplies self.old self.new (length buf.old) result }
     {
         if self.replies.is_spent(self.given) {
             return Err(fault(&mut self.read_faults));
@@ -130,10 +130,10 @@ impl Line for ServerPeer {
 impl Source for ServerPeer {
     fn read(&mut self, buf: &mut [u8]) -> Result<usize, Failed>
         requires { 0 < length buf.old }
-        ensures bound { ReadsAtMost result buf.new }
-        ensures bytes { ReadGave (peer_line self.old).inward (peer_line self.new).inward result buf.new }
+        ensures within_the_piece_or_buffer { ReadsAtMost result buf.new }
+        ensures gives_bytes_behind_those_before { ReadGave (peer_line self.old).inward (peer_line self.new).inward result buf.new }
         ensures only_reads { OnlyReads (peer_line self.old) (peer_line self.new) result }
-        ensures exact { PeerRead self.old self.new (length buf.old) result }
+        ensures does_what_memory_does { PeerRead self.old self.new (length buf.old) result }
     {
         self.settle();
         self.give(buf)
@@ -143,10 +143,10 @@ impl Source for ServerPeer {
 impl Sink for ServerPeer {
     fn write(&mut self, piece: &[u8]) -> Result<usize, Failed>
         requires { 0 < length piece.now }
-        ensures bound { WritesSome result piece.now }
-        ensures bytes { WriteTook (peer_line self.old).taken (peer_line self.new).taken result piece.now }
+        ensures within_the_piece_or_buffer { WritesSome result piece.now }
+        ensures takes_bytes_behind_those_before { WriteTook (peer_line self.old).taken (peer_line self.new).taken result piece.now }
         ensures only_writes { OnlyWrites (peer_line self.old) (peer_line self.new) result }
-        ensures exact { PeerWrite self.old self.new piece.now result }
+        ensures does_what_memory_does { PeerWrite self.old self.new piece.now result }
     {
         if !self.is_begun {
             return Err(fault(&mut self.write_faults));

@@ -10,9 +10,9 @@ ghost use Rattle.step_laws.specs.Edits.{IsNextMatch, IsPassedOver, shifted};
 
 /// A step selects one child at most, and the computed selection is the relation.
 pub fn selection<A>()
-    ensures one { (named tested : A → Bool) (position : Option ℕ) (kids : List A) (i k : ℕ)
+    ensures answer_is_one { (named tested : A → Bool) (position : Option ℕ) (kids : List A) (i k : ℕ)
         → Selects named tested position kids i → Selects named tested position kids k → i ≡ k }
-    ensures computed { (named tested : A → Bool) (position : Option ℕ) (kids : List A) (i : ℕ)
+    ensures computes_the_same { (named tested : A → Bool) (position : Option ℕ) (kids : List A) (i : ℕ)
         → (selected named tested position kids ≡ Some i) ↔ Selects named tested position kids i }
     ensures position_from_one { (named tested : A → Bool) (kids : List A) (i : ℕ) → Selects named tested (Some 0) kids i → ⊥ }
 {}
@@ -20,10 +20,10 @@ pub fn selection<A>()
 /// Children that the tests can't tell apart, one by one, match and are selected alike. So an edit inside a child that leaves its name and
 /// attributes changes no selection among its siblings.
 pub fn alike<A, B>()
-    ensures matched { (named tested : A → Bool) (named' tested' : B → Bool) (position : Option ℕ) (kids : List A) (kids' : List B) (i : ℕ)
+    ensures match_alike { (named tested : A → Bool) (named' tested' : B → Bool) (position : Option ℕ) (kids : List A) (kids' : List B) (i : ℕ)
         → AreAlike named tested named' tested' kids kids'
         → Matches named tested position kids i ↔ Matches named' tested' position kids' i }
-    ensures selected { (named tested : A → Bool) (named' tested' : B → Bool) (position : Option ℕ) (kids : List A) (kids' : List B) (i : ℕ)
+    ensures selected_alike { (named tested : A → Bool) (named' tested' : B → Bool) (position : Option ℕ) (kids : List A) (kids' : List B) (i : ℕ)
         → AreAlike named tested named' tested' kids kids'
         → Selects named tested position kids i ↔ Selects named' tested' position kids' i }
 {}
@@ -31,14 +31,14 @@ pub fn alike<A, B>()
 /// Which gaps are lawful for a new child: told from it, the number before the gap, and what is there already. With a position the lawful
 /// gaps are an interval; without one they are all gaps or none.
 pub fn gaps<A>()
-    ensures lawful { (named tested : A → Bool) (position : Option ℕ) (kids : List A) (new : A) (gap : ℕ)
+    ensures lawful_by_the_others { (named tested : A → Bool) (position : Option ℕ) (kids : List A) (new : A) (gap : ℕ)
         → gap ≤ length kids
         → Lawful named tested position kids new gap
         ↔ (IsTrue (named new) × IsTrue (tested new) × IsAtPosition position (count_by named (take gap kids)) × IsFree named tested position kids) }
-    ensures interval { (named tested : A → Bool) (position : Option ℕ) (kids : List A) (new : A) (i j k : ℕ)
+    ensures lawful_gaps_are_an_interval { (named tested : A → Bool) (position : Option ℕ) (kids : List A) (new : A) (i j k : ℕ)
         → k ≤ length kids → i ≤ j → j ≤ k
         → Lawful named tested position kids new i → Lawful named tested position kids new k → Lawful named tested position kids new j }
-    ensures anywhere { (named tested : A → Bool) (kids : List A) (new : A) (i j : ℕ)
+    ensures without_a_position_any_gap_is_alike { (named tested : A → Bool) (kids : List A) (new : A) (i j : ℕ)
         → i ≤ length kids → j ≤ length kids → Lawful named tested None kids new i → Lawful named tested None kids new j }
     ensures put_again { (named tested : A → Bool) (position : Option ℕ) (kids : List A) (new : A) (gap : ℕ)
         → gap ≤ length kids → Lawful named tested position kids new gap
@@ -47,11 +47,11 @@ pub fn gaps<A>()
 
 /// There is one plan over a number of gaps, and where both facts are tests it is the computed one.
 pub fn plans<E>()
-    ensures one { (unlawful invalid : E) (lawful valid : ℕ → Bool) (gaps : ℕ) (plan plan' : Result ℕ E)
+    ensures answer_is_one { (unlawful invalid : E) (lawful valid : ℕ → Bool) (gaps : ℕ) (plan plan' : Result ℕ E)
         → PlanIs unlawful invalid (λ j. IsTrue (lawful j)) (λ j. IsTrue (valid j)) gaps plan
         → PlanIs unlawful invalid (λ j. IsTrue (lawful j)) (λ j. IsTrue (valid j)) gaps plan'
         → plan ≡ plan' }
-    ensures computed { (unlawful invalid : E) (lawful valid : ℕ → Bool) (gaps : ℕ)
+    ensures computes_the_same { (unlawful invalid : E) (lawful valid : ℕ → Bool) (gaps : ℕ)
         → PlanIs unlawful invalid (λ j. IsTrue (lawful j)) (λ j. IsTrue (valid j)) gaps (plan_of unlawful invalid lawful valid gaps) }
 {}
 
@@ -65,7 +65,7 @@ pub fn edits<A>()
     ensures taken_out { (named tested : A → Bool) (position : Option ℕ) (kids : List A) (j : ℕ) (kid : A) (i : ℕ)
         → slice_get kids j ≡ Some kid → IsPassedOver named tested position kid
         → Selects named tested position kids (shifted j i) ↔ Selects named tested position (remove kids j) i }
-    ensures exchanged { (named tested : A → Bool) (position : Option ℕ) (kids : List A) (j : ℕ) (new : A)
+    ensures exchanged_child_stays_selected { (named tested : A → Bool) (position : Option ℕ) (kids : List A) (j : ℕ) (new : A)
         → Selects named tested position kids j
         → Selects named tested position (slice_set kids j new) j ↔ (IsTrue (named new) × IsTrue (tested new)) }
     ensures selected_out { (named tested : A → Bool) (kids : List A) (j i : ℕ)

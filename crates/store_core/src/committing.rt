@@ -19,8 +19,8 @@ impl Store {
     /// Makes a change that has all its memory, and answers its note. Nothing may have changed since `prepare`. Takes no memory.
     pub fn commit(&mut self, prepared: Prepared) -> EditNote
         requires { IsReady self.old prepared }
-        ensures content { self.new.content ≡ content_after self.old.content prepared.doc prepared.note.change }
-        ensures note { note_in result ≡ prepared.note }
+        ensures holds_the_prepared_change { self.new.content ≡ content_after self.old.content prepared.doc prepared.note.change }
+        ensures note_that_was_prepared { note_in result ≡ prepared.note }
         ensures keeps_key_addresses { KeepsAddressesOf self.old.content prepared.doc prepared.note.change self.new.content }
     {
         let Prepared {

@@ -90,8 +90,8 @@ fn is_light(notes: &NoteRing) -> bool
 // Whether the oldest note of a ring has to go.
 fn is_heavy(notes: &NoteRing) -> bool
     requires { notes.now.capacity ≡ 64 }
-    ensures heavy { result ≡ true → (1 < length notes.now.items) × (is_small weight (map note_in notes.now.items) ≡ false) }
-    ensures light { result ≡ false → retained (map note_in notes.now.items) ≡ map note_in notes.now.items }
+    ensures heavy_is_too_much { result ≡ true → (1 < length notes.now.items) × (is_small weight (map note_in notes.now.items) ≡ false) }
+    ensures light_is_retained_whole { result ≡ false → retained (map note_in notes.now.items) ≡ map note_in notes.now.items }
 {
     if notes.len() <= 1 {
         return false;
@@ -105,8 +105,8 @@ fn give_up(_note: Option<EditNote>) {}
 // Gives up the oldest notes, until those that are left may be retained.
 fn trim(notes: &mut NoteRing)
     requires { notes.old.capacity ≡ 64 }
-    ensures capacity { notes.new.capacity ≡ 64 }
-    ensures kept { map note_in notes.new.items ≡ retained (map note_in notes.old.items) }
+    ensures room_stays_at_the_limit { notes.new.capacity ≡ 64 }
+    ensures keeps_what_is_retained { map note_in notes.new.items ≡ retained (map note_in notes.old.items) }
 {
     'oldest: while is_heavy(notes) {
         give_up(notes.pop_front());
@@ -116,8 +116,8 @@ fn trim(notes: &mut NoteRing)
 // Keeps a note, and gives up the oldest ones that are not retained behind it.
 fn keep(notes: &mut NoteRing, note: EditNote)
     requires { notes.old.capacity ≡ 64 }
-    ensures capacity { notes.new.capacity ≡ 64 }
-    ensures kept { map note_in notes.new.items ≡ retained (map note_in notes.old.items ++ note_in note ∷ []) }
+    ensures room_stays_at_the_limit { notes.new.capacity ≡ 64 }
+    ensures keeps_what_is_retained { map note_in notes.new.items ≡ retained (map note_in notes.old.items ++ note_in note ∷ []) }
 {
     let _count = notes.len();
     give_up(notes.push_back(note));

@@ -68,8 +68,8 @@ impl Store {
     /// # Errors
     /// `NoMemory` for want of memory.
     pub fn user_indexes(&self, alloc: Global) -> Result<Vec<&Element>, NoMemory>
-        ensures trees { IfOk result (λ made. AreIndexTrees self.now.content (map (λ e. e.now) made.items)) }
-        ensures low { IfOk result (λ made. All (λ e. height e.now ≤ 64) made.items) }
+        ensures trees_of_the_index { IfOk result (λ made. AreIndexTrees self.now.content (map (λ e. e.now) made.items)) }
+        ensures is_low_enough { IfOk result (λ made. All (λ e. height e.now ≤ 64) made.items) }
     {
         let trees = trees_by_user(alloc, &self.documents)?;
         trees.into_values().collect(alloc)

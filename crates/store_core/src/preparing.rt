@@ -227,8 +227,8 @@ fn noted(
 impl Store {
     // The number of the next change.
     fn next_number(&self) -> Option<u64>
-        ensures some { IfSome result (λ n. (n ≡ self.now.content.next) × (against_number self.now.content ≡ None)) }
-        ensures none { result ≡ None → against_number self.now.content ≡ Some refusals.NoNumber }
+        ensures number_that_is_free { IfSome result (λ n. (n ≡ self.now.content.next) × (against_number self.now.content ≡ None)) }
+        ensures none_where_the_numbers_end { result ≡ None → against_number self.now.content ≡ Some refusals.NoNumber }
     {
         self.last.checked_add(1)
     }
@@ -247,7 +247,7 @@ impl Store {
     fn held(&self, doc: &DocId) -> &Entry
         requires { IsSome (document_in held_name self.now.content.documents doc.now) }
         ensures entry_that_is_held { IsHeldAs self.now.content doc.now result.now }
-        ensures sound { IsSoundFor (usage_of doc.now.auid) result.now.tree }
+        ensures tree_is_sound { IsSoundFor (usage_of doc.now.auid) result.now.tree }
     {
         match find(&self.documents, doc) {
             Some(entry) => entry,
@@ -258,9 +258,9 @@ impl Store {
     // How many bytes the documents beside one have that is held.
     fn total_without(&self, doc: &DocId) -> u64
         requires { IsSome (document_in held_name self.now.content.documents doc.now) }
-        ensures others { result ≡ other_lengths self.now.content doc.now }
-        ensures small { result ≤ 33554432 }
-        ensures whole { IsSomeAnd (document_in held_name self.now.content.documents doc.now) (λ h. result + document_len h.tree ≡ total_of self.now.content) }
+        ensures sums_the_others { result ≡ other_lengths self.now.content doc.now }
+        ensures is_small { result ≤ 33554432 }
+        ensures own_length_completes_the_total { IsSomeAnd (document_in held_name self.now.content.documents doc.now) (λ h. result + document_len h.tree ≡ total_of self.now.content) }
     {
         let Some(entry) = find(&self.documents, doc) else {
             unreachable!()
@@ -383,11 +383,11 @@ impl Store {
         change: Change,
     ) -> Result<Result<Prepared, StoreRefusal>, NoMemory>
         requires { Asks self.old.content doc.now change }
-        ensures same { self.new.content ≡ self.old.content }
-        ensures ok { IfOk result (λ r. IfOk r (λ p. (p.doc ≡ doc.now) × (changing self.old.content doc.now change ≡ Ok (p.note, content_after self.old.content doc.now change)) × (p.note.change ≡ change))) }
-        ensures ready { IfOk result (λ r. IfOk r (λ p. IsReady self.new p)) }
+        ensures holds_the_same { self.new.content ≡ self.old.content }
+        ensures prepares_the_change { IfOk result (λ r. IfOk r (λ p. (p.doc ≡ doc.now) × (changing self.old.content doc.now change ≡ Ok (p.note, content_after self.old.content doc.now change)) × (p.note.change ≡ change))) }
+        ensures prepared_change_is_ready { IfOk result (λ r. IfOk r (λ p. IsReady self.new p)) }
         ensures keeps_key_addresses { IfOk result (λ r. OnOk r (KeepsAddressesOf self.old.content doc.now change (content_after self.old.content doc.now change))) }
-        ensures err { IfOk result (λ r. IfErr r (λ e. changing self.old.content doc.now change ≡ Err e)) }
+        ensures refused_with_the_first_reason { IfOk result (λ r. IfErr r (λ e. changing self.old.content doc.now change ≡ Err e)) }
     {
         self.stands();
         match self.plan(doc, change)? {

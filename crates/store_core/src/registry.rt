@@ -46,8 +46,8 @@ pub(crate) fn enter(registry: &mut Registry, mut uris: Vec<Text>, number: u64)
 
 /// Takes addresses out.
 pub(crate) fn leave(registry: &mut Registry, uris: &[Text])
-    ensures left { (uri : List ℕ) → registered registry.new.entries uri ≡ (if is_member bytes_eq uris.now uri then None else registered registry.old.entries uri) }
-    ensures room { spare registry.old ≤ spare registry.new }
+    ensures addresses_are_left { (uri : List ℕ) → registered registry.new.entries uri ≡ (if is_member bytes_eq uris.now uri then None else registered registry.old.entries uri) }
+    ensures there_is_room { spare registry.old ≤ spare registry.new }
 {
     for uri in uris {
         registry.swap_remove(uri);

@@ -69,9 +69,9 @@ impl Store {
     /// The tree and the tag of a document: None exactly where it isn't held. The tree is sound for
     /// its usage, at most 64 high and at most 262,144 bytes long, printed. Takes no memory.
     pub fn get(&self, doc: &DocId) -> Option<(&Element, u64)>
-        ensures held { option_map (λ x. (x.0.now, x.1)) result ≡ option_map {U = Tree × ℕ} (λ h. (h.tree, h.tag)) (document_in held_name self.now.content.documents doc.now) }
-        ensures low { IfSome result (λ x. height x.0.now ≤ 64) }
-        ensures sound { IfSome result (λ x. IsSoundFor (usage_of doc.now.auid) x.0.now) }
+        ensures version_that_is_held { option_map (λ x. (x.0.now, x.1)) result ≡ option_map {U = Tree × ℕ} (λ h. (h.tree, h.tag)) (document_in held_name self.now.content.documents doc.now) }
+        ensures is_low_enough { IfSome result (λ x. height x.0.now ≤ 64) }
+        ensures tree_is_sound { IfSome result (λ x. IsSoundFor (usage_of doc.now.auid) x.0.now) }
     {
         let entry = find(&self.documents, doc)?;
         Some((&entry.tree, entry.tag))
@@ -107,8 +107,8 @@ impl Store {
 
     /// Makes room for a document more, and for so many service addresses.
     pub(crate) fn reserve(&mut self, addresses: usize) -> Result<(), AllocError>
-        ensures same { self.new.content ≡ self.old.content }
-        ensures room { OnOk result ((1 ≤ self.new.room.documents) × (addresses ≤ self.new.room.services)) }
+        ensures holds_the_same { self.new.content ≡ self.old.content }
+        ensures there_is_room { OnOk result ((1 ≤ self.new.room.documents) × (addresses ≤ self.new.room.services)) }
     {
         self.documents.reserve(1)?;
         self.services.reserve(addresses)

@@ -36,7 +36,7 @@ impl From<Failed> for InputFault {
 
 // Reads until the buffer is full or the input ends, and answers how many bytes came.
 fn fill<I: Source>(input: &mut I, buffer: &mut [u8]) -> Result<usize, Failed>
-    ensures fills { Fills result buffer.new (I.state input.old).inward (I.state input.new).inward }
+    ensures fills_from_the_front { Fills result buffer.new (I.state input.old).inward (I.state input.new).inward }
     ensures only_reads { OnlyReads (I.state input.old) (I.state input.new) result }
 {
     let mut held = 0;

@@ -20,8 +20,8 @@ pub struct Bindings {
 impl Bindings {
     /// What is declared where nothing is open.
     fn new(alloc: Global) -> Result<Bindings, AllocError>
-        ensures none { IfOk result (λ made. lists made ≡ []) }
-        ensures kept { IfOk result AreKept }
+        ensures binds_nothing { IfOk result (λ made. lists made ≡ []) }
+        ensures lists_are_kept_in_step { IfOk result AreKept }
     {
         Ok(Bindings {
             open: Vec::new(alloc),
@@ -31,8 +31,8 @@ impl Bindings {
 
     /// What is declared in a scope.
     pub fn given(alloc: Global, scope: &Scope<'_>) -> Result<Bindings, AllocError>
-        ensures given { IfOk result (λ made. lists made ≡ scope.now) }
-        ensures kept { IfOk result AreKept }
+        ensures holds_the_given_scope { IfOk result (λ made. lists made ≡ scope.now) }
+        ensures lists_are_kept_in_step { IfOk result AreKept }
     {
         let mut made = Bindings::new(alloc)?;
         for decls in scope.lists() {
@@ -44,8 +44,8 @@ impl Bindings {
     /// Goes into an element with these declarations.
     pub fn enter(&mut self, alloc: Global, decls: Vec<Decl>) -> Result<(), AllocError>
         requires { AreKept self.old }
-        ensures inside { OnOk result (lists self.new ≡ lists self.old ++ decls.items ∷ []) }
-        ensures kept { OnOk result (AreKept self.new) }
+        ensures scope_grows_by_them { OnOk result (lists self.new ≡ lists self.old ++ decls.items ∷ []) }
+        ensures lists_are_kept_in_step { OnOk result (AreKept self.new) }
     {
         self.namespaces.declare_all(alloc, &decls)?;
         self.open.push(decls)?;
@@ -56,8 +56,8 @@ impl Bindings {
     pub fn leave(&mut self) -> Vec<Decl>
         requires kept { AreKept self.old }
         requires some { 0 < length self.old.open.items }
-        ensures outside { lists self.old ≡ lists self.new ++ result.items ∷ [] }
-        ensures kept { AreKept self.new }
+        ensures scope_shrinks_by_them { lists self.old ≡ lists self.new ++ result.items ∷ [] }
+        ensures lists_are_kept_in_step { AreKept self.new }
     {
         let decls = self.open.pop().unwrap();
         self.namespaces.forget_all(&decls);

@@ -104,8 +104,8 @@ fn unquoted_len(text: &[char], quote: char) -> usize
 /// What stands before the first quote of this kind, and the rest.
 #[tactic(auto, using(crate::proofs::RunLemmas::take_run, crate::proofs::RunLemmas::drop_run, crate::proofs::RunLemmas::run_len_le))]
 fn unquoted(text: &[char], quote: char) -> (&[char], &[char])
-    ensures front { result.0.now ≡ front_of (is_other quote) text.now }
-    ensures after { result.1.now ≡ after_front (is_other quote) text.now }
+    ensures front_up_to_the_quote { result.0.now ≡ front_of (is_other quote) text.now }
+    ensures rest_behind_the_front { result.1.now ≡ after_front (is_other quote) text.now }
 {
     text.split_at(unquoted_len(text, quote))
 }
@@ -128,8 +128,8 @@ fn in_quotes(body: &[char]) -> Option<&[char]>
 
 /// The part of a body that spells its value, and how many bytes stand behind it.
 fn spelling_of(body: &[char]) -> (&[char], usize)
-    ensures part { result.0.now ≡ spelling_of body.now }
-    ensures behind { result.1 ≡ closing_len (in_quotes body.now) }
+    ensures part_that_spells { result.0.now ≡ spelling_of body.now }
+    ensures length_of_the_closing_quote { result.1 ≡ closing_len (in_quotes body.now) }
 {
     match in_quotes(body) {
         Some(inside) => (inside, 1),
@@ -159,7 +159,7 @@ fn error(bytes: &[u8], stop: Stop<'_>, behind: usize) -> ReadError<ValueFault>
 /// Char; `NoMemory` for want of memory.
 pub fn read_att_value(alloc: Global, bytes: &[u8]) -> Result<Text, ReadError<ValueFault>>
     ensures answer_by_the_grammar { Answered (BodyAnswer bytes.now) result }
-    ensures chars { IfOk result (λ value. IsTrue (all_chars value)) }
+    ensures is_all_chars { IfOk result (λ value. IsTrue (all_chars value)) }
 {
     read_body(alloc, bytes)
 }

@@ -227,8 +227,8 @@ fn push_markup<'a>(
 ) -> Result<&'a [char], Stop<'a>>
     requires kept { AreKept bindings.old }
     requires deep { depth + levels ≤ 1000 }
-    ensures read { Gives (λ rest. (element.new, rest.now)) result (read_onto element.old (read_element levels (lists bindings.old) depth) text.now) }
-    ensures back { OnOk result (AreBack bindings.old bindings.new) }
+    ensures reads_as_the_rule_does { Gives (λ rest. (element.new, rest.now)) result (read_onto element.old (read_element levels (lists bindings.old) depth) text.now) }
+    ensures bindings_are_those_of_before { OnOk result (AreBack bindings.old bindings.new) }
 {
     if other_follows(text) {
         return push_other(alloc, text, element);
@@ -250,8 +250,8 @@ fn content<'a>(
     requires kept { AreKept bindings.old }
     requires deep { depth + levels ≤ 1000 }
     requires empty { element.old.content ≡ last [] }
-    ensures read { Gives (λ rest. (element.new, rest.now)) result (read_filled element.old (read_element levels (lists bindings.old) depth) text.now) }
-    ensures back { OnOk result (AreBack bindings.old bindings.new) }
+    ensures reads_as_the_rule_does { Gives (λ rest. (element.new, rest.now)) result (read_filled element.old (read_element levels (lists bindings.old) depth) text.now) }
+    ensures bindings_are_those_of_before { OnOk result (AreBack bindings.old bindings.new) }
 {
     let start = push_run(alloc, text, element)?;
     let mut rest = start;
@@ -279,8 +279,8 @@ fn behind_tag<'a>(
     requires kept { AreKept bindings.old }
     requires deep { depth + levels ≤ 1000 }
     requires empty { element.old.content ≡ last [] }
-    ensures read { Gives (λ rest. (element.new, rest.now)) result (read_filled_behind element.old (read_element levels (lists bindings.old) depth) (name_in tag.now.written) tag.now.is_empty tag.now.behind.now) }
-    ensures back { OnOk result (AreBack bindings.old bindings.new) }
+    ensures reads_as_the_rule_does { Gives (λ rest. (element.new, rest.now)) result (read_filled_behind element.old (read_element levels (lists bindings.old) depth) (name_in tag.now.written) tag.now.is_empty tag.now.behind.now) }
+    ensures bindings_are_those_of_before { OnOk result (AreBack bindings.old bindings.new) }
 {
     if tag.is_empty {
         return Ok(tag.behind);
@@ -309,8 +309,8 @@ fn fill<'a>(
     requires opening { tag.now.opening ≡ opening_size (tag_in tag.now said.old.items) }
     requires sizes { tag.now.opening + widths said.old.items ≤ length text.now }
     requires bare { element.old ≡ tree_of (name_in tag.now.written) [] [] (last []) }
-    ensures read { Gives (λ rest. (element.new, rest.now)) result (read_element (inner + 1) (lists bindings.old) depth text.now) }
-    ensures back { OnOk result (AreBack bindings.old bindings.new) }
+    ensures reads_as_the_rule_does { Gives (λ rest. (element.new, rest.now)) result (read_element (inner + 1) (lists bindings.old) depth text.now) }
+    ensures bindings_are_those_of_before { OnOk result (AreBack bindings.old bindings.new) }
 {
     let all = said.as_slice();
     let decls = decls_of(alloc, all)?;
@@ -336,8 +336,8 @@ fn push_child<'a>(
 ) -> Result<&'a [char], Stop<'a>>
     requires kept { AreKept bindings.old }
     requires deep { depth + levels ≤ 1000 }
-    ensures read { Gives (λ rest. (parent.new, rest.now)) result (read_child parent.old (read_element levels (lists bindings.old) depth) text.now) }
-    ensures back { OnOk result (AreBack bindings.old bindings.new) }
+    ensures reads_as_the_rule_does { Gives (λ rest. (parent.new, rest.now)) result (read_child parent.old (read_element levels (lists bindings.old) depth) text.now) }
+    ensures bindings_are_those_of_before { OnOk result (AreBack bindings.old bindings.new) }
 {
     let Some(inner) = levels.checked_sub(1) else {
         return Err(no_level(text, depth));
@@ -368,8 +368,8 @@ pub fn element<'a>(
 ) -> Result<(Element, &'a [char]), Stop<'a>>
     requires kept { AreKept bindings.old }
     requires deep { depth + levels ≤ 1000 }
-    ensures read { Gives (λ x. (x.0, x.1.now)) result (read_element levels (lists bindings.old) depth text.now) }
-    ensures back { OnOk result (AreBack bindings.old bindings.new) }
+    ensures reads_as_the_rule_does { Gives (λ x. (x.0, x.1.now)) result (read_element levels (lists bindings.old) depth text.now) }
+    ensures bindings_are_those_of_before { OnOk result (AreBack bindings.old bindings.new) }
 {
     let Some(inner) = levels.checked_sub(1) else {
         return Err(no_level(text, depth));

@@ -43,10 +43,10 @@ fn is_plain_in_name(c: char) -> bool
 #[tactic(auto, using(crate::proofs::RunLemmas::run_more, crate::proofs::RunLemmas::run_done))]
 fn content_len(text: &[char], bytes: &mut [u8; 64]) -> usize
     requires few { length text.now ≤ 64 }
-    ensures size { result ≤ length text.now }
-    ensures len { result ≡ run_len is_plain_in_content text.now }
-    ensures bytes { take result bytes.new ≡ take result text.now }
-    ensures plain { IsTrue (list_all is_plain_in_content (take result text.now)) }
+    ensures no_longer_than_the_text { result ≤ length text.now }
+    ensures length_of_the_plain_run { result ≡ run_len is_plain_in_content text.now }
+    ensures copies_the_plain_bytes { take result bytes.new ≡ take result text.now }
+    ensures is_plain_alone { IsTrue (list_all is_plain_in_content (take result text.now)) }
 {
     for (i, &c) in text.iter().enumerate() {
         if !is_plain_in_content(c) {
@@ -62,10 +62,10 @@ fn content_len(text: &[char], bytes: &mut [u8; 64]) -> usize
 #[tactic(auto, using(crate::proofs::RunLemmas::run_more, crate::proofs::RunLemmas::run_done))]
 fn value_len(text: &[char], quote: char, bytes: &mut [u8; 64]) -> usize
     requires few { length text.now ≤ 64 }
-    ensures size { result ≤ length text.now }
-    ensures len { result ≡ run_len (is_plain_in_value quote) text.now }
-    ensures bytes { take result bytes.new ≡ take result text.now }
-    ensures plain { IsTrue (list_all (is_plain_in_value quote) (take result text.now)) }
+    ensures no_longer_than_the_text { result ≤ length text.now }
+    ensures length_of_the_plain_run { result ≡ run_len (is_plain_in_value quote) text.now }
+    ensures copies_the_plain_bytes { take result bytes.new ≡ take result text.now }
+    ensures is_plain_alone { IsTrue (list_all (is_plain_in_value quote) (take result text.now)) }
 {
     for (i, &c) in text.iter().enumerate() {
         if !is_plain_in_value(c, quote) {
@@ -80,10 +80,10 @@ fn value_len(text: &[char], quote: char, bytes: &mut [u8; 64]) -> usize
 #[tactic(auto, using(crate::proofs::RunLemmas::run_more, crate::proofs::RunLemmas::run_done))]
 fn name_len(text: &[char], bytes: &mut [u8; 64]) -> usize
     requires few { length text.now ≤ 64 }
-    ensures size { result ≤ length text.now }
-    ensures len { result ≡ run_len is_plain_in_name text.now }
-    ensures bytes { take result bytes.new ≡ take result text.now }
-    ensures plain { IsTrue (list_all is_plain_in_name (take result text.now)) }
+    ensures no_longer_than_the_text { result ≤ length text.now }
+    ensures length_of_the_plain_run { result ≡ run_len is_plain_in_name text.now }
+    ensures writes_all_or_a_proper_front { take result bytes.new ≡ take result text.now }
+    ensures is_plain_alone { IsTrue (list_all is_plain_in_name (take result text.now)) }
 {
     for (i, &c) in text.iter().enumerate() {
         if !is_plain_in_name(c) {
@@ -96,9 +96,9 @@ fn name_len(text: &[char], bytes: &mut [u8; 64]) -> usize
 
 /// The characters in front that are plain in content, 64 at most, and what follows them.
 pub fn plain_in_content<'a, 'b>(text: &'a [char], bytes: &'b mut [u8; 64]) -> (&'b str, &'a [char])
-    ensures text { text.now ≡ chars result.0.now ++ result.1.now }
-    ensures len { length (chars result.0.now) ≡ run_len is_plain_in_content (take 64 text.now) }
-    ensures plain { IsTrue (list_all is_plain_in_content (chars result.0.now)) }
+    ensures text_is_front_and_rest { text.now ≡ chars result.0.now ++ result.1.now }
+    ensures length_of_the_plain_run { length (chars result.0.now) ≡ run_len is_plain_in_content (take 64 text.now) }
+    ensures is_plain_alone { IsTrue (list_all is_plain_in_content (chars result.0.now)) }
 {
     let len = content_len(&text[..text.len().min(MOST)], bytes);
     (ascii(bytes, len), &text[len..])
@@ -110,9 +110,9 @@ pub fn plain_in_value<'a, 'b>(
     quote: char,
     bytes: &'b mut [u8; 64],
 ) -> (&'b str, &'a [char])
-    ensures text { text.now ≡ chars result.0.now ++ result.1.now }
-    ensures len { length (chars result.0.now) ≡ run_len (is_plain_in_value quote) (take 64 text.now) }
-    ensures plain { IsTrue (list_all (is_plain_in_value quote) (chars result.0.now)) }
+    ensures text_is_front_and_rest { text.now ≡ chars result.0.now ++ result.1.now }
+    ensures length_of_the_plain_run { length (chars result.0.now) ≡ run_len (is_plain_in_value quote) (take 64 text.now) }
+    ensures is_plain_alone { IsTrue (list_all (is_plain_in_value quote) (chars result.0.now)) }
 {
     let len = value_len(&text[..text.len().min(MOST)], quote, bytes);
     (ascii(bytes, len), &text[len..])
@@ -120,9 +120,9 @@ pub fn plain_in_value<'a, 'b>(
 
 /// The characters in front that are plain in names, 64 at most, and what follows them.
 pub fn plain_in_name<'a, 'b>(text: &'a [char], bytes: &'b mut [u8; 64]) -> (&'b str, &'a [char])
-    ensures text { text.now ≡ chars result.0.now ++ result.1.now }
-    ensures len { length (chars result.0.now) ≡ run_len is_plain_in_name (take 64 text.now) }
-    ensures plain { IsTrue (list_all is_plain_in_name (chars result.0.now)) }
+    ensures lends_its_text { text.now ≡ chars result.0.now ++ result.1.now }
+    ensures length_of_the_plain_run { length (chars result.0.now) ≡ run_len is_plain_in_name (take 64 text.now) }
+    ensures is_plain_alone { IsTrue (list_all is_plain_in_name (chars result.0.now)) }
 {
     let len = name_len(&text[..text.len().min(MOST)], bytes);
     (ascii(bytes, len), &text[len..])

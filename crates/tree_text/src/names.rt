@@ -150,8 +150,8 @@ fn is_first<'a>(
     said: &'a Said,
 ) -> Result<bool, AllocError>
     requires kept { AreKept here.now }
-    ensures first { (es : List Said) → Holds here.now es seen.old → IfOk result (λ first. first ≡ not (is_repeated (lists here.now) es said.now)) }
-    ensures holds { (es : List Said) → Holds here.now es seen.old → OnOk result (Holds here.now (es ++ said.now ∷ []) seen.new) }
+    ensures tells_the_first { (es : List Said) → Holds here.now es seen.old → IfOk result (λ first. first ≡ not (is_repeated (lists here.now) es said.now)) }
+    ensures holds_those_seen { (es : List Said) → Holds here.now es seen.old → OnOk result (Holds here.now (es ++ said.now ∷ []) seen.new) }
 {
     let first = seen.insert(meaning_of(here, said))?;
     Ok(first)
@@ -164,8 +164,8 @@ fn wrong_said<'a>(
     said: &'a Said,
 ) -> Result<Option<Kind>, AllocError>
     requires kept { AreKept here.now }
-    ensures wrong { (es : List Said) → Holds here.now es seen.old → IfOk result (λ wrong. wrong ≡ wrong_said (lists here.now) es said.now) }
-    ensures holds { (es : List Said) → Holds here.now es seen.old → IfOk result (λ wrong. wrong ≡ None → Holds here.now (es ++ said.now ∷ []) seen.new) }
+    ensures tells_what_is_wrong { (es : List Said) → Holds here.now es seen.old → IfOk result (λ wrong. wrong ≡ wrong_said (lists here.now) es said.now) }
+    ensures holds_those_seen { (es : List Said) → Holds here.now es seen.old → IfOk result (λ wrong. wrong ≡ None → Holds here.now (es ++ said.now ∷ []) seen.new) }
 {
     if is_misnamed(here, said) {
         return Ok(Some(Kind::Unbound));

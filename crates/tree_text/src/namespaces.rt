@@ -28,9 +28,9 @@ fn numbered(
     numbers: &mut BTreeMap<Text, usize>,
     text: &Text,
 ) -> Result<usize, AllocError>
-    ensures kept { AreNumbers numbers.old → OnOk result (AreNumbers numbers.new) }
-    ensures found { IfOk result (λ n. at_text numbers.new text.now ≡ Some n) }
-    ensures grown { OnOk result ((u : List ℕ) (n : ℕ) → at_text numbers.old u ≡ Some n → at_text numbers.new u ≡ Some n) }
+    ensures numbers_stay_numbers { AreNumbers numbers.old → OnOk result (AreNumbers numbers.new) }
+    ensures number_of_the_text { IfOk result (λ n. at_text numbers.new text.now ≡ Some n) }
+    ensures numbers_stay { OnOk result ((u : List ℕ) (n : ℕ) → at_text numbers.old u ≡ Some n → at_text numbers.new u ≡ Some n) }
 {
     if let Some(number) = numbers.get(text) {
         return Ok(*number);

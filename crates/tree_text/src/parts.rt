@@ -13,8 +13,8 @@ use xml_tree::{is_name_char, is_name_start, is_space};
 /// What follows a fixed letter.
 #[inline(always)]
 pub fn letter(text: &[char], expected: char) -> Result<&[char], Stop<'_>>
-    ensures read { Gives (λ rest. (tt, rest.now)) result (read_word (expected ∷ []) text.now) }
-    ensures sizes { IfOk result (λ rest. 1 + length rest.now ≡ length text.now) }
+    ensures reads_as_the_rule_does { Gives (λ rest. (tt, rest.now)) result (read_word (expected ∷ []) text.now) }
+    ensures lengths_add_up { IfOk result (λ rest. 1 + length rest.now ≡ length text.now) }
 {
     match text {
         [found, rest @ ..] if *found == expected => Ok(rest),
@@ -25,8 +25,8 @@ pub fn letter(text: &[char], expected: char) -> Result<&[char], Stop<'_>>
 /// What follows a fixed word. Most words are one letter.
 #[inline(always)]
 pub fn word<'a>(text: &'a [char], word: &[char]) -> Result<&'a [char], Stop<'a>>
-    ensures read { Gives (λ rest. (tt, rest.now)) result (read_word word.now text.now) }
-    ensures sizes { IfOk result (λ rest. length word.now + length rest.now ≡ length text.now) }
+    ensures reads_as_the_rule_does { Gives (λ rest. (tt, rest.now)) result (read_word word.now text.now) }
+    ensures lengths_add_up { IfOk result (λ rest. length word.now + length rest.now ≡ length text.now) }
 {
     match word {
         [first] => letter(text, *first),
@@ -36,8 +36,8 @@ pub fn word<'a>(text: &'a [char], word: &[char]) -> Result<&'a [char], Stop<'a>>
 
 /// The same for words of several letters.
 fn letters<'a>(text: &'a [char], word: &[char]) -> Result<&'a [char], Stop<'a>>
-    ensures read { Gives (λ rest. (tt, rest.now)) result (read_word word.now text.now) }
-    ensures sizes { IfOk result (λ rest. length word.now + length rest.now ≡ length text.now) }
+    ensures reads_as_the_rule_does { Gives (λ rest. (tt, rest.now)) result (read_word word.now text.now) }
+    ensures lengths_add_up { IfOk result (λ rest. length word.now + length rest.now ≡ length text.now) }
 {
     let mut rest = text;
     for &expected in word {
@@ -65,9 +65,9 @@ fn spaces_len(text: &[char]) -> usize
 /// White space, which may be absent, and what follows it.
 #[tactic(auto, using(crate::proofs::RunLemmas::take_run, crate::proofs::RunLemmas::drop_run, crate::proofs::RunLemmas::run_len_le))]
 pub fn spaces(text: &[char]) -> (&[char], &[char])
-    ensures read { read_spaces text.now ≡ Ok (result.0.now, result.1.now) }
-    ensures sizes { length result.0.now + length result.1.now ≡ length text.now }
-    ensures after { result.1.now ≡ after_front is_space text.now }
+    ensures reads_as_the_rule_does { read_spaces text.now ≡ Ok (result.0.now, result.1.now) }
+    ensures lengths_add_up { length result.0.now + length result.1.now ≡ length text.now }
+    ensures rest_behind_the_front { result.1.now ≡ after_front is_space text.now }
 {
     text.split_at(spaces_len(text))
 }
@@ -113,9 +113,9 @@ fn name_len(text: &[char]) -> usize
 /// A name, and what follows it.
 #[tactic(auto, using(crate::proofs::RunLemmas::name_read, crate::proofs::RunLemmas::run_len_le))]
 pub fn name(text: &[char]) -> Result<(&[char], &[char]), Stop<'_>>
-    ensures read { Gives (λ x. (x.0.now, x.1.now)) result (read_name text.now) }
-    ensures sizes { IfOk result (λ x. length x.0.now + length x.1.now ≡ length text.now) }
-    ensures some { IfOk result (λ x. 0 < length x.0.now) }
+    ensures reads_as_the_rule_does { Gives (λ x. (x.0.now, x.1.now)) result (read_name text.now) }
+    ensures lengths_add_up { IfOk result (λ x. length x.0.now + length x.1.now ≡ length text.now) }
+    ensures name_is_not_empty { IfOk result (λ x. 0 < length x.0.now) }
 {
     match text {
         [first, rest @ ..] if begins_name(*first) => Ok(text.split_at(1 + name_len(rest))),
@@ -126,8 +126,8 @@ pub fn name(text: &[char]) -> Result<(&[char], &[char]), Stop<'_>>
 /// White space, which may not be absent, and what follows it.
 #[tactic(auto, using(crate::proofs::RunLemmas::some_read, crate::proofs::RunLemmas::none_read, crate::proofs::RunLemmas::run_len_le))]
 pub fn some_spaces(text: &[char]) -> Result<(&[char], &[char]), Stop<'_>>
-    ensures read { Gives (λ x. (x.0.now, x.1.now)) result (read_some_spaces text.now) }
-    ensures sizes { IfOk result (λ x. length x.0.now + length x.1.now ≡ length text.now) }
+    ensures reads_as_the_rule_does { Gives (λ x. (x.0.now, x.1.now)) result (read_some_spaces text.now) }
+    ensures lengths_add_up { IfOk result (λ x. length x.0.now + length x.1.now ≡ length text.now) }
 {
     let len = spaces_len(text);
     if len == 0 {

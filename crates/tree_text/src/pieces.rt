@@ -17,8 +17,8 @@ use xml_tree::{Text, is_space};
 
 /// The inside of a comment, and what follows the comment.
 fn comment_inside(text: &[char]) -> Result<(&[char], &[char]), Stop<'_>>
-    ensures read { Gives (λ x. (x.0.now, x.1.now)) result (read_comment_inside text.now) }
-    ensures kept { IfOk result (λ x. is_comment (line_ends x.0.now) ≡ true) }
+    ensures reads_as_the_rule_does { Gives (λ x. (x.0.now, x.1.now)) result (read_comment_inside text.now) }
+    ensures comment_can_be_kept { IfOk result (λ x. is_comment (line_ends x.0.now) ≡ true) }
 {
     let rest = word(text, &['<', '!', '-', '-'])?;
     let (inside, rest) = up_to(rest, &['-', '-'])?;
@@ -27,8 +27,8 @@ fn comment_inside(text: &[char]) -> Result<(&[char], &[char]), Stop<'_>>
 
 /// A comment, and what follows it.
 pub fn comment(alloc: Global, text: &[char]) -> Result<(Text, &[char]), Stop<'_>>
-    ensures read { Gives (λ x. (x.0, x.1.now)) result (read_comment text.now) }
-    ensures kept { IfOk result (λ x. is_comment x.0 ≡ true) }
+    ensures reads_as_the_rule_does { Gives (λ x. (x.0, x.1.now)) result (read_comment text.now) }
+    ensures comment_can_be_kept { IfOk result (λ x. is_comment x.0 ≡ true) }
 {
     let (inside, rest) = comment_inside(text)?;
     Ok((lines(alloc, inside)?, rest))

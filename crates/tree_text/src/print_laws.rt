@@ -16,20 +16,20 @@ ghost use Rattle.tree_text.specs.Printing.{document_print, body_print};
 /// scope in which it is proper and with at least as many levels as it has; and those of the print of a value that consists of
 /// Chars as the value. The scope may bind any prefix but `xmlns`.
 pub fn prints_are_read_back()
-    ensures document { (depth : ℕ) (scope : List (List Decl)) (root : Tree) → bound scope xmlns_prefix ≡ None → ProperIn scope root → height root ≤ depth
+    ensures of_a_document { (depth : ℕ) (scope : List (List Decl)) (root : Tree) → bound scope xmlns_prefix ≡ None → ProperIn scope root → height root ≤ depth
         → TextAnswer depth scope (encode_utf8_all (document_print root)) (Ok root) }
-    ensures element { (depth : ℕ) (scope : List (List Decl)) (root : Tree) → bound scope xmlns_prefix ≡ None → ProperIn scope root → height root ≤ depth
+    ensures of_an_element { (depth : ℕ) (scope : List (List Decl)) (root : Tree) → bound scope xmlns_prefix ≡ None → ProperIn scope root → height root ≤ depth
         → TextAnswer depth scope (encode_utf8_all (print root)) (Ok root) }
-    ensures value { (value : List ℕ) → IsTrue (all_chars value) → BodyAnswer (encode_utf8_all (body_print value)) (Ok value) }
+    ensures of_a_value { (value : List ℕ) → IsTrue (all_chars value) → BodyAnswer (encode_utf8_all (body_print value)) (Ok value) }
 {}
 
 /// By the grammar a print spells what was printed, nothing else, and no fault is said of it (XML 1.0; Namespaces in XML 1.0).
 pub fn prints_spell_what_was_printed()
-    ensures document { (depth : ℕ) (scope : List (List Decl)) (root : Tree) → bound scope xmlns_prefix ≡ None → ProperIn scope root → height root ≤ depth
+    ensures of_a_document { (depth : ℕ) (scope : List (List Decl)) (root : Tree) → bound scope xmlns_prefix ≡ None → ProperIn scope root → height root ≤ depth
         → (n : ℕ) → depth + 1 < n → IsSpelled (faults depth) (document n scope) (document_print root) root }
-    ensures element { (depth : ℕ) (scope : List (List Decl)) (root : Tree) → bound scope xmlns_prefix ≡ None → ProperIn scope root → height root ≤ depth
+    ensures of_an_element { (depth : ℕ) (scope : List (List Decl)) (root : Tree) → bound scope xmlns_prefix ≡ None → ProperIn scope root → height root ≤ depth
         → (n : ℕ) → depth + 1 < n → IsSpelled (faults depth) (document n scope) (print root) root }
-    ensures value { (value : List ℕ) → IsTrue (all_chars value) → IsSpelled (faults 0) spelling (body_print value) value }
+    ensures of_a_value { (value : List ℕ) → IsTrue (all_chars value) → IsSpelled (faults 0) spelling (body_print value) value }
 {}
 
 /// No scope in a proper tree binds `xmlns`, unless that around it does.

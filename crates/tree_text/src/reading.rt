@@ -109,7 +109,7 @@ pub fn read_document(
     requires least { 1 ≤ depth }
     requires most { depth ≤ 67 }
     ensures answer_by_the_grammar { Answered (TextAnswer depth [] bytes.now) result }
-    ensures proper { IfOk result (λ tree. ProperIn [] tree × (height tree ≤ depth)) }
+    ensures is_proper { IfOk result (λ tree. ProperIn [] tree × (height tree ≤ depth)) }
 {
     read(alloc, bytes, &Scope::empty(), depth)
 }
@@ -127,7 +127,7 @@ pub fn read_fragment(
 ) -> Result<Element, ReadError<TextFault>>
     requires { length scope.now + depth ≤ 67 }
     ensures answer_by_the_grammar { Answered (TextAnswer depth scope.now bytes.now) result }
-    ensures proper { IfOk result (λ tree. ProperIn scope.now tree × (height tree ≤ depth)) }
+    ensures is_proper { IfOk result (λ tree. ProperIn scope.now tree × (height tree ≤ depth)) }
 {
     read(alloc, bytes, scope, depth)
 }

@@ -18,8 +18,8 @@ use xml_tree::{Text, is_char};
 
 /// Whether a word stands in front.
 pub fn starts(text: &[char], word: &[char]) -> bool
-    ensures test { result ≡ starts word.now text.now }
-    ensures room { IsTrue result → length word.now ≤ length text.now }
+    ensures tells_by_the_test { result ≡ starts word.now text.now }
+    ensures word_fits_in_the_text { IsTrue result → length word.now ≤ length text.now }
 {
     let mut rest = text;
     for &expected in word {
@@ -61,7 +61,7 @@ fn is_usual(c: char) -> bool
 
 /// Whether a character is one of those that stand raw in content wherever they are. Most of them do.
 fn is_inner(c: char) -> bool
-    ensures raw { IsTrue result → IsTrue (is_raw c) }
+    ensures inner_character_is_raw { IsTrue result → IsTrue (is_raw c) }
     ensures no_end { IsTrue result → (93 == c) ≡ false }
 {
     is_usual(c)

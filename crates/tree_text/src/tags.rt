@@ -54,8 +54,8 @@ fn push_said<'a>(
     text: &'a [char],
     all: &mut Vec<Said>,
 ) -> Result<&'a [char], Stop<'a>>
-    ensures read { Gives (λ rest. (all.new.items, rest.now)) result (read_valued (λ said. all.old.items ++ said ∷ []) read_said text.now) }
-    ensures sizes { IfOk result (λ rest. widths all.new.items + length rest.now ≡ widths all.old.items + length text.now) }
+    ensures reads_as_the_rule_does { Gives (λ rest. (all.new.items, rest.now)) result (read_valued (λ said. all.old.items ++ said ∷ []) read_said text.now) }
+    ensures lengths_add_up { IfOk result (λ rest. widths all.new.items + length rest.now ≡ widths all.old.items + length text.now) }
 {
     let (white, from) = some_spaces(text)?;
     let (name, value, rest) = attribute(alloc, from)?;
@@ -86,8 +86,8 @@ fn all_said<'a>(
     text: &'a [char],
     all: &mut Vec<Said>,
 ) -> Result<&'a [char], Stop<'a>>
-    ensures read { Gives (λ rest. (all.new.items, rest.now)) result (read_all_said text.now) }
-    ensures sizes { IfOk result (λ rest. widths all.new.items + length rest.now ≡ length text.now) }
+    ensures reads_as_the_rule_does { Gives (λ rest. (all.new.items, rest.now)) result (read_all_said text.now) }
+    ensures lengths_add_up { IfOk result (λ rest. widths all.new.items + length rest.now ≡ length text.now) }
 {
     all.clear();
     let mut rest = text;
@@ -102,8 +102,8 @@ fn all_said<'a>(
 
 /// Whether the tag is that of an empty element, and what follows its end.
 fn tag_end(text: &[char]) -> Result<(bool, &[char]), Stop<'_>>
-    ensures read { Gives (λ x. (x.0, x.1.now)) result (read_tag_end text.now) }
-    ensures sizes { IfOk result (λ x. length x.1.now ≤ length text.now) }
+    ensures reads_as_the_rule_does { Gives (λ x. (x.0, x.1.now)) result (read_tag_end text.now) }
+    ensures lengths_add_up { IfOk result (λ x. length x.1.now ≤ length text.now) }
 {
     match text {
         ['/', ..] => {
@@ -124,10 +124,10 @@ pub fn whole_tag<'a>(
     text: &'a [char],
     said: &mut Vec<Said>,
 ) -> Result<(Name, Tag<'a>), Stop<'a>>
-    ensures read { Gives (λ x. (tag_in x.1 said.new.items, x.1.behind.now)) result (read_tag text.now) }
-    ensures named { IfOk result (λ x. x.0 ≡ name_in x.1.written) }
-    ensures opening { IfOk result (λ x. x.1.opening ≡ opening_size (tag_in x.1 said.new.items)) }
-    ensures sizes { IfOk result (λ x. x.1.opening + widths said.new.items ≤ length text.now) }
+    ensures reads_as_the_rule_does { Gives (λ x. (tag_in x.1 said.new.items, x.1.behind.now)) result (read_tag text.now) }
+    ensures name_is_as_written { IfOk result (λ x. x.0 ≡ name_in x.1.written) }
+    ensures size_of_the_opening { IfOk result (λ x. x.1.opening ≡ opening_size (tag_in x.1 said.new.items)) }
+    ensures lengths_add_up { IfOk result (λ x. x.1.opening + widths said.new.items ≤ length text.now) }
 {
     let rest = word(text, &['<'])?;
     let (name, written, rest) = own_qname(alloc, rest)?;

@@ -37,8 +37,8 @@ pub fn ascii(bytes: &[u8; 64], len: usize) -> &str
 // Writes characters as bytes, and answers whether all are ASCII, so that they are.
 fn narrowed(run: &[char], bytes: &mut [u8; 64]) -> bool
     requires { length run.now ≤ 64 }
-    ensures bytes { IsTrue result → take (length run.now) bytes.new ≡ run.now }
-    ensures ascii { IsTrue result → IsTrue (list_all is_ascii run.now) }
+    ensures copies_the_ascii_run { IsTrue result → take (length run.now) bytes.new ≡ run.now }
+    ensures is_ascii_alone { IsTrue result → IsTrue (list_all is_ascii run.now) }
 {
     for (i, &c) in run.iter().enumerate() {
         if !is_ascii(c) {

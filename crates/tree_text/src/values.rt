@@ -31,8 +31,8 @@ fn digit(c: char, hexadecimal: bool) -> Option<u32>
 }
 
 fn base(hexadecimal: bool) -> u32
-    ensures value { result ≡ (digits_of hexadecimal).base }
-    ensures small { result ≤ 16 }
+    ensures base_of_the_digits { result ≡ (digits_of hexadecimal).base }
+    ensures is_small { result ≤ 16 }
 {
     if hexadecimal { 16 } else { 10 }
 }

@@ -32,8 +32,8 @@ fn colon_follows(text: &[char]) -> bool
 /// A name, with a prefix or without, and what follows it.
 #[tactic(auto, using(crate::proofs::NameLemmas::prefixed_size))]
 pub fn qname(text: &[char]) -> Result<(Written<'_>, &[char]), Stop<'_>>
-    ensures read { Gives (λ x. (name_in x.0, x.1.now)) result (read_qname text.now) }
-    ensures sizes { IfOk result (λ x. length (written (name_in x.0)) + length x.1.now ≡ length text.now) }
+    ensures reads_as_the_rule_does { Gives (λ x. (name_in x.0, x.1.now)) result (read_qname text.now) }
+    ensures lengths_add_up { IfOk result (λ x. length (written (name_in x.0)) + length x.1.now ≡ length text.now) }
 {
     let (first, rest) = name(text)?;
     if !colon_follows(rest) {
@@ -139,9 +139,9 @@ fn unprefixed<'a>(text: &'a [char], rest: &[char]) -> Written<'a>
 /// and are read in one pass.
 #[inline(always)]
 pub fn own_qname(alloc: Global, text: &[char]) -> Result<(Name, Written<'_>, &[char]), Stop<'_>>
-    ensures read { Gives (λ x. (x.0, x.2.now)) result (read_qname text.now) }
-    ensures written { IfOk result (λ x. x.0 ≡ name_in x.1) }
-    ensures sizes { IfOk result (λ x. length (written x.0) + length x.2.now ≡ length text.now) }
+    ensures reads_as_the_rule_does { Gives (λ x. (x.0, x.2.now)) result (read_qname text.now) }
+    ensures name_is_as_written { IfOk result (λ x. x.0 ≡ name_in x.1) }
+    ensures lengths_add_up { IfOk result (λ x. length (written x.0) + length x.2.now ≡ length text.now) }
 {
     let mut bytes = [0; 64];
     let (plain, rest) = plain_in_name(text, &mut bytes);

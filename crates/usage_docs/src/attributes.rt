@@ -12,8 +12,8 @@ impl Key {
     /// The local name of the attribute. Takes no memory.
     #[tactic(auto, unfolding(crate::specs::Keys::word))]
     pub fn word(self) -> &'static str
-        ensures value { result.now ≡ word self }
-        ensures ascii { IsTrue (is_ascii result.now) }
+        ensures word_that_is_due { result.now ≡ word self }
+        ensures is_ascii_alone { IsTrue (is_ascii result.now) }
     {
         match self {
             Key::Name => "name",

@@ -70,8 +70,8 @@ fn capabilities(alloc: Global) -> Result<Element, NoMemory>
 /// # Errors
 /// `NoMemory` for want of memory.
 pub fn caps(alloc: Global) -> Result<Element, NoMemory>
-    ensures tree { IfOk result (λ root. root ≡ capabilities) }
-    ensures text { IfOk result (λ root. print root ≡ capabilities_text) }
+    ensures makes_the_document { IfOk result (λ root. root ≡ capabilities) }
+    ensures prints_as_said { IfOk result (λ root. print root ≡ capabilities_text) }
 {
     let root = capabilities(alloc)?;
     Ok(root)

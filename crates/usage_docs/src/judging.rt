@@ -28,7 +28,7 @@ pub enum Fault {
 /// `NoMemory` for want of memory.
 pub fn judge(alloc: Global, usage: Usage, root: &Element) -> Result<Option<Fault>, NoMemory>
     requires low { height root.now ≤ 64 }
-    ensures judged { IfOk result (λ fault. Judged usage root.now fault) }
+    ensures judges_the_tree { IfOk result (λ fault. Judged usage root.now fault) }
 {
     if !schema(alloc, usage, root)? {
         return Ok(Some(Fault::Invalid));

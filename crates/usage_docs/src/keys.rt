@@ -33,8 +33,8 @@ fn is_first<'a>(
     kind: Kind,
     value: &'a Text,
 ) -> Result<bool, NoMemory>
-    ensures first { (ms : List Mark) → Holds ms seen.old → IfOk result (λ first. IsTrue (not first) ↔ IsAmong ms (mark kind value.now)) }
-    ensures holds { (ms : List Mark) → Holds ms seen.old → OnOk result (Holds (ms ++ mark kind value.now ∷ []) seen.new) }
+    ensures tells_the_first { (ms : List Mark) → Holds ms seen.old → IfOk result (λ first. IsTrue (not first) ↔ IsAmong ms (mark kind value.now)) }
+    ensures holds_those_seen { (ms : List Mark) → Holds ms seen.old → OnOk result (Holds (ms ++ mark kind value.now ∷ []) seen.new) }
 {
     let first = seen.insert(Keyed { kind, value })?;
     Ok(first)
@@ -46,8 +46,8 @@ fn repeated_key<'a>(
     kind: Kind,
     attrs: &'a [Attr],
 ) -> Result<Option<Key>, NoMemory>
-    ensures repeats { (ms : List Mark) → Holds ms seen.old → IfOk result (λ found. RepeatedKey ms kind attrs.now found) }
-    ensures holds { (ms : List Mark) → Holds ms seen.old → IfOk result (λ found. found ≡ None → Holds (ms ++ own_marks kind attrs.now) seen.new) }
+    ensures tells_the_repeated_key { (ms : List Mark) → Holds ms seen.old → IfOk result (λ found. RepeatedKey ms kind attrs.now found) }
+    ensures holds_those_seen { (ms : List Mark) → Holds ms seen.old → IfOk result (λ found. found ≡ None → Holds (ms ++ own_marks kind attrs.now) seen.new) }
 {
     let Some(key) = key_of(kind) else {
         return Ok(None);
@@ -72,8 +72,8 @@ fn clash_at<'a>(
     here: Path,
 ) -> Result<Option<Clash>, NoMemory>
     requires { length here + content_height kid.now.content ≤ 64 }
-    ensures first { (ms : List Mark) → Holds ms seen.old → IfOk result (λ found. IsFirst (RepeatsHere row scope.now ms kid.now) here found) }
-    ensures holds { (ms : List Mark) → Holds ms seen.old → IfOk result (λ found. found ≡ None → Holds (ms ++ marks_of row scope.now (kid.now ∷ [])) seen.new) }
+    ensures tells_the_first { (ms : List Mark) → Holds ms seen.old → IfOk result (λ found. IsFirst (RepeatsHere row scope.now ms kid.now) here found) }
+    ensures holds_those_seen { (ms : List Mark) → Holds ms seen.old → IfOk result (λ found. found ≡ None → Holds (ms ++ marks_of row scope.now (kid.now ∷ [])) seen.new) }
 {
     let declared = Declared::indexed(alloc, kid.decls())?;
     let inside = (&*scope).inside(&declared);
@@ -145,7 +145,7 @@ pub fn clash_below(
     path: &Path,
 ) -> Result<Option<Clash>, NoMemory>
     requires low { length path.now + content_height element.now.content ≤ 64 }
-    ensures first { IfOk result (λ found. IsFirst (RepeatsAt row scope.now (kids_of element.now)) path.now found) }
+    ensures tells_the_first { IfOk result (λ found. IsFirst (RepeatsAt row scope.now (kids_of element.now)) path.now found) }
 {
     clash_inside(alloc, row, scope, element, path)
 }

@@ -7,6 +7,6 @@ ghost use Rattle.usage_docs.specs.declared.judging.Fault.{Fault};
 
 /// A law: each tree has exactly one judgement: one first fault, or none.
 pub fn each_tree_has_one_judgement()
-    ensures some { (usage : Usage) (t : Tree) → (fault : Option Fault) × Judged usage t fault }
-    ensures one { (usage : Usage) (t : Tree) (one other : Option Fault) → Judged usage t one → Judged usage t other → one ≡ other }
+    ensures there_is_a_judgement { (usage : Usage) (t : Tree) → (fault : Option Fault) × Judged usage t fault }
+    ensures answer_is_one { (usage : Usage) (t : Tree) (one other : Option Fault) → Judged usage t one → Judged usage t other → one ≡ other }
 {}

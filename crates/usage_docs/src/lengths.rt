@@ -28,8 +28,8 @@ struct Outer<'a> {
 impl<'a> Outer<'a> {
     // What the services of a root with these declarations are counted from.
     fn new(alloc: Global, decls: &'a [Decl]) -> Result<Outer<'a>, NoMemory>
-        ensures is { IfOk result CountsFrom }
-        ensures of { IfOk result (λ made. made.decls.now ≡ decls.now) }
+        ensures counts_from_these { IfOk result CountsFrom }
+        ensures counts_in_these_declarations { IfOk result (λ made. made.decls.now ≡ decls.now) }
     {
         let bindings = Scope::empty().with(decls).bindings(alloc)?;
         let len = decls_len(&bindings);

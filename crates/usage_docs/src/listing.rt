@@ -153,10 +153,10 @@ impl IndexMaker {
     /// `TooLarge` exactly where the printed index would have more than 16,777,216 bytes, with their number; else `NoMemory`.
     /// The index is then as before.
     pub fn add(&mut self, root: &Element) -> Result<(), ReadError<IndexFault>>
-        ensures ok { OnOk result (self.new ≡ self.old ++ listed root.now) }
-        ensures err { OnErr result (self.new ≡ self.old) }
-        ensures fits { OnOk result (index_len self.new ≤ index_limit) }
-        ensures refused { IfErr result (λ error. OfFault (RefusesServices (self.old ++ listed root.now)) error) }
+        ensures adds_the_services { OnOk result (self.new ≡ self.old ++ listed root.now) }
+        ensures failure_changes_nothing { OnErr result (self.new ≡ self.old) }
+        ensures stays_within_the_limit { OnOk result (index_len self.new ≤ index_limit) }
+        ensures refused_as_too_long { IfErr result (λ error. OfFault (RefusesServices (self.old ++ listed root.now)) error) }
     {
         let inner = self.inner.saturating_add(listed_len(self.alloc, root)?);
         let len = len_with(inner);
@@ -172,8 +172,8 @@ impl IndexMaker {
 
     /// The index. Takes no memory.
     pub fn finish(self) -> Element
-        ensures index { result ≡ index_of self }
-        ensures text { print result ≡ index_text self }
+        ensures makes_the_index { result ≡ index_of self }
+        ensures prints_as_said { print result ≡ index_text self }
     {
         let IndexMaker { root, .. } = self;
         root

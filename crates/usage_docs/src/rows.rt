@@ -53,8 +53,8 @@ const SERVICES: &str = "urn:ietf:params:xml:ns:rls-services";
 // The namespace of resource-lists.
 #[tactic(auto, unfolding(crate::specs::Rows::lists_space))]
 pub(crate) fn lists_space() -> &'static str
-    ensures value { result.now ≡ lists_space }
-    ensures ascii { IsTrue (is_ascii result.now) }
+    ensures word_that_is_due { result.now ≡ lists_space }
+    ensures is_ascii_alone { IsTrue (is_ascii result.now) }
 {
     LISTS
 }
@@ -62,8 +62,8 @@ pub(crate) fn lists_space() -> &'static str
 // The namespace of rls-services.
 #[tactic(auto, unfolding(crate::specs::Rows::services_space))]
 pub(crate) fn services_space() -> &'static str
-    ensures value { result.now ≡ services_space }
-    ensures ascii { IsTrue (is_ascii result.now) }
+    ensures word_that_is_due { result.now ≡ services_space }
+    ensures is_ascii_alone { IsTrue (is_ascii result.now) }
 {
     SERVICES
 }
@@ -82,8 +82,8 @@ pub fn root_kind(usage: Usage) -> Kind
 // The local name of a document's root.
 #[tactic(auto, unfolding(crate::specs::Rows::root_kind, crate::specs::Rows::word_of))]
 fn root_word(usage: Usage) -> &'static str
-    ensures value { result.now ≡ word_of (root_kind usage) }
-    ensures ascii { IsTrue (is_ascii result.now) }
+    ensures word_that_is_due { result.now ≡ word_of (root_kind usage) }
+    ensures is_ascii_alone { IsTrue (is_ascii result.now) }
 {
     match usage {
         Usage::ResourceLists => "resource-lists",
@@ -94,8 +94,8 @@ fn root_word(usage: Usage) -> &'static str
 // The namespace of a row's children.
 #[tactic(auto, unfolding(crate::specs::Rows::space_of_children))]
 fn own_space(row: Kind) -> &'static str
-    ensures value { result.now ≡ space_of_children row }
-    ensures ascii { IsTrue (is_ascii result.now) }
+    ensures word_that_is_due { result.now ≡ space_of_children row }
+    ensures is_ascii_alone { IsTrue (is_ascii result.now) }
 {
     match row {
         Kind::ResourceLists

@@ -46,9 +46,9 @@ fn follow(
     change: &Change,
     number: u64,
 ) -> Result<bool, AllocError>
-    ensures ok { IfOk result (λ stays. HoldsEdited change.now number (Some (held_of held.old))
+    ensures holds_the_edited_tree { IfOk result (λ stays. HoldsEdited change.now number (Some (held_of held.old))
         (if stays then Some (held_of held.new) else None)) }
-    ensures err { OnErr result (held.new ≡ held.old) }
+    ensures failure_changes_nothing { OnErr result (held.new ≡ held.old) }
 {
     if !fits(&held.tree, change) {
         return Ok(false);
@@ -79,17 +79,17 @@ impl Mirror {
 
     // Holds nothing of a document.
     fn forget(&mut self, doc: &DocId)
-        ensures gone { held_in self.new doc.now ≡ None }
-        ensures others { OthersStay self.old doc.now self.new }
+        ensures document_is_forgotten { held_in self.new doc.now ≡ None }
+        ensures other_documents_stay { OthersStay self.old doc.now self.new }
     {
         self.held.swap_remove(doc);
     }
 
     // Holds a document that was made; nothing of it, where its tree is too deep.
     fn begin(&mut self, doc: &DocId, root: &Element, number: u64) -> Result<(), AllocError>
-        ensures ok { OnOk result (HoldsLow root.now number (held_in self.new doc.now)) }
-        ensures others { OthersStay self.old doc.now self.new }
-        ensures err { OnErr result (HoldsSame self.old self.new) }
+        ensures holds_the_new_tree { OnOk result (HoldsLow root.now number (held_in self.new doc.now)) }
+        ensures other_documents_stay { OthersStay self.old doc.now self.new }
+        ensures failure_changes_nothing { OnErr result (HoldsSame self.old self.new) }
     {
         if depth(root) > MAX_DEPTH {
             self.forget(doc);
@@ -104,9 +104,9 @@ impl Mirror {
     // Makes a change of what is held of a document; nothing is held of it where there is nothing to change, or where the
     // change doesn't fit or makes the tree too deep.
     fn go_on(&mut self, doc: &DocId, change: &Change, number: u64) -> Result<(), AllocError>
-        ensures ok { OnOk result (HoldsEdited change.now number (held_in self.old doc.now) (held_in self.new doc.now)) }
-        ensures others { OthersStay self.old doc.now self.new }
-        ensures err { OnErr result (HoldsSame self.old self.new) }
+        ensures holds_the_edited_tree { OnOk result (HoldsEdited change.now number (held_in self.old doc.now) (held_in self.new doc.now)) }
+        ensures other_documents_stay { OthersStay self.old doc.now self.new }
+        ensures failure_changes_nothing { OnErr result (HoldsSame self.old self.new) }
     {
         let alloc = self.alloc;
         let Some(held) = self.held.get_mut(doc) else {
@@ -121,9 +121,9 @@ impl Mirror {
     }
 
     fn mirror(&mut self, doc: &DocId, note: &EditNote) -> Result<(), AllocError>
-        ensures ok { OnOk result (HoldsAfter note.now.change note.now.next (held_in self.old doc.now) (held_in self.new doc.now)) }
-        ensures others { OthersStay self.old doc.now self.new }
-        ensures err { OnErr result (HoldsSame self.old self.new) }
+        ensures holds_the_tree_after { OnOk result (HoldsAfter note.now.change note.now.next (held_in self.old doc.now) (held_in self.new doc.now)) }
+        ensures other_documents_stay { OthersStay self.old doc.now self.new }
+        ensures failure_changes_nothing { OnErr result (HoldsSame self.old self.new) }
     {
         match &note.change {
             Change::CreateDocument { root } => self.begin(doc, root, note.next),
@@ -147,7 +147,7 @@ impl Watcher for Mirror {
 
     fn told(&mut self, doc: &DocId, note: &EditNote) -> Told
         ensures never_fails { NeverFails result }
-        ensures mirrors { Mirrors self.old (record { doc = doc.now; note = note.now }) result self.new }
+        ensures mirrors_the_edit { Mirrors self.old (record { doc = doc.now; note = note.now }) result self.new }
     {
         match self.mirror(doc, note) {
             Ok(()) => Told::Kept,

@@ -48,8 +48,8 @@ impl Recorder {
     }
 
     fn keep(&mut self, doc: &DocId, note: &EditNote) -> Result<(), AllocError>
-        ensures ok { OnOk result (self.new ≡ self.old ++ record { doc = doc.now; note = note.now } ∷ []) }
-        ensures err { OnErr result (self.new ≡ self.old) }
+        ensures keeps_the_edit { OnOk result (self.new ≡ self.old ++ record { doc = doc.now; note = note.now } ∷ []) }
+        ensures failure_changes_nothing { OnErr result (self.new ≡ self.old) }
     {
         let doc = doc.copy(self.alloc)?;
         let note = note.copy(self.alloc)?;
@@ -72,8 +72,8 @@ impl Watcher for Recorder {
     ghost holds = { λ _ _. None };
 
     fn told(&mut self, doc: &DocId, note: &EditNote) -> Told
-        ensures kept { result ≡ Told.Kept → self.new ≡ self.old ++ record { doc = doc.now; note = note.now } ∷ [] }
-        ensures wanted { result ≢ Told.Kept → (result ≡ Told.NoMemory) × (self.new ≡ self.old) }
+        ensures kept_edit_is_listed { result ≡ Told.Kept → self.new ≡ self.old ++ record { doc = doc.now; note = note.now } ∷ [] }
+        ensures not_kept_for_want_of_memory { result ≢ Told.Kept → (result ≡ Told.NoMemory) × (self.new ≡ self.old) }
         ensures never_fails { NeverFails result }
     {
         match self.keep(doc, note) {

@@ -7,8 +7,8 @@ use notes::Edit;
 
 // Tells a watcher of a change, and answers whether it kept it.
 fn tell(watcher: &mut Box<dyn Watcher>, edit: &Edit) -> bool
-    ensures kept { IsTrue result → HasKept told_list faults never_refuses answers written edit.now watcher.old watcher.new }
-    ensures left { result ≡ false → HasLeft told_list faults never_refuses answers written edit.now watcher.old watcher.new }
+    ensures keeper_has_kept { IsTrue result → HasKept told_list faults never_refuses answers written edit.now watcher.old watcher.new }
+    ensures leaver_has_left { result ≡ false → HasLeft told_list faults never_refuses answers written edit.now watcher.old watcher.new }
 {
     watcher.told(&edit.doc, &edit.note) == Told::Kept
 }
@@ -16,8 +16,8 @@ fn tell(watcher: &mut Box<dyn Watcher>, edit: &Edit) -> bool
 /// Tells each watcher of a change, in order, and answers how many left: exactly those that answered other than `Kept` leave
 /// the list, and the others keep their order. Takes no memory of its own.
 pub fn tell_all(watchers: &mut Vec<Box<dyn Watcher>>, edit: &Edit) -> usize
-    ensures told { AreTold told_list faults never_refuses answers written edit.now watchers.old.items watchers.new.items result }
-    ensures kept { AreKept told_list faults never_refuses answers written (edit.now ∷ []) watchers.old.items watchers.new.items }
+    ensures told_of_the_edit { AreTold told_list faults never_refuses answers written edit.now watchers.old.items watchers.new.items result }
+    ensures keeps_by_the_watchers { AreKept told_list faults never_refuses answers written (edit.now ∷ []) watchers.old.items watchers.new.items }
 {
     let mut kept = 0;
     let mut left = 0;

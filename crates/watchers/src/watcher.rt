@@ -47,13 +47,13 @@ pub trait Watcher: Drop {
     /// Tells it of a change. `Kept` puts the change behind those that it was told, and the change's line behind the bytes
     /// that it wrote. `Failed` comes only where its count of faults rose.
     fn told(&mut self, doc: &DocId, note: &EditNote) -> Told
-        ensures kept { result ≡ Told.Kept
+        ensures kept_edit_is_listed { result ≡ Told.Kept
             → told_list self.new ≡ with_edit (told_list self.old) (record { doc = doc.now; note = note.now }) }
-        ensures failed { result ≡ Told.Failed → Rose (faults self.old) (faults self.new) }
-        ensures counts { faults self.old ≤ faults self.new }
-        ensures never { never_refuses self.old → (result ≡ Told.Kept) × never_refuses self.new }
-        ensures wrote { Wrote (written self.old) (record { doc = doc.now; note = note.now }) result (written self.new) }
-        ensures answers { answers self.old (record { doc = doc.now; note = note.now }) result };
+        ensures failure_has_a_cause { result ≡ Told.Failed → Rose (faults self.old) (faults self.new) }
+        ensures counts_each_failure { faults self.old ≤ faults self.new }
+        ensures never_refuses_where_it_says_so { never_refuses self.old → (result ≡ Told.Kept) × never_refuses self.new }
+        ensures writes_its_line { Wrote (written self.old) (record { doc = doc.now; note = note.now }) result (written self.new) }
+        ensures answers_as_its_kind_does { answers self.old (record { doc = doc.now; note = note.now }) result };
 
     /// The tree that it holds of a document, and the number of the change that made it; None for a watcher that holds no
     /// trees. Takes no memory.

@@ -34,7 +34,7 @@ pub(crate) fn run_fetch<C: Peer, O: Sink>(
     peer: &mut C,
     output: &mut O,
 ) -> Exit
-    ensures runs { RunsFetch asker.now path.now result (C.state peer.old) (C.state peer.new) (O.state output.old) (O.state output.new) }
+    ensures runs_the_command { RunsFetch asker.now path.now result (C.state peer.old) (C.state peer.new) (O.state output.old) (O.state output.new) }
 {
     exit_of(fetch_from(alloc, asker, path, peer, output))
 }
@@ -47,7 +47,7 @@ pub(crate) fn run_delete<C: Peer, O: Sink>(
     peer: &mut C,
     output: &mut O,
 ) -> Exit
-    ensures runs { RunsDelete asker.now path.now result (C.state peer.old) (C.state peer.new) (O.state output.old) (O.state output.new) }
+    ensures runs_the_command { RunsDelete asker.now path.now result (C.state peer.old) (C.state peer.new) (O.state output.old) (O.state output.new) }
 {
     exit_of(delete_at(alloc, asker, path, peer, output))
 }
@@ -62,7 +62,7 @@ pub(crate) fn run_put<C: Peer, I: Source, O: Sink>(
     input: &mut I,
     output: &mut O,
 ) -> Exit
-    ensures runs { RunsPut asker.now path.now media.now result (C.state peer.old) (C.state peer.new)
+    ensures runs_the_command { RunsPut asker.now path.now media.now result (C.state peer.old) (C.state peer.new)
         (I.state input.old) (I.state input.new) (O.state output.old) (O.state output.new) }
 {
     exit_of(put_at(alloc, asker, path, media, peer, input, output))
@@ -143,7 +143,7 @@ pub(crate) fn run_follow<C: Peer, O: Sink>(
     peer: &mut C,
     output: &mut O,
 ) -> Exit
-    ensures runs { RunsFollow asker.now document.now rounds result (C.state peer.old) (C.state peer.new) (O.state output.old) (O.state output.new) }
+    ensures runs_the_command { RunsFollow asker.now document.now rounds result (C.state peer.old) (C.state peer.new) (O.state output.old) (O.state output.new) }
 {
     match document_of(alloc, &asker.root, document) {
         Ok(Some(doc)) => exit_of(follow(alloc, asker, &doc, rounds, peer, output)),

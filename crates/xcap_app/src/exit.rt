@@ -75,8 +75,8 @@ impl Exit {
     /// `NoMemory` for want of memory, which only the words of a refusal and of a call that failed take.
     #[tactic(auto, unfolding(crate::specs::Exits::usage_line))]
     pub(crate) fn words(&self, alloc: Global) -> Result<Words, AllocError>
-        ensures words { IfOk result (λ words. said words ≡ words_of self.now) }
-        ensures refused { OnErr result (IsRefused self.now) }
+        ensures words_of_the_exit { IfOk result (λ words. said words ≡ words_of self.now) }
+        ensures wants_memory_of_refusals_alone { OnErr result (IsRefused self.now) }
     {
         match self {
             Exit::Done => Ok(Words::Fixed(b"")),

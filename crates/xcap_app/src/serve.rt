@@ -17,7 +17,7 @@ use xcap_uri::Root;
 
 // Writes how many connections were served.
 fn write_served<O: Sink>(output: &mut O, connections: u64) -> Result<(), Failed>
-    ensures bytes { WritesAll (O.state output.old).taken (O.state output.new).taken result (served_line connections) }
+    ensures writes_all_or_a_proper_front { WritesAll (O.state output.old).taken (O.state output.new).taken result (served_line connections) }
     ensures only_writes { OnlyWrites (O.state output.old) (O.state output.new) result }
 {
     let mut digits = Buffer::new();

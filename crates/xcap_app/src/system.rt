@@ -35,13 +35,13 @@ pub fn run_on_system<N: Net + Clock + Drop, I: Read, O: Write, E: Write, W: Watc
     requires none_begun { (⟦<TcpPort<N> as Line>⟧.state port.old).port.begun ≡ none_begun }
     requires none_given { (⟦<StdSource<I> as Line>⟧.state input.old).inward.given ≡ [] }
     requires none_taken { (⟦<StdSink<O> as Line>⟧.state output.old).taken ≡ [] }
-    ensures done { result ≡ 0 → IsDone W.keeps (command_of (map string_bytes words.now))
+    ensures done_at_status_0 { result ≡ 0 → IsDone W.keeps (command_of (map string_bytes words.now))
         (⟦<TcpPort<N> as Line>⟧.state port.old) (⟦<TcpPort<N> as Line>⟧.state port.new)
         (⟦<TcpPeer<N> as Line>⟧.state peer.old) (⟦<TcpPeer<N> as Line>⟧.state peer.new)
         (⟦<StdSource<I> as Line>⟧.state input.old) (⟦<StdSource<I> as Line>⟧.state input.new)
         (⟦<StdSink<O> as Line>⟧.state output.old) (⟦<StdSink<O> as Line>⟧.state output.new)
         watchers.old watchers.new }
-    ensures ends { (exit : Exit) × (result ≡ status_of exit) × Runs W.keeps (command_of (map string_bytes words.now)) exit
+    ensures ends_with_the_status_of_its_exit { (exit : Exit) × (result ≡ status_of exit) × Runs W.keeps (command_of (map string_bytes words.now)) exit
         (⟦<TcpPort<N> as Line>⟧.state port.old) (⟦<TcpPort<N> as Line>⟧.state port.new)
         (⟦<TcpPeer<N> as Line>⟧.state peer.old) (⟦<TcpPeer<N> as Line>⟧.state peer.new)
         (⟦<StdSource<I> as Line>⟧.state input.old) (⟦<StdSource<I> as Line>⟧.state input.new)

@@ -25,8 +25,8 @@ fn tell<E: Sink>(errors: &mut E, words: &[u8])
 
 /// Tells how a run ends, and answers it. Where the words of a refusal find no memory, the run ends with that.
 pub(crate) fn tell_exit<E: Sink>(alloc: Global, errors: &mut E, exit: Exit) -> Exit
-    ensures told { IsTold exit result }
-    ensures words { Tells (words_of result) (E.state errors.old) (E.state errors.new) }
+    ensures told_or_without_its_words { IsTold exit result }
+    ensures tells_the_words { Tells (words_of result) (E.state errors.old) (E.state errors.new) }
 {
     match exit.words(alloc) {
         Ok(words) => {

@@ -112,7 +112,7 @@ pub fn run<P: Port, C: Peer, I: Source, O: Sink, E: Sink, W: Watchers<Edit>>(
     errors: &mut E,
     watchers: &mut W,
 ) -> u8
-    ensures ends { (exit : Exit) × (result ≡ status_of exit)
+    ensures ends_with_the_status_of_its_exit { (exit : Exit) × (result ≡ status_of exit)
         × Runs W.keeps (command_of (map string_bytes words.now)) exit (P.state port.old) (P.state port.new)
         (C.state peer.old) (C.state peer.new) (I.state input.old) (I.state input.new) (O.state output.old) (O.state output.new) watchers.old watchers.new
         × Tells (words_of exit) (E.state errors.old) (E.state errors.new) }

@@ -22,8 +22,8 @@ pub fn copy_user(alloc: Global, user: Option<&str>) -> Result<Option<Text>, NoMe
 }
 
 pub fn getting(alloc: Global, user: Option<&str>, path: &str) -> Result<Ask, NoMemory>
-    ensures value { IfOk result (λ ask. ask ≡ getting (option_map (λ name. chars name.now) user.entry) (chars path.now)) }
-    ensures lawful { IfOk result IsLawful }
+    ensures asks_as_said { IfOk result (λ ask. ask ≡ getting (option_map (λ name. chars name.now) user.entry) (chars path.now)) }
+    ensures ask_is_lawful { IfOk result IsLawful }
 {
     Ok(Ask {
         method: Text::from(alloc, "GET")?,
@@ -35,8 +35,8 @@ pub fn getting(alloc: Global, user: Option<&str>, path: &str) -> Result<Ask, NoM
 }
 
 pub fn removing(alloc: Global, user: Option<&str>, path: &str) -> Result<Ask, NoMemory>
-    ensures value { IfOk result (λ ask. ask ≡ removing (option_map (λ name. chars name.now) user.entry) (chars path.now)) }
-    ensures lawful { IfOk result IsLawful }
+    ensures asks_as_said { IfOk result (λ ask. ask ≡ removing (option_map (λ name. chars name.now) user.entry) (chars path.now)) }
+    ensures ask_is_lawful { IfOk result IsLawful }
 {
     Ok(Ask {
         method: Text::from(alloc, "DELETE")?,
@@ -54,8 +54,8 @@ pub fn putting(
     media: &str,
     body: &[u8],
 ) -> Result<Ask, NoMemory>
-    ensures value { IfOk result (λ ask. ask ≡ putting (option_map (λ name. chars name.now) user.entry) (chars path.now) (chars media.now) body.now) }
-    ensures lawful { IfOk result IsLawful }
+    ensures asks_as_said { IfOk result (λ ask. ask ≡ putting (option_map (λ name. chars name.now) user.entry) (chars path.now) (chars media.now) body.now) }
+    ensures ask_is_lawful { IfOk result IsLawful }
 {
     Ok(Ask {
         method: Text::from(alloc, "PUT")?,

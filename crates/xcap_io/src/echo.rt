@@ -9,8 +9,8 @@ use crate::{Failed, Sink, Source, write_all};
 #[tactic(auto)]
 pub fn echo_once<L: Source + Sink>(line: &mut L, buf: &mut [u8]) -> Result<usize, Failed>
     requires { 0 < length buf.old }
-    ensures bytes { Echoes (L.state line.old) (L.state line.new) result }
-    ensures failed { FailsWithCause (L.state line.old) (L.state line.new) result }
+    ensures echoes_what_was_read { Echoes (L.state line.old) (L.state line.new) result }
+    ensures fails_with_a_cause { FailsWithCause (L.state line.old) (L.state line.new) result }
 {
     let count = line.read(buf)?;
     write_all(line, &buf[..count])?;

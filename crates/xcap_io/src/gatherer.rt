@@ -68,8 +68,8 @@ impl Gatherer {
 /// Hands over what is held. After `Ok` nothing is held; after `Failed` a proper prefix of it was taken.
 #[tactic(auto, using(crate::proofs::Adding::adding))]
 pub fn flush<S: Sink>(sink: &mut S, gatherer: &mut Gatherer) -> Result<(), Failed>
-    ensures adds { Adds (S.state sink.old) gatherer.old (S.state sink.new) gatherer.new result [] }
-    ensures none { OnOk result (gatherer.new ≡ []) }
+    ensures holds_what_was_not_handed_over { Adds (S.state sink.old) gatherer.old (S.state sink.new) gatherer.new result [] }
+    ensures leaves_nothing_gathered { OnOk result (gatherer.new ≡ []) }
 {
     write_all(sink, gatherer.as_slice())?;
     gatherer.clear();

@@ -13,9 +13,9 @@ pub struct Failed;
 
 /// Counts one fault more, which the greatest `u64` bounds.
 pub fn fault(count: &mut u64) -> Failed
-    ensures value { count.new ≡ one_more count.old }
-    ensures later { count.old ≤ count.new }
-    ensures rose { Rose count.old count.new }
+    ensures counts_one_more { count.new ≡ one_more count.old }
+    ensures count_never_falls { count.old ≤ count.new }
+    ensures count_rose { Rose count.old count.new }
 {
     *count = count.saturating_add(1);
     Failed
@@ -32,8 +32,8 @@ pub trait Source: Line {
     /// `Ok(0)` is the end of the input. A failed read takes no byte.
     fn read(&mut self, buf: &mut [u8]) -> Result<usize, Failed>
         requires { 0 < length buf.old }
-        ensures bound { ReadsAtMost result buf.new }
-        ensures bytes { ReadGave (Self.state self.old).inward (Self.state self.new).inward result buf.new }
+        ensures within_the_piece_or_buffer { ReadsAtMost result buf.new }
+        ensures gives_bytes_behind_those_before { ReadGave (Self.state self.old).inward (Self.state self.new).inward result buf.new }
         ensures only_reads { OnlyReads (Self.state self.old) (Self.state self.new) result };
 }
 
@@ -43,8 +43,8 @@ pub trait Sink: Line {
     /// A device that takes none of them has failed. A failed write hands over nothing.
     fn write(&mut self, piece: &[u8]) -> Result<usize, Failed>
         requires { 0 < length piece.now }
-        ensures bound { WritesSome result piece.now }
-        ensures bytes { WriteTook (Self.state self.old).taken (Self.state self.new).taken result piece.now }
+        ensures within_the_piece_or_buffer { WritesSome result piece.now }
+        ensures takes_bytes_behind_those_before { WriteTook (Self.state self.old).taken (Self.state self.new).taken result piece.now }
         ensures only_writes { OnlyWrites (Self.state self.old) (Self.state self.new) result };
 }
 
@@ -52,7 +52,7 @@ pub trait Sink: Line {
 pub trait Port: Source + Sink {
     /// Waits for connections at this address from here on.
     fn listen(&mut self, address: &str) -> Result<(), Failed>
-        ensures listens { Listens (Self.state self.old) (Self.state self.new) result address.now };
+        ensures listens_or_fails_with_a_cause { Listens (Self.state self.old) (Self.state self.new) result address.now };
 
     /// Ends the present connection and begins the next one. False where no connection will come.
     fn next(&mut self) -> Result<bool, Failed>

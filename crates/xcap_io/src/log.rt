@@ -18,28 +18,28 @@ impl Model for Log {
 impl Log {
     /// Nothing has passed.
     pub fn new() -> Log
-        ensures nothing { result.history ≡ no_history }
+        ensures nothing_has_passed { result.history ≡ no_history }
     {
         Log {}
     }
 
     /// A read gave these bytes, and none where it found the end.
     pub fn gave(&mut self, _bytes: &[u8])
-        ensures given { self.new.history ≡ with_given self.old.history _bytes.now }
+        ensures told_as_given { self.new.history ≡ with_given self.old.history _bytes.now }
     {}
 
     /// A write handed these bytes over.
     pub fn took(&mut self, _bytes: &[u8])
-        ensures taken { self.new.history ≡ with_taken self.old.history _bytes.now }
+        ensures told_as_taken { self.new.history ≡ with_taken self.old.history _bytes.now }
     {}
 
     /// The present connection ended, if one was present.
     pub fn end(&mut self)
-        ensures ended { self.new.history ≡ with_end self.old.history }
+        ensures connection_ended { self.new.history ≡ with_end self.old.history }
     {}
 
     /// Another connection began, behind those that ended.
     pub fn begin(&mut self)
-        ensures begun { self.new.history ≡ with_next self.old.history }
+        ensures another_connection_began { self.new.history ≡ with_next self.old.history }
     {}
 }

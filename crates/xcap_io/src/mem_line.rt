@@ -106,8 +106,8 @@ impl Line for MemLine {
 // How many of the wanted bytes a read gives before the place where reads fail; nothing from there on.
 fn most_given(wanted: usize, given: usize, fails_at: Option<usize>) -> Option<usize>
     requires { 0 < wanted }
-    ensures some { IfSome result (λ most. (0 < most) × (most ≤ wanted)) }
-    ensures value { Gives wanted given fails_at result }
+    ensures gives_at_least_one_byte { IfSome result (λ most. (0 < most) × (most ≤ wanted)) }
+    ensures gives_what_memory_gives { Gives wanted given fails_at result }
 {
     match fails_at {
         Some(place) if given >= place => None,
@@ -119,10 +119,10 @@ fn most_given(wanted: usize, given: usize, fails_at: Option<usize>) -> Option<us
 impl Source for MemLine {
     fn read(&mut self, buf: &mut [u8]) -> Result<usize, Failed>
         requires { 0 < length buf.old }
-        ensures bound { ReadsAtMost result buf.new }
-        ensures bytes { ReadGave (line_state self.old).inward (line_state self.new).inward result buf.new }
+        ensures within_the_piece_or_buffer { ReadsAtMost result buf.new }
+        ensures gives_bytes_behind_those_before { ReadGave (line_state self.old).inward (line_state self.new).inward result buf.new }
         ensures only_reads { OnlyReads (line_state self.old) (line_state self.new) result }
-        ensures exact { MemoryRead self.old self.new (length buf.old) result }
+        ensures does_what_memory_does { MemoryRead self.old self.new (length buf.old) result }
     {
         let wanted = buf.len().min(self.step);
         let Some(most) = most_given(wanted, self.given, self.read_fails_at) else {
@@ -139,10 +139,10 @@ impl Source for MemLine {
 impl Sink for MemLine {
     fn write(&mut self, piece: &[u8]) -> Result<usize, Failed>
         requires { 0 < length piece.now }
-        ensures bound { WritesSome result piece.now }
-        ensures bytes { WriteTook (line_state self.old).taken (line_state self.new).taken result piece.now }
+        ensures within_the_piece_or_buffer { WritesSome result piece.now }
+        ensures takes_bytes_behind_those_before { WriteTook (line_state self.old).taken (line_state self.new).taken result piece.now }
         ensures only_writes { OnlyWrites (line_state self.old) (line_state self.new) result }
-        ensures exact { MemoryWrite self.old self.new piece.now result }
+        ensures does_what_memory_does { MemoryWrite self.old self.new piece.now result }
     {
         let count = piece.len().min(self.output.len() - self.held);
         if count == 0 {

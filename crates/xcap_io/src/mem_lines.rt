@@ -80,10 +80,10 @@ impl Line for MemLines {
 impl Source for MemLines {
     fn read(&mut self, buf: &mut [u8]) -> Result<usize, Failed>
         requires { 0 < length buf.old }
-        ensures bound { ReadsAtMost result buf.new }
-        ensures bytes { ReadGave (lines_state self.old).inward (lines_state self.new).inward result buf.new }
+        ensures within_the_piece_or_buffer { ReadsAtMost result buf.new }
+        ensures gives_bytes_behind_those_before { ReadGave (lines_state self.old).inward (lines_state self.new).inward result buf.new }
         ensures only_reads { OnlyReads (lines_state self.old) (lines_state self.new) result }
-        ensures exact { LinesRead self.old.present self.old self.new (length buf.old) result }
+        ensures does_what_memory_does { LinesRead self.old.present self.old self.new (length buf.old) result }
     {
         let Some(at) = self.present else {
             return Ok(0);
@@ -99,10 +99,10 @@ impl Source for MemLines {
 impl Sink for MemLines {
     fn write(&mut self, piece: &[u8]) -> Result<usize, Failed>
         requires { 0 < length piece.now }
-        ensures bound { WritesSome result piece.now }
-        ensures bytes { WriteTook (lines_state self.old).taken (lines_state self.new).taken result piece.now }
+        ensures within_the_piece_or_buffer { WritesSome result piece.now }
+        ensures takes_bytes_behind_those_before { WriteTook (lines_state self.old).taken (lines_state self.new).taken result piece.now }
         ensures only_writes { OnlyWrites (lines_state self.old) (lines_state self.new) result }
-        ensures exact { LinesWrite self.old.present self.old self.new piece.now result }
+        ensures does_what_memory_does { LinesWrite self.old.present self.old self.new piece.now result }
     {
         let Some(at) = self.present else {
             return Err(fault(&mut self.write_faults));

@@ -71,11 +71,11 @@ impl Line for MemPeer {
 impl Source for MemPeer {
     fn read(&mut self, buf: &mut [u8]) -> Result<usize, Failed>
         requires { 0 < length buf.old }
-        ensures bound { ReadsAtMost result buf.new }
-        ensures bytes { ReadGave (peer_state self.old).inward (peer_state self.new).inward result buf.new }
+        ensures within_the_piece_or_buffer { ReadsAtMost result buf.new }
+        ensures gives_bytes_behind_those_before { ReadGave (peer_state self.old).inward (peer_state self.new).inward result buf.new }
         ensures only_reads { OnlyReads (peer_state self.old) (peer_state self.new) result }
-        ensures exact { LinesRead self.old.lines.present self.old.lines self.new.lines (length buf.old) result }
-        ensures rest { self.new ≡ record self.old { lines = self.new.lines } }
+        ensures does_what_memory_does { LinesRead self.old.lines.present self.old.lines self.new.lines (length buf.old) result }
+        ensures nothing_else_changes { self.new ≡ record self.old { lines = self.new.lines } }
     {
         self.lines.read(buf)
     }
@@ -84,11 +84,11 @@ impl Source for MemPeer {
 impl Sink for MemPeer {
     fn write(&mut self, piece: &[u8]) -> Result<usize, Failed>
         requires { 0 < length piece.now }
-        ensures bound { WritesSome result piece.now }
-        ensures bytes { WriteTook (peer_state self.old).taken (peer_state self.new).taken result piece.now }
+        ensures within_the_piece_or_buffer { WritesSome result piece.now }
+        ensures takes_bytes_behind_those_before { WriteTook (peer_state self.old).taken (peer_state self.new).taken result piece.now }
         ensures only_writes { OnlyWrites (peer_state self.old) (peer_state self.new) result }
-        ensures exact { LinesWrite self.old.lines.present self.old.lines self.new.lines piece.now result }
-        ensures rest { self.new ≡ record self.old { lines = self.new.lines } }
+        ensures does_what_memory_does { LinesWrite self.old.lines.present self.old.lines self.new.lines piece.now result }
+        ensures nothing_else_changes { self.new ≡ record self.old { lines = self.new.lines } }
     {
         self.lines.write(piece)
     }
@@ -97,7 +97,7 @@ impl Sink for MemPeer {
 impl Peer for MemPeer {
     fn connect(&mut self, address: &str) -> Result<(), Failed>
         ensures only_connects { OnlyConnects (peer_state self.old) (peer_state self.new) result address.now }
-        ensures exact { MemoryConnect self.old self.new result address.now }
+        ensures does_what_memory_does { MemoryConnect self.old self.new result address.now }
     {
         if is_failing_call(&mut self.until_fault) {
             return Err(fault(&mut self.faults));

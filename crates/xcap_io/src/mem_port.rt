@@ -69,8 +69,8 @@ impl MemPort {
 
 /// Counts a call, of which one fails, and says whether it is this one.
 pub(crate) fn is_failing_call(until_fault: &mut Option<usize>) -> bool
-    ensures now { IsTrue result ↔ (until_fault.old ≡ Some 1) }
-    ensures after { until_fault.new ≡ after_call until_fault.old }
+    ensures tells_whether_this_call_fails { IsTrue result ↔ (until_fault.old ≡ Some 1) }
+    ensures counts_the_call_down { until_fault.new ≡ after_call until_fault.old }
 {
     match *until_fault {
         Some(1) => {
@@ -92,11 +92,11 @@ impl Line for MemPort {
 impl Source for MemPort {
     fn read(&mut self, buf: &mut [u8]) -> Result<usize, Failed>
         requires { 0 < length buf.old }
-        ensures bound { ReadsAtMost result buf.new }
-        ensures bytes { ReadGave (port_state self.old).inward (port_state self.new).inward result buf.new }
+        ensures within_the_piece_or_buffer { ReadsAtMost result buf.new }
+        ensures gives_bytes_behind_those_before { ReadGave (port_state self.old).inward (port_state self.new).inward result buf.new }
         ensures only_reads { OnlyReads (port_state self.old) (port_state self.new) result }
-        ensures exact { LinesRead self.old.lines.present self.old.lines self.new.lines (length buf.old) result }
-        ensures rest { self.new ≡ record self.old { lines = self.new.lines } }
+        ensures does_what_memory_does { LinesRead self.old.lines.present self.old.lines self.new.lines (length buf.old) result }
+        ensures nothing_else_changes { self.new ≡ record self.old { lines = self.new.lines } }
     {
         self.lines.read(buf)
     }
@@ -105,11 +105,11 @@ impl Source for MemPort {
 impl Sink for MemPort {
     fn write(&mut self, piece: &[u8]) -> Result<usize, Failed>
         requires { 0 < length piece.now }
-        ensures bound { WritesSome result piece.now }
-        ensures bytes { WriteTook (port_state self.old).taken (port_state self.new).taken result piece.now }
+        ensures within_the_piece_or_buffer { WritesSome result piece.now }
+        ensures takes_bytes_behind_those_before { WriteTook (port_state self.old).taken (port_state self.new).taken result piece.now }
         ensures only_writes { OnlyWrites (port_state self.old) (port_state self.new) result }
-        ensures exact { LinesWrite self.old.lines.present self.old.lines self.new.lines piece.now result }
-        ensures rest { self.new ≡ record self.old { lines = self.new.lines } }
+        ensures does_what_memory_does { LinesWrite self.old.lines.present self.old.lines self.new.lines piece.now result }
+        ensures nothing_else_changes { self.new ≡ record self.old { lines = self.new.lines } }
     {
         self.lines.write(piece)
     }
@@ -117,8 +117,8 @@ impl Sink for MemPort {
 
 impl Port for MemPort {
     fn listen(&mut self, address: &str) -> Result<(), Failed>
-        ensures listens { Listens (port_state self.old) (port_state self.new) result address.now }
-        ensures exact { MemoryListen self.old self.new result address.now }
+        ensures listens_or_fails_with_a_cause { Listens (port_state self.old) (port_state self.new) result address.now }
+        ensures does_what_memory_does { MemoryListen self.old self.new result address.now }
     {
         if self.listen_fails {
             return Err(fault(&mut self.faults));
@@ -129,7 +129,7 @@ impl Port for MemPort {
 
     fn next(&mut self) -> Result<bool, Failed>
         ensures only_next { OnlyNext (port_state self.old) (port_state self.new) result }
-        ensures exact { MemoryNext self.old self.new result }
+        ensures does_what_memory_does { MemoryNext self.old self.new result }
     {
         if is_failing_call(&mut self.until_fault) {
             return Err(fault(&mut self.faults));

@@ -59,8 +59,8 @@ impl<R: Read> Line for StdSource<R> {
 impl<R: Read> Source for StdSource<R> {
     fn read(&mut self, buf: &mut [u8]) -> Result<usize, Failed>
         requires { 0 < length buf.old }
-        ensures bound { ReadsAtMost result buf.new }
-        ensures bytes { ReadGave (⟦<StdSource<R> as Line>⟧.state self.old).inward
+        ensures within_the_piece_or_buffer { ReadsAtMost result buf.new }
+        ensures gives_bytes_behind_those_before { ReadGave (⟦<StdSource<R> as Line>⟧.state self.old).inward
             (⟦<StdSource<R> as Line>⟧.state self.new).inward result buf.new }
         ensures only_reads { OnlyReads
             (⟦<StdSource<R> as Line>⟧.state self.old) (⟦<StdSource<R> as Line>⟧.state self.new) result }
@@ -123,8 +123,8 @@ impl<W: Write> Line for StdSink<W> {
 impl<W: Write> Sink for StdSink<W> {
     fn write(&mut self, piece: &[u8]) -> Result<usize, Failed>
         requires { 0 < length piece.now }
-        ensures bound { WritesSome result piece.now }
-        ensures bytes { WriteTook (⟦<StdSink<W> as Line>⟧.state self.old).taken
+        ensures within_the_piece_or_buffer { WritesSome result piece.now }
+        ensures takes_bytes_behind_those_before { WriteTook (⟦<StdSink<W> as Line>⟧.state self.old).taken
             (⟦<StdSink<W> as Line>⟧.state self.new).taken result piece.now }
         ensures only_writes { OnlyWrites
             (⟦<StdSink<W> as Line>⟧.state self.old) (⟦<StdSink<W> as Line>⟧.state self.new) result }

@@ -93,11 +93,11 @@ pub(crate) fn read_from<S: Read>(
     faults: &mut u64,
     buf: &mut [u8],
 ) -> Result<usize, Failed>
-    ensures bound { ReadsAtMost result buf.new }
-    ensures counts { Counts faults.old faults.new result }
-    ensures later { faults.old ≤ faults.new }
+    ensures within_the_piece_or_buffer { ReadsAtMost result buf.new }
+    ensures counts_each_failure { Counts faults.old faults.new result }
+    ensures count_never_falls { faults.old ≤ faults.new }
     ensures from_stream { ReadsStream S.remaining stream.old stream.new result buf.new }
-    ensures logged { MatchResult result (λ n. log.new.history ≡ with_given log.old.history (take n buf.new))
+    ensures logs_what_passed { MatchResult result (λ n. log.new.history ≡ with_given log.old.history (take n buf.new))
         (λ _. log.new.history ≡ log.old.history) }
 {
     match stream {
@@ -119,11 +119,11 @@ pub(crate) fn write_to<S: Write>(
     faults: &mut u64,
     piece: &[u8],
 ) -> Result<usize, Failed>
-    ensures bound { WritesSome result piece.now }
-    ensures counts { Counts faults.old faults.new result }
-    ensures later { faults.old ≤ faults.new }
+    ensures within_the_piece_or_buffer { WritesSome result piece.now }
+    ensures counts_each_failure { Counts faults.old faults.new result }
+    ensures count_never_falls { faults.old ≤ faults.new }
     ensures to_stream { WritesStream S.contents stream.old stream.new result piece.now }
-    ensures logged { MatchResult result (λ n. log.new.history ≡ with_taken log.old.history (take n piece.now))
+    ensures logs_what_passed { MatchResult result (λ n. log.new.history ≡ with_taken log.old.history (take n piece.now))
         (λ _. log.new.history ≡ log.old.history) }
 {
     match stream {
@@ -191,8 +191,8 @@ fn has_passed<C: Clock>(clock: &C, moment: Option<Instant>) -> bool {
 impl<N: Net + Clock + Drop> Source for TcpPort<N> {
     fn read(&mut self, buf: &mut [u8]) -> Result<usize, Failed>
         requires { 0 < length buf.old }
-        ensures bound { ReadsAtMost result buf.new }
-        ensures bytes { ReadGave (⟦<TcpPort<N> as Line>⟧.state self.old).inward
+        ensures within_the_piece_or_buffer { ReadsAtMost result buf.new }
+        ensures gives_bytes_behind_those_before { ReadGave (⟦<TcpPort<N> as Line>⟧.state self.old).inward
             (⟦<TcpPort<N> as Line>⟧.state self.new).inward result buf.new }
         ensures only_reads { OnlyReads
             (⟦<TcpPort<N> as Line>⟧.state self.old) (⟦<TcpPort<N> as Line>⟧.state self.new) result }
@@ -209,8 +209,8 @@ impl<N: Net + Clock + Drop> Source for TcpPort<N> {
 impl<N: Net + Clock + Drop> Sink for TcpPort<N> {
     fn write(&mut self, piece: &[u8]) -> Result<usize, Failed>
         requires { 0 < length piece.now }
-        ensures bound { WritesSome result piece.now }
-        ensures bytes { WriteTook (⟦<TcpPort<N> as Line>⟧.state self.old).taken
+        ensures within_the_piece_or_buffer { WritesSome result piece.now }
+        ensures takes_bytes_behind_those_before { WriteTook (⟦<TcpPort<N> as Line>⟧.state self.old).taken
             (⟦<TcpPort<N> as Line>⟧.state self.new).taken result piece.now }
         ensures only_writes { OnlyWrites
             (⟦<TcpPort<N> as Line>⟧.state self.old) (⟦<TcpPort<N> as Line>⟧.state self.new) result }
@@ -231,7 +231,7 @@ impl<N: Net + Clock + Drop> Sink for TcpPort<N> {
 
 impl<N: Net + Clock + Drop> Port for TcpPort<N> {
     fn listen(&mut self, address: &str) -> Result<(), Failed>
-        ensures listens { Listens
+        ensures listens_or_fails_with_a_cause { Listens
             (⟦<TcpPort<N> as Line>⟧.state self.old) (⟦<TcpPort<N> as Line>⟧.state self.new) result address.now }
         ensures has_listener { OnOk result (IsSome self.new.listener) }
         ensures same_listener { OnErr result (self.new.listener ≡ self.old.listener) }
@@ -251,11 +251,11 @@ impl<N: Net + Clock + Drop> Port for TcpPort<N> {
     fn next(&mut self) -> Result<bool, Failed>
         ensures only_next { OnlyNext
             (⟦<TcpPort<N> as Line>⟧.state self.old) (⟦<TcpPort<N> as Line>⟧.state self.new) result }
-        ensures endless { IfOk result (λ begins. IsTrue begins) }
+        ensures never_tells_an_end { IfOk result (λ begins. IsTrue begins) }
         ensures has_listener { OnOk result (IsSome self.old.listener) }
         ensures same_listener { self.new.listener ≡ self.old.listener }
-        ensures begun { OnOk result (IsSome self.new.stream) }
-        ensures ended { OnErr result (self.new.stream ≡ None) }
+        ensures stream_is_there { OnOk result (IsSome self.new.stream) }
+        ensures no_stream_after_a_failure { OnErr result (self.new.stream ≡ None) }
         ensures none_present { OnErr result ((⟦<TcpPort<N> as Line>⟧.state self.new).port.begun
             ≡ record { earlier = carried (⟦<TcpPort<N> as Line>⟧.state self.old); is_present = false }) }
     {

@@ -75,8 +75,8 @@ impl<N: Net + Drop> Line for TcpPeer<N> {
 impl<N: Net + Drop> Source for TcpPeer<N> {
     fn read(&mut self, buf: &mut [u8]) -> Result<usize, Failed>
         requires { 0 < length buf.old }
-        ensures bound { ReadsAtMost result buf.new }
-        ensures bytes { ReadGave (⟦<TcpPeer<N> as Line>⟧.state self.old).inward
+        ensures within_the_piece_or_buffer { ReadsAtMost result buf.new }
+        ensures gives_bytes_behind_those_before { ReadGave (⟦<TcpPeer<N> as Line>⟧.state self.old).inward
             (⟦<TcpPeer<N> as Line>⟧.state self.new).inward result buf.new }
         ensures only_reads { OnlyReads
             (⟦<TcpPeer<N> as Line>⟧.state self.old) (⟦<TcpPeer<N> as Line>⟧.state self.new) result }
@@ -89,8 +89,8 @@ impl<N: Net + Drop> Source for TcpPeer<N> {
 impl<N: Net + Drop> Sink for TcpPeer<N> {
     fn write(&mut self, piece: &[u8]) -> Result<usize, Failed>
         requires { 0 < length piece.now }
-        ensures bound { WritesSome result piece.now }
-        ensures bytes { WriteTook (⟦<TcpPeer<N> as Line>⟧.state self.old).taken
+        ensures within_the_piece_or_buffer { WritesSome result piece.now }
+        ensures takes_bytes_behind_those_before { WriteTook (⟦<TcpPeer<N> as Line>⟧.state self.old).taken
             (⟦<TcpPeer<N> as Line>⟧.state self.new).taken result piece.now }
         ensures only_writes { OnlyWrites
             (⟦<TcpPeer<N> as Line>⟧.state self.old) (⟦<TcpPeer<N> as Line>⟧.state self.new) result }
@@ -109,8 +109,8 @@ impl<N: Net + Drop> Peer for TcpPeer<N> {
     fn connect(&mut self, address: &str) -> Result<(), Failed>
         ensures only_connects { OnlyConnects
             (⟦<TcpPeer<N> as Line>⟧.state self.old) (⟦<TcpPeer<N> as Line>⟧.state self.new) result address.now }
-        ensures begun { OnOk result (IsSome self.new.stream) }
-        ensures ended { OnErr result (self.new.stream ≡ None) }
+        ensures stream_is_there { OnOk result (IsSome self.new.stream) }
+        ensures no_stream_after_a_failure { OnErr result (self.new.stream ≡ None) }
         ensures none_present { OnErr result ((⟦<TcpPeer<N> as Line>⟧.state self.new).peer.begun
             ≡ record { earlier = asked (⟦<TcpPeer<N> as Line>⟧.state self.old); is_present = false }) }
     {

@@ -6,7 +6,7 @@ use crate::{Failed, Sink};
 
 /// Writes all the bytes. At `Failed` a proper prefix of them was taken. Takes no memory.
 pub fn write_all<S: Sink>(sink: &mut S, bytes: &[u8]) -> Result<(), Failed>
-    ensures bytes { WritesAll (S.state sink.old).taken (S.state sink.new).taken result bytes.now }
+    ensures writes_all_or_a_proper_front { WritesAll (S.state sink.old).taken (S.state sink.new).taken result bytes.now }
     ensures only_writes { OnlyWrites (S.state sink.old) (S.state sink.new) result }
 {
     let mut done = 0;

@@ -20,11 +20,11 @@ use watchers::Watchers;
 /// the replies to the items of all bytes, and it doesn't matter which of them were read. Where a read failed, those given count.
 /// The same holds of each connection of a port that knows the bytes of those to come.
 pub fn all_bytes_count<W: Watchers<Edit>>()
-    ensures line { (root : List ℕ) (ended : Ended) (m n : State) (old new : LineState) (a b : W) (bytes : List ℕ)
+    ensures bytes_of_one_line_count { (root : List ℕ) (ended : Ended) (m n : State) (old new : LineState) (a b : W) (bytes : List ℕ)
         → old.inward.left ≡ Some bytes → IsTruthful old.inward
         → (served : ServesLine (InBytes (FollowedStep root)) W.keeps ended m n old new a b)
         → Serves (InBytes (FollowedStep root)) fixed (ending_of ended) m (counted (ending_of ended) bytes served.passed) n served.edits }
-    ensures port { (root : List ℕ) (most : ℕ) (by : Served) (m n : State) (old new : LineState) (a b : W) (all : List (List ℕ))
+    ensures bytes_of_each_connection_count { (root : List ℕ) (most : ℕ) (by : Served) (m n : State) (old new : LineState) (a b : W) (all : List (List ℕ))
         → old.port.to_come ≡ Some all → (served : ServesPort (InBytes (FollowedStep root)) W.keeps most by m n old new a b)
         → (came : List (List ℕ)) × (rest : List (List ℕ)) × (all ≡ came ++ rest) × (new.port.to_come ≡ Some rest)
         × HaveBytes came served.connections × ServesEach (InBytes (FollowedStep root)) fixed m

@@ -26,8 +26,8 @@ fn changes(decision: &Decision) -> bool
 
 // The answer to a request that couldn't be entered.
 fn not_entered(request: &Request) -> Answered<Edit>
-    ensures reply { result.reply ≡ plain 500 request.now.closes }
-    ensures edit { result.edit ≡ None }
+    ensures is_the_500 { result.reply ≡ plain 500 request.now.closes }
+    ensures tells_no_change { result.edit ≡ None }
 {
     Answered {
         reply: Reply::fixed(500, request.closes),

@@ -22,16 +22,16 @@ fn len_before(text: &[u8], stop: u8) -> usize
 
 /// What stands before the first `stop`, and the `stop` with what is behind it, which is empty where there is none.
 pub fn cut_before(text: &[u8], stop: u8) -> (&[u8], &[u8])
-    ensures front { result.0.now ≡ front_before stop text.now }
-    ensures rest { result.1.now ≡ after_front (is_other stop) text.now }
+    ensures front_before_the_stop { result.0.now ≡ front_before stop text.now }
+    ensures rest_behind_the_stop { result.1.now ≡ after_front (is_other stop) text.now }
 {
     text.split_at(len_before(text, stop))
 }
 
 /// What stands before the first `stop`, and what is behind it, where there is one.
 pub fn cut(text: &[u8], stop: u8) -> (&[u8], Option<&[u8]>)
-    ensures front { result.0.now ≡ front_before stop text.now }
-    ensures rest { option_map (λ x. x.now) result.1 ≡ rest_behind stop text.now }
+    ensures front_before_the_stop { result.0.now ≡ front_before stop text.now }
+    ensures rest_behind_the_stop { option_map (λ x. x.now) result.1 ≡ rest_behind stop text.now }
 {
     let (front, rest) = cut_before(text, stop);
     match rest {

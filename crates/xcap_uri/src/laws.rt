@@ -42,8 +42,8 @@ fn is_spelled_home(home: &Home)
 /// The printed id of a document that an address can name reads back as that document, behind the path of a root and a slash and behind the
 /// whole root and a slash (RFC 4825, section 6.2).
 pub fn printed_id_reads_back(root: &Root, doc: &DocId)
-    ensures path { IsReadable doc.now → TargetAnswer root.now (path_of root.now ++ (slash ∷ id_text doc.now)) (Ok (targets.Document doc.now)) }
-    ensures whole { IsReadable doc.now → TargetAnswer root.now (root.now ++ (slash ∷ id_text doc.now)) (Ok (targets.Document doc.now)) }
+    ensures below_the_path_of_the_root { IsReadable doc.now → TargetAnswer root.now (path_of root.now ++ (slash ∷ id_text doc.now)) (Ok (targets.Document doc.now)) }
+    ensures below_the_whole_root { IsReadable doc.now → TargetAnswer root.now (root.now ++ (slash ∷ id_text doc.now)) (Ok (targets.Document doc.now)) }
 {
     let _text = root.text();
     is_spelled_home(&doc.home);

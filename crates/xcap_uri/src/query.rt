@@ -164,8 +164,8 @@ fn is_escapable(c: char) -> bool
 
 // What follows a `^`.
 fn escaped_step(depth: usize, rest: &[char]) -> UriStep<'_>
-    ensures step { StepsTo result (uri_chars depth (94 ∷ rest.now)) }
-    ensures shorter { IsShorter depth (94 ∷ rest.now) result }
+    ensures steps_as_the_rule_does { StepsTo result (uri_chars depth (94 ∷ rest.now)) }
+    ensures rest_is_shorter { IsShorter depth (94 ∷ rest.now) result }
 {
     match rest {
         [c, rest @ ..] if is_escapable(*c) => UriStep::Goes(*c, depth, rest),
@@ -175,8 +175,8 @@ fn escaped_step(depth: usize, rest: &[char]) -> UriStep<'_>
 
 // What a `)` is where so many `(` are open.
 fn closing_step(depth: usize, rest: &[char]) -> UriStep<'_>
-    ensures step { StepsTo result (uri_chars depth (41 ∷ rest.now)) }
-    ensures shorter { IsShorter depth (41 ∷ rest.now) result }
+    ensures steps_as_the_rule_does { StepsTo result (uri_chars depth (41 ∷ rest.now)) }
+    ensures rest_is_shorter { IsShorter depth (41 ∷ rest.now) result }
 {
     if depth == 0 {
         return UriStep::Ends(rest);
@@ -187,8 +187,8 @@ fn closing_step(depth: usize, rest: &[char]) -> UriStep<'_>
 // What a character is where so many `(` are open.
 fn char_step(depth: usize, c: char, rest: &[char]) -> UriStep<'_>
     requires { depth + 1 < 2 ^ 64 }
-    ensures step { StepsTo result (uri_chars depth (c ∷ rest.now)) }
-    ensures shorter { IsShorter depth (c ∷ rest.now) result }
+    ensures steps_as_the_rule_does { StepsTo result (uri_chars depth (c ∷ rest.now)) }
+    ensures rest_is_shorter { IsShorter depth (c ∷ rest.now) result }
 {
     match c {
         '^' => escaped_step(depth, rest),
@@ -201,8 +201,8 @@ fn char_step(depth: usize, c: char, rest: &[char]) -> UriStep<'_>
 // What comes next where so many `(` are open.
 fn uri_step(depth: usize, text: &[char]) -> UriStep<'_>
     requires { depth + length text.now < 2 ^ 64 }
-    ensures step { StepsTo result (uri_chars depth text.now) }
-    ensures shorter { IsShorter depth text.now result }
+    ensures steps_as_the_rule_does { StepsTo result (uri_chars depth text.now) }
+    ensures rest_is_shorter { IsShorter depth text.now result }
 {
     match text {
         [] => UriStep::Breaks,

@@ -36,8 +36,8 @@ impl Model for Root {
 impl Root {
     /// The text of the root. Takes no memory.
     pub fn text(&self) -> &str
-        ensures text { chars result.now ≡ self.now }
-        ensures root { is_root_text self.now ≡ true }
+        ensures lends_its_text { chars result.now ≡ self.now }
+        ensures text_is_a_root { is_root_text self.now ≡ true }
     {
         self.text.as_str()
     }
@@ -51,8 +51,8 @@ impl Root {
 
     /// Its path: empty, or segments with a slash in front of each. Takes no memory.
     pub fn path(&self) -> &str
-        ensures path { chars result.now ≡ path_of self.now }
-        ensures root { is_root_text self.now ≡ true }
+        ensures path_of_the_root { chars result.now ≡ path_of self.now }
+        ensures text_is_a_root { is_root_text self.now ≡ true }
     {
         self.path.as_str()
     }

@@ -193,8 +193,8 @@ fn read_rest(alloc: Global, rest: &[u8]) -> Result<Target, ReadError<UriFault>>
 
 // What stands under the root, or that nothing does.
 fn read(alloc: Global, root: &Root, target: &[u8]) -> Result<Target, ReadError<UriFault>>
-    ensures answer { StatedOr ReadError.NoMemory (target_read root.now target.now) result }
-    ensures outside { under_root root.now target.now ≡ None → result ≡ Err (ReadError.Fault UriFault.OutsideRoot) }
+    ensures answer_or_want_of_memory { StatedOr ReadError.NoMemory (target_read root.now target.now) result }
+    ensures outside_the_root_is_told_so { under_root root.now target.now ≡ None → result ≡ Err (ReadError.Fault UriFault.OutsideRoot) }
 {
     match under_root(root, target) {
         None => Err(ReadError::Fault(UriFault::OutsideRoot)),

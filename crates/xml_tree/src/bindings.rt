@@ -14,8 +14,8 @@ pub(crate) fn gather<'a>(
     decls: &'a [Decl],
 ) -> Result<(), AllocError>
     requires { AreKeyed found.old.entries }
-    ensures keyed { OnOk result (AreKeyed found.new.entries) }
-    ensures gathered { OnOk result (values_in found.new.entries ≡ gathered (values_in found.old.entries) decls.now) }
+    ensures each_stands_under_its_key { OnOk result (AreKeyed found.new.entries) }
+    ensures gathers_the_nearest { OnOk result (values_in found.new.entries ≡ gathered (values_in found.old.entries) decls.now) }
 {
     for decl in decls {
         found.insert(decl.prefix.as_str(), decl)?;

@@ -8,8 +8,8 @@ use std::mem;
 impl Element {
     /// Exchanges the declarations for others, and answers the old ones. Takes no memory.
     pub fn exchange_decls(&mut self, decls: Vec<Decl>) -> Vec<Decl>
-        ensures old { result.items ≡ self.old.decls }
-        ensures new { self.new ≡ record self.old { decls = decls.items } }
+        ensures former_declarations { result.items ≡ self.old.decls }
+        ensures has_the_declarations { self.new ≡ record self.old { decls = decls.items } }
     {
         mem::replace(&mut self.decls, decls)
     }

@@ -24,9 +24,9 @@ impl Element {
     /// `NoMemory` for want of memory. The element comes back, and this one is as before.
     pub fn put_kid(&mut self, gap: usize, element: Element) -> Result<(), (AllocError, Element)>
         requires { gap ≤ length (kids_of self.old) }
-        ensures ok { OnOk result (self.new ≡ put_kid gap element self.old) }
-        ensures err { OnErr result (self.new ≡ self.old) }
-        ensures back { IfErr result (λ refused. refused.1 ≡ element) }
+        ensures puts_the_element_there { OnOk result (self.new ≡ put_kid gap element self.old) }
+        ensures failure_changes_nothing { OnErr result (self.new ≡ self.old) }
+        ensures refused_element_comes_back { IfErr result (λ refused. refused.1 ≡ element) }
     {
         put_elem(&mut self.nodes, gap, element)
     }
@@ -38,9 +38,9 @@ impl Element {
     /// changed then.
     pub fn take_kid(&mut self, child: usize) -> Result<Element, AllocError>
         requires { child < length (kids_of self.old) }
-        ensures taken { IfOk result (λ kid. slice_get (kids_of self.old) child ≡ Some kid) }
-        ensures ok { OnOk result (self.new ≡ cut_kid child self.old) }
-        ensures err { OnErr result (self.new ≡ self.old) }
+        ensures element_that_was_there { IfOk result (λ kid. slice_get (kids_of self.old) child ≡ Some kid) }
+        ensures cuts_the_element_out { OnOk result (self.new ≡ cut_kid child self.old) }
+        ensures failure_changes_nothing { OnErr result (self.new ≡ self.old) }
         ensures only_where_texts_meet { OnErr result (TextsMeet child self.old.content) }
     {
         take_elem(&mut self.nodes, child)
@@ -58,8 +58,8 @@ impl Element {
     ) -> Result<(), AllocError>
         requires order { from ≤ to }
         requires within { to ≤ length (nodes_of self.old.content) }
-        ensures ok { OnOk result (self.new ≡ exchange_nodes from to nodes.items self.old) }
-        ensures err { OnErr result (self.new ≡ self.old) }
+        ensures exchanges_the_nodes { OnOk result (self.new ≡ exchange_nodes from to nodes.items self.old) }
+        ensures failure_changes_nothing { OnErr result (self.new ≡ self.old) }
     {
         exchange(&mut self.nodes, from, to, nodes)
     }
@@ -77,8 +77,8 @@ impl Element {
     /// Exchanges the value of an attribute, counted from 0, and answers the old one. Takes no memory.
     pub fn exchange_value(&mut self, at: usize, value: Text) -> Text
         requires { at < length self.old.attrs }
-        ensures old { option_map (λ attr. attr.value) (slice_get self.old.attrs at) ≡ Some result }
-        ensures new { self.new ≡ change_attr at value self.old }
+        ensures former_value { option_map (λ attr. attr.value) (slice_get self.old.attrs at) ≡ Some result }
+        ensures value_is_exchanged { self.new ≡ change_attr at value self.old }
     {
         mem::replace(&mut self.attrs[at].value, value)
     }
@@ -86,8 +86,8 @@ impl Element {
     /// Takes an attribute out, counted from 0. Takes no memory.
     pub fn take_attr(&mut self, at: usize) -> Attr
         requires { at < length self.old.attrs }
-        ensures taken { slice_get self.old.attrs at ≡ Some result }
-        ensures new { self.new ≡ record self.old { attrs = remove self.old.attrs at } }
+        ensures attribute_that_was_there { slice_get self.old.attrs at ≡ Some result }
+        ensures attribute_is_gone { self.new ≡ record self.old { attrs = remove self.old.attrs at } }
     {
         self.attrs.remove(at)
     }
@@ -98,10 +98,10 @@ impl Element {
     /// `NoMemory` for want of memory, which comes only for a new attribute. The element is then as before.
     #[tactic(auto, using(crate::proofs::AttrLemmas::by_place))]
     pub fn set_attr(&mut self, name: Name, value: Text) -> Result<Option<Text>, AllocError>
-        ensures old { IfOk result
+        ensures former_value { IfOk result
             (λ old. old ≡ option_map (λ attr. attr.value) (find (is_written_so name) self.old.attrs)) }
-        ensures ok { OnOk result (self.new ≡ write_attr name value self.old) }
-        ensures err { OnErr result (self.new ≡ self.old) }
+        ensures writes_the_attribute { OnOk result (self.new ≡ write_attr name value self.old) }
+        ensures failure_changes_nothing { OnErr result (self.new ≡ self.old) }
         ensures only_for_new { OnErr result (find (is_written_so name) self.old.attrs ≡ None) }
     {
         let place = place_of_attr(&self.attrs, &name);
@@ -115,8 +115,8 @@ impl Element {
     /// Takes out the attribute of this prefix and local name: None where there is none. Takes no memory.
     #[tactic(auto, using(crate::proofs::AttrLemmas::by_place))]
     pub fn drop_attr(&mut self, name: &Name) -> Option<Attr>
-        ensures taken { result ≡ find (is_written_so name.now) self.old.attrs }
-        ensures new { self.new ≡ drop_attr name.now self.old }
+        ensures attribute_that_was_there { result ≡ find (is_written_so name.now) self.old.attrs }
+        ensures attribute_is_gone { self.new ≡ drop_attr name.now self.old }
     {
         let place = place_of_attr(&self.attrs, name);
         if place < self.attrs.len() {
@@ -139,17 +139,17 @@ impl Element {
         element: Element,
     ) -> Result<(), (AllocError, Element)>
         requires { IsSomeAnd (at path.now self.old) (λ parent. gap ≤ length (kids_of parent)) }
-        ensures ok { OnOk result (self.new ≡ put_in path.now gap element self.old) }
-        ensures err { OnErr result (self.new ≡ self.old) }
-        ensures back { IfErr result (λ refused. refused.1 ≡ element) }
+        ensures puts_the_element_there { OnOk result (self.new ≡ put_in path.now gap element self.old) }
+        ensures failure_changes_nothing { OnErr result (self.new ≡ self.old) }
+        ensures refused_element_comes_back { IfErr result (λ refused. refused.1 ≡ element) }
     {
         self.edit_at(
             path,
             |here: &mut Element| -> Result<(), (AllocError, Element)>
                 requires { gap ≤ length (kids_of here.old) }
-                ensures ok { OnOk result (here.new ≡ put_kid gap element here.old) }
-                ensures err { OnErr result (here.new ≡ here.old) }
-                ensures back { IfErr result (λ refused. refused.1 ≡ element) }
+                ensures puts_the_element_there { OnOk result (here.new ≡ put_kid gap element here.old) }
+                ensures failure_changes_nothing { OnErr result (here.new ≡ here.old) }
+                ensures refused_element_comes_back { IfErr result (λ refused. refused.1 ≡ element) }
             { here.put_kid(gap, element) },
         )
     }
@@ -157,14 +157,14 @@ impl Element {
     /// Exchanges the element at a path, and answers the old one. Takes no memory.
     pub fn put_over(&mut self, path: &Path, element: Element) -> Element
         requires { IsSome (at path.now self.old) }
-        ensures old { at path.now self.old ≡ Some result }
-        ensures new { self.new ≡ put_over path.now element self.old }
+        ensures former_element { at path.now self.old ≡ Some result }
+        ensures element_is_exchanged { self.new ≡ put_over path.now element self.old }
     {
         self.edit_at(
             path,
             |here: &mut Element| -> Element
-                ensures old { result ≡ here.old }
-                ensures new { here.new ≡ element }
+                ensures former_element { result ≡ here.old }
+                ensures element_is_exchanged { here.new ≡ element }
             { mem::replace(here, element) },
         )
     }
@@ -176,10 +176,10 @@ impl Element {
     /// changed then.
     pub fn take_in(&mut self, path: &Path, child: usize) -> Result<Element, AllocError>
         requires { IsSomeAnd (at path.now self.old) (λ parent. child < length (kids_of parent)) }
-        ensures taken { IfOk result (λ kid. IsSomeAnd (at path.now self.old)
+        ensures element_that_was_there { IfOk result (λ kid. IsSomeAnd (at path.now self.old)
             (λ parent. slice_get (kids_of parent) child ≡ Some kid)) }
-        ensures ok { OnOk result (self.new ≡ take_in path.now child self.old) }
-        ensures err { OnErr result (self.new ≡ self.old) }
+        ensures cuts_the_element_out { OnOk result (self.new ≡ take_in path.now child self.old) }
+        ensures failure_changes_nothing { OnErr result (self.new ≡ self.old) }
         ensures only_where_texts_meet { OnErr result (IsSomeAnd (at path.now self.old)
             (λ parent. TextsMeet child parent.content)) }
     {
@@ -187,9 +187,9 @@ impl Element {
             path,
             |here: &mut Element| -> Result<Element, AllocError>
                 requires { child < length (kids_of here.old) }
-                ensures taken { IfOk result (λ kid. slice_get (kids_of here.old) child ≡ Some kid) }
-                ensures ok { OnOk result (here.new ≡ cut_kid child here.old) }
-                ensures err { OnErr result (here.new ≡ here.old) }
+                ensures element_that_was_there { IfOk result (λ kid. slice_get (kids_of here.old) child ≡ Some kid) }
+                ensures cuts_the_element_out { OnOk result (here.new ≡ cut_kid child here.old) }
+                ensures failure_changes_nothing { OnErr result (here.new ≡ here.old) }
                 ensures only_where_texts_meet { OnErr result (TextsMeet child here.old.content) }
             { here.take_kid(child) },
         )
@@ -203,9 +203,9 @@ impl Element {
     pub fn cut_out(&mut self, path: &Path) -> Result<Element, AllocError>
         requires below { 0 < length path.now }
         requires there { IsSome (at path.now self.old) }
-        ensures taken { IfOk result (λ cut. at path.now self.old ≡ Some cut) }
-        ensures ok { OnOk result (self.new ≡ cut_out path.now self.old) }
-        ensures err { OnErr result (self.new ≡ self.old) }
+        ensures element_that_was_there { IfOk result (λ cut. at path.now self.old ≡ Some cut) }
+        ensures cuts_the_element_out { OnOk result (self.new ≡ cut_out path.now self.old) }
+        ensures failure_changes_nothing { OnErr result (self.new ≡ self.old) }
         ensures only_where_texts_meet { OnErr result (TextsMeetAt path.now self.old) }
     {
         match path.split_last() {
@@ -225,19 +225,19 @@ impl Element {
         value: Text,
     ) -> Result<Option<Text>, AllocError>
         requires { IsSome (at path.now self.old) }
-        ensures old { IfOk result
+        ensures former_value { IfOk result
             (λ old. old ≡ option_map (λ attr. attr.value) (attr_at path.now name self.old)) }
-        ensures ok { OnOk result (self.new ≡ set_at path.now name value self.old) }
-        ensures err { OnErr result (self.new ≡ self.old) }
+        ensures writes_the_attribute { OnOk result (self.new ≡ set_at path.now name value self.old) }
+        ensures failure_changes_nothing { OnErr result (self.new ≡ self.old) }
         ensures only_for_new { OnErr result (attr_at path.now name self.old ≡ None) }
     {
         self.edit_at(
             path,
             |here: &mut Element| -> Result<Option<Text>, AllocError>
-                ensures old { IfOk result
+                ensures former_value { IfOk result
                     (λ old. old ≡ option_map (λ attr. attr.value) (find (is_written_so name) here.old.attrs)) }
-                ensures ok { OnOk result (here.new ≡ write_attr name value here.old) }
-                ensures err { OnErr result (here.new ≡ here.old) }
+                ensures writes_the_attribute { OnOk result (here.new ≡ write_attr name value here.old) }
+                ensures failure_changes_nothing { OnErr result (here.new ≡ here.old) }
                 ensures only_for_new { OnErr result (find (is_written_so name) here.old.attrs ≡ None) }
             { here.set_attr(name, value) },
         )
@@ -246,14 +246,14 @@ impl Element {
     /// Takes an attribute of the element at a path out, as `drop_attr` does. Takes no memory.
     pub fn drop_at(&mut self, path: &Path, name: &Name) -> Option<Attr>
         requires { IsSome (at path.now self.old) }
-        ensures taken { result ≡ attr_at path.now name.now self.old }
-        ensures new { self.new ≡ drop_at path.now name.now self.old }
+        ensures attribute_that_was_there { result ≡ attr_at path.now name.now self.old }
+        ensures attribute_is_gone { self.new ≡ drop_at path.now name.now self.old }
     {
         self.edit_at(
             path,
             |here: &mut Element| -> Option<Attr>
-                ensures taken { result ≡ find (is_written_so name.entry.now) here.old.attrs }
-                ensures new { here.new ≡ drop_attr name.entry.now here.old }
+                ensures attribute_that_was_there { result ≡ find (is_written_so name.entry.now) here.old.attrs }
+                ensures attribute_is_gone { here.new ≡ drop_attr name.entry.now here.old }
             { here.drop_attr(name) },
         )
     }

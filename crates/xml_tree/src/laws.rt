@@ -15,14 +15,14 @@ pub fn other_places_stay()
 
 /// What a change made of an element, or put in its place, is there.
 pub fn what_was_made_is_there()
-    ensures changed { (p : List ℕ) (f : Tree → Tree) (t : Tree) → at p (change_at p f t) ≡ option_map f (at p t) }
-    ensures put { (p : List ℕ) (w t : Tree) → IsSome (at p t) → at p (put_over p w t) ≡ Some w }
+    ensures place_holds_the_change { (p : List ℕ) (f : Tree → Tree) (t : Tree) → at p (change_at p f t) ≡ option_map f (at p t) }
+    ensures place_holds_what_was_put { (p : List ℕ) (w t : Tree) → IsSome (at p t) → at p (put_over p w t) ≡ Some w }
 {}
 
 /// A path that goes on leads on from the element that it leads to before, and so does a change there.
 pub fn paths_go_on()
-    ensures places { (p q : List ℕ) (t : Tree) → at (p ++ q) t ≡ option_and_then (at q) (at p t) }
-    ensures changes { (p q : List ℕ) (f : Tree → Tree) (t : Tree) → change_at (p ++ q) f t ≡ change_at p (change_at q f) t }
+    ensures place_further_down { (p q : List ℕ) (t : Tree) → at (p ++ q) t ≡ option_and_then (at q) (at p t) }
+    ensures change_further_down { (p q : List ℕ) (f : Tree → Tree) (t : Tree) → change_at (p ++ q) f t ≡ change_at p (change_at q f) t }
 {}
 
 /// A path has fewer numbers than the tree has levels.
@@ -32,20 +32,20 @@ pub fn paths_are_short()
 
 /// A content and its nodes, which are normal, are one; and the element children are the elements among the nodes.
 pub fn nodes_are_the_content()
-    ensures normal { (c : Content) → AreNormal (nodes_of c) }
-    ensures there { (c : Content) → content_of (nodes_of c) ≡ c }
-    ensures back { (ns : List Node) → AreNormal ns → nodes_of (content_of ns) ≡ ns }
-    ensures elements { (c : Content) → kids c ≡ filter_map elem_of (nodes_of c) }
+    ensures nodes_are_normal { (c : Content) → AreNormal (nodes_of c) }
+    ensures nodes_make_the_content { (c : Content) → content_of (nodes_of c) ≡ c }
+    ensures normal_nodes_come_back { (ns : List Node) → AreNormal ns → nodes_of (content_of ns) ≡ ns }
+    ensures elements_among_the_nodes { (c : Content) → kids c ≡ filter_map elem_of (nodes_of c) }
 {}
 
 /// What edits make of the element children.
 pub fn kids_after_edits()
-    ensures put { (j : ℕ) (e : Tree) (c : Content) → j ≤ length (kids c) → kids (put j e c) ≡ insert (kids c) j e }
-    ensures cut { (i : ℕ) (c : Content) → kids (cut i c) ≡ remove (kids c) i }
-    ensures change { (i : ℕ) (f : Tree → Tree) (c : Content) → kids (change i f c) ≡ change_item i f (kids c) }
-    ensures elem { (e : Tree) (c : Content) → kids (with_elem e c) ≡ kids c ++ e ∷ [] }
-    ensures text { (s : List ℕ) (c : Content) → kids (with_text s c) ≡ kids c }
-    ensures comment { (s : List ℕ) (c : Content) → kids (with_comment s c) ≡ kids c }
+    ensures of_a_child_put { (j : ℕ) (e : Tree) (c : Content) → j ≤ length (kids c) → kids (put j e c) ≡ insert (kids c) j e }
+    ensures of_a_child_cut_out { (i : ℕ) (c : Content) → kids (cut i c) ≡ remove (kids c) i }
+    ensures of_a_changed_child { (i : ℕ) (f : Tree → Tree) (c : Content) → kids (change i f c) ≡ change_item i f (kids c) }
+    ensures of_an_element_behind { (e : Tree) (c : Content) → kids (with_elem e c) ≡ kids c ++ e ∷ [] }
+    ensures of_a_text_behind { (s : List ℕ) (c : Content) → kids (with_text s c) ≡ kids c }
+    ensures of_a_comment_behind { (s : List ℕ) (c : Content) → kids (with_comment s c) ≡ kids c }
 {}
 
 /// How high a tree is after an edit at a path where an element is.

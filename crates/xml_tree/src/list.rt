@@ -60,8 +60,8 @@ impl<T> List<T> {
     pub fn push(&mut self, item: T) -> Result<(), AllocError>
     where
         T: Drop,
-        ensures ok { OnOk result (self.new ≡ self.old ++ item ∷ []) }
-        ensures err { OnErr result (self.new ≡ self.old) }
+        ensures adds_it_behind { OnOk result (self.new ≡ self.old ++ item ∷ []) }
+        ensures failure_changes_nothing { OnErr result (self.new ≡ self.old) }
     {
         self.items.push(item)?;
         Ok(())

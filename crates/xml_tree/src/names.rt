@@ -43,8 +43,8 @@ impl Name {
 
     /// Whether two names are written alike. Takes no memory.
     pub fn same(&self, other: &Name) -> bool
-        ensures equal { IsTrue result ↔ (self.now ≡ other.now) }
-        ensures test { result ≡ same_name self.now other.now }
+        ensures tells_whether_they_are_equal { IsTrue result ↔ (self.now ≡ other.now) }
+        ensures tells_by_the_test { result ≡ same_name self.now other.now }
     {
         self.prefix == other.prefix && self.local == other.local
     }
@@ -106,8 +106,8 @@ pub(crate) fn attr_of<'a>(attrs: &'a [Attr], name: &Name) -> Option<&'a Attr>
 
 // The place of the first attribute of this name, or the number of attributes.
 pub(crate) fn place_of_attr(attrs: &[Attr], name: &Name) -> usize
-    ensures place { result ≡ first_place (is_written_so name.now) attrs.now }
-    ensures within { result ≤ length attrs.now }
+    ensures place_of_the_first { result ≡ first_place (is_written_so name.now) attrs.now }
+    ensures lies_within { result ≤ length attrs.now }
 {
     for (i, attr) in attrs.iter().enumerate() {
         if attr.name.same(name) {

@@ -12,8 +12,8 @@ impl Element {
     /// `NoMemory` for want of memory; the element is then as before.
     pub fn insert_nodes(&mut self, before: usize, nodes: Vec<Node>) -> Result<(), AllocError>
         requires { before ≤ length (nodes_of self.old.content) }
-        ensures ok { OnOk result (self.new ≡ exchange_nodes before before nodes.items self.old) }
-        ensures err { OnErr result (self.new ≡ self.old) }
+        ensures inserts_the_nodes { OnOk result (self.new ≡ exchange_nodes before before nodes.items self.old) }
+        ensures failure_changes_nothing { OnErr result (self.new ≡ self.old) }
     {
         self.exchange_nodes(before, before, nodes)
     }
@@ -25,8 +25,8 @@ impl Element {
     pub fn cut_nodes(&mut self, from: usize, to: usize) -> Result<(), AllocError>
         requires order { from ≤ to }
         requires within { to ≤ length (nodes_of self.old.content) }
-        ensures ok { OnOk result (self.new ≡ exchange_nodes from to [] self.old) }
-        ensures err { OnErr result (self.new ≡ self.old) }
+        ensures cuts_the_nodes_out { OnOk result (self.new ≡ exchange_nodes from to [] self.old) }
+        ensures failure_changes_nothing { OnErr result (self.new ≡ self.old) }
     {
         let none = Vec::new(*self.nodes.allocator());
         self.exchange_nodes(from, to, none)

@@ -16,8 +16,8 @@ use std::mem;
 
 /// The place of an element child among nodes, or the number of nodes where it isn't there.
 pub fn place_of(nodes: &[Node], child: usize) -> usize
-    ensures place { result ≡ place child nodes.now }
-    ensures within { result ≤ length nodes.now }
+    ensures place_of_the_first { result ≡ place child nodes.now }
+    ensures lies_within { result ≤ length nodes.now }
 {
     let mut left = child;
     for (i, node) in nodes.iter().enumerate() {
@@ -53,7 +53,7 @@ pub(crate) fn kid_of(nodes: &[Node], child: usize) -> Option<&Element>
 pub(crate) fn kid_in(nodes: &mut Vec<Node>, child: usize) -> &mut Element
     requires { child < length (kids (content_of nodes.old.items)) }
     ensures* writes_back { sem 𝓛 (LendsKid nodes.entry child result) }
-    ensures value { slice_get (kids (content_of nodes.old.items)) child ≡ Some result.now }
+    ensures lends_the_element { slice_get (kids (content_of nodes.old.items)) child ≡ Some result.now }
 {
     let at = place_of(nodes, child);
     nodes[at].elem_mut()
@@ -62,9 +62,9 @@ pub(crate) fn kid_in(nodes: &mut Vec<Node>, child: usize) -> &mut Element
 // Adds an element at the end.
 #[tactic(auto, using(crate::proofs::Places::places))]
 pub(crate) fn push_elem_node(nodes: &mut Vec<Node>, element: Element) -> Result<(), AllocError>
-    ensures normal { AreNormal nodes.old.items → AreNormal nodes.new.items }
-    ensures ok { OnOk result (content_of nodes.new.items ≡ with_elem element (content_of nodes.old.items)) }
-    ensures err { OnErr result (content_of nodes.new.items ≡ content_of nodes.old.items) }
+    ensures normal_nodes_stay_normal { AreNormal nodes.old.items → AreNormal nodes.new.items }
+    ensures adds_the_element { OnOk result (content_of nodes.new.items ≡ with_elem element (content_of nodes.old.items)) }
+    ensures failure_changes_nothing { OnErr result (content_of nodes.new.items ≡ content_of nodes.old.items) }
 {
     nodes.push(Node::Elem(element))?;
     Ok(())
@@ -73,9 +73,9 @@ pub(crate) fn push_elem_node(nodes: &mut Vec<Node>, element: Element) -> Result<
 // Adds a comment at the end.
 #[tactic(auto, using(crate::proofs::Places::places))]
 pub(crate) fn push_comment_node(nodes: &mut Vec<Node>, text: Text) -> Result<(), AllocError>
-    ensures normal { AreNormal nodes.old.items → AreNormal nodes.new.items }
-    ensures ok { OnOk result (content_of nodes.new.items ≡ with_comment text (content_of nodes.old.items)) }
-    ensures err { OnErr result (content_of nodes.new.items ≡ content_of nodes.old.items) }
+    ensures normal_nodes_stay_normal { AreNormal nodes.old.items → AreNormal nodes.new.items }
+    ensures adds_the_comment { OnOk result (content_of nodes.new.items ≡ with_comment text (content_of nodes.old.items)) }
+    ensures failure_changes_nothing { OnErr result (content_of nodes.new.items ≡ content_of nodes.old.items) }
 {
     nodes.push(Node::Comment(text))?;
     Ok(())
@@ -96,9 +96,9 @@ pub(crate) fn ends_in_text(nodes: &[Node]) -> bool
 // Adds a text at the end, as push_text does, and copies it only where it joins another.
 #[tactic(auto, using(crate::proofs::Places::texts))]
 pub(crate) fn push_own_text(nodes: &mut Vec<Node>, text: Text) -> Result<(), AllocError>
-    ensures normal { AreNormal nodes.old.items → AreNormal nodes.new.items }
-    ensures ok { OnOk result (content_of nodes.new.items ≡ with_text text (content_of nodes.old.items)) }
-    ensures err { OnErr result (content_of nodes.new.items ≡ content_of nodes.old.items) }
+    ensures normal_nodes_stay_normal { AreNormal nodes.old.items → AreNormal nodes.new.items }
+    ensures adds_the_text { OnOk result (content_of nodes.new.items ≡ with_text text (content_of nodes.old.items)) }
+    ensures failure_changes_nothing { OnErr result (content_of nodes.new.items ≡ content_of nodes.old.items) }
 {
     if text.is_empty() {
         return Ok(());
@@ -113,9 +113,9 @@ pub(crate) fn push_own_text(nodes: &mut Vec<Node>, text: Text) -> Result<(), All
 // Adds a text at the end: it joins a text that stands last, and an empty one is ignored.
 #[tactic(auto, using(crate::proofs::Places::texts))]
 pub(crate) fn push_text(nodes: &mut Vec<Node>, text: &str) -> Result<(), AllocError>
-    ensures normal { AreNormal nodes.old.items → AreNormal nodes.new.items }
-    ensures ok { OnOk result (content_of nodes.new.items ≡ with_text (chars text.now) (content_of nodes.old.items)) }
-    ensures err { OnErr result (content_of nodes.new.items ≡ content_of nodes.old.items) }
+    ensures normal_nodes_stay_normal { AreNormal nodes.old.items → AreNormal nodes.new.items }
+    ensures adds_the_text { OnOk result (content_of nodes.new.items ≡ with_text (chars text.now) (content_of nodes.old.items)) }
+    ensures failure_changes_nothing { OnErr result (content_of nodes.new.items ≡ content_of nodes.old.items) }
 {
     if text.is_empty() {
         return Ok(());
@@ -158,10 +158,10 @@ pub(crate) fn put_elem(
     element: Element,
 ) -> Result<(), (AllocError, Element)>
     requires { gap ≤ length (kids (content_of nodes.old.items)) }
-    ensures normal { AreNormal nodes.old.items → AreNormal nodes.new.items }
-    ensures ok { OnOk result (content_of nodes.new.items ≡ put gap element (content_of nodes.old.items)) }
-    ensures err { OnErr result (content_of nodes.new.items ≡ content_of nodes.old.items) }
-    ensures back { IfErr result (λ refused. refused.1 ≡ element) }
+    ensures normal_nodes_stay_normal { AreNormal nodes.old.items → AreNormal nodes.new.items }
+    ensures puts_the_element_there { OnOk result (content_of nodes.new.items ≡ put gap element (content_of nodes.old.items)) }
+    ensures failure_changes_nothing { OnErr result (content_of nodes.new.items ≡ content_of nodes.old.items) }
+    ensures refused_element_comes_back { IfErr result (λ refused. refused.1 ≡ element) }
     ensures where_there_is_room { length nodes.old.items < vec_capacity nodes.old → IsOk result }
 {
     let place = place_of_gap(nodes, gap);
@@ -176,8 +176,8 @@ pub(crate) fn put_elem(
 pub(crate) fn put_elem_in_room(nodes: &mut Vec<Node>, gap: usize, element: Element, room: Vec<Node>)
     requires gap { gap ≤ length (kids (content_of nodes.old.items)) }
     requires room { HasRoom (suc (length nodes.old.items)) room }
-    ensures normal { AreNormal nodes.old.items → AreNormal nodes.new.items }
-    ensures put { content_of nodes.new.items ≡ put gap element (content_of nodes.old.items) }
+    ensures normal_nodes_stay_normal { AreNormal nodes.old.items → AreNormal nodes.new.items }
+    ensures puts_the_element_there { content_of nodes.new.items ≡ put gap element (content_of nodes.old.items) }
 {
     let mut moved = room;
     moved.append(nodes).unwrap();
@@ -187,7 +187,7 @@ pub(crate) fn put_elem_in_room(nodes: &mut Vec<Node>, gap: usize, element: Eleme
 
 // The texts directly before and behind a node, joined, where both nodes there are texts.
 fn joined_beside(alloc: Global, nodes: &[Node], place: usize) -> Result<Option<Text>, AllocError>
-    ensures value { IfOk result (λ text. text ≡ joined_beside place nodes.now) }
+    ensures joins_the_texts_beside { IfOk result (λ text. text ≡ joined_beside place nodes.now) }
     ensures only_for_two { OnErr result (IsSome (joined_beside place nodes.now)) }
 {
     if place == 0 {
@@ -217,8 +217,8 @@ fn replace_two(nodes: &mut Vec<Node>, place: usize, text: Text)
 fn remove_joined(nodes: &mut Vec<Node>, place: usize, joined: Option<Text>) -> Node
     requires there { place < length nodes.old.items }
     requires between { IsSome joined → (0 < place) × (place + 1 < length nodes.old.items) }
-    ensures taken { slice_get nodes.old.items place ≡ Some result }
-    ensures rest { nodes.new.items ≡ removed_joined place joined nodes.old.items }
+    ensures element_that_was_there { slice_get nodes.old.items place ≡ Some result }
+    ensures leaves_the_others_joined { nodes.new.items ≡ removed_joined place joined nodes.old.items }
 {
     let taken = nodes.remove(place);
     match joined {
@@ -235,7 +235,7 @@ pub(crate) fn joined_around(
     child: usize,
 ) -> Result<Option<Text>, AllocError>
     requires { child < length (kids (content_of nodes.now)) }
-    ensures value { IfOk result (λ text. text ≡ joined_beside (place child nodes.now) nodes.now) }
+    ensures joins_the_texts_beside { IfOk result (λ text. text ≡ joined_beside (place child nodes.now) nodes.now) }
     ensures only_where_texts_meet { AreNormal nodes.now → OnErr result (TextsMeet child (content_of nodes.now)) }
 {
     joined_beside(alloc, nodes, place_of(nodes, child))
@@ -249,9 +249,9 @@ pub(crate) fn take_elem_joining(
 ) -> Element
     requires there { child < length (kids (content_of nodes.old.items)) }
     requires joined { joined ≡ joined_beside (place child nodes.old.items) nodes.old.items }
-    ensures normal { AreNormal nodes.old.items → AreNormal nodes.new.items }
-    ensures taken { slice_get (kids (content_of nodes.old.items)) child ≡ Some result }
-    ensures rest { content_of nodes.new.items ≡ cut child (content_of nodes.old.items) }
+    ensures normal_nodes_stay_normal { AreNormal nodes.old.items → AreNormal nodes.new.items }
+    ensures element_that_was_there { slice_get (kids (content_of nodes.old.items)) child ≡ Some result }
+    ensures leaves_the_others_joined { content_of nodes.new.items ≡ cut child (content_of nodes.old.items) }
 {
     let place = place_of(nodes, child);
     let taken = remove_joined(nodes, place, joined);
@@ -261,10 +261,10 @@ pub(crate) fn take_elem_joining(
 // Takes an element out. Texts that meet are joined, and only for that memory is taken, before anything changes.
 pub(crate) fn take_elem(nodes: &mut Vec<Node>, child: usize) -> Result<Element, AllocError>
     requires { child < length (kids (content_of nodes.old.items)) }
-    ensures normal { AreNormal nodes.old.items → AreNormal nodes.new.items }
-    ensures taken { IfOk result (λ element. slice_get (kids (content_of nodes.old.items)) child ≡ Some element) }
-    ensures ok { OnOk result (content_of nodes.new.items ≡ cut child (content_of nodes.old.items)) }
-    ensures err { OnErr result (content_of nodes.new.items ≡ content_of nodes.old.items) }
+    ensures normal_nodes_stay_normal { AreNormal nodes.old.items → AreNormal nodes.new.items }
+    ensures element_that_was_there { IfOk result (λ element. slice_get (kids (content_of nodes.old.items)) child ≡ Some element) }
+    ensures cuts_the_element_out { OnOk result (content_of nodes.new.items ≡ cut child (content_of nodes.old.items)) }
+    ensures failure_changes_nothing { OnErr result (content_of nodes.new.items ≡ content_of nodes.old.items) }
     ensures only_where_texts_meet { AreNormal nodes.old.items
         → OnErr result (TextsMeet child (content_of nodes.old.items)) }
 {

@@ -39,8 +39,8 @@ impl Path {
 
     /// The path with a number more at its end: None exactly where it holds 64. Takes no memory.
     pub fn child(&self, number: usize) -> Option<Path>
-        ensures room { IsSome result ↔ (length self.now < PATH_LIMIT) }
-        ensures longer { IfSome result (λ path. path ≡ self.now ++ number ∷ []) }
+        ensures only_where_there_is_room { IsSome result ↔ (length self.now < PATH_LIMIT) }
+        ensures path_to_the_child { IfSome result (λ path. path ≡ self.now ++ number ∷ []) }
     {
         if self.len == PATH_LIMIT {
             return None;
@@ -55,8 +55,8 @@ impl Path {
 
     /// The numbers, lent. Takes no memory.
     pub fn numbers(&self) -> &[usize]
-        ensures numbers { result.now ≡ self.now }
-        ensures within { length result.now ≤ PATH_LIMIT }
+        ensures lends_the_numbers { result.now ≡ self.now }
+        ensures path_is_short { length result.now ≤ PATH_LIMIT }
     {
         &self.numbers[..self.len]
     }
@@ -80,8 +80,8 @@ impl Path {
 
     /// The path of the parent, and the number below it: None exactly for the root. Takes no memory.
     pub fn split_last(&self) -> Option<(Path, usize)>
-        ensures below { IsSome result ↔ (0 < length self.now) }
-        ensures parts { IfSome result (λ parts. self.now ≡ parts.0 ++ parts.1 ∷ []) }
+        ensures only_below_the_root { IsSome result ↔ (0 < length self.now) }
+        ensures parts_of_the_path { IfSome result (λ parts. self.now ≡ parts.0 ++ parts.1 ∷ []) }
     {
         if self.len == 0 {
             return None;

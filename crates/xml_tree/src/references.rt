@@ -5,9 +5,9 @@ ghost use Rattle.xml_tree.specs.Print.{text_escape, value_escape};
 /// The reference that a character of a text is written as, unless it is written as itself.
 #[tactic(auto, using(crate::proofs::ReferenceLetters::letters))]
 pub fn text_reference(c: char) -> Option<&'static str>
-    ensures bytes { IfSome result (λ reference. reference.now ≡ text_escape c) }
-    ensures letters { IfSome result (λ reference. chars reference.now ≡ text_escape c) }
-    ensures itself { IfNone result (text_escape c ≡ c ∷ []) }
+    ensures bytes_of_the_reference { IfSome result (λ reference. reference.now ≡ text_escape c) }
+    ensures characters_of_the_reference { IfSome result (λ reference. chars reference.now ≡ text_escape c) }
+    ensures plain_character_stands_for_itself { IfNone result (text_escape c ≡ c ∷ []) }
 {
     match c {
         '&' => Some("&amp;"),
@@ -21,9 +21,9 @@ pub fn text_reference(c: char) -> Option<&'static str>
 /// The reference that a character of a value in quotes is written as, unless it is written as itself.
 #[tactic(auto, using(crate::proofs::ReferenceLetters::letters))]
 pub fn value_reference(c: char) -> Option<&'static str>
-    ensures bytes { IfSome result (λ reference. reference.now ≡ value_escape c) }
-    ensures letters { IfSome result (λ reference. chars reference.now ≡ value_escape c) }
-    ensures itself { IfNone result (value_escape c ≡ c ∷ []) }
+    ensures bytes_of_the_reference { IfSome result (λ reference. reference.now ≡ value_escape c) }
+    ensures characters_of_the_reference { IfSome result (λ reference. chars reference.now ≡ value_escape c) }
+    ensures plain_character_stands_for_itself { IfNone result (value_escape c ≡ c ∷ []) }
 {
     match c {
         '&' => Some("&amp;"),

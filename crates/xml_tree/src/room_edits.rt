@@ -28,7 +28,7 @@ impl Element {
     /// `NoMemory` for want of memory, which comes only where there are two.
     pub fn joined_around(&self, alloc: Global, child: usize) -> Result<Option<Text>, AllocError>
         requires { child < length (kids_of self.now) }
-        ensures joined { IfOk result (λ text. text ≡ joined_around child self.now.content) }
+        ensures joins_the_texts_around { IfOk result (λ text. text ≡ joined_around child self.now.content) }
         ensures only_where_texts_meet { OnErr result (TextsMeet child self.now.content) }
     {
         joined_around(alloc, &self.nodes, child)
@@ -39,8 +39,8 @@ impl Element {
     pub fn take_kid_joining(&mut self, child: usize, joined: Option<Text>) -> Element
         requires there { child < length (kids_of self.old) }
         requires joined { joined ≡ joined_around child self.old.content }
-        ensures taken { slice_get (kids_of self.old) child ≡ Some result }
-        ensures rest { self.new ≡ cut_kid child self.old }
+        ensures element_that_was_there { slice_get (kids_of self.old) child ≡ Some result }
+        ensures leaves_the_others_joined { self.new ≡ cut_kid child self.old }
     {
         take_elem_joining(&mut self.nodes, child, joined)
     }

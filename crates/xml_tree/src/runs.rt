@@ -9,8 +9,8 @@ use std::alloc::{AllocError, Global};
 // Adds a node at the end: a text joins one that stands last, and an empty one is ignored.
 #[tactic(auto, using(crate::proofs::Places::pushes))]
 fn push_node(nodes: &mut Vec<Node>, node: Node) -> Result<(), AllocError>
-    ensures normal { AreNormal nodes.old.items → AreNormal nodes.new.items }
-    ensures ok { OnOk result (content_of nodes.new.items ≡ content_of (nodes.old.items ++ node ∷ [])) }
+    ensures normal_nodes_stay_normal { AreNormal nodes.old.items → AreNormal nodes.new.items }
+    ensures adds_the_node { OnOk result (content_of nodes.new.items ≡ content_of (nodes.old.items ++ node ∷ [])) }
 {
     match node {
         Node::Elem(element) => push_elem_node(nodes, element),
@@ -21,8 +21,8 @@ fn push_node(nodes: &mut Vec<Node>, node: Node) -> Result<(), AllocError>
 
 // The same nodes, with texts that meet joined and empty ones left out.
 fn joined_nodes(alloc: Global, nodes: Vec<Node>) -> Result<Vec<Node>, AllocError>
-    ensures normal { IfOk result (λ made. AreNormal made.items) }
-    ensures same { IfOk result (λ made. content_of made.items ≡ content_of nodes.items) }
+    ensures normal_nodes_stay_normal { IfOk result (λ made. AreNormal made.items) }
+    ensures content_stays { IfOk result (λ made. content_of made.items ≡ content_of nodes.items) }
 {
     let mut made = Vec::new(alloc);
     for node in nodes {
@@ -35,9 +35,9 @@ fn joined_nodes(alloc: Global, nodes: Vec<Node>) -> Result<Vec<Node>, AllocError
 // where no text stands there, the place itself.
 fn with_text_before(nodes: &[Node], place: usize, more: &mut Vec<Node>) -> Result<usize, AllocError>
     requires { place ≤ length nodes.now }
-    ensures same { IfOk result (λ start. take start nodes.now ++ more.new.items ≡ take place nodes.now ++ more.old.items) }
-    ensures within { IfOk result (λ start. start ≤ place) }
-    ensures apart { AreNormal nodes.now → IfOk result (λ start. ends_in_text (take start nodes.now) ≡ false) }
+    ensures nodes_stay_in_order { IfOk result (λ start. take start nodes.now ++ more.new.items ≡ take place nodes.now ++ more.old.items) }
+    ensures lies_within { IfOk result (λ start. start ≤ place) }
+    ensures no_text_meets_the_cut { AreNormal nodes.now → IfOk result (λ start. ends_in_text (take start nodes.now) ≡ false) }
 {
     if place == 0 {
         return Ok(0);
@@ -54,9 +54,9 @@ fn with_text_before(nodes: &[Node], place: usize, more: &mut Vec<Node>) -> Resul
 // there, the place itself.
 fn with_text_behind(nodes: &[Node], place: usize, more: &mut Vec<Node>) -> Result<usize, AllocError>
     requires { place ≤ length nodes.now }
-    ensures same { IfOk result (λ end. more.new.items ++ drop end nodes.now ≡ more.old.items ++ drop place nodes.now) }
-    ensures within { IfOk result (λ end. (place ≤ end) × (end ≤ length nodes.now)) }
-    ensures apart { AreNormal nodes.now → IfOk result (λ end. StartsApart (drop end nodes.now)) }
+    ensures nodes_stay_in_order { IfOk result (λ end. more.new.items ++ drop end nodes.now ≡ more.old.items ++ drop place nodes.now) }
+    ensures lies_within { IfOk result (λ end. (place ≤ end) × (end ≤ length nodes.now)) }
+    ensures no_text_meets_the_cut { AreNormal nodes.now → IfOk result (λ end. StartsApart (drop end nodes.now)) }
 {
     let Some(text) = text_at(nodes, place) else {
         return Ok(place);
@@ -75,10 +75,10 @@ pub(crate) fn exchange(
 ) -> Result<(), AllocError>
     requires order { from ≤ to }
     requires within { to ≤ length nodes.old.items }
-    ensures normal { AreNormal nodes.old.items → AreNormal nodes.new.items }
-    ensures ok { OnOk result (content_of nodes.new.items
+    ensures normal_nodes_stay_normal { AreNormal nodes.old.items → AreNormal nodes.new.items }
+    ensures exchanges_the_nodes { OnOk result (content_of nodes.new.items
         ≡ content_of (take from nodes.old.items ++ (new.items ++ drop to nodes.old.items))) }
-    ensures err { OnErr result (content_of nodes.new.items ≡ content_of nodes.old.items) }
+    ensures failure_changes_nothing { OnErr result (content_of nodes.new.items ≡ content_of nodes.old.items) }
 {
     let start = with_text_before(nodes, from, &mut new)?;
     let end = with_text_behind(nodes, to, &mut new)?;

@@ -7,9 +7,9 @@ ghost use Rattle.xml_tree.specs.declared.names.Decl.{Decl};
 /// All bindings of a scope, as one list: they bind what the scope binds, stand in the order of their prefixes by code point,
 /// and each binds a prefix other than `xml`. No other list does so.
 pub fn bindings_are_those_of_the_scope()
-    ensures same { (c : List (List Decl)) (p : List ℕ) → bound (bindings_in c ∷ []) p ≡ bound c p }
-    ensures ordered { (c : List (List Decl)) → AreInOrder (bindings_in c) }
-    ensures binding { (c : List (List Decl)) → AllByRecursion (λ d. IsTrue (binds d)) (bindings_in c) }
-    ensures sole { (c : List (List Decl)) (ds : List Decl) → AreInOrder ds → AllByRecursion (λ d. IsTrue (binds d)) ds
+    ensures each_prefix_is_bound_alike { (c : List (List Decl)) (p : List ℕ) → bound (bindings_in c ∷ []) p ≡ bound c p }
+    ensures prefixes_rise { (c : List (List Decl)) → AreInOrder (bindings_in c) }
+    ensures each_binds_a_prefix { (c : List (List Decl)) → AllByRecursion (λ d. IsTrue (binds d)) (bindings_in c) }
+    ensures no_other_list_is_such { (c : List (List Decl)) (ds : List Decl) → AreInOrder ds → AllByRecursion (λ d. IsTrue (binds d)) ds
         → ((p : List ℕ) → bound (ds ∷ []) p ≡ bound c p) → ds ≡ bindings_in c }
 {}

@@ -59,8 +59,8 @@ impl Text {
 
     /// The text, lent. Takes no memory.
     pub fn as_str(&self) -> &str
-        ensures letters { chars result.now ≡ self.now }
-        ensures bytes { result.now ≡ encode_utf8_all self.now }
+        ensures characters_of_the_text { chars result.now ≡ self.now }
+        ensures bytes_of_the_characters { result.now ≡ encode_utf8_all self.now }
     {
         self.bytes.as_str()
     }
@@ -80,8 +80,8 @@ impl Text {
     /// # Errors
     /// `NoMemory` for want of memory; the text is then as before.
     pub fn push_str(&mut self, text: &str) -> Result<(), AllocError>
-        ensures ok { OnOk result (self.new ≡ self.old ++ chars text.now) }
-        ensures err { OnErr result (self.new ≡ self.old) }
+        ensures adds_the_characters { OnOk result (self.new ≡ self.old ++ chars text.now) }
+        ensures failure_changes_nothing { OnErr result (self.new ≡ self.old) }
     {
         self.bytes.push_str(text)
     }
@@ -91,8 +91,8 @@ impl Text {
     /// # Errors
     /// `NoMemory` for want of memory; the text is then as before.
     pub fn push(&mut self, c: char) -> Result<(), AllocError>
-        ensures ok { OnOk result (self.new ≡ self.old ++ c ∷ []) }
-        ensures err { OnErr result (self.new ≡ self.old) }
+        ensures adds_it_behind { OnOk result (self.new ≡ self.old ++ c ∷ []) }
+        ensures failure_changes_nothing { OnErr result (self.new ≡ self.old) }
     {
         self.bytes.push(c)
     }

@@ -48,8 +48,8 @@ impl TextBytes {
 
     /// Adds a text's bytes at the end.
     pub(crate) fn push_str(&mut self, text: &str) -> Result<(), AllocError>
-        ensures ok { OnOk result (bytes_of self.new ≡ bytes_of self.old ++ text.now) }
-        ensures err { OnErr result (bytes_of self.new ≡ bytes_of self.old) }
+        ensures adds_the_characters { OnOk result (bytes_of self.new ≡ bytes_of self.old ++ text.now) }
+        ensures failure_changes_nothing { OnErr result (bytes_of self.new ≡ bytes_of self.old) }
     {
         match self {
             TextBytes::Long(string) => string.push_str(text),
@@ -66,8 +66,8 @@ impl TextBytes {
 
     /// Adds a character's bytes at the end.
     pub(crate) fn push(&mut self, c: char) -> Result<(), AllocError>
-        ensures ok { OnOk result (bytes_of self.new ≡ bytes_of self.old ++ encode_utf8 c) }
-        ensures err { OnErr result (bytes_of self.new ≡ bytes_of self.old) }
+        ensures adds_it_behind { OnOk result (bytes_of self.new ≡ bytes_of self.old ++ encode_utf8 c) }
+        ensures failure_changes_nothing { OnErr result (bytes_of self.new ≡ bytes_of self.old) }
     {
         match self {
             TextBytes::Long(string) => string.push(c),

@@ -76,8 +76,8 @@ impl Element {
     /// # Errors
     /// `NoMemory` for want of memory; the element is then as before, as at each call below.
     pub fn push_decl(&mut self, decl: Decl) -> Result<(), AllocError>
-        ensures ok { OnOk result (self.new ≡ record self.old { decls = self.old.decls ++ decl ∷ [] }) }
-        ensures err { OnErr result (self.new ≡ self.old) }
+        ensures adds_the_declaration { OnOk result (self.new ≡ record self.old { decls = self.old.decls ++ decl ∷ [] }) }
+        ensures failure_changes_nothing { OnErr result (self.new ≡ self.old) }
     {
         self.decls.push(decl)?;
         Ok(())
@@ -88,8 +88,8 @@ impl Element {
     /// # Errors
     /// `NoMemory` for want of memory.
     pub fn push_attr(&mut self, attr: Attr) -> Result<(), AllocError>
-        ensures ok { OnOk result (self.new ≡ record self.old { attrs = self.old.attrs ++ attr ∷ [] }) }
-        ensures err { OnErr result (self.new ≡ self.old) }
+        ensures adds_the_attribute { OnOk result (self.new ≡ record self.old { attrs = self.old.attrs ++ attr ∷ [] }) }
+        ensures failure_changes_nothing { OnErr result (self.new ≡ self.old) }
     {
         self.attrs.push(attr)?;
         Ok(())
@@ -100,8 +100,8 @@ impl Element {
     /// # Errors
     /// `NoMemory` for want of memory.
     pub fn push_elem(&mut self, element: Element) -> Result<(), AllocError>
-        ensures ok { OnOk result (self.new ≡ record self.old { content = with_elem element self.old.content }) }
-        ensures err { OnErr result (self.new ≡ self.old) }
+        ensures adds_the_element { OnOk result (self.new ≡ record self.old { content = with_elem element self.old.content }) }
+        ensures failure_changes_nothing { OnErr result (self.new ≡ self.old) }
     {
         push_elem_node(&mut self.nodes, element)
     }
@@ -111,9 +111,9 @@ impl Element {
     /// # Errors
     /// `NoMemory` for want of memory.
     pub fn push_chars(&mut self, text: &str) -> Result<(), AllocError>
-        ensures ok { OnOk result
+        ensures adds_the_characters { OnOk result
             (self.new ≡ record self.old { content = with_text (chars text.now) self.old.content }) }
-        ensures err { OnErr result (self.new ≡ self.old) }
+        ensures failure_changes_nothing { OnErr result (self.new ≡ self.old) }
     {
         push_text(&mut self.nodes, text)
     }
@@ -123,8 +123,8 @@ impl Element {
     /// # Errors
     /// `NoMemory` for want of memory.
     pub fn push_text(&mut self, text: Text) -> Result<(), AllocError>
-        ensures ok { OnOk result (self.new ≡ record self.old { content = with_text text self.old.content }) }
-        ensures err { OnErr result (self.new ≡ self.old) }
+        ensures adds_the_text { OnOk result (self.new ≡ record self.old { content = with_text text self.old.content }) }
+        ensures failure_changes_nothing { OnErr result (self.new ≡ self.old) }
     {
         push_own_text(&mut self.nodes, text)
     }
@@ -135,8 +135,8 @@ impl Element {
     /// `NoMemory` for want of memory.
     pub fn push_comment(&mut self, text: Text) -> Result<(), AllocError>
         requires { IsTrue (is_comment text) }
-        ensures ok { OnOk result (self.new ≡ record self.old { content = with_comment text self.old.content }) }
-        ensures err { OnErr result (self.new ≡ self.old) }
+        ensures adds_the_comment { OnOk result (self.new ≡ record self.old { content = with_comment text self.old.content }) }
+        ensures failure_changes_nothing { OnErr result (self.new ≡ self.old) }
     {
         push_comment_node(&mut self.nodes, text)
     }
@@ -171,18 +171,18 @@ impl Element {
 
     /// The nodes: those of its content. Each is less high than the element, so that a recursion over them ends.
     pub fn nodes(&self) -> &[Node]
-        ensures nodes { result.now ≡ nodes_of self.now.content }
-        ensures content { content_of result.now ≡ self.now.content }
-        ensures lower { All (λ node. node_height node < height self.now) result.now }
-        ensures normal { AreNormal result.now }
+        ensures nodes_of_the_content { result.now ≡ nodes_of self.now.content }
+        ensures content_of_the_nodes { content_of result.now ≡ self.now.content }
+        ensures is_no_higher { All (λ node. node_height node < height self.now) result.now }
+        ensures nodes_are_normal { AreNormal result.now }
     {
         &self.nodes
     }
 
     /// The nodes, taken out of the element, which is dropped.
     pub fn into_nodes(self) -> Vec<Node>
-        ensures nodes { result.items ≡ nodes_of self.content }
-        ensures normal { AreNormal result.items }
+        ensures nodes_of_the_content { result.items ≡ nodes_of self.content }
+        ensures nodes_are_normal { AreNormal result.items }
     {
         let Element {
             name: _,
@@ -246,7 +246,7 @@ impl Node {
     pub(crate) fn elem_mut(&mut self) -> &mut Element
         requires { IsSome (elem_of self.old) }
         ensures* writes_back { sem 𝓛 (LendsElem self.entry result) }
-        ensures value { elem_of self.old ≡ Some result.now }
+        ensures lends_the_element { elem_of self.old ≡ Some result.now }
     {
         match self {
             Node::Elem(element) => element,
@@ -292,8 +292,8 @@ impl Node {
     // Adds to a text.
     pub(crate) fn push_str(&mut self, text: &str) -> Result<(), AllocError>
         requires { is_text self.old ≡ true }
-        ensures ok { OnOk result (self.new ≡ node_with (chars text.now) self.old) }
-        ensures err { OnErr result (self.new ≡ self.old) }
+        ensures adds_the_characters { OnOk result (self.new ≡ node_with (chars text.now) self.old) }
+        ensures failure_changes_nothing { OnErr result (self.new ≡ self.old) }
     {
         match self {
             Node::Elem(_) => unreachable!(),

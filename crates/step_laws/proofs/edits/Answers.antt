@@ -5,7 +5,7 @@ pub returns : goal.returns
 returns g c = record {
   put_in = select_shifted;
   taken_out = select_remove_over;
-  exchanged = replaced;
+  exchanged_child_stays_selected = replaced;
   selected_out = removed_none;
   next_moves_up = removed_next;
 }

@@ -4,6 +4,6 @@ use Rattle.step_laws.proofs.plans.Goals as goal
 
 pub returns : goal.returns
 returns g c = record {
-  one = λ unlawful invalid lawful valid n r s. one_plan unlawful invalid (λ j. IsTrue (lawful j)) (λ j. IsTrue (valid j)) n r s;
-  computed = plan_of_is;
+  answer_is_one = λ unlawful invalid lawful valid n r s. one_plan unlawful invalid (λ j. IsTrue (lawful j)) (λ j. IsTrue (valid j)) n r s;
+  computes_the_same = plan_of_is;
 }

@@ -11,16 +11,16 @@ loop-root-init c =
     let trees = shown c.in_ok-root-items.root-items.items in
     let left = c.into_iter-root-iterator.result.rest.items in (
       trees,
-      c.in_ok-root-items.ensures.trees,
+      c.in_ok-root-items.ensures.trees_of_the_index,
       subst (λ (ss : List Tree). Gathered trees (shown left) ss) (sym c.in_ok-maker.ensures.lists_no_services)
-          (gathered_none trees c.in_ok-root-items.root-items.items left c.into_iter-root-iterator.ensures.into_iter_gives.0 refl c.in_ok-root-items.ensures.low),
+          (gathered_none trees c.in_ok-root-items.root-items.items left c.into_iter-root-iterator.ensures.into_iter_gives.0 refl c.in_ok-root-items.ensures.is_low_enough),
     )
 
 pub loop-root-preserved : goal.loop-root-preserved
 loop-root-preserved c =
     let trees = c.loop-root.invariant.0 in
     let before = subst (λ (rs : List (Bor Tree)). Gathered trees (shown rs) c.loop-root.maker) c.in-Some.ensures.steps.0 c.loop-root.invariant.2 in
-    (trees, c.loop-root.invariant.1, gathered_more trees (shown c.next.new.self.rest.items) c.loop-root.maker c.in-Some.root.now c.add.new.self before c.in_ok-add.ensures.ok c.in_ok-add.ensures.fits)
+    (trees, c.loop-root.invariant.1, gathered_more trees (shown c.next.new.self.rest.items) c.loop-root.maker c.in-Some.root.now c.add.new.self before c.in_ok-add.ensures.adds_the_services c.in_ok-add.ensures.stays_within_the_limit)
 
 pub returns-in_err-add-clause-refused_beyond_limit : goal.returns-in_err-add-clause-refused_beyond_limit
 returns-in_err-add-clause-refused_beyond_limit c =
@@ -28,4 +28,4 @@ returns-in_err-add-clause-refused_beyond_limit c =
     let before = subst (λ (rs : List (Bor Tree)). Gathered trees (shown rs) c.loop-root.maker) c.in-Some.ensures.steps.0 c.loop-root.invariant.2 in
     let p = err_from_is_err_and c.from_residual-in_err-add.result c.from_residual-in_err-add.ensures.1 in
     rw (p.1, p.2)
-    (refused_so c.args.store.now.content (index_of_documents trees) c.in_err-add.field-0.0 (trees, c.loop-root.invariant.1, refl) (beyond trees (shown c.next.new.self.rest.items) c.loop-root.maker c.in-Some.root.now c.in_err-add.field-0.0 before c.in_err-add.ensures.refused))
+    (refused_so c.args.store.now.content (index_of_documents trees) c.in_err-add.field-0.0 (trees, c.loop-root.invariant.1, refl) (beyond trees (shown c.next.new.self.rest.items) c.loop-root.maker c.in-Some.root.now c.in_err-add.field-0.0 before c.in_err-add.ensures.refused_as_too_long))

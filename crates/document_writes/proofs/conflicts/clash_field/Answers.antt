@@ -6,5 +6,5 @@ pub returns : goal.returns
 returns c = record {
   tells_the_field =
       field_is (path_text c.args.clash.now.path) c.in_ok-field.field c.push_str.new.self c.push_str-2.new.self c.word.result.now c.args.clash.now.key
-      c.in_ok-field.ensures.prints_the_path c.in_ok-push_str.ensures.ok c.in_ok-push_str-2.ensures.ok c.word.ensures.value c.word.ensures.ascii;
+      c.in_ok-field.ensures.prints_the_path c.in_ok-push_str.ensures.adds_the_characters c.in_ok-push_str-2.ensures.adds_the_characters c.word.ensures.word_that_is_due c.word.ensures.is_ascii_alone;
 }

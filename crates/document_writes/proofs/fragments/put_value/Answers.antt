@@ -6,7 +6,7 @@ pub returns-in_ok-planned-in-Ok : goal.returns-in_ok-planned-in-Ok
 returns-in_ok-planned-in-Ok c = record {
   plans_the_put =
       value_puts c.args.usage c.args.selector.now c.args.tree.now c.args.request.now c.args.path.now c.in-Ok.value c.as_slice.result.now c.as_slice.ensures.lends_the_bytes c.in-Ok.ensures.answer_by_the_grammar
-      (attr_may c.args.usage c.args.tree.now c.args.selector.now c.requires.sound c.args.path.now c.in-Ok.value c.requires.spot.0 c.requires.writable c.in-Ok.ensures.chars) c.args.exists c.requires.known
+      (attr_may c.args.usage c.args.tree.now c.args.selector.now c.requires.sound c.args.path.now c.in-Ok.value c.requires.spot.0 c.requires.writable c.in-Ok.ensures.is_all_chars) c.args.exists c.requires.known
       c.in_ok-planned-in-Ok.planned c.plan_of.result c.in_ok-planned-in-Ok.ensures.by_the_words c.plan_of.ensures.tells_the_plan;
 }
 

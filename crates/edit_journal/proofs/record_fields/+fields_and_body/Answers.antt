@@ -58,8 +58,8 @@ returns-clause-reads_the_fields_and_the_body t c =
     let some : 0 < c.args.count = omega (arith, c.if-count-eq0.false) in
     let rest : c.after.result.now ≡ e.1 = c.after.ensures.drops_the_first ∙ behind c.args.bytes.now e.0 e.1 (8 + c.count.result + c.len.result) e.2 (sym used) in
     fields_go_on c.args.fields.now c.push.new.self c.fields_and_body.new.fields c.args.bytes.now e.0 e.1 c.in_ok-field.field c.args.count c.args.left (8 + c.count.result + c.len.result) c.fields_and_body.result some
-    c.requires.left e.2 e.3 used c.in_ok-push.ensures.ok c.fields_and_body.ensures.keeps_the_fields_before
+    c.requires.left e.2 e.3 used c.in_ok-push.ensures.adds_it_behind c.fields_and_body.ensures.keeps_the_fields_before
     (subst (λ (l : List ℕ). Reads (λ (body : List ℕ). (drop (length c.push.new.self) c.fields_and_body.new.fields, body)) (FieldsAndBody (c.args.count - 1) (c.args.left - (8 + c.count.result + c.len.result))) l c.fields_and_body.result) rest c.fields_and_body.ensures.reads_the_fields_and_the_body)
 
 pub returns-clause-keeps_the_fields_before : goal.returns-clause-keeps_the_fields_before
-returns-clause-keeps_the_fields_before t c = fields_grow c.args.fields.now c.push.new.self c.fields_and_body.new.fields c.in_ok-field.field c.fields_and_body.result c.in_ok-push.ensures.ok c.fields_and_body.ensures.keeps_the_fields_before
+returns-clause-keeps_the_fields_before t c = fields_grow c.args.fields.now c.push.new.self c.fields_and_body.new.fields c.in_ok-field.field c.fields_and_body.result c.in_ok-push.ensures.adds_it_behind c.fields_and_body.ensures.keeps_the_fields_before

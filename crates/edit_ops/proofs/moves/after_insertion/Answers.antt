@@ -5,9 +5,9 @@ use Rattle.edit_ops.proofs.moves.after_insertion.Goals as goal
 
 pub overflow_add-number : goal.overflow_add-number
 overflow_add-number c =
-    let place = c.numbers.ensures.numbers in
-    let path = c.numbers-2.ensures.numbers in
-    let whole = c.in-Some.ensures.whole in
+    let place = c.numbers.ensures.lends_the_numbers in
+    let path = c.numbers-2.ensures.lends_the_numbers in
+    let whole = c.in-Some.ensures.way_completes_the_path in
     let first = c.in-Some-split_first.ensures.cases in
     let small = is_small c.args.path.now c.args.parent.now c.in-Some-split_first.below.now c.in-Some-split_first.number.now (grind (arith, common_steps)) c.requires in
     search (rules, small)

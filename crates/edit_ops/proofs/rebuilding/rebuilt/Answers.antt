@@ -7,4 +7,4 @@ use Rattle.edit_ops.proofs.rebuilding.rebuilt.Goals as goal
 pub rebuilt_below-requires : goal.rebuilt_below-requires
 rebuilt_below-requires c =
     let root = c.args.root.now in let change = c.args.change.now in
-    subst (λ p. IsSomeAnd (at p root) (FitsHere change)) (sym (c.numbers.ensures.numbers ∙ c.site_of.ensures.place_of_the_change)) (fits_there root change c.requires)
+    subst (λ p. IsSomeAnd (at p root) (FitsHere change)) (sym (c.numbers.ensures.lends_the_numbers ∙ c.site_of.ensures.place_of_the_change)) (fits_there root change c.requires)

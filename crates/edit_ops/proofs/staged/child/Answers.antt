@@ -8,6 +8,6 @@ returns c = record {
       let room = c.in_ok-room.room in (
         room,
         ap (λ e. Child e room) c.in_ok-element.ensures.makes_an_equal_tree,
-        (c.in_ok-room.ensures.items, omega (arith, c.in_ok-room.ensures.exact, ap length c.nodes.ensures.nodes)),
+        (c.in_ok-room.ensures.items, omega (arith, c.in_ok-room.ensures.exact, ap length c.nodes.ensures.nodes_of_the_content)),
       );
 }

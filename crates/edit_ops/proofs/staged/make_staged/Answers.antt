@@ -20,14 +20,14 @@ edit_at-requires-clause-callable c = λ e is p shows.
       subst (λ x. IsStagedHere change x staged) (sym shows) (from_there (at (site change) root) (λ x. IsStagedHere change x staged) e c.requires.staged there),
     )
 
-pub returns-clause-made : goal.returns-clause-made
-returns-clause-made c =
+pub returns-clause-makes_the_staged_change : goal.returns-clause-makes_the_staged_change
+returns-clause-makes_the_staged_change c =
     let done = c.edit_at.ensures.edits_the_element_there in let change = c.args.change.now in
     made_there c.args.root.now done.here done.left c.edit_at.new.self change c.site_of.result c.site_of.ensures.place_of_the_change done.there
     (sym done.edits.leaves ∙ done.edits.met ∙ ap (made_here change) done.edits.shows) done.put
 
-pub returns-clause-others : goal.returns-clause-others
-returns-clause-others c =
+pub returns-clause-moves_the_others_unchanged : goal.returns-clause-moves_the_others_unchanged
+returns-clause-moves_the_others_unchanged c =
     let done = c.edit_at.ensures.edits_the_element_there in let root = c.args.root.now in let change = c.args.change.now in
     let made = made_there root done.here done.left c.edit_at.new.self change c.site_of.result c.site_of.ensures.place_of_the_change done.there
     (sym done.edits.leaves ∙ done.edits.met ∙ ap (made_here change) done.edits.shows) done.put in

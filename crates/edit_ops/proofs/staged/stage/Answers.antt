@@ -17,11 +17,11 @@ staged_here-requires c =
     let root = c.args.root.now in
     fits_at root c.in-Some.here.now c.args.change.now c.requires (ap (λ p. at p root) (sym c.site_of.ensures.place_of_the_change) ∙ sym c.in-Some.ensures.element_at_the_path)
 
-pub returns-clause-staged : goal.returns-clause-staged
-returns-clause-staged c =
+pub returns-clause-stages_the_change : goal.returns-clause-stages_the_change
+returns-clause-stages_the_change c =
     let root = c.args.root.now in let change = c.args.change.now in let here = c.in-Some.here.now in
     let there = ap (λ p. at p root) (sym c.site_of.ensures.place_of_the_change) ∙ sym c.in-Some.ensures.element_at_the_path in
-    IfOk-weaker c.staged_here.result _ _ (λ made h. with_there (at (site change) root) (λ e. IsStagedHere change e made) here there h) c.staged_here.ensures.staged
+    IfOk-weaker c.staged_here.result _ _ (λ made h. with_there (at (site change) root) (λ e. IsStagedHere change e made) here there h) c.staged_here.ensures.stages_the_change
 
 pub returns-clause-only_where_wanted : goal.returns-clause-only_where_wanted
 returns-clause-only_where_wanted c =

@@ -15,7 +15,7 @@ answer_below-requires-clause-asked c =
     let scope : c.inside.result ≡ t.decls ∷ [] = c.inside.ensures.adds_the_declarations ∙ ap (λ (d : List (List Decl)). d ++ c.in_ok-declared.declared ∷ []) c.empty.ensures.declares_nothing ∙ ap (λ (ds : List Decl). ds ∷ []) ((c.in_ok-declared.ensures {u = tt}).holds_the_declarations ∙ c.decls.ensures.lends_the_declarations) in
     subst (λ (k : Kind). Below P (Some k) c.inside.result t c.numbers.result.now) (sym c.root_kind.ensures.kind_of_the_root)
     (subst (λ (d : List (List Decl)). Below P (Some (root_kind c.args.usage)) d t c.numbers.result.now) (sym scope)
-    (subst (λ (q : List ℕ). Below P (Some (root_kind c.args.usage)) (t.decls ∷ []) t q) (sym c.numbers.ensures.numbers) c.requires.asked))
+    (subst (λ (q : List ℕ). Below P (Some (root_kind c.args.usage)) (t.decls ∷ []) t q) (sym c.numbers.ensures.lends_the_numbers) c.requires.asked))
 
 pub returns : goal.returns
 returns c = record {
@@ -23,7 +23,7 @@ returns c = record {
       let P : Result ℕ EditRefusal → Option Kind → Scope → Tree → Type 0 = λ x r d parent. Answers r d c.args.step.now parent c.args.place.now c.args.asked.now x in
       let t = c.args.root.now in
       let scope : c.inside.result ≡ t.decls ∷ [] = c.inside.ensures.adds_the_declarations ∙ ap (λ (d : List (List Decl)). d ++ c.in_ok-declared.declared ∷ []) c.empty.ensures.declares_nothing ∙ ap (λ (ds : List Decl). ds ∷ []) ((c.in_ok-declared.ensures {u = tt}).holds_the_declarations ∙ c.decls.ensures.lends_the_declarations) in
-      subst (λ (q : List ℕ). IfOk c.answer_below.result (λ x. Below (P x) (Some (root_kind c.args.usage)) (t.decls ∷ []) t q)) c.numbers.ensures.numbers
+      subst (λ (q : List ℕ). IfOk c.answer_below.result (λ x. Below (P x) (Some (root_kind c.args.usage)) (t.decls ∷ []) t q)) c.numbers.ensures.lends_the_numbers
       (subst (λ (d : List (List Decl)). IfOk c.answer_below.result (λ x. Below (P x) (Some (root_kind c.args.usage)) d t c.numbers.result.now)) scope
       (subst (λ (k : Kind). IfOk c.answer_below.result (λ x. Below (P x) (Some k) c.inside.result t c.numbers.result.now)) c.root_kind.ensures.kind_of_the_root c.answer_below.ensures.answers_below));
 }

@@ -27,7 +27,7 @@ returns-in_default-split_last c = record {
       let element = c.args.element.now in
       let tag = c.args.tag.now in
       let sought = c.args.sought.now in
-      let root : c.args.path.now ≡ [] = empty_path c.split_last.result c.args.path.now c.split_last.ensures.below c.in_default-split_last.is in
+      let root : c.args.path.now ≡ [] = empty_path c.split_last.result c.args.path.now c.split_last.ensures.only_below_the_root c.in_default-split_last.is in
       let e = ends_with steps c.as_slice.result.now s c.as_slice.ensures.lends_the_items c.in-len1-up.len_at_least c.step-item.is in
       let sel = subst (λ (p : List ℕ). SelectsPath steps t p) root c.requires.selected in
       let same : t ≡ element = same_Some t element (subst (λ (p : List ℕ). at p t ≡ Some element) root c.requires.there) in
@@ -47,7 +47,7 @@ answer-requires-clause-there c =
     let q = c.in-Some.place in
     let j = c.in-Some.child in
     let s = c.step-item.result in
-    let at_p : c.args.path.now ≡ q ++ j ∷ [] = (c.in-Some.ensures {u = tt}).parts in
+    let at_p : c.args.path.now ≡ q ++ j ∷ [] = (c.in-Some.ensures {u = tt}).parts_of_the_path in
     let e = ends_with steps c.as_slice.result.now s c.as_slice.ensures.lends_the_items c.in-len1-up.len_at_least c.step-item.is in
     parent_there t steps e.0 s q j (parent_of t steps e.0 s q j e.1 (subst (λ (p : List ℕ). SelectsPath steps t p) at_p c.requires.selected))
 
@@ -58,7 +58,7 @@ answer-requires-clause-asked c =
     let q = c.in-Some.place in
     let j = c.in-Some.child in
     let s = c.step-item.result in
-    let at_p : c.args.path.now ≡ q ++ j ∷ [] = (c.in-Some.ensures {u = tt}).parts in
+    let at_p : c.args.path.now ≡ q ++ j ∷ [] = (c.in-Some.ensures {u = tt}).parts_of_the_path in
     let e = ends_with steps c.as_slice.result.now s c.as_slice.ensures.lends_the_items c.in-len1-up.len_at_least c.step-item.is in
     let p = parent_of t steps e.0 s q j e.1 (subst (λ (p : List ℕ). SelectsPath steps t p) at_p c.requires.selected) in
     let there = subst (λ (p : List ℕ). at p t ≡ Some c.args.element.now) at_p c.requires.there in
@@ -77,7 +77,7 @@ returns c = record {
       let element = c.args.element.now in
       let tag = c.args.tag.now in
       let sought = c.args.sought.now in
-      let at_p : c.args.path.now ≡ q ++ j ∷ [] = (c.in-Some.ensures {u = tt}).parts in
+      let at_p : c.args.path.now ≡ q ++ j ∷ [] = (c.in-Some.ensures {u = tt}).parts_of_the_path in
       let e = ends_with steps c.as_slice.result.now s c.as_slice.ensures.lends_the_items c.in-len1-up.len_at_least c.step-item.is in
       let sel = subst (λ (p : List ℕ). SelectsPath steps t p) at_p c.requires.selected in
       let there = subst (λ (p : List ℕ). at p t ≡ Some element) at_p c.requires.there in

@@ -22,7 +22,7 @@ returns-in_default-find_attr c = record {
       let local = c.args.local.now in
       let there : at p t ≡ Some e = sym (c.in-Some.ensures {u = tt}).element_at_the_path in
       let in_scope = scope_is t e p c.in-Some-at.scope there (c.in-Some-at.ensures {u = tt}).scope_at_the_element in
-      let place = place_is t e p c.in-Some-at.scope _ uri _ local c.find_attr.result in_scope c.as_str.ensures.letters c.as_str-2.ensures.letters
+      let place = place_is t e p c.in-Some-at.scope _ uri _ local c.find_attr.result in_scope c.as_str.ensures.characters_of_the_text c.as_str-2.ensures.characters_of_the_text
       c.find_attr.ensures.place_of_the_first in
       let none = none_at_position (is_attr (scope_at p t) uri local) e.attrs (sym place ∙ c.in_default-find_attr.is) in
       drop_nothing c.args.usage t e c.args.selector.now p uri local c.requires.ends c.requires.selected there none;
@@ -40,7 +40,7 @@ returns c = record {
       let tag = c.in_ok-tag.tag in
       let there : at p t ≡ Some e = sym (c.in-Some.ensures {u = tt}).element_at_the_path in
       let in_scope = scope_is t e p c.in-Some-at.scope there (c.in-Some-at.ensures {u = tt}).scope_at_the_element in
-      let place = place_is t e p c.in-Some-at.scope _ uri _ local c.find_attr.result in_scope c.as_str.ensures.letters c.as_str-2.ensures.letters
+      let place = place_is t e p c.in-Some-at.scope _ uri _ local c.find_attr.result in_scope c.as_str.ensures.characters_of_the_text c.as_str-2.ensures.characters_of_the_text
       c.find_attr.ensures.place_of_the_first in
       let that = attr_found t e p uri local c.in-Some-find_attr.place attr c.attrs.result.now c.attrs.ensures.lends_the_attributes c.index-attrs-place.is
       (sym place ∙ c.in-Some-find_attr.is) in

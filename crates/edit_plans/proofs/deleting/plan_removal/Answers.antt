@@ -15,7 +15,7 @@ returns-in_default c = record {
   plans_the_removal =
       let t = c.args.root.now in
       let selector = c.args.selector.now in
-      let root : c.args.path ≡ [] = empty_path c.split_last.result c.args.path c.split_last.ensures.below c.in_default.is in
+      let root : c.args.path ≡ [] = empty_path c.split_last.result c.args.path c.split_last.ensures.only_below_the_root c.in_default.is in
       delete_by c.args.usage t selector c.args.path (Err (refusals.Faulty Invalid)) c.requires.ends c.requires.selected (subst (λ (p : List ℕ). IsRemoval c.args.usage t selector p (Err (refusals.Faulty Invalid))) (sym root) refl);
 }
 
@@ -26,7 +26,7 @@ answer-requires-clause-there c =
     let q = c.in-Some.place in
     let j = c.in-Some.child in
     let s = c.step-item.result in
-    let at_p : c.args.path ≡ q ++ j ∷ [] = (c.in-Some.ensures {u = tt}).parts in
+    let at_p : c.args.path ≡ q ++ j ∷ [] = (c.in-Some.ensures {u = tt}).parts_of_the_path in
     let e = ends_with steps c.as_slice.result.now s c.as_slice.ensures.lends_the_items c.in-len1-up.len_at_least c.step-item.is in
     parent_there t steps e.0 s q j (parent_of t steps e.0 s q j e.1 (subst (λ (p : List ℕ). SelectsPath steps t p) at_p c.requires.selected))
 
@@ -37,7 +37,7 @@ answer-requires-clause-asked c =
     let q = c.in-Some.place in
     let j = c.in-Some.child in
     let s = c.step-item.result in
-    let at_p : c.args.path ≡ q ++ j ∷ [] = (c.in-Some.ensures {u = tt}).parts in
+    let at_p : c.args.path ≡ q ++ j ∷ [] = (c.in-Some.ensures {u = tt}).parts_of_the_path in
     let e = ends_with steps c.as_slice.result.now s c.as_slice.ensures.lends_the_items c.in-len1-up.len_at_least c.step-item.is in
     let p = parent_of t steps e.0 s q j e.1 (subst (λ (p : List ℕ). SelectsPath steps t p) at_p c.requires.selected) in
     tell_at_root c.args.usage t q (λ row scope parent. IsSelected row scope s parent j) (λ parent there. may_select c.args.usage t steps e.0 s q j p c.requires.faultless.2 parent there)
@@ -51,7 +51,7 @@ returns c = record {
       let q = c.in-Some.place in
       let j = c.in-Some.child in
       let s = c.step-item.result in
-      let at_p : c.args.path ≡ q ++ j ∷ [] = (c.in-Some.ensures {u = tt}).parts in
+      let at_p : c.args.path ≡ q ++ j ∷ [] = (c.in-Some.ensures {u = tt}).parts_of_the_path in
       let e = ends_with steps c.as_slice.result.now s c.as_slice.ensures.lends_the_items c.in-len1-up.len_at_least c.step-item.is in
       let sel = subst (λ (p : List ℕ). SelectsPath steps t p) at_p c.requires.selected in
       let p = parent_of t steps e.0 s q j e.1 sel in

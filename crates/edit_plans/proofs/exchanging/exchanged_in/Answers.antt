@@ -15,10 +15,10 @@ returns-then-not-branch c = record { answers_the_exchange = inr (inl (refl, c.pa
 pub judged_new-requires-clause-gap : goal.judged_new-requires-clause-gap
 judged_new-requires-clause-gap c =
     let sib = c.without-siblings.ensures in
-    gap_without c.without-siblings.result c.args.parent.now c.requires.selected.1.this.kid c.args.child sib.parent sib.but_one c.requires.selected.1.this.there
+    gap_without c.without-siblings.result c.args.parent.now c.requires.selected.1.this.kid c.args.child sib.has_the_parent sib.but_one c.requires.selected.1.this.there
 
 pub judged_new-requires-clause-unique : goal.judged_new-requires-clause-unique
-judged_new-requires-clause-unique c = clean_by c.without-siblings.result c.args.parent.now c.args.row c.args.scope.now c.without-siblings.ensures.parent c.requires.selected.0
+judged_new-requires-clause-unique c = clean_by c.without-siblings.result c.args.parent.now c.args.row c.args.scope.now c.without-siblings.ensures.has_the_parent c.requires.selected.0
 
 pub returns : goal.returns
 returns c = record {
@@ -30,7 +30,7 @@ returns c = record {
       let q = c.args.place.now in
       let j = c.args.child in
       let F = FormedIn row scope new in
-      let same = others_without c.without-siblings.result parent j c.without-siblings.ensures.parent c.without-siblings.ensures.but_one in
+      let same = others_without c.without-siblings.result parent j c.without-siblings.ensures.has_the_parent c.without-siblings.ensures.but_one in
       IfOk-weaker c.judged_new.result (IsJudgedIn F row scope (remove (kids_of parent) j) new q j) (IsExchangedIn row scope c.args.step.now parent j new q)
       (λ r h. inr (inr (c.passes.ensures.tells_whether_it_passes_both.0 c.if-not-passes.false, (c.in_ok-fits_over.ensures {u = tt}).tells_whether_it_fits_over.0 c.if-not-branch.false, h)))
       (subst (λ (xs : List Tree). IfOk c.judged_new.result (IsJudgedIn F row scope xs new q j)) same c.judged_new.ensures.judges_the_new_element);

@@ -16,7 +16,7 @@ returns-in-Ok c = record {
       let new = c.args.new.now in
       let q = c.args.place.now in
       let judged = subst (λ (xs : List Tree). IfOk c.judged_new.result (IsJudgedIn (FormedIn row scope new) row scope xs new q c.in-Ok.gap))
-      (others_all c.all.result c.args.parent.now c.all.ensures.parent c.all.ensures.all) c.judged_new.ensures.judges_the_new_element in
+      (others_all c.all.result c.args.parent.now c.all.ensures.has_the_parent c.all.ensures.leaves_out_none) c.judged_new.ensures.judges_the_new_element in
       IfOk-weaker c.judged_new.result (IsJudgedIn (FormedIn row scope new) row scope (kids_of c.args.parent.now) new q c.in-Ok.gap) (IsPlacedIn row scope c.args.step.now c.args.parent.now new q)
       (λ r h. placed_ok row scope c.args.step.now c.args.parent.now new q c.in-Ok.gap r chosen h) judged;
 }

@@ -17,7 +17,7 @@ pub root_exchanged-requires-clause-alone : goal.root_exchanged-requires-clause-a
 root_exchanged-requires-clause-alone c =
     let t = c.args.root.now in
     let steps = c.args.steps.now in
-    let root : c.args.path.now ≡ [] = empty_path c.split_last.result c.args.path.now c.split_last.ensures.below c.in_default.is in
+    let root : c.args.path.now ≡ [] = empty_path c.split_last.result c.args.path.now c.split_last.ensures.only_below_the_root c.in_default.is in
     let e = last_parts steps t c.args.path.now c.requires.selected in
     only_the_root t c.args.element steps e.0 e.1.0 e.1.1 (subst (λ (p : List ℕ). SelectsPath steps t p) root c.requires.selected)
 
@@ -28,7 +28,7 @@ returns-in_default c = record {
       let t = c.args.root.now in
       let steps = c.args.steps.now in
       let new = c.args.element in
-      let root : c.args.path.now ≡ [] = empty_path c.split_last.result c.args.path.now c.split_last.ensures.below c.in_default.is in
+      let root : c.args.path.now ≡ [] = empty_path c.split_last.result c.args.path.now c.split_last.ensures.only_below_the_root c.in_default.is in
       subst (λ (l : List ℕ). IsTested CannotInsert (LawfulOver steps t new l) u t (Replace l new) c.replaced.result) (sym root)
       (root_over u t new steps c.in_ok-found.found c.replaced.result (c.in_ok-found.ensures {u = tt}).answers_the_new_root (c.replaced.ensures.replaces_if_it_may ∙ ap (λ (l : List ℕ). made (Replace l new) c.in_ok-found.found) root));
 }
@@ -41,7 +41,7 @@ answer-requires-clause-there c =
     let q = c.in-Some.place in
     let j = c.in-Some.child in
     let s = c.step-item.result in
-    let at_p : c.args.path.now ≡ q ++ j ∷ [] = (c.in-Some.ensures {u = tt}).parts in
+    let at_p : c.args.path.now ≡ q ++ j ∷ [] = (c.in-Some.ensures {u = tt}).parts_of_the_path in
     let e = ends_with steps steps s refl c.in-len1-up.len_at_least c.step-item.is in
     parent_there t steps e.0 s q j (parent_of t steps e.0 s q j e.1 (subst (λ (p : List ℕ). SelectsPath steps t p) at_p c.requires.selected))
 
@@ -52,7 +52,7 @@ answer-requires-clause-asked c =
     let q = c.in-Some.place in
     let j = c.in-Some.child in
     let s = c.step-item.result in
-    let at_p : c.args.path.now ≡ q ++ j ∷ [] = (c.in-Some.ensures {u = tt}).parts in
+    let at_p : c.args.path.now ≡ q ++ j ∷ [] = (c.in-Some.ensures {u = tt}).parts_of_the_path in
     let e = ends_with steps steps s refl c.in-len1-up.len_at_least c.step-item.is in
     let p = parent_of t steps e.0 s q j e.1 (subst (λ (p : List ℕ). SelectsPath steps t p) at_p c.requires.selected) in
     let room = c.requires.room in
@@ -69,7 +69,7 @@ returns c = record {
       let q = c.in-Some.place in
       let j = c.in-Some.child in
       let s = c.step-item.result in
-      let at_p : c.args.path.now ≡ q ++ j ∷ [] = (c.in-Some.ensures {u = tt}).parts in
+      let at_p : c.args.path.now ≡ q ++ j ∷ [] = (c.in-Some.ensures {u = tt}).parts_of_the_path in
       let e = ends_with steps steps s refl c.in-len1-up.len_at_least c.step-item.is in
       let sel = subst (λ (p : List ℕ). SelectsPath steps t p) at_p c.requires.selected in
       let p = parent_of t steps e.0 s q j e.1 sel in

@@ -16,10 +16,10 @@ returns-then-not-branch-2 c = record { answers_the_new_tag_of_a_child = inr (inl
 pub judged-requires-clause-gap : goal.judged-requires-clause-gap
 judged-requires-clause-gap c =
     let sib = c.without-siblings.ensures in
-    gap_without c.without-siblings.result c.args.parent.now c.requires.selected.1.this.kid c.args.child sib.parent sib.but_one c.requires.selected.1.this.there
+    gap_without c.without-siblings.result c.args.parent.now c.requires.selected.1.this.kid c.args.child sib.has_the_parent sib.but_one c.requires.selected.1.this.there
 
 pub judged-requires-clause-unique : goal.judged-requires-clause-unique
-judged-requires-clause-unique c = clean_by c.without-siblings.result c.args.parent.now c.args.row c.args.scope.now c.without-siblings.ensures.parent c.requires.selected.0
+judged-requires-clause-unique c = clean_by c.without-siblings.result c.args.parent.now c.args.row c.args.scope.now c.without-siblings.ensures.has_the_parent c.requires.selected.0
 
 pub returns : goal.returns
 returns c = record {
@@ -33,7 +33,7 @@ returns c = record {
       let F = IsTrue c.in_ok-formed.formed in
       let G = AttrsFormed row scope tag in
       let xs = remove (kids_of parent) j in
-      let same = others_without c.without-siblings.result parent j c.without-siblings.ensures.parent c.without-siblings.ensures.but_one in
+      let same = others_without c.without-siblings.result parent j c.without-siblings.ensures.has_the_parent c.without-siblings.ensures.but_one in
       IfOk-weaker c.judged.result (IsJudgedIn F row scope xs tag q j) (IsRetaggedIn row scope c.args.step.now parent j tag c.args.sought.now q)
       (λ r h. inr (inr ((c.in_ok-is_found_in.ensures {u = tt}).tells_whether_it_is_found.0 c.if-not-branch.false, (c.in_ok-attrs_pass_in.ensures {u = tt}).tells_whether_they_pass.0 c.if-not-branch-2.false, judged_by F G row scope xs tag q j r (c.in_ok-formed.ensures {u = tt}).tells_whether_they_are_formed h)))
       (subst (λ (l : List Tree). IfOk c.judged.result (IsJudgedIn F row scope l tag q j)) same c.judged.ensures.judges_by_the_form);

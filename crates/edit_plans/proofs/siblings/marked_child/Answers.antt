@@ -8,8 +8,8 @@ use Rattle.edit_plans.proofs.TwinLemmas.{no_more_marked, none_marked}
 use Rattle.edit_plans.proofs.siblings.marked_child.Goals as goal
 use Rattle.edit_plans.proofs.siblings.marked_child.Goals.{in-Elem+else-is_marked, in_default}
 
-pub returns-then-is_marked-clause-found : goal.returns-then-is_marked-clause-found
-returns-then-is_marked-clause-found c =
+pub returns-then-is_marked-clause-what_is_found_is_there : goal.returns-then-is_marked-clause-what_is_found_is_there
+returns-then-is_marked-clause-what_is_found_is_there c =
     let xs = kids_of c.args.siblings.now.parent.now in
     let at = at_elem c.nodes-node-items.result.now c.loop-node.node-index c.loop-node.i xs c.in-Elem.kid c.node-item.result c.loop-node.invariant.left c.loop-node-test.true c.node-item.is c.in-Elem.is in
     let both = c.is_marked.ensures.tells_whether_it_is_marked.0 c.if-is_marked.true in
@@ -39,8 +39,8 @@ loop-node-preserved c =
           })
     ]
 
-pub returns-clause-none : goal.returns-clause-none
-returns-clause-none c =
+pub returns-clause-none_where_none_is_found : goal.returns-clause-none_where_none_is_found
+returns-clause-none_where_none_is_found c =
     let xs = kids_of c.args.siblings.now.parent.now in
     let inv = c.loop-node.invariant in
     let last = at_end c.nodes-node-items.result.now c.loop-node.node-index c.loop-node.i xs inv.left c.loop-node-test.false inv.within in

@@ -8,7 +8,7 @@ returns-then-not-is c = record {
       let prefix = c.args.decl.now.prefix in
       let bound = c.args.decl.now.uri in
       let some : bytes_eq prefix [] ≡ false = sym (c.is.ensures.tells_whether_it_has_these ∙ ap (bytes_eq prefix) chars-nil) ∙ c.if-not-is.true in
-      c.is-then-not-is.ensures.tells_whether_it_has_these ∙ ap (bytes_eq bound) c.as_str.ensures.letters ∙ sym (ap (λ (b : Bool). not b && bytes_eq bound c.args.uri.now) some);
+      c.is-then-not-is.ensures.tells_whether_it_has_these ∙ ap (bytes_eq bound) c.as_str.ensures.characters_of_the_text ∙ sym (ap (λ (b : Bool). not b && bytes_eq bound c.args.uri.now) some);
 }
 
 pub returns-else-not-is : goal.returns-else-not-is

@@ -18,7 +18,7 @@ returns-in-None c = record {
       let uri = c.args.uri.now in
       let local = c.args.local.now in
       let attrs = c.args.element.now.attrs in
-      let place = by_letters scope uri _ local _ attrs c.find_attr.result c.as_str.ensures.letters c.as_str-2.ensures.letters c.find_attr.ensures.place_of_the_first in
+      let place = by_letters scope uri _ local _ attrs c.find_attr.result c.as_str.ensures.characters_of_the_text c.as_str-2.ensures.characters_of_the_text c.find_attr.ensures.place_of_the_first in
       let none = none_at_position (is_attr scope uri local) attrs (sym place ∙ c.in-None.is) in
       subst (λ (o : Option Name). IfOk c.new_name.result (λ name. name ≡ o)) (sym (ap (λ (found : Option Attr). kept_name found (new_name scope uri local)) none)) c.new_name.ensures.finds_a_name;
 }
@@ -31,7 +31,7 @@ returns-in_ok-name-in-Some c = record {
       let local = c.args.local.now in
       let attrs = c.args.element.now.attrs in
       let attr = c.index-attrs-place.result in
-      let place = by_letters scope uri _ local _ attrs c.find_attr.result c.as_str.ensures.letters c.as_str-2.ensures.letters c.find_attr.ensures.place_of_the_first in
+      let place = by_letters scope uri _ local _ attrs c.find_attr.result c.as_str.ensures.characters_of_the_text c.as_str-2.ensures.characters_of_the_text c.find_attr.ensures.place_of_the_first in
       let found = found_at_position (is_attr scope uri local) attrs c.in-Some.place attr (sym place ∙ c.in-Some.is) (subst (λ (xs : List Attr). attr ≡ get_or xs c.in-Some.place attr) c.attrs.ensures.lends_the_attributes c.index-attrs-place.is) in
       ap (λ (n : Name). Some n) (c.in_ok-name-in-Some.ensures.makes_an_equal_name ∙ ap (λ (a : Attr). a.name) (sym c.index-attrs-place.is)) ∙ sym (ap (λ (o : Option Attr). kept_name o (new_name scope uri local)) found);
 }

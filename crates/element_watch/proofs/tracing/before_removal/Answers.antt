@@ -5,7 +5,7 @@ use Rattle.element_watch.proofs.tracing.before_removal.Goals as goal
 
 pub overflow_add-number : goal.overflow_add-number
 overflow_add-number c =
-    let whole = c.in-Some.ensures.whole in
+    let whole = c.in-Some.ensures.way_completes_the_path in
     let first = c.in-Some-split_first.ensures.cases in
     let small = is_small 4294967359 c.args.path.now c.args.parent.now c.in-Some-split_first.below.now c.in-Some-split_first.number.now (grind (arith, common_steps)) c.requires in
     search (rules, small)

@@ -5,7 +5,7 @@ use Rattle.feed_requests.proofs.laws.requests_ask_for_feeds.Goals as goal
 pub returns : goal.returns
 returns c = record {
   asks_for_the_feed = λ mode tag n has is_tag. record {
-    target = means_feed c.args.root.now mode n tag c.args.doc.now has is_tag (c.printed_id_reads_back.ensures.whole has.readable);
+    target = means_feed c.args.root.now mode n tag c.args.doc.now has is_tag (c.printed_id_reads_back.ensures.below_the_whole_root has.readable);
     method = reads;
     allowed = allowed c.args.doc.now.auid c.args.doc.now.home;
   };

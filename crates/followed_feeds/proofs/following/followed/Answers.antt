@@ -12,7 +12,7 @@ use Rattle.followed_feeds.proofs.following.followed.Goals as goal
 lawful : (c : goal.After-follow) (m : State) → Kept m → Stands c.args.server.now.content m → Lawful c.args.server.now.root c.args.server.now.content m c.args.mode c.args.doc.now
 lawful c m kept stands =
     let root = c.args.server.now.root in
-    let is_root = ap is_root_text (sym c.root.ensures.lends_the_root) ∙ c.text-text.ensures.root in
+    let is_root = ap is_root_text (sym c.root.ensures.lends_the_root) ∙ c.text-text.ensures.text_is_a_root in
     record {
       kept = kept;
       stands = stands;

@@ -8,7 +8,7 @@ use Rattle.followed_feeds.proofs.following.request_since.Goals as goal
 pub returns-then-is_none : goal.returns-then-is_none
 returns-then-is_none c =
     let tag = c.in-Some.held.tag in
-    let numeral = c.numeral.ensures.number_of_the_numeral ∙ ap numeral_of (c.as_bytes.ensures.value ∙ c.as_str.ensures.bytes) in
+    let numeral = c.numeral.ensures.number_of_the_numeral ∙ ap numeral_of (c.as_bytes.ensures.value ∙ c.as_str.ensures.bytes_of_the_characters) in
     record {
       asks_from_what_is_held = ((tag, c.in-Some.held.root), ap held_in c.in-Some.is, sym numeral ∙ none_there c.numeral.result c.is_none.result c.is_none.ensures c.if-is_none.true);
     }
@@ -16,7 +16,7 @@ returns-then-is_none c =
 pub returns : goal.returns
 returns c =
     let tag = c.in-Some.held.tag in
-    let numeral = c.numeral.ensures.number_of_the_numeral ∙ ap numeral_of (c.as_bytes.ensures.value ∙ c.as_str.ensures.bytes) in
+    let numeral = c.numeral.ensures.number_of_the_numeral ∙ ap numeral_of (c.as_bytes.ensures.value ∙ c.as_str.ensures.bytes_of_the_characters) in
     let number = one_there c.numeral.result c.is_none.result c.is_none.ensures c.if-is_none.false in
     let is_tag = sym numeral ∙ number.1 in
     record {

@@ -13,8 +13,8 @@ looking-init g c = record {
   none = no_head_in_none;
 }
 
-pub returns-in_err-fill-in-Open-clause-gains : goal.returns-in_err-fill-in-Open-clause-gains
-returns-in_err-fill-in-Open-clause-gains g c = gains_on _ _ _ _ _ _ c.looking.invariant.gains c.in_err-fill-in-Open.ensures.gains
+pub returns-in_err-fill-in-Open-clause-gains_what_the_source_gave : goal.returns-in_err-fill-in-Open-clause-gains_what_the_source_gave
+returns-in_err-fill-in-Open-clause-gains_what_the_source_gave g c = gains_on _ _ _ _ _ _ c.looking.invariant.gains c.in_err-fill-in-Open.ensures.gains_what_the_source_gave
 
-pub returns-then-not-branch-clause-gains : goal.returns-then-not-branch-clause-gains
-returns-then-not-branch-clause-gains g c = gains_on _ _ _ _ _ _ c.looking.invariant.gains c.in_ok-fill-in-Open.ensures.gains
+pub returns-then-not-branch-clause-gains_what_the_source_gave : goal.returns-then-not-branch-clause-gains_what_the_source_gave
+returns-then-not-branch-clause-gains_what_the_source_gave g c = gains_on _ _ _ _ _ _ c.looking.invariant.gains c.in_ok-fill-in-Open.ensures.gains_what_the_source_gave

@@ -9,9 +9,9 @@ use Rattle.http_exchange.proofs.request.pieces_of.Goals as goal
 pub returns : goal.returns
 returns c = record {
   pieces_of_the_request =
-      let method = c.as_bytes.ensures.value ∙ c.as_str.ensures.bytes in
-      let under : c.as_bytes-2.result.now ≡ encode_utf8_all (path_of c.args.root.now) = c.as_bytes-2.ensures.value ∙ sym (encodes-chars c.path.result.now c.path.utf8) ∙ ap encode_utf8_all c.path.ensures.path in
-      let path = c.as_bytes-3.ensures.value ∙ c.as_str-2.ensures.bytes in
+      let method = c.as_bytes.ensures.value ∙ c.as_str.ensures.bytes_of_the_characters in
+      let under : c.as_bytes-2.result.now ≡ encode_utf8_all (path_of c.args.root.now) = c.as_bytes-2.ensures.value ∙ sym (encodes-chars c.path.result.now c.path.utf8) ∙ ap encode_utf8_all c.path.ensures.path_of_the_root in
+      let path = c.as_bytes-3.ensures.value ∙ c.as_str-2.ensures.bytes_of_the_characters in
       let host : c.as_bytes-4.result.now ≡ encode_utf8_all (authority_of c.args.root.now) = c.as_bytes-4.ensures.value ∙ sym (encodes-chars c.authority.result.now c.authority.utf8) ∙ ap encode_utf8_all c.authority.ensures.tells_the_authority in
       let users = c.user_line.ensures.line_that_says_who_asks in
       let contents = c.content_lines.ensures.lines_that_say_what_the_body_is c.args.ask.now.body c.requires in

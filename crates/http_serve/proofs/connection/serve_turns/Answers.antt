@@ -15,7 +15,7 @@ turns-init g c = record {
 pub turns-preserved : goal.turns-preserved
 turns-preserved g c =
     let i = c.turns.invariant in
-    let n = another _ _ g.met.W.Watchers.more _ _ _ _ _ _ _ _ _ _ _ i.so_far c.serve_next.result c.in_default.is c.serve_next.ensures.turn c.serve_next.ensures.goes_on c.serve_next.ensures.faults c.serve_next.ensures.exchanges i.below in
+    let n = another _ _ g.met.W.Watchers.more _ _ _ _ _ _ _ _ _ _ _ i.so_far c.serve_next.result c.in_default.is c.serve_next.ensures.makes_one_turn c.serve_next.ensures.goes_on c.serve_next.ensures.counts_the_faults_so_far c.serve_next.ensures.exchanges_on_this_line_alone i.below in
     record {
       so_far = n.0;
       open_still = n.1.0;
@@ -27,7 +27,7 @@ pub serve_next-requires-clause-room : goal.serve_next-requires-clause-room
 serve_next-requires-clause-room g c = room_for_one g.M.Machine.takes g.met.M.Machine.takes_fewer c.args.machine.now _ _ c.turns.invariant.below c.requires.room c.turns.invariant.room
 
 pub returns-in-Some-clause-serves_the_turns : goal.returns-in-Some-clause-serves_the_turns
-returns-in-Some-clause-serves_the_turns g c = at_end _ _ g.met.W.Watchers.more _ _ _ _ _ _ _ _ _ _ _ c.turns.invariant.so_far c.in-Some.ended c.in-Some.ensures.turn c.in-Some.ensures.faults c.in-Some.ensures.exchanges
+returns-in-Some-clause-serves_the_turns g c = at_end _ _ g.met.W.Watchers.more _ _ _ _ _ _ _ _ _ _ _ c.turns.invariant.so_far c.in-Some.ended c.in-Some.ensures.makes_one_turn c.in-Some.ensures.counts_the_faults_so_far c.in-Some.ensures.exchanges_on_this_line_alone
 
 pub returns-in-Some-clause-takes_on : goal.returns-in-Some-clause-takes_on
 returns-in-Some-clause-takes_on g c = last_answered g.M.Machine.takes g.met.M.Machine.takes_fewer c.args.machine.now _ _ _ c.turns.invariant.below c.turns.invariant.room c.in-Some.ensures.takes_one_fewer

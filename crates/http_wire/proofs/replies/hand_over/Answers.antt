@@ -10,20 +10,20 @@ use Rattle.http_wire.proofs.replies.hand_over.Goals as goal
 parts : (head body h b : List ℕ) → h ≡ head → b ≡ body → h ++ b ≡ head ++ body
 parts head body h b heads bodies = ap (λ (l : List ℕ). l ++ b) heads ∙ ap (λ (l : List ℕ). head ++ l) bodies
 
-pub returns-in_err-put-2-clause-bytes : goal.returns-in_err-put-2-clause-bytes
-returns-in_err-put-2-clause-bytes g c =
+pub returns-in_err-put-2-clause-writes_all_or_a_proper_front : goal.returns-in_err-put-2-clause-writes_all_or_a_proper_front
+returns-in_err-put-2-clause-writes_all_or_a_proper_front g c =
     let p = err_from_is_err_and c.from_residual-in_err-put-2.result c.from_residual-in_err-put-2.ensures.1 in
     let both = adds_both (g.S.Line.state c.args.sink.now) c.args.gatherer.now (g.S.Line.state c.put.new.sink) c.put.new.gatherer (g.S.Line.state c.put-2.new.sink) c.put-2.new.gatherer (Err p.0) c.head.result.now c.body.result.now c.in_ok-put.ensures.adds_the_piece_in_order c.in_err-put-2.ensures.adds_the_piece_in_order in
     rw p.1 (subst (WritesAll (g.S.Line.state c.args.sink.now).taken (g.S.Line.state c.put-2.new.sink).taken (Err p.0))
     (parts c.args.reply.now.head c.args.reply.now.body c.head.result.now c.body.result.now c.head.ensures.lends_the_head c.body.ensures.lends_the_body)
     (all_written (g.S.Line.state c.args.sink.now) (g.S.Line.state c.put-2.new.sink) c.args.gatherer.now c.put-2.new.gatherer (Err p.0) (c.head.result.now ++ c.body.result.now) c.requires tt both))
 
-pub returns-clause-bytes : goal.returns-clause-bytes
-returns-clause-bytes g c =
+pub returns-clause-writes_all_or_a_proper_front : goal.returns-clause-writes_all_or_a_proper_front
+returns-clause-writes_all_or_a_proper_front g c =
     let head : List ℕ = c.head.result.now in
     let body : List ℕ = c.body.result.now in
     let two = adds_both (g.S.Line.state c.args.sink.now) c.args.gatherer.now (g.S.Line.state c.put.new.sink) c.put.new.gatherer (g.S.Line.state c.put-2.new.sink) c.put-2.new.gatherer (Ok tt) head body c.in_ok-put.ensures.adds_the_piece_in_order c.in_ok-put-2.ensures.adds_the_piece_in_order in
-    let all = adds_both (g.S.Line.state c.args.sink.now) c.args.gatherer.now (g.S.Line.state c.put-2.new.sink) c.put-2.new.gatherer (g.S.Line.state c.flush.new.sink) c.flush.new.gatherer c.flush.result (head ++ body) [] two c.flush.ensures.adds in
+    let all = adds_both (g.S.Line.state c.args.sink.now) c.args.gatherer.now (g.S.Line.state c.put-2.new.sink) c.put-2.new.gatherer (g.S.Line.state c.flush.new.sink) c.flush.new.gatherer c.flush.result (head ++ body) [] two c.flush.ensures.holds_what_was_not_handed_over in
     subst (WritesAll (g.S.Line.state c.args.sink.now).taken (g.S.Line.state c.flush.new.sink).taken c.flush.result)
     (append-nil (head ++ body) ∙ parts c.args.reply.now.head c.args.reply.now.body head body c.head.ensures.lends_the_head c.body.ensures.lends_the_body)
-    (all_written (g.S.Line.state c.args.sink.now) (g.S.Line.state c.flush.new.sink) c.args.gatherer.now c.flush.new.gatherer c.flush.result ((head ++ body) ++ []) c.requires c.flush.ensures.none all)
+    (all_written (g.S.Line.state c.args.sink.now) (g.S.Line.state c.flush.new.sink) c.args.gatherer.now c.flush.new.gatherer c.flush.result ((head ++ body) ++ []) c.requires c.flush.ensures.leaves_nothing_gathered all)

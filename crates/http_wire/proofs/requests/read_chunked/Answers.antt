@@ -6,35 +6,35 @@ use Rattle.http_wire.proofs.Fronts.{head_at_same}
 use Rattle.http_wire.proofs.ItemLemmas.{chunks_unfinished, chunks_bad, chunks_cut, chunks_long, chunks_whole, chunks_no_memory, request_at}
 use Rattle.http_wire.proofs.requests.read_chunked.Goals as goal
 
-pub returns-in_err-end-clause-asks : goal.returns-in_err-end-clause-asks
-returns-in_err-end-clause-asks g c =
+pub returns-in_err-end-clause-asks_for_the_first_item : goal.returns-in_err-end-clause-asks_for_the_first_item
+returns-in_err-end-clause-asks_for_the_first_item g c =
     let p = err_from_is_err_and c.from_residual.result c.from_residual.ensures.1 in
-    rw p.1 (chunks_unfinished c.args.before c.args.inflow.now _ c.decode.new.decoder.body c.decode.new.inflow _ c.args.headers.now c.args.spans.now _ c.requires c.in_err-end.ensures.decodes)
+    rw p.1 (chunks_unfinished c.args.before c.args.inflow.now _ c.decode.new.decoder.body c.decode.new.inflow _ c.args.headers.now c.args.spans.now _ c.requires c.in_err-end.ensures.decodes_the_body)
 
-pub returns-in-Ok-clause-asks : goal.returns-in-Ok-clause-asks
-returns-in-Ok-clause-asks g c =
+pub returns-in-Ok-clause-asks_for_the_first_item : goal.returns-in-Ok-clause-asks_for_the_first_item
+returns-in-Ok-clause-asks_for_the_first_item g c =
     let held : List ℕ = c.decode.new.inflow in
     let headers = c.args.headers.now in
     let spans = c.args.spans.now in
-    let d = rw c.in-Whole.is at c.in_ok-end.ensures.decodes in
+    let d = rw c.in-Whole.is at c.in_ok-end.ensures.decodes_the_body in
     let at : IsHeadAt held headers spans c.requires.head = head_at_same c.args.inflow.now held headers spans c.requires.head c.requires.at d.same_head in
-    let same = c.bytes.ensures.value in
+    let same = c.bytes.ensures.lends_what_is_held in
     let is : c.in-Ok.request ≡ request_of c.args.before c.requires.head c.decode.new.decoder.body =
-    request_at c.args.before held headers spans c.requires.head c.in-Ok.request c.decode.new.decoder.body at (rw same at c.in-Ok.ensures.method) (rw same at c.in-Ok.ensures.target) (rw same at c.in-Ok.ensures.closes) (rw same at c.in-Ok.ensures.fields) (c.in-Ok.ensures.body ∙ c.body.ensures.lends_the_joined_chunks) in
+    request_at c.args.before held headers spans c.requires.head c.in-Ok.request c.decode.new.decoder.body at (rw same at c.in-Ok.ensures.has_the_method) (rw same at c.in-Ok.ensures.has_the_target) (rw same at c.in-Ok.ensures.closes_as_it_asks) (rw same at c.in-Ok.ensures.has_the_fields) (c.in-Ok.ensures.has_the_body ∙ c.body.ensures.lends_the_joined_chunks) in
     rw c.pass.ensures.lets_the_first_bytes_go (chunks_whole c.args.before c.args.inflow.now _ c.decode.new.decoder.body held _ headers spans c.in-Whole.end c.in-Ok.request c.requires d is)
 
-pub returns-in-Err-clause-asks : goal.returns-in-Err-clause-asks
-returns-in-Err-clause-asks g c =
-    let d = rw c.in-Whole.is at c.in_ok-end.ensures.decodes in
+pub returns-in-Err-clause-asks_for_the_first_item : goal.returns-in-Err-clause-asks_for_the_first_item
+returns-in-Err-clause-asks_for_the_first_item g c =
+    let d = rw c.in-Whole.is at c.in_ok-end.ensures.decodes_the_body in
     chunks_no_memory c.args.before c.args.inflow.now _ c.decode.new.decoder.body c.decode.new.inflow _ c.args.headers.now c.args.spans.now c.in-Whole.end c.requires d
 
-pub returns-in-TooLong-clause-asks : goal.returns-in-TooLong-clause-asks
-returns-in-TooLong-clause-asks g c =
-    let d = rw c.in-TooLong.is at c.in_ok-end.ensures.decodes in
+pub returns-in-TooLong-clause-asks_for_the_first_item : goal.returns-in-TooLong-clause-asks_for_the_first_item
+returns-in-TooLong-clause-asks_for_the_first_item g c =
+    let d = rw c.in-TooLong.is at c.in_ok-end.ensures.decodes_the_body in
     chunks_long c.args.before c.args.inflow.now _ c.decode.new.decoder.body c.decode.new.inflow _ c.args.headers.now c.args.spans.now c.requires d
 
-pub returns-in-Bad-clause-asks : goal.returns-in-Bad-clause-asks
-returns-in-Bad-clause-asks g c = elim c.in-Bad.is [
-  | inl bad ↦ chunks_bad c.args.before c.args.inflow.now _ c.decode.new.decoder.body c.decode.new.inflow _ c.args.headers.now c.args.spans.now c.requires (rw bad at c.in_ok-end.ensures.decodes)
-  | inr cut ↦ chunks_cut c.args.before c.args.inflow.now _ c.decode.new.decoder.body c.decode.new.inflow _ c.args.headers.now c.args.spans.now c.requires (rw cut at c.in_ok-end.ensures.decodes)
+pub returns-in-Bad-clause-asks_for_the_first_item : goal.returns-in-Bad-clause-asks_for_the_first_item
+returns-in-Bad-clause-asks_for_the_first_item g c = elim c.in-Bad.is [
+  | inl bad ↦ chunks_bad c.args.before c.args.inflow.now _ c.decode.new.decoder.body c.decode.new.inflow _ c.args.headers.now c.args.spans.now c.requires (rw bad at c.in_ok-end.ensures.decodes_the_body)
+  | inr cut ↦ chunks_cut c.args.before c.args.inflow.now _ c.decode.new.decoder.body c.decode.new.inflow _ c.args.headers.now c.args.spans.now c.requires (rw cut at c.in_ok-end.ensures.decodes_the_body)
 ]

@@ -9,40 +9,40 @@ use Rattle.http_wire.specs.Inflow.{IsOpenAt}
 use Rattle.http_wire.proofs.ItemLemmas.{open_gains, asks_after, asks_now, asks_cut, asks_unfinished, asks_plain, request_at}
 use Rattle.http_wire.proofs.requests.read_plain.Goals as goal
 
-pub returns-in_err-hold-clause-asks : goal.returns-in_err-hold-clause-asks
-returns-in_err-hold-clause-asks g c =
+pub returns-in_err-hold-clause-asks_for_the_first_item : goal.returns-in_err-hold-clause-asks_for_the_first_item
+returns-in_err-hold-clause-asks_for_the_first_item g c =
     let p = err_from_is_err_and c.from_residual.result c.from_residual.ensures.1 in
-    rw p.1 (asks_unfinished c.args.before c.args.inflow.now c.hold.new.self _ _ c.args.headers.now c.args.spans.now c.args.len _ c.requires.open_at c.in_err-hold.ensures.gains c.in_err-hold.ensures.err)
+    rw p.1 (asks_unfinished c.args.before c.args.inflow.now c.hold.new.self _ _ c.args.headers.now c.args.spans.now c.args.len _ c.requires.open_at c.in_err-hold.ensures.gains_what_the_source_gave c.in_err-hold.ensures.failure_before_enough_came)
 
-pub returns-then-not-branch-clause-asks : goal.returns-then-not-branch-clause-asks
-returns-then-not-branch-clause-asks g c =
-    let ended = rw c.if-not-branch.true at c.in_ok-hold.ensures.ok in
-    asks_cut c.args.before c.args.inflow.now c.hold.new.self _ _ c.args.headers.now c.args.spans.now c.args.len c.requires.open_at c.in_ok-hold.ensures.gains ended.0 ended.1
+pub returns-then-not-branch-clause-asks_for_the_first_item : goal.returns-then-not-branch-clause-asks_for_the_first_item
+returns-then-not-branch-clause-asks_for_the_first_item g c =
+    let ended = rw c.if-not-branch.true at c.in_ok-hold.ensures.holds_enough_or_finds_the_end in
+    asks_cut c.args.before c.args.inflow.now c.hold.new.self _ _ c.args.headers.now c.args.spans.now c.args.len c.requires.open_at c.in_ok-hold.ensures.gains_what_the_source_gave ended.0 ended.1
 
-pub returns-in-Ok-clause-asks : goal.returns-in-Ok-clause-asks
-returns-in-Ok-clause-asks g c =
+pub returns-in-Ok-clause-asks_for_the_first_item : goal.returns-in-Ok-clause-asks_for_the_first_item
+returns-in-Ok-clause-asks_for_the_first_item g c =
     let held : List ℕ = c.hold.new.self in
     let headers = c.args.headers.now in
     let spans = c.args.spans.now in
     let end : ℕ = spans.len + c.args.len in
-    let gains = c.in_ok-hold.ensures.gains in
+    let gains = c.in_ok-hold.ensures.gains_what_the_source_gave in
     let o : IsOpenAt held headers spans (Length c.args.len) = open_gains _ held _ _ headers spans (Length c.args.len) c.requires.open_at gains in
-    let enough : end ≤ length held = rw c.if-not-branch.false at c.in_ok-hold.ensures.ok in
-    let same = c.bytes-bytes.ensures.value in
+    let enough : end ≤ length held = rw c.if-not-branch.false at c.in_ok-hold.ensures.holds_enough_or_finds_the_end in
+    let same = c.bytes-bytes.ensures.lends_what_is_held in
     let is : c.in-Ok.request ≡ request_of c.args.before o.head (slice_range held spans.len end) =
-    request_at c.args.before held headers spans o.head c.in-Ok.request (slice_range held spans.len end) o.at (rw same at c.in-Ok.ensures.method) (rw same at c.in-Ok.ensures.target) (rw same at c.in-Ok.ensures.closes) (rw same at c.in-Ok.ensures.fields) (rw same at c.in-Ok.ensures.body) in
+    request_at c.args.before held headers spans o.head c.in-Ok.request (slice_range held spans.len end) o.at (rw same at c.in-Ok.ensures.has_the_method) (rw same at c.in-Ok.ensures.has_the_target) (rw same at c.in-Ok.ensures.closes_as_it_asks) (rw same at c.in-Ok.ensures.has_the_fields) (rw same at c.in-Ok.ensures.has_the_body) in
     asks_after c.args.before c.args.inflow.now held _ _ (Ok (Requested c.in-Ok.request)) c.pass.new.self _ gains
     (asks_now c.args.before held _ (Requested c.in-Ok.request) c.pass.new.self (rw c.pass.ensures.lets_the_first_bytes_go (asks_plain c.args.before held headers spans c.args.len c.in-Ok.request o enough is)))
 
-pub returns-in-Err-clause-asks : goal.returns-in-Err-clause-asks
-returns-in-Err-clause-asks g c =
+pub returns-in-Err-clause-asks_for_the_first_item : goal.returns-in-Err-clause-asks_for_the_first_item
+returns-in-Err-clause-asks_for_the_first_item g c =
     let held : List ℕ = c.hold.new.self in
     let headers = c.args.headers.now in
     let spans = c.args.spans.now in
     let end : ℕ = spans.len + c.args.len in
-    let gains = c.in_ok-hold.ensures.gains in
+    let gains = c.in_ok-hold.ensures.gains_what_the_source_gave in
     let o : IsOpenAt held headers spans (Length c.args.len) = open_gains _ held _ _ headers spans (Length c.args.len) c.requires.open_at gains in
-    let enough : end ≤ length held = rw c.if-not-branch.false at c.in_ok-hold.ensures.ok in
+    let enough : end ≤ length held = rw c.if-not-branch.false at c.in_ok-hold.ensures.holds_enough_or_finds_the_end in
     let request : Request = request_of c.args.before o.head (slice_range held spans.len end) in
     asks_after c.args.before c.args.inflow.now held _ _ (Ok NoMemory) held _ gains
     (asks_now c.args.before held _ NoMemory held (request, drop end held, asks_plain c.args.before held headers spans c.args.len request o enough refl))

@@ -29,5 +29,5 @@ returns c = record {
       let all : c.walk_inside.new.gatherer.tally ≡ with_items no_items (walk (leads_in g) g.root s) =
       c.in_ok-walk_inside.ensures.gathers_the_walk.0 ∙ ap (with_items c.new-gatherer.result.tally) same
       ∙ ap (λ (x : Gathered). with_items x.tally (walk (leads_in g) g.root s)) c.new-gatherer.ensures.holds_nothing in
-      ap Ok c.in_ok-uris.ensures.uris ∙ sym (flat_is (walk (leads_in g) g.root s) c.walk_inside.new.gatherer.tally all c.into_uris.ensures.few);
+      ap Ok c.in_ok-uris.ensures.addresses_in_order ∙ sym (flat_is (walk (leads_in g) g.root s) c.walk_inside.new.gatherer.tally all c.into_uris.ensures.gathered_few_marks);
 }

@@ -13,7 +13,7 @@ walk_inside-loop-node-init t c = record {
   gathered =
       let g = ground_in c.args.ground.now in
       ap (with_items c.args.gatherer.now.tally)
-      (all_nodes (behind (leads_in g) g.root c.args.left c.args.chain.now) g.root c.args.row c.args.scope.now c.nodes-node-items.result.now c.args.element.now.content c.nodes-node-items.ensures.content);
+      (all_nodes (behind (leads_in g) g.root c.args.left c.args.chain.now) g.root c.args.row c.args.scope.now c.nodes-node-items.result.now c.args.element.now.content c.nodes-node-items.ensures.content_of_the_nodes);
   sound = c.requires.sound;
 }
 
@@ -36,7 +36,7 @@ pub walk_behind-returns-in-Some : goal.walk_behind-returns-in-Some
 walk_behind-returns-in-Some t c = record {
   gathers_what_stands_behind =
       let g = ground_in c.args.ground.now in
-      let led : leads_in g c.args.reference.now ≡ Some (lead_in c.in-Some.lead) = sym c.in_ok-leads.ensures.lead ∙ ap (option_map lead_in) c.in-Some.is in
+      let led : leads_in g c.args.reference.now ≡ Some (lead_in c.in-Some.lead) = sym c.in_ok-leads.ensures.leads_where_it_is_due ∙ ap (option_map lead_in) c.in-Some.is in
       let e : behind (leads_in g) g.root c.args.left c.args.chain.now c.args.reference.now ≡ lead_items (behind (leads_in g) g.root (c.args.left - 1)) g.root c.args.chain.now (lead_in c.in-Some.lead) =
       behind_left (leads_in g) g.root c.args.left c.args.chain.now c.args.reference.now (omega arith) ∙ ap (led_items (behind (leads_in g) g.root (c.args.left - 1)) g.root c.args.chain.now) led in
       subst (λ (items : List Item). Gathers g items c.args.gatherer.now c.walk_lead.new.gatherer c.walk_lead.result) (sym e) c.walk_lead.ensures.gathers_what_it_leads_to;
@@ -62,7 +62,7 @@ walk_reference-returns-in_err-add_mark t c = record {
       let g = ground_in c.args.ground.now in
       let b = behind (leads_in g) g.root c.args.left c.args.chain.now in
       let is : reference_of g.root c.args.kind c.args.element.now.attrs c.args.element.now.content ≡ Some c.in-Some.reference = sym c.in_ok-reference.ensures.reference_by_the_kind ∙ c.in-Some.is in
-      let fails = fails_in_part (mark ∷ []) (b c.in-Some.reference) c.args.gatherer.now.tally c.in_err-add_mark.field-0.0 c.in_err-add_mark.ensures.err in
+      let fails = fails_in_part (mark ∷ []) (b c.in-Some.reference) c.args.gatherer.now.tally c.in_err-add_mark.field-0.0 c.in_err-add_mark.ensures.fails_only_where_too_many in
       hands_on g c.from_residual-in_err-add_mark.result (reference_items b (reference_of g.root c.args.kind c.args.element.now.attrs c.args.element.now.content)) c.args.gatherer.now c.add_mark.new.self c.in_err-add_mark.field-0.0 c.from_residual-in_err-add_mark.ensures.1
       (subst (λ items. Fails items c.args.gatherer.now.tally c.in_err-add_mark.field-0.0) (sym (ap (reference_items b) is)) fails);
 }

@@ -3,7 +3,7 @@ use Rattle.node_select.proofs.laws.paths.Goals as goal
 
 pub returns : goal.returns
 returns g = record {
-  one = one_path;
-  there = path_there;
-  last = λ first steps step root p i. (last_step_to first steps step root p i, last_step_from first steps step root p i);
+  selected_path_is_one = one_path;
+  selected_place_is_there = path_there;
+  last_step_selects_by_itself = λ first steps step root p i. (last_step_to first steps step root p i, last_step_from first steps step root p i);
 }

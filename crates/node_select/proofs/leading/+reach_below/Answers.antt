@@ -20,7 +20,7 @@ pub reach_below-below-requires : goal.reach_below-below-requires
 reach_below-below-requires t c =
     let there : slice_get (kids_of c.args.element.now) c.in-Some.child ≡ Some c.in-Some-kid.kid.now = sym c.kid.ensures.child_of_that_number ∙ ap option_copied c.in-Some-kid.is in
     let lower = kid_lower c.args.element.now c.in-Some.child c.in-Some-kid.kid.now there in
-    let longer = ap (λ (p : List ℕ). length p) (c.in-Some-child.ensures {u = tt}).longer ∙ length-append c.args.path (c.in-Some.child ∷ []) in
+    let longer = ap (λ (p : List ℕ). length p) (c.in-Some-child.ensures {u = tt}).path_to_the_child ∙ length-append c.args.path (c.in-Some.child ∷ []) in
     let low = c.requires in
     (search rules, omega arith)
 
@@ -42,7 +42,7 @@ returns t c = record {
       let there : slice_get kids c.in-Some.child ≡ Some kid = sym c.kid.ensures.child_of_that_number ∙ ap option_copied c.in-Some-kid.is in
       let one : selected_child scope c.step-item.result kids ≡ Some c.in-Some.child = sym c.select_child.ensures.selects_the_one_that_matches ∙ c.in-Some.is in
       let scope_is : c.inside-inside.result ≡ inside scope kid = c.inside-inside.ensures.adds_the_declarations ∙ ap (λ (ds : List Decl). scope ++ ds ∷ []) (c.declared_in-declared.ensures.holds_the_declarations ∙ c.decls.ensures.lends_the_declarations) in
-      let on = subst (λ (b : List ℕ). ReachesBelow (inside scope kid) (kids_of kid) rest b below) (c.in-Some-child.ensures {u = tt}).longer
+      let on = subst (λ (b : List ℕ). ReachesBelow (inside scope kid) (kids_of kid) rest b below) (c.in-Some-child.ensures {u = tt}).path_to_the_child
       (subst (λ (d : List (List Decl)). ReachesBelow d (kids_of kid) rest c.in-Some-child.longer below) scope_is c.reach_below-below.ensures.reaches_from_the_element) in
       subst (λ (l : List Step). ReachesBelow scope kids l c.args.path made) (sym (first_and_rest steps c.step-item.result c.in-len1-up.len_at_least c.step-item.is))
       (goes_on scope kids c.step-item.result rest c.args.path c.in-Some.child kid below made one there on (omega arith) refl);

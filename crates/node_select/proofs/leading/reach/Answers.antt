@@ -14,8 +14,8 @@ overflow_add-result c =
     let rest = take (length c.args.steps.now - 1) (drop 1 c.args.steps.now) in
     omega (arith, c.reach_inside-below.ensures.reaches_from_the_root.counted, depth_within rest (c.args.root.now.decls ∷ []) (kids_of c.args.root.now), length-take-le (length c.args.steps.now - 1) (drop 1 c.args.steps.now))
 
-pub returns-clause-longest : goal.returns-clause-longest
-returns-clause-longest c =
+pub returns-clause-longest_that_selects : goal.returns-clause-longest_that_selects
+returns-clause-longest_that_selects c =
     let root = c.args.root.now in
     let s = c.step-item.result in
     let steps = c.args.steps.now in
@@ -26,8 +26,8 @@ returns-clause-longest c =
     let on = onwards s rest root below made m c.reach_inside-below.ensures.reaches_from_the_root (omega arith) refl in
     subst (λ (l : List Step). IsLongestMatch l root made.steps) (sym (first_and_rest steps s c.in-len1-up.len_at_least c.step-item.is)) on.0
 
-pub returns-clause-selected : goal.returns-clause-selected
-returns-clause-selected c =
+pub returns-clause-path_is_selected : goal.returns-clause-path_is_selected
+returns-clause-path_is_selected c =
     let root = c.args.root.now in
     let s = c.step-item.result in
     let steps = c.args.steps.now in

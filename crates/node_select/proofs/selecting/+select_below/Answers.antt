@@ -8,5 +8,5 @@ pub select_below-requires : goal.select_below-requires
 select_below-requires t c =
     let there : slice_get (kids_of c.args.element.now) c.in_ok-child.child ≡ Some c.in_ok-kid.kid.now = sym c.kid.ensures.child_of_that_number ∙ ap option_copied (c.in_ok-kid.was {u = tt}) in
     let lower = kid_lower c.args.element.now c.in_ok-child.child c.in_ok-kid.kid.now there in
-    let longer = ap length c.in_ok-path.ensures.longer ∙ length-append c.args.path (c.in_ok-child.child ∷ []) in
+    let longer = ap length c.in_ok-path.ensures.path_to_the_child ∙ length-append c.args.path (c.in_ok-child.child ∷ []) in
     (search rules, omega arith)

@@ -10,7 +10,7 @@ pub returns-in_err-place : goal.returns-in_err-place
 returns-in_err-place c = record {
   finds_the_attribute =
       let p = is_attr c.args.scope.now c.args.uri.now c.args.local.now in
-      let place = rw (c.as_str.ensures.letters, c.as_str-2.ensures.letters) at c.find_attr.ensures.place_of_the_first in
+      let place = rw (c.as_str.ensures.characters_of_the_text, c.as_str-2.ensures.characters_of_the_text) at c.find_attr.ensures.place_of_the_first in
       let none : position p c.args.element.now.attrs ≡ None = sym place ∙ c.in_err-place.was {u = tt} in
       ap option_copied c.from_residual.ensures ∙ sym (no_found_place p c.args.element.now.attrs none);
 }
@@ -19,7 +19,7 @@ pub returns : goal.returns
 returns c = record {
   finds_the_attribute =
       let p = is_attr c.args.scope.now c.args.uri.now c.args.local.now in
-      let place = rw (c.as_str.ensures.letters, c.as_str-2.ensures.letters) at c.find_attr.ensures.place_of_the_first in
+      let place = rw (c.as_str.ensures.characters_of_the_text, c.as_str-2.ensures.characters_of_the_text) at c.find_attr.ensures.place_of_the_first in
       let there : position p c.args.element.now.attrs ≡ Some c.in_ok-place.place = sym place ∙ c.in_ok-place.was {u = tt} in
       let found = found_place p c.args.element.now.attrs c.in_ok-place.place there in
       let got : option_copied c.get.result ≡ slice_get c.attrs.result.now c.in_ok-place.place = item_is c.attrs.result.now c.in_ok-place.place c.get.result c.get.ensures.lookup in

@@ -26,10 +26,10 @@ loop-document-preserved c =
     let x = c.loop-document.invariant.same in
     let scope = c.args.scope.now in let d = c.document-item.result.now in let held = held_in c.loop-document.held in
     record {
-      low = subst IsLowTurn c.in-Now.is c.in_ok-made.ensures.low;
+      low = subst IsLowTurn c.in-Now.is c.in_ok-made.ensures.is_low_enough;
       same = (
         x.0 + operation_count scope d,
-        c.saturating_add-before.ensures ∙ so_many c.loop-document.before c.in_ok-made.count x.0 (operation_count scope d) x.1 c.in_ok-made.ensures.count,
+        c.saturating_add-before.ensures ∙ so_many c.loop-document.before c.in_ok-made.count x.0 (operation_count scope d) x.1 c.in_ok-made.ensures.counts_the_operations,
         x.2
             ∙ ap (λ (ds : List Tree). all_taken x.0 scope ds held)
             (item_now c.args.documents.now c.loop-document.document-index c.document-item.result c.loop-document-test.true c.document-item.is)

@@ -18,6 +18,6 @@ returns-in_err-turn-clause-by_the_words c =
     λ n e.
     rw (p.1, p.2) (
     error_alike turn_in (λ (x : Turn × ℕ). turn_in x.0) _ _ c.in_err-turn.field-0.0
-    (λ i. by_tags n (here i) ((told.operations ∙ (λ j. ours_in (here j) d)) i) (told.previous i) (told.new i) (held_in c.args.held))
+    (λ i. by_tags n (here i) ((told.lends_the_operations ∙ (λ j. ours_in (here j) d)) i) (told.former_tag_of_the_document i) (told.new_tag_of_the_document i) (held_in c.args.held))
     (c.in_err-turn.ensures.by_the_words n e)
     )

@@ -5,4 +5,4 @@ use Rattle.patch_apply.proofs.ByNodes.{remarks_in}
 use Rattle.patch_apply.proofs.contents.is_bare.Goals as goal
 
 pub returns : goal.returns
-returns c = record { tells_whether_it_is_bare = c.are_remarks.ensures.tells_whether_all_are_comments ∙ ap (list_all is_remark) c.nodes.ensures.nodes ∙ remarks_in c.args.operation.now.content }
+returns c = record { tells_whether_it_is_bare = c.are_remarks.ensures.tells_whether_all_are_comments ∙ ap (list_all is_remark) c.nodes.ensures.nodes_of_the_content ∙ remarks_in c.args.operation.now.content }

@@ -12,14 +12,14 @@ returns-then-is_some c = record {
 pub returns-then-not-are_loose : goal.returns-then-not-are_loose
 returns-then-not-are_loose c = record {
   one_element_of_the_content =
-      let loose = sym (c.are_loose.ensures.tells_whether_all_are_loose ∙ ap (list_all is_loose) c.nodes.ensures.nodes) in
+      let loose = sym (c.are_loose.ensures.tells_whether_all_are_loose ∙ ap (list_all is_loose) c.nodes.ensures.nodes_of_the_content) in
       sym (some_fixed c.args.operation.now.content c.kid.result (sym c.is_some.ensures ∙ c.if-is_some.false) c.kid.ensures.child_of_that_number (loose ∙ c.if-not-are_loose.true));
 }
 
 pub returns : goal.returns
 returns c = record {
   one_element_of_the_content =
-      let loose = sym (c.are_loose.ensures.tells_whether_all_are_loose ∙ ap (list_all is_loose) c.nodes.ensures.nodes) in
+      let loose = sym (c.are_loose.ensures.tells_whether_all_are_loose ∙ ap (list_all is_loose) c.nodes.ensures.nodes_of_the_content) in
       c.kid-2.ensures.child_of_that_number
       ∙ sym (all_loose c.args.operation.now.content c.kid.result (sym c.is_some.ensures ∙ c.if-is_some.false) c.kid.ensures.child_of_that_number (loose ∙ c.if-not-are_loose.false));
 }

@@ -7,5 +7,5 @@ use Rattle.patch_apply.proofs.contents.value_in.Goals as goal
 pub returns : goal.returns
 returns c = record {
   value_that_stands_there =
-      IfOk-weaker c.text_in.result _ _ (λ text is. is ∙ ap text_in c.nodes.ensures.nodes ∙ text_is_value c.args.operation.now.content) c.text_in.ensures.joins_the_texts;
+      IfOk-weaker c.text_in.result _ _ (λ text is. is ∙ ap text_in c.nodes.ensures.nodes_of_the_content ∙ text_is_value c.args.operation.now.content) c.text_in.ensures.joins_the_texts;
 }

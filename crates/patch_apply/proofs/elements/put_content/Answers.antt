@@ -22,7 +22,7 @@ returns c = record {
   by_the_words =
       gives_same (λ t. t) _ _ c.put_in_gap.result
       (
-      (λ i. gap_done c.args.here.now (c.gap_of-gap.ensures.path i) (c.gap_of-gap.ensures.place i) c.args.operation.now.content c.args.tree)
+      (λ i. gap_done c.args.here.now (c.gap_of-gap.ensures.path_of_the_gap i) (c.gap_of-gap.ensures.place_of_the_gap i) c.args.operation.now.content c.args.tree)
       ∙ sym (
       put_somewhere c.args.here.now (position_in c.args.position) c.args.path c.args.operation.now.content c.args.tree
       (sym c.off_root.ensures.tells_whether_it_is_off_the_root ∙ c.if-not-off_root.false) (sym c.has_nodes.ensures.tells_whether_it_has_some ∙ c.if-not-has_nodes.false)

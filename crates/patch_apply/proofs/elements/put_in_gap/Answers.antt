@@ -18,7 +18,7 @@ returns-then-not-may_hold c = record {
       let p = c.args.gap.path in let t = c.args.tree in
       gap_deep c.args.here.now p c.args.gap.place c.args.operation.now.content t (some_if (at p t) _ c.requires.within) c.requires.low
       (
-      ap (λ (ns : List Node). nat_le (length p + suc (nodes_height ns)) 64) (sym c.nodes-nodes.ensures.nodes) ∙ sym c.may_hold.ensures.tells_whether_they_fit
+      ap (λ (ns : List Node). nat_le (length p + suc (nodes_height ns)) 64) (sym c.nodes-nodes.ensures.nodes_of_the_content) ∙ sym c.may_hold.ensures.tells_whether_they_fit
       ∙ c.if-not-may_hold.true
       );
 }
@@ -29,7 +29,7 @@ returns-then-not-alike_at c = record {
       let p = c.args.gap.path in let t = c.args.tree in
       gap_unlike c.args.here.now p c.args.gap.place c.args.operation.now.content t (some_if (at p t) _ c.requires.within) c.requires.low
       (
-      ap (λ (ns : List Node). nat_le (length p + suc (nodes_height ns)) 64) (sym c.nodes-nodes.ensures.nodes) ∙ sym c.may_hold.ensures.tells_whether_they_fit
+      ap (λ (ns : List Node). nat_le (length p + suc (nodes_height ns)) 64) (sym c.nodes-nodes.ensures.nodes_of_the_content) ∙ sym c.may_hold.ensures.tells_whether_they_fit
       ∙ c.if-not-may_hold.false
       )
       (sym c.alike_at.ensures.tells_whether_they_mean_the_same ∙ c.if-not-alike_at.true);
@@ -41,10 +41,10 @@ returns c = record {
       let p = c.args.gap.path in let i = c.args.gap.place in let t = c.args.tree in
       gap_made c.args.here.now p i c.args.operation.now.content t (some_if (at p t) _ c.requires.within) c.requires.low
       (
-      ap (λ (ns : List Node). nat_le (length p + suc (nodes_height ns)) 64) (sym c.nodes-nodes.ensures.nodes) ∙ sym c.may_hold.ensures.tells_whether_they_fit
+      ap (λ (ns : List Node). nat_le (length p + suc (nodes_height ns)) 64) (sym c.nodes-nodes.ensures.nodes_of_the_content) ∙ sym c.may_hold.ensures.tells_whether_they_fit
       ∙ c.if-not-may_hold.false
       )
       (sym c.alike_at.ensures.tells_whether_they_mean_the_same ∙ c.if-not-alike_at.false)
-      ∙ ap (λ (ns : List Node). Ok (change_at p (exchange_nodes i i ns) t)) (sym (c.in_ok-copies.ensures.makes_equal_nodes ∙ c.nodes-nodes.ensures.nodes))
+      ∙ ap (λ (ns : List Node). Ok (change_at p (exchange_nodes i i ns) t)) (sym (c.in_ok-copies.ensures.makes_equal_nodes ∙ c.nodes-nodes.ensures.nodes_of_the_content))
       ∙ ap Ok (sym c.in_ok-exchange_at.ensures.exchanges_them);
 }

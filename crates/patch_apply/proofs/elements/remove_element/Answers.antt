@@ -25,17 +25,17 @@ returns-then-not-space_fits c = record {
   by_the_words =
       let t = c.args.tree in
       remove_no_space c.args.before c.args.after c.args.path.now c.args.operation.now.content t (sym c.is_below.ensures.tells_whether_it_is_below ∙ c.if-not-is_below.false)
-      (sym c.is_bare.ensures.tells_whether_it_is_bare ∙ c.if-not-is_bare.false) ((λ i. has_space_beside c.args.before c.args.after (sym c.place_in_parent-gap.ensures.parent i) (sym c.place_in_parent-gap.ensures.place i) t) ∙ sym c.space_fits.ensures.tells_whether_it_is_there ∙ c.if-not-space_fits.true);
+      (sym c.is_bare.ensures.tells_whether_it_is_bare ∙ c.if-not-is_bare.false) ((λ i. has_space_beside c.args.before c.args.after (sym c.place_in_parent-gap.ensures.path_of_the_parent i) (sym c.place_in_parent-gap.ensures.place_among_the_nodes i) t) ∙ sym c.space_fits.ensures.tells_whether_it_is_there ∙ c.if-not-space_fits.true);
 }
 
 pub returns : goal.returns
 returns c = record {
   by_the_words =
       let p = c.args.path.now in let t = c.args.tree in let before = c.args.before in let after = c.args.after in
-      let same = sym c.place_in_parent-gap.ensures.parent in let here = sym c.place_in_parent-gap.ensures.place in
-      let there : IsSome (at (parent_path p) t) = subst (λ (q : List ℕ). IsSome (at q t)) c.place_in_parent-gap.ensures.parent (some_if (at c.place_in_parent-gap.result.path t) _ c.place_in_parent-gap.ensures.within) in
+      let same = sym c.place_in_parent-gap.ensures.path_of_the_parent in let here = sym c.place_in_parent-gap.ensures.place_among_the_nodes in
+      let there : IsSome (at (parent_path p) t) = subst (λ (q : List ℕ). IsSome (at q t)) c.place_in_parent-gap.ensures.path_of_the_parent (some_if (at c.place_in_parent-gap.result.path t) _ c.place_in_parent-gap.ensures.lies_among_the_nodes) in
       remove_made before after p c.args.operation.now.content t there c.requires.low (sym c.is_below.ensures.tells_whether_it_is_below ∙ c.if-not-is_below.false)
       (sym c.is_bare.ensures.tells_whether_it_is_bare ∙ c.if-not-is_bare.false)
       ((λ i. has_space_beside before after (same i) (here i) t) ∙ sym c.space_fits.ensures.tells_whether_it_is_there ∙ c.if-not-space_fits.false)
-      ∙ (λ i. Ok (cut_nodes (same i) (here i - one_if before) (suc (here i) + one_if after) t)) ∙ ap Ok (sym c.in_ok-cut_with_space.ensures.cuts);
+      ∙ (λ i. Ok (cut_nodes (same i) (here i - one_if before) (suc (here i) + one_if after) t)) ∙ ap Ok (sym c.in_ok-cut_with_space.ensures.cuts_with_the_space);
 }

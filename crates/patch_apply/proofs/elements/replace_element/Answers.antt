@@ -33,5 +33,5 @@ returns c = record {
       (sym (c.in-Some.ensures {u = tt}).one_element_of_the_content) (sym c.may_stand.ensures.tells_whether_it_fits ∙ c.if-not-may_stand.false)
       (sym c.alike_around.ensures.tells_whether_they_mean_the_same ∙ c.if-not-alike_around.false)
       ∙ ap (λ (e : Tree). Ok (put_over p e t)) (sym c.in_ok-copy.ensures.makes_an_equal_tree)
-      ∙ ap Ok (sym c.put_over-old.ensures.new);
+      ∙ ap Ok (sym c.put_over-old.ensures.element_is_exchanged);
 }

@@ -6,4 +6,4 @@ use Rattle.patch_apply.proofs.meanings.+alike.Goals as goal
 
 pub content_alike-loop-node-init : goal.content_alike-loop-node-init
 content_alike-loop-node-init t c =
-    ap (list_all (node_alike c.args.c.now c.args.d.now)) c.nodes-node-items.ensures.nodes ∙ alike_in c.args.c.now c.args.d.now c.args.element.now.content
+    ap (list_all (node_alike c.args.c.now c.args.d.now)) c.nodes-node-items.ensures.nodes_of_the_content ∙ alike_in c.args.c.now c.args.d.now c.args.element.now.content

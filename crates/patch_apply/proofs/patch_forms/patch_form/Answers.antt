@@ -11,6 +11,6 @@ returns c = record {
   form_of_the_selector =
       let text = c.as_str.result.now in
       IfOk-weaker c.read_patch_form.result _ _
-      (λ form is. one_form text form (patch_form_read text) is (form_answer text) ∙ ap (λ cs. raw_form_told (read_whole read_patch_selector cs)) c.as_str.ensures.letters)
+      (λ form is. one_form text form (patch_form_read text) is (form_answer text) ∙ ap (λ cs. raw_form_told (read_whole read_patch_selector cs)) c.as_str.ensures.characters_of_the_text)
       c.read_patch_form.ensures.answer_by_the_grammar;
 }

@@ -9,7 +9,7 @@ pub returns-then-not-suits : goal.returns-then-not-suits
 returns-then-not-suits c = record {
   selector_that_is_meant =
       let here = c.args.here.now in let sel = c.args.sel.now in let task = task_in c.args.task.now in
-      let x = found here c.in_ok-bindings.bindings (chars c.default_uri.result.now) c.as_str.result.now sel c.in_ok-bindings.ensures.all_bindings_in_scope c.default_uri.ensures.default_namespace c.as_str.ensures.letters c.in-Ok.selector
+      let x = found here c.in_ok-bindings.bindings (chars c.default_uri.result.now) c.as_str.result.now sel c.in_ok-bindings.ensures.all_bindings_in_scope c.default_uri.ensures.default_namespace c.as_str.ensures.characters_of_the_text c.in-Ok.selector
       c.in-Ok.ensures.answer_by_the_grammar in
       unsuited here sel task x.raw x.form (suits_by_form task x.raw.1.1 ∙ ap (suits_form task) (sym (c.form_of.ensures.form_of_the_end ∙ x.ends)) ∙ sym c.suits.ensures.tells_whether_it_suits ∙ c.if-not-suits.true);
 }
@@ -18,7 +18,7 @@ pub returns-then-not-is_bound_type : goal.returns-then-not-is_bound_type
 returns-then-not-is_bound_type c = record {
   selector_that_is_meant =
       let here = c.args.here.now in let sel = c.args.sel.now in let task = task_in c.args.task.now in
-      let x = found here c.in_ok-bindings.bindings (chars c.default_uri.result.now) c.as_str.result.now sel c.in_ok-bindings.ensures.all_bindings_in_scope c.default_uri.ensures.default_namespace c.as_str.ensures.letters c.in-Ok.selector
+      let x = found here c.in_ok-bindings.bindings (chars c.default_uri.result.now) c.as_str.result.now sel c.in_ok-bindings.ensures.all_bindings_in_scope c.default_uri.ensures.default_namespace c.as_str.ensures.characters_of_the_text c.in-Ok.selector
       c.in-Ok.ensures.answer_by_the_grammar in
       untyped here sel task x.raw c.in-Ok.selector x.form (suits_by_form task x.raw.1.1 ∙ ap (suits_form task) (sym (c.form_of.ensures.form_of_the_end ∙ x.ends)) ∙ sym c.suits.ensures.tells_whether_it_suits ∙ c.if-not-suits.false) x.means (sym (type_is_bound here task) ∙ ((λ i. is_type_bound (sym c.in_ok-bindings.ensures.all_bindings_in_scope i) task) ∙ sym c.is_bound_type.ensures.tells_whether_it_is_bound ∙ c.if-not-is_bound_type.true));
 }
@@ -27,14 +27,14 @@ pub returns-in-Ok : goal.returns-in-Ok
 returns-in-Ok c = record {
   selector_that_is_meant =
       let here = c.args.here.now in let sel = c.args.sel.now in let task = task_in c.args.task.now in
-      let x = found here c.in_ok-bindings.bindings (chars c.default_uri.result.now) c.as_str.result.now sel c.in_ok-bindings.ensures.all_bindings_in_scope c.default_uri.ensures.default_namespace c.as_str.ensures.letters c.in-Ok.selector
+      let x = found here c.in_ok-bindings.bindings (chars c.default_uri.result.now) c.as_str.result.now sel c.in_ok-bindings.ensures.all_bindings_in_scope c.default_uri.ensures.default_namespace c.as_str.ensures.characters_of_the_text c.in-Ok.selector
       c.in-Ok.ensures.answer_by_the_grammar in
       selecting here sel task x.raw c.in-Ok.selector x.form (suits_by_form task x.raw.1.1 ∙ ap (suits_form task) (sym (c.form_of.ensures.form_of_the_end ∙ x.ends)) ∙ sym c.suits.ensures.tells_whether_it_suits ∙ c.if-not-suits.false) x.means (sym (type_is_bound here task) ∙ ((λ i. is_type_bound (sym c.in_ok-bindings.ensures.all_bindings_in_scope i) task) ∙ sym c.is_bound_type.ensures.tells_whether_it_is_bound ∙ c.if-not-is_bound_type.false));
 }
 
 pub refused-requires : goal.refused-requires
 refused-requires c =
-    refused_so c.args.here.now c.in_ok-bindings.bindings (chars c.default_uri.result.now) c.as_str.result.now c.args.sel.now c.in_ok-bindings.ensures.all_bindings_in_scope c.default_uri.ensures.default_namespace c.as_str.ensures.letters
+    refused_so c.args.here.now c.in_ok-bindings.bindings (chars c.default_uri.result.now) c.as_str.result.now c.args.sel.now c.in_ok-bindings.ensures.all_bindings_in_scope c.default_uri.ensures.default_namespace c.as_str.ensures.characters_of_the_text
     c.in-Err-Fault.fault
     (
     fault_answered (IsPatchSelectorAnswer c.in_ok-bindings.bindings (chars c.default_uri.result.now) c.as_str.result.now) _ c.in-Err-Fault.fault c.in-Err-Fault.field-0-is

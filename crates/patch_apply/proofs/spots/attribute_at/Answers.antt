@@ -13,7 +13,7 @@ returns-in_err-place c = record {
       let f = is_attr (scope_at p t) c.args.uri.now c.args.local.now in
       let none : None ≡ position f e.attrs =
       sym (c.in_err-place.was {u = tt}) ∙ c.find_attr.ensures.place_of_the_first
-      ∙ (λ i. position (is_attr (scope i) (c.as_str.ensures.letters i) (c.as_str-2.ensures.letters i)) e.attrs) in
+      ∙ (λ i. position (is_attr (scope i) (c.as_str.ensures.characters_of_the_text i) (c.as_str-2.ensures.characters_of_the_text i)) e.attrs) in
       rw c.from_residual-in_err-place.ensures (no_attr t e p c.requires f none);
 }
 
@@ -25,6 +25,6 @@ returns c = record {
       let f = is_attr (scope_at p t) c.args.uri.now c.args.local.now in
       let first : Some c.in_ok-place.place ≡ position f e.attrs =
       sym (c.in_ok-place.was {u = tt}) ∙ c.find_attr.ensures.place_of_the_first
-      ∙ (λ i. position (is_attr (scope i) (c.as_str.ensures.letters i) (c.as_str-2.ensures.letters i)) e.attrs) in
+      ∙ (λ i. position (is_attr (scope i) (c.as_str.ensures.characters_of_the_text i) (c.as_str-2.ensures.characters_of_the_text i)) e.attrs) in
       attr_spot t e p c.requires f c.in_ok-place.place first;
 }

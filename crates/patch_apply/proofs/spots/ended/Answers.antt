@@ -19,5 +19,5 @@ returns-in_ok-place-in-Chars c = record {
   what_is_selected =
       let t = c.args.tree.now in let e = c.args.element.now in let p = c.args.path in
       subst (λ (end : PatchEnd). Spots t (ended end (scope_at p t) p e) (Some (AtText p c.in_ok-place-in-Chars.place))) (sym c.in-Chars.is)
-      (text_spot t e p c.requires c.in-Chars.position c.nodes.result.now c.nodes.ensures.nodes c.in_ok-place-in-Chars.place (c.in_ok-place-in-Chars.ensures {u = tt}).number_of_the_text (c.in_ok-place-in-Chars.ensures {u = tt}).within);
+      (text_spot t e p c.requires c.in-Chars.position c.nodes.result.now c.nodes.ensures.nodes_of_the_content c.in_ok-place-in-Chars.place (c.in_ok-place-in-Chars.ensures {u = tt}).number_of_the_text (c.in_ok-place-in-Chars.ensures {u = tt}).lies_within);
 }

@@ -2,4 +2,4 @@ use Rattle.patch_laws.proofs.OnwardNotices.{applied_sound, replayed_sound}
 use Rattle.patch_laws.proofs.laws.replicas_stay_sound.Goals as goal
 
 pub returns : goal.returns
-returns c = record { operation = applied_sound; notice = replayed_sound }
+returns c = record { of_one_operation = applied_sound; of_a_whole_notice = replayed_sound }

@@ -12,6 +12,6 @@ returns c = record {
   prints_the_notice =
       let p = c.in_ok-prefix.prefix in
       let is = notice_is c.args.state c.in_ok-prefix.prefix c.args.root.now c.in_ok-sel.sel (element_address (id_text c.args.doc.now) c.args.raw.now) c.in_ok-notice.notice c.push_state.new.notice c.in_ok-prefix.ensures.copies_the_text
-      c.in_ok-sel.ensures.joins_the_address (c.in_ok-notice.ensures.notice_without_documents ∙ ap (λ (r : List ℕ). diff p r []) c.text.ensures.text) c.in_ok-push_state.ensures.adds_what_the_state_tells in
+      c.in_ok-sel.ensures.joins_the_address (c.in_ok-notice.ensures.notice_without_documents ∙ ap (λ (r : List ℕ). diff p r []) c.text.ensures.lends_its_text) c.in_ok-push_state.ensures.adds_what_the_state_tells in
       subst (λ (t : Tree). IfOk c.print_document.result (λ bytes. bytes ≡ encode_utf8_all (document_print t))) is c.print_document.ensures.prints_the_document;
 }

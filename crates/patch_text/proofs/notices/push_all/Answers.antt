@@ -11,5 +11,5 @@ returns c = record {
       let sel = c.args.names.now.sel in
       let ns = joined c.args.notes.older.now c.args.notes.newer.now in
       all_told p sel c.args.from ns c.in_ok-made.made c.args.notice.now c.push_elem.new.self c.requires
-      (c.in_ok-made.ensures.document_of_all_notes ∙ ap (λ (to : ℕ). document p sel c.args.from to (operations p ns)) c.last_tag_in-to.ensures.tag_that_all_lead_to) c.in_ok-push_elem.ensures.ok;
+      (c.in_ok-made.ensures.document_of_all_notes ∙ ap (λ (to : ℕ). document p sel c.args.from to (operations p ns)) c.last_tag_in-to.ensures.tag_that_all_lead_to) c.in_ok-push_elem.ensures.adds_the_element;
 }

@@ -18,7 +18,7 @@ loop-note-preserved c =
     let sel = c.args.names.now.sel in
     let tell : Note → Tree = λ n. document p sel n.previous n.next (operation p n ∷ []) in
     next-put tell c.args.notes.now c.loop-note.note-index c.note-item.result c.args.notice.now old c.push_elem.new.self c.loop-note-test.true c.note-item.is c.loop-note.invariant
-    (c.in_ok-push_elem.ensures.ok ∙ ap (λ (e : Tree). record old { content = with_elem e old.content }) c.in_ok-of_one.ensures.document_of_the_note)
+    (c.in_ok-push_elem.ensures.adds_the_element ∙ ap (λ (e : Tree). record old { content = with_elem e old.content }) c.in_ok-of_one.ensures.document_of_the_note)
 
 pub returns : goal.returns
 returns c = record {

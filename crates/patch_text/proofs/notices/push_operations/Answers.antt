@@ -14,7 +14,7 @@ pub loop-note-preserved : goal.loop-note-preserved
 loop-note-preserved c =
     let old = c.loop-note.document in
     next-put (operation c.args.prefix.now) c.args.notes.now c.loop-note.note-index c.note-item.result c.args.document.now old c.push_elem.new.self c.loop-note-test.true c.note-item.is c.loop-note.invariant
-    (c.in_ok-push_elem.ensures.ok ∙ ap (λ (e : Tree). record old { content = with_elem e old.content }) c.in_ok-operation.ensures.operation_of_the_note)
+    (c.in_ok-push_elem.ensures.adds_the_element ∙ ap (λ (e : Tree). record old { content = with_elem e old.content }) c.in_ok-operation.ensures.operation_of_the_note)
 
 pub returns : goal.returns
 returns c = record {

@@ -10,5 +10,5 @@ returns c = record {
       let p = c.args.names.now.prefix in
       let sel = c.args.names.now.sel in
       tags_told p sel c.args.from (joined c.args.notes.older.now c.args.notes.newer.now) c.in_ok-made.made c.args.notice.now c.push_elem.new.self c.requires
-      (c.in_ok-made.ensures.document_of_these_tags ∙ ap (λ (to : ℕ). document p sel c.args.from to []) c.last_tag_in-to.ensures.tag_that_all_lead_to) c.in_ok-push_elem.ensures.ok;
+      (c.in_ok-made.ensures.document_of_these_tags ∙ ap (λ (to : ℕ). document p sel c.args.from to []) c.last_tag_in-to.ensures.tag_that_all_lead_to) c.in_ok-push_elem.ensures.adds_the_element;
 }

@@ -10,6 +10,6 @@ returns c = record {
   selector_of_the_attribute =
       let p = path_text c.args.at.now in
       let n = print_name c.args.name.now in
-      let front = c.in_ok-push_str.ensures.ok ∙ ap (λ (l : List ℕ). l ++ chars (codes "/@")) c.in_ok-text.ensures.prints_the_path ∙ ap (λ (l : List ℕ). p ++ l) behind_slash in
+      let front = c.in_ok-push_str.ensures.adds_the_characters ∙ ap (λ (l : List ℕ). l ++ chars (codes "/@")) c.in_ok-text.ensures.prints_the_path ∙ ap (λ (l : List ℕ). p ++ l) behind_slash in
       c.in_ok-push_name.ensures.adds_the_name ∙ ap (λ (l : List ℕ). l ++ n) front ∙ append_assoc p (codes "/@") n;
 }

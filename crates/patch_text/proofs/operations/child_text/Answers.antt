@@ -7,5 +7,5 @@ pub returns : goal.returns
 returns c = record {
   selector_of_the_child =
       path_added c.args.parent.now c.in_ok-text.text c.push_str.new.self (string_bytes c.in_ok-step.step) c.args.child c.ranges.child.fits c.in_ok-text.ensures.prints_the_path c.in_ok-step.ensures.ok
-      (c.in_ok-push_str.ensures.ok ∙ ap (λ (l : List ℕ). c.in_ok-text.text ++ chars l) c.deref.ensures);
+      (c.in_ok-push_str.ensures.adds_the_characters ∙ ap (λ (l : List ℕ). c.in_ok-text.text ++ chars l) c.deref.ensures);
 }

@@ -14,6 +14,6 @@ add_element-loop-node-preserved t c =
 pub add_element-returns : goal.add_element-returns
 add_element-returns t c = record {
   gains_the_prefixes_inside =
-      gains-nodes (prefixes c.args.element.now.decls) c.nodes-nodes.result.now c.args.element.now.content c.args.seen.now c.loop-node.seen c.nodes-nodes.ensures.content
+      gains-nodes (prefixes c.args.element.now.decls) c.nodes-nodes.result.now c.args.element.now.content c.args.seen.now c.loop-node.seen c.nodes-nodes.ensures.content_of_the_nodes
       (gains-end prefixes_at (prefixes c.args.element.now.decls) c.nodes-nodes.result.now c.loop-node.node-index c.args.seen.now c.loop-node.seen c.loop-node-test.false c.loop-node.invariant);
 }

@@ -5,9 +5,9 @@ use Rattle.plan_words.proofs.laws.clashes_beside_a_change.Goals as goal
 
 pub returns : goal.returns
 returns c = record {
-  insertion = unique_put;
+  of_an_insertion = unique_put;
   first_of_an_insertion = λ u t parent new q gap kind found there le unique is. first_put u t parent new q gap there le unique kind is found;
-  exchange = unique_over;
+  of_an_exchange = unique_over;
   first_of_an_exchange = λ u t parent kid new q i kind found there is_kid unique is. first_over u t parent kid new q i there is_kid unique kind is found;
-  removal = unique_without;
+  of_a_removal = unique_without;
 }

@@ -3,7 +3,7 @@ use Rattle.plan_words.proofs.laws.new_attributes_beside_a_change.Goals as goal
 
 pub returns : goal.returns
 returns c = record {
-  valid = valid_retag;
-  formed = formed_retag;
+  element_stays_valid = valid_retag;
+  references_stay_formed = formed_retag;
   first_clash = λ u t parent kid q i attrs kind found there is_kid at_p unique is. first_retag u t parent kid q i attrs there is_kid at_p unique kind is found;
 }

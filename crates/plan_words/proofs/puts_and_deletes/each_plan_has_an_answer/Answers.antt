@@ -3,8 +3,8 @@ use Rattle.plan_words.proofs.puts_and_deletes.each_plan_has_an_answer.Goals as g
 
 pub returns : goal.returns
 returns c = record {
-  spot = some_spot;
-  element = some_put;
-  attribute = some_attr;
-  deletion = some_delete;
+  of_a_spot = some_spot;
+  of_an_element = some_put;
+  of_an_attribute = some_attr;
+  of_a_deletion = some_delete;
 }

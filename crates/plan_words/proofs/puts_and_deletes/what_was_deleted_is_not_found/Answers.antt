@@ -4,5 +4,5 @@ use Rattle.plan_words.proofs.puts_and_deletes.what_was_deleted_is_not_found.Goal
 pub returns : goal.returns
 returns c = record {
   not_found = λ u t selector change h. (deleted_is u t selector change h).finds_nothing;
-  faultless = λ u t selector change h. (deleted_is u t selector change h).faultless;
+  planned_document_is_faultless = λ u t selector change h. (deleted_is u t selector change h).faultless;
 }

@@ -17,9 +17,9 @@ reading-preserved g c =
     let count : ℕ = c.in_ok-count.count in
     let behind : List ℕ = post_of held (length buffer - held) buffer in
     record {
-      within = behind_front buffer piece behind held count so_far.within call.bound.0;
-      consumed = subst (Gave (g.I.Line.state c.args.input.now).inward (g.I.Line.state c.read.new.self).inward) (sym (put_behind buffer piece behind held count so_far.within call.bound.0))
-          (gave_on _ _ _ (take held buffer) (take count piece) so_far.consumed call.bytes.0);
+      within = behind_front buffer piece behind held count so_far.within call.within_the_piece_or_buffer.0;
+      consumed = subst (Gave (g.I.Line.state c.args.input.now).inward (g.I.Line.state c.read.new.self).inward) (sym (put_behind buffer piece behind held count so_far.within call.within_the_piece_or_buffer.0))
+          (gave_on _ _ _ (take held buffer) (take count piece) so_far.consumed call.gives_bytes_behind_those_before.0);
       reads = reads_on _ _ _ so_far.reads call.only_reads.reads;
       stayed = call.only_reads.counts ∙ so_far.stayed;
     }

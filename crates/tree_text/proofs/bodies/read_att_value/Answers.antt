@@ -7,5 +7,5 @@ returns c =
     let answer = body_answers c.args.bytes.now c.read_body.result c.read_body.ensures.reads_the_body in
     record {
       answer_by_the_grammar = answer;
-      chars = body_good c.args.bytes.now c.read_body.result answer;
+      is_all_chars = body_good c.args.bytes.now c.read_body.result answer;
     }

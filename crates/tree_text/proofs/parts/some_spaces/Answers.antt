@@ -6,5 +6,5 @@ use Rattle.tree_text.proofs.parts.some_spaces.Goals as goal
 pub split_at-requires : goal.split_at-requires
 split_at-requires c = omega (arith, run_len_le is_space c.args.text.now, c.spaces_len-len.ensures.counts_the_spaces)
 
-pub returns-clause-read : goal.returns-clause-read
-returns-clause-read c = some_read is_space c.args.text.now c.split_at.result.0.now c.split_at.result.1.now c.spaces_len-len.result c.spaces_len-len.ensures.counts_the_spaces c.split_at.ensures.front c.split_at.ensures.back (omega (arith, c.if-len-eq0.false))
+pub returns-clause-reads_as_the_rule_does : goal.returns-clause-reads_as_the_rule_does
+returns-clause-reads_as_the_rule_does c = some_read is_space c.args.text.now c.split_at.result.0.now c.split_at.result.1.now c.spaces_len-len.result c.spaces_len-len.ensures.counts_the_spaces c.split_at.ensures.front c.split_at.ensures.back (omega (arith, c.if-len-eq0.false))

@@ -10,7 +10,7 @@ use Rattle.tree_text.proofs.pieces.prolog.Goals.{else-loop-test, then-loop-test+
 pub loop-init : goal.loop-init
 loop-init c =
     let all : length c.spaces.result.1.now - 0 ≡ length c.spaces.result.1.now = omega arith in
-    rw all (start misc_follows (read_dropped read_spaces) read_prolog_misc (λ _. tt) c.args.text.now c.spaces.result.1.now tt (dropped_ok read_spaces c.args.text.now c.spaces.result.1.now c.spaces.result.0.now c.spaces.ensures.read))
+    rw all (start misc_follows (read_dropped read_spaces) read_prolog_misc (λ _. tt) c.args.text.now c.spaces.result.1.now tt (dropped_ok read_spaces c.args.text.now c.spaces.result.1.now c.spaces.result.0.now c.spaces.ensures.reads_as_the_rule_does))
 
 pub returns-in_err-after : goal.returns-in_err-after
 returns-in_err-after c = record {
@@ -23,7 +23,7 @@ returns-in_err-after c = record {
 pub loop-preserved : goal.loop-preserved
 loop-preserved c =
     goes_on misc_follows (read_sequence read_prolog_misc (λ _. read_dropped read_spaces)) nothing_with tt tt _ c.loop.counter c.loop.rest.now c.spaces-in-loop.result.1.now (tt, tt) (read_prolog c.args.text.now) c.loop-test.true (sym c.misc_follows.ensures.tells_whether_a_misc_follows ∙ c.if-not-misc_follows.false)
-    (both_ok read_prolog_misc (λ _. read_dropped read_spaces) c.loop.rest.now c.in_ok-after.after.now c.spaces-in-loop.result.1.now tt tt c.in_ok-after.ensures.reads_a_misc_of_the_prolog (dropped_ok read_spaces c.in_ok-after.after.now c.spaces-in-loop.result.1.now c.spaces-in-loop.result.0.now c.spaces-in-loop.ensures.read))
+    (both_ok read_prolog_misc (λ _. read_dropped read_spaces) c.loop.rest.now c.in_ok-after.after.now c.spaces-in-loop.result.1.now tt tt c.in_ok-after.ensures.reads_a_misc_of_the_prolog (dropped_ok read_spaces c.in_ok-after.after.now c.spaces-in-loop.result.1.now c.spaces-in-loop.result.0.now c.spaces-in-loop.ensures.reads_as_the_rule_does))
     (λ xs. refl) c.loop.invariant
 
 pub returns : goal.returns

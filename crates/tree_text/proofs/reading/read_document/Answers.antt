@@ -11,5 +11,5 @@ returns c =
     let answer = text_answers c.args.depth [] c.args.bytes.now c.read.result read in
     record {
       answer_by_the_grammar = answer;
-      proper = text_good c.args.depth [] c.args.bytes.now c.read.result answer;
+      is_proper = text_good c.args.depth [] c.args.bytes.now c.read.result answer;
     }

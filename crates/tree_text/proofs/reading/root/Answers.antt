@@ -16,7 +16,7 @@ returns-then-not-is_empty c = record {
   reads_all_of_the_text =
       let tree = c.in_ok-root.root in
       let behind = c.in_ok-root.rest.now in
-      let read = subst (λ (z : List (List Decl)). read_element c.args.depth z 1 c.in_ok-rest-2.rest.now ≡ Ok (tree, behind)) c.in_ok-bindings.ensures.given c.in_ok-root.ensures.read in
+      let read = subst (λ (z : List (List Decl)). read_element c.args.depth z 1 c.in_ok-rest-2.rest.now ≡ Ok (tree, behind)) c.in_ok-bindings.ensures.holds_the_given_scope c.in_ok-root.ensures.reads_as_the_rule_does in
       left_over (read_text c.args.depth c.args.scope.now) c.args.text.now c.in_ok-rest-3.rest.now tree
       (reads_behind {p = read_mark_if} (record { read = c.mark_if-rest.ensures.passes_a_mark_if_it_follows })
       (reads_behind {p = read_declaration_if} (record { read = c.in_ok-rest.ensures.reads_a_declaration_if_it_follows })

@@ -13,10 +13,10 @@ returns-then-is_name_up_to c =
     let text = c.args.text.now in
     let front = c.plain_in_name.result in
     let plain = chars front.0.now in
-    let whole = c.plain_in_name.ensures.text in
+    let whole = c.plain_in_name.ensures.lends_its_text in
     let tests = and_parts (head_is is_name_start text) (ends_name front.1.now) (sym c.if-is_name_up_to.ensures.tells_whether_a_name_stands_between) in
     record {
-      read = rw (c.no_text.ensures.holds_no_characters, c.in_ok-from.ensures.copies_the_text) (plain_qname text plain front.1.now whole c.plain_in_name.ensures.plain tests.0 tests.1);
-      written = rw (c.no_text.ensures.holds_no_characters, c.in_ok-from.ensures.copies_the_text) (sym (c.unprefixed.ensures.stands_before_the_rest ∙ ap (λ (l : List ℕ). let n : Name = record { prefix = []; local = l } in n) (front_taken text plain front.1.now whole)));
-      sizes = rw (c.no_text.ensures.holds_no_characters, c.in_ok-from.ensures.copies_the_text) (omega (arith, ap length whole, length-append plain front.1.now));
+      reads_as_the_rule_does = rw (c.no_text.ensures.holds_no_characters, c.in_ok-from.ensures.copies_the_text) (plain_qname text plain front.1.now whole c.plain_in_name.ensures.is_plain_alone tests.0 tests.1);
+      name_is_as_written = rw (c.no_text.ensures.holds_no_characters, c.in_ok-from.ensures.copies_the_text) (sym (c.unprefixed.ensures.stands_before_the_rest ∙ ap (λ (l : List ℕ). let n : Name = record { prefix = []; local = l } in n) (front_taken text plain front.1.now whole)));
+      lengths_add_up = rw (c.no_text.ensures.holds_no_characters, c.in_ok-from.ensures.copies_the_text) (omega (arith, ap length whole, length-append plain front.1.now));
     }

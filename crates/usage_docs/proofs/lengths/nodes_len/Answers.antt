@@ -14,7 +14,7 @@ loop-node-init c =
     let ns = c.nodes-node-items.result.now in
     let scope : c.args.scope.now ≡ root.decls ∷ [] = c.requires.inside ∙ ap (λ (ds : List Decl). ds ∷ []) c.requires.root in
     let whole : elems_len (listed_nodes c.args.scope.now ns) ≡ elems_len (map Elem (listed root)) =
-    ap (λ (x : Scope). elems_len (listed_nodes x ns)) scope ∙ ap elems_len (all_listed (root.decls ∷ []) ns root.content c.nodes-node-items.ensures.content) in
+    ap (λ (x : Scope). elems_len (listed_nodes x ns)) scope ∙ ap elems_len (all_listed (root.decls ∷ []) ns root.content c.nodes-node-items.ensures.content_of_the_nodes) in
     record { fits = omega arith; counted = omega (arith, whole) }
 
 pub loop-node-preserved : goal.loop-node-preserved

@@ -8,7 +8,7 @@ use Rattle.usage_docs.proofs.TextsRead.{all_read}
 use Rattle.usage_docs.proofs.letters.is_http_inside.Goals as goal
 
 pub loop-node-init : goal.loop-node-init
-loop-node-init c = all_read (address_after (white true)) c.nodes-node-items.result.now Start c.args.element.now.content c.nodes-node-items.ensures.content
+loop-node-init c = all_read (address_after (white true)) c.nodes-node-items.result.now Start c.args.element.now.content c.nodes-node-items.ensures.content_of_the_nodes
 
 pub returns : goal.returns
 returns c = record {

@@ -8,4 +8,4 @@ pub loop-node-init : goal.loop-node-init
 loop-node-init c =
     let ns = c.nodes-node-items.result.now in
     ap (λ ms. ms ++ listed_nodes c.args.scope.now ns) c.new-made.ensures.items ∙ ap (λ (x : Scope). listed_nodes x ns) c.requires
-    ∙ all_listed (c.args.root.now.decls ∷ []) ns c.args.root.now.content c.nodes-node-items.ensures.content
+    ∙ all_listed (c.args.root.now.decls ∷ []) ns c.args.root.now.content c.nodes-node-items.ensures.content_of_the_nodes

@@ -14,7 +14,7 @@ serve_port_logged-served-requires-clause-room g c = omega (arith, c.requires.sho
 
 pub returns-in-Err-clause-keeps_on : goal.returns-in-Err-clause-keeps_on
 returns-in-Err-clause-keeps_on g c = λ requests m kept stands redone told held.
-    inl (record { port_failed = c.in-Err.ensures.listens.0; rose = c.in-Err.ensures.listens.1; written = held; told_none = refl })
+    inl (record { port_failed = c.in-Err.ensures.listens_or_fails_with_a_cause.0; rose = c.in-Err.ensures.listens_or_fails_with_a_cause.1; written = held; told_none = refl })
 
 pub returns-then-has_failed-clause-keeps_on : goal.returns-then-has_failed-clause-keeps_on
 returns-then-has_failed-clause-keeps_on g c = λ requests m kept stands redone told held.
@@ -23,7 +23,7 @@ returns-then-has_failed-clause-keeps_on g c = λ requests m kept stands redone t
     let holds = holds_whole (AcceptedAt s.root m) c.args.log.now requests _ c.requires.whole c.requires.fits told held in
     kept_failed g.W.Watchers.keeps c.args.address.now c.args.count c.serve_port_logged-served.result requests s c.serve_port_logged-served.new.server m c.serve_port_logged-served.new.log _ _
     (p c.args.port.now) (p c.listen.new.self) (p c.serve_port_logged-served.new.port) c.args.watchers.now c.serve_port_logged-served.new.watchers
-    c.requires.no_fault c.serve_port_logged-served.ensures.still_fits redone c.in_default.ensures.listens (c.serve_port_logged-served.ensures.serves_as_the_machine m requests kept stands holds)
+    c.requires.no_fault c.serve_port_logged-served.ensures.still_fits redone c.in_default.ensures.listens_or_fails_with_a_cause (c.serve_port_logged-served.ensures.serves_as_the_machine m requests kept stands holds)
     (sym c.has_failed.ensures.tells_whether_a_call_failed ∙ c.if-has_failed.true)
 
 pub returns-in-PortFailed-clause-keeps_on : goal.returns-in-PortFailed-clause-keeps_on
@@ -33,7 +33,7 @@ returns-in-PortFailed-clause-keeps_on g c = λ requests m kept stands redone tol
     let holds = holds_whole (AcceptedAt s.root m) c.args.log.now requests _ c.requires.whole c.requires.fits told held in
     kept_port_failed g.W.Watchers.keeps c.args.address.now c.args.count c.serve_port_logged-served.result requests s c.serve_port_logged-served.new.server m c.serve_port_logged-served.new.log _ _
     (p c.args.port.now) (p c.listen.new.self) (p c.serve_port_logged-served.new.port) c.args.watchers.now c.serve_port_logged-served.new.watchers
-    c.requires.no_fault c.serve_port_logged-served.ensures.still_fits redone c.in_default.ensures.listens (c.serve_port_logged-served.ensures.serves_as_the_machine m requests kept stands holds)
+    c.requires.no_fault c.serve_port_logged-served.ensures.still_fits redone c.in_default.ensures.listens_or_fails_with_a_cause (c.serve_port_logged-served.ensures.serves_as_the_machine m requests kept stands holds)
     (sym c.has_failed.ensures.tells_whether_a_call_failed ∙ c.if-has_failed.false) c.in-PortFailed.is
 
 pub returns-in-Count-clause-keeps_on : goal.returns-in-Count-clause-keeps_on
@@ -43,5 +43,5 @@ returns-in-Count-clause-keeps_on g c = λ requests m kept stands redone told hel
     let holds = holds_whole (AcceptedAt s.root m) c.args.log.now requests _ c.requires.whole c.requires.fits told held in
     kept_done g.W.Watchers.keeps c.args.address.now c.args.count c.serve_port_logged-served.result requests s c.serve_port_logged-served.new.server m c.serve_port_logged-served.new.log _ _
     (p c.args.port.now) (p c.listen.new.self) (p c.serve_port_logged-served.new.port) c.args.watchers.now c.serve_port_logged-served.new.watchers
-    c.requires.no_fault c.serve_port_logged-served.ensures.still_fits redone c.in_default.ensures.listens (c.serve_port_logged-served.ensures.serves_as_the_machine m requests kept stands holds)
+    c.requires.no_fault c.serve_port_logged-served.ensures.still_fits redone c.in_default.ensures.listens_or_fails_with_a_cause (c.serve_port_logged-served.ensures.serves_as_the_machine m requests kept stands holds)
     (sym c.has_failed.ensures.tells_whether_a_call_failed ∙ c.if-has_failed.false) (search rules)

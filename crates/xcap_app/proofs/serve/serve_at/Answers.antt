@@ -9,7 +9,7 @@ returns-in-PortFailed g c = record {
       let p = g.P.Line.state in
       let r : ServesAddress g.W.Watchers.keeps c.args.address.now c.args.server.now.root c.args.count c.serve_port-served.result (p c.args.port.now) (p c.serve_port-served.new.port) c.args.watchers.now c.serve_port-served.new.watchers =
       served_address g.W.Watchers.keeps c.args.address.now c.args.server.now.root c.args.count c.serve_port-served.result c.args.server.now.content c.serve_port-served.new.server.content
-      (p c.args.port.now) (p c.listen.new.self) (p c.serve_port-served.new.port) c.args.watchers.now c.serve_port-served.new.watchers c.requires c.in_default.ensures.listens c.serve_port-served.ensures.serves_as_the_machine in
+      (p c.args.port.now) (p c.listen.new.self) (p c.serve_port-served.new.port) c.args.watchers.now c.serve_port-served.new.watchers c.requires c.in_default.ensures.listens_or_fails_with_a_cause c.serve_port-served.ensures.serves_as_the_machine in
       failed_so g.W.Watchers.keeps c.args.address.now c.args.server.now.root c.args.count c.serve_port-served.result (p c.args.port.now) (p c.serve_port-served.new.port) (g.O.Line.state c.args.output.now) c.args.watchers.now c.serve_port-served.new.watchers r c.in-PortFailed.is;
 }
 
@@ -20,7 +20,7 @@ returns-in-Count g c = record {
       let o = g.O.Line.state in
       let r : ServesAddress g.W.Watchers.keeps c.args.address.now c.args.server.now.root c.args.count c.serve_port-served.result (p c.args.port.now) (p c.serve_port-served.new.port) c.args.watchers.now c.serve_port-served.new.watchers =
       served_address g.W.Watchers.keeps c.args.address.now c.args.server.now.root c.args.count c.serve_port-served.result c.args.server.now.content c.serve_port-served.new.server.content
-      (p c.args.port.now) (p c.listen.new.self) (p c.serve_port-served.new.port) c.args.watchers.now c.serve_port-served.new.watchers c.requires c.in_default.ensures.listens c.serve_port-served.ensures.serves_as_the_machine in
+      (p c.args.port.now) (p c.listen.new.self) (p c.serve_port-served.new.port) c.args.watchers.now c.serve_port-served.new.watchers c.requires c.in_default.ensures.listens_or_fails_with_a_cause c.serve_port-served.ensures.serves_as_the_machine in
       let complete : IsComplete c.serve_port-served.result.stop = search rules in
       ended_so g.W.Watchers.keeps c.args.address.now c.args.server.now.root c.args.count c.serve_port-served.result c.print_served.result (p c.args.port.now) (p c.serve_port-served.new.port)
       (o c.args.output.now) (o c.print_served.new.output) c.args.watchers.now c.serve_port-served.new.watchers r complete c.print_served.ensures.prints_how_many_were_served;

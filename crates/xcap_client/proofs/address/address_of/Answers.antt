@@ -20,7 +20,7 @@ returns c = record {
       let begun = c.in_ok-address.ensures.copies_the_text ∙ c.authority.ensures.tells_the_authority in
       elim c.if-not-names_port.branch [
         | then-not-names_port+in_ok-push_str w ↦
-            let pushed : w.push_str.new.self ≡ c.in_ok-address.address ++ codes ":80" = w.in_ok-push_str.ensures.ok ∙ ap (λ (l : List ℕ). c.in_ok-address.address ++ l) port in
+            let pushed : w.push_str.new.self ≡ c.in_ok-address.address ++ codes ":80" = w.in_ok-push_str.ensures.adds_the_characters ∙ ap (λ (l : List ℕ). c.in_ok-address.address ++ l) port in
             w.address-is ∙ pushed ∙ ap (λ (l : List ℕ). l ++ codes ":80") begun ∙ without_port c.args.root.now (test ∙ w.if-not-names_port.true)
         | else-not-names_port w ↦ w.address-is ∙ begun ∙ with_port c.args.root.now (test ∙ w.if-not-names_port.false)
       ];

@@ -17,31 +17,31 @@ pub returns-in_err-write_request : goal.returns-in_err-write_request
 returns-in_err-write_request g c = record {
   one_exchange =
       let p = err_from_is_err_and c.from_residual-in_err-write_request.result c.from_residual-in_err-write_request.ensures.1 in
-      let address : c.as_str.result.now ≡ encode_utf8_all (address_of c.args.root.now) = c.as_str.ensures.bytes ∙ ap encode_utf8_all c.in_ok-address.ensures.address_of_the_root in
+      let address : c.as_str.result.now ≡ encode_utf8_all (address_of c.args.root.now) = c.as_str.ensures.bytes_of_the_characters ∙ ap encode_utf8_all c.in_ok-address.ensures.address_of_the_root in
       let begun = g.C.Line.state c.connect.new.self in
       let connects = subst (Connects (g.C.Line.state c.args.peer.now) begun) address c.in_ok-connect.ensures.only_connects in
-      not_sent begun connects c.in_err-write_request.ensures.only_writes.writes c.in_err-write_request.ensures.only_writes.counts c.in_err-write_request.ensures.bytes (p.1 ∙ ap Err p.2);
+      not_sent begun connects c.in_err-write_request.ensures.only_writes.writes c.in_err-write_request.ensures.only_writes.counts c.in_err-write_request.ensures.writes_all_or_a_proper_front (p.1 ∙ ap Err p.2);
 }
 
 pub returns-in_err-response : goal.returns-in_err-response
 returns-in_err-response g c = record {
   one_exchange =
       let p = err_from_is_err_and c.from_residual-in_err-response.result c.from_residual-in_err-response.ensures.1 in
-      let address : c.as_str.result.now ≡ encode_utf8_all (address_of c.args.root.now) = c.as_str.ensures.bytes ∙ ap encode_utf8_all c.in_ok-address.ensures.address_of_the_root in
+      let address : c.as_str.result.now ≡ encode_utf8_all (address_of c.args.root.now) = c.as_str.ensures.bytes_of_the_characters ∙ ap encode_utf8_all c.in_ok-address.ensures.address_of_the_root in
       let begun = g.C.Line.state c.connect.new.self in
       let connects = subst (Connects (g.C.Line.state c.args.peer.now) begun) address c.in_ok-connect.ensures.only_connects in
       let wrote = c.in_ok-write_request.ensures in
       let read = c.in_err-response.ensures in
-      answered begun (g.C.Line.state c.write_request.new.sink) (Err c.in_err-response.field-0.0) connects wrote.only_writes.writes wrote.only_writes.counts wrote.bytes read.reads read.answers read.counts (p.1 ∙ ap Err p.2);
+      answered begun (g.C.Line.state c.write_request.new.sink) (Err c.in_err-response.field-0.0) connects wrote.only_writes.writes wrote.only_writes.counts wrote.writes_all_or_a_proper_front read.only_reads_of_the_source read.answers_what_was_given read.counts_each_failure (p.1 ∙ ap Err p.2);
 }
 
 pub returns : goal.returns
 returns g c = record {
   one_exchange =
-      let address : c.as_str.result.now ≡ encode_utf8_all (address_of c.args.root.now) = c.as_str.ensures.bytes ∙ ap encode_utf8_all c.in_ok-address.ensures.address_of_the_root in
+      let address : c.as_str.result.now ≡ encode_utf8_all (address_of c.args.root.now) = c.as_str.ensures.bytes_of_the_characters ∙ ap encode_utf8_all c.in_ok-address.ensures.address_of_the_root in
       let begun = g.C.Line.state c.connect.new.self in
       let connects = subst (Connects (g.C.Line.state c.args.peer.now) begun) address c.in_ok-connect.ensures.only_connects in
       let wrote = c.in_ok-write_request.ensures in
       let read = c.in_ok-response.ensures in
-      answered begun (g.C.Line.state c.write_request.new.sink) (Ok c.in_ok-response.response) connects wrote.only_writes.writes wrote.only_writes.counts wrote.bytes read.reads read.answers read.counts refl;
+      answered begun (g.C.Line.state c.write_request.new.sink) (Ok c.in_ok-response.response) connects wrote.only_writes.writes wrote.only_writes.counts wrote.writes_all_or_a_proper_front read.only_reads_of_the_source read.answers_what_was_given read.counts_each_failure refl;
 }

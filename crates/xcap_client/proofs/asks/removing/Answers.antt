@@ -3,8 +3,8 @@ use Rattle.http_exchange.specs.Requests.{IsLawful}
 use Rattle.xcap_client.proofs.Words.{delete, removing_is_lawful}
 use Rattle.xcap_client.proofs.asks.removing.Goals as goal
 
-pub returns-clause-value : goal.returns-clause-value
-returns-clause-value c = rw (c.in_ok-from.ensures.copies_the_text ∙ delete, c.in_ok-from-2.ensures.copies_the_text, c.in_ok-copy_user.ensures.copies_the_name, c.new.ensures.holds_no_bytes) refl
+pub returns-clause-asks_as_said : goal.returns-clause-asks_as_said
+returns-clause-asks_as_said c = rw (c.in_ok-from.ensures.copies_the_text ∙ delete, c.in_ok-from-2.ensures.copies_the_text, c.in_ok-copy_user.ensures.copies_the_name, c.new.ensures.holds_no_bytes) refl
 
-pub returns-clause-lawful : goal.returns-clause-lawful
-returns-clause-lawful c = subst IsLawful (sym (returns-clause-value c)) (removing_is_lawful _ _)
+pub returns-clause-ask_is_lawful : goal.returns-clause-ask_is_lawful
+returns-clause-ask_is_lawful c = subst IsLawful (sym (returns-clause-asks_as_said c)) (removing_is_lawful _ _)

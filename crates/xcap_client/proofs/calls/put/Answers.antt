@@ -9,7 +9,7 @@ use Rattle.xcap_client.proofs.calls.put.Goals as goal
 
 pub returns : goal.returns
 returns g c = record {
-  asks_that_it_stands = subst (λ (ask : Ask). Calls c.args.root.now ask (g.C.Line.state c.args.peer.now) (g.C.Line.state c.call.new.peer) c.call.result) c.in_ok-ask.ensures.value c.call.ensures.one_exchange_judged;
+  asks_that_it_stands = subst (λ (ask : Ask). Calls c.args.root.now ask (g.C.Line.state c.args.peer.now) (g.C.Line.state c.call.new.peer) c.call.result) c.in_ok-ask.ensures.asks_as_said c.call.ensures.one_exchange_judged;
 }
 
 pub returns-in_err-ask : goal.returns-in_err-ask

@@ -12,6 +12,6 @@ returns c = record {
       c.in_ok-id.ensures.prints_the_id ∙ ap (λ (n : List ℕ). id_text (record { auid = auid; home = c.in_ok-home.home; name = n })) c.no_text.ensures.holds_no_characters
       ∙ ap (λ (h : Home). id_text (record { auid = auid; home = h; name = [] })) c.in_ok-home.ensures.makes_an_equal_home
       ∙ unnamed_id auid home in
-      let short = c.without_last.ensures.leaves_out_the_last (home_front auid home) 47 (c.as_str.ensures.letters ∙ made) in
+      let short = c.without_last.ensures.leaves_out_the_last (home_front auid home) 47 (c.as_str.ensures.characters_of_the_text ∙ made) in
       subst (λ (z : List ℕ). IfOk c.uri_under.result (λ uri. uri ≡ z)) (ap (λ (z : List ℕ). root ++ (codes "/" ++ z)) short ∙ uri_of_front root auid home) c.uri_under.ensures.path_under_the_root;
 }

@@ -6,8 +6,8 @@ use Rattle.xcap_uri.proofs.cutting.cut_before.Goals as goal
 pub split_at-requires : goal.split_at-requires
 split_at-requires c = omega (arith, run_len_le (is_other c.args.stop) c.args.text.now, c.len_before.ensures.counts_up_to_the_stop)
 
-pub returns-clause-front : goal.returns-clause-front
-returns-clause-front c = c.split_at.ensures.front ∙ ap (λ n. take n c.args.text.now) c.len_before.ensures.counts_up_to_the_stop ∙ take_run (is_other c.args.stop) c.args.text.now
+pub returns-clause-front_before_the_stop : goal.returns-clause-front_before_the_stop
+returns-clause-front_before_the_stop c = c.split_at.ensures.front ∙ ap (λ n. take n c.args.text.now) c.len_before.ensures.counts_up_to_the_stop ∙ take_run (is_other c.args.stop) c.args.text.now
 
-pub returns-clause-rest : goal.returns-clause-rest
-returns-clause-rest c = c.split_at.ensures.back ∙ ap (λ n. drop n c.args.text.now) c.len_before.ensures.counts_up_to_the_stop ∙ drop_run (is_other c.args.stop) c.args.text.now
+pub returns-clause-rest_behind_the_stop : goal.returns-clause-rest_behind_the_stop
+returns-clause-rest_behind_the_stop c = c.split_at.ensures.back ∙ ap (λ n. drop n c.args.text.now) c.len_before.ensures.counts_up_to_the_stop ∙ drop_run (is_other c.args.stop) c.args.text.now

@@ -13,5 +13,5 @@ returns-in_err-item c = record {
 
 pub items-preserved : goal.items-preserved
 items-preserved c =
-    rw (c.in_ok-bind.ensures.ok, c.as_str.ensures.letters, c.as_str-in-items.ensures.letters, c.past_blanks-rest-in-items.ensures.rest_behind_spaces)
+    rw (c.in_ok-bind.ensures.adds_the_binding, c.as_str.ensures.characters_of_the_text, c.as_str-in-items.ensures.characters_of_the_text, c.past_blanks-rest-in-items.ensures.rest_behind_spaces)
     (goes_on (bindings_read c.args.text.now) c.items.bindings (length c.args.text.now) c.items.counter c.items.rest.now c.items-test.true (grind arith) c.items.invariant (record { prefix = c.in_ok-item.item.prefix; uri = c.in_ok-item.item.uri }) c.in_ok-item.item.rest.now c.in_ok-item.ensures.reads_an_item)

@@ -13,5 +13,5 @@ loop-decl-init c =
       finite = tt;
       so_far = ap (λ (made : List (Bor Decl)). seen made ++ seen c.into_iter-decl-iterator.result) c.in_ok-index.ensures.items
           ∙ ap seen (c.into_iter-decl-iterator.ensures.into_iter_gives ∙ c.values-decl-items.ensures.rest) ∙ values_in-values_of _
-          ∙ (c.in_ok-gather.ensures {u = tt}).gathered ∙ ap (λ es. gathered (values_in es) ds) c.new-found.ensures.empty;
+          ∙ (c.in_ok-gather.ensures {u = tt}).gathers_the_nearest ∙ ap (λ es. gathered (values_in es) ds) c.new-found.ensures.empty;
     }

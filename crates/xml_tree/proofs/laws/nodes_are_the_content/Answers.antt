@@ -3,4 +3,4 @@ use Rattle.xml_tree.proofs.Places.{AreNormal-nodes_of, content_of-nodes_of, node
 use Rattle.xml_tree.proofs.laws.nodes_are_the_content.Goals as goal
 
 pub returns : goal.returns
-returns c = record { normal = AreNormal-nodes_of; there = content_of-nodes_of; back = nodes_of-content_of; elements = kids-elements }
+returns c = record { nodes_are_normal = AreNormal-nodes_of; nodes_make_the_content = content_of-nodes_of; normal_nodes_come_back = nodes_of-content_of; elements_among_the_nodes = kids-elements }

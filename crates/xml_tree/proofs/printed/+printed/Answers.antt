@@ -10,7 +10,7 @@ pub printed_len-returns-then-is_empty : goal.printed_len-returns-then-is_empty
 printed_len-returns-then-is_empty t c = record {
   counts_the_printed_element =
       let e = c.args.element.now in let ns = c.nodes-nodes.result.now in
-      let none = no_nodes ns e.content c.nodes-nodes.ensures.content (eqb-true (length ns) 0 (sym c.is_empty.ensures ∙ c.if-is_empty.true)) in
+      let none = no_nodes ns e.content c.nodes-nodes.ensures.content_of_the_nodes (eqb-true (length ns) 0 (sym c.is_empty.ensures ∙ c.if-is_empty.true)) in
       bare_sum 18446744073709551615 (byte_len (opening e.name e.decls e.attrs)) c.opening_len-opening.result c.saturating_add.result (byte_len (print e))
       c.opening_len-opening.ensures.counts_the_opening c.saturating_add.ensures (byte_len-bare e none);
 }
@@ -30,9 +30,9 @@ pub printed_len-returns : goal.printed_len-returns
 printed_len-returns t c = record {
   counts_the_printed_element =
       let e = c.args.element.now in let ns = c.nodes-nodes.result.now in let i = c.loop-node.node-index in
-      let some = some_nodes ns e.content c.nodes-nodes.ensures.normal c.nodes-nodes.ensures.content (λ z. let both = eq-eqb (length ns) 0 z in cc) in
+      let some = some_nodes ns e.content c.nodes-nodes.ensures.nodes_are_normal c.nodes-nodes.ensures.content_of_the_nodes (λ z. let both = eq-eqb (length ns) 0 z in cc) in
       let end = ap (λ l. byte_len (print_content (content_of l))) (drop_all i ns c.loop-node-test.false) in
-      let all : byte_len (print_content (content_of ns)) ≡ byte_len (print_content e.content) = ap (λ k. byte_len (print_content k)) c.nodes-nodes.ensures.content in
+      let all : byte_len (print_content (content_of ns)) ≡ byte_len (print_content e.content) = ap (λ k. byte_len (print_content k)) c.nodes-nodes.ensures.content_of_the_nodes in
       whole_sum 18446744073709551615 (byte_len (opening e.name e.decls e.attrs)) (byte_len (print_content (content_of ns))) (byte_len (print_name e.name))
       c.name_len.result c.opening_len-opening.result c.loop-node.inside c.saturating_add-2.result c.saturating_add-3.result c.saturating_add-4.result
       (byte_len (print e)) (byte_len (print_content (content_of (drop i ns))))

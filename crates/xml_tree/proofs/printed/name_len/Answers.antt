@@ -7,6 +7,6 @@ returns c = record {
   counts_the_printed_name =
       let prefixed : c.args.name.now.prefix ≢ [] = λ e. cc (c.is_empty.ensures.tells_whether_it_has_none.1 e) in
       let whole = byte_len-prefixed c.args.name.now prefixed in
-      let prefix = ap length c.as_str.ensures.bytes in let local = ap length c.as_str-local.ensures.bytes in
+      let prefix = ap length c.as_str.ensures.bytes_of_the_characters in let local = ap length c.as_str-local.ensures.bytes_of_the_characters in
       omega (arith, whole, prefix, local);
 }

@@ -16,24 +16,24 @@ spliced c =
     let all = items_from_drains it.1 (drained.1.0, drained.1.1, λ _. (drained.0, drained.1.2)) (YieldsList-from_vec c.in_ok-joined.joined.items it.2.0 same_len) in
     it.4 ∙ ap (λ l. splice c.args.nodes.now.items c.in_ok-start.start c.in_ok-end.end l) (sym (map-id it.1) ∙ all)
 
-pub returns-clause-normal : goal.returns-clause-normal
-returns-clause-normal c = λ normal.
+pub returns-clause-normal_nodes_stay_normal : goal.returns-clause-normal_nodes_stay_normal
+returns-clause-normal_nodes_stay_normal c = λ normal.
     let ns = c.args.nodes.now.items in
-    let start = rw c.deref.ensures.value at c.in_ok-start.ensures.apart in
-    let end = rw c.deref-2.ensures.value at c.in_ok-end.ensures.apart in
+    let start = rw c.deref.ensures.value at c.in_ok-start.ensures.no_text_meets_the_cut in
+    let end = rw c.deref-2.ensures.value at c.in_ok-end.ensures.no_text_meets_the_cut in
     subst AreNormal (sym (spliced c))
-    (AreNormal-three (take c.in_ok-start.start ns) c.in_ok-joined.joined.items (drop c.in_ok-end.end ns) (AreNormal-take c.in_ok-start.start ns normal) c.in_ok-joined.ensures.normal
+    (AreNormal-three (take c.in_ok-start.start ns) c.in_ok-joined.joined.items (drop c.in_ok-end.end ns) (AreNormal-take c.in_ok-start.start ns normal) c.in_ok-joined.ensures.normal_nodes_stay_normal
     (AreNormal-drop c.in_ok-end.end ns normal) (start normal) (end normal))
 
-pub returns-clause-ok : goal.returns-clause-ok
-returns-clause-ok c =
+pub returns-clause-exchanges_the_nodes : goal.returns-clause-exchanges_the_nodes
+returns-clause-exchanges_the_nodes c =
     let ns = c.args.nodes.now.items in
     let before = take c.in_ok-start.start ns in
     let n1 = c.with_text_before.new.more.items in
     let n2 = c.with_text_behind.new.more.items in
-    let start = rw c.deref.ensures.value at c.in_ok-start.ensures.same in
-    let end = rw c.deref-2.ensures.value at c.in_ok-end.ensures.same in
-    ap content_of (spliced c) ∙ content_of-between before c.in_ok-joined.joined.items n2 (drop c.in_ok-end.end ns) c.in_ok-joined.ensures.same
+    let start = rw c.deref.ensures.value at c.in_ok-start.ensures.nodes_stay_in_order in
+    let end = rw c.deref-2.ensures.value at c.in_ok-end.ensures.nodes_stay_in_order in
+    ap content_of (spliced c) ∙ content_of-between before c.in_ok-joined.joined.items n2 (drop c.in_ok-end.end ns) c.in_ok-joined.ensures.content_stays
     ∙ ap content_of
     (ap (λ l. before ++ l) end ∙ sym (append_assoc before n1 (drop c.args.to ns)) ∙ ap (λ l. l ++ drop c.args.to ns) start
     ∙ append_assoc (take c.args.from ns) c.args.new.items (drop c.args.to ns))

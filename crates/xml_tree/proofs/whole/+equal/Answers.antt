@@ -8,7 +8,7 @@ pub equal-returns : goal.equal-returns
 equal-returns t c = record {
   tells_equal_trees =
       let i = c.a.inside in let j = c.b.inside in
-      let name = c.same.ensures.equal.0 c.if-not-same.false in
+      let name = c.same.ensures.tells_whether_they_are_equal.0 c.if-not-same.false in
       let decls = sym c.deref.ensures.value ∙ c.same_decls.ensures.tells_equal_declaration_lists.0 c.if-not-same_decls.false ∙ c.deref-2.ensures.value in
       let attrs = sym c.deref-else-not-same_decls.ensures.value ∙ c.same_attrs.ensures.tells_equal_attribute_lists.0 c.if-not-same_attrs.false ∙ c.deref-else-not-same_decls-2.ensures.value in
       let from : c.deref-3.result.now ≡ i.nodes.items = c.deref-3.ensures.value in

@@ -19,12 +19,12 @@ returns-clause-reads_more g c =
     ∙ ap (λ (l : List ℕ). slice_range l c.self.inside.start c.self.inside.end) c.deref_mut.ensures.value
     ∙ ap (λ (i : InflowState). i.held) c.self.view_is in
     let read : List ℕ = take c.in_ok-count.count c.read.new.buf in
-    let size : length read ≡ c.in_ok-count.count = length-take-le c.in_ok-count.count c.read.new.buf c.in_ok-count.ensures.bound.0 in
+    let size : length read ≡ c.in_ok-count.count = length-take-le c.in_ok-count.count c.read.new.buf c.in_ok-count.ensures.within_the_piece_or_buffer.0 in
     let taken_before : c.self.inside.taken ≡ old.taken = ap (λ (i : InflowState). i.taken) c.self.view_is in
     let taken : c.self.inside.taken + c.in_ok-count.count ≡ old.taken + length read = omega (arith, taken_before, size) in
     let some : 0 < length read = omega (arith, size, c.if-count-eq0.false) in
-    let held = filled old.held buffer _ c.read.new.buf _ 0 end c.in_ok-count.count before (with_items_is (with_items c.self.inside.buffer c.move_to_front.new.buffer) _ (search (rules, places))) (omega arith) (omega arith) c.in_ok-count.ensures.bound.0 in
-    (read, some, c.in_ok-count.ensures.bytes.0, (λ i. record { held = held i; taken = taken i }))
+    let held = filled old.held buffer _ c.read.new.buf _ 0 end c.in_ok-count.count before (with_items_is (with_items c.self.inside.buffer c.move_to_front.new.buffer) _ (search (rules, places))) (omega arith) (omega arith) c.in_ok-count.ensures.within_the_piece_or_buffer.0 in
+    (read, some, c.in_ok-count.ensures.gives_bytes_behind_those_before.0, (λ i. record { held = held i; taken = taken i }))
 
 pub returns-then-count-eq0-clause-reads_more : goal.returns-then-count-eq0-clause-reads_more
 returns-then-count-eq0-clause-reads_more g c =
@@ -39,9 +39,9 @@ returns-then-count-eq0-clause-reads_more g c =
     let zero : c.in_ok-count.count ≡ 0 = c.if-count-eq0.true in
     let taken : c.self.inside.taken ≡ old.taken = ap (λ (i : InflowState). i.taken) c.self.view_is in
     let now = (g.S.Line.state c.read.new.self).inward in
-    let gave : Gave (g.S.Line.state c.args.source.now).inward now [] = subst (λ (n : ℕ). Gave (g.S.Line.state c.args.source.now).inward now (take n c.read.new.buf)) zero c.in_ok-count.ensures.bytes.0 in
+    let gave : Gave (g.S.Line.state c.args.source.now).inward now [] = subst (λ (n : ℕ). Gave (g.S.Line.state c.args.source.now).inward now (take n c.read.new.buf)) zero c.in_ok-count.ensures.gives_bytes_behind_those_before.0 in
     let held = unfilled old.held buffer _ _ 0 end before (with_items_is (with_items c.self.inside.buffer c.move_to_front.new.buffer) _ (search (rules, places))) (omega arith) (omega arith) in
-    (gave, found_end now c.in_ok-count.count zero c.in_ok-count.ensures.bytes.1 (c.in_ok-count.ensures.bytes.2 zero), (λ i. record { held = held i; taken = taken i }))
+    (gave, found_end now c.in_ok-count.count zero c.in_ok-count.ensures.gives_bytes_behind_those_before.1 (c.in_ok-count.ensures.gives_bytes_behind_those_before.2 zero), (λ i. record { held = held i; taken = taken i }))
 
 pub returns-in_err-count-clause-reads_more : goal.returns-in_err-count-clause-reads_more
 returns-in_err-count-clause-reads_more g c =
@@ -56,4 +56,4 @@ returns-in_err-count-clause-reads_more g c =
     ∙ ap (λ (i : InflowState). i.held) c.self.view_is in
     let taken : c.self.inside.taken ≡ old.taken = ap (λ (i : InflowState). i.taken) c.self.view_is in
     let held = unfilled old.held buffer _ _ 0 end before (with_items_is (with_items c.self.inside.buffer c.move_to_front.new.buffer) _ (search (rules, places))) (omega arith) (omega arith) in
-    rw p.1 (c.in_err-count.ensures.bytes, (λ i. record { held = held i; taken = taken i }))
+    rw p.1 (c.in_err-count.ensures.gives_bytes_behind_those_before, (λ i. record { held = held i; taken = taken i }))

@@ -8,4 +8,4 @@ returns-then-is_failing_call-clause-keeps_the_first_bytes c =
     let before : c.is_failing_call.new.self.faults ≡ c.args.self.now.faults = ap (λ (m : MemoryJournal). m.faults) c.is_failing_call.ensures.counts_the_call in
     memory_keeps c.args.self.now c.fail.new.self c.fail.result c.args.len c.requires.within
     (ap (λ (m : MemoryJournal). m.held) c.fail.ensures.counts_one_more ∙ ap (λ (m : MemoryJournal). m.held) c.is_failing_call.ensures.counts_the_call)
-    (omega (arith, before, c.fail.ensures.later)) (omega (arith, before, c.fail.ensures.rose))
+    (omega (arith, before, c.fail.ensures.count_never_falls)) (omega (arith, before, c.fail.ensures.count_rose))

@@ -15,8 +15,8 @@ loop-done-preserved g c =
     let bytes = c.args.bytes.now in
     let done = c.loop-done.done in
     record {
-      within = omega (arith, length-drop done bytes, rw take_rest at call.bound.1);
-      taken = appends_next _ _ _ done c.in-Ok.count bytes so_far.taken (rw take_rest at call.bytes);
+      within = omega (arith, length-drop done bytes, rw take_rest at call.within_the_piece_or_buffer.1);
+      taken = appends_next _ _ _ done c.in-Ok.count bytes so_far.taken (rw take_rest at call.takes_bytes_behind_those_before);
       writes = writes_on _ _ _ so_far.writes call.only_writes.writes;
       stayed = call.only_writes.counts ∙ so_far.stayed;
       count = omega (arith, so_far.count);
@@ -37,8 +37,8 @@ returns-in-Err g c =
           subst (λ (name : GName). Adds (stream_state old c.args.self.now.output.ghost_name c.args.self.now.len c.args.self.now.faults) (stream_state new name c.loop-done.self.len c.fault.new.count) (Err c.fault.result) bytes)
           (sym so_far.name)
           (stream_stops old new c.args.self.now.output.ghost_name c.args.self.now.len c.loop-done.self.len c.args.self.now.faults c.fault.new.count c.fault.result bytes done so_far.within
-          c.requires (call.bytes ∙ so_far.taken) so_far.count (writes_on old mid new so_far.writes call.only_writes.writes)
-          (omega (arith, so_far.faults, c.fault.ensures.later)) (omega (arith, so_far.faults, c.fault.ensures.rose)) (omega (arith, so_far.stayed, call.only_writes.counts)));
+          c.requires (call.takes_bytes_behind_those_before ∙ so_far.taken) so_far.count (writes_on old mid new so_far.writes call.only_writes.writes)
+          (omega (arith, so_far.faults, c.fault.ensures.count_never_falls)) (omega (arith, so_far.faults, c.fault.ensures.count_rose)) (omega (arith, so_far.stayed, call.only_writes.counts)));
     }
 
 pub returns : goal.returns

@@ -5,5 +5,5 @@ pub returns : goal.returns
 returns g c = record {
   keeps_the_first_bytes =
       stream_keeps (g.O.Line.state c.args.self.now.output.now) c.args.self.now.output.ghost_name c.args.self.now.len c.args.self.now.faults c.fault.new.count c.fault.result c.args._len
-      c.requires.within c.requires.faults c.fault.ensures.later c.fault.ensures.rose;
+      c.requires.within c.requires.faults c.fault.ensures.count_never_falls c.fault.ensures.count_rose;
 }

@@ -27,7 +27,7 @@ returns-clause-asks_for_the_changes g c =
     let f : Following = record { root = s.root; user = s.user; doc = s.replica.doc; held = held_in s.replica.held } in
     let base : AsksFeed f (record f { held = held_in made.held }) old new c.take_feed.result =
     feed_asked f c.in-Some.held.tag c.in-Some.held.root c.fetch-given.result (held_in made.held) old new c.take_feed.result (ap held_in c.in-Some.is)
-    (called_as s.root _ s.user _ _ old new c.fetch-given.result c.lent.ensures.lends_the_name (c.as_str.ensures.letters ∙ c.in_ok-path.ensures.path_of_the_feed) c.fetch-given.ensures.asks_for_it)
+    (called_as s.root _ s.user _ _ old new c.fetch-given.result c.lent.ensures.lends_the_name (c.as_str.ensures.characters_of_the_text ∙ c.in_ok-path.ensures.path_of_the_feed) c.fetch-given.ensures.asks_for_it)
     c.take_feed.ensures.takes_the_feed in
     subst (λ (h : Following). AsksFeed h (record { root = s.root; user = s.user; doc = made.doc; held = held_in made.held }) old new c.take_feed.result) c.self.view_is
     (subst (λ (d : DocId). AsksFeed f (record { root = s.root; user = s.user; doc = d; held = held_in made.held }) old new c.take_feed.result) (sym c.take_feed.ensures.same_document) base)

@@ -4,8 +4,8 @@ use Rattle.http_wire.specs.Decoding.{Decoding}
 use Rattle.http_wire.proofs.Steps.{data_taken}
 use Rattle.http_wire.proofs.chunks.Decoder.take_data.Goals as goal
 
-pub returns-clause-reads : goal.returns-clause-reads
-returns-clause-reads c =
+pub returns-clause-reads_on_over_them : goal.returns-clause-reads_on_over_them
+returns-clause-reads_on_over_them c =
     data_taken c.args.self.now c.args.left c.min-count.result c.self.inside.decoded c.args.raw.now c.deref_mut.result.now c.copy_from_slice.new.self _ _
     c.requires.due
     (with_items_is c.self.inside.buffer _ (search (rules, places)))

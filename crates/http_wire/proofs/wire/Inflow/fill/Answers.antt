@@ -7,8 +7,8 @@ use Rattle.xcap_io.proofs.Passing.{found_end, gave_none}
 use Rattle.http_wire.proofs.Buffers.{filled, unfilled, gained}
 use Rattle.http_wire.proofs.wire.Inflow.fill.Goals as goal
 
-pub returns-in-Ok-clause-gains : goal.returns-in-Ok-clause-gains
-returns-in-Ok-clause-gains g c =
+pub returns-in-Ok-clause-gains_what_the_source_gave : goal.returns-in-Ok-clause-gains_what_the_source_gave
+returns-in-Ok-clause-gains_what_the_source_gave g c =
     let end : ℕ = c.self.inside.end - c.self.inside.start in
     let buffer : List ℕ = c.deref_mut-2.result.now in
     let before : slice_range buffer 0 end ≡ c.args.self.now =
@@ -18,19 +18,19 @@ returns-in-Ok-clause-gains g c =
     ∙ c.self.view_is in
     record {
       read = take c.in-Ok.count c.read.new.buf;
-      added = filled c.args.self.now buffer _ c.read.new.buf _ 0 end c.in-Ok.count before (with_items_is (with_items c.self.inside.buffer c.move_to_front.new.buffer) _ (search (rules, places))) (omega arith) (omega arith) c.in-Ok.ensures.bound.0;
-      given = c.in-Ok.ensures.bytes.0;
+      added = filled c.args.self.now buffer _ c.read.new.buf _ 0 end c.in-Ok.count before (with_items_is (with_items c.self.inside.buffer c.move_to_front.new.buffer) _ (search (rules, places))) (omega arith) (omega arith) c.in-Ok.ensures.within_the_piece_or_buffer.0;
+      given = c.in-Ok.ensures.gives_bytes_behind_those_before.0;
     }
 
-pub returns-in-Ok-clause-ok : goal.returns-in-Ok-clause-ok
-unfolding returns-in-Ok-clause-gains
-returns-in-Ok-clause-ok g c =
+pub returns-in-Ok-clause-gains_more_or_finds_the_end : goal.returns-in-Ok-clause-gains_more_or_finds_the_end
+unfolding returns-in-Ok-clause-gains_what_the_source_gave
+returns-in-Ok-clause-gains_more_or_finds_the_end g c =
     let read : List ℕ = take c.in-Ok.count c.read.new.buf in
     let now = (g.S.Line.state c.read.new.self).inward in
-    gained c.in-Ok.count c.args.self.now _ read now (returns-in-Ok-clause-gains g c).added (length-take-le c.in-Ok.count c.read.new.buf c.in-Ok.ensures.bound.0) (λ zero. found_end now c.in-Ok.count zero c.in-Ok.ensures.bytes.1 (c.in-Ok.ensures.bytes.2 zero))
+    gained c.in-Ok.count c.args.self.now _ read now (returns-in-Ok-clause-gains_what_the_source_gave g c).added (length-take-le c.in-Ok.count c.read.new.buf c.in-Ok.ensures.within_the_piece_or_buffer.0) (λ zero. found_end now c.in-Ok.count zero c.in-Ok.ensures.gives_bytes_behind_those_before.1 (c.in-Ok.ensures.gives_bytes_behind_those_before.2 zero))
 
-pub returns-in-Err-clause-err : goal.returns-in-Err-clause-err
-returns-in-Err-clause-err g c =
+pub returns-in-Err-clause-failure_changes_nothing : goal.returns-in-Err-clause-failure_changes_nothing
+returns-in-Err-clause-failure_changes_nothing g c =
     let end : ℕ = c.self.inside.end - c.self.inside.start in
     let buffer : List ℕ = c.deref_mut-2.result.now in
     let before : slice_range buffer 0 end ≡ c.args.self.now =
@@ -40,9 +40,9 @@ returns-in-Err-clause-err g c =
     ∙ c.self.view_is in
     unfilled c.args.self.now buffer _ _ 0 end before (with_items_is (with_items c.self.inside.buffer c.move_to_front.new.buffer) _ (search (rules, places))) (omega arith) (omega arith)
 
-pub returns-in-Err-clause-gains : goal.returns-in-Err-clause-gains
-returns-in-Err-clause-gains g c = record {
+pub returns-in-Err-clause-gains_what_the_source_gave : goal.returns-in-Err-clause-gains_what_the_source_gave
+returns-in-Err-clause-gains_what_the_source_gave g c = record {
   read = [];
-  added = returns-in-Err-clause-err g c ∙ sym (append-nil c.args.self.now);
-  given = subst (λ (now : Inward). Gave (g.S.Line.state c.args.source.now).inward now []) (sym c.in-Err.ensures.bytes) (gave_none _);
+  added = returns-in-Err-clause-failure_changes_nothing g c ∙ sym (append-nil c.args.self.now);
+  given = subst (λ (now : Inward). Gave (g.S.Line.state c.args.source.now).inward now []) (sym c.in-Err.ensures.gives_bytes_behind_those_before) (gave_none _);
 }

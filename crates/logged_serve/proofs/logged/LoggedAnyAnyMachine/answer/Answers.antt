@@ -7,8 +7,8 @@ use Rattle.logged_serve.proofs.logged.LoggedAnyAnyMachine.answer.Goals as goal
 pub answer_logged-requires-clause-loggable : goal.answer_logged-requires-clause-loggable
 answer_logged-requires-clause-loggable g c = loggable c.args.request.now c.requires.read
 
-pub returns-clause-step : goal.returns-clause-step
-returns-clause-step g c =
+pub returns-clause-makes_a_step : goal.returns-clause-makes_a_step
+returns-clause-makes_a_step g c =
     let j = g.J.Journal.state in
     let s = c.args.self.now in
     let old : Wrapped g.row.M.Denot = record { machine = s.machine.now; log = s.log.now; journal = j s.journal.now; machine_name = s.machine.ghost_name; log_name = s.log.ghost_name; journal_name = s.journal.ghost_name } in

@@ -18,8 +18,8 @@ invariant_of-self-2 c =
     let left : length c.behind-left.result.now ≡ length bytes - given = ap length c.behind-left.ensures.lends_those_behind ∙ length-drop given bytes in
     let fits : given + count ≤ length bytes = omega (arith, left, c.min-count.ensures, c.self.invariant.3) in
     let front : c.copy_from_slice.new.self ≡ take count (drop given bytes) = c.copy_from_slice.ensures.after ∙ ap (λ (l : List ℕ). take count l) c.behind-left.ensures.lends_those_behind in (
-      ap (λ (h : History). h.is_present) c.gave.ensures.given ∙ c.self.invariant.0,
-      ap (λ (h : History). h.now.taken) c.gave.ensures.given ∙ c.self.invariant.1,
-      ap (λ (h : History). h.now.given) c.gave.ensures.given ∙ gives_on bytes c.copy_from_slice.new.self _ c.self.inside.log.history.now.given given count fits front c.self.invariant.2,
+      ap (λ (h : History). h.is_present) c.gave.ensures.told_as_given ∙ c.self.invariant.0,
+      ap (λ (h : History). h.now.taken) c.gave.ensures.told_as_given ∙ c.self.invariant.1,
+      ap (λ (h : History). h.now.given) c.gave.ensures.told_as_given ∙ gives_on bytes c.copy_from_slice.new.self _ c.self.inside.log.history.now.given given count fits front c.self.invariant.2,
       fits,
     )

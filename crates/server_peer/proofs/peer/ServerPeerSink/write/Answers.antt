@@ -5,8 +5,8 @@ use Rattle.server_peer.specs.Rooms.{WrittenState}
 use Rattle.server_peer.specs.contracts.peer.ServerPeer.{the_view}
 use Rattle.server_peer.proofs.peer.ServerPeerSink.write.Goals as goal
 
-pub returns-then-count-eq0-clause-exact : goal.returns-then-count-eq0-clause-exact
-returns-then-count-eq0-clause-exact c =
+pub returns-then-count-eq0-clause-does_what_memory_does : goal.returns-then-count-eq0-clause-does_what_memory_does
+returns-then-count-eq0-clause-does_what_memory_does c =
     let inside = c.self.inside in
     let w : WrittenState = inside.written in
     let some : 0 < length c.args.piece.now = c.requires in
@@ -19,6 +19,6 @@ returns-then-count-eq0-clause-exact c =
     ∙ ap (λ (l : List ℕ). record w { bytes = l }) (append-nil w.bytes) in (
       inr (ap (λ (p : PeerOverServer). length p.written.bytes) (sym c.self.view_is) ∙ full ∙ ap (λ (p : PeerOverServer). p.written.room) c.self.view_is),
       ap (λ (x : WrittenState). the_view (record inside { written = x; write_faults = c.fault-then-count-eq0.new.count })) same
-          ∙ ap (λ (n : ℕ). the_view (record inside { write_faults = n })) c.fault-then-count-eq0.ensures.value
+          ∙ ap (λ (n : ℕ). the_view (record inside { write_faults = n })) c.fault-then-count-eq0.ensures.counts_one_more
           ∙ ap (λ (p : PeerOverServer). record p { write_faults = one_more p.write_faults }) c.self.view_is,
     )

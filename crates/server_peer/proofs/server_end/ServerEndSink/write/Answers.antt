@@ -16,7 +16,7 @@ invariant_of-self-clause-keeps c =
     let mid : List ℕ = c.copy_from_slice.new.self in
     let behind : List ℕ = drop (held + n - held) (drop held room) in
     let same : held + n - held ≡ n = omega arith in
-    let taken : c.took.new.self.history.now.taken ≡ replies ++ piece = ap (λ (h : History). h.now.taken) c.took.ensures.taken in
+    let taken : c.took.new.self.history.now.taken ≡ replies ++ piece = ap (λ (h : History). h.now.taken) c.took.ensures.told_as_taken in
     let back : behind ≡ drop (held + n) room = ap (λ (m : ℕ). drop m (drop held room)) same ∙ drop-drop n held room in
     subst (λ (l : List ℕ). KeepsFront (take held room ++ (mid ++ behind)) (held + n) (over || nat_lt n (length piece)) l) (sym taken)
     (keeps_more room replies piece mid behind held n over (over || nat_lt n (length piece)) c.args.self.now.keeps c.min-count.ensures c.copy_from_slice.ensures.after back refl)

@@ -14,6 +14,6 @@ returns-in-Ok-clause-keeps_key_addresses c =
     let after = content_after content doc change in
     let p = c.in-Ok.prepared in
     let e = c.in_ok-prepared.ensures in
-    let ok = subst (λ (r : Result Readied StoreRefusal). IfOk r (λ q. (q.doc ≡ doc) × (changing content doc change ≡ Ok (q.note, after)) × (q.note.change ≡ change))) c.in-Ok.is e.ok in
+    let ok = subst (λ (r : Result Readied StoreRefusal). IfOk r (λ q. (q.doc ≡ doc) × (changing content doc change ≡ Ok (q.note, after)) × (q.note.change ≡ change))) c.in-Ok.is e.prepares_the_change in
     let keeps = subst (λ (r : Result Readied StoreRefusal). OnOk r (KeepsAddressesOf content doc change after)) c.in-Ok.is e.keeps_key_addresses in
-    passed_on content c.prepare.new.self.content c.commit.new.self.content doc p.doc change p.note.change c.commit.ensures.content e.same ok.0 ok.2 keeps
+    passed_on content c.prepare.new.self.content c.commit.new.self.content doc p.doc change p.note.change c.commit.ensures.holds_the_prepared_change e.holds_the_same ok.0 ok.2 keeps

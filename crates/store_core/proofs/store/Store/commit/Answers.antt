@@ -21,17 +21,17 @@ invariant_of-self c =
     let seen : Readied = record { doc = p.doc; note = note_in p.note; step = p.step; leaves = p.leaves; enters = p.enters; total = p.total } in
     still-storing s.documents.entries s.services.entries s.last s.total room c.args.self.now seen c.args.prepared c.self.view_is c.prepared.view_is c.self.invariant c.requires
     c.leave.new.registry.entries c.enter.new.registry.entries c.take-created.new.documents.entries c.take-created.result c.as_slice.result.now c.into_vec.result.items c.take-created.ensures.takes_the_step c.as_slice.ensures.lends_the_items c.into_vec.ensures.hands_out_the_items
-    c.leave.ensures.left c.enter.ensures.enters_these_alone
+    c.leave.ensures.addresses_are_left c.enter.ensures.enters_these_alone
 
-pub returns-clause-content : goal.returns-clause-content
-returns-clause-content c =
+pub returns-clause-holds_the_prepared_change : goal.returns-clause-holds_the_prepared_change
+returns-clause-holds_the_prepared_change c =
     let s = c.self.inside in
     let p = c.prepared.inside in
     let room : Room = record { documents = spare s.documents; services = spare s.services } in
     let seen : Readied = record { doc = p.doc; note = note_in p.note; step = p.step; leaves = p.leaves; enters = p.enters; total = p.total } in
     holds-next s.documents.entries s.services.entries s.last s.total room c.args.self.now seen c.args.prepared c.self.view_is c.prepared.view_is c.self.invariant c.requires
     c.leave.new.registry.entries c.enter.new.registry.entries c.take-created.new.documents.entries c.take-created.result c.as_slice.result.now c.into_vec.result.items c.take-created.ensures.takes_the_step c.as_slice.ensures.lends_the_items c.into_vec.ensures.hands_out_the_items
-    c.leave.ensures.left c.enter.ensures.enters_these_alone
+    c.leave.ensures.addresses_are_left c.enter.ensures.enters_these_alone
 
 pub returns-clause-keeps_key_addresses : goal.returns-clause-keeps_key_addresses
 returns-clause-keeps_key_addresses c =
@@ -41,4 +41,4 @@ returns-clause-keeps_key_addresses c =
     let seen : Readied = record { doc = p.doc; note = note_in p.note; step = p.step; leaves = p.leaves; enters = p.enters; total = p.total } in
     keeps-addresses s.documents.entries s.services.entries s.last s.total room c.args.self.now seen c.args.prepared c.self.view_is c.prepared.view_is c.self.invariant c.requires
     c.leave.new.registry.entries c.enter.new.registry.entries c.take-created.new.documents.entries c.take-created.result c.as_slice.result.now c.into_vec.result.items c.take-created.ensures.takes_the_step c.as_slice.ensures.lends_the_items c.into_vec.ensures.hands_out_the_items
-    c.leave.ensures.left c.enter.ensures.enters_these_alone
+    c.leave.ensures.addresses_are_left c.enter.ensures.enters_these_alone

@@ -11,8 +11,8 @@ use Rattle.store_core.proofs.Entries.{tree-and-tag}
 use Rattle.store_core.proofs.Stored.{low-entry, sound-entry}
 use Rattle.store_core.proofs.store.Store.get.Goals as goal
 
-pub returns-in_err-entry-clause-held : goal.returns-in_err-entry-clause-held
-returns-in_err-entry-clause-held c =
+pub returns-in_err-entry-clause-version_that_is_held : goal.returns-in_err-entry-clause-version_that_is_held
+returns-in_err-entry-clause-version_that_is_held c =
     let es = c.self.inside.documents.entries in
     let doc = c.args.doc.now in
     let none : None ≡ lookup (same_id doc) es = rw c.in_err-entry.was at c.find.ensures.entry_of_the_document in
@@ -20,23 +20,23 @@ returns-in_err-entry-clause-held c =
     let told : c.from_residual.result ≡ None = search rules in
     rw told (ap (λ (o : Option Entry). option_map {U = Tree × ℕ} (λ (v : Entry). (v.tree, v.tag)) o) none ∙ sym (tree-and-tag es doc) ∙ same)
 
-pub returns-clause-held : goal.returns-clause-held
-returns-clause-held c =
+pub returns-clause-version_that_is_held : goal.returns-clause-version_that_is_held
+returns-clause-version_that_is_held c =
     let es = c.self.inside.documents.entries in
     let doc = c.args.doc.now in
     let there : Some c.in_ok-entry.entry.now ≡ lookup (same_id doc) es = rw c.in_ok-entry.was at c.find.ensures.entry_of_the_document in
     let same = ap (λ (s : Stored). option_map {U = Tree × ℕ} (λ (h : Held). (h.tree, h.tag)) (document_in held_name s.content.documents doc)) c.self.view_is in
     ap (λ (o : Option Entry). option_map {U = Tree × ℕ} (λ (v : Entry). (v.tree, v.tag)) o) there ∙ sym (tree-and-tag es doc) ∙ same
 
-pub returns-clause-low : goal.returns-clause-low
-returns-clause-low c =
+pub returns-clause-is_low_enough : goal.returns-clause-is_low_enough
+returns-clause-is_low_enough c =
     let es = c.self.inside.documents.entries in
     let doc = c.args.doc.now in
     let there : Some c.in_ok-entry.entry.now ≡ lookup (same_id doc) es = rw c.in_ok-entry.was at c.find.ensures.entry_of_the_document in
     low-entry es c.self.inside.services.entries c.self.inside.last c.self.inside.total doc c.in_ok-entry.entry.now c.self.invariant (sym there)
 
-pub returns-clause-sound : goal.returns-clause-sound
-returns-clause-sound c =
+pub returns-clause-tree_is_sound : goal.returns-clause-tree_is_sound
+returns-clause-tree_is_sound c =
     let es = c.self.inside.documents.entries in
     let doc = c.args.doc.now in
     let there : Some c.in_ok-entry.entry.now ≡ lookup (same_id doc) es = rw c.in_ok-entry.was at c.find.ensures.entry_of_the_document in

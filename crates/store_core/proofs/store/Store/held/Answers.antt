@@ -17,7 +17,7 @@ returns-clause-entry_that_is_held c =
     let room : Room = record { documents = spare s.documents; services = spare s.services } in
     held-as s.documents.entries s.services.entries s.last s.total room c.args.self.now c.args.doc.now c.self.view_is c.self.invariant c.in-Some.entry.now c.in-Some.ensures.entry_of_the_document
 
-pub returns-clause-sound : goal.returns-clause-sound
-returns-clause-sound c =
+pub returns-clause-tree_is_sound : goal.returns-clause-tree_is_sound
+returns-clause-tree_is_sound c =
     let s = c.self.inside in
     sound-entry s.documents.entries s.services.entries s.last s.total c.args.doc.now c.in-Some.entry.now c.self.invariant (sym c.in-Some.ensures.entry_of_the_document)

@@ -15,7 +15,7 @@ returns-in-Some c = record { plans_the_creation = creation-refused c.args.self.n
 pub returns-in_default-next_number : goal.returns-in_default-next_number
 returns-in_default-next_number c = record {
   plans_the_creation =
-      creation-unnumbered c.args.self.now.content c.args.doc.now c.args.root NoNumber (sym (c.refusal_of_new.ensures.first_reason_against_a_new_one c.args.root c.document_len-len.ensures.counts_the_document (c.as_slice.ensures.lends_the_items ∙ c.in_ok-enters.ensures.addresses_of_the_usage)) ∙ c.in_default.is) (c.next_number.ensures.none c.in_default-next_number.is);
+      creation-unnumbered c.args.self.now.content c.args.doc.now c.args.root NoNumber (sym (c.refusal_of_new.ensures.first_reason_against_a_new_one c.args.root c.document_len-len.ensures.counts_the_document (c.as_slice.ensures.lends_the_items ∙ c.in_ok-enters.ensures.addresses_of_the_usage)) ∙ c.in_default.is) (c.next_number.ensures.none_where_the_numbers_end c.in_default-next_number.is);
 }
 
 pub creation-requires : goal.creation-requires
@@ -30,6 +30,6 @@ returns c = record {
       let free = sym (c.refusal_of_new.ensures.first_reason_against_a_new_one c.args.root c.document_len-len.ensures.counts_the_document (c.as_slice.ensures.lends_the_items ∙ c.in_ok-enters.ensures.addresses_of_the_usage)) ∙ c.in_default.is in
       let room = creation-room content c.args.doc.now c.args.root c.requires.0 free in
       subst (λ (p : Readied). Plans content c.args.doc.now (CreateDocument c.args.root) (Ok p)) (sym c.in_ok-prepared.ensures.prepares_the_creation)
-      (creation-planned content c.args.doc.now c.args.root c.in-Some-next_number.number c.saturating_add-total.result c.in_ok-enters.enters c.requires free c.in-Some-next_number.ensures.some.1 c.in-Some-next_number.ensures.some.0 c.in_ok-enters.ensures.addresses_of_the_usage
+      (creation-planned content c.args.doc.now c.args.root c.in-Some-next_number.number c.saturating_add-total.result c.in_ok-enters.enters c.requires free c.in-Some-next_number.ensures.number_that_is_free.1 c.in-Some-next_number.ensures.number_that_is_free.0 c.in_ok-enters.ensures.addresses_of_the_usage
       (omega (arith, room.0, room.1, c.total-sum.ensures.sums_their_lengths, c.document_len-len.ensures.counts_the_document, c.saturating_add-total.ensures)));
 }

@@ -22,7 +22,7 @@ returns-in-Some c = record {
       let tree = edited c.held-entry.result.now.tree c.args.change in
       let exchanged =
       edit-exchanged c.args.self.now.content c.args.doc.now c.args.change h.0 c.held-entry.result.now.tree c.first_number-first.result c.in_ok-leaves.leaves c.as_slice.result.now c.requires.asks c.requires.edits h.1 h.2
-      c.held-entry.ensures.sound c.first_number-first.ensures.first_that_comes c.in_ok-leaves.ensures.addresses_of_the_usage_that_leave
+      c.held-entry.ensures.tree_is_sound c.first_number-first.ensures.first_that_comes c.in_ok-leaves.ensures.addresses_of_the_usage_that_leave
       (c.as_slice.ensures.lends_the_items ∙ c.in_ok-enters.ensures.addresses_of_the_usage_that_enter) in
       edit-refused c.args.self.now.content c.args.doc.now c.args.change h.0 tree c.in-Some.refusal c.requires.edits h.1 (ap (λ (t : Tree). edited t c.args.change) (sym h.2))
       (sym (c.in-Some.ensures.first_reason_against_an_edited_one h.0 tree c.in_ok-leaves.leaves h.1 c.len_after-len.ensures.counts_the_changed_document exchanged));
@@ -43,10 +43,10 @@ returns-in_default-next_number c = record {
       let tree = edited c.held-entry.result.now.tree c.args.change in
       let exchanged =
       edit-exchanged c.args.self.now.content c.args.doc.now c.args.change h.0 c.held-entry.result.now.tree c.first_number-first.result c.in_ok-leaves.leaves c.as_slice.result.now c.requires.asks c.requires.edits h.1 h.2
-      c.held-entry.ensures.sound c.first_number-first.ensures.first_that_comes c.in_ok-leaves.ensures.addresses_of_the_usage_that_leave
+      c.held-entry.ensures.tree_is_sound c.first_number-first.ensures.first_that_comes c.in_ok-leaves.ensures.addresses_of_the_usage_that_leave
       (c.as_slice.ensures.lends_the_items ∙ c.in_ok-enters.ensures.addresses_of_the_usage_that_enter) in
       edit-unnumbered c.args.self.now.content c.args.doc.now c.args.change h.0 tree NoNumber c.requires.edits h.1 (ap (λ (t : Tree). edited t c.args.change) (sym h.2))
-      (sym (c.refusal_of_edit.ensures.first_reason_against_an_edited_one h.0 tree c.in_ok-leaves.leaves h.1 c.len_after-len.ensures.counts_the_changed_document exchanged) ∙ c.in_default.is) (c.next_number.ensures.none c.in_default-next_number.is);
+      (sym (c.refusal_of_edit.ensures.first_reason_against_an_edited_one h.0 tree c.in_ok-leaves.leaves h.1 c.len_after-len.ensures.counts_the_changed_document exchanged) ∙ c.in_default.is) (c.next_number.ensures.none_where_the_numbers_end c.in_default-next_number.is);
 }
 
 pub total_without-others-requires : goal.total_without-others-requires
@@ -68,14 +68,14 @@ returns c = record {
       let tree = edited v.tree change in
       let exchanged =
       edit-exchanged c.args.self.now.content c.args.doc.now c.args.change h.0 c.held-entry.result.now.tree c.first_number-first.result c.in_ok-leaves.leaves c.as_slice.result.now c.requires.asks c.requires.edits h.1 h.2
-      c.held-entry.ensures.sound c.first_number-first.ensures.first_that_comes c.in_ok-leaves.ensures.addresses_of_the_usage_that_leave
+      c.held-entry.ensures.tree_is_sound c.first_number-first.ensures.first_that_comes c.in_ok-leaves.ensures.addresses_of_the_usage_that_leave
       (c.as_slice.ensures.lends_the_items ∙ c.in_ok-enters.ensures.addresses_of_the_usage_that_enter) in
       let free = sym (c.refusal_of_edit.ensures.first_reason_against_an_edited_one h.0 tree c.in_ok-leaves.leaves h.1 c.len_after-len.ensures.counts_the_changed_document exchanged) ∙ c.in_default.is in
       let room = edit-room content doc tree free in
       let others = c.total_without-others.result in
-      let whole = subst (λ (o : Option Held). IsSomeAnd o (λ x. others + document_len x.tree ≡ total_of content)) h.1 c.total_without-others.ensures.whole in
+      let whole = subst (λ (o : Option Held). IsSomeAnd o (λ x. others + document_len x.tree ≡ total_of content)) h.1 c.total_without-others.ensures.own_length_completes_the_total in
       edit-planned content doc change v c.in-Some-next_number.number c.len_after-len.result c.saturating_add-total.result c.in_ok-leaves.leaves c.in_ok-enters.enters c.in_ok-prepared.prepared c.requires.asks c.requires.edits h free
-      c.in-Some-next_number.ensures.some.1 c.in-Some-next_number.ensures.some.0 (omega (arith, c.len_after-len.ensures.counts_the_changed_document, room.1))
+      c.in-Some-next_number.ensures.number_that_is_free.1 c.in-Some-next_number.ensures.number_that_is_free.0 (omega (arith, c.len_after-len.ensures.counts_the_changed_document, room.1))
       c.first_number-first.result (subst (λ (us : List (List ℕ)). AreExchanged c.first_number-first.result (addresses_in doc.auid h.0.tree) c.in_ok-leaves.leaves us (addresses_in doc.auid tree)) c.as_slice.ensures.lends_the_items exchanged)
-      (omega (arith, room.0, room.1, whole, ap document_len h.2, c.total_without-others.ensures.others, c.len_after-len.ensures.counts_the_changed_document, c.saturating_add-total.ensures)) c.in_ok-prepared.ensures.notes_the_edit;
+      (omega (arith, room.0, room.1, whole, ap document_len h.2, c.total_without-others.ensures.sums_the_others, c.len_after-len.ensures.counts_the_changed_document, c.saturating_add-total.ensures)) c.in_ok-prepared.ensures.notes_the_edit;
 }

@@ -12,10 +12,10 @@ use Rattle.store_core.specs.inner.Planning.{Plans}
 use Rattle.store_core.proofs.store.Store.plan_removal.Goals as goal
 
 pub unreachable-requires : goal.unreachable-requires
-unreachable-requires c = nothing-read (document_in held_name c.args.self.now.content.documents c.args.doc.now) (rw c.in_default.is at c.get.ensures.held) c.requires
+unreachable-requires c = nothing-read (document_in held_name c.args.self.now.content.documents c.args.doc.now) (rw c.in_default.is at c.get.ensures.version_that_is_held) c.requires
 
 pub returns-in_default-next_number : goal.returns-in_default-next_number
-returns-in_default-next_number c = record { plans_the_removal = removal-unnumbered c.args.self.now.content c.args.doc.now NoNumber (c.next_number.ensures.none c.in_default-next_number.is) }
+returns-in_default-next_number c = record { plans_the_removal = removal-unnumbered c.args.self.now.content c.args.doc.now NoNumber (c.next_number.ensures.none_where_the_numbers_end c.in_default-next_number.is) }
 
 pub total_without-total-requires : goal.total_without-total-requires
 total_without-total-requires c = c.requires
@@ -25,10 +25,10 @@ returns c = record {
   plans_the_removal =
       let content = c.args.self.now.content in
       let doc = c.args.doc.now in
-      let h = held-of (document_in held_name content.documents doc) c.in-Some.tree.now c.in-Some.tag c.in-Some.ensures.held in
+      let h = held-of (document_in held_name content.documents doc) c.in-Some.tree.now c.in-Some.tag c.in-Some.ensures.version_that_is_held in
       let total = c.total_without-total.result in
       subst (λ (p : Readied). Plans content doc RemoveDocument (Ok p)) (sym c.in_ok-prepared.ensures.prepares_the_removal)
-      (removal-planned content doc h.0 c.in-Some.tag c.in-Some-next_number.number total c.in_ok-leaves.leaves c.requires h.1 c.in-Some-next_number.ensures.some.1 c.in-Some-next_number.ensures.some.0 h.3
+      (removal-planned content doc h.0 c.in-Some.tag c.in-Some-next_number.number total c.in_ok-leaves.leaves c.requires h.1 c.in-Some-next_number.ensures.number_that_is_free.1 c.in-Some-next_number.ensures.number_that_is_free.0 h.3
       (c.in_ok-leaves.ensures.addresses_of_the_usage ∙ ap (λ (t : Tree). addresses_in doc.auid t) (sym h.2))
-      (subst (λ (o : Option Held). IsSomeAnd o (λ x. total + document_len x.tree ≡ total_of content)) h.1 c.total_without-total.ensures.whole));
+      (subst (λ (o : Option Held). IsSomeAnd o (λ x. total + document_len x.tree ≡ total_of content)) h.1 c.total_without-total.ensures.own_length_completes_the_total));
 }

@@ -6,21 +6,21 @@ use Rattle.store_core.proofs.KeyAddresses.{change_stays}
 use Rattle.store_core.proofs.PlanAnswers.{prepared-ok, prepared-ready, reason-of}
 use Rattle.store_core.proofs.store.Store.prepare.Goals as goal
 
-pub returns-in-Err-clause-err : goal.returns-in-Err-clause-err
-returns-in-Err-clause-err c =
+pub returns-in-Err-clause-refused_with_the_first_reason : goal.returns-in-Err-clause-refused_with_the_first_reason
+returns-in-Err-clause-refused_with_the_first_reason c =
     let plans = subst (λ (r : Result Readied StoreRefusal). Plans c.args.self.now.content c.args.doc.now c.args.change r) c.in-Err.is c.in_ok-prepared.ensures.plans_the_change in
     reason-of c.args.self.now.content c.args.doc.now c.args.change c.in-Err.refusal plans
 
-pub returns-in_ok-reserve-in-Ok-clause-ok : goal.returns-in_ok-reserve-in-Ok-clause-ok
-returns-in_ok-reserve-in-Ok-clause-ok c =
+pub returns-in_ok-reserve-in-Ok-clause-prepares_the_change : goal.returns-in_ok-reserve-in-Ok-clause-prepares_the_change
+returns-in_ok-reserve-in-Ok-clause-prepares_the_change c =
     let plans = subst (λ (r : Result Readied StoreRefusal). Plans c.args.self.now.content c.args.doc.now c.args.change r) c.in-Ok.is c.in_ok-prepared.ensures.plans_the_change in
     prepared-ok c.args.self.now.content c.args.doc.now c.args.change c.in-Ok.prepared plans
 
-pub returns-in_ok-reserve-in-Ok-clause-ready : goal.returns-in_ok-reserve-in-Ok-clause-ready
-returns-in_ok-reserve-in-Ok-clause-ready c =
+pub returns-in_ok-reserve-in-Ok-clause-prepared_change_is_ready : goal.returns-in_ok-reserve-in-Ok-clause-prepared_change_is_ready
+returns-in_ok-reserve-in-Ok-clause-prepared_change_is_ready c =
     let plans = subst (λ (r : Result Readied StoreRefusal). Plans c.args.self.now.content c.args.doc.now c.args.change r) c.in-Ok.is c.in_ok-prepared.ensures.plans_the_change in
-    let room = c.in_ok-reserve-in-Ok.ensures.room in
-    prepared-ready c.args.self.now c.reserve.new.self c.args.doc.now c.args.change c.in-Ok.prepared c.addresses_more.result plans c.reserve.ensures.same room.0 room.1 c.addresses_more.ensures.counts_what_enters
+    let room = c.in_ok-reserve-in-Ok.ensures.there_is_room in
+    prepared-ready c.args.self.now c.reserve.new.self c.args.doc.now c.args.change c.in-Ok.prepared c.addresses_more.result plans c.reserve.ensures.holds_the_same room.0 room.1 c.addresses_more.ensures.counts_what_enters
 
 pub returns-in_ok-reserve-in-Ok-clause-keeps_key_addresses : goal.returns-in_ok-reserve-in-Ok-clause-keeps_key_addresses
 returns-in_ok-reserve-in-Ok-clause-keeps_key_addresses c =

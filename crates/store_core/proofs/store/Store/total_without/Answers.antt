@@ -17,17 +17,17 @@ overflow_sub-result c =
     let room : Room = record { documents = spare s.documents; services = spare s.services } in
     no-longer s.documents.entries s.services.entries s.last s.total room c.args.self.now c.args.doc.now c.self.view_is c.self.invariant c.in-Some.entry.now c.in-Some.ensures.entry_of_the_document
 
-pub returns-clause-others : goal.returns-clause-others
-returns-clause-others c =
+pub returns-clause-sums_the_others : goal.returns-clause-sums_the_others
+returns-clause-sums_the_others c =
     let s = c.self.inside in
     let room : Room = record { documents = spare s.documents; services = spare s.services } in
     others-are s.documents.entries s.services.entries s.last s.total room c.args.self.now c.args.doc.now c.self.view_is c.self.invariant c.in-Some.entry.now c.in-Some.ensures.entry_of_the_document
 
-pub returns-clause-small : goal.returns-clause-small
-returns-clause-small c = let s = c.self.inside in omega (arith, total-small s.documents.entries s.services.entries s.last s.total c.self.invariant)
+pub returns-clause-is_small : goal.returns-clause-is_small
+returns-clause-is_small c = let s = c.self.inside in omega (arith, total-small s.documents.entries s.services.entries s.last s.total c.self.invariant)
 
-pub returns-clause-whole : goal.returns-clause-whole
-returns-clause-whole c =
+pub returns-clause-own_length_completes_the_total : goal.returns-clause-own_length_completes_the_total
+returns-clause-own_length_completes_the_total c =
     let s = c.self.inside in
     let room : Room = record { documents = spare s.documents; services = spare s.services } in
     whole-is s.documents.entries s.services.entries s.last s.total room c.args.self.now c.args.doc.now c.self.view_is c.self.invariant c.in-Some.entry.now c.in-Some.ensures.entry_of_the_document

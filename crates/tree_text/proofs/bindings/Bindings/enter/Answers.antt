@@ -6,8 +6,8 @@ use Rattle.tree_text.specs.readers.Bindings.{AreOf, lists}
 use Rattle.tree_text.proofs.StackLemmas.{joined-more}
 use Rattle.tree_text.proofs.bindings.Bindings.enter.Goals as goal
 
-pub returns-clause-kept : goal.returns-clause-kept
-returns-clause-kept c =
+pub returns-clause-lists_are_kept_in_step : goal.returns-clause-lists_are_kept_in_step
+returns-clause-lists_are_kept_in_step c =
     let around = lists c.args.self.now in
     let whole = ap (map (λ ds. ds.items)) c.in_ok-push.ensures.items ∙ map-append _ c.args.self.now.open.items (c.args.decls ∷ []) in
     subst (AreOf c.declare_all.new.self)

@@ -8,8 +8,8 @@ loop-decls-preserved c =
     let all = c.lists-decls-items.result.now in
     let decls = c.decls-item.result in
     record {
-      kept = c.in_ok-enter.ensures.kept;
-      given = c.in_ok-enter.ensures.inside
+      kept = c.in_ok-enter.ensures.lists_are_kept_in_step;
+      given = c.in_ok-enter.ensures.scope_grows_by_them
           ∙ ap₂ (λ (front : List (List Decl)) (ds : List Decl). front ++ ds ∷ []) c.loop-decls.invariant.given (c.in_ok-copy_decls.ensures.copies_the_declarations ∙ ap (λ (x : Bor (List Decl)). x.now) c.decls-item.is)
           ∙ sym (map_more (λ (x : Bor (List Decl)). x.now) all c.loop-decls.decls-index decls c.loop-decls-test.true);
     }

@@ -7,8 +7,8 @@ use Rattle.tree_text.specs.readers.Bindings.{AreOf, lists}
 use Rattle.tree_text.proofs.StackLemmas.{joined-more}
 use Rattle.tree_text.proofs.bindings.Bindings.leave.Goals as goal
 
-pub returns-clause-kept : goal.returns-clause-kept
-returns-clause-kept c =
+pub returns-clause-lists_are_kept_in_step : goal.returns-clause-lists_are_kept_in_step
+returns-clause-lists_are_kept_in_step c =
     let left : List (List Decl) = map (λ ds. ds.items) c.pop.new.self.items in
     let decls = c.unwrap-decls.result in
     let popped = c.pop.ensures.items ∙ ap (λ o. c.pop.new.self.items ++ option_to_list o) c.unwrap-decls.ensures in

@@ -6,8 +6,8 @@ use Rattle.usage_docs.specs.Reading.Listing.{elems_len}
 use Rattle.usage_docs.proofs.ListingLemmas.{too_large, small_enough, counted_again, grown, kids_grown}
 use Rattle.usage_docs.proofs.listing.IndexMaker.add.Goals as goal
 
-pub returns-then-len-gt-INDEX_LIMIT-clause-refused : goal.returns-then-len-gt-INDEX_LIMIT-clause-refused
-returns-then-len-gt-INDEX_LIMIT-clause-refused c =
+pub returns-then-len-gt-INDEX_LIMIT-clause-refused_as_too_long : goal.returns-then-len-gt-INDEX_LIMIT-clause-refused_as_too_long
+returns-then-len-gt-INDEX_LIMIT-clause-refused_as_too_long c =
     let counted = c.self.invariant.counted ∙ ap (λ (ss : List Tree). elems_len (map Elem ss)) c.self.view_is in
     let more = c.in_ok-listed_len.ensures.counts_the_listed_services in
     let added = c.saturating_add-inner.ensures ∙ ap (λ x. min (c.self.inside.inner + x) 18446744073709551615) more in
@@ -20,27 +20,27 @@ invariant_of-self-2 c =
     let added = c.saturating_add-inner.ensures ∙ ap (λ x. min (c.self.inside.inner + x) 18446744073709551615) more in
     let ss = c.args.self.now in
     let new = listed c.args.root.now in
-    let root = grown c.exchange_nodes.new.self c.self.inside.root c.in_ok-services.services.items ss new (length c.nodes-end.result.now) c.in_ok-exchange_nodes.ensures.ok c.in_ok-services.ensures.lists_the_services (c.self.invariant.whole ∙ ap index_of c.self.view_is) (ap length c.nodes-end.ensures.nodes) in
+    let root = grown c.exchange_nodes.new.self c.self.inside.root c.in_ok-services.services.items ss new (length c.nodes-end.result.now) c.in_ok-exchange_nodes.ensures.exchanges_the_nodes c.in_ok-services.ensures.lists_the_services (c.self.invariant.whole ∙ ap index_of c.self.view_is) (ap length c.nodes-end.ensures.nodes_of_the_content) in
     let kids = kids_grown c.exchange_nodes.new.self (ss ++ new) root in
     record {
       whole = root ∙ ap index_of (sym kids);
       counted = counted_again ss new c.self.inside.inner c.saturating_add-inner.result c.len_with-len.result counted added c.len_with-len.ensures.counts_the_index (omega arith) ∙ ap (λ (ts : List Tree). elems_len (map Elem ts)) (sym kids);
     }
 
-pub returns-clause-ok : goal.returns-clause-ok
-returns-clause-ok c =
+pub returns-clause-adds_the_services : goal.returns-clause-adds_the_services
+returns-clause-adds_the_services c =
     let ss = c.args.self.now in
     let new = listed c.args.root.now in
-    let root = grown c.exchange_nodes.new.self c.self.inside.root c.in_ok-services.services.items ss new (length c.nodes-end.result.now) c.in_ok-exchange_nodes.ensures.ok c.in_ok-services.ensures.lists_the_services (c.self.invariant.whole ∙ ap index_of c.self.view_is) (ap length c.nodes-end.ensures.nodes) in
+    let root = grown c.exchange_nodes.new.self c.self.inside.root c.in_ok-services.services.items ss new (length c.nodes-end.result.now) c.in_ok-exchange_nodes.ensures.exchanges_the_nodes c.in_ok-services.ensures.lists_the_services (c.self.invariant.whole ∙ ap index_of c.self.view_is) (ap length c.nodes-end.ensures.nodes_of_the_content) in
     kids_grown c.exchange_nodes.new.self (ss ++ new) root
 
-pub returns-clause-fits : goal.returns-clause-fits
-returns-clause-fits c =
+pub returns-clause-stays_within_the_limit : goal.returns-clause-stays_within_the_limit
+returns-clause-stays_within_the_limit c =
     let counted = c.self.invariant.counted ∙ ap (λ (ss : List Tree). elems_len (map Elem ss)) c.self.view_is in
     let more = c.in_ok-listed_len.ensures.counts_the_listed_services in
     let added = c.saturating_add-inner.ensures ∙ ap (λ x. min (c.self.inside.inner + x) 18446744073709551615) more in
     let ss = c.args.self.now in
     let new = listed c.args.root.now in
-    let root = grown c.exchange_nodes.new.self c.self.inside.root c.in_ok-services.services.items ss new (length c.nodes-end.result.now) c.in_ok-exchange_nodes.ensures.ok c.in_ok-services.ensures.lists_the_services (c.self.invariant.whole ∙ ap index_of c.self.view_is) (ap length c.nodes-end.ensures.nodes) in
+    let root = grown c.exchange_nodes.new.self c.self.inside.root c.in_ok-services.services.items ss new (length c.nodes-end.result.now) c.in_ok-exchange_nodes.ensures.exchanges_the_nodes c.in_ok-services.ensures.lists_the_services (c.self.invariant.whole ∙ ap index_of c.self.view_is) (ap length c.nodes-end.ensures.nodes_of_the_content) in
     let kids = kids_grown c.exchange_nodes.new.self (ss ++ new) root in
     subst (λ (ts : List Tree). index_len ts ≤ index_limit) (sym kids) (small_enough ss new c.self.inside.inner c.saturating_add-inner.result c.len_with-len.result counted added c.len_with-len.ensures.counts_the_index (omega arith))

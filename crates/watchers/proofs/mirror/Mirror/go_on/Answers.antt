@@ -7,8 +7,8 @@ use Rattle.watchers.specs.declared.holding.Holding.{Holding}
 use Rattle.watchers.proofs.Holdings.{all_stay, held_now, on_err, others_stay}
 use Rattle.watchers.proofs.mirror.Mirror.go_on.Goals as goal
 
-pub returns-in_err-stays-clause-others : goal.returns-in_err-stays-clause-others
-returns-in_err-stays-clause-others c = λ other differs.
+pub returns-in_err-stays-clause-other_documents_stay : goal.returns-in_err-stays-clause-other_documents_stay
+returns-in_err-stays-clause-other_documents_stay c = λ other differs.
     let es = c.self.inside.held.entries in
     let doc = c.args.doc.now in
     let w = c.follow.new.held in
@@ -16,19 +16,19 @@ returns-in_err-stays-clause-others c = λ other differs.
     let u = (c.get_mut.follows.holds w).3 (subst (λ (o : Option Holding). IsSome o) e refl) in
     others_stay es (c.get_mut.follows.lender w).entries doc (λ q apart. u.2 q apart) other differs ∙ ap (λ l. held_in l other) c.self.view_is
 
-pub returns-in_err-stays-clause-err : goal.returns-in_err-stays-clause-err
-returns-in_err-stays-clause-err c =
+pub returns-in_err-stays-clause-failure_changes_nothing : goal.returns-in_err-stays-clause-failure_changes_nothing
+returns-in_err-stays-clause-failure_changes_nothing c =
     let es = c.self.inside.held.entries in
     let doc = c.args.doc.now in
     let w = c.follow.new.held in
     let e : Some c.in-Some.held.now ≡ lookup (eq-value.it doc) es = c.in-Some.ensures.value in
     let u = (c.get_mut.follows.holds w).3 (subst (λ (o : Option Holding). IsSome o) e refl) in
     let now = (c.get_mut.follows.lender w).entries in
-    let same : held_in now doc ≡ held_in es doc = held_now now doc (Some w) u.1 ∙ ap (λ h. Some (held_of h)) c.in_err-stays.ensures.err ∙ sym (held_now es doc (Some c.in-Some.held.now) (sym e)) in
+    let same : held_in now doc ≡ held_in es doc = held_now now doc (Some w) u.1 ∙ ap (λ h. Some (held_of h)) c.in_err-stays.ensures.failure_changes_nothing ∙ sym (held_now es doc (Some c.in-Some.held.now) (sym e)) in
     on_err c.from_residual.result _ (subst (λ l. HoldsSame l now) c.self.view_is (all_stay es now doc (λ q apart. u.2 q apart) same))
 
-pub returns-then-stays-clause-ok : goal.returns-then-stays-clause-ok
-returns-then-stays-clause-ok c =
+pub returns-then-stays-clause-holds_the_edited_tree : goal.returns-then-stays-clause-holds_the_edited_tree
+returns-then-stays-clause-holds_the_edited_tree c =
     let es = c.self.inside.held.entries in
     let doc = c.args.doc.now in
     let change = c.args.change.now in
@@ -40,10 +40,10 @@ returns-then-stays-clause-ok c =
     let before : held_in c.args.self.now doc ≡ Some (held_of c.in-Some.held.now) = ap (λ l. held_in l doc) (sym c.self.view_is) ∙ held_now es doc (Some c.in-Some.held.now) (sym e) in
     let after : (if c.in_ok-stays.stays then Some (held_of w) else None) ≡ held_in now doc = ap (λ t. if t then Some (held_of w) else None) c.if-stays.true ∙ sym (held_now now doc (Some w) u.1) in
     subst (λ (a : Option Held). HoldsEdited change number a (held_in now doc)) (sym before)
-    (subst (λ (b : Option Held). HoldsEdited change number (Some (held_of c.in-Some.held.now)) b) after c.in_ok-stays.ensures.ok)
+    (subst (λ (b : Option Held). HoldsEdited change number (Some (held_of c.in-Some.held.now)) b) after c.in_ok-stays.ensures.holds_the_edited_tree)
 
-pub returns-then-stays-clause-others : goal.returns-then-stays-clause-others
-returns-then-stays-clause-others c = λ other differs.
+pub returns-then-stays-clause-other_documents_stay : goal.returns-then-stays-clause-other_documents_stay
+returns-then-stays-clause-other_documents_stay c = λ other differs.
     let es = c.self.inside.held.entries in
     let doc = c.args.doc.now in
     let w = c.follow.new.held in
@@ -51,8 +51,8 @@ returns-then-stays-clause-others c = λ other differs.
     let u = (c.get_mut.follows.holds w).3 (subst (λ (o : Option Holding). IsSome o) e refl) in
     others_stay es (c.get_mut.follows.lender w).entries doc (λ q apart. u.2 q apart) other differs ∙ ap (λ l. held_in l other) c.self.view_is
 
-pub returns-clause-ok : goal.returns-clause-ok
-returns-clause-ok c =
+pub returns-clause-holds_the_edited_tree : goal.returns-clause-holds_the_edited_tree
+returns-clause-holds_the_edited_tree c =
     let es = c.self.inside.held.entries in
     let doc = c.args.doc.now in
     let change = c.args.change.now in
@@ -61,15 +61,15 @@ returns-clause-ok c =
     let e : Some c.in-Some.held.now ≡ lookup (eq-value.it doc) es = c.in-Some.ensures.value in
     let now = c.forget.new.self in
     let before : held_in c.args.self.now doc ≡ Some (held_of c.in-Some.held.now) = ap (λ l. held_in l doc) (sym c.self.view_is) ∙ held_now es doc (Some c.in-Some.held.now) (sym e) in
-    let after : (if c.in_ok-stays.stays then Some (held_of w) else None) ≡ held_in now doc = ap (λ t. if t then Some (held_of w) else None) c.if-stays.false ∙ sym c.forget.ensures.gone in
+    let after : (if c.in_ok-stays.stays then Some (held_of w) else None) ≡ held_in now doc = ap (λ t. if t then Some (held_of w) else None) c.if-stays.false ∙ sym c.forget.ensures.document_is_forgotten in
     subst (λ (a : Option Held). HoldsEdited change number a (held_in now doc)) (sym before)
-    (subst (λ (b : Option Held). HoldsEdited change number (Some (held_of c.in-Some.held.now)) b) after c.in_ok-stays.ensures.ok)
+    (subst (λ (b : Option Held). HoldsEdited change number (Some (held_of c.in-Some.held.now)) b) after c.in_ok-stays.ensures.holds_the_edited_tree)
 
-pub returns-clause-others : goal.returns-clause-others
-returns-clause-others c = λ other differs.
+pub returns-clause-other_documents_stay : goal.returns-clause-other_documents_stay
+returns-clause-other_documents_stay c = λ other differs.
     let es = c.self.inside.held.entries in
     let doc = c.args.doc.now in
     let w = c.follow.new.held in
     let e : Some c.in-Some.held.now ≡ lookup (eq-value.it doc) es = c.in-Some.ensures.value in
     let u = (c.get_mut.follows.holds w).3 (subst (λ (o : Option Holding). IsSome o) e refl) in
-    c.forget.ensures.others other differs ∙ others_stay es (c.get_mut.follows.lender w).entries doc (λ q apart. u.2 q apart) other differs ∙ ap (λ l. held_in l other) c.self.view_is
+    c.forget.ensures.other_documents_stay other differs ∙ others_stay es (c.get_mut.follows.lender w).entries doc (λ q apart. u.2 q apart) other differs ∙ ap (λ l. held_in l other) c.self.view_is

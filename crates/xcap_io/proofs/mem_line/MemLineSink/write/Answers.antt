@@ -4,12 +4,12 @@ use Rattle.xcap_io.specs.Memory.{MemoryLine, one_more}
 use Rattle.xcap_io.specs.contracts.mem_line.MemLine.{the_view}
 use Rattle.xcap_io.proofs.mem_line.MemLineSink.write.Goals as goal
 
-pub returns-then-count-eq0-clause-exact : goal.returns-then-count-eq0-clause-exact
-returns-then-count-eq0-clause-exact c =
+pub returns-then-count-eq0-clause-does_what_memory_does : goal.returns-then-count-eq0-clause-does_what_memory_does
+returns-then-count-eq0-clause-does_what_memory_does c =
     let inside = c.self.inside in
     let some : 0 < length c.args.piece.now = c.requires in
     let size : c.len.result ≡ length inside.output.items = grind (arith, c.len.ensures) in
     let full : inside.held ≡ length inside.output.items = omega (arith, c.self.invariant.2, c.min-count.ensures) in (
       ap (λ (m : MemoryLine). length m.taken) (sym c.self.view_is) ∙ length-take-le inside.held inside.output.items (omega arith) ∙ full ∙ ap (λ (m : MemoryLine). m.room) c.self.view_is,
-      ap (λ (n : ℕ). the_view (record inside { write_faults = n })) c.fault.ensures.value ∙ ap (λ (m : MemoryLine). record m { write_faults = one_more m.write_faults }) c.self.view_is,
+      ap (λ (n : ℕ). the_view (record inside { write_faults = n })) c.fault.ensures.counts_one_more ∙ ap (λ (m : MemoryLine). record m { write_faults = one_more m.write_faults }) c.self.view_is,
     )

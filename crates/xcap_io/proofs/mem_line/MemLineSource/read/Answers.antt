@@ -7,8 +7,8 @@ use Rattle.xcap_io.proofs.mem_line.MemLineSource.read.Goals as goal
 pub most_given-requires : goal.most_given-requires
 most_given-requires c = let some : 0 < length c.args.buf.now = c.requires in omega (arith, c.self.invariant.0, c.min-wanted.ensures)
 
-pub returns-clause-bytes : goal.returns-clause-bytes
-returns-clause-bytes c =
+pub returns-clause-gives_bytes_behind_those_before : goal.returns-clause-gives_bytes_behind_those_before
+returns-clause-gives_bytes_behind_those_before c =
     let input : List ℕ = c.self.inside.input.items in
     let given : ℕ = c.self.inside.given in
     let count : ℕ = c.min-count.result in
@@ -16,12 +16,12 @@ returns-clause-bytes c =
     let same : given + count - given ≡ count = omega arith in
     let front : c.copy_from_slice.new.self ≡ take count (drop given input) = c.copy_from_slice.ensures.after ∙ ap (λ (n : ℕ). take n (drop given c.deref.result.now)) same ∙ ap (λ (l : List ℕ). take count (drop given l)) c.deref.ensures.value in
     let last : c.gave.new.self.history.now.ended ≡ (count == 0) =
-    ap (λ (h : History). h.now.ended) c.gave.ensures.given ∙ ap (λ (n : ℕ). n == 0) (gives_count input c.copy_from_slice.new.self _ given count (omega arith) front) in
+    ap (λ (h : History). h.now.ended) c.gave.ensures.told_as_given ∙ ap (λ (n : ℕ). n == 0) (gives_count input c.copy_from_slice.new.self _ given count (omega arith) front) in
     let end : count ≡ 0 → drop (given + count) input ≡ [] =
-    λ none. none_left input given count c.in-Some.most (c.min-count.ensures ∙ ap (λ (n : ℕ). min c.in-Some.most (n - given)) size) c.in-Some.ensures.some.0 none in (
+    λ none. none_left input given count c.in-Some.most (c.min-count.ensures ∙ ap (λ (n : ℕ). min c.in-Some.most (n - given)) size) c.in-Some.ensures.gives_at_least_one_byte.0 none in (
       record {
         behind =
-            ap (λ (h : History). h.now.given) c.gave.ensures.given
+            ap (λ (h : History). h.now.given) c.gave.ensures.told_as_given
             ∙ ap (λ (m : MemoryLine). m.given ++ take count (c.copy_from_slice.new.self ++ drop count c.args.buf.now)) c.self.view_is;
         consumed = ap (λ m. m.left) (sym c.self.view_is) ∙ gives_next input c.copy_from_slice.new.self _ given count (omega arith) front;
         truthful = λ before ended. end (is_none count (sym last ∙ ended));

@@ -54,5 +54,5 @@ returns-in-Err-Failed-clause-answers_as_the_machine g c =
     (subst (λ (s : ServerState). Decides (IsAnswer s.root s.content c.args.request.now) c.decide.new.store c.in_ok-decision.decision) c.self.view_is c.in_ok-decision.ensures.decides_as_the_machine)
     (ap (λ (s : ServerState). s.root) c.self.view_is)
     c.not_entered.result c.args.log.now c.append.new.self (g.J.Journal.state c.args.journal.now) (g.J.Journal.state c.append.new.journal)
-    (sym c.changes.ensures.tells_whether_it_changes ∙ c.if-not-changes.false) c.not_entered.ensures.reply c.not_entered.ensures.edit refl c.requires.loggable
+    (sym c.changes.ensures.tells_whether_it_changes ∙ c.if-not-changes.false) c.not_entered.ensures.is_the_500 c.not_entered.ensures.tells_no_change refl c.requires.loggable
     (subst (λ (fault : AppendFault). AddsRecord c.args.log.now (g.J.Journal.state c.args.journal.now) (record_of c.args.request.now) (Err fault) c.append.new.self (g.J.Journal.state c.append.new.journal)) c.in-Err-Failed.field-0-is c.in-Err-Failed.ensures.adds_the_record)

@@ -9,5 +9,5 @@ returns c =
     record {
       spelled_by_the_grammar =
           subst (λ (s : ServerState). IsRoot s.root (authority_of s.root) (path_of s.root)) c.self.view_is
-          ((c.roots_are_spelled_by_the_grammar.ensures.root_by_its_pieces_alone root (authority_of root) (path_of root)).1 (c.text-text.ensures.root, refl, refl));
+          ((c.roots_are_spelled_by_the_grammar.ensures.root_by_its_pieces_alone root (authority_of root) (path_of root)).1 (c.text-text.ensures.text_is_a_root, refl, refl));
     }

@@ -6,5 +6,5 @@ pub returns : goal.returns
 returns c = record {
   counts_the_characters =
       let counted : c.count.result ≡ length (chars c.as_str.result.now) = search (rules, chars_from_encodes) in
-      counted ∙ ap length c.as_str.ensures.letters;
+      counted ∙ ap length c.as_str.ensures.characters_of_the_text;
 }

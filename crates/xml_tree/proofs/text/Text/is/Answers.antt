@@ -6,5 +6,5 @@ pub returns : goal.returns
 returns c = record {
   tells_whether_it_has_these =
       let text = c.args.text.now in
-      c.eq.ensures ∙ bytes_eq-chars c.as_str.result.now text c.as_str.utf8 c.utf8.text ∙ ap (λ cs. bytes_eq cs (chars text)) c.as_str.ensures.letters;
+      c.eq.ensures ∙ bytes_eq-chars c.as_str.result.now text c.as_str.utf8 c.utf8.text ∙ ap (λ cs. bytes_eq cs (chars text)) c.as_str.ensures.characters_of_the_text;
 }

@@ -7,10 +7,10 @@ use Rattle.xml_tree.proofs.text.Text.push.Goals as goal
 pub invariant_of-self : goal.invariant_of-self
 invariant_of-self c =
     let p = c.push in
-    ∣ kept (bytes_of c.self.inside.bytes) (encode_utf8 c.args.c) (bytes_of p.new.self) (IsUtf8-had _ c.self.invariant) p.result (one_utf8 c.args.c c.ranges.c.0) p.ensures.ok p.ensures.err ∣₁
+    ∣ kept (bytes_of c.self.inside.bytes) (encode_utf8 c.args.c) (bytes_of p.new.self) (IsUtf8-had _ c.self.invariant) p.result (one_utf8 c.args.c c.ranges.c.0) p.ensures.adds_it_behind p.ensures.failure_changes_nothing ∣₁
 
-pub returns-clause-ok : goal.returns-clause-ok
-returns-clause-ok c =
+pub returns-clause-adds_it_behind : goal.returns-clause-adds_it_behind
+returns-clause-adds_it_behind c =
     let p = c.push in
-    let ok = said (bytes_of c.self.inside.bytes) (encode_utf8 c.args.c) (bytes_of p.new.self) (IsUtf8-had _ c.self.invariant) p.result c.args.self.now c.self.view_is p.ensures.ok in
+    let ok = said (bytes_of c.self.inside.bytes) (encode_utf8 c.args.c) (bytes_of p.new.self) (IsUtf8-had _ c.self.invariant) p.result c.args.self.now c.self.view_is p.ensures.adds_it_behind in
     subst (λ cs. OnOk p.result (chars (bytes_of p.new.self) ≡ c.args.self.now ++ cs)) (one c.args.c c.ranges.c.0) ok

@@ -6,7 +6,7 @@ use Rattle.xml_tree.proofs.KidLemmas.{below, whole, changed}
 use Rattle.xml_tree.proofs.tree.Element.+edit_below.Goals as goal
 
 pub invariant_of-self : goal.invariant_of-self
-invariant_of-self g t c = whole c.self.inside c.in-Some.first.now c.kid_in-kid.result.now c.edit_below.new.self c.kid_in-kid.ensures.value c.self.invariant
+invariant_of-self g t c = whole c.self.inside c.in-Some.first.now c.kid_in-kid.result.now c.edit_below.new.self c.kid_in-kid.ensures.lends_the_element c.self.invariant
 
 pub returns-in-None : goal.returns-in-None
 returns-in-None g t c = record {
@@ -23,8 +23,8 @@ returns-in-Some g t c = record {
       record {
         here = done.here;
         left = done.left;
-        there = rw (c.in-Some.ensures.cases.0, ← c.self.view_is) (below c.self.inside n c.kid_in-kid.result.now c.edit_below.new.self c.kid_in-kid.ensures.value p done.here done.there);
+        there = rw (c.in-Some.ensures.cases.0, ← c.self.view_is) (below c.self.inside n c.kid_in-kid.result.now c.edit_below.new.self c.kid_in-kid.ensures.lends_the_element p done.here done.there);
         edits = done.edits;
-        put = rw (c.in-Some.ensures.cases.0, ← c.self.view_is) (changed c.self.inside n c.kid_in-kid.result.now c.edit_below.new.self c.kid_in-kid.ensures.value (put_over p done.left) done.put);
+        put = rw (c.in-Some.ensures.cases.0, ← c.self.view_is) (changed c.self.inside n c.kid_in-kid.result.now c.edit_below.new.self c.kid_in-kid.ensures.lends_the_element (put_over p done.left) done.put);
       };
 }

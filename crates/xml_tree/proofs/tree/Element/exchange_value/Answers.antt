@@ -5,8 +5,8 @@ use Rattle.xml_tree.specs.Nodes.{content_of}
 use Rattle.xml_tree.proofs.AttrLemmas.{set-change_item}
 use Rattle.xml_tree.proofs.tree.Element.exchange_value.Goals as goal
 
-pub returns-clause-new : goal.returns-clause-new
-returns-clause-new c =
+pub returns-clause-value_is_exchanged : goal.returns-clause-value_is_exchanged
+returns-clause-value_is_exchanged c =
     let i = c.self.inside in
     let attr = c.index_mut.result.now in
     let there = subst (λ (e : Tree). c.args.at < length e.attrs) (sym c.self.view_is) c.requires in

@@ -4,14 +4,14 @@ use Rattle.xml_tree.specs.Nodes.{content_of, AreNormal}
 use Rattle.xml_tree.proofs.Places.{nodes_of-content_of, node_height-le}
 use Rattle.xml_tree.proofs.tree.Element.nodes.Goals as goal
 
-pub returns-clause-nodes : goal.returns-clause-nodes
-returns-clause-nodes c = rw (← c.self.view_is) (c.deref.ensures.value ∙ sym (nodes_of-content_of c.self.inside.nodes.items c.self.invariant))
+pub returns-clause-nodes_of_the_content : goal.returns-clause-nodes_of_the_content
+returns-clause-nodes_of_the_content c = rw (← c.self.view_is) (c.deref.ensures.value ∙ sym (nodes_of-content_of c.self.inside.nodes.items c.self.invariant))
 
-pub returns-clause-content : goal.returns-clause-content
-returns-clause-content c = ap content_of c.deref.ensures.value ∙ ap (λ (e : Tree). e.content) c.self.view_is
+pub returns-clause-content_of_the_nodes : goal.returns-clause-content_of_the_nodes
+returns-clause-content_of_the_nodes c = ap content_of c.deref.ensures.value ∙ ap (λ (e : Tree). e.content) c.self.view_is
 
-pub returns-clause-lower : goal.returns-clause-lower
-returns-clause-lower c = rw (c.deref.ensures.value, ← c.self.view_is) (λ k d h. omega (arith, node_height-le c.self.inside.nodes.items k d h))
+pub returns-clause-is_no_higher : goal.returns-clause-is_no_higher
+returns-clause-is_no_higher c = rw (c.deref.ensures.value, ← c.self.view_is) (λ k d h. omega (arith, node_height-le c.self.inside.nodes.items k d h))
 
-pub returns-clause-normal : goal.returns-clause-normal
-returns-clause-normal c = subst AreNormal (sym c.deref.ensures.value) c.self.invariant
+pub returns-clause-nodes_are_normal : goal.returns-clause-nodes_are_normal
+returns-clause-nodes_are_normal c = subst AreNormal (sym c.deref.ensures.value) c.self.invariant
