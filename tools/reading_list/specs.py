@@ -14,8 +14,9 @@ HEAD = re.compile(r"(?:abbrev|unfoldable)(?: pub)?\s|(?:pub )?(?:record|data)\s|
 class Target:
     """What a name means: the kind of thing, where that stands, and its name there.
 
-    The kinds are `definition`; `type` and `member`, of the code; `clause`, which is a contract or a
-    member of an impl; `lemma`; and `trusted`, which is all that no crate of the project has.
+    The kinds are `definition`; `type`, `constant` and `member`, of the code; `clause`, which is a
+    contract or a member of an impl; `lemma`; and `trusted`, which is all that no crate of the
+    project has.
     """
     kind: str
     place: str
@@ -98,6 +99,8 @@ def target_of(module, name):
     root, crate, folder, *path = [*module.split("."), "", ""]
     if root != "Rattle" or not (CRATES / crate).is_dir():
         return Target("trusted", module, name, name in CONSTRUCTORS)
+    if folder == "specs" and path[0] == "declared" and "TheConstants" in path:
+        return Target("constant", crate, name)
     if folder == "specs" and path[0] == "declared":
         kept = [part for part in path if part and not part.startswith("The")]
         return Target("type", crate, kept[-1], "TheVariants" in path)

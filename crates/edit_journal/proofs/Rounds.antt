@@ -12,7 +12,8 @@ use Rattle.edit_journal.specs.declared.restarting.RestartFault.{RestartFault}
 use Rattle.edit_journal.specs.declared.restarting.RestartFault.TheVariants.{ReadFailed, AppendFailed, Damaged, Refused, TooLong, NoMemory}
 use Rattle.edit_journal.specs.Journals.{JournalState}
 use Rattle.edit_journal.specs.Logs.{LogState, log_with}
-use Rattle.edit_journal.specs.Restarts.{most_journal_bytes, EndsAs, CountsFaults, Restarts}
+use Rattle.edit_journal.specs.Limits.{most_journal_bytes}
+use Rattle.edit_journal.specs.Restarts.{EndsAs, CountsFaults, Restarts}
 use Rattle.edit_journal.specs.Texts.{text, HasNoRecord, IsTorn, IsTold}
 use Rattle.edit_journal.specs.inner.Inflow.{InflowState, with_bytes}
 use Rattle.edit_journal.specs.inner.Redoing.{Redone, StopsAs, Stops, RedoesHeld}

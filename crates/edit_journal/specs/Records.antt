@@ -5,6 +5,8 @@ use Rattle.std.specs.Str.{bytes_eq}
 use Rattle.httparse.specs.Grammar.{IsToken}
 use Rattle.http_wire.specs.declared.request.Field.{Field}
 use Rattle.http_wire.specs.declared.request.Request.{Request}
+use Rattle.http_wire.specs.Limits.{most_body_bytes, most_field_lines}
+use Rattle.edit_journal.specs.Limits.{most_content_bytes}
 
 -- the number of a method that is recorded, and 0 for any other
 unfoldable pub method_number : List ℕ → ℕ
@@ -37,9 +39,9 @@ record_of request = block (content request)
 pub record IsRecordable (request : Request) : Type 0 where
   pub method : 0 < method_number request.method
   pub names : All (λ (field : Field). IsToken field.name) request.fields
-  pub few : length request.fields ≤ 64
-  pub body : length request.body ≤ 262_144
-  pub short : length (content request) ≤ 300_000
+  pub few : length request.fields ≤ most_field_lines
+  pub body : length request.body ≤ most_body_bytes
+  pub short : length (content request) ≤ most_content_bytes
 
 -- the request as its record tells it
 abbrev pub recorded : Request → Request

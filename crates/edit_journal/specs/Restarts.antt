@@ -5,15 +5,12 @@ use Rattle.xcap_io.specs.Causes.{LineState, Rose, Reads}
 use Rattle.xcap_io.specs.Passing.{Gave, IsEnded}
 use Rattle.edit_journal.specs.declared.restarting.RestartFault.{RestartFault}
 use Rattle.edit_journal.specs.declared.restarting.RestartFault.TheVariants.{ReadFailed, AppendFailed, Damaged, Refused, TooLong, NoMemory}
+use Rattle.edit_journal.specs.Limits.{most_journal_bytes}
 use Rattle.edit_journal.specs.Records.{record_of}
 use Rattle.edit_journal.specs.Journals.{JournalState, Goes, AddsSome}
 use Rattle.edit_journal.specs.Logs.{LogState}
 use Rattle.edit_journal.specs.Replaying.{RedoesAll}
 use Rattle.edit_journal.specs.Texts.{text, IsTold, BeginsWith, IsTorn, IsDamaged, HasNoRecord}
-
--- how many bytes of an old journal are taken at most
-abbrev pub most_journal_bytes : ℕ
-most_journal_bytes = 4_294_967_296
 
 -- The count of failed reads rose exactly at `ReadFailed`, and that of the journal at `AppendFailed`.
 abbrev pub CountsFaults : ℕ → ℕ → ℕ → ℕ → Result LogState RestartFault → Type 0

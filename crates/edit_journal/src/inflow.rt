@@ -4,17 +4,12 @@ ghost use Rattle.xcap_io.specs.Causes.{OnlyReads};
 ghost use Rattle.edit_journal.specs.inner.Inflow.{Fills, Ends, TakesRecord};
 
 use crate::front::{Front, front_of};
+use crate::limits::{MAX_JOURNAL, MAX_RECORD};
 use crate::restarting::RestartFault;
 use http_wire::Request;
 use std::alloc::Global;
 use std::marker::Model;
 use xcap_io::{Failed, Line, NoMemory, Source};
-
-// The longest record, with its length.
-const MAX_RECORD: usize = 300_004;
-
-// How many bytes of an old journal are taken at most.
-const MAX_JOURNAL: u64 = 4_294_967_296;
 
 /// What a read for more found.
 #[derive(Clone, Copy, Debug, PartialEq, Eq)]
@@ -39,13 +34,14 @@ pub(crate) struct Inflow {
 impl Model for Inflow {
     ghost use Rattle.std.specs.Prelude.{◌≡◌, ◌≤◌, length, slice_range};
     ghost use Rattle.edit_journal.specs.inner.Inflow.{InflowState};
+    ghost use Rattle.edit_journal.specs.declared.limits.TheConstants.{MAX_JOURNAL, MAX_RECORD};
 
     ghost Value = { InflowState };
 
     ghost view = { λ i. record { held = slice_range i.buffer.items i.start i.end; taken = i.taken } };
 
-    ghost invariant = { λ i. (i.start ≤ i.end) × (i.end ≤ 300_004) × (length i.buffer.items ≡ 300_004)
-        × (i.taken ≤ 4_294_967_296) };
+    ghost invariant = { λ i. (i.start ≤ i.end) × (i.end ≤ MAX_RECORD) × (length i.buffer.items ≡ MAX_RECORD)
+        × (i.taken ≤ MAX_JOURNAL) };
 }
 
 // Moves the bytes between two places to the front.
@@ -97,17 +93,17 @@ impl Inflow {
 
     // One read, into all the room that is left, but for bytes that are not taken.
     fn read_more<S: Source>(&mut self, source: &mut S) -> Result<More, Failed>
-        requires room { length self.old.held < 300_004 }
-        requires more { self.old.taken < 4_294_967_296 }
+        requires room { length self.old.held < MAX_RECORD }
+        requires more { self.old.taken < MAX_JOURNAL }
         ensures reads_more { Fills self.old self.new (S.state source.old).inward (S.state source.new).inward result }
-        ensures takes_no_more_than_the_limit { self.new.taken ≤ 4_294_967_296 }
+        ensures takes_no_more_than_the_limit { self.new.taken ≤ MAX_JOURNAL }
         ensures only_reads { OnlyReads (S.state source.old) (S.state source.new) result }
     {
         let held = self.end - self.start;
         move_to_front(&mut self.buffer, self.start, self.end);
         self.start = 0;
         self.end = held;
-        let end = MAX_RECORD.min(held + (MAX_JOURNAL - self.taken).min(300_004) as usize);
+        let end = MAX_RECORD.min(held + (MAX_JOURNAL - self.taken).min(MAX_RECORD as u64) as usize);
         let count = source.read(&mut self.buffer[held..end])?;
         if count == 0 {
             return Ok(More::End);
@@ -119,9 +115,9 @@ impl Inflow {
 
     /// Reads once, where the bytes held have room for more.
     pub(crate) fn fill<S: Source>(&mut self, source: &mut S) -> Result<More, Failed>
-        requires { length self.old.held < 300_004 }
+        requires { length self.old.held < MAX_RECORD }
         ensures reads_more { Fills self.old self.new (S.state source.old).inward (S.state source.new).inward result }
-        ensures takes_no_more_than_the_limit { self.new.taken ≤ 4_294_967_296 }
+        ensures takes_no_more_than_the_limit { self.new.taken ≤ MAX_JOURNAL }
         ensures only_reads { OnlyReads (S.state source.old) (S.state source.new) result }
     {
         if self.taken < MAX_JOURNAL {

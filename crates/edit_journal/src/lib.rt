@@ -8,6 +8,7 @@ mod front;
 mod inflow;
 mod journal;
 mod laws;
+mod limits;
 mod log;
 mod mem_journal;
 mod reading;

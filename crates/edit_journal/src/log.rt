@@ -1,8 +1,10 @@
 // How a record is added to a journal.
-ghost use Rattle.std.specs.Prelude.{◌≡◌, ◌≤◌, ◌<◌, ◌+◌, ◌^◌, List, [], length, false, Err, OnOk, OnErr};
+ghost use Rattle.std.specs.Prelude.{◌≡◌, ◌≤◌, ◌<◌, ◌+◌, ◌-◌, ◌^◌, List, [], length, false, Err, OnOk, OnErr};
 ghost use Rattle.http_wire.specs.declared.request.Request.{Request as TheRequest};
 ghost use Rattle.edit_journal.specs.declared.log.AppendFault.{AppendFault};
+ghost use Rattle.xml_tree.specs.Limits.{greatest_u64};
 ghost use Rattle.edit_journal.specs.Journals.{Goes};
+ghost use Rattle.edit_journal.specs.Limits.{most_record_bytes};
 ghost use Rattle.edit_journal.specs.Records.{IsRecordable, record_of};
 ghost use Rattle.edit_journal.specs.Logs.{Fits, HoldsRecords, AddsRecord, with_request};
 ghost use Rattle.edit_journal.specs.inner.Adding.{Mended, Added, NotAdded};
@@ -131,7 +133,7 @@ impl Log {
     ) -> Result<(), AppendFault>
         requires recordable { IsRecordable request.now }
         requires fits { Fits self.old (J.state journal.old) }
-        requires room { self.old.len ≤ 18_446_744_073_709_251_611 }
+        requires room { self.old.len ≤ greatest_u64 - most_record_bytes }
         ensures adds_the_record { AddsRecord self.old (J.state journal.old) (record_of request.now) result
             self.new (J.state journal.new) }
         ensures keeps_the_records { (requests : List TheRequest) → HoldsRecords self.old requests (J.state journal.old).held

@@ -1,28 +1,30 @@
 // A record, read from bytes that may break off.
 ghost use Rattle.std.specs.Prelude.{◌≡◌, ◌≤◌, ◌+◌, ◌-◌, nat_lt, if◌then◌else◌};
+ghost use Rattle.http_wire.specs.Limits.{most_body_bytes};
 ghost use Rattle.edit_journal.specs.inner.Reading.{Reads, Method, Rest, Content, Record};
 
+use crate::limits::MAX_CONTENT;
 use crate::reading::{Stop, after, block, number, short};
 use crate::record_fields::fields_and_body;
-use http_wire::{Field, Request};
+use http_wire::{Field, MAX_BODY, MAX_FIELDS, Request};
 use std::alloc::Global;
 use xcap_io::Bytes;
 use xml_tree::{List, Text};
 
 // The least number of fields: one, where the rest is longer than a body may be.
 fn least_count(left: usize) -> usize
-    ensures least_number_of_fields { result ≡ (if nat_lt 262_150 left then 1 else 0) }
+    ensures least_number_of_fields { result ≡ (if nat_lt (most_body_bytes + 6) left then 1 else 0) }
 {
-    if left > 262_150 { 1 } else { 0 }
+    if left > MAX_BODY + 6 { 1 } else { 0 }
 }
 
 // The number of fields, the fields and the body, in so many bytes.
 fn rest(alloc: Global, bytes: &[u8], left: usize) -> Result<(List<Field>, Bytes), Stop>
     requires least { 6 ≤ left }
-    requires most { left ≤ 300_000 }
+    requires most { left ≤ MAX_CONTENT }
     ensures reads_the_rest { Reads (λ value. (value.0, value.1)) (Rest left) bytes.now result }
 {
-    let count = short(bytes, least_count(left), ((left - 6) / 9).min(64))?;
+    let count = short(bytes, least_count(left), ((left - 6) / 9).min(MAX_FIELDS))?;
     let mut fields = List::empty(alloc);
     let body = fields_and_body(alloc, after(bytes, 2), count, left - 2, &mut fields)?;
     Ok((fields, body))
@@ -43,7 +45,7 @@ fn method(alloc: Global, bytes: &[u8]) -> Result<Text, Stop>
 // What a record has behind its length.
 fn content(alloc: Global, bytes: &[u8], len: usize) -> Result<Request, Stop>
     requires least { 11 ≤ len }
-    requires most { len ≤ 300_000 }
+    requires most { len ≤ MAX_CONTENT }
     ensures reads_the_content { Reads (λ request. request) (Content len) bytes.now result }
 {
     let method = method(alloc, bytes)?;
@@ -63,6 +65,6 @@ fn content(alloc: Global, bytes: &[u8], len: usize) -> Result<Request, Stop>
 pub(crate) fn read_record(alloc: Global, bytes: &[u8]) -> Result<Request, Stop>
     ensures reads_the_record { Reads (λ request. request) Record bytes.now result }
 {
-    let len = number(bytes, 11, 300_000)?;
+    let len = number(bytes, 11, MAX_CONTENT)?;
     content(alloc, after(bytes, 4), len)
 }

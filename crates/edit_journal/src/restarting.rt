@@ -1,6 +1,7 @@
 // How a server is brought back from an old journal.
 ghost use Rattle.std.specs.Prelude.{◌≡◌, ◌+◌, ◌≤◌, ℕ, List, [], ◌++◌, length, false, OnOk};
 ghost use Rattle.edit_journal.specs.Logs.{Fits};
+ghost use Rattle.edit_journal.specs.Limits.{most_journal_bytes};
 ghost use Rattle.edit_journal.specs.Records.{record_of};
 ghost use Rattle.edit_journal.specs.Texts.{IsTold, HasNoRecord, IsTorn};
 ghost use Rattle.edit_journal.specs.Restarts.{Restarts};
@@ -74,8 +75,8 @@ fn redo_one<J: Journal, R: Replayer>(
     requires told { IsTold request.now }
     requires whole { log.old.is_torn ≡ false }
     requires fits { Fits log.old (J.state journal.old) }
-    requires short { log.old.len ≤ 4_294_967_296 }
-    requires few { count.old ≤ 4_294_967_296 }
+    requires short { log.old.len ≤ most_journal_bytes }
+    requires few { count.old ≤ most_journal_bytes }
     ensures redoes_the_request { (more : List ℕ) → RedoesHeld R.stands R.refuses (J.state journal.old) (J.state journal.new)
         replayer.old replayer.new log.old log.new count.old count.new (record_of request.now ++ more) more result }
     ensures stays_about_the_same { R.about replayer.new ≡ R.about replayer.old }
@@ -101,7 +102,7 @@ fn redo_held<J: Journal, R: Replayer>(
 ) -> Result<(), RestartFault>
     requires whole { log.old.is_torn ≡ false }
     requires fits { Fits log.old (J.state journal.old) }
-    requires short { log.old.len + length inflow.old.held ≤ 4_294_967_296 }
+    requires short { log.old.len + length inflow.old.held ≤ most_journal_bytes }
     requires few { count.old ≤ log.old.len }
     ensures redoes_the_whole { RedoesHeld R.stands R.refuses (J.state journal.old) (J.state journal.new)
         replayer.old replayer.new log.old log.new count.old count.new inflow.old.held inflow.new.held result }

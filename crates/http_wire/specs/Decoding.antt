@@ -6,6 +6,7 @@ use Rattle.httparse.specs.Ascii.{line_feed, carriage_return, semicolon}
 use Rattle.httparse.specs.Grammar.{is_ows, is_value_byte}
 use Rattle.http_wire.specs.declared.chunks.Stage.{Stage}
 use Rattle.http_wire.specs.declared.chunks.Stage.TheVariants.{Size, Blank, Extension, SizeEnd, Data, DataEnd, Trailers, Trailer, TrailerEnd, LastEnd, Done, Bad, TooLong}
+use Rattle.http_wire.specs.Limits.{most_body_bytes, most_digits, most_line_bytes, most_trailer_bytes}
 
 -- where the reading stands, and the bytes of the chunks so far, joined
 pub record Decoding : Type 0 where
@@ -40,7 +41,7 @@ is_settled TooLong = true
 abbrev pub after_digits : ℕ → ℕ → ℕ → Stage
 after_digits value len b =
     if b == carriage_return then SizeEnd value
-    else if nat_le 254 len then Bad
+    else if nat_le (most_line_bytes - 2) len then Bad
     else if is_ows b then Blank value (len + 1)
     else if b == semicolon then Extension value (len + 1)
     else Bad
@@ -49,14 +50,14 @@ after_digits value len b =
 abbrev pub in_digits : ℕ → ℕ → ℕ → Stage
 in_digits digits value b =
     if nat_lt (digit_value b) 16
-    then (if nat_lt digits 16 then Size (digits + 1) (min (value * 16 + digit_value b) 262_145) else Bad)
+    then (if nat_lt digits most_digits then Size (digits + 1) (min (value * 16 + digit_value b) (most_body_bytes + 1)) else Bad)
     else (if digits == 0 then Bad else after_digits value digits b)
 
 -- a byte of an extension
 abbrev pub in_extension : ℕ → ℕ → ℕ → Stage
 in_extension value len b =
     if b == carriage_return then SizeEnd value
-    else if nat_le 254 len then Bad
+    else if nat_le (most_line_bytes - 2) len then Bad
     else if is_value_byte b then Extension value (len + 1)
     else Bad
 
@@ -65,7 +66,7 @@ abbrev pub after_line : ℕ → ℕ → ℕ → Stage
 after_line value decoded b =
     if not (b == line_feed) then Bad
     else if value == 0 then Trailers 0
-    else if nat_le (decoded + value) 262_144 then Data value
+    else if nat_le (decoded + value) most_body_bytes then Data value
     else TooLong
 
 -- a byte behind the bytes of a chunk
@@ -77,7 +78,7 @@ abbrev pub in_trailers : ℕ → ℕ → Stage → Stage
 in_trailers used b end =
     if b == carriage_return then end
     else if b == line_feed then Bad
-    else if nat_le (used + 3) 16_384 then Trailer (used + 1)
+    else if nat_le (used + 3) most_trailer_bytes then Trailer (used + 1)
     else Bad
 
 -- the line feed that is due
@@ -127,28 +128,28 @@ ReadsOn d (b ∷ bytes) new = (is_settled d.stage ≡ false) × ReadsOn (next_de
 
 -- the numbers of a reading are within the limits, and there is room for the chunk's bytes that are still to come
 abbrev pub Fits : Stage → ℕ → Type 0
-Fits (Size digits value) decoded = (digits ≤ 16) × (value ≤ 262_145) × (decoded ≤ 262_144)
-Fits (Blank value len) decoded = (value ≤ 262_145) × (len ≤ 254) × (decoded ≤ 262_144)
-Fits (Extension value len) decoded = (value ≤ 262_145) × (len ≤ 254) × (decoded ≤ 262_144)
-Fits (SizeEnd value) decoded = (value ≤ 262_145) × (decoded ≤ 262_144)
-Fits (Data left) decoded = decoded + left ≤ 262_144
-Fits DataEnd decoded = decoded ≤ 262_144
-Fits (Trailers used) decoded = (used ≤ 16_384) × (decoded ≤ 262_144)
-Fits (Trailer used) decoded = (used + 2 ≤ 16_384) × (decoded ≤ 262_144)
-Fits (TrailerEnd used) decoded = (used + 1 ≤ 16_384) × (decoded ≤ 262_144)
-Fits LastEnd decoded = decoded ≤ 262_144
-Fits Done decoded = decoded ≤ 262_144
-Fits Bad decoded = decoded ≤ 262_144
-Fits TooLong decoded = decoded ≤ 262_144
+Fits (Size digits value) decoded = (digits ≤ most_digits) × (value ≤ most_body_bytes + 1) × (decoded ≤ most_body_bytes)
+Fits (Blank value len) decoded = (value ≤ most_body_bytes + 1) × (len ≤ most_line_bytes - 2) × (decoded ≤ most_body_bytes)
+Fits (Extension value len) decoded = (value ≤ most_body_bytes + 1) × (len ≤ most_line_bytes - 2) × (decoded ≤ most_body_bytes)
+Fits (SizeEnd value) decoded = (value ≤ most_body_bytes + 1) × (decoded ≤ most_body_bytes)
+Fits (Data left) decoded = decoded + left ≤ most_body_bytes
+Fits DataEnd decoded = decoded ≤ most_body_bytes
+Fits (Trailers used) decoded = (used ≤ most_trailer_bytes) × (decoded ≤ most_body_bytes)
+Fits (Trailer used) decoded = (used + 2 ≤ most_trailer_bytes) × (decoded ≤ most_body_bytes)
+Fits (TrailerEnd used) decoded = (used + 1 ≤ most_trailer_bytes) × (decoded ≤ most_body_bytes)
+Fits LastEnd decoded = decoded ≤ most_body_bytes
+Fits Done decoded = decoded ≤ most_body_bytes
+Fits Bad decoded = decoded ≤ most_body_bytes
+Fits TooLong decoded = decoded ≤ most_body_bytes
 
 -- how many more bytes can be read before the reading is settled, or more than that
 abbrev pub bytes_left : Stage → ℕ → ℕ
-bytes_left (Size digits value) decoded = (262_145 - decoded) * 1000 + 20_000 - digits
-bytes_left (Blank value len) decoded = (262_145 - decoded) * 1000 + 20_000 - len
-bytes_left (Extension value len) decoded = (262_145 - decoded) * 1000 + 20_000 - len
-bytes_left (SizeEnd value) decoded = (262_145 - decoded) * 1000 + 19_700
-bytes_left (Data left) decoded = (262_145 - (decoded + left)) * 1000 + 20_002 + left
-bytes_left DataEnd decoded = (262_145 - decoded) * 1000 + 20_001
+bytes_left (Size digits value) decoded = (most_body_bytes + 1 - decoded) * 1000 + 20_000 - digits
+bytes_left (Blank value len) decoded = (most_body_bytes + 1 - decoded) * 1000 + 20_000 - len
+bytes_left (Extension value len) decoded = (most_body_bytes + 1 - decoded) * 1000 + 20_000 - len
+bytes_left (SizeEnd value) decoded = (most_body_bytes + 1 - decoded) * 1000 + 19_700
+bytes_left (Data left) decoded = (most_body_bytes + 1 - (decoded + left)) * 1000 + 20_002 + left
+bytes_left DataEnd decoded = (most_body_bytes + 1 - decoded) * 1000 + 20_001
 bytes_left (Trailers used) decoded = 17_000 - used
 bytes_left (Trailer used) decoded = 17_000 - used
 bytes_left (TrailerEnd used) decoded = 17_000 - used

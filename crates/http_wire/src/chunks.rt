@@ -2,19 +2,11 @@
 ghost use Rattle.std.specs.Prelude.{◌≡◌, ◌<◌, ◌≤◌, ◌+◌, length, take, false, IfOk};
 ghost use Rattle.http_wire.specs.Decoding.{Decoding, start, is_settled, is_data, after_digits, in_digits, in_extension, after_line, in_trailers, if_feed, next_stage, next_decoding, ReadsOn, Fits};
 
-use crate::wire::MAX_BODY;
+use crate::limits::{MAX_BODY, MAX_DIGITS, MAX_LINE, MAX_TRAILERS};
 use httparse::{is_header_value_token, is_space_or_tab, parse_hex_digit};
 use std::alloc::Global;
 use std::marker::Model;
 use xcap_io::NoMemory;
-
-// How many digits a chunk line has at most, and how many bytes in front of its line end.
-const MAX_DIGITS: usize = 16;
-
-const MAX_LINE: usize = 254;
-
-// How many bytes all trailer lines have at most.
-const MAX_TRAILERS: usize = 16_384;
 
 // Where the reading of a chunked body stands.
 #[derive(Clone, Copy)]
@@ -47,7 +39,7 @@ pub enum Stage {
 }
 
 fn after_digits(value: usize, len: usize, byte: u8) -> Stage
-    requires { len ≤ 254 }
+    requires { len ≤ MAX_LINE }
     ensures stage_behind_the_digits { result ≡ after_digits value len byte }
 {
     if byte == b'\r' {
@@ -70,8 +62,8 @@ fn after_digits(value: usize, len: usize, byte: u8) -> Stage
 }
 
 fn in_digits(digits: usize, value: usize, byte: u8) -> Stage
-    requires few { digits ≤ 16 }
-    requires capped { value ≤ 262_145 }
+    requires few { digits ≤ MAX_DIGITS }
+    requires capped { value ≤ MAX_BODY + 1 }
     ensures stage_within_the_digits { result ≡ in_digits digits value byte }
 {
     match parse_hex_digit(byte) {
@@ -86,7 +78,7 @@ fn in_digits(digits: usize, value: usize, byte: u8) -> Stage
 }
 
 fn in_extension(value: usize, len: usize, byte: u8) -> Stage
-    requires { len ≤ 254 }
+    requires { len ≤ MAX_LINE }
     ensures stage_within_the_extension { result ≡ in_extension value len byte }
 {
     if byte == b'\r' {
@@ -102,8 +94,8 @@ fn in_extension(value: usize, len: usize, byte: u8) -> Stage
 }
 
 fn after_line(value: usize, decoded: usize, byte: u8) -> Stage
-    requires capped { value ≤ 262_145 }
-    requires room { decoded ≤ 262_144 }
+    requires capped { value ≤ MAX_BODY + 1 }
+    requires room { decoded ≤ MAX_BODY }
     ensures stage_behind_the_line { result ≡ after_line value decoded byte }
 {
     if byte != b'\n' {
@@ -118,7 +110,7 @@ fn after_line(value: usize, decoded: usize, byte: u8) -> Stage
 }
 
 fn in_trailers(used: usize, byte: u8, end: Stage) -> Stage
-    requires { used ≤ 16_384 }
+    requires { used ≤ MAX_TRAILERS }
     ensures stage_within_the_trailers { result ≡ in_trailers used byte end }
 {
     if byte == b'\r' {
@@ -175,12 +167,13 @@ pub struct Decoder {
 impl Model for Decoder {
     ghost use Rattle.std.specs.Prelude.{◌≡◌, ◌≤◌, length, take};
     ghost use Rattle.http_wire.specs.Decoding.{Decoding, Fits};
+    ghost use Rattle.http_wire.specs.declared.limits.TheConstants.{MAX_BODY};
 
     ghost Value = { Decoding };
 
     ghost view = { λ d. record { stage = d.stage; body = take d.decoded d.buffer.items } };
 
-    ghost invariant = { λ d. (length d.buffer.items ≡ 262_144) × (d.decoded ≤ 262_144) × Fits d.stage d.decoded };
+    ghost invariant = { λ d. (length d.buffer.items ≡ MAX_BODY) × (d.decoded ≤ MAX_BODY) × Fits d.stage d.decoded };
 }
 
 impl Decoder {

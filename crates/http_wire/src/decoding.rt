@@ -4,6 +4,7 @@ ghost use Rattle.xcap_io.specs.Causes.{OnlyReads};
 ghost use Rattle.http_wire.specs.Inflow.{Decodes};
 
 use crate::chunks::{Decoder, Stage};
+use crate::limits::MAX_HEAD;
 use crate::wire::{Inflow, ReadFault};
 use xcap_io::{Line, Source};
 
@@ -26,7 +27,7 @@ pub fn decode<S: Source>(
     head: usize,
 ) -> Result<Decoded, ReadFault>
     requires inside { head ≤ length inflow.old }
-    requires short { head ≤ 16_384 }
+    requires short { head ≤ MAX_HEAD }
     ensures decodes_the_body { Decodes head inflow.old (S.state source.old).inward result decoder.new.body inflow.new (S.state source.new).inward }
     ensures only_reads { OnlyReads (S.state source.old) (S.state source.new) result }
 {

@@ -7,12 +7,9 @@ ghost use Rattle.http_wire.specs.Fields.{same_word, values_of, is_number, has_cl
 ghost use Rattle.http_wire.specs.Framing.{lacks_host, length_by, coding_by, framing};
 ghost use Rattle.http_wire.specs.Inflow.{Found, IsWithinLimit};
 
-use crate::wire::MAX_BODY;
+use crate::limits::MAX_BODY;
 use httparse::is_space_or_tab;
 use httparse::spans::HeaderSpan;
-
-/// How many requests a connection may have.
-pub const MAX_REQUESTS: usize = 1_000;
 
 /// What the fields of a head say of the body behind it.
 #[derive(Clone, Copy, Debug, PartialEq, Eq)]

@@ -4,7 +4,8 @@ ghost use Rattle.httparse.specs.Spans.{IsHeaderWithin, IsRequestWithin, header_b
 ghost use Rattle.http_wire.specs.Fields.{asks_to_close};
 ghost use Rattle.http_wire.specs.Items.{field_of};
 
-use crate::framing::{MAX_REQUESTS, asks_to_close};
+use crate::framing::asks_to_close;
+use crate::limits::MAX_REQUESTS;
 use httparse::spans::{HeaderSpan, RequestSpans};
 use std::alloc::Global;
 use xcap_io::{Bytes, NoMemory};

@@ -7,7 +7,8 @@ ghost use Rattle.http_wire.specs.Asking.{Asks, StandsAfter};
 use crate::chunks::Decoder;
 use crate::decoding::{Decoded, decode};
 use crate::framing::{Framing, read_framing};
-use crate::heads::{MAX_FIELDS, next_head};
+use crate::heads::next_head;
+use crate::limits::{MAX_BODY, MAX_FIELDS};
 use crate::request::{Asked, make_request};
 use crate::wire::{Inflow, ReadFault, Wire};
 use httparse::spans::{EMPTY_HEADER_SPAN, HeaderSpan, RequestSpans};
@@ -25,7 +26,7 @@ fn read_plain<S: Source>(
     before: usize,
 ) -> Result<Asked, ReadFault>
     requires open_at { IsOpenAt inflow.old headers.now spans.now (Framing.Length len) }
-    requires len { len ≤ 262_144 }
+    requires len { len ≤ MAX_BODY }
     ensures asks_for_the_first_item { Asks before inflow.old (S.state source.old).inward result inflow.new (S.state source.new).inward }
     ensures only_reads { OnlyReads (S.state source.old) (S.state source.new) result }
 {

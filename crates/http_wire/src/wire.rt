@@ -5,18 +5,10 @@ ghost use Rattle.http_wire.specs.Asking.{WireState, fresh_wire};
 ghost use Rattle.http_wire.specs.Inflow.{Gains, GainedOrEnded, HoldsOrEnded};
 
 use crate::chunks::Decoder;
+use crate::limits::MAX_HELD;
 use std::alloc::Global;
 use std::marker::Model;
 use xcap_io::{Failed, Line, NoMemory, Source};
-
-/// The longest head that is read.
-pub const MAX_HEAD: usize = 16_384;
-
-/// The longest body that is read.
-pub const MAX_BODY: usize = 262_144;
-
-/// The most bytes that are held: a head and a body.
-pub const MAX_HELD: usize = 278_528;
 
 /// A read of the source failed, and its count of such faults rose.
 #[derive(Clone, Copy, Debug, PartialEq, Eq)]
@@ -32,12 +24,13 @@ pub struct Inflow {
 
 impl Model for Inflow {
     ghost use Rattle.std.specs.Prelude.{◌≡◌, ◌≤◌, ℕ, List, length, slice_range};
+    ghost use Rattle.http_wire.specs.declared.limits.TheConstants.{MAX_HELD};
 
     ghost Value = { List ℕ };
 
     ghost view = { λ i. slice_range i.buffer.items i.start i.end };
 
-    ghost invariant = { λ i. (i.start ≤ i.end) × (i.end ≤ 278_528) × (length i.buffer.items ≡ 278_528) };
+    ghost invariant = { λ i. (i.start ≤ i.end) × (i.end ≤ MAX_HELD) × (length i.buffer.items ≡ MAX_HELD) };
 }
 
 // Moves the bytes between two places to the front.
@@ -64,14 +57,14 @@ impl Inflow {
 
     pub fn bytes(&self) -> &[u8]
         ensures lends_what_is_held { result.now ≡ self.now }
-        ensures within_the_limit { length self.now ≤ 278_528 }
+        ensures within_the_limit { length self.now ≤ MAX_HELD }
     {
         &self.buffer[self.start..self.end]
     }
 
     pub fn len(&self) -> usize
         ensures counts_them { result ≡ length self.now }
-        ensures within_the_limit { length self.now ≤ 278_528 }
+        ensures within_the_limit { length self.now ≤ MAX_HELD }
     {
         self.end - self.start
     }
@@ -101,7 +94,7 @@ impl Inflow {
     // One read, into all the room that is left. False at the end of the source. A read comes only where no item lies whole
     // in the bytes, and the first one for an item moves them: so no byte is moved twice.
     pub fn fill<S: Source>(&mut self, source: &mut S) -> Result<bool, ReadFault>
-        requires { length self.old < 278_528 }
+        requires { length self.old < MAX_HELD }
         ensures gains_what_the_source_gave { Gains self.old self.new (S.state source.old).inward (S.state source.new).inward }
         ensures gains_more_or_finds_the_end { IfOk result (λ more. GainedOrEnded more self.old self.new (S.state source.new).inward) }
         ensures failure_changes_nothing { OnErr result (self.new ≡ self.old) }
@@ -122,7 +115,7 @@ impl Inflow {
 
     // Reads until so many bytes are held. False where the source ends before.
     pub fn hold<S: Source>(&mut self, source: &mut S, count: usize) -> Result<bool, ReadFault>
-        requires { count ≤ 278_528 }
+        requires { count ≤ MAX_HELD }
         ensures gains_what_the_source_gave { Gains self.old self.new (S.state source.old).inward (S.state source.new).inward }
         ensures holds_enough_or_finds_the_end { IfOk result (λ enough. HoldsOrEnded enough count self.new (S.state source.new).inward) }
         ensures failure_before_enough_came { OnErr result (length self.new < count) }
@@ -150,12 +143,13 @@ pub struct Wire {
 impl Model for Wire {
     ghost use Rattle.std.specs.Prelude.{◌≡◌, ◌<◌, false};
     ghost use Rattle.http_wire.specs.Asking.{WireState};
+    ghost use Rattle.http_wire.specs.declared.limits.TheConstants.{MAX_REQUESTS};
 
     ghost Value = { WireState };
 
     ghost view = { λ w. record { held = w.inflow; requests = w.requests; spent = w.spent } };
 
-    ghost invariant = { λ w. w.spent ≡ false → w.requests < 1000 };
+    ghost invariant = { λ w. w.spent ≡ false → w.requests < MAX_REQUESTS };
 }
 
 impl Wire {
@@ -186,7 +180,7 @@ impl Wire {
     /// How many bytes were given and are not used yet: 278,528 at most. Takes no memory.
     pub fn held(&self) -> usize
         ensures counts_them { result ≡ length self.now.held }
-        ensures within_the_limit { result ≤ 278_528 }
+        ensures within_the_limit { result ≤ MAX_HELD }
     {
         self.inflow.len()
     }

@@ -6,7 +6,8 @@ use Rattle.xcap_io.specs.Causes.{LineState}
 use Rattle.edit_journal.specs.Journals.{AddsSome, IsFirstOf, JournalState}
 use Rattle.edit_journal.specs.Logs.{LogState}
 use Rattle.edit_journal.specs.Records.{record_of}
-use Rattle.edit_journal.specs.Restarts.{Restarts, most_journal_bytes}
+use Rattle.edit_journal.specs.Limits.{most_journal_bytes}
+use Rattle.edit_journal.specs.Restarts.{Restarts}
 use Rattle.edit_journal.specs.Texts.{text, IsTold, Whole}
 use Rattle.edit_journal.specs.declared.restarting.RestartFault.{RestartFault}
 use Rattle.edit_journal.specs.declared.restarting.RestartFault.TheVariants.{ReadFailed, AppendFailed, Damaged, Refused, TooLong, NoMemory}

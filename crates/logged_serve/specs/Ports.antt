@@ -3,7 +3,9 @@ use Rattle.std.specs.Prelude.{ℕ, ◌+◌, ◌*◌, ◌≤◌, List, Option}
 use Rattle.reply_text.specs.Heads.{Sent}
 use Rattle.http_wire.specs.declared.request.Request.{Request}
 use Rattle.xcap_io.specs.Causes.{LineState, RoseBy}
+use Rattle.xml_tree.specs.Limits.{greatest_u64}
 use Rattle.edit_journal.specs.Journals.{JournalState}
+use Rattle.edit_journal.specs.Limits.{most_record_bytes}
 use Rattle.edit_journal.specs.Logs.{LogState}
 use Rattle.http_serve.specs.declared.port.Served.{Served}
 use Rattle.http_serve.specs.Ports.{ServesPort}
@@ -13,7 +15,7 @@ use Rattle.logged_serve.specs.Books.{HoldsLog, LoggedStep}
 
 -- the log has room for so many records of any length, its length being one of 64 bits
 abbrev pub HasRoom : LogState → ℕ → Type 0
-HasRoom log records = log.len + records * 300_004 ≤ 18_446_744_073_709_551_615
+HasRoom log records = log.len + records * most_record_bytes ≤ greatest_u64
 
 -- So many connections at most were served, from a machine on that had accepted these requests. `Keeps` says what watchers are after
 -- such changes. The journal then holds the records of all requests that are accepted, and there were no more requests answered the

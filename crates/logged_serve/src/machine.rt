@@ -1,8 +1,10 @@
 //! What answers requests and enters those that it accepts in a log.
-ghost use Rattle.std.specs.Prelude.{◌≡◌, ◌≤◌, Option, IfOk, OnErr};
+ghost use Rattle.std.specs.Prelude.{◌≡◌, ◌≤◌, ◌-◌, Option, IfOk, OnErr};
 ghost use Rattle.reply_text.specs.Heads.{Sent};
 ghost use Rattle.http_wire.specs.declared.request.Request.{Request as TheRequest};
+ghost use Rattle.xml_tree.specs.Limits.{greatest_u64};
 ghost use Rattle.edit_journal.specs.Journals.{Goes};
+ghost use Rattle.edit_journal.specs.Limits.{most_record_bytes};
 ghost use Rattle.edit_journal.specs.Logs.{Fits};
 ghost use Rattle.logged_serve.specs.Logging.{Answers, IsLoggable};
 
@@ -32,7 +34,7 @@ pub trait LoggedMachine {
     ) -> Result<Answered<Self::Edit>, AllocError>
         requires loggable { IsLoggable request.now }
         requires fits { Fits log.old (J.state journal.old) }
-        requires room { log.old.len ≤ 18_446_744_073_709_251_611 }
+        requires room { log.old.len ≤ greatest_u64 - most_record_bytes }
         ensures answers_as_the_machine { IfOk result (λ answered. Answers steps self.old log.old (J.state journal.old)
             request.now answered.reply answered.edit self.new log.new (J.state journal.new)) }
         ensures closes_as_asked { IfOk result (λ answered. answered.reply.closes ≡ request.now.closes) }

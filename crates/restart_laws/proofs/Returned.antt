@@ -4,7 +4,8 @@ use Rattle.http_wire.specs.declared.request.Request.{Request}
 use Rattle.xcap_io.specs.Causes.{LineState}
 use Rattle.edit_journal.specs.Journals.{IsFirstOf, JournalState}
 use Rattle.edit_journal.specs.Logs.{LogState}
-use Rattle.edit_journal.specs.Restarts.{Restarts, most_journal_bytes}
+use Rattle.edit_journal.specs.Limits.{most_journal_bytes}
+use Rattle.edit_journal.specs.Restarts.{Restarts}
 use Rattle.edit_journal.specs.Texts.{IsTold, text}
 use Rattle.edit_journal.specs.declared.restarting.RestartFault.{RestartFault}
 use Rattle.edit_journal.specs.declared.restarting.RestartFault.TheVariants.{ReadFailed, AppendFailed, Damaged, Refused, TooLong, NoMemory}

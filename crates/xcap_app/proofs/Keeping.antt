@@ -10,7 +10,8 @@ use Rattle.xcap_io.specs.Connections.{listening_at}
 use Rattle.edit_journal.specs.Journals.{IsFirstOf, JournalState}
 use Rattle.edit_journal.specs.Logs.{Fits, LogState}
 use Rattle.edit_journal.specs.Records.{IsRecordable, record_of}
-use Rattle.edit_journal.specs.Restarts.{Restarts, most_journal_bytes}
+use Rattle.edit_journal.specs.Limits.{most_journal_bytes}
+use Rattle.edit_journal.specs.Restarts.{Restarts}
 use Rattle.edit_journal.specs.Texts.{IsTold, text}
 use Rattle.edit_journal.specs.declared.restarting.RestartFault.{RestartFault}
 use Rattle.edit_journal.specs.declared.restarting.RestartFault.TheVariants as faults

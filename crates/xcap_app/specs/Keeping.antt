@@ -8,7 +8,7 @@ use Rattle.xcap_io.specs.Connections.{listening_at, with_port_faults}
 use Rattle.xcap_io.specs.Passing.{Gave, IsEnded, Took}
 use Rattle.edit_journal.specs.Journals.{AddsSome, IsFirstOf}
 use Rattle.edit_journal.specs.Records.{IsRecordable, record_of}
-use Rattle.edit_journal.specs.Restarts.{most_journal_bytes}
+use Rattle.edit_journal.specs.Limits.{most_journal_bytes}
 use Rattle.edit_journal.specs.Texts.{BeginsWith, HasNoRecord, IsDamaged, IsTold, IsTorn, Whole, text}
 use Rattle.edit_journal.specs.declared.restarting.RestartFault.{RestartFault}
 use Rattle.edit_journal.specs.declared.restarting.RestartFault.TheVariants as faults

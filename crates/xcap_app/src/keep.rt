@@ -3,6 +3,7 @@
 ghost use Rattle.std.specs.Prelude.{◌≡◌, ◌<◌, ◌≤◌, List, [], length, false, All};
 ghost use Rattle.http_wire.specs.declared.request.Request.{Request as TheRequest};
 ghost use Rattle.edit_journal.specs.Journals.{Goes};
+ghost use Rattle.edit_journal.specs.Limits.{most_journal_bytes};
 ghost use Rattle.edit_journal.specs.Texts.{IsTold, text};
 ghost use Rattle.store_core.specs.Held.{Stands};
 ghost use Rattle.store_core.specs.Keeping.{Kept};
@@ -50,7 +51,7 @@ fn serve_logged<'a, O: Sink, P: Port, W: Watchers<Edit>>(
 ) -> Exit
     requires whole { log.old.is_torn ≡ false }
     requires fits { length (⟦<StreamJournal<'a, O> as Journal>⟧.state journal.old).held ≡ log.old.len }
-    requires short { log.old.len ≤ 4_294_967_296 }
+    requires short { log.old.len ≤ most_journal_bytes }
     requires no_fault { (⟦<StreamJournal<'a, O> as Journal>⟧.state journal.old).faults ≡ 0 }
     ensures keeps_on { (requests : List TheRequest) (m : State) → Kept m → Stands server.old.content m
         → Redoing server.old.root (first_state 1) requests m → All IsTold requests

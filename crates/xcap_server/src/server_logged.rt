@@ -1,7 +1,9 @@
 //! The server, whose accepted requests are entered in a log before their changes are made.
-ghost use Rattle.std.specs.Prelude.{◌≡◌, ◌≤◌, ◌*◌, List, IfOk, OnErr};
+ghost use Rattle.std.specs.Prelude.{◌≡◌, ◌≤◌, ◌-◌, ◌*◌, List, IfOk, OnErr};
 ghost use Rattle.http_wire.specs.declared.request.Request.{Request as TheRequest};
+ghost use Rattle.xml_tree.specs.Limits.{greatest_u64};
 ghost use Rattle.edit_journal.specs.Journals.{Goes};
+ghost use Rattle.edit_journal.specs.Limits.{most_record_bytes};
 ghost use Rattle.edit_journal.specs.Logs.{Fits};
 ghost use Rattle.logged_serve.specs.Books.{HoldsLog};
 ghost use Rattle.logged_serve.specs.Logging.{IsLoggable};
@@ -36,7 +38,7 @@ pub fn answer_logged<J: Journal>(
 ) -> Result<Answered<Edit>, AllocError>
     requires loggable { IsLoggable request.now }
     requires fits { Fits log.old (J.state journal.old) }
-    requires room { log.old.len ≤ 18_446_744_073_709_251_611 }
+    requires room { log.old.len ≤ greatest_u64 - most_record_bytes }
     ensures answers_as_the_machine { IfOk result (λ answered. (m : State) → Kept m → Stands server.old.content m
         → AnswersLogged server.old server.new m log.old log.new (J.state journal.old) (J.state journal.new) request.now answered) }
     ensures keeps_the_records { (requests : List TheRequest) → Logs server.old log.old (J.state journal.old) requests

@@ -7,7 +7,7 @@ use Rattle.edit_journal.specs.declared.inflow.More.{More}
 use Rattle.edit_journal.specs.declared.inflow.More.TheVariants.{Some as Came, End, Beyond}
 use Rattle.edit_journal.specs.declared.restarting.RestartFault.{RestartFault}
 use Rattle.edit_journal.specs.declared.restarting.RestartFault.TheVariants.{Damaged, NoMemory}
-use Rattle.edit_journal.specs.Restarts.{most_journal_bytes}
+use Rattle.edit_journal.specs.Limits.{most_journal_bytes}
 use Rattle.edit_journal.specs.Texts.{BeginsWith, HasNoRecord, IsTorn, IsDamaged}
 
 -- the bytes, and how many were taken so far, with those that were used

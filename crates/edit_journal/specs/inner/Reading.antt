@@ -4,6 +4,7 @@ use Rattle.std.specs.Int.{w16, w32, to_be_bytes}
 use Rattle.httparse.specs.Grammar.{IsToken}
 use Rattle.http_wire.specs.declared.request.Field.{Field}
 use Rattle.http_wire.specs.declared.request.Request.{Request}
+use Rattle.http_wire.specs.Limits.{most_body_bytes, most_field_lines}
 use Rattle.edit_journal.specs.Records.{method_number, block, field_text, fields_text, content, record_of}
 use Rattle.edit_journal.specs.Texts.{IsTold}
 use Rattle.edit_journal.specs.declared.reading.Stop.{Stop}
@@ -36,7 +37,7 @@ Name least most bytes value = Block least most bytes value × IsToken value
 
 -- so many bytes have room for so many fields and a body, and for no fields no more than a body
 abbrev pub HasRoom : ℕ → ℕ → Type 0
-HasRoom count left = (9 * count + 4 ≤ left) × (count ≡ 0 → left ≤ 262_148)
+HasRoom count left = (9 * count + 4 ≤ left) × (count ≡ 0 → left ≤ most_body_bytes + 4)
 
 -- the value of a field, behind which so many fields and a body fill what is left of so many bytes
 abbrev pub Value : ℕ → ℕ → List ℕ → List ℕ → Type 0
@@ -51,15 +52,15 @@ pub record FieldsAndBody (count left : ℕ) (bytes : List ℕ) (value : List Fie
   pub is : bytes ≡ fields_text value.0 ++ block value.1
   pub fields : length value.0 ≡ count
   pub names : All (λ (field : Field). IsToken field.name) value.0
-  pub body : length value.1 ≤ 262_144
+  pub body : length value.1 ≤ most_body_bytes
   pub size : length bytes ≡ left
 
 -- the number of fields, the fields and the body, in so many bytes
 pub record Rest (left : ℕ) (bytes : List ℕ) (value : List Field × List ℕ) : Type 0 where
   pub is : bytes ≡ to_be_bytes w16 (length value.0) ++ (fields_text value.0 ++ block value.1)
-  pub few : length value.0 ≤ 64
+  pub few : length value.0 ≤ most_field_lines
   pub names : All (λ (field : Field). IsToken field.name) value.0
-  pub body : length value.1 ≤ 262_144
+  pub body : length value.1 ≤ most_body_bytes
   pub size : length bytes ≡ left
 
 -- a method that is recorded, in one byte
