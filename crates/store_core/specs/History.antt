@@ -9,6 +9,7 @@ use Rattle.edit_ops.specs.Changes.{edited}
 use Rattle.notes.specs.Notes.{AreNotesOf, Note, tag_after, tree_after}
 use Rattle.store_core.specs.Changing.{document_in, document_name}
 use Rattle.store_core.specs.Keeping.{IsSoundFor}
+use Rattle.store_core.specs.Limits.{most_notes}
 use Rattle.store_core.specs.State.{Document, State, Version, versions}
 
 -- the tree, and each one that a note leaves, may be a document of the usage
@@ -25,7 +26,7 @@ pub record Leads (usage : Option Usage) (next : ℕ) (from : Version) (ns : List
   pub first : from.tag < next
   pub tags : AllByRecursion (λ n. n.next < next) ns
 
--- the document of this name has a version with this tag, from which the notes lead to the one that it has now; they are at most 64
+-- the document of this name has a version with this tag, from which the notes lead to the one that it has now; they are at most `most_notes`
 pub record IsSince (state : State) (id : DocId) (tag : ℕ) (ns : List Note) : Type 0 where
   pub document : Document
   pub there : document_in document_name state.documents id ≡ Some document
@@ -34,4 +35,4 @@ pub record IsSince (state : State) (id : DocId) (tag : ℕ) (ns : List Note) : T
   pub is_version : slice_get (versions document) number ≡ Some from
   pub same_tag : from.tag ≡ tag
   pub leads : Leads (usage_of document.id.auid) state.next from ns document.now
-  pub few : length ns ≤ 64
+  pub few : length ns ≤ most_notes

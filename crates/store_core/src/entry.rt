@@ -9,17 +9,12 @@ ghost use Rattle.usage_docs.specs.Services.{document_len};
 ghost use Rattle.store_core.specs.State.{is_small, retained};
 ghost use Rattle.store_core.specs.inner.Storing.{IsRenewed};
 
+use crate::limits::{MOST_NOTES, MOST_WEIGHT};
 use circular_buffer::HeapCircularBuffer;
 use edit_ops::{Staged, make_staged};
 use notes::{EditNote, weight};
 use std::alloc::{AllocError, Global};
 use xml_tree::Element;
-
-// How many notes are retained at most.
-const MOST_NOTES: usize = 64;
-
-// How much they weigh together at most.
-const MOST_WEIGHT: usize = 65_536;
 
 pub(crate) type NoteRing = HeapCircularBuffer<EditNote>;
 
@@ -57,7 +52,7 @@ impl Entry {
 
 /// Makes the edit of a note in a document, which then has so many bytes and the edit's number as its tag, and keeps the note.
 pub(crate) fn renew(entry: &mut Entry, number: u64, staged: Staged, note: EditNote, len: usize)
-    requires ring { entry.old.notes.capacity ≡ 64 }
+    requires ring { entry.old.notes.capacity ≡ MOST_NOTES }
     requires fits { Fits entry.old.tree note.change }
     requires staged { IsStaged entry.old.tree note.change staged }
     ensures renewed_by_the_edit { IsRenewed entry.old number note len entry.new }
@@ -81,7 +76,7 @@ fn weight_of(notes: &[EditNote]) -> usize
 
 // Whether all notes of a ring weigh little enough to be retained.
 fn is_light(notes: &NoteRing) -> bool
-    ensures tells_whether_they_are_light { result ≡ nat_le (sum_by weight (map note_in notes.now.items)) 65536 }
+    ensures tells_whether_they_are_light { result ≡ nat_le (sum_by weight (map note_in notes.now.items)) MOST_WEIGHT }
 {
     let (older, newer) = notes.as_slices();
     weight_of(older).saturating_add(weight_of(newer)) <= MOST_WEIGHT
@@ -89,7 +84,7 @@ fn is_light(notes: &NoteRing) -> bool
 
 // Whether the oldest note of a ring has to go.
 fn is_heavy(notes: &NoteRing) -> bool
-    requires { notes.now.capacity ≡ 64 }
+    requires { notes.now.capacity ≡ MOST_NOTES }
     ensures heavy_is_too_much { result ≡ true → (1 < length notes.now.items) × (is_small weight (map note_in notes.now.items) ≡ false) }
     ensures light_is_retained_whole { result ≡ false → retained (map note_in notes.now.items) ≡ map note_in notes.now.items }
 {
@@ -104,8 +99,8 @@ fn give_up(_note: Option<EditNote>) {}
 
 // Gives up the oldest notes, until those that are left may be retained.
 fn trim(notes: &mut NoteRing)
-    requires { notes.old.capacity ≡ 64 }
-    ensures room_stays_at_the_limit { notes.new.capacity ≡ 64 }
+    requires { notes.old.capacity ≡ MOST_NOTES }
+    ensures room_stays_at_the_limit { notes.new.capacity ≡ MOST_NOTES }
     ensures keeps_what_is_retained { map note_in notes.new.items ≡ retained (map note_in notes.old.items) }
 {
     'oldest: while is_heavy(notes) {
@@ -115,8 +110,8 @@ fn trim(notes: &mut NoteRing)
 
 // Keeps a note, and gives up the oldest ones that are not retained behind it.
 fn keep(notes: &mut NoteRing, note: EditNote)
-    requires { notes.old.capacity ≡ 64 }
-    ensures room_stays_at_the_limit { notes.new.capacity ≡ 64 }
+    requires { notes.old.capacity ≡ MOST_NOTES }
+    ensures room_stays_at_the_limit { notes.new.capacity ≡ MOST_NOTES }
     ensures keeps_what_is_retained { map note_in notes.new.items ≡ retained (map note_in notes.old.items ++ note_in note ∷ []) }
 {
     let _count = notes.len();

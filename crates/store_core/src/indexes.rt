@@ -2,6 +2,7 @@
 ghost use Rattle.std.specs.Prelude.{◌≡◌, ◌≤◌, [], map, All, IfOk, None, if◌then◌else◌};
 ghost use Rattle.std.specs.Str.{bytes_eq};
 ghost use Rattle.std.specs.Option.{option_map};
+ghost use Rattle.xml_tree.specs.Limits.{most_levels};
 ghost use Rattle.xml_tree.specs.Tree.{Tree, height};
 ghost use Rattle.store_core.specs.Indexes.{AreIndexTrees, index, indexed_by, indexed_in};
 ghost use Rattle.store_core.specs.inner.Listed.{entered, listed, pairs_in};
@@ -69,7 +70,7 @@ impl Store {
     /// `NoMemory` for want of memory.
     pub fn user_indexes(&self, alloc: Global) -> Result<Vec<&Element>, NoMemory>
         ensures trees_of_the_index { IfOk result (λ made. AreIndexTrees self.now.content (map (λ e. e.now) made.items)) }
-        ensures is_low_enough { IfOk result (λ made. All (λ e. height e.now ≤ 64) made.items) }
+        ensures is_low_enough { IfOk result (λ made. All (λ e. height e.now ≤ most_levels) made.items) }
     {
         let trees = trees_by_user(alloc, &self.documents)?;
         trees.into_values().collect(alloc)

@@ -8,6 +8,7 @@ mod committing;
 mod entry;
 mod indexes;
 mod laws;
+mod limits;
 mod prepared;
 mod preparing;
 mod refusal;
@@ -22,6 +23,7 @@ pub use laws::{
     states_are_kept_after_each_change, stores_stand_after_each_change, the_first_state_is_kept,
     the_index_has_one_list,
 };
+pub use limits::MOST_BYTES;
 pub use prepared::Prepared;
 pub use refusal::StoreRefusal;
 pub use since::{Since, notes_since_a_version_lead_from_it};

@@ -22,6 +22,7 @@ ghost use Rattle.notes.specs.Recorded.{note_in};
 use crate::NoMemory;
 use crate::addresses::{addresses, entering, first_number, leaving};
 use crate::entry::Entry;
+use crate::limits::{MOST_BYTES, MOST_BYTES_TOGETHER, MOST_DOCUMENTS};
 use crate::prepared::Prepared;
 use crate::refusal::StoreRefusal;
 use crate::registry::first_taken;
@@ -33,15 +34,6 @@ use notes::EditNote;
 use std::alloc::Global;
 use usage_docs::{Clash, Key};
 use xml_tree::{Element, List, Path, Text, copy_tree, printed_len};
-
-// How many documents there are at most.
-const MOST_DOCUMENTS: usize = 1_000;
-
-// How many bytes a printed document has at most.
-const MOST_BYTES: usize = 262_144;
-
-// How many bytes all printed documents have together at most.
-const MOST_BYTES_TOGETHER: u64 = 33_554_432;
 
 // The length of what a printed document has before its root.
 const HEAD_LEN: usize = 39;
@@ -88,7 +80,7 @@ fn number_at(first: usize, place: Option<usize>) -> Option<usize>
 
 // The first reason against a tree, by what was found of it.
 fn refused_for(place: Option<usize>, len: usize, is_full: bool, others: u64) -> Option<StoreRefusal>
-    requires { others ≤ 33554432 }
+    requires { others ≤ MOST_BYTES_TOGETHER }
     ensures first_reason_against_it { result ≡ refused_for place len is_full others }
 {
     if let Some(place) = place {
@@ -259,7 +251,7 @@ impl Store {
     fn total_without(&self, doc: &DocId) -> u64
         requires { IsSome (document_in held_name self.now.content.documents doc.now) }
         ensures sums_the_others { result ≡ other_lengths self.now.content doc.now }
-        ensures is_small { result ≤ 33554432 }
+        ensures is_small { result ≤ MOST_BYTES_TOGETHER }
         ensures own_length_completes_the_total { IsSomeAnd (document_in held_name self.now.content.documents doc.now) (λ h. result + document_len h.tree ≡ total_of self.now.content) }
     {
         let Some(entry) = find(&self.documents, doc) else {

@@ -1,6 +1,7 @@
 //! The store of all documents.
 ghost use Rattle.std.specs.Prelude.{◌≡◌, ℕ, ◌+◌, ◌≤◌, [], length, sum_by, IfOk, IfSome, OnOk};
 ghost use Rattle.std.specs.Option.{option_map};
+ghost use Rattle.xml_tree.specs.Limits.{most_levels};
 ghost use Rattle.xml_tree.specs.Tree.{Tree, height};
 ghost use Rattle.usage_docs.specs.Services.{document_len};
 ghost use Rattle.store_core.specs.State.{State};
@@ -70,7 +71,7 @@ impl Store {
     /// its usage, at most 64 high and at most 262,144 bytes long, printed. Takes no memory.
     pub fn get(&self, doc: &DocId) -> Option<(&Element, u64)>
         ensures version_that_is_held { option_map (λ x. (x.0.now, x.1)) result ≡ option_map {U = Tree × ℕ} (λ h. (h.tree, h.tag)) (document_in held_name self.now.content.documents doc.now) }
-        ensures is_low_enough { IfSome result (λ x. height x.0.now ≤ 64) }
+        ensures is_low_enough { IfSome result (λ x. height x.0.now ≤ most_levels) }
         ensures tree_is_sound { IfSome result (λ x. IsSoundFor (usage_of doc.now.auid) x.0.now) }
     {
         let entry = find(&self.documents, doc)?;

@@ -7,17 +7,15 @@ use crate::refusal::Refusal;
 use crate::telling::print;
 use doc_names::Usage;
 use std::alloc::Global;
+use store_core::MOST_BYTES;
 use stream_texts::{InputFault, read_text};
 use xcap_io::{Line, Sink, Source};
-
-// How many bytes a document has at most.
-const GREATEST_LENGTH: usize = 262_144;
 
 // Reads the input as a document, and answers whether it is one.
 fn examine<I: Source>(alloc: Global, usage: Usage, input: &mut I) -> Exit
     ensures examines_the_input { Examines usage result (I.state input.old) (I.state input.new) }
 {
-    match read_text(alloc, input, GREATEST_LENGTH) {
+    match read_text(alloc, input, MOST_BYTES) {
         Ok(text) => judge(alloc, usage, &text),
         Err(InputFault::Failed) => Exit::InputFailed,
         Err(InputFault::TooLong) => Exit::Refused(Refusal::TooLarge),

@@ -14,7 +14,7 @@ use Rattle.edit_ops.specs.declared.staged.Staged.{Staged}
 use Rattle.notes.specs.Notes.{note_of}
 use Rattle.notes.specs.Recorded.{note_in}
 use Rattle.notes.specs.declared.edit_note.EditNote.{EditNote}
-use Rattle.store_core.specs.Limits.{most_bytes, most_bytes_together}
+use Rattle.store_core.specs.Limits.{most_bytes, most_bytes_together, most_notes}
 use Rattle.store_core.specs.declared.entry.Entry.{Entry}
 use Rattle.store_core.specs.declared.step.Step.{Step}
 use Rattle.store_core.specs.declared.step.Step.TheVariants.{Make, Edit, End}
@@ -61,5 +61,5 @@ Stepped old doc number End created new = new ≡ filter (λ e. not (same_id doc 
 abbrev pub Steppable : List (DocId × Entry) → DocId → Step → Type 0
 Steppable old doc (Make entry) = lookup (same_id doc) old ≡ None
 Steppable old doc (Edit staged kept len) =
-    (v : Entry) × (lookup (same_id doc) old ≡ Some v) × (v.notes.capacity ≡ 64) × Fits v.tree kept.change × IsStaged v.tree kept.change staged
+    (v : Entry) × (lookup (same_id doc) old ≡ Some v) × (v.notes.capacity ≡ most_notes) × Fits v.tree kept.change × IsStaged v.tree kept.change staged
 Steppable old doc End = Unit {0}

@@ -10,6 +10,7 @@ use Rattle.usage_docs.specs.Services.{document_len}
 use Rattle.doc_names.specs.declared.doc_id.DocId.{DocId}
 use Rattle.notes.specs.Recorded.{note_in}
 use Rattle.notes.specs.declared.edit_note.EditNote.{EditNote}
+use Rattle.store_core.specs.Limits.{most_notes}
 use Rattle.store_core.specs.declared.entry.Entry.{Entry}
 use Rattle.store_core.specs.State.{State, retained}
 use Rattle.store_core.specs.Held.{Held, Stands, Stock}
@@ -45,7 +46,7 @@ pub record IsRenewed (old : Entry) (number : ℕ) (note : EditNote) (bytes : ℕ
   pub tree : new.tree ≡ edited old.tree note.change
   pub len : new.len ≡ bytes
   pub notes : map note_in new.notes.items ≡ retained (map note_in old.notes.items ++ note_in note ∷ [])
-  pub capacity : new.notes.capacity ≡ 64
+  pub capacity : new.notes.capacity ≡ most_notes
 
 -- ---- who holds an address
 
@@ -85,6 +86,6 @@ pub record IsStoring (es : List (DocId × Entry)) (rs : List (List ℕ × ℕ)) 
   -- the total is that of its documents' lengths
   pub sum : total ≡ sum_by len_in es
   -- each document has room for the notes that may be retained
-  pub rings : AllByRecursion (λ e. e.1.notes.capacity ≡ 64) es
+  pub rings : AllByRecursion (λ e. e.1.notes.capacity ≡ most_notes) es
   -- the length that is kept of each is the one that it has
   pub lens : AllByRecursion (λ e. e.1.len ≡ len_in e) es
