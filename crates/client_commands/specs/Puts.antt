@@ -1,6 +1,7 @@
 -- What the command that puts its input did, by how it ended. This is the project's own.
 use Rattle.std.specs.Prelude.{◌≡◌, ◌⊎◌, ℕ, ◌+◌, ◌≤◌, List, Option, length}
 use Rattle.xcap_io.specs.Causes.{LineState}
+use Rattle.http_wire.specs.Limits.{most_body_bytes}
 use Rattle.stream_texts.specs.Inputs.{GaveAndFailed, GaveText, JustGave}
 use Rattle.xcap_client.specs.Asks.{putting}
 use Rattle.client_commands.specs.Endings.{MakesOneCall}
@@ -8,27 +9,23 @@ use Rattle.client_commands.specs.Lines.{put_line}
 use Rattle.client_commands.specs.declared.ended.Ended.{Ended}
 use Rattle.client_commands.specs.declared.ended.Ended.TheVariants.{Done, InputFailed, OutputFailed, TooLarge, Failed, OutOfMemory}
 
--- how many bytes are put at most
-abbrev pub most_bytes : ℕ
-most_bytes = 262144
-
 -- the input gave a text, which was put
 abbrev pub PutsText : List ℕ → Option (List ℕ) → List ℕ → List ℕ → Ended → LineState → LineState → LineState → LineState → LineState → LineState → Type 0
 PutsText root user path media ended peer peer' input input' output output' =
-    (text : List ℕ) × GaveText most_bytes text input input' × MakesOneCall root (putting user path media text) put_line ended peer peer' output output'
+    (text : List ℕ) × GaveText most_body_bytes text input input' × MakesOneCall root (putting user path media text) put_line ended peer peer' output output'
 
--- no text was put, and the peer and the output are as before
-abbrev pub PutsNothing : LineState → LineState → LineState → LineState → Type 0
-PutsNothing peer peer' output output' = (peer' ≡ peer) × (output' ≡ output)
+-- nothing was asked, and nothing written
+abbrev pub AsksNothing : LineState → LineState → LineState → LineState → Type 0
+AsksNothing peer peer' output output' = (peer' ≡ peer) × (output' ≡ output)
 
 -- The input gave a text, which was put; or it failed, or has more bytes than are put, and nothing was asked.
 abbrev pub Puts : List ℕ → Option (List ℕ) → List ℕ → List ℕ → Ended → LineState → LineState → LineState → LineState → LineState → LineState → Type 0
 Puts root user path media Done peer peer' input input' output output' = PutsText root user path media Done peer peer' input input' output output'
 Puts root user path media InputFailed peer peer' input input' output output' =
-    ((front : List ℕ) × GaveAndFailed front input input' × (length front ≤ most_bytes)) × PutsNothing peer peer' output output'
+    ((front : List ℕ) × GaveAndFailed front input input' × (length front ≤ most_body_bytes)) × AsksNothing peer peer' output output'
 Puts root user path media OutputFailed peer peer' input input' output output' = PutsText root user path media OutputFailed peer peer' input input' output output'
 Puts root user path media TooLarge peer peer' input input' output output' =
-    ((front : List ℕ) × JustGave front input input' × (length front ≡ most_bytes + 1)) × PutsNothing peer peer' output output'
+    ((front : List ℕ) × JustGave front input input' × (length front ≡ most_body_bytes + 1)) × AsksNothing peer peer' output output'
 Puts root user path media (Failed fault) peer peer' input input' output output' = PutsText root user path media (Failed fault) peer peer' input input' output output'
 Puts root user path media OutOfMemory peer peer' input input' output output' =
-    ((input' ≡ input) × PutsNothing peer peer' output output') ⊎ PutsText root user path media OutOfMemory peer peer' input input' output output'
+    ((input' ≡ input) × AsksNothing peer peer' output output') ⊎ PutsText root user path media OutOfMemory peer peer' input input' output output'

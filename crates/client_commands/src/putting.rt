@@ -8,14 +8,12 @@ use crate::asker::Asker;
 use crate::ended::{Ended, write_out};
 use crate::lines::put_line;
 use feed_follower::FollowerFault;
+use http_wire::MAX_BODY;
 use std::alloc::{AllocError, Global};
 use stream_texts::{InputFault, read_text};
 use xcap_client::put;
 use xcap_io::{Line, Peer, Sink, Source};
 use xml_tree::Text;
-
-/// How many bytes are put at most: as many as a document may have.
-const GREATEST_LENGTH: usize = 262_144;
 
 // Puts a text, and writes the status and the tag.
 fn put_text<C: Peer, O: Sink>(
@@ -48,7 +46,8 @@ fn put_text<C: Peer, O: Sink>(
     }
 }
 
-/// Reads the input to its end, asks that this stands at a path under the root, and writes the status and the tag.
+/// Reads the input to its end, asks that this stands at a path under the root, and writes the status and the tag. As many bytes are
+/// put at most as the body of a request may have.
 pub fn put_at<C: Peer, I: Source, O: Sink>(
     alloc: Global,
     asker: &Asker,
@@ -61,7 +60,7 @@ pub fn put_at<C: Peer, I: Source, O: Sink>(
     ensures puts_the_input { Puts asker.now.root asker.now.user path.now media.now result
         (C.state peer.old) (C.state peer.new) (I.state input.old) (I.state input.new) (O.state output.old) (O.state output.new) }
 {
-    match read_text(alloc, input, GREATEST_LENGTH) {
+    match read_text(alloc, input, MAX_BODY) {
         Ok(text) => put_text(alloc, asker, path, media, &text, peer, output),
         Err(InputFault::Failed) => Ended::InputFailed,
         Err(InputFault::TooLong) => Ended::TooLarge,

@@ -2,24 +2,25 @@
 -- behind the head.
 use Rattle.std.specs.Prelude.{ℕ, ◌+◌, ◌<◌, ◌≤◌, ◌==◌, nat_lt, min, Bool, not, ◌||◌, if◌then◌else◌, List, [], ◌∷◌, length, take, codes, Result, Ok, Err}
 use Rattle.std.specs.Str.Parse.{digits_value}
+use Rattle.xml_tree.specs.Limits.{greatest_u64}
 use Rattle.http_wire.specs.Fields.{values_of, is_number}
 use Rattle.http_exchange.specs.declared.fault.ResponseFault.{ResponseFault}
 use Rattle.http_exchange.specs.declared.fault.ResponseFault.TheVariants.{Coding, Length, TooLong, Short}
 use Rattle.http_exchange.specs.declared.extents.Extent.{Extent}
 use Rattle.http_exchange.specs.declared.extents.Extent.TheVariants.{Empty, Exactly, ToEnd}
-use Rattle.http_exchange.specs.Limits.{greatest_length, most_body_bytes}
+use Rattle.http_exchange.specs.Limits.{most_response_body_bytes}
 
 -- No Content and Not Modified come without a body
 abbrev pub is_bodiless : ℕ → Bool
 is_bodiless status = (status == 204) || (status == 304)
 
--- the number that digits write, or the greatest one where it is greater
+-- the number that digits write, or the greatest of 64 bits where it is greater
 abbrev pub capped_value : List ℕ → ℕ
-capped_value digits = min (digits_value 10 digits) greatest_length
+capped_value digits = min (digits_value 10 digits) greatest_u64
 
 -- a body of so many bytes, where that is within the limit
 abbrev pub within_limit : ℕ → Result Extent ResponseFault
-within_limit n = if nat_lt most_body_bytes n then Err (TooLong n) else Ok (Exactly n)
+within_limit n = if nat_lt most_response_body_bytes n then Err (TooLong n) else Ok (Exactly n)
 
 -- By the values of `Content-Length`: without one the body goes to the end of the bytes; more than one, or one that is no
 -- number, is a fault, where a status has no body too.
@@ -40,7 +41,7 @@ extent_by status fields =
 abbrev pub body_by : Extent → List ℕ → Result (List ℕ) ResponseFault
 body_by Empty rest = Ok []
 body_by (Exactly n) rest = if nat_lt (length rest) n then Err (Short (length rest) n) else Ok (take n rest)
-body_by ToEnd rest = if nat_lt most_body_bytes (length rest) then Err (TooLong (most_body_bytes + 1)) else Ok rest
+body_by ToEnd rest = if nat_lt most_response_body_bytes (length rest) then Err (TooLong (most_response_body_bytes + 1)) else Ok rest
 
 -- the same, where the head may have a fault
 abbrev pub body_to : Result Extent ResponseFault → List ℕ → Result (List ℕ) ResponseFault
@@ -51,4 +52,4 @@ body_to (Err fault) rest = Err fault
 abbrev pub LacksMore : Extent → List ℕ → Type 0
 LacksMore Empty rest = ⊥
 LacksMore (Exactly n) rest = length rest < n
-LacksMore ToEnd rest = length rest ≤ most_body_bytes
+LacksMore ToEnd rest = length rest ≤ most_response_body_bytes

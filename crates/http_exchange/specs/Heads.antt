@@ -1,8 +1,8 @@
 -- The head of a response at the front of a connection's bytes (RFC 9112, sections 2, 4 and 5), by the grammar of `httparse`
--- and within this client's limits.
+-- and within the limits of any head.
 use Rattle.std.specs.Prelude.{ℕ, ◌≤◌, List, ◌++◌, length}
 use Rattle.httparse.specs.Grammar.{ResponseHead, ReadsResponse, print_response}
-use Rattle.http_exchange.specs.Limits.{most_field_lines, most_head_bytes}
+use Rattle.http_wire.specs.Limits.{most_field_lines, most_head_bytes}
 
 -- the bytes are a head within the limits, and then rest
 pub record BeginsWithHead (bytes : List ℕ) (head : ResponseHead) (rest : List ℕ) : Type 0 where

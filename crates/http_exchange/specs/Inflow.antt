@@ -8,7 +8,7 @@ use Rattle.httparse.specs.declared.spans.HeaderSpan.{HeaderSpan}
 use Rattle.httparse.specs.declared.spans.ResponseSpans.{ResponseSpans}
 use Rattle.http_exchange.specs.declared.heads.Front.{Front}
 use Rattle.http_exchange.specs.declared.heads.Front.TheVariants.{Head, Open, Hopeless}
-use Rattle.http_exchange.specs.Limits.{most_head_bytes}
+use Rattle.http_wire.specs.Limits.{most_head_bytes}
 use Rattle.http_exchange.specs.Heads.{BeginsWithHead, HasNoHead, NeverHasHead}
 
 -- the spans cover the parts of the head at the front

@@ -1,18 +1,7 @@
--- The limits of responses. They are this client's own, as RFC 9110 (section 5.4) and RFC 9112 (section 4) let it have them.
-use Rattle.std.specs.Prelude.{ℕ, ◌^◌, ◌-◌}
+-- The limit of responses, which is a constant of the code. It is this client's own; a head's limits are those of any head (`http_wire`).
+use Rattle.std.specs.Prelude.{ℕ}
+use Rattle.http_exchange.specs.declared.extents.TheConstants.{MAX_RESPONSE_BODY}
 
--- how many bytes a head has at most, from its first line to the empty one
-abbrev pub most_head_bytes : ℕ
-most_head_bytes = 16_384
-
--- how many field lines it has at most
-abbrev pub most_field_lines : ℕ
-most_field_lines = 64
-
--- how many bytes a body has at most
-abbrev pub most_body_bytes : ℕ
-most_body_bytes = 16_777_216
-
--- the number that a longer length counts as
-abbrev pub greatest_length : ℕ
-greatest_length = 2 ^ 64 - 1
+-- how many bytes the body of a response has at most
+abbrev pub most_response_body_bytes : ℕ
+most_response_body_bytes = MAX_RESPONSE_BODY

@@ -10,8 +10,8 @@ use crate::ResponseFault;
 use http_wire::{Named, find};
 use httparse::spans::HeaderSpan;
 
-/// The longest body that is read.
-pub const MAX_BODY: usize = 16_777_216;
+/// How many bytes the body of a response has at most.
+pub const MAX_RESPONSE_BODY: usize = 16_777_216;
 
 // How far a body goes.
 #[derive(Clone, Copy)]
@@ -47,7 +47,7 @@ fn within_limit(len: u64) -> Result<Extent, ResponseFault>
     ensures extent_by_the_fields { result ≡ within_limit len }
     ensures fault_of_the_fields_alone { IfErr result IsOfFields }
 {
-    if len > MAX_BODY as u64 {
+    if len > MAX_RESPONSE_BODY as u64 {
         return Err(ResponseFault::TooLong(len));
     }
     Ok(Extent::Exactly(len as usize))

@@ -8,15 +8,10 @@ ghost use Rattle.http_exchange.specs.Inflow.{IsFront, HeadOrNone};
 
 use crate::fault::Stop;
 use crate::inflow::Inflow;
+use http_wire::{MAX_FIELDS, MAX_HEAD};
 use httparse::Status;
 use httparse::spans::{HeaderSpan, ResponseSpans, parse_response};
 use xcap_io::{Line, Source};
-
-/// The longest head that is read.
-const MAX_HEAD: usize = 16_384;
-
-/// How many field lines a head has at most.
-pub const MAX_FIELDS: usize = 64;
 
 // What stands at the front of some bytes.
 #[derive(Clone, Copy)]
@@ -29,7 +24,7 @@ pub enum Front {
 }
 
 fn find_front(bytes: &[u8], headers: &mut [HeaderSpan]) -> Front
-    requires { length headers.old ≡ 64 }
+    requires { length headers.old ≡ MAX_FIELDS }
     ensures front_of_these_bytes { IsFront bytes.now headers.new result }
 {
     let start = &bytes[..bytes.len().min(MAX_HEAD)];
@@ -43,7 +38,7 @@ fn find_front(bytes: &[u8], headers: &mut [HeaderSpan]) -> Front
 
 // A head ends with a line feed: where the first bytes are no head, and none came behind them, there is still none.
 fn look_on(bytes: &[u8], seen: usize, headers: &mut [HeaderSpan]) -> Front
-    requires slots { length headers.old ≡ 64 }
+    requires slots { length headers.old ≡ MAX_FIELDS }
     requires inside { seen ≤ length bytes.now }
     requires none { HasNoHead (take seen bytes.now) }
     ensures front_of_all_bytes { IsFront bytes.now headers.new result }
@@ -60,7 +55,7 @@ pub fn next_head<S: Source>(
     inflow: &mut Inflow,
     headers: &mut [HeaderSpan],
 ) -> Result<Option<ResponseSpans>, Stop>
-    requires { length headers.old ≡ 64 }
+    requires { length headers.old ≡ MAX_FIELDS }
     ensures gains_what_the_source_gave { Gains inflow.old inflow.new (S.state source.old).inward (S.state source.new).inward }
     ensures finds_a_head_or_none { IfOk result (HeadOrNone inflow.new (S.state source.new).inward headers.new) }
     ensures failure_before_any_head { OnErr result (HasNoHead inflow.new) }

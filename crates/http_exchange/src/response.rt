@@ -5,10 +5,11 @@ ghost use Rattle.http_exchange.specs.Stops.{CountsFault};
 ghost use Rattle.http_exchange.specs.Responses.{Answers, GivesBody};
 
 use crate::ResponseFault;
-use crate::extents::{Extent, MAX_BODY, read_extent};
-use crate::heads::{MAX_FIELDS, next_head};
+use crate::extents::{Extent, MAX_RESPONSE_BODY, read_extent};
+use crate::heads::next_head;
 use crate::inflow::Inflow;
 use crate::tags::read_tag;
+use http_wire::MAX_FIELDS;
 use httparse::spans::EMPTY_HEADER_SPAN;
 use std::alloc::Global;
 use xcap_io::{Bytes, Line, Source};
@@ -43,8 +44,8 @@ fn read_body<S: Source>(
             Ok(inflow.into_front(len))
         }
         Extent::ToEnd => {
-            if inflow.hold(source, MAX_BODY + 1)? {
-                return Err(ResponseFault::TooLong(MAX_BODY as u64 + 1));
+            if inflow.hold(source, MAX_RESPONSE_BODY + 1)? {
+                return Err(ResponseFault::TooLong(MAX_RESPONSE_BODY as u64 + 1));
             }
             let len = inflow.len();
             Ok(inflow.into_front(len))

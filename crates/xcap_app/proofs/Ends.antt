@@ -23,10 +23,10 @@ use Rattle.xcap_client.specs.Asks.{getting, removing}
 use Rattle.client_commands.specs.Endings.{MakesOneCall}
 use Rattle.client_commands.specs.Follows.{Follows}
 use Rattle.client_commands.specs.Lines.{body_of, line_of_status}
-use Rattle.client_commands.specs.Puts.{Puts}
+use Rattle.client_commands.specs.Puts.{AsksNothing, Puts}
 use Rattle.client_commands.specs.declared.asker.Asker.{Asker}
 use Rattle.client_commands.specs.declared.ended.Ended.{Ended}
-use Rattle.xcap_app.specs.Asking.{AsksNothing, RunsAs, RunsFollow, ended_so, follows, knows_nothing, lacks_memory, lacks_words, names_none}
+use Rattle.xcap_app.specs.Asking.{RunsAs, RunsFollow, ended_so, follows, knows_nothing, lacks_memory, lacks_words, names_none}
 use Rattle.xcap_app.specs.Checks.{Checks, Examines}
 use Rattle.xcap_app.specs.Replays.{Replays}
 use Rattle.xcap_app.specs.Serves.{ServesCommand}

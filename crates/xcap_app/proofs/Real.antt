@@ -19,12 +19,12 @@ use Rattle.feed_follower.specs.declared.fault.FollowerFault.TheVariants as fault
 use Rattle.client_commands.specs.Endings.{MakesOneCall}
 use Rattle.client_commands.specs.Follows.{Follows}
 use Rattle.client_commands.specs.Lines.{body_of, line_of_status}
-use Rattle.client_commands.specs.Puts.{Puts}
+use Rattle.client_commands.specs.Puts.{AsksNothing, Puts}
 use Rattle.client_commands.specs.Words.{client_status, status_of as status_of_fault}
 use Rattle.client_commands.specs.declared.asker.Asker.{Asker}
 use Rattle.client_commands.specs.declared.ended.Ended.{Ended}
 use Rattle.client_commands.specs.declared.ended.Ended.TheVariants as ends
-use Rattle.xcap_app.specs.Asking.{AsksNothing, RunsAs, RunsFollow, ended_so, exit_of, follows, knows_nothing, lacks_memory, lacks_words, names_none}
+use Rattle.xcap_app.specs.Asking.{RunsAs, RunsFollow, ended_so, exit_of, follows, knows_nothing, lacks_memory, lacks_words, names_none}
 use Rattle.xcap_app.specs.Exits.{status_of}
 use Rattle.xcap_app.specs.Keeping.{KeepsCommand, exit_of as fault_exit, keeps_on, no_journal, no_server}
 use Rattle.xcap_app.specs.Replays.{Replays}

@@ -14,7 +14,7 @@ use Rattle.xcap_client.specs.Asks.{getting, removing}
 use Rattle.client_commands.specs.Endings.{MakesOneCall}
 use Rattle.client_commands.specs.Follows.{Follows}
 use Rattle.client_commands.specs.Lines.{body_of, line_of_status}
-use Rattle.client_commands.specs.Puts.{Puts}
+use Rattle.client_commands.specs.Puts.{AsksNothing, Puts}
 use Rattle.client_commands.specs.declared.asker.Asker.{Asker}
 use Rattle.client_commands.specs.declared.ended.Ended.{Ended}
 use Rattle.client_commands.specs.declared.ended.Ended.TheVariants as ends
@@ -38,10 +38,6 @@ pub data RunsAs (Did : Ended → Type 0) (Nothing : Type 0) (exit : Exit) : Type
   ended_so : (ended : Ended) → Did ended → exit ≡ exit_of ended → RunsAs Did Nothing exit
   lacks_words : (ended : Ended) → Did ended → IsRefused (exit_of ended) → exit ≡ OutOfMemory → RunsAs Did Nothing exit
   lacks_memory : Nothing → exit ≡ OutOfMemory → RunsAs Did Nothing exit
-
--- nothing was asked, and nothing written
-abbrev pub AsksNothing : LineState → LineState → LineState → LineState → Type 0
-AsksNothing peer peer' output output' = (peer' ≡ peer) × (output' ≡ output)
 
 abbrev pub RunsFetch : Asker → List ℕ → Exit → LineState → LineState → LineState → LineState → Type 0
 RunsFetch asker path exit peer peer' output output' =
