@@ -7,6 +7,7 @@ use Rattle.xml_tree.specs.Expanded.{name_of}
 use Rattle.xml_tree.specs.declared.names.Attr.{Attr}
 use Rattle.usage_docs.specs.Rows.{lists_space}
 use Rattle.usage_docs.specs.Services.{document_len}
+use Rattle.list_resolve.specs.declared.document.TheConstants.{DOCUMENT_LIMIT}
 use Rattle.list_resolve.specs.declared.fault.FlatFault.{FlatFault}
 use Rattle.list_resolve.specs.declared.fault.FlatFault.TheVariants.{TooLarge}
 
@@ -28,7 +29,7 @@ flat_tree uris = tree_of (name_of [] (codes "resource-lists")) (decl_of [] lists
 
 -- the greatest length of such a document, printed
 abbrev pub document_limit : ℕ
-document_limit = 16777216
+document_limit = DOCUMENT_LIMIT
 
 -- the document of a flat list, unless it would be longer
 abbrev pub flat_document : List (List ℕ) → Result Tree FlatFault

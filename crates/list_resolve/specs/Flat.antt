@@ -10,6 +10,7 @@ use Rattle.usage_docs.specs.declared.rows.Kind.TheVariants as kinds
 use Rattle.usage_docs.specs.declared.rows.Key.TheVariants.{Uri}
 use Rattle.usage_docs.specs.Keys.{value_of}
 use Rattle.store_core.specs.Held.{Stock}
+use Rattle.list_resolve.specs.declared.gatherer.TheConstants.{MARK_LIMIT}
 use Rattle.list_resolve.specs.declared.fault.FlatFault.{FlatFault}
 use Rattle.list_resolve.specs.declared.fault.FlatFault.TheVariants.{NoService, TooWide}
 use Rattle.list_resolve.specs.declared.reference.Reference.{Reference}
@@ -45,7 +46,7 @@ firsts uris = fold with_address [] uris
 
 -- the greatest number of references
 abbrev pub mark_limit : ℕ
-mark_limit = 4096
+mark_limit = MARK_LIMIT
 
 -- the flat list of a walk, unless that is too wide
 abbrev pub flat_of : List Item → Result (List (List ℕ)) FlatFault

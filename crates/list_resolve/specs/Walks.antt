@@ -10,6 +10,7 @@ use Rattle.usage_docs.specs.declared.rows.Kind.TheVariants.{ResourceLists, Entry
 use Rattle.usage_docs.specs.declared.rows.Key.TheVariants.{Uri}
 use Rattle.usage_docs.specs.Rows.{Scope, kind_of}
 use Rattle.usage_docs.specs.Keys.{value_of}
+use Rattle.list_resolve.specs.declared.flat.TheConstants.{CHAIN_LIMIT}
 use Rattle.list_resolve.specs.declared.place.Place.{Place}
 use Rattle.list_resolve.specs.declared.reference.Reference.{Reference}
 use Rattle.list_resolve.specs.Places.{is_on}
@@ -83,7 +84,7 @@ behind leads root (suc left) chain r = led_items (behind leads root left) root c
 
 -- how many elements a chain has at most
 abbrev pub chain_limit : ℕ
-chain_limit = 16
+chain_limit = CHAIN_LIMIT
 
 -- the walk of an element of a kind, with nothing on the chain
 abbrev pub walk : (Reference → Option Lead) → List ℕ → Spot → List Item

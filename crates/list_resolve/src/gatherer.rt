@@ -25,6 +25,7 @@ pub(crate) struct Gatherer {
 
 impl Model for Gatherer {
     ghost use Rattle.std.specs.Prelude.{◌≤◌};
+    ghost use Rattle.list_resolve.specs.declared.gatherer.TheConstants.{MARK_LIMIT};
     ghost use Rattle.list_resolve.specs.inner.Gathering.{Gathered, gathered_code};
 
     ghost Value = { Gathered };
@@ -33,7 +34,7 @@ impl Model for Gatherer {
 
     ghost view = { λ g. record { tally = record { uris = g.uris.keys; marks = g.marks }; passed = g.passed.keys } };
 
-    ghost invariant = { λ g. g.marks ≤ 4096 };
+    ghost invariant = { λ g. g.marks ≤ MARK_LIMIT };
 }
 
 impl Gatherer {
