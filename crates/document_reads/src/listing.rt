@@ -1,5 +1,6 @@
 //! The index of all services (RFC 4826, sections 4.4.7 and 4.4.8).
 ghost use Rattle.std.specs.Prelude.{◌≤◌, IfErr, IfOk};
+ghost use Rattle.xml_tree.specs.Limits.{most_levels};
 ghost use Rattle.xml_tree.specs.Memory.{OfFault};
 ghost use Rattle.xml_tree.specs.Tree.{height};
 ghost use Rattle.usage_docs.specs.Services.{document_len, index_limit};
@@ -18,7 +19,7 @@ use xml_tree::{Element, ReadError};
 pub fn index_of_services(alloc: Global, store: &Store) -> Result<Element, ReadError<IndexFault>>
     ensures lists_all { IfOk result (λ root. IsIndexOfServices store.now.content root) }
     ensures within_limit { IfOk result (λ root. document_len root ≤ index_limit) }
-    ensures found_low { IfOk result (λ root. height root ≤ 64) }
+    ensures found_low { IfOk result (λ root. height root ≤ most_levels) }
     ensures refused_beyond_limit { IfErr result (λ error. OfFault (λ _. HasLongIndex store.now.content) error) }
 {
     let mut maker = IndexMaker::new(alloc)?;

@@ -1,5 +1,6 @@
 //! GET and HEAD of nodes of documents (RFC 4825, sections 7.6, 7.9, 7.10 and 8.3).
 ghost use Rattle.std.specs.Prelude.{◌≤◌, IfOk};
+ghost use Rattle.xml_tree.specs.Limits.{most_levels};
 ghost use Rattle.xml_tree.specs.Tree.{height};
 ghost use Rattle.node_texts.specs.Nodes.{encoded, found_text, node_media};
 ghost use Rattle.machine_words.specs.Answers.{unchanged};
@@ -27,7 +28,7 @@ fn node_reply(
     method: Method,
     request: &Request,
 ) -> Result<Reply, NoMemory>
-    requires low { height root.now ≤ 64 }
+    requires low { height root.now ≤ most_levels }
     ensures sends_what_is_there { IfOk result (λ r. SendsFound (encoded (found_text root.now selector.now)) tag (node_media selector.now.end) method request.now (unchanged r)) }
 {
     let Some(text) = found_text(alloc, root, selector)? else {

@@ -1,5 +1,6 @@
 //! The body of a PUT of a document (RFC 4825, section 8.2.2).
 ghost use Rattle.std.specs.Prelude.{◌≡◌, ◌≤◌, [], IfOk, Ok};
+ghost use Rattle.xml_tree.specs.Limits.{most_levels};
 ghost use Rattle.xml_tree.specs.Proper.{ProperIn};
 ghost use Rattle.xml_tree.specs.Tree.{height};
 ghost use Rattle.conflict_docs.specs.declared.conflicts.ErrorBody.TheVariants as conflicts;
@@ -56,7 +57,7 @@ fn refused_text(alloc: Global, fault: TextFault, closes: bool) -> Result<Reply, 
 // A tree that a text spells.
 fn judged(alloc: Global, usage: Usage, root: Element, closes: bool) -> Result<Body, NoMemory>
     requires proper { ProperIn [] root }
-    requires low { height root ≤ 64 }
+    requires low { height root ≤ most_levels }
     ensures comes_of_the_tree { IfOk result (λ body. Comes (λ answer a. PutsText usage (Ok root) closes answer a) usage body) }
 {
     match judge(alloc, usage, &root)? {

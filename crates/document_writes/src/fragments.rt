@@ -1,5 +1,6 @@
 //! The body of a PUT of a node (RFC 4825, sections 8.2.3 and 8.2.4).
 ghost use Rattle.std.specs.Prelude.{◌≡◌, ◌≤◌, IfOk, IsSome};
+ghost use Rattle.xml_tree.specs.Limits.{most_levels};
 ghost use Rattle.xml_tree.specs.Scopes.{scope_around, scope_at};
 ghost use Rattle.xml_tree.specs.Tree.{at, height};
 ghost use Rattle.conflict_docs.specs.declared.conflicts.ErrorBody.TheVariants as conflicts;
@@ -90,7 +91,7 @@ fn read_element(
     spot: &Spot,
     bytes: &[u8],
 ) -> Result<Element, ReadError<TextFault>>
-    requires low { height tree.now ≤ 64 }
+    requires low { height tree.now ≤ most_levels }
     requires spot { LeadsSomewhere tree.now spot.now }
     ensures answer_by_the_grammar { Answered (TextAnswer (levels_for spot.now) (scope_for tree.now spot.now) bytes.now) result }
     ensures is_proper { IfOk result (λ e. IsProperAt tree.now spot.now e × HasRoomAt spot.now e) }

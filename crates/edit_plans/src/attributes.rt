@@ -1,5 +1,6 @@
 //! Whether an element of a document may have other attributes (RFC 4825, sections 8.2.4 and 8.4).
 ghost use Rattle.std.specs.Prelude.{◌≡◌, ◌≤◌, Some, None, IfOk};
+ghost use Rattle.xml_tree.specs.Limits.{most_levels};
 ghost use Rattle.xml_tree.specs.Tree.{at, height};
 ghost use Rattle.node_select.specs.Selection.{SelectsPath};
 ghost use Rattle.node_select.specs.declared.selector.End.TheVariants as ends;
@@ -32,7 +33,7 @@ pub(crate) fn retagged(
     tag: &Element,
     sought: &Sought<'_>,
 ) -> Result<Result<usize, EditRefusal>, NoMemory>
-    requires low { height root.now ≤ 64 }
+    requires low { height root.now ≤ most_levels }
     requires there { at path.now root.now ≡ Some element.now }
     requires tag { tag.now ≡ tag_with tag.now.attrs element.now }
     requires ends { selector.now.end ≡ ends.Attribute sought.now.uri.now sought.now.local.now }

@@ -1,5 +1,6 @@
 //! The change that a DELETE of a node makes, or why it makes none (RFC 4825, section 8.4).
 ghost use Rattle.std.specs.Prelude.{◌≡◌, ◌≤◌, IfOk, None};
+ghost use Rattle.xml_tree.specs.Limits.{most_levels};
 ghost use Rattle.xml_tree.specs.Attributes.{without_attr};
 ghost use Rattle.xml_tree.specs.Tree.{height};
 ghost use Rattle.node_select.specs.Selection.{SelectsPath};
@@ -78,7 +79,7 @@ fn plan_drop<'a>(
     uri: &'a Text,
     local: &'a Text,
 ) -> Result<Result<Change, EditRefusal>, NoMemory>
-    requires low { height root.now ≤ 64 }
+    requires low { height root.now ≤ most_levels }
     requires ends { selector.now.end ≡ ends.Attribute uri.now local.now }
     requires selected { SelectsPath selector.now.steps root.now path }
     requires faultless { Judged usage root.now None }
@@ -118,7 +119,7 @@ pub fn plan_delete(
     root: &Element,
     selector: &Selector,
 ) -> Result<Result<Change, EditRefusal>, NoMemory>
-    requires low { height root.now ≤ 64 }
+    requires low { height root.now ≤ most_levels }
     requires node { selector.now.end ≡ ends.Namespaces → ⊥ }
     requires faultless { Judged usage root.now None }
     ensures by_the_words { IfOk result (IsDeletePlan usage root.now selector.now) }

@@ -1,6 +1,7 @@
 //! The change that a PUT of an element makes, or why it makes none (RFC 4825, sections 8.2.1 to
 //! 8.2.5).
 ghost use Rattle.std.specs.Prelude.{◌≡◌, ◌≤◌, ◌+◌, length, suc, None, IfOk};
+ghost use Rattle.xml_tree.specs.Limits.{most_levels};
 ghost use Rattle.xml_tree.specs.Tree.{height};
 ghost use Rattle.node_select.specs.Selection.{SelectsPath};
 ghost use Rattle.node_select.specs.declared.selector.End.TheVariants as ends;
@@ -76,7 +77,7 @@ fn plan_under(
 ) -> Result<Result<Change, EditRefusal>, NoMemory>
     requires parent { SelectsParent steps.now root.now place.now }
     requires faultless { Judged usage root.now None }
-    requires room { length place.now + suc (height element) ≤ 64 }
+    requires room { length place.now + suc (height element) ≤ most_levels }
     ensures plans_the_insertion { IfOk result (IsInsertion usage root.now steps.now place.now element) }
 {
     let [.., step] = steps else { unreachable!() };
@@ -95,7 +96,7 @@ fn plan_over(
 ) -> Result<Result<Change, EditRefusal>, NoMemory>
     requires selected { SelectsPath steps.now root.now path.now }
     requires faultless { Judged usage root.now None }
-    requires room { length path.now + height element ≤ 64 }
+    requires room { length path.now + height element ≤ most_levels }
     ensures plans_the_exchange { IfOk result (IsTested CannotInsert (LawfulOver steps.now root.now element path.now) usage root.now (Replace path.now element)) }
 {
     let Some((place, child)) = path.split_last() else {

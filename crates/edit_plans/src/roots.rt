@@ -1,6 +1,7 @@
 //! Whether another root may stand in the place of the root, or the root may have other attributes
 //! (RFC 4825, sections 8.2.4 and 8.4).
 ghost use Rattle.std.specs.Prelude.{◌≡◌, ◌≤◌, [], ℕ, List, IfOk};
+ghost use Rattle.xml_tree.specs.Limits.{most_levels};
 ghost use Rattle.xml_tree.specs.Tree.{height};
 ghost use Rattle.node_select.specs.Selection.{SelectsPath};
 ghost use Rattle.plan_words.specs.declared.refusal.EditRefusal.TheVariants.{CannotInsert};
@@ -27,7 +28,7 @@ pub(crate) fn root_exchanged(
     new: &Element,
 ) -> Result<Result<usize, EditRefusal>, NoMemory>
     requires alone { (p : List ℕ) → SelectsPath steps.now new.now p → p ≡ [] }
-    requires low { height new.now ≤ 64 }
+    requires low { height new.now ≤ most_levels }
     ensures answers_the_new_root { IfOk result (IsTestedAs CannotInsert (SelectsPath steps.now new.now []) usage new.now) }
 {
     if select_steps(alloc, new, steps).is_none() {

@@ -1,6 +1,8 @@
 //! What a new element is beside its siblings (RFC 4826, sections 3.2 and 4.2): the first clash that
 //! it makes.
 ghost use Rattle.std.specs.Prelude.{◌≡◌, ◌↔◌, ◌<◌, ◌≤◌, ◌+◌, ◌++◌, ◌∷◌, ◌^◌, ℕ, List, [], chars, length, IsTrue, IfOk, IfSome, Some, None};
+ghost use Rattle.xml_tree.specs.Limits.{most_levels};
+ghost use Rattle.xml_tree.specs.declared.path.TheConstants.{PATH_LIMIT};
 ghost use Rattle.xml_tree.specs.Tree.{height, kids_of};
 ghost use Rattle.usage_docs.specs.declared.rows.Key.{Key};
 ghost use Rattle.usage_docs.specs.Keys.{key_of, value_of};
@@ -229,7 +231,7 @@ fn key_before(twin: Option<Twin>, gap: usize) -> Option<Key>
 
 // The path of a child.
 fn below(place: &Path, child: usize) -> Path
-    requires { length place.now < 64 }
+    requires { length place.now < PATH_LIMIT }
     ensures leads_to_the_child { result ≡ place.now ++ child ∷ [] }
 {
     match place.child(child) {
@@ -246,7 +248,7 @@ fn first_in_new(
     new: &Element,
     here: &Path,
 ) -> Result<Option<Clash>, NoMemory>
-    requires { length here.now + height new.now ≤ 64 }
+    requires { length here.now + height new.now ≤ most_levels }
     ensures finds_the_first_in_the_new { IfOk result (λ found. IsFirst (ClashesInside row scope.now new.now) here.now found) }
 {
     let declared = Declared::indexed(alloc, new.decls())?;

@@ -1,5 +1,6 @@
 //! What the address of a PUT means in a document (RFC 4825, section 8.2.1).
 ghost use Rattle.std.specs.Prelude.{◌≡◌, ◌≤◌, length};
+ghost use Rattle.xml_tree.specs.Limits.{most_levels};
 ghost use Rattle.xml_tree.specs.Tree.{Tree, height};
 ghost use Rattle.node_select.specs.declared.selector.End.TheVariants as ends;
 ghost use Rattle.node_select.specs.declared.selector.Selector.{Selector};
@@ -54,7 +55,7 @@ fn value_spot(many: usize, reached: Reached) -> Result<Spot, NoParent>
 /// `NoParent` where there is no spot, with the greatest number of first steps that select an
 /// element.
 pub fn put_spot(alloc: Global, root: &Element, selector: &Selector) -> Result<Spot, NoParent>
-    requires low { height root.now ≤ 64 }
+    requires low { height root.now ≤ most_levels }
     requires node { selector.now.end ≡ ends.Namespaces → ⊥ }
     ensures by_the_words { IsSpot root.now selector.now result }
 {

@@ -3,6 +3,7 @@
 ghost use Rattle.std.specs.Prelude.{◌≡◌, ◌≤◌, Some, IfOk, option_map, None};
 ghost use Rattle.std.specs.List.{find};
 ghost use Rattle.std.specs.Str.{bytes_eq};
+ghost use Rattle.xml_tree.specs.Limits.{most_levels};
 ghost use Rattle.xml_tree.specs.Attributes.{with_attr};
 ghost use Rattle.xml_tree.specs.Tree.{height};
 ghost use Rattle.xml_tree.specs.Scopes.{xml_uri};
@@ -153,7 +154,7 @@ fn plan_value(
     local: &Text,
     value: Text,
 ) -> Result<Result<Change, EditRefusal>, NoMemory>
-    requires low { height root.now ≤ 64 }
+    requires low { height root.now ≤ most_levels }
     requires ends { selector.now.end ≡ ends.Attribute uri.now local.now }
     requires selected { SelectsPath selector.now.steps root.now path.now }
     requires faultless { Judged usage root.now None }
@@ -192,7 +193,7 @@ pub fn plan_attr(
     at: &Path,
     value: Text,
 ) -> Result<Result<Change, EditRefusal>, NoMemory>
-    requires low { height root.now ≤ 64 }
+    requires low { height root.now ≤ most_levels }
     requires spot { IsSpotOf root.now selector.now (Value at.now) }
     requires faultless { Judged usage root.now None }
     ensures by_the_words { IfOk result (IsAttrPlan usage root.now selector.now.steps selector.now.end at.now value) }

@@ -1,6 +1,7 @@
 //! Paths by a place on them and what stands behind it.
 ghost use Rattle.std.specs.Prelude.{◌≡◌, ◌≤◌, ◌+◌, ◌++◌, IfSome, is_some, length};
 ghost use Rattle.std.specs.Option.{option_copied};
+ghost use Rattle.xml_tree.specs.declared.path.TheConstants.{PATH_LIMIT};
 ghost use Rattle.edit_ops.specs.Moves.{behind};
 
 use xml_tree::Path;
@@ -9,7 +10,7 @@ use xml_tree::Path;
 pub(crate) fn way<'a>(place: &Path, path: &'a Path) -> Option<&'a [usize]>
     ensures rest_behind_the_place { option_copied result ≡ behind place.now path.now }
     ensures way_completes_the_path { IfSome result (λ rest. path.now ≡ place.now ++ rest.now) }
-    ensures path_still_fits { IfSome result (λ rest. length place.now + length rest.now ≤ 64) }
+    ensures path_still_fits { IfSome result (λ rest. length place.now + length rest.now ≤ PATH_LIMIT) }
 {
     path.numbers().strip_prefix(place.numbers())
 }

@@ -1,6 +1,7 @@
 //! Where an element stood before changes.
 ghost use Rattle.std.specs.Prelude.{◌≡◌, ◌↔◌, ◌≤◌, ◌+◌, ◌-◌, ◌||◌, ℕ, List, [], All, Some, None, is_some, length, map, not, option_and_then, if◌then◌else◌};
 ghost use Rattle.std.specs.Str.{bytes_eq};
+ghost use Rattle.store_core.specs.Limits.{most_notes};
 ghost use Rattle.edit_ops.specs.Moves.{behind, made_room, under};
 ghost use Rattle.edit_ops.specs.declared.change.Change.TheVariants.{Remove};
 ghost use Rattle.notes.specs.Recorded.{all_notes, note_in};
@@ -152,7 +153,7 @@ fn came_from(path: &Path, change: &Change) -> Option<Path>
 // touched it.
 #[tactic(auto, using(crate::proofs::Bounds::stays_small))]
 fn back(path: &Path, notes: &[EditNote]) -> Option<Path>
-    requires few { length notes.now ≤ 64 }
+    requires few { length notes.now ≤ most_notes }
     requires small { All (λ n. n ≤ 4294967359 - length notes.now) path.now }
     ensures place_before_the_notes { result ≡ back path.now (map note_in notes.now) }
 {
@@ -167,7 +168,7 @@ fn back(path: &Path, notes: &[EditNote]) -> Option<Path>
 #[tactic(auto, using(crate::proofs::Bounds::middle_small))]
 fn back_through(path: &Path, older: &[EditNote], newer: &[EditNote]) -> Option<Path>
     requires small { All (λ n. n ≤ 4294967295) path.now }
-    requires few { length older.now + length newer.now ≤ 64 }
+    requires few { length older.now + length newer.now ≤ most_notes }
     ensures place_before_both { result ≡ option_and_then (λ m. back m (map note_in older.now)) (back path.now (map note_in newer.now)) }
 {
     let middle = back(path, newer)?;
@@ -180,7 +181,7 @@ fn back_through(path: &Path, older: &[EditNote], newer: &[EditNote]) -> Option<P
 #[tactic(auto, using(crate::proofs::Bounds::trace_is))]
 pub fn trace(path: &Path, notes: Notes<'_>) -> Option<Path>
     requires small { All (λ n. n ≤ 4294967295) path.now }
-    requires few { length notes.older.now + length notes.newer.now ≤ 64 }
+    requires few { length notes.older.now + length notes.newer.now ≤ most_notes }
     ensures place_before_the_notes { (p : List ℕ) → (result ≡ Some p) ↔ PassesThrough p (all_notes notes.entry.older.now notes.entry.newer.now) path.now }
 {
     back_through(path, notes.older, notes.newer)

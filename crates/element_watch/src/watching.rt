@@ -1,8 +1,10 @@
 //! The notice of an element (RFC 5874, section 3).
 ghost use Rattle.std.specs.Prelude.{◌≡◌, ◌≤◌, ◌+◌, All, Some, IfOk, length, if◌then◌else◌};
+ghost use Rattle.xml_tree.specs.Limits.{most_levels};
 ghost use Rattle.xml_tree.specs.Tree.{height};
 ghost use Rattle.node_select.specs.Selection.{SelectsPath};
 ghost use Rattle.notes.specs.Recorded.{all_notes};
+ghost use Rattle.store_core.specs.Limits.{most_notes};
 ghost use Rattle.store_core.specs.Keeping.{IsSoundFor};
 ghost use Rattle.store_core.specs.Since.{Told, since};
 ghost use Rattle.patch_text.specs.inner.Lists.{is_none};
@@ -49,7 +51,7 @@ fn is_untouched(
 ) -> bool
     requires selects { SelectsPath selector.now.steps root.now path.now }
     requires small { All (λ n. n ≤ 4294967295) path.now }
-    requires few { length notes.older.now + length notes.newer.now ≤ 64 }
+    requires few { length notes.older.now + length notes.newer.now ≤ most_notes }
     ensures tells_whether_it_is_untouched { result ≡ is_untouched_at usage root.now selector.now (all_notes notes.entry.older.now notes.entry.newer.now) path.now }
 {
     key_address(usage, root, selector, path) && trace(path, notes).is_some()
@@ -65,7 +67,7 @@ fn state_at(
 ) -> ElementState
     requires selects { SelectsPath selector.now.steps root.now path.now }
     requires small { All (λ n. n ≤ 4294967295) path.now }
-    requires few { length notes.older.now + length notes.newer.now ≤ 64 }
+    requires few { length notes.older.now + length notes.newer.now ≤ most_notes }
     ensures tells_the_state { result ≡ state_at (Some usage) root.now selector.now (all_notes notes.entry.older.now notes.entry.newer.now) (Some path.now) }
 {
     if are_none(notes) || is_untouched(usage, root, selector, path, notes) {
@@ -93,8 +95,8 @@ fn state_of(
     notes: Notes<'_>,
 ) -> ElementState
     requires sound { IsSoundFor (Some usage) root.now }
-    requires low { height root.now ≤ 64 }
-    requires few { length notes.older.now + length notes.newer.now ≤ 64 }
+    requires low { height root.now ≤ most_levels }
+    requires few { length notes.older.now + length notes.newer.now ≤ most_notes }
     ensures tells_the_state { result ≡ state_in (Some usage) root.now selector.now (all_notes notes.entry.older.now notes.entry.newer.now) }
 {
     match select(alloc, root, selector) {
@@ -112,7 +114,7 @@ fn notice_since(
     notes: Notes<'_>,
 ) -> Result<Bytes, AllocError>
     requires told { since store.now.content watch.doc.now watch.tag ≡ Told (all_notes notes.older.now notes.newer.now) }
-    requires few { length notes.older.now + length notes.newer.now ≤ 64 }
+    requires few { length notes.older.now + length notes.newer.now ≤ most_notes }
     ensures writes_the_notice { IfOk result (IsNoticeText root.now store.now.content watch.entry.doc.now watch.entry.selector.now watch.entry.raw.now (all_notes notes.entry.older.now notes.entry.newer.now)) }
 {
     let Some((tree, _tag)) = store.get(watch.doc) else {

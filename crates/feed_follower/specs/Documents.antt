@@ -1,6 +1,7 @@
 -- What a follower makes of the answer to a GET of its document (RFC 4825, section 7.3; RFC 9110, section 15).
 use Rattle.std.specs.Prelude.{◌≡◌, ℕ, Bool, false, ◌==◌, List, [], Option, None, Some, Result, Ok, Err, if◌then◌else◌}
 use Rattle.xcap_io.specs.Causes.{LineState}
+use Rattle.xml_tree.specs.Limits.{most_levels}
 use Rattle.xml_tree.specs.Tree.{Tree}
 use Rattle.tree_text.specs.Faults.{TextAnswer}
 use Rattle.tree_text.specs.declared.fault.TextFault.{TextFault}
@@ -27,9 +28,9 @@ is_refused_with status clients.NoMemory = false
 -- read.
 pub data BringsVersion (response : Response) (result : Result Held FollowerFault) : Type 0 where
   has_no_tag : response.tag ≡ None → result ≡ Err BadTag → BringsVersion response result
-  spells_a_document : (tag : List ℕ) (root : Tree) → response.tag ≡ Some tag → TextAnswer 64 [] response.body (Ok root)
+  spells_a_document : (tag : List ℕ) (root : Tree) → response.tag ≡ Some tag → TextAnswer most_levels [] response.body (Ok root)
       → result ≡ Ok (record { tag = tag; root = root }) → BringsVersion response result
-  spells_none : (tag : List ℕ) (fault : TextFault) → response.tag ≡ Some tag → TextAnswer 64 [] response.body (Err fault)
+  spells_none : (tag : List ℕ) (fault : TextFault) → response.tag ≡ Some tag → TextAnswer most_levels [] response.body (Err fault)
       → result ≡ Err (BadText fault) → BringsVersion response result
   lacks_memory : (tag : List ℕ) → response.tag ≡ Some tag → result ≡ Err NoMemory → BringsVersion response result
 

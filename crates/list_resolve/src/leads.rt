@@ -1,5 +1,6 @@
 //! Where references lead.
 ghost use Rattle.std.specs.Prelude.{◌≡◌, ◌≤◌, option_map, IfOk, IfSome, Ok, Some};
+ghost use Rattle.xml_tree.specs.Limits.{most_levels};
 ghost use Rattle.xml_tree.specs.Tree.{height};
 ghost use Rattle.doc_names.specs.Same.{same_home};
 ghost use Rattle.xcap_uri.specs.Targets.{is_element};
@@ -90,9 +91,9 @@ fn lead_by<'a>(
     selector: &Selector,
     root: &'a Element,
 ) -> Option<Lead<'a>>
-    requires { height root.now ≤ 64 }
+    requires { height root.now ≤ most_levels }
     ensures leads_where_it_is_due { option_map lead_in result ≡ lead_by wanted name selector.now root.now }
-    ensures is_low_enough { IfSome result (λ l. height l.spot.element.now ≤ 64) }
+    ensures is_low_enough { IfSome result (λ l. height l.spot.element.now ≤ most_levels) }
 {
     let path = select(alloc, root, selector)?;
     lead_at(wanted, name, root, path)
@@ -106,7 +107,7 @@ fn lead_to<'a>(
     selector: &Selector,
 ) -> Option<Lead<'a>>
     ensures leads_where_it_is_due { option_map lead_in result ≡ lead_to (ground_in ground.now) wanted doc selector.now }
-    ensures is_low_enough { IfSome result (λ l. height l.spot.element.now ≤ 64) }
+    ensures is_low_enough { IfSome result (λ l. height l.spot.element.now ≤ most_levels) }
 {
     if !(is_own(ground.home, &doc) && is_element(&selector.end)) {
         return None;
@@ -118,7 +119,7 @@ fn lead_to<'a>(
 // Where a target leads.
 fn lead_of<'a>(ground: &Ground<'a>, wanted: Wanted, target: Target) -> Option<Lead<'a>>
     ensures leads_where_it_is_due { option_map lead_in result ≡ lead_of (ground_in ground.now) wanted (Ok target) }
-    ensures is_low_enough { IfSome result (λ l. height l.spot.element.now ≤ 64) }
+    ensures is_low_enough { IfSome result (λ l. height l.spot.element.now ≤ most_levels) }
 {
     match target {
         Target::Node(doc, selector) => lead_to(ground, wanted, doc, &selector),
@@ -139,7 +140,7 @@ pub(crate) fn leads<'a>(
     reference: &Reference,
 ) -> Result<Option<Lead<'a>>, NoMemory>
     ensures leads_where_it_is_due { IfOk result (λ found. option_map lead_in found ≡ leads_in (ground_in ground.now) reference.now) }
-    ensures is_low_enough { IfOk result (λ found. IfSome found (λ l. height l.spot.element.now ≤ 64)) }
+    ensures is_low_enough { IfOk result (λ found. IfSome found (λ l. height l.spot.element.now ≤ most_levels)) }
     ensures lead_is_there { IfOk result (λ found. IfSome found (λ l. spot_at (ground_in ground.now) l.place ≡ Some (spot_in l.spot))) }
 {
     let target = reference.target.as_str().as_bytes();

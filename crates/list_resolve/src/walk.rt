@@ -1,5 +1,6 @@
 //! The walk of a list, with the lists that references lead to (RFC 4826, sections 3.2 and 4.2).
 ghost use Rattle.std.specs.Prelude.{◌≡◌, ◌≤◌, ◌∷◌, Some, OnOk};
+ghost use Rattle.xml_tree.specs.Limits.{most_levels};
 ghost use Rattle.xml_tree.specs.Tree.{height};
 ghost use Rattle.usage_docs.specs.declared.rows.Key.TheVariants.{Uri};
 ghost use Rattle.usage_docs.specs.declared.rows.Kind.TheVariants.{EntryList};
@@ -177,7 +178,7 @@ fn walk_lead(
     lead: Lead<'_>,
     gatherer: &mut Gatherer,
 ) -> Result<(), FlatError>
-    requires low { height lead.spot.element.now ≤ 64 }
+    requires low { height lead.spot.element.now ≤ most_levels }
     requires there { spot_at (ground_in ground.now) lead.place ≡ Some (spot_in lead.spot) }
     requires sound { IsSound (ground_in ground.now) gatherer.old }
     ensures gathers_what_it_leads_to { Gathers (ground_in ground.now)
@@ -199,7 +200,7 @@ fn walk_once(
     lead: Lead<'_>,
     gatherer: &mut Gatherer,
 ) -> Result<(), FlatError>
-    requires low { height lead.spot.element.now ≤ 64 }
+    requires low { height lead.spot.element.now ≤ most_levels }
     requires there { spot_at (ground_in ground.now) lead.place ≡ Some (spot_in lead.spot) }
     requires sound { IsSound (ground_in ground.now) gatherer.old }
     ensures gathers_what_the_element_gives { Gathers (ground_in ground.now)
@@ -224,7 +225,7 @@ fn walk_longer(
     lead: &Lead<'_>,
     gatherer: &mut Gatherer,
 ) -> Result<(), FlatError>
-    requires low { height lead.now.spot.element.now ≤ 64 }
+    requires low { height lead.now.spot.element.now ≤ most_levels }
     requires sound { IsSound (ground_in ground.now) gatherer.old }
     ensures gathers_what_the_element_gives { Gathers (ground_in ground.now)
         (spot_items (behind (leads_in (ground_in ground.now)) ground.now.root.now left (lead.now.place ∷ chain.now)) ground.now.root.now (spot_in lead.now.spot))

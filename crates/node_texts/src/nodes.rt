@@ -2,6 +2,7 @@
 ghost use Rattle.std.specs.Prelude.{◌≡◌, ◌≤◌, [], Some, IfOk, is_some};
 ghost use Rattle.std.specs.List.{find};
 ghost use Rattle.std.specs.Option.{option_copied};
+ghost use Rattle.xml_tree.specs.Limits.{most_levels};
 ghost use Rattle.xml_tree.specs.Print.{print};
 ghost use Rattle.xml_tree.specs.Scopes.{bindings_in};
 ghost use Rattle.xml_tree.specs.Tree.{height, last, tree_of};
@@ -142,7 +143,7 @@ pub fn found_text(
     root: &Element,
     selector: &Selector,
 ) -> Result<Option<Bytes>, NoMemory>
-    requires { height root.now ≤ 64 }
+    requires { height root.now ≤ most_levels }
     ensures sends_what_is_found { IfOk result (λ text. text ≡ encoded (found_text root.now selector.now)) }
 {
     let Some(path) = select(alloc, root, selector) else {
@@ -153,7 +154,7 @@ pub fn found_text(
 
 /// Whether a selector finds something in a document. Memory is taken for indexes of declarations alone, and the answer is the same without it.
 pub fn is_found(alloc: Global, root: &Element, selector: &Selector) -> bool
-    requires { height root.now ≤ 64 }
+    requires { height root.now ≤ most_levels }
     ensures tells_whether_it_is_found { result ≡ is_some (found_text root.now selector.now) }
 {
     let Some(path) = select(alloc, root, selector) else {

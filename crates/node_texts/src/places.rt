@@ -1,5 +1,6 @@
 //! Whether a node that is put has a place (RFC 4825, section 8.2.1).
 ghost use Rattle.std.specs.Prelude.{◌≡◌, ◌≤◌};
+ghost use Rattle.xml_tree.specs.Limits.{most_levels};
 ghost use Rattle.xml_tree.specs.Tree.{height};
 ghost use Rattle.node_texts.specs.Places.{attribute_has_place, but_last, element_has_place, has_place};
 
@@ -20,7 +21,7 @@ fn but_last(steps: &[Step]) -> &[Step]
 
 // Whether steps select an element.
 fn selects(alloc: Global, root: &Element, steps: &[Step]) -> bool
-    requires { height root.now ≤ 64 }
+    requires { height root.now ≤ most_levels }
     ensures tells_whether_an_element_is_selected { result ≡ attribute_has_place steps.now root.now }
 {
     select_steps(alloc, root, steps).is_some()
@@ -28,7 +29,7 @@ fn selects(alloc: Global, root: &Element, steps: &[Step]) -> bool
 
 // Whether an element that these steps select has a place: it is there, or its parent is, or it would be the root.
 fn element_has_place(alloc: Global, root: &Element, steps: &[Step]) -> bool
-    requires { height root.now ≤ 64 }
+    requires { height root.now ≤ most_levels }
     ensures tells_whether_it_has_a_place { result ≡ element_has_place steps.now root.now }
 {
     match steps {
@@ -42,7 +43,7 @@ fn element_has_place(alloc: Global, root: &Element, steps: &[Step]) -> bool
 /// root; or an attribute's element is. A list of bindings has none. Memory is taken for
 /// indexes of declarations alone, and the answer is the same without it.
 pub fn has_place(alloc: Global, root: &Element, selector: &Selector) -> bool
-    requires { height root.now ≤ 64 }
+    requires { height root.now ≤ most_levels }
     ensures tells_whether_there_is_a_place { result ≡ has_place selector.now root.now }
 {
     let steps = selector.steps.as_slice();

@@ -1,5 +1,6 @@
 //! Edits of attributes and texts by operations, in place.
 ghost use Rattle.std.specs.Prelude.{◌≡◌, ◌≤◌, ◌<◌, ◌++◌, ◌∷◌, [], Bool, List, length, remove, IsSome, IsSomeAnd, IfOk, OnOk};
+ghost use Rattle.xml_tree.specs.Limits.{most_levels};
 ghost use Rattle.xml_tree.specs.Attributes.{with_value};
 ghost use Rattle.xml_tree.specs.Edits.{change_at};
 ghost use Rattle.xml_tree.specs.Expanded.{attr_name, same_expanded};
@@ -103,7 +104,7 @@ pub(crate) fn add_attr(
     tree: Element,
 ) -> Result<Element, ReadError<Wrong>>
     requires there { IsSome (at path.now tree) }
-    requires low { height tree ≤ 64 }
+    requires low { height tree ≤ most_levels }
     ensures by_the_words { Gives (λ t. t) (attr_done here.now name path.now operation.now.content tree) result }
 {
     let found = value_in(alloc, operation)?;
@@ -130,7 +131,7 @@ pub(crate) fn replace_attr(
     tree: Element,
 ) -> Result<Element, ReadError<Wrong>>
     requires there { IsSomeAnd (at path.now tree) (λ e. place < length e.attrs) }
-    requires low { height tree ≤ 64 }
+    requires low { height tree ≤ most_levels }
     ensures by_the_words { Gives (λ t. t) (value_done path.now place operation.now.content tree) result }
 {
     let found = value_in(alloc, operation)?;
@@ -150,7 +151,7 @@ pub(crate) fn remove_attr(
     tree: Element,
 ) -> Result<Element, ReadError<Wrong>>
     requires there { IsSomeAnd (at path.now tree) (λ e. place < length e.attrs) }
-    requires low { height tree ≤ 64 }
+    requires low { height tree ≤ most_levels }
     ensures by_the_words { Gives (λ t. t) (take_done path.now place operation.now.content tree) result }
 {
     if !is_bare(operation) {
@@ -181,7 +182,7 @@ pub(crate) fn replace_text(
     tree: Element,
 ) -> Result<Element, ReadError<Wrong>>
     requires there { IsSomeAnd (at path.now tree) (λ e. place < length (nodes_of e.content)) }
-    requires low { height tree ≤ 64 }
+    requires low { height tree ≤ most_levels }
     ensures by_the_words { (c : List (List Decl)) → Gives (λ t. t) (replace_done c (spots.AtText path.now place) operation.now.content tree) result }
 {
     let found = value_in(alloc, operation)?;
@@ -203,7 +204,7 @@ pub(crate) fn remove_text(
     tree: Element,
 ) -> Result<Element, ReadError<Wrong>>
     requires there { IsSomeAnd (at path.now tree) (λ e. place < length (nodes_of e.content)) }
-    requires low { height tree ≤ 64 }
+    requires low { height tree ≤ most_levels }
     ensures by_the_words { (before after : Bool) → Gives (λ t. t) (remove_done before after (spots.AtText path.now place) operation.now.content tree) result }
 {
     if !is_bare(operation) {

@@ -1,5 +1,6 @@
 //! Places among the nodes of a tree, and edits there, in place.
 ghost use Rattle.std.specs.Prelude.{◌≡◌, ◌≤◌, ◌<◌, ◌+◌, suc, length, nat_le, true, IsSome, IsSomeAnd, OnOk};
+ghost use Rattle.xml_tree.specs.Limits.{most_levels};
 ghost use Rattle.xml_tree.specs.Edits.{change_at, parent_path};
 ghost use Rattle.xml_tree.specs.Nodes.{exchange_nodes, nodes_of};
 ghost use Rattle.xml_tree.specs.Tree.{at, height};
@@ -120,14 +121,14 @@ pub(crate) fn gap_of(position: Position, tree: &Element, path: Path) -> Gap
 
 /// Whether nodes may stand in the element at a path, by their depth.
 pub(crate) fn may_hold(path: &Path, nodes: &[Node]) -> bool
-    ensures tells_whether_they_fit { result ≡ nat_le (length path.now + suc (nodes_height nodes.now)) 64 }
+    ensures tells_whether_they_fit { result ≡ nat_le (length path.now + suc (nodes_height nodes.now)) most_levels }
 {
     nodes_depth(nodes).saturating_add(path.numbers().len() + 1) <= DEPTH
 }
 
 /// Whether an element may stand at a path, by its depth.
 pub(crate) fn may_stand(path: &Path, element: &Element) -> bool
-    ensures tells_whether_it_fits { result ≡ nat_le (length path.now + height element.now) 64 }
+    ensures tells_whether_it_fits { result ≡ nat_le (length path.now + height element.now) most_levels }
 {
     depth(element).saturating_add(path.numbers().len()) <= DEPTH
 }

@@ -1,5 +1,6 @@
 //! Edits of elements by operations, in place.
 ghost use Rattle.std.specs.Prelude.{◌≡◌, ◌≤◌, ◌<◌, ◌+◌, ◌-◌, suc, true, not, ◌||◌, length, slice_get, is_some, IsSome, IsSomeAnd, OnOk};
+ghost use Rattle.xml_tree.specs.Limits.{most_levels};
 ghost use Rattle.xml_tree.specs.Nodes.{nodes_of};
 ghost use Rattle.xml_tree.specs.Tree.{at, height};
 ghost use Rattle.patch_words.specs.Applied.{cut_nodes, is_space_at, nodes_at, one_if, put_done, remove_done, replace_done, space_before};
@@ -39,7 +40,7 @@ pub(crate) fn put_content(
     tree: Element,
 ) -> Result<Element, ReadError<Wrong>>
     requires there { IsSome (at path tree) }
-    requires low { height tree ≤ 64 }
+    requires low { height tree ≤ most_levels }
     ensures by_the_words { Gives (λ t. t) (put_done here.now (position_in position) path operation.now.content tree) result }
 {
     if !off_root(position, &path) {
@@ -61,7 +62,7 @@ fn put_in_gap(
     tree: Element,
 ) -> Result<Element, ReadError<Wrong>>
     requires within { IsSomeAnd (at gap.path tree) (λ e. gap.place ≤ length (nodes_of e.content)) }
-    requires low { height tree ≤ 64 }
+    requires low { height tree ≤ most_levels }
     ensures by_the_words { Gives (λ t. t) (gap_done here.now gap.path gap.place operation.now.content tree) result }
 {
     let nodes = operation.nodes();
@@ -86,7 +87,7 @@ pub(crate) fn replace_element(
     tree: Element,
 ) -> Result<Element, ReadError<Wrong>>
     requires there { IsSome (at path.now tree) }
-    requires low { height tree ≤ 64 }
+    requires low { height tree ≤ most_levels }
     ensures by_the_words { Gives (λ t. t) (replace_done here.now (spots.AtElement path.now) operation.now.content tree) result }
 {
     let Some(new) = sole_element(operation) else {
@@ -172,7 +173,7 @@ pub(crate) fn remove_element(
     tree: Element,
 ) -> Result<Element, ReadError<Wrong>>
     requires there { IsSome (at path.now tree) }
-    requires low { height tree ≤ 64 }
+    requires low { height tree ≤ most_levels }
     ensures by_the_words { Gives (λ t. t) (remove_done before after (spots.AtElement path.now) operation.now.content tree) result }
 {
     if !is_below(path) {

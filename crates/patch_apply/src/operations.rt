@@ -1,5 +1,6 @@
 //! Patch operations, one at a time (RFC 5261, section 4).
 ghost use Rattle.std.specs.Prelude.{◌≤◌, ◌<◌, length};
+ghost use Rattle.xml_tree.specs.Limits.{most_levels};
 ghost use Rattle.xml_tree.specs.Tree.{height};
 ghost use Rattle.patch_words.specs.Applied.{applied, remove_done, replace_done};
 ghost use Rattle.patch_words.specs.Applied as words;
@@ -28,7 +29,7 @@ fn replace(
     tree: Element,
 ) -> Result<Element, ReadError<Wrong>>
     requires there { IsThere tree spot }
-    requires low { height tree ≤ 64 }
+    requires low { height tree ≤ most_levels }
     ensures by_the_words { (w : words.Spot) → IsSpot tree spot w → Gives (λ t. t) (replace_done here.now w operation.now.content tree) result }
 {
     match spot {
@@ -48,7 +49,7 @@ fn remove(
     tree: Element,
 ) -> Result<Element, ReadError<Wrong>>
     requires there { IsThere tree spot }
-    requires low { height tree ≤ 64 }
+    requires low { height tree ≤ most_levels }
     ensures by_the_words { (w : words.Spot) → IsSpot tree spot w → Gives (λ t. t) (remove_done before after w operation.now.content tree) result }
 {
     match spot {
@@ -68,7 +69,7 @@ fn done(
     tree: Element,
 ) -> Result<Element, ReadError<Wrong>>
     requires there { IsThere tree spot }
-    requires low { height tree ≤ 64 }
+    requires low { height tree ≤ most_levels }
     ensures by_the_words { (w : words.Spot) → IsSpot tree spot w → Gives (λ t. t) (words.done here.now (task_in task) w operation.now.content tree) result }
 {
     match task {
@@ -90,7 +91,7 @@ fn done_where(
     operation: &Element,
     tree: Element,
 ) -> Result<Element, ReadError<Wrong>>
-    requires low { height tree ≤ 64 }
+    requires low { height tree ≤ most_levels }
     ensures by_the_words { Gives (λ t. t) (done_where here.now (task_in task) selector.now operation.now.content tree) result }
 {
     let Some(spot) = located(alloc, selector, &tree) else {
@@ -107,7 +108,7 @@ fn said(
     operation: &Element,
     tree: Element,
 ) -> Result<Element, ReadError<Wrong>>
-    requires low { height tree ≤ 64 }
+    requires low { height tree ≤ most_levels }
     ensures by_the_words { Gives (λ t. t) (said_done here.now sel.now operation.now tree) result }
 {
     let meant = task_of_operation(alloc, operation.name(), operation.attrs())?;
@@ -129,7 +130,7 @@ pub(crate) fn applied(
     tree: Element,
 ) -> Result<Element, ReadError<Wrong>>
     requires room { length scope.now < 67 }
-    requires low { height tree ≤ 64 }
+    requires low { height tree ≤ most_levels }
     ensures by_the_words { Gives (λ t. t) (applied scope.now operation.now tree) result }
 {
     let attrs = operation.attrs();

@@ -1,5 +1,6 @@
 //! What the selector of an operation selects (RFC 5261, section 4.1).
 ghost use Rattle.std.specs.Prelude.{◌≡◌, ◌≤◌, Some};
+ghost use Rattle.xml_tree.specs.Limits.{most_levels};
 ghost use Rattle.xml_tree.specs.Scopes.{scope_at};
 ghost use Rattle.xml_tree.specs.Tree.{at, height};
 ghost use Rattle.node_select.specs.declared.selector.PatchEnd.TheVariants as ends;
@@ -74,7 +75,7 @@ fn ended(
 
 /// What a selector selects in a tree.
 pub(crate) fn located(alloc: Global, selector: &PatchSelector, tree: &Element) -> Option<Spot>
-    requires { height tree.now ≤ 64 }
+    requires { height tree.now ≤ most_levels }
     ensures what_is_selected { Spots tree.now (located selector.now tree.now) result }
 {
     let path = select_steps(alloc, tree, selector.steps.as_slice())?;

@@ -1,7 +1,7 @@
 //! What a document of a notice makes of what is held.
 ghost use Rattle.std.specs.Prelude.{◌≡◌, ◌≤◌, ◌<◌, ℕ, suc, min, map, length, Some, Result, Err, IfOk};
 ghost use Rattle.std.specs.Option.{option_copied};
-ghost use Rattle.xml_tree.specs.Limits.{greatest_u64};
+ghost use Rattle.xml_tree.specs.Limits.{greatest_u64, most_levels};
 ghost use Rattle.xml_tree.specs.Tree.{Tree, height};
 ghost use Rattle.patch_words.specs.Applied as words;
 ghost use Rattle.patch_words.specs.Replay.{WrongTag, all_applied, by_tags, changed, held_tag, is_tag, numbered, renewed_copy};
@@ -54,9 +54,9 @@ fn all_applied(
     tree: Element,
 ) -> Result<Element, ReadError<ApplyFault>>
     requires room { length scope.now < 67 }
-    requires low { height tree ≤ 64 }
+    requires low { height tree ≤ most_levels }
     ensures by_the_words { (n : ℕ) → before ≡ min n greatest_u64 → Tells (λ t. t) (all_applied n scope.now (map (λ x. x.now) operations.now) tree) result }
-    ensures is_low_enough { IfOk result (λ made. height made ≤ 64) }
+    ensures is_low_enough { IfOk result (λ made. height made ≤ most_levels) }
 {
     let mut tree = tree;
     let mut number = before;
@@ -114,7 +114,7 @@ fn changed(
     held: Held,
 ) -> Result<Turn, ReadError<ApplyFault>>
     requires room { length scope.now < 67 }
-    requires low { height held.root ≤ 64 }
+    requires low { height held.root ≤ most_levels }
     ensures by_the_words { (n : ℕ) → before ≡ min n greatest_u64 → Tells turn_in (changed n scope.now (map (λ x. x.now) operations.now) tag.now (Some (version_in held))) result }
     ensures is_low_enough { IfOk result IsLowTurn }
 {

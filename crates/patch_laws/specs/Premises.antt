@@ -1,6 +1,7 @@
 -- Of which trees, notes and scopes the laws of notices speak.
 use Rattle.std.specs.Prelude.{◌≡◌, ◌≢◌, ℕ, IsSome, ◌<◌, ◌≤◌, List, [], ◌∷◌, length}
 use Rattle.std.specs.List.{AllByRecursion}
+use Rattle.xml_tree.specs.Limits.{most_levels}
 use Rattle.xml_tree.specs.Print.{byte_len, print}
 use Rattle.xml_tree.specs.Proper.{ProperIn}
 use Rattle.xml_tree.specs.Scopes.{bound}
@@ -32,12 +33,12 @@ Meets c d = (p : List ℕ) → (p ≢ [] → IsSome (bound c p)) → bound c p �
 
 -- a tree that a replica may hold: proper, and not too deep
 abbrev pub IsSound : Tree → Type 0
-IsSound t = ProperIn [] t × (height t ≤ 64)
+IsSound t = ProperIn [] t × (height t ≤ most_levels)
 
 -- a tree that notices lead from and to: its print isn't too long, besides
 pub record IsTold (t : Tree) : Type 0 where
   pub proper : ProperIn [] t
-  pub low : height t ≤ 64
+  pub low : height t ≤ most_levels
   pub short : byte_len (print t) ≤ 4294967295
 
 -- the tree before the notes, and the one after each

@@ -3,6 +3,7 @@
 //! same changes nothing (RFC 4825, sections 8.2.3, 8.2.4 and 8.4; RFC 9110, section 9.2.2).
 ghost use Rattle.std.specs.Prelude.{◌≡◌, ◌≤◌, ℕ, List, [], None, Some, Result, Ok, IsTrue};
 ghost use Rattle.doc_names.specs.declared.usages.Usage.{Usage};
+ghost use Rattle.xml_tree.specs.Limits.{most_levels};
 ghost use Rattle.xml_tree.specs.Characters.{all_chars};
 ghost use Rattle.xml_tree.specs.Proper.{ProperIn};
 ghost use Rattle.xml_tree.specs.Tree.{Tree, at, height};
@@ -83,10 +84,10 @@ pub fn each_plan_has_an_answer()
 /// is put is proper in the scope of its place and has room there.
 pub fn planned_changes_leave_proper_documents()
     ensures of_an_element { (u : Usage) (t : Tree) (selector : Selector) (spot : Spot) (e : Tree) (change : Change) → IsPutPlan u t selector.steps spot e (Ok change) → IsSpotOf t selector spot
-        → ProperIn [] t → height t ≤ 64 → IsProperAt t spot e → HasRoomAt spot e → LeavesProper t change }
+        → ProperIn [] t → height t ≤ most_levels → IsProperAt t spot e → HasRoomAt spot e → LeavesProper t change }
     ensures of_an_attribute { (u : Usage) (t : Tree) (selector : Selector) (uri local p value : List ℕ) (change : Change) → IsAttrPlan u t selector.steps (ends.Attribute uri local) p value (Ok change)
-        → ProperIn [] t → height t ≤ 64 → IsWritable uri local → IsTrue (all_chars value) → LeavesProper t change }
-    ensures of_a_deletion { (u : Usage) (t : Tree) (selector : Selector) (change : Change) → IsDeletePlan u t selector (Ok change) → ProperIn [] t → height t ≤ 64 → LeavesProper t change }
+        → ProperIn [] t → height t ≤ most_levels → IsWritable uri local → IsTrue (all_chars value) → LeavesProper t change }
+    ensures of_a_deletion { (u : Usage) (t : Tree) (selector : Selector) (change : Change) → IsDeletePlan u t selector (Ok change) → ProperIn [] t → height t ≤ most_levels → LeavesProper t change }
 {}
 
 /// The attribute that a selector ends in may be written.

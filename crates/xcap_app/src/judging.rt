@@ -1,5 +1,6 @@
 // Whether a text is a document of a usage, and why it isn't.
 ghost use Rattle.std.specs.Prelude.{◌≡◌, ◌≤◌, ◌⊎◌, IfOk};
+ghost use Rattle.xml_tree.specs.Limits.{most_levels};
 ghost use Rattle.xml_tree.specs.Tree.{height};
 ghost use Rattle.xcap_app.specs.Verdicts.{FaultVerdict, TextVerdict, TreeVerdict, exit_of};
 
@@ -28,7 +29,7 @@ fn exit_of(fault: Option<Fault>) -> Exit
 
 // How it ends where a text spells this tree.
 fn judge_tree(alloc: Global, usage: Usage, root: &Element) -> Result<Exit, AllocError>
-    requires { height root.now ≤ 64 }
+    requires { height root.now ≤ most_levels }
     ensures judges_the_tree { IfOk result (λ exit. TreeVerdict usage root.now exit) }
 {
     let fault = usage_docs::judge(alloc, usage, root)?;

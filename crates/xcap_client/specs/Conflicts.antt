@@ -1,5 +1,6 @@
 -- What the body of a response names as wrong (RFC 4825, section 11: the child of an `xcap-error` is named by the error).
 use Rattle.std.specs.Prelude.{◌≡◌, ℕ, Bool, List, [], ◌∷◌, Option, None, Some, Result, Ok, Err, codes, option_map, slice_get, if◌then◌else◌}
+use Rattle.xml_tree.specs.Limits.{most_levels}
 use Rattle.xml_tree.specs.Tree.{Tree, kids_of}
 use Rattle.xml_tree.specs.Expanded.{element_name, same_expanded}
 use Rattle.tree_text.specs.declared.fault.TextFault.{TextFault}
@@ -26,5 +27,5 @@ error_told (Err fault) = None
 -- read as a document of at most 64 levels, the body names this as wrong, or nothing
 pub record NamesError (body : List ℕ) (name : Option (List ℕ)) : Type 0 where
   pub document : Result Tree TextFault
-  pub read : TextAnswer 64 [] body document
+  pub read : TextAnswer most_levels [] body document
   pub told : name ≡ error_told document
