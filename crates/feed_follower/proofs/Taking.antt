@@ -11,7 +11,7 @@ use Rattle.tree_text.specs.declared.fault.TextFault.{TextFault}
 use Rattle.doc_names.specs.declared.doc_id.DocId.{DocId}
 use Rattle.http_exchange.specs.declared.response.Response.{Response}
 use Rattle.name_words.specs.Naming.{is_name_of}
-use Rattle.patch_words.specs.Replay.{CopyAnswer, CopyHeld, CopyFault, Outcome, Same, Patched, Removed, Fetch, WrongDocument, copy_answer, documents, all_taken, is_all_mine, replayed, then_next}
+use Rattle.patch_words.specs.Replay.{CopyAnswer, CopyHeld, CopyFault, Outcome, Replays, Same, Patched, Removed, Fetch, WrongDocument, all_taken, copy_answer, documents, is_all_mine, then_next}
 use Rattle.patch_laws.specs.Replayed.{HoldsSound}
 use Rattle.patch_apply.specs.Applying.{Applies}
 use Rattle.patch_apply.specs.Reading.{NoticeAnswer}
@@ -86,17 +86,17 @@ by_mine : (mine : Bool) (outcome : Result Outcome CopyFault) (ds : List Tree) (h
 by_mine true outcome ds held held' tag same = by_outcome outcome ds held held' tag same
 by_mine false outcome ds held held' tag same = absurd (false≢true (ap is_fetch same))
 
-fetch_keeps : (is_mine : List ℕ → Bool) (notice : Tree) (held held' : CopyHeld) (tag : List ℕ) → replayed is_mine notice held ≡ Ok (Fetch tag, held') → held' ≡ held
-fetch_keeps is_mine notice held held' tag same =
-    by_mine (is_all_mine is_mine (documents notice)) (all_taken 0 (notice.decls ∷ []) (documents notice) held) (documents notice) held held' tag same
+fetch_keeps : (is_mine : List ℕ → Bool) (notice : Tree) (held held' : CopyHeld) (tag : List ℕ) → Replays is_mine notice held (Ok (Fetch tag, held')) → held' ≡ held
+fetch_keeps is_mine notice held held' tag h =
+    by_mine (is_all_mine is_mine (documents notice)) (all_taken h.0 0 (notice.decls ∷ []) (documents notice) held) (documents notice) held held' tag (sym h.2)
 
 applied_keeps : (is_mine : List ℕ → Bool) (notice : Tree) (held held' : CopyHeld) (applied : Result Applied (ReadError ApplyFault))
-    → Applies (replayed is_mine notice held) held applied held' → KeepsUnlessTold held held' (outcome_of applied)
+    → Applies is_mine notice held applied held' → KeepsUnlessTold held held' (outcome_of applied)
 applied_keeps is_mine notice held held' (Ok answers.Same) a = tt
 applied_keeps is_mine notice held held' (Ok answers.Patched) a = tt
 applied_keeps is_mine notice held held' (Ok answers.Removed) a = tt
 applied_keeps is_mine notice held held' (Ok (answers.Fetch tag)) a = fetch_keeps is_mine notice held held' tag a
-applied_keeps is_mine notice held held' (Err (errors.Fault fault)) a = a.1
+applied_keeps is_mine notice held held' (Err (errors.Fault fault)) a = a.3
 applied_keeps is_mine notice held held' (Err errors.NoMemory) a = a
 
 pub notice_keeps : (doc : DocId) (body : List ℕ) (held held' : CopyHeld) (result : Result (Option Round) FollowerFault) → TakesNotice doc body held held' result → KeepsUnlessTold held held' result

@@ -5,7 +5,7 @@ use Rattle.xml_tree.specs.declared.read_error.ReadError.{ReadError}
 use Rattle.doc_names.specs.declared.doc_id.DocId.{DocId}
 use Rattle.http_exchange.specs.declared.response.Response.{Response}
 use Rattle.name_words.specs.Naming.{is_name_of}
-use Rattle.patch_words.specs.Replay.{CopyHeld, replayed}
+use Rattle.patch_words.specs.Replay.{CopyHeld}
 use Rattle.patch_apply.specs.Applying.{Applies}
 use Rattle.patch_apply.specs.Reading.{NoticeAnswer}
 use Rattle.patch_apply.specs.declared.fault.ApplyFault.{ApplyFault}
@@ -31,7 +31,7 @@ outcome_of (Err error) = Err (of_apply error)
 -- The body spells a notice, which was applied to what was held, or spells none; but memory may run out while it is read.
 pub data TakesNotice (doc : DocId) (body : List ℕ) (held held' : CopyHeld) (result : Result (Option Round) FollowerFault) : Type 0 where
   applies : (notice : Tree) (applied : Result Applied (ReadError ApplyFault)) → NoticeAnswer body (Ok notice)
-      → Applies (replayed (is_name_of doc) notice held) held applied held' → result ≡ outcome_of applied
+      → Applies (is_name_of doc) notice held applied held' → result ≡ outcome_of applied
       → TakesNotice doc body held held' result
   is_none : (fault : NoticeFault) → NoticeAnswer body (Err fault) → held' ≡ held → result ≡ Err (BadNotice fault)
       → TakesNotice doc body held held' result

@@ -11,7 +11,7 @@ use Rattle.xcap_uri.specs.declared.target.Mode.{Mode}
 use Rattle.xcap_uri.specs.declared.target.Mode.TheVariants.{NoPatching, XcapPatching, Aggregate}
 use Rattle.xcap_uri.specs.declared.target.Target.TheVariants.{Feed}
 use Rattle.notes.specs.declared.edit.Edit.{Edit}
-use Rattle.patch_words.specs.Replay.{CopyAnswer, CopyHeld, Removed, is_notice, replayed}
+use Rattle.patch_words.specs.Replay.{CopyAnswer, CopyHeld, Removed, Replays, is_notice}
 use Rattle.reply_text.specs.Heads.{Sent}
 use Rattle.http_wire.specs.declared.request.Request.{Request}
 use Rattle.request_terms.specs.Methods.{method_of}
@@ -29,7 +29,7 @@ pub record Updates (id : DocId) (body : List ℕ) (held : CopyHeld) (answer : Co
   pub is_read : TextAnswer 67 [] body (Ok notice)
   pub form : is_notice notice ≡ true
   pub proper : ProperIn [] notice
-  pub is_applied : replayed (is_name_of id) notice held ≡ Ok (answer, new)
+  pub is_applied : Replays (is_name_of id) notice held (Ok (answer, new))
 
 -- from one version of the document to another: where changes are told, who held the one holds the other; else it is told to fetch that, or that
 -- nothing changed

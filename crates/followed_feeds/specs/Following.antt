@@ -11,7 +11,7 @@ use Rattle.reply_text.specs.Heads.{Sent}
 use Rattle.store_core.specs.Held.{Stock}
 use Rattle.machine_words.specs.Answers.{unchanged}
 use Rattle.machine_words.specs.Requests.{IsAnswer}
-use Rattle.patch_words.specs.Replay.{CopyAnswer, CopyFault, CopyHeld, replayed}
+use Rattle.patch_words.specs.Replay.{CopyAnswer, CopyFault, CopyHeld, Replays}
 use Rattle.patch_apply.specs.Reading.{NoticeAnswer}
 use Rattle.patch_apply.specs.Views.{answer_in, told_as}
 use Rattle.patch_apply.specs.declared.fault.NoticeFault.{NoticeFault}
@@ -39,7 +39,7 @@ module _ (old : CopyHeld) (result : Result Applied FollowFault) (new : CopyHeld)
 module _ (mine : DocId) (old : CopyHeld) (result : Result Applied FollowFault) (new : CopyHeld) where
   -- a notice is applied; a body that is none is refused
   abbrev pub TakesNotice : Result Tree NoticeFault → Type 0
-  TakesNotice (Ok notice) = Applies old result new (replayed (is_name_of mine) notice old)
+  TakesNotice (Ok notice) = (stated : Result (CopyAnswer × CopyHeld) CopyFault) × Replays (is_name_of mine) notice old stated × Applies old result new stated
   TakesNotice (Err fault) = Refuses old result new (Notice fault)
 
   -- the body is read where the status is 200

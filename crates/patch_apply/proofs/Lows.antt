@@ -10,8 +10,9 @@ use Rattle.xml_tree.specs.Tree.{Content, Tree, at, height}
 use Rattle.xml_tree.specs.declared.names.Decl.{Decl}
 use Rattle.xml_tree.specs.declared.names.Name.{Name}
 use Rattle.node_select.specs.declared.selector.PatchSelector.{PatchSelector}
-use Rattle.node_select.specs.readers.Raw.{RawPatchSelector}
-use Rattle.patch_words.specs.Applied.{Directive, NoSpace, Prefix, RootTouched, Unlocated, Wrong, WrongNodes, Task, Put, NewAttr, Replace, Remove, Spot, AtElement, AtAttr, AtText, applied, attr_of, cut_element, cut_nodes, done, end_of, form_of, given, is_bare, is_below, is_bound_type, is_known, located, made, meaning_in, means_alike, off_root, path_of, plain_value, put_at, rewritten, scope_of_put, sole_element, space_fits, suits, task_of, tested, value_in, with_attrs, within_depth, operation_word}
+use Rattle.patch_words.specs.Applied.{Directive, NoSpace, Prefix, RootTouched, Unlocated, Wrong, WrongNodes, Task, Put, NewAttr, Replace, Remove, Spot, AtElement, AtAttr, AtText, attr_of, cut_element, cut_nodes, done, given, is_bare, is_below, is_bound_type, is_known, located, made, means_alike, off_root, path_of, plain_value, put_at, rewritten, scope_of_put, sole_element, space_fits, suits, task_of, tested, value_in, with_attrs, within_depth, operation_word}
+use Rattle.patch_words.specs.Selectors.{Reading}
+use Rattle.patch_words.specs.readers.Applied.{applied, reading_in}
 use Rattle.patch_apply.proofs.Depths.{low_made}
 
 abbrev Low : Tree → Type 0
@@ -77,12 +78,12 @@ module _ (c : List (List Decl)) (content : Content) (t x : Tree) where
 
 -- ---- a whole operation
 
-module _ (sel : Option (List ℕ)) (known : Bool) (task : Option Task) (read : List ℕ → Option RawPatchSelector) (suit : Task → RawPatchSelector → Bool) (means : RawPatchSelector → Option PatchSelector) (bnd : Task → Bool)
+module _ (sel : Option (List ℕ)) (known : Bool) (task : Option Task) (read : List ℕ → Option Reading) (suit : Task → Reading → Bool) (means : Reading → Option PatchSelector) (bnd : Task → Bool)
     (loc : PatchSelector → Option Spot) (fin : Task → Spot → Result Tree Wrong) (x : Tree) (last : (y : Task) (spot : Spot) → fin y spot ≡ Ok x → Low x) where
   abbrev from_selector : Task → PatchSelector → Result Tree Wrong
   from_selector y s = tested (bnd y) Prefix (given (loc s) Unlocated (fin y))
 
-  abbrev from_form : Task → RawPatchSelector → Result Tree Wrong
+  abbrev from_form : Task → Reading → Result Tree Wrong
   from_form y f = tested (suit y f) Directive (given (means f) Prefix (from_selector y))
 
   abbrev from_task : List ℕ → Task → Result Tree Wrong
@@ -94,7 +95,7 @@ module _ (sel : Option (List ℕ)) (known : Bool) (task : Option Task) (read : L
   selector_low : (y : Task) (s : PatchSelector) → from_selector y s ≡ Ok x → Low x
   selector_low y s e = behind_given (loc s) Unlocated (fin y) x (last y) (behind_test (bnd y) Prefix (given (loc s) Unlocated (fin y)) x e)
 
-  form_low : (y : Task) (f : RawPatchSelector) → from_form y f ≡ Ok x → Low x
+  form_low : (y : Task) (f : Reading) → from_form y f ≡ Ok x → Low x
   form_low y f e = behind_given (means f) Prefix (from_selector y) x (selector_low y) (behind_test (suit y f) Directive (given (means f) Prefix (from_selector y)) x e)
 
   known_low : (v : List ℕ) → from_known v ≡ Ok x → Low x
@@ -110,6 +111,6 @@ applied_low c o t x e =
     let type = plain_value (codes "type") o.attrs in
     let ws = plain_value (codes "ws") o.attrs in
     low_made x (
-    chain_low (plain_value (codes "sel") o.attrs) (list_all is_known o.attrs) (option_and_then (λ w. task_of w pos type ws) (operation_word o.name.local)) form_of (λ y f. suits y (end_of f)) (meaning_in here)
+    chain_low (plain_value (codes "sel") o.attrs) (list_all is_known o.attrs) (option_and_then (λ w. task_of w pos type ws) (operation_word o.name.local)) reading_in (λ y f. suits y f.ends) (λ f. f.means here)
     (is_bound_type here) (λ s. located s t) (λ y spot. done here y spot o.content t) x (λ y spot h. done_low here o.content t x y spot h) e
     )

@@ -7,7 +7,8 @@ use Rattle.xml_tree.specs.Tree.{Tree}
 use Rattle.xml_tree.specs.declared.names.Attr.{Attr}
 use Rattle.xml_tree.specs.declared.names.Decl.{Decl}
 use Rattle.node_select.specs.declared.selector.PatchSelector.{PatchSelector}
-use Rattle.patch_words.specs.Applied.{Wrong, Directive, Prefix, Unlocated, Task, applied, done, end_of, form_of, given, is_bound_type, is_known, located, meaning_in, plain_value, suits, tested}
+use Rattle.patch_words.specs.Applied.{Wrong, Directive, Prefix, Unlocated, Task, done, given, is_bound_type, is_known, located, plain_value, suits, tested}
+use Rattle.patch_words.specs.readers.Applied.{applied, reading_in}
 use Rattle.patch_apply.specs.inner.Giving.{Gives}
 use Rattle.patch_apply.specs.inner.Stages.{done_where, said_done, selector_tested, task_done, task_said}
 use Rattle.patch_apply.specs.inner.Seen.{wrong_in}
@@ -62,11 +63,11 @@ module _ (here : List (List Decl)) (sel : List ℕ) (o t : Tree) where
   -- with a selector that is refused
   pub said_refused : (task : Task) (w : Wrong) → task_said o.name o.attrs ≡ Some task → selector_tested here sel task ≡ Err w → said_done here sel o t ≡ Err w
   said_refused task w e refused =
-      said_some task e ∙ ends (meaning_in here) (next task) (form_of sel) (λ form. suits task (end_of form)) (is_bound_type here task) w refused
+      said_some task e ∙ ends (λ r. r.means here) (next task) (reading_in sel) (λ r. suits task r.ends) (is_bound_type here task) w refused
 
   -- with one that is taken
   pub said_next : (task : Task) (s : PatchSelector) → task_said o.name o.attrs ≡ Some task → selector_tested here sel task ≡ Ok s → said_done here sel o t ≡ done_where here task s o.content t
-  said_next task s e tests = said_some task e ∙ goes_on (meaning_in here) (next task) (form_of sel) (λ form. suits task (end_of form)) (is_bound_type here task) s tests
+  said_next task s e tests = said_some task e ∙ goes_on (λ r. r.means here) (next task) (reading_in sel) (λ r. suits task r.ends) (is_bound_type here task) s tests
 
   -- a call that refuses the selector refuses the operation
   pub said_error : (task : Task) (error : ReadError CodeWrong) → task_said o.name o.attrs ≡ Some task → Gives {X = PatchSelector} (λ s. s) (selector_tested here sel task) (Err error)

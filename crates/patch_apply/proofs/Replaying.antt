@@ -5,10 +5,14 @@ use Rattle.xml_tree.specs.declared.read_error.ReadError.TheVariants.{Fault, NoMe
 use Rattle.xml_tree.specs.Proper.{ProperIn}
 use Rattle.xml_tree.specs.Tree.{Tree}
 use Rattle.patch_words.specs.Replay as replay
-use Rattle.patch_words.specs.Replay.{CopyAnswer, Fetch, CopyHeld, Outcome, Same, WrongDocument, all_taken, copy_answer, documents, end_answer, is_all_mine, last_new, replayed, then_next}
+use Rattle.patch_words.specs.Replay.{CopyAnswer, Fetch, CopyHeld, Outcome, Same, WrongDocument, copy_answer, documents, end_answer, is_all_mine, last_new, then_next}
+use Rattle.patch_words.specs.readers.Applied.{reading_in}
+use Rattle.patch_words.specs.readers.Replay.{all_taken, replayed}
 use Rattle.patch_laws.specs.Replayed.{HoldsSound}
 use Rattle.patch_laws.proofs.OnwardNotices.{replayed_sound}
+use Rattle.patch_laws.proofs.Outcomes.{replays}
 use Rattle.patch_apply.specs.Applying.{Applies}
+use Rattle.patch_apply.specs.inner.Giving.{AppliesAs}
 use Rattle.patch_apply.specs.Views.{answer_in}
 use Rattle.patch_apply.specs.declared.fault.ApplyFault.{ApplyFault}
 use Rattle.patch_apply.specs.declared.replica.Applied.{Applied}
@@ -40,8 +44,15 @@ module _ (is_mine : List ℕ → Bool) (notice : Tree) (held : CopyHeld) where
         answer_is [] h = absurd (omega arith)
         answer_is (d ∷ ds) h = refl
 
--- what is held stays proper and low
-pub stays_sound : (is_mine : List ℕ → Bool) (notice : Tree) (old : CopyHeld) (r : Result Applied (ReadError ApplyFault)) (new : CopyHeld) → ProperIn [] notice → Applies (replayed is_mine notice old) old r new → HoldsSound old → HoldsSound new
-stays_sound is_mine notice old (Ok answer) new proper h sound = replayed_sound is_mine notice old new (answer_in answer) proper sound h
-stays_sound is_mine notice old (Err (Fault fault)) new proper h sound = subst HoldsSound (sym h.1) sound
-stays_sound is_mine notice old (Err NoMemory) new proper h sound = subst HoldsSound (sym h) sound
+module _ (is_mine : List ℕ → Bool) (notice : Tree) (old : CopyHeld) where
+  -- what is stated of what is read from left to right is what the notice makes by the grammar
+  pub applies : (r : Result Applied (ReadError ApplyFault)) (new : CopyHeld) → AppliesAs (replayed is_mine notice old) old r new → Applies is_mine notice old r new
+  applies (Ok answer) new h = replays is_mine notice old (Ok (answer_in answer, new)) h
+  applies (Err (Fault fault)) new h = (h.0.stated_fault, replays is_mine notice old (Err h.0.stated_fault) h.0.is, h.0.told, h.1)
+  applies (Err NoMemory) new h = h
+
+  -- what is held stays proper and low
+  pub stays_sound : (r : Result Applied (ReadError ApplyFault)) (new : CopyHeld) → ProperIn [] notice → AppliesAs (replayed is_mine notice old) old r new → HoldsSound old → HoldsSound new
+  stays_sound (Ok answer) new proper h sound = replayed_sound reading_in is_mine notice old new (answer_in answer) proper sound h
+  stays_sound (Err (Fault fault)) new proper h sound = subst HoldsSound (sym h.1) sound
+  stays_sound (Err NoMemory) new proper h sound = subst HoldsSound (sym h) sound

@@ -15,8 +15,10 @@ use Rattle.node_select.specs.readers.Raw.{RawPatchSelector, RawPatchEnd, PatchEl
 use Rattle.node_select.specs.readers.Selectors.{read_patch_selector}
 use Rattle.node_select.specs.readers.Whole.{meant, patch_selector_read, patch_told}
 use Rattle.node_select.proofs.ExactSelectors.{one_patch_selector, patch_selector_answer}
-use Rattle.patch_words.specs.Applied.{Wrong, Directive, Prefix, Task, Put, NewAttr, Replace, Remove, end_of, form_of, form_read, given, is_bound_type, meaning_in, suits, tested}
-use Rattle.patch_apply.specs.inner.Forms.{IsRefused, IsUnbound, is_type_bound, suits_form, unbound_with}
+use Rattle.patch_words.specs.Applied.{Wrong, Directive, Prefix, Task, Put, NewAttr, Replace, Remove, given, is_bound_type, suits, tested}
+use Rattle.patch_words.specs.Selectors.{Reading}
+use Rattle.patch_words.specs.readers.Applied.{meaning_of, reading_in, reading_of, reading_told}
+use Rattle.patch_apply.specs.inner.Forms.{IsRefused, IsUnbound, is_type_bound, unbound_with}
 use Rattle.node_select.specs.Faults.{form_of as end_form}
 use Rattle.node_select.specs.readers.Whole.{raw_form_of, raw_form_told}
 use Rattle.patch_apply.specs.inner.Stages.{selector_tested}
@@ -28,18 +30,6 @@ pub form_stays : (b : List Decl) (end : RawPatchEnd) → end_form (patch_end_of 
 form_stays b PatchElement = refl
 form_stays b (PatchAttribute name) = refl
 form_stays b (PatchChars k) = refl
-
-pub suits_by_form : (task : Task) (end : RawPatchEnd) → suits task end ≡ suits_form task (raw_form_of end)
-suits_by_form (Put position) PatchElement = refl
-suits_by_form (Put position) (PatchAttribute name) = refl
-suits_by_form (Put position) (PatchChars k) = refl
-suits_by_form (NewAttr type) PatchElement = refl
-suits_by_form (NewAttr type) (PatchAttribute name) = refl
-suits_by_form (NewAttr type) (PatchChars k) = refl
-suits_by_form Replace end = refl
-suits_by_form (Remove before after) PatchElement = refl
-suits_by_form (Remove before after) (PatchAttribute name) = refl
-suits_by_form (Remove before after) (PatchChars k) = refl
 
 pub type_is_bound : (here : List (List Decl)) (task : Task) → is_type_bound (bindings_in here) task ≡ is_bound_type here task
 type_is_bound here (Put position) = refl
@@ -53,37 +43,34 @@ module _ (here : List (List Decl)) (sel : List ℕ) (task : Task) where
   abbrev with_meaning : Option PatchSelector → Result PatchSelector Wrong
   with_meaning o = given o Prefix (λ s. tested (is_bound_type here task) Prefix (Ok s))
 
-  abbrev with_form : Option RawPatchSelector → Result PatchSelector Wrong
-  with_form o = given o Directive (λ form. tested (suits task (end_of form)) Directive (with_meaning (meaning_in here form)))
+  abbrev with_reading : Option Reading → Result PatchSelector Wrong
+  with_reading o = given o Directive (λ r. tested (suits task r.ends) Directive (with_meaning (r.means here)))
 
-  pub formless : form_of sel ≡ None → selector_tested here sel task ≡ Err Directive
-  formless e = ap with_form e
+  pub formless : reading_in sel ≡ None → selector_tested here sel task ≡ Err Directive
+  formless e = ap with_reading e
 
-  pub unsuited : (raw : RawPatchSelector) → form_of sel ≡ Some raw → suits task (end_of raw) ≡ false → selector_tested here sel task ≡ Err Directive
-  unsuited raw e refused = ap with_form e ∙ ap (λ b. tested b Directive (with_meaning (meaning_in here raw))) refused
+  pub unsuited : (r : Reading) → reading_in sel ≡ Some r → suits task r.ends ≡ false → selector_tested here sel task ≡ Err Directive
+  unsuited r e refused = ap with_reading e ∙ ap (λ b. tested b Directive (with_meaning (r.means here))) refused
 
-  pub meaningless : (raw : RawPatchSelector) → form_of sel ≡ Some raw → suits task (end_of raw) ≡ true → meaning_in here raw ≡ None → selector_tested here sel task ≡ Err Prefix
-  meaningless raw e fits none = ap with_form e ∙ ap (λ b. tested b Directive (with_meaning (meaning_in here raw))) fits ∙ ap with_meaning none
-
-  pub untyped : (raw : RawPatchSelector) (s : PatchSelector) → form_of sel ≡ Some raw → suits task (end_of raw) ≡ true → meaning_in here raw ≡ Some s → is_bound_type here task ≡ false
+  pub untyped : (r : Reading) (s : PatchSelector) → reading_in sel ≡ Some r → suits task r.ends ≡ true → r.means here ≡ Some s → is_bound_type here task ≡ false
       → selector_tested here sel task ≡ Err Prefix
-  untyped raw s e fits some refused =
-      ap with_form e ∙ ap (λ b. tested b Directive (with_meaning (meaning_in here raw))) fits ∙ ap with_meaning some ∙ ap (λ b. tested b Prefix (Ok s)) refused
+  untyped r s e fits some refused =
+      ap with_reading e ∙ ap (λ b. tested b Directive (with_meaning (r.means here))) fits ∙ ap with_meaning some ∙ ap (λ b. tested b Prefix (Ok s)) refused
 
-  pub selecting : (raw : RawPatchSelector) (s : PatchSelector) → form_of sel ≡ Some raw → suits task (end_of raw) ≡ true → meaning_in here raw ≡ Some s → is_bound_type here task ≡ true
+  pub selecting : (r : Reading) (s : PatchSelector) → reading_in sel ≡ Some r → suits task r.ends ≡ true → r.means here ≡ Some s → is_bound_type here task ≡ true
       → selector_tested here sel task ≡ Ok s
-  selecting raw s e fits some bound =
-      ap with_form e ∙ ap (λ b. tested b Directive (with_meaning (meaning_in here raw))) fits ∙ ap with_meaning some ∙ ap (λ b. tested b Prefix (Ok s)) bound
+  selecting r s e fits some bound =
+      ap with_reading e ∙ ap (λ b. tested b Directive (with_meaning (r.means here))) fits ∙ ap with_meaning some ∙ ap (λ b. tested b Prefix (Ok s)) bound
 
   ended_so : (suit : Bool) → tested suit Directive (with_meaning None) ≡ Err (cond suit Prefix Directive)
   ended_so true = refl
   ended_so false = refl
 
   -- with an unbound prefix, by what it ends in
-  pub meaningless_so : (raw : RawPatchSelector) (form : PatchForm) → form_of sel ≡ Some raw → raw_form_of raw.1.1 ≡ form → meaning_in here raw ≡ None → selector_tested here sel task ≡ Err (unbound_with task form)
-  meaningless_so raw form e is none =
-      ap with_form e ∙ ap (λ (o : Option PatchSelector). tested (suits task (end_of raw)) Directive (with_meaning o)) none ∙ ended_so (suits task (end_of raw))
-      ∙ ap (λ b. Err (cond b Prefix Directive)) (suits_by_form task raw.1.1 ∙ ap (suits_form task) is)
+  pub meaningless_so : (r : Reading) (form : PatchForm) → reading_in sel ≡ Some r → r.ends ≡ form → r.means here ≡ None → selector_tested here sel task ≡ Err (unbound_with task form)
+  meaningless_so r form e is none =
+      ap with_reading e ∙ ap (λ (o : Option PatchSelector). tested (suits task r.ends) Directive (with_meaning o)) none ∙ ended_so (suits task r.ends)
+      ∙ ap (λ (f : PatchForm). Err (cond (suits task f) Prefix Directive)) is
 
 -- ---- what reading answers
 
@@ -103,11 +90,11 @@ module _ (b : List Decl) (d text : List ℕ) where
   read_ok (Ok raw) s is = of_meant raw (first_unbound_in_patch b raw) s refl is
   read_ok (Err stop) s is = absurd (cc)
 
-  no_form : (raw : RawPatchSelector) (o : Option ℕ) (n : ℕ) → Err (BadSelector n) ≡ meant text o (patch_selector_of b d raw) → form_read (Ok raw) ≡ None
+  no_form : (raw : RawPatchSelector) (o : Option ℕ) (n : ℕ) → Err (BadSelector n) ≡ meant text o (patch_selector_of b d raw) → reading_told (Ok raw) ≡ None
   no_form raw None n is = absurd (cc)
   no_form raw (Some k) n is = absurd (cc)
 
-  pub read_bad : (r : Result RawPatchSelector (Stop Kind)) (n : ℕ) → Err (BadSelector n) ≡ patch_told b d text r → form_read r ≡ None
+  pub read_bad : (r : Result RawPatchSelector (Stop Kind)) (n : ℕ) → Err (BadSelector n) ≡ patch_told b d text r → reading_told r ≡ None
   read_bad (Ok raw) n is = no_form raw (first_unbound_in_patch b raw) n is
   read_bad (Err stop) n is = refl
 
@@ -131,10 +118,10 @@ module _ (here : List (List Decl)) (raw : RawPatchSelector) where
   abbrev meaning : PatchSelector
   meaning = patch_selector_of (bindings_in here) (unwrap_or (bound here []) []) raw
 
-  pub means_this : (s : PatchSelector) → first_unbound_in_patch (bindings_in here) raw ≡ None → meaning ≡ s → meaning_in here raw ≡ Some s
+  pub means_this : (s : PatchSelector) → first_unbound_in_patch (bindings_in here) raw ≡ None → meaning ≡ s → meaning_of raw here ≡ Some s
   means_this s none is = ap (λ (o : Option ℕ). cond (is_some o) None (Some meaning)) none ∙ ap Some is
 
-  pub means_nothing : is_some (first_unbound_in_patch (bindings_in here) raw) ≡ true → meaning_in here raw ≡ None
+  pub means_nothing : is_some (first_unbound_in_patch (bindings_in here) raw) ≡ true → meaning_of raw here ≡ None
   means_nothing some = ap (λ x. cond x None (Some meaning)) some
 
 -- ---- by what a call answers
@@ -152,47 +139,47 @@ module _ (here : List (List Decl)) (listed : List Decl) (unprefixed text sel : L
       one_patch_selector listed unprefixed text r (patch_selector_read listed unprefixed text) a (patch_selector_answer listed unprefixed text)
       ∙ (λ i. patch_told (same i) (default i) text (read_whole read_patch_selector (letters i)))
 
-  -- a selector that is read is what the form of its text means
+  -- a selector that is read is what its text means
   pub record IsFound (s : PatchSelector) : Type 0 where
-    pub raw : RawPatchSelector
-    pub form : form_of sel ≡ Some raw
-    pub means : meaning_in here raw ≡ Some s
-    pub ends : end_form s.end ≡ raw_form_of raw.1.1
+    pub reading : Reading
+    pub form : reading_in sel ≡ Some reading
+    pub means : reading.means here ≡ Some s
+    pub ends : end_form s.end ≡ reading.ends
 
   pub found : (s : PatchSelector) → IsPatchSelectorAnswer listed unprefixed text (Ok s) → IsFound s
   found s a =
       let x = read_ok (bindings_in here) (unwrap_or (bound here []) []) text reads s (told (Ok s) a) in
       record {
-        raw = x.raw;
-        form = ap form_read x.is;
+        reading = reading_of x.raw;
+        form = ap reading_told x.is;
         means = means_this here x.raw s x.unbound x.means;
         ends = ap (λ (z : PatchSelector). end_form z.end) (sym x.means) ∙ form_stays (bindings_in here) x.raw.1.1;
       }
 
-  pub not_found : (n : ℕ) → IsPatchSelectorAnswer listed unprefixed text (Err (BadSelector n)) → form_of sel ≡ None
+  pub not_found : (n : ℕ) → IsPatchSelectorAnswer listed unprefixed text (Err (BadSelector n)) → reading_in sel ≡ None
   not_found n a = read_bad (bindings_in here) (unwrap_or (bound here []) []) text reads n (told (Err (BadSelector n)) a)
 
-  pub found_unbound : (n : ℕ) → IsPatchSelectorAnswer listed unprefixed text (Err (UnboundPrefix n)) → IsUnbound (form_of sel) (meaning_in here)
+  pub found_unbound : (n : ℕ) → IsPatchSelectorAnswer listed unprefixed text (Err (UnboundPrefix n)) → IsUnbound (reading_in sel) here
   found_unbound n a =
       let x = read_unbound (bindings_in here) (unwrap_or (bound here []) []) text reads n (told (Err (UnboundPrefix n)) a) in
-      subst (λ (o : Option RawPatchSelector). IsUnbound o (meaning_in here)) (sym (ap form_read x.is)) (means_nothing here x.raw x.unbound)
+      subst (λ (o : Option Reading). IsUnbound o here) (sym (ap reading_told x.is)) (means_nothing here x.raw x.unbound)
 
-  pub refused_so : (fault : SelectorFault) → IsPatchSelectorAnswer listed unprefixed text (Err fault) → IsRefused (form_of sel) (meaning_in here) fault
+  pub refused_so : (fault : SelectorFault) → IsPatchSelectorAnswer listed unprefixed text (Err fault) → IsRefused (reading_in sel) here fault
   refused_so (BadSelector n) a = not_found n a
   refused_so (UnboundPrefix n) a = found_unbound n a
 
--- ---- a form with an unbound prefix
+-- ---- a selector with an unbound prefix
 
-pub record IsNamed (m : RawPatchSelector → Option PatchSelector) (r : Result RawPatchSelector (Stop Kind)) (f : PatchForm) : Type 0 where
-  pub raw : RawPatchSelector
-  pub form : form_read r ≡ Some raw
-  pub is : raw_form_of raw.1.1 ≡ f
-  pub means : m raw ≡ None
+pub record IsNamed (here : List (List Decl)) (r : Result RawPatchSelector (Stop Kind)) (f : PatchForm) : Type 0 where
+  pub reading : Reading
+  pub form : reading_told r ≡ Some reading
+  pub is : reading.ends ≡ f
+  pub means : reading.means here ≡ None
 
-pub named_form : (m : RawPatchSelector → Option PatchSelector) (r : Result RawPatchSelector (Stop Kind)) (f : PatchForm) → IsUnbound (form_read r) m → Some f ≡ raw_form_told r → IsNamed m r f
-named_form m (Ok raw) f h e = record { raw = raw; form = refl; is = cc; means = h }
-named_form m (Err stop) f h e = absurd h
+pub named_form : (here : List (List Decl)) (r : Result RawPatchSelector (Stop Kind)) (f : PatchForm) → IsUnbound (reading_told r) here → Some f ≡ raw_form_told r → IsNamed here r f
+named_form here (Ok raw) f h e = let same : f ≡ raw_form_of raw.1.1 = cc in record { reading = reading_of raw; form = refl; is = sym same; means = h }
+named_form here (Err stop) f h e = absurd h
 
-pub no_named_form : (m : RawPatchSelector → Option PatchSelector) (r : Result RawPatchSelector (Stop Kind)) → IsUnbound (form_read r) m → raw_form_told r ≡ None → ⊥
-no_named_form m (Ok raw) h e = absurd (cc)
-no_named_form m (Err stop) h e = absurd h
+pub no_named_form : (here : List (List Decl)) (r : Result RawPatchSelector (Stop Kind)) → IsUnbound (reading_told r) here → raw_form_told r ≡ None → ⊥
+no_named_form here (Ok raw) h e = absurd (cc)
+no_named_form here (Err stop) h e = absurd h

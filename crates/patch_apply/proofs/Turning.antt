@@ -5,8 +5,10 @@ use Rattle.xml_tree.specs.declared.read_error.ReadError.TheVariants as errors
 use Rattle.xml_tree.specs.Limits.{greatest_u64}
 use Rattle.xml_tree.specs.Tree.{Tree}
 use Rattle.xml_tree.specs.declared.names.Decl.{Decl}
-use Rattle.patch_words.specs.Applied.{Wrong, applied}
-use Rattle.patch_words.specs.Replay.{AtOperation, CopyFault, CopyHeld, Missing, Now, Outcome, Turn, WrongTag, all_applied, all_taken, by_tags, changed, held_tag, is_tag, numbered, operation_count, renewed_copy, says_same, document_taken, then_next, unless_missing}
+use Rattle.patch_words.specs.Applied.{Wrong}
+use Rattle.patch_words.specs.readers.Applied.{applied}
+use Rattle.patch_words.specs.Replay.{AtOperation, CopyFault, CopyHeld, Missing, Now, Outcome, Turn, WrongTag, held_tag, is_tag, numbered, operation_count, says_same, then_next, unless_missing}
+use Rattle.patch_words.specs.readers.Replay.{all_applied, all_taken, by_tags, changed, renewed_copy, document_taken}
 use Rattle.patch_apply.specs.inner.Giving.{Tells}
 use Rattle.patch_apply.specs.Views.{fault_told}
 use Rattle.patch_apply.specs.inner.Seen.{fault_at, wrong_in}

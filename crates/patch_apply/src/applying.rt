@@ -3,11 +3,12 @@ ghost use Rattle.std.specs.Prelude.{◌≡◌, ◌<◌, ℕ, [], codes, IfOk, le
 ghost use Rattle.std.specs.Option.{option_copied};
 ghost use Rattle.xml_tree.specs.Limits.{greatest_u64};
 ghost use Rattle.patch_words.specs.Applied.{plain_value};
-ghost use Rattle.patch_words.specs.Replay.{all_taken, end_answer, is_all_mine, last_new, operation_count, replayed, document_taken};
+ghost use Rattle.patch_words.specs.Replay.{end_answer, is_all_mine, last_new, operation_count};
+ghost use Rattle.patch_words.specs.readers.Replay.{all_taken, replayed, document_taken};
 ghost use Rattle.patch_words.specs.Replay as words;
 ghost use Rattle.patch_laws.specs.Replayed.{HoldsSound};
 ghost use Rattle.patch_apply.specs.Applying.{Applies};
-ghost use Rattle.patch_apply.specs.inner.Giving.{Tells};
+ghost use Rattle.patch_apply.specs.inner.Giving.{AppliesAs, Tells};
 ghost use Rattle.name_words.specs.Naming.{is_name_of};
 ghost use Rattle.patch_apply.specs.inner.Stages.{ours_in};
 ghost use Rattle.patch_apply.specs.Views.{IsLow, answer_in, held_in};
@@ -158,7 +159,7 @@ fn replay_documents(
     requires documents { map (λ x. x.now) documents.now ≡ words.documents notice.now }
     requires low { IsLow (held_in replica.old.held) }
     ensures same_document { replica.new.doc ≡ replica.old.doc }
-    ensures by_the_words { Applies (replayed (is_name_of replica.old.doc) notice.now (held_in replica.old.held)) (held_in replica.old.held) result (held_in replica.new.held) }
+    ensures by_the_words { AppliesAs (replayed (is_name_of replica.old.doc) notice.now (held_in replica.old.held)) (held_in replica.old.held) result (held_in replica.new.held) }
     ensures is_low_enough { IsLow (held_in replica.new.held) }
 {
     let mine = are_mine(alloc, &replica.doc, documents)?;
@@ -188,7 +189,7 @@ fn replay(
 ) -> Result<Applied, ReadError<ApplyFault>>
     requires low { IsLow (held_in replica.old.held) }
     ensures same_document { replica.new.doc ≡ replica.old.doc }
-    ensures by_the_words { Applies (replayed (is_name_of replica.old.doc) notice.now (held_in replica.old.held)) (held_in replica.old.held) result (held_in replica.new.held) }
+    ensures by_the_words { AppliesAs (replayed (is_name_of replica.old.doc) notice.now (held_in replica.old.held)) (held_in replica.old.held) result (held_in replica.new.held) }
     ensures is_low_enough { IsLow (held_in replica.new.held) }
 {
     let documents = documents(alloc, notice)?;
@@ -208,7 +209,7 @@ pub fn apply_notice(
 ) -> Result<Applied, ReadError<ApplyFault>>
     requires low { IsLow (held_in replica.old.held) }
     ensures same_document { replica.new.doc ≡ replica.old.doc }
-    ensures by_the_words { Applies (replayed (is_name_of replica.old.doc) notice.now (held_in replica.old.held)) (held_in replica.old.held) result (held_in replica.new.held) }
+    ensures by_the_words { Applies (is_name_of replica.old.doc) notice.now (held_in replica.old.held) result (held_in replica.new.held) }
     ensures is_low_enough { IsLow (held_in replica.new.held) }
     ensures stays_sound { HoldsSound (held_in replica.old.held) → HoldsSound (held_in replica.new.held) }
 {

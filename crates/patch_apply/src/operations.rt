@@ -2,7 +2,8 @@
 ghost use Rattle.std.specs.Prelude.{◌≤◌, ◌<◌, length};
 ghost use Rattle.xml_tree.specs.Limits.{most_levels};
 ghost use Rattle.xml_tree.specs.Tree.{height};
-ghost use Rattle.patch_words.specs.Applied.{applied, remove_done, replace_done};
+ghost use Rattle.patch_words.specs.Applied.{remove_done, replace_done};
+ghost use Rattle.patch_words.specs.readers.Applied.{applied};
 ghost use Rattle.patch_words.specs.Applied as words;
 ghost use Rattle.patch_apply.specs.inner.Giving.{Gives};
 ghost use Rattle.patch_apply.specs.inner.Spotting.{IsSpot, IsThere};

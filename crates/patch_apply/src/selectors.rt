@@ -4,8 +4,9 @@ ghost use Rattle.std.specs.Str.{bytes_eq};
 ghost use Rattle.xml_tree.specs.Scopes.{bindings_in, bound};
 ghost use Rattle.node_select.specs.Faults.{form_of as end_form};
 ghost use Rattle.node_select.specs.Names.{prefix_uri};
-ghost use Rattle.patch_words.specs.Applied.{form_of, meaning_in};
-ghost use Rattle.patch_apply.specs.inner.Forms.{IsRefused, IsUnbound, is_element, is_type_bound, suits_form, unbound_with};
+ghost use Rattle.patch_words.specs.Applied.{is_element, suits};
+ghost use Rattle.patch_words.specs.readers.Applied.{reading_in};
+ghost use Rattle.patch_apply.specs.inner.Forms.{IsRefused, IsUnbound, is_type_bound, unbound_with};
 ghost use Rattle.patch_apply.specs.inner.Giving.{Gives};
 ghost use Rattle.patch_apply.specs.inner.Stages.{selector_tested};
 ghost use Rattle.patch_apply.specs.inner.Seen.{task_in, wrong_in};
@@ -66,7 +67,7 @@ fn is_element(form: PatchForm) -> bool
 
 // Whether a selector that ends so suits what is to be done.
 fn suits(task: &Task, form: PatchForm) -> bool
-    ensures tells_whether_it_suits { result ≡ suits_form (task_in task.now) form }
+    ensures tells_whether_it_suits { result ≡ suits (task_in task.now) form }
 {
     match task {
         Task::Put(_) => is_element(form),
@@ -128,7 +129,7 @@ fn refused(
     task: &Task,
     fault: SelectorFault,
 ) -> ReadError<Wrong>
-    requires { IsRefused (form_of sel.now) (meaning_in here.now) fault }
+    requires { IsRefused (reading_in sel.now) here.now fault }
     ensures what_is_wrong { Gives (λ s. s) (selector_tested here.now sel.now (task_in task.now)) (Err result) }
 {
     match fault {
@@ -139,7 +140,7 @@ fn refused(
 
 // What is wrong with a selector that has an unbound prefix: its end may not suit what is to be done.
 fn unbound(alloc: Global, here: &Scope<'_>, sel: &Text, task: &Task) -> ReadError<Wrong>
-    requires { IsUnbound (form_of sel.now) (meaning_in here.now) }
+    requires { IsUnbound (reading_in sel.now) here.now }
     ensures what_is_wrong { Gives (λ s. s) (selector_tested here.now sel.now (task_in task.now)) (Err result) }
 {
     match patch_form(alloc, sel) {

@@ -21,7 +21,8 @@ use Rattle.xml_tree.specs.PathTexts.{path_text}
 use Rattle.node_select.specs.declared.selector.PatchEnd.TheVariants.{Attribute, Element}
 use Rattle.node_select.specs.declared.selector.Step.{Step}
 use Rattle.patch_words.specs.Applied as words
-use Rattle.patch_words.specs.Applied.{applied, AtAttr, AtElement, attr_of, rewritten, with_attrs}
+use Rattle.patch_words.specs.Applied.{AtAttr, AtElement, attr_of, rewritten, with_attrs}
+use Rattle.patch_words.specs.readers.Applied.{applied}
 use Rattle.notes.specs.Operations.{attr_path_text, change_told as told}
 use Rattle.patch_laws.specs.Premises.{ArePositions, Meets, around_operations}
 use Rattle.patch_laws.proofs.PathSelection.{attr_form, attr_means, attr_read, locates_attr, locates_element, path_form, path_means, path_read, steps}

@@ -16,10 +16,12 @@ use Rattle.tree_text.proofs.UnboundScopes.{never_bound}
 use Rattle.edit_ops.specs.Changes.{Fits, edited}
 use Rattle.edit_ops.specs.declared.change.Change.{Change}
 use Rattle.edit_ops.specs.declared.change.Change.TheVariants.{CreateDocument, Insert, Replace, Remove, SetAttr, DropAttr, RemoveDocument}
-use Rattle.patch_words.specs.Applied.{applied, attr_of}
+use Rattle.patch_words.specs.Applied.{attr_of}
+use Rattle.patch_words.specs.readers.Applied.{applied}
 use Rattle.notes.specs.Notes.{AreNotesOf, Note, is_fresh, note_of, scope_of_place, tree_after}
 use Rattle.notes.specs.Operations.{operation, change_told as told}
-use Rattle.patch_words.specs.Replay.{all_applied, numbered, then_next}
+use Rattle.patch_words.specs.Replay.{numbered, then_next}
+use Rattle.patch_words.specs.readers.Replay.{all_applied}
 use Rattle.patch_words.specs.Notices.{operations}
 use Rattle.patch_laws.proofs.Lengths.{HasPositions, HasPositions-short}
 use Rattle.patch_laws.specs.Premises.{ArePositions, AreTold, IsTold, around_operations}

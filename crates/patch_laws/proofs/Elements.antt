@@ -16,7 +16,8 @@ use Rattle.xml_tree.specs.PathTexts.{path_text}
 use Rattle.node_select.specs.declared.selector.PatchEnd.TheVariants.{Element}
 use Rattle.node_select.specs.declared.selector.Step.{Step}
 use Rattle.patch_words.specs.Applied as words
-use Rattle.patch_words.specs.Applied.{applied, AtElement}
+use Rattle.patch_words.specs.Applied.{AtElement}
+use Rattle.patch_words.specs.readers.Applied.{applied}
 use Rattle.patch_laws.specs.Premises.{ArePositions, around_operations}
 use Rattle.patch_laws.proofs.PathSelection.{locates_element, path_form, path_means, path_read, steps}
 use Rattle.patch_laws.proofs.Prefixes.{Meets-told, alone_alike}

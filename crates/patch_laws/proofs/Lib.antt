@@ -11,6 +11,7 @@ pub mod Onward
 pub mod OnwardNotices
 pub mod Operating
 pub mod OtherNotices
+pub mod Outcomes
 pub mod PathSelection
 pub mod PathTexts
 pub mod Prefixes

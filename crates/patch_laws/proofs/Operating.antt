@@ -11,14 +11,15 @@ use Rattle.xml_tree.specs.declared.tree.Node.TheVariants.{Elem}
 use Rattle.xml_tree.proofs.PathLemmas.{final-snoc, front-snoc, put_over-made}
 use Rattle.xml_tree.proofs.Places.{content_of-nodes_of}
 use Rattle.edit_ops.proofs.NodeLemmas.{left_out, put_between}
-use Rattle.node_select.specs.readers.Raw.{RawPatchSelector}
 use Rattle.node_select.specs.declared.selector.PatchSelector.{PatchSelector}
-use Rattle.patch_words.specs.Applied.{Spot, Task, applied, cut_element, done, end_of, form_of, is_bound_type, is_known, located, made, meaning_in, nodes_at, own_place, plain_value, put_at, Prepend, After, suits, task_of, operation_word, off_root}
+use Rattle.patch_words.specs.Applied.{Spot, Task, cut_element, done, is_bound_type, is_known, located, made, nodes_at, own_place, plain_value, put_at, Prepend, After, suits, task_of, operation_word, off_root}
+use Rattle.patch_words.specs.Selectors.{Reading}
+use Rattle.patch_words.specs.readers.Applied.{applied, reading_in}
 
-pub applied_by : (c : List (List Decl)) (o t : Tree) (sel : List ℕ) (task : Task) (form : RawPatchSelector) (s : PatchSelector) (spot : Spot)
+pub applied_by : (c : List (List Decl)) (o t : Tree) (sel : List ℕ) (task : Task) (form : Reading) (s : PatchSelector) (spot : Spot)
     → plain_value (codes "sel") o.attrs ≡ Some sel → list_all is_known o.attrs ≡ true
     → option_and_then (λ w. task_of w (plain_value (codes "pos") o.attrs) (plain_value (codes "type") o.attrs) (plain_value (codes "ws") o.attrs)) (operation_word o.name.local) ≡ Some task
-    → form_of sel ≡ Some form → suits task (end_of form) ≡ true → meaning_in (c ++ o.decls ∷ []) form ≡ Some s → is_bound_type (c ++ o.decls ∷ []) task ≡ true
+    → reading_in sel ≡ Some form → suits task form.ends ≡ true → form.means (c ++ o.decls ∷ []) ≡ Some s → is_bound_type (c ++ o.decls ∷ []) task ≡ true
     → located s t ≡ Some spot → applied c o t ≡ done (c ++ o.decls ∷ []) task spot o.content t
 applied_by c o t sel task form s spot has known tasks read suit means bound there =
     rw has (rw known (rw tasks (rw read (rw suit (rw means (rw bound (rw there refl)))))))

@@ -6,24 +6,34 @@ use Rattle.xml_tree.specs.Tree.{Tree}
 use Rattle.notes.specs.Notes.{Note, tag_after}
 use Rattle.notes.specs.Operations.{plain_attr as plain}
 use Rattle.patch_words.specs.Notices.{candidate, diff_uri, gone_notice, removed_document, tags_alone, tags_notice}
-use Rattle.patch_words.specs.Replay.{Fetch, Removed, Same, replayed}
+use Rattle.patch_words.specs.Replay.{Fetch, Removed, Replays, Same}
+use Rattle.patch_words.specs.readers.Replay.{replayed}
 use Rattle.patch_laws.specs.Premises.{around_operations}
 use Rattle.patch_laws.specs.Replayed.{IsReadBack}
 use Rattle.patch_laws.proofs.ProperNotices.{AreDocuments, IsDiffPrefix-candidate, diff_proper, document_sound, no_prefixes, two_names}
 use Rattle.patch_laws.proofs.Numbers.{number_chars}
+use Rattle.patch_laws.proofs.Outcomes.{replays}
 use Rattle.patch_laws.proofs.ProperOperations.{IsDiffPrefix, named_ours, plain_attribute}
 use Rattle.patch_laws.proofs.Stated.{read_back}
 use Rattle.patch_laws.proofs.Wholes.{bound_document, same_text}
 
-pub gone_replayed : (is_mine : List ℕ → Bool) (root sel : List ℕ) (tag : ℕ) (t : Tree) → is_mine sel ≡ true → replayed is_mine (gone_notice root sel tag) (Some (decimal tag, t)) ≡ Ok (Removed, None)
-gone_replayed is_mine root sel tag t h = rw (h, same_text (decimal tag)) refl
+gone_read_so : (is_mine : List ℕ → Bool) (root sel : List ℕ) (tag : ℕ) (t : Tree) → is_mine sel ≡ true → replayed is_mine (gone_notice root sel tag) (Some (decimal tag, t)) ≡ Ok (Removed, None)
+gone_read_so is_mine root sel tag t h = rw (h, same_text (decimal tag)) refl
+
+pub gone_replayed : (is_mine : List ℕ → Bool) (root sel : List ℕ) (tag : ℕ) (t : Tree) → is_mine sel ≡ true → Replays is_mine (gone_notice root sel tag) (Some (decimal tag, t)) (Ok (Removed, None))
+gone_replayed is_mine root sel tag t h = replays is_mine (gone_notice root sel tag) (Some (decimal tag, t)) (Ok (Removed, None)) (gone_read_so is_mine root sel tag t h)
+
+tags_read_so : (is_mine : List ℕ → Bool) (root sel : List ℕ) (tag : ℕ) (t : Tree) (n : Note) (ns : List Note) → is_mine sel ≡ true
+    → replayed is_mine (tags_notice root sel tag (n ∷ ns)) (Some (decimal tag, t)) ≡ Ok (Fetch (decimal (tag_after tag (n ∷ ns))), Some (decimal tag, t))
+tags_read_so is_mine root sel tag t n ns h = rw (h, same_text (decimal tag)) refl
 
 pub tags_replayed : (is_mine : List ℕ → Bool) (root sel : List ℕ) (tag : ℕ) (t : Tree) (n : Note) (ns : List Note) → is_mine sel ≡ true
-    → replayed is_mine (tags_notice root sel tag (n ∷ ns)) (Some (decimal tag, t)) ≡ Ok (Fetch (decimal (tag_after tag (n ∷ ns))), Some (decimal tag, t))
-tags_replayed is_mine root sel tag t n ns h = rw (h, same_text (decimal tag)) refl
+    → Replays is_mine (tags_notice root sel tag (n ∷ ns)) (Some (decimal tag, t)) (Ok (Fetch (decimal (tag_after tag (n ∷ ns))), Some (decimal tag, t)))
+tags_replayed is_mine root sel tag t n ns h =
+    replays is_mine (tags_notice root sel tag (n ∷ ns)) (Some (decimal tag, t)) (Ok (Fetch (decimal (tag_after tag (n ∷ ns))), Some (decimal tag, t))) (tags_read_so is_mine root sel tag t n ns h)
 
-pub same_replayed : (is_mine : List ℕ → Bool) (root sel : List ℕ) (tag : ℕ) (t : Tree) → replayed is_mine (tags_notice root sel tag []) (Some (decimal tag, t)) ≡ Ok (Same, Some (decimal tag, t))
-same_replayed is_mine root sel tag t = refl
+pub same_replayed : (is_mine : List ℕ → Bool) (root sel : List ℕ) (tag : ℕ) (t : Tree) → Replays is_mine (tags_notice root sel tag []) (Some (decimal tag, t)) (Ok (Same, Some (decimal tag, t)))
+same_replayed is_mine root sel tag t = replays is_mine (tags_notice root sel tag []) (Some (decimal tag, t)) (Ok (Same, Some (decimal tag, t))) refl
 
 first : IsDiffPrefix (candidate 0)
 first = IsDiffPrefix-candidate 0 (omega arith)

@@ -13,12 +13,14 @@ use Rattle.step_laws.specs.Selection.{Selects}
 use Rattle.step_laws.proofs.Inserted.{count-cons}
 use Rattle.node_select.specs.Grammar.{names_attribute}
 use Rattle.node_select.specs.Names.{attr_uri, is_unbound}
-use Rattle.node_select.specs.readers.Raw.{RawPatchSelector, PatchAttribute, PatchElement, steps_of, unbound_from, unbound_patch_end}
+use Rattle.node_select.specs.readers.Raw.{PatchAttribute, PatchElement, steps_of, unbound_from, unbound_patch_end}
 use Rattle.node_select.specs.Selection.{is_attr, SelectsAmong, selected_in}
 use Rattle.node_select.specs.declared.selector.PatchEnd.TheVariants.{Element, Attribute}
 use Rattle.node_select.specs.declared.selector.Step.{Step}
 use Rattle.node_select.proofs.Reaching.{path_is}
-use Rattle.patch_words.specs.Applied.{AtElement, AtAttr, form_of, form_read, located, meaning_in}
+use Rattle.patch_words.specs.Applied.{AtElement, AtAttr, located}
+use Rattle.patch_words.specs.Selectors.{Reading}
+use Rattle.patch_words.specs.readers.Applied.{reading_in, reading_of, reading_told}
 use Rattle.notes.specs.Operations.{attr_path_text}
 use Rattle.patch_laws.specs.Premises.{ArePositions}
 use Rattle.patch_laws.proofs.PathTexts.{attr_selector, next_step, path_selector, raw_steps}
@@ -33,20 +35,20 @@ none_unbound bindings (m ∷ p) n end h = none_unbound bindings p _ end h
 abbrev pub steps : List Decl → List ℕ → List ℕ → List Step
 steps bindings default p = steps_of bindings default (raw_steps p)
 
--- the form of the text of a path, and of that with an attribute behind it
-abbrev pub path_form : List ℕ → RawPatchSelector
-path_form p = (0, (raw_steps p, PatchElement))
+-- what the text of a path says, and that with an attribute behind it
+abbrev pub path_form : List ℕ → Reading
+path_form p = reading_of (0, (raw_steps p, PatchElement))
 
-abbrev pub attr_form : List ℕ → Name → RawPatchSelector
-attr_form p n = (0, (raw_steps p, PatchAttribute n))
+abbrev pub attr_form : List ℕ → Name → Reading
+attr_form p n = reading_of (0, (raw_steps p, PatchAttribute n))
 
-pub path_read : (p : List ℕ) → ArePositions p → form_of (path_text p) ≡ Some (path_form p)
-path_read p h = ap form_read (path_selector p h)
+pub path_read : (p : List ℕ) → ArePositions p → reading_in (path_text p) ≡ Some (path_form p)
+path_read p h = ap reading_told (path_selector p h)
 
-pub attr_read : (p : List ℕ) (n : Name) → ArePositions p → IsWritten n → names_attribute n ≡ true → form_of (attr_path_text p n) ≡ Some (attr_form p n)
-attr_read p n h w a = ap form_read (attr_selector p n h w a)
+pub attr_read : (p : List ℕ) (n : Name) → ArePositions p → IsWritten n → names_attribute n ≡ true → reading_in (attr_path_text p n) ≡ Some (attr_form p n)
+attr_read p n h w a = ap reading_told (attr_selector p n h w a)
 
-pub path_means : (c : List (List Decl)) (p : List ℕ) → meaning_in c (path_form p) ≡ Some (record { steps = steps (bindings_in c) (unwrap_or (bound c []) []) p; end = Element })
+pub path_means : (c : List (List Decl)) (p : List ℕ) → (path_form p).means c ≡ Some (record { steps = steps (bindings_in c) (unwrap_or (bound c []) []) p; end = Element })
 path_means c p =
     let none : unbound_from (bindings_in c) 0 (raw_steps p) (unbound_patch_end (bindings_in c) PatchElement) ≡ None = none_unbound (bindings_in c) p _ _ (λ k. refl) in
     rw none refl
@@ -55,7 +57,7 @@ no_unbound : (bindings : List Decl) (n : Name) → is_unbound bindings n ≡ fal
 no_unbound bindings n h k = rw h refl
 
 pub attr_means : (c : List (List Decl)) (p : List ℕ) (n : Name) → is_unbound (bindings_in c) n ≡ false
-    → meaning_in c (attr_form p n) ≡ Some (record { steps = steps (bindings_in c) (unwrap_or (bound c []) []) p; end = Attribute (attr_uri (bindings_in c) n) n.local })
+    → (attr_form p n).means c ≡ Some (record { steps = steps (bindings_in c) (unwrap_or (bound c []) []) p; end = Attribute (attr_uri (bindings_in c) n) n.local })
 attr_means c p n b =
     let none : unbound_from (bindings_in c) 0 (raw_steps p) (unbound_patch_end (bindings_in c) (PatchAttribute n)) ≡ None = none_unbound (bindings_in c) p _ _ (no_unbound (bindings_in c) n b) in
     rw none refl

@@ -13,13 +13,15 @@ use Rattle.edit_ops.specs.Changes.{Fits, edited}
 use Rattle.edit_ops.specs.declared.change.Change.{Change}
 use Rattle.node_select.specs.Names.{attr_uri}
 use Rattle.node_select.specs.Selection.{is_attr}
-use Rattle.node_select.specs.readers.Raw.{RawPatchSelector}
 use Rattle.xml_tree.specs.PathTexts.{path_text}
-use Rattle.patch_words.specs.Applied.{AtAttr, AtElement, applied, located, meaning_in}
+use Rattle.patch_words.specs.Applied.{AtAttr, AtElement, located}
+use Rattle.patch_words.specs.Selectors.{Reading}
+use Rattle.patch_words.specs.readers.Applied.{applied}
 use Rattle.notes.specs.Notes.{AreNotesOf, Note, note_of, tag_after, tree_after}
 use Rattle.patch_words.specs.Notices.{aggregate_notice, declarations, first_free, is_taken, operations, patching_notice, prefix_for}
 use Rattle.notes.specs.Operations.{attr_path_text, operation}
-use Rattle.patch_words.specs.Replay.{all_applied, is_notice, replayed}
+use Rattle.patch_words.specs.Replay.{Replays, is_notice}
+use Rattle.patch_words.specs.readers.Replay.{all_applied}
 use Rattle.patch_laws.proofs.Lengths.{HasPositions-short}
 use Rattle.patch_laws.specs.Premises.{AreFew, ArePositions, AreTold, IsTold, Meets, around_operations}
 use Rattle.patch_laws.specs.Replayed.{IsReadBack, answer_for}
@@ -29,6 +31,7 @@ use Rattle.patch_laws.proofs.Changes.{all_applied_notes, applied_told, name_befo
 use Rattle.patch_laws.proofs.Declarations.{few_declarations}
 use Rattle.patch_laws.proofs.Forms.{is_notice_at_once, is_notice_one_by_one}
 use Rattle.patch_laws.proofs.FreePrefixes.{IsPrefixFor-prefix_for, first_low}
+use Rattle.patch_laws.proofs.Outcomes.{replays}
 use Rattle.patch_laws.proofs.ProperNotices.{IsDiffPrefix-candidate, proper_at_once, proper_one_by_one}
 use Rattle.patch_laws.proofs.ProperOperations.{IsDiffPrefix}
 use Rattle.tree_text.specs.Faults.{TextAnswer}
@@ -43,7 +46,7 @@ use Rattle.patch_laws.proofs.Wholes.{replayed_at_once, replayed_one_by_one}
 
 pub element_selected : (c : List (List Decl)) (p : List ℕ) (t : Tree) → ArePositions p → IsSome (at p t) → selected_by c (path_text p) t ≡ Some (AtElement p)
 element_selected c p t small there =
-    ap (λ (o : Option RawPatchSelector). option_and_then (λ s. located s t) (option_and_then (meaning_in c) o)) (path_read p small) ∙ ap (option_and_then (λ s. located s t)) (path_means c p)
+    ap (λ (o : Option Reading). option_and_then (λ s. located s t) (option_and_then (λ r. r.means c) o)) (path_read p small) ∙ ap (option_and_then (λ s. located s t)) (path_means c p)
     ∙ locates_element (bindings_in c) (unwrap_or (bound c []) []) p t there
 
 pub attribute_selected : (c : List (List Decl)) (p : List ℕ) (n : Name) (t k : Tree) → ArePositions p → at p t ≡ Some k → ProperIn [] t → IsSome (attr_at p n t) → Meets (scope_at p t) c
@@ -56,7 +59,7 @@ attribute_selected c p n t k small there proper some meets =
     let agree = agrees place n uri k.attrs (uri_is place c n meets name.named name.bound_prefix) name.sole in
     let has : list_any (is_attr place uri n.local) k.attrs ≡ true = any_agree (is_attr place uri n.local) (is_named n) k.attrs agree ∙ found_any (is_named n) k.attrs found in (
       is_attr place uri n.local,
-      ap (λ (o : Option RawPatchSelector). option_and_then (λ s. located s t) (option_and_then (meaning_in c) o)) (attr_read p n small (as_written place n name.named) (may_name n name.other))
+      ap (λ (o : Option Reading). option_and_then (λ s. located s t) (option_and_then (λ r. r.means c) o)) (attr_read p n small (as_written place n name.named) (may_name n name.other))
           ∙ ap (option_and_then (λ s. located s t)) (attr_means c p n (not_unbound place c n meets name.named name.bound_prefix))
           ∙ locates_attr (bindings_in c) (unwrap_or (bound c []) []) uri n.local p t k there has,
       agree,
@@ -71,14 +74,18 @@ pub all_made : (prefix uri : List ℕ) (count tag : ℕ) (t : Tree) (ns : List N
 all_made prefix uri count tag t ns ne h told = all_applied_notes prefix uri ne count tag t ns h told
 
 pub patching_replayed : (is_mine : List ℕ → Bool) (root sel : List ℕ) (tag : ℕ) (t : Tree) (ns : List Note) → is_mine sel ≡ true → AreNotesOf tag t ns → AreTold t ns → AreFew ns
-    → replayed is_mine (patching_notice root sel tag ns) (Some (decimal tag, t)) ≡ Ok (answer_for ns, Some (decimal (tag_after tag ns), tree_after t ns))
+    → Replays is_mine (patching_notice root sel tag ns) (Some (decimal tag, t)) (Ok (answer_for ns, Some (decimal (tag_after tag ns), tree_after t ns)))
 patching_replayed is_mine root sel tag t ns mine h told few =
-    let p = IsPrefixFor-prefix_for ns (few_declarations tag t ns h told few) in replayed_one_by_one (prefix_for ns) p.some p.other is_mine root sel tag t ns mine p.free h told
+    let p = IsPrefixFor-prefix_for ns (few_declarations tag t ns h told few) in
+    replays is_mine (patching_notice root sel tag ns) (Some (decimal tag, t)) (Ok (answer_for ns, Some (decimal (tag_after tag ns), tree_after t ns)))
+    (replayed_one_by_one (prefix_for ns) p.some p.other is_mine root sel tag t ns mine p.free h told)
 
 pub aggregate_replayed : (is_mine : List ℕ → Bool) (root sel : List ℕ) (tag : ℕ) (t : Tree) (ns : List Note) → is_mine sel ≡ true → AreNotesOf tag t ns → AreTold t ns → AreFew ns
-    → replayed is_mine (aggregate_notice root sel tag ns) (Some (decimal tag, t)) ≡ Ok (answer_for ns, Some (decimal (tag_after tag ns), tree_after t ns))
+    → Replays is_mine (aggregate_notice root sel tag ns) (Some (decimal tag, t)) (Ok (answer_for ns, Some (decimal (tag_after tag ns), tree_after t ns)))
 aggregate_replayed is_mine root sel tag t ns mine h told few =
-    let p = IsPrefixFor-prefix_for ns (few_declarations tag t ns h told few) in replayed_at_once (prefix_for ns) p.some p.other is_mine root sel tag t ns mine p.free h told
+    let p = IsPrefixFor-prefix_for ns (few_declarations tag t ns h told few) in
+    replays is_mine (aggregate_notice root sel tag ns) (Some (decimal tag, t)) (Ok (answer_for ns, Some (decimal (tag_after tag ns), tree_after t ns)))
+    (replayed_at_once (prefix_for ns) p.some p.other is_mine root sel tag t ns mine p.free h told)
 
 diff_prefix : (tag : ℕ) (t : Tree) (ns : List Note) → AreNotesOf tag t ns → AreTold t ns → AreFew ns → IsDiffPrefix (prefix_for ns)
 diff_prefix tag t ns h told few =

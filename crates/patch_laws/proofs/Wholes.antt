@@ -12,7 +12,8 @@ use Rattle.edit_ops.specs.declared.change.Change.TheVariants.{CreateDocument, In
 use Rattle.notes.specs.Notes.{AreNotesOf, Note, tag_after, tree_after}
 use Rattle.patch_words.specs.Notices.{all_at_once, declares, diff, diff_uri, document, one_by_one, operations}
 use Rattle.notes.specs.Operations.{operation, change_told as told}
-use Rattle.patch_words.specs.Replay.{CopyHeld, Now, all_taken, copy_answer, documents, is_all_mine, is_called, is_ours, operation_count, operations_in, replayed, says_same, document_taken, then_next, unless_missing}
+use Rattle.patch_words.specs.Replay.{CopyHeld, Now, copy_answer, documents, is_all_mine, is_called, is_ours, operation_count, operations_in, says_same, then_next, unless_missing}
+use Rattle.patch_words.specs.readers.Replay.{all_taken, replayed, document_taken}
 use Rattle.patch_laws.specs.Premises.{AreTold, around_operations}
 use Rattle.patch_laws.specs.Replayed.{answer_for}
 use Rattle.patch_laws.proofs.Changes.{all_applied_notes, first_told}

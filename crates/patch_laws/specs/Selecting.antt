@@ -5,15 +5,16 @@ use Rattle.xml_tree.specs.declared.names.Decl.{Decl}
 use Rattle.node_select.specs.declared.fault.SelectorFault.{SelectorFault}
 use Rattle.node_select.specs.declared.fault.SelectorFault.TheVariants.{BadSelector, UnboundPrefix}
 use Rattle.node_select.specs.declared.selector.PatchSelector.{PatchSelector}
-use Rattle.node_select.specs.readers.Raw.{RawPatchSelector}
-use Rattle.patch_words.specs.Applied.{Spot, form_of, located, meaning_in}
+use Rattle.patch_words.specs.Applied.{Spot, located}
+use Rattle.patch_words.specs.Selectors.{Reading}
+use Rattle.patch_words.specs.readers.Applied.{reading_in}
 
 -- what a text selects in a tree, as the selector of an operation that stands in the scope
 abbrev pub selected_by : List (List Decl) → List ℕ → Tree → Option Spot
-selected_by c sel t = option_and_then (λ s. located s t) (option_and_then (meaning_in c) (form_of sel))
+selected_by c sel t = option_and_then (λ s. located s t) (option_and_then (λ r. r.means c) (reading_in sel))
 
--- a text is taken as this answer says: it has no form where it is no selector, and a form without a meaning where a prefix isn't bound
+-- a text is taken as this answer says: it says nothing where it is no selector, and has no meaning where a prefix isn't bound
 abbrev pub IsTakenAs : List (List Decl) → List ℕ → Result PatchSelector SelectorFault → Type 0
-IsTakenAs c sel (Ok s) = (form : RawPatchSelector) × (form_of sel ≡ Some form) × (meaning_in c form ≡ Some s)
-IsTakenAs c sel (Err (BadSelector place)) = form_of sel ≡ None
-IsTakenAs c sel (Err (UnboundPrefix place)) = (form : RawPatchSelector) × (form_of sel ≡ Some form) × (meaning_in c form ≡ None)
+IsTakenAs c sel (Ok s) = (r : Reading) × (reading_in sel ≡ Some r) × (r.means c ≡ Some s)
+IsTakenAs c sel (Err (BadSelector place)) = reading_in sel ≡ None
+IsTakenAs c sel (Err (UnboundPrefix place)) = (r : Reading) × (reading_in sel ≡ Some r) × (r.means c ≡ None)

@@ -1,5 +1,5 @@
 //! Laws of notices, from the text of a path to a whole notice; each is the contract of a function that does nothing.
-ghost use Rattle.std.specs.Prelude.{◌≡◌, ◌≢◌, ℕ, ◌<◌, ◌^◌, Bool, true, List, [], ◌∷◌, Some, None, IsSome, Ok, Result, decimal, encode_utf8_all, unwrap_or};
+ghost use Rattle.std.specs.Prelude.{◌≡◌, ◌≢◌, ℕ, ◌<◌, ◌^◌, Bool, true, List, [], ◌∷◌, Option, Some, None, IsSome, Ok, Result, decimal, encode_utf8_all, unwrap_or};
 ghost use Rattle.xml_tree.specs.Attributes.{is_written_so};
 ghost use Rattle.std.specs.List.{AllByRecursion};
 ghost use Rattle.xml_tree.specs.Characters.{all_chars};
@@ -18,16 +18,23 @@ ghost use Rattle.node_select.specs.declared.fault.SelectorFault.{SelectorFault};
 ghost use Rattle.node_select.specs.declared.selector.PatchSelector.{PatchSelector};
 ghost use Rattle.notes.specs.Notes.{AreNotesOf, Note, note_of, tag_after, tree_after};
 ghost use Rattle.notes.specs.Operations.{attr_path_text, operation};
-ghost use Rattle.patch_words.specs.Applied.{AtAttr, AtElement, applied};
+ghost use Rattle.patch_words.specs.Applied as words;
+ghost use Rattle.patch_words.specs.Applied.{AtAttr, AtElement};
+ghost use Rattle.patch_words.specs.readers.Applied.{applied, reading_in};
 ghost use Rattle.patch_words.specs.Notices.{aggregate_notice, declarations, gone_notice, operations, patching_notice, prefix_for, tags_notice};
-ghost use Rattle.patch_words.specs.Replay.{CopyAnswer, Fetch, CopyHeld, Removed, Same, all_applied, replayed};
+ghost use Rattle.patch_words.specs.Replay.{CopyAnswer, CopyFault, Fetch, CopyHeld, Removed, Replays, Same};
+ghost use Rattle.patch_words.specs.Selectors.{AreReadings, Reading};
+ghost use Rattle.patch_words.specs.readers.Replay.{all_applied, replayed};
 ghost use Rattle.patch_laws.specs.Premises.{AreFew, ArePositions, AreTold, IsSound, IsTold, Meets, around_operations};
 ghost use Rattle.patch_laws.specs.Replayed.{HoldsSound, IsPrefixFor, IsReadBack, answer_for};
 ghost use Rattle.patch_laws.specs.Selecting.{IsTakenAs, selected_by};
 
-/// A law: the selector of an operation is taken as the one answer of the grammar says of its text
-/// (RFC 5261, section 4.1).
+/// A law: what a text says as the selector of an operation, by the grammar, is one thing: what is
+/// read of it from left to right, which is taken as the one answer of the grammar says (RFC 5261,
+/// section 4.1).
 pub fn selectors_are_those_of_the_grammar()
+    ensures what_is_read_is_said { AreReadings reading_in }
+    ensures nothing_else_is_said { (read other : List ℕ → Option Reading) → AreReadings read → AreReadings other → (sel : List ℕ) → all_chars sel ≡ true → read sel ≡ other sel }
     ensures taken_as_the_answer { (c : List (List Decl)) (sel : List ℕ) → all_chars sel ≡ true
         → (answer : Result PatchSelector SelectorFault) × IsPatchSelectorAnswer (bindings_in c) (unwrap_or (bound c []) []) (encode_utf8_all sel) answer × IsTakenAs c sel answer }
 {}
@@ -60,9 +67,9 @@ pub fn prefixes_are_free()
 /// one patching mode or the other, holds the tree and the tag after them.
 pub fn notices_are_replayed()
     ensures one_by_one_too { (is_mine : List ℕ → Bool) (root sel : List ℕ) (tag : ℕ) (t : Tree) (ns : List Note) → is_mine sel ≡ true → AreNotesOf tag t ns → AreTold t ns → AreFew ns
-        → replayed is_mine (patching_notice root sel tag ns) (Some (decimal tag, t)) ≡ Ok (answer_for ns, Some (decimal (tag_after tag ns), tree_after t ns)) }
+        → Replays is_mine (patching_notice root sel tag ns) (Some (decimal tag, t)) (Ok (answer_for ns, Some (decimal (tag_after tag ns), tree_after t ns))) }
     ensures all_at_once_too { (is_mine : List ℕ → Bool) (root sel : List ℕ) (tag : ℕ) (t : Tree) (ns : List Note) → is_mine sel ≡ true → AreNotesOf tag t ns → AreTold t ns → AreFew ns
-        → replayed is_mine (aggregate_notice root sel tag ns) (Some (decimal tag, t)) ≡ Ok (answer_for ns, Some (decimal (tag_after tag ns), tree_after t ns)) }
+        → Replays is_mine (aggregate_notice root sel tag ns) (Some (decimal tag, t)) (Ok (answer_for ns, Some (decimal (tag_after tag ns), tree_after t ns))) }
 {}
 
 /// A law: the text of such a notice, where the root and the document's name consist of Chars, is
@@ -79,21 +86,29 @@ pub fn notices_are_read_back()
 /// texts are read back, too.
 pub fn other_notices_are_replayed()
     ensures gone_document_is_dropped { (is_mine : List ℕ → Bool) (root sel : List ℕ) (tag : ℕ) (t : Tree) → is_mine sel ≡ true
-        → replayed is_mine (gone_notice root sel tag) (Some (decimal tag, t)) ≡ Ok (Removed, None) }
+        → Replays is_mine (gone_notice root sel tag) (Some (decimal tag, t)) (Ok (Removed, None)) }
     ensures tags_alone_ask_to_fetch { (is_mine : List ℕ → Bool) (root sel : List ℕ) (tag : ℕ) (t : Tree) (n : Note) (ns : List Note) → is_mine sel ≡ true
-        → replayed is_mine (tags_notice root sel tag (n ∷ ns)) (Some (decimal tag, t)) ≡ Ok (Fetch (decimal (tag_after tag (n ∷ ns))), Some (decimal tag, t)) }
+        → Replays is_mine (tags_notice root sel tag (n ∷ ns)) (Some (decimal tag, t)) (Ok (Fetch (decimal (tag_after tag (n ∷ ns))), Some (decimal tag, t))) }
     ensures same_version_stays { (is_mine : List ℕ → Bool) (root sel : List ℕ) (tag : ℕ) (t : Tree)
-        → replayed is_mine (tags_notice root sel tag []) (Some (decimal tag, t)) ≡ Ok (Same, Some (decimal tag, t)) }
+        → Replays is_mine (tags_notice root sel tag []) (Some (decimal tag, t)) (Ok (Same, Some (decimal tag, t))) }
     ensures gone_read { (root sel : List ℕ) (tag : ℕ) → all_chars root ≡ true → all_chars sel ≡ true → IsReadBack (gone_notice root sel tag) }
     ensures tags_read { (root sel : List ℕ) (tag : ℕ) (ns : List Note) → all_chars root ≡ true → all_chars sel ≡ true → IsReadBack (tags_notice root sel tag ns) }
 {}
 
+/// A law: a notice makes something of what is held, which is what it makes where its selectors are
+/// read from left to right; and where the notice is proper, it makes nothing else.
+pub fn notices_have_one_outcome()
+    ensures there_is_an_outcome { (is_mine : List ℕ → Bool) (notice : Tree) (held : CopyHeld) → Replays is_mine notice held (replayed is_mine notice held) }
+    ensures there_is_no_other { (is_mine : List ℕ → Bool) (notice : Tree) (held : CopyHeld) (a b : Result (CopyAnswer × CopyHeld) CopyFault)
+        → ProperIn [] notice → Replays is_mine notice held a → Replays is_mine notice held b → a ≡ b }
+{}
+
 /// A law: what is held stays proper and at most 64 levels deep, whoever wrote the notice or the
-/// operation that is applied.
+/// operation that is applied, and whatever its selector is taken to say.
 pub fn replicas_stay_sound()
-    ensures of_one_operation { (c : List (List Decl)) (o t u : Tree) → ProperIn c o → ProperIn [] t → applied c o t ≡ Ok u → IsSound u }
+    ensures of_one_operation { (read : List ℕ → Option Reading) (c : List (List Decl)) (o t u : Tree) → ProperIn c o → ProperIn [] t → words.applied read c o t ≡ Ok u → IsSound u }
     ensures of_a_whole_notice { (is_mine : List ℕ → Bool) (notice : Tree) (held new : CopyHeld) (answer : CopyAnswer) → ProperIn [] notice → HoldsSound held
-        → replayed is_mine notice held ≡ Ok (answer, new) → HoldsSound new }
+        → Replays is_mine notice held (Ok (answer, new)) → HoldsSound new }
 {}
 
 /// A law: what is proper in a scope is proper in one that binds alike what the first one binds, and

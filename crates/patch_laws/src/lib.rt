@@ -6,7 +6,7 @@
 mod laws;
 
 pub use laws::{
-    notices_are_read_back, notices_are_replayed, operations_make_changes,
+    notices_are_read_back, notices_are_replayed, notices_have_one_outcome, operations_make_changes,
     other_notices_are_replayed, paths_are_selected, prefixes_are_free,
     proper_where_names_are_bound_alike, replicas_stay_sound, selectors_are_those_of_the_grammar,
 };

@@ -7,7 +7,7 @@ use Rattle.xml_tree.specs.Characters.{is_name, is_space}
 use Rattle.xml_tree.specs.Edits.{change_at, own_number, parent_path, put_over}
 use Rattle.xml_tree.specs.Expanded.{element_name, attr_name, same_expanded}
 use Rattle.xml_tree.specs.Nodes.{exchange_nodes, is_text, nodes_of, place, text_node, text_of}
-use Rattle.xml_tree.specs.Scopes.{bindings_in, bound, scope_around, scope_at, xmlns_prefix}
+use Rattle.xml_tree.specs.Scopes.{bindings_in, scope_around, scope_at, xmlns_prefix}
 use Rattle.xml_tree.specs.Tree.{Content, last, more, note, Tree, at, height, tree_of}
 use Rattle.xml_tree.specs.declared.names.Name.{Name}
 use Rattle.xml_tree.specs.declared.names.Decl.{Decl}
@@ -18,11 +18,10 @@ use Rattle.node_select.specs.Names.{prefix_uri}
 use Rattle.node_select.specs.Selection.{is_attr, selected_in}
 use Rattle.node_select.specs.declared.selector.PatchEnd.{PatchEnd}
 use Rattle.node_select.specs.declared.selector.PatchEnd.TheVariants.{Element, Attribute, Chars}
+use Rattle.node_select.specs.declared.selector.PatchForm.{PatchForm}
+use Rattle.node_select.specs.declared.selector.PatchForm.TheVariants as forms
 use Rattle.node_select.specs.declared.selector.PatchSelector.{PatchSelector}
-use Rattle.node_select.specs.readers.Raw.{RawPatchSelector, RawPatchEnd, PatchElement, PatchAttribute, PatchChars, first_unbound_in_patch, patch_selector_of}
-use Rattle.node_select.specs.readers.Selectors.{read_patch_selector}
-use Rattle.grammar_rules.specs.Reading.{Stop, read_whole}
-use Rattle.tree_text.specs.declared.kind.Kind.{Kind}
+use Rattle.patch_words.specs.Selectors.{Reading}
 
 -- what is wrong with an operation (RFC 5261, section 5.1)
 pub data Wrong : Type 0 where
@@ -121,37 +120,18 @@ task_of Cut pos type ws = if is_some pos || is_some type then None else cutting 
 
 -- an `add` selects an element, and so does a `remove` that takes white space; the end of a selector is told by its text, whether its
 -- prefixes are bound or not
-abbrev pub suits : Task → RawPatchEnd → Bool
-suits (Put position) PatchElement = true
-suits (Put position) (PatchAttribute name) = false
-suits (Put position) (PatchChars k) = false
-suits (NewAttr type) PatchElement = true
-suits (NewAttr type) (PatchAttribute name) = false
-suits (NewAttr type) (PatchChars k) = false
+abbrev pub is_element : PatchForm → Bool
+is_element forms.Element = true
+is_element forms.Attribute = false
+is_element forms.Chars = false
+
+abbrev pub suits : Task → PatchForm → Bool
+suits (Put position) end = is_element end
+suits (NewAttr type) end = is_element end
 suits Replace end = true
-suits (Remove before after) PatchElement = true
-suits (Remove before after) (PatchAttribute name) = not (before || after)
-suits (Remove before after) (PatchChars k) = not (before || after)
+suits (Remove before after) end = is_element end || not (before || after)
 
 -- ---- what its selector selects
-
--- The selector as its text has it, with the prefixes of its names; none where the text is no selector. A text is read once: what it ends in
--- and what its names mean are both told of this.
-abbrev pub form_read : Result RawPatchSelector (Stop Kind) → Option RawPatchSelector
-form_read (Ok form) = Some form
-form_read (Err stop) = None
-
-abbrev pub form_of : List ℕ → Option RawPatchSelector
-form_of sel = form_read (read_whole read_patch_selector sel)
-
--- what it ends in, behind its steps
-abbrev pub end_of : RawPatchSelector → RawPatchEnd
-end_of form = form.1.1
-
--- what it means in the scope at the operation, where its prefixes are bound there; an unprefixed name has the default namespace there
-abbrev pub meaning_in : List (List Decl) → RawPatchSelector → Option PatchSelector
-meaning_in c form =
-    if is_some (first_unbound_in_patch (bindings_in c) form) then None else Some (patch_selector_of (bindings_in c) (unwrap_or (bound c []) []) form)
 
 -- the number among the nodes of the k-th text, counted from 1, where i nodes stand before these
 abbrev pub text_number : ℕ → ℕ → List Node → Option ℕ
@@ -346,16 +326,17 @@ is_bound_type c (NewAttr name) = bytes_eq name.prefix [] || is_some (prefix_uri 
 is_bound_type c Replace = true
 is_bound_type c (Remove before after) = true
 
--- an operation that stands in the scope c: what it makes of the tree, or the first thing that is wrong with it
-abbrev pub applied : List (List Decl) → Tree → Tree → Result Tree Wrong
-applied c o t =
+-- an operation that stands in the scope c: what it makes of the tree, or the first thing that is wrong with it. What its selector says is
+-- read so.
+abbrev pub applied : (List ℕ → Option Reading) → List (List Decl) → Tree → Tree → Result Tree Wrong
+applied read c o t =
     let here = c ++ o.decls ∷ [] in
     given (plain_value (codes "sel") o.attrs) Directive (λ sel.
     tested (list_all is_known o.attrs) Directive (
     given (option_and_then (λ w. task_of w (plain_value (codes "pos") o.attrs) (plain_value (codes "type") o.attrs) (plain_value (codes "ws") o.attrs)) (operation_word o.name.local)) Directive (λ task.
-    given (form_of sel) Directive (λ form.
-    tested (suits task (end_of form)) Directive (
-    given (meaning_in here form) Prefix (λ s.
+    given (read sel) Directive (λ selector.
+    tested (suits task selector.ends) Directive (
+    given (selector.means here) Prefix (λ s.
     tested (is_bound_type here task) Prefix (
     given (located s t) Unlocated (λ spot.
     done here task spot o.content t))))))))

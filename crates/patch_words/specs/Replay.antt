@@ -1,5 +1,5 @@
 -- What a notice makes of a held document, or the first fault. RFC 5874, section 3, as far as notices are taken here.
-use Rattle.std.specs.Prelude.{ℕ, suc, ◌+◌, Bool, false, ◌&&◌, ◌||◌, codes, List, [], ◌∷◌, ◌++◌, length, filter, Option, None, Some, is_some, unwrap_or, Result, Ok, Err, if◌then◌else◌}
+use Rattle.std.specs.Prelude.{◌≡◌, ℕ, suc, ◌+◌, Bool, false, ◌&&◌, ◌||◌, codes, List, [], ◌∷◌, ◌++◌, length, filter, Option, None, Some, is_some, unwrap_or, Result, Ok, Err, if◌then◌else◌}
 use Rattle.std.specs.List.{list_all}
 use Rattle.std.specs.Str.{bytes_eq}
 use Rattle.xml_tree.specs.Expanded.{element_name}
@@ -8,6 +8,7 @@ use Rattle.xml_tree.specs.declared.names.Decl.{Decl}
 use Rattle.node_select.specs.Names.{is_named_so, uri_of}
 use Rattle.patch_words.specs.Applied.{Wrong, applied, plain_value}
 use Rattle.patch_words.specs.Notices.{diff_uri}
+use Rattle.patch_words.specs.Selectors.{Reading, AreReadings}
 
 -- ---- the form of a notice
 
@@ -74,10 +75,6 @@ abbrev pub then_next : {A B : Type 0} → Result A CopyFault → (A → Result B
 then_next (Ok x) k = k x
 then_next (Err f) k = Err f
 
-abbrev pub all_applied : ℕ → List (List Decl) → List Tree → Tree → Result Tree CopyFault
-all_applied n c [] t = Ok t
-all_applied n c (o ∷ os) t = then_next (numbered n (applied c o t)) (all_applied (suc n) c os)
-
 -- ---- documents in order
 
 -- what one document makes of what is held; `Missing` where it changed without being told how
@@ -92,28 +89,6 @@ held_tag (Some h) = Some h.0
 abbrev pub is_tag : List ℕ → Option (List ℕ) → Bool
 is_tag wanted None = false
 is_tag wanted (Some tag) = bytes_eq wanted tag
-
--- the document with the new tag: its operations, the same body, or neither
-abbrev pub changed : ℕ → List (List Decl) → List Tree → List ℕ → CopyHeld → Result Turn CopyFault
-changed n c os tag None = Ok Missing
-changed n c [] tag (Some h) = Ok Missing
-changed n c (o ∷ os) tag (Some h) =
-    if says_same c (o ∷ os) then Ok (Now (Some (tag, h.1))) else then_next (all_applied n c (o ∷ os) h.1) (λ t. Ok (Now (Some (tag, t))))
-
--- a document with a new tag; without one nothing is held afterwards, and its operations aren't looked at
-abbrev pub renewed_copy : ℕ → List (List Decl) → List Tree → Option (List ℕ) → CopyHeld → Result Turn CopyFault
-renewed_copy n c os None held = Ok (Now None)
-renewed_copy n c os (Some tag) held = changed n c os tag held
-
--- the tag before is the one that is held; without it the change isn't told
-abbrev pub by_tags : ℕ → List (List Decl) → List Tree → Option (List ℕ) → Option (List ℕ) → CopyHeld → Result Turn CopyFault
-by_tags n c os None new held = Ok Missing
-by_tags n c os (Some previous) new held =
-    if is_tag previous (held_tag held) then renewed_copy n c os new held else Err (WrongTag (held_tag held) previous)
-
-abbrev pub document_taken : ℕ → List (List Decl) → Tree → CopyHeld → Result Turn CopyFault
-document_taken n c d held =
-    by_tags n (c ++ d.decls ∷ []) (operations_in c d) (plain_value (codes "previous-etag") d.attrs) (plain_value (codes "new-etag") d.attrs) held
 
 -- how many operations it has, where `body-not-changed` is none
 abbrev pub operation_count : List (List Decl) → Tree → ℕ
@@ -132,10 +107,6 @@ abbrev pub unless_missing : Turn → (CopyHeld → Result Outcome CopyFault) →
 unless_missing Missing k = Ok None
 unless_missing (Now held) k = k held
 
-abbrev pub all_taken : ℕ → List (List Decl) → List Tree → CopyHeld → Result Outcome CopyFault
-all_taken n c [] held = Ok (Some held)
-all_taken n c (d ∷ ds) held = then_next (document_taken n c d held) (λ now. unless_missing now (all_taken (n + operation_count c d) c ds))
-
 -- ---- the whole notice
 
 abbrev pub end_answer : CopyHeld → CopyAnswer
@@ -151,9 +122,46 @@ copy_answer (d ∷ ds) held (Some new) = (end_answer new, new)
 abbrev pub is_all_mine : (List ℕ → Bool) → List Tree → Bool
 is_all_mine is_mine ds = list_all (λ d. is_mine (unwrap_or (plain_value (codes "sel") d.attrs) [])) ds
 
--- the answer and what is held then, or the first fault; `is_mine` says of a printed name whether it is that of the replica's document
-abbrev pub replayed : (List ℕ → Bool) → Tree → CopyHeld → Result (CopyAnswer × CopyHeld) CopyFault
-replayed is_mine notice held =
-    if is_all_mine is_mine (documents notice)
-    then then_next (all_taken 0 (notice.decls ∷ []) (documents notice) held) (λ end. Ok (copy_answer (documents notice) held end))
-    else Err WrongDocument
+-- ---- what operations, documents and notices make, where what a selector says is read so
+
+module _ (read : List ℕ → Option Reading) where
+  abbrev pub all_applied : ℕ → List (List Decl) → List Tree → Tree → Result Tree CopyFault
+  all_applied n c [] t = Ok t
+  all_applied n c (o ∷ os) t = then_next (numbered n (applied read c o t)) (all_applied (suc n) c os)
+
+  -- the document with the new tag: its operations, the same body, or neither
+  abbrev pub changed : ℕ → List (List Decl) → List Tree → List ℕ → CopyHeld → Result Turn CopyFault
+  changed n c os tag None = Ok Missing
+  changed n c [] tag (Some h) = Ok Missing
+  changed n c (o ∷ os) tag (Some h) =
+      if says_same c (o ∷ os) then Ok (Now (Some (tag, h.1))) else then_next (all_applied n c (o ∷ os) h.1) (λ t. Ok (Now (Some (tag, t))))
+
+  -- a document with a new tag; without one nothing is held afterwards, and its operations aren't looked at
+  abbrev pub renewed_copy : ℕ → List (List Decl) → List Tree → Option (List ℕ) → CopyHeld → Result Turn CopyFault
+  renewed_copy n c os None held = Ok (Now None)
+  renewed_copy n c os (Some tag) held = changed n c os tag held
+
+  -- the tag before is the one that is held; without it the change isn't told
+  abbrev pub by_tags : ℕ → List (List Decl) → List Tree → Option (List ℕ) → Option (List ℕ) → CopyHeld → Result Turn CopyFault
+  by_tags n c os None new held = Ok Missing
+  by_tags n c os (Some previous) new held =
+      if is_tag previous (held_tag held) then renewed_copy n c os new held else Err (WrongTag (held_tag held) previous)
+
+  abbrev pub document_taken : ℕ → List (List Decl) → Tree → CopyHeld → Result Turn CopyFault
+  document_taken n c d held =
+      by_tags n (c ++ d.decls ∷ []) (operations_in c d) (plain_value (codes "previous-etag") d.attrs) (plain_value (codes "new-etag") d.attrs) held
+
+  abbrev pub all_taken : ℕ → List (List Decl) → List Tree → CopyHeld → Result Outcome CopyFault
+  all_taken n c [] held = Ok (Some held)
+  all_taken n c (d ∷ ds) held = then_next (document_taken n c d held) (λ now. unless_missing now (all_taken (n + operation_count c d) c ds))
+
+  -- the answer and what is held then, or the first fault; `is_mine` says of a printed name whether it is that of the replica's document
+  abbrev pub replayed : (List ℕ → Bool) → Tree → CopyHeld → Result (CopyAnswer × CopyHeld) CopyFault
+  replayed is_mine notice held =
+      if is_all_mine is_mine (documents notice)
+      then then_next (all_taken 0 (notice.decls ∷ []) (documents notice) held) (λ end. Ok (copy_answer (documents notice) held end))
+      else Err WrongDocument
+
+-- what the notice makes of what is held, with its selectors read as the grammar says
+abbrev pub Replays : (List ℕ → Bool) → Tree → CopyHeld → Result (CopyAnswer × CopyHeld) CopyFault → Type 0
+Replays is_mine notice held outcome = (read : List ℕ → Option Reading) × AreReadings read × (outcome ≡ replayed read is_mine notice held)

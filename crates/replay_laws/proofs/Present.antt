@@ -13,7 +13,7 @@ use Rattle.name_words.proofs.Printed.{names}
 use Rattle.xcap_uri.specs.Roots.{IsRoot, authority_of, path_of}
 use Rattle.edit_ops.specs.Changes.{edited}
 use Rattle.notes.specs.Notes.{Note, tag_after, tree_after}
-use Rattle.patch_words.specs.Replay.{CopyAnswer, CopyFault, Fetch, CopyHeld, Patched, Removed, Same, replayed}
+use Rattle.patch_words.specs.Replay.{CopyAnswer, CopyFault, Fetch, CopyHeld, Patched, Removed, Replays, Same}
 use Rattle.patch_words.specs.Notices.{aggregate_notice, gone_notice, patching_notice, tags_notice}
 use Rattle.patch_laws.specs.Premises.{AreFew, AreTold, IsTold}
 use Rattle.patch_laws.specs.Replayed.{answer_for}
@@ -55,7 +55,7 @@ tags_answer tag [] = Same
 tags_answer tag (n ∷ ns) = Fetch (decimal (tag_after tag (n ∷ ns)))
 
 tags_told : (is_mine : List ℕ → Bool) (root sel : List ℕ) (tag : ℕ) (t : Tree) (ns : List Note) → is_mine sel ≡ true
-    → replayed is_mine (tags_notice root sel tag ns) (Some (decimal tag, t)) ≡ Ok (tags_answer tag ns, Some (decimal tag, t))
+    → Replays is_mine (tags_notice root sel tag ns) (Some (decimal tag, t)) (Ok (tags_answer tag ns, Some (decimal tag, t)))
 tags_told is_mine root sel tag t [] mine = same_replayed is_mine root sel tag t
 tags_told is_mine root sel tag t (n ∷ ns) mine = tags_replayed is_mine root sel tag t n ns mine
 
@@ -78,21 +78,21 @@ module _ (id : DocId) (root : List ℕ) (next : ℕ) (from to : Version) (ns : L
   patched : Brings id (patching_notice root (id_text id) from.tag ns) (subscribed from) (answer_between from to) (subscribed to)
   patched = record {
     is_read = patching_read root (id_text id) from.tag from.tree ns chars (id_chars id) between.leads.notes told are_few;
-    is_applied = patching_replayed (is_name_of id) root (id_text id) from.tag from.tree ns mine between.leads.notes told are_few ∙ reached;
+    is_applied = subst (Replays (is_name_of id) (patching_notice root (id_text id) from.tag ns) (subscribed from)) reached (patching_replayed (is_name_of id) root (id_text id) from.tag from.tree ns mine between.leads.notes told are_few);
   }
 
   at_once : Brings id (aggregate_notice root (id_text id) from.tag ns) (subscribed from) (answer_between from to) (subscribed to)
   at_once = record {
     is_read = aggregate_read root (id_text id) from.tag from.tree ns chars (id_chars id) between.leads.notes told are_few;
-    is_applied = aggregate_replayed (is_name_of id) root (id_text id) from.tag from.tree ns mine between.leads.notes told are_few ∙ reached;
+    is_applied = subst (Replays (is_name_of id) (aggregate_notice root (id_text id) from.tag ns) (subscribed from)) reached (aggregate_replayed (is_name_of id) root (id_text id) from.tag from.tree ns mine between.leads.notes told are_few);
   }
 
   by_tags : Brings id (tags_notice root (id_text id) from.tag ns) (subscribed from) (fetch_between from to) (subscribed from)
   by_tags = record {
     is_read = tags_read root (id_text id) from.tag ns chars (id_chars id);
     is_applied =
-        tags_told (is_name_of id) root (id_text id) from.tag from.tree ns mine
-        ∙ ap (λ (a : CopyAnswer). let r : Result (CopyAnswer × CopyHeld) CopyFault = Ok (a, subscribed from) in r) (fetched from to ns (to.tag == from.tag) between.answer between.leads.tag);
+        subst (λ (a : CopyAnswer). Replays (is_name_of id) (tags_notice root (id_text id) from.tag ns) (subscribed from) (Ok (a, subscribed from))) (fetched from to ns (to.tag == from.tag) between.answer between.leads.tag)
+        (tags_told (is_name_of id) root (id_text id) from.tag from.tree ns mine);
   }
 
 -- ---- the version that is held is the one that the notes lead from

@@ -4,7 +4,7 @@ use Rattle.xml_tree.specs.Tree.{Tree}
 use Rattle.doc_names.specs.declared.doc_id.DocId.{DocId}
 use Rattle.name_words.specs.Naming.{is_name_of}
 use Rattle.notes.specs.Notes.{Note}
-use Rattle.patch_words.specs.Replay.{CopyAnswer, Fetch, CopyHeld, Patched, Same, replayed}
+use Rattle.patch_words.specs.Replay.{CopyAnswer, Fetch, CopyHeld, Patched, Replays, Same}
 use Rattle.patch_laws.specs.Replayed.{IsReadBack}
 use Rattle.store_core.specs.Changing.{document_in, document_name}
 use Rattle.store_core.specs.Held.{Stands, Stock}
@@ -36,4 +36,4 @@ fetch_between from to = if to.tag == from.tag then Same else Fetch (decimal to.t
 -- the text of a notice is read as the notice, and who holds this of the document and applies it gets the answer and then holds that
 pub record Brings (id : DocId) (notice : Tree) (held : CopyHeld) (answer : CopyAnswer) (new : CopyHeld) : Type 0 where
   pub is_read : IsReadBack notice
-  pub is_applied : replayed (is_name_of id) notice held ≡ Ok (answer, new)
+  pub is_applied : Replays (is_name_of id) notice held (Ok (answer, new))

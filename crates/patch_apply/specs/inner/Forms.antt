@@ -1,27 +1,13 @@
--- Which selectors suit what is to be done, by what they end in.
-use Rattle.std.specs.Prelude.{◌≡◌, Bool, true, false, not, ◌||◌, List, [], Option, None, Some, is_some, if◌then◌else◌}
+-- What is wrong with a selector that is refused.
+use Rattle.std.specs.Prelude.{◌≡◌, Bool, true, ◌||◌, List, [], Option, None, Some, is_some, if◌then◌else◌}
 use Rattle.std.specs.Str.{bytes_eq}
 use Rattle.xml_tree.specs.declared.names.Decl.{Decl}
 use Rattle.node_select.specs.Names.{prefix_uri}
-use Rattle.node_select.specs.declared.selector.PatchSelector.{PatchSelector}
-use Rattle.node_select.specs.readers.Raw.{RawPatchSelector}
 use Rattle.node_select.specs.declared.fault.SelectorFault.{SelectorFault}
 use Rattle.node_select.specs.declared.fault.SelectorFault.TheVariants.{BadSelector, UnboundPrefix}
 use Rattle.node_select.specs.declared.selector.PatchForm.{PatchForm}
-use Rattle.node_select.specs.declared.selector.PatchForm.TheVariants as forms
-use Rattle.patch_words.specs.Applied.{Wrong, Directive, Prefix, Task, Put, NewAttr, Replace, Remove}
-
-abbrev pub is_element : PatchForm → Bool
-is_element forms.Element = true
-is_element forms.Attribute = false
-is_element forms.Chars = false
-
--- what is put or added goes to an element; white space is taken out beside one
-abbrev pub suits_form : Task → PatchForm → Bool
-suits_form (Put position) form = is_element form
-suits_form (NewAttr name) form = is_element form
-suits_form Replace form = true
-suits_form (Remove before after) form = is_element form || not (before || after)
+use Rattle.patch_words.specs.Applied.{Wrong, Directive, Prefix, Task, Put, NewAttr, Replace, Remove, suits}
+use Rattle.patch_words.specs.Selectors.{Reading}
 
 -- the prefix of a new attribute's name is bound by these bindings
 abbrev pub is_type_bound : List Decl → Task → Bool
@@ -32,14 +18,14 @@ is_type_bound bindings (Remove before after) = true
 
 -- what is wrong with an unbound prefix: the end is looked at before
 abbrev pub unbound_with : Task → PatchForm → Wrong
-unbound_with task form = if suits_form task form then Prefix else Directive
+unbound_with task form = if suits task form then Prefix else Directive
 
--- the text has the form of a selector, and a prefix in it isn't bound
-abbrev pub IsUnbound : Option RawPatchSelector → (RawPatchSelector → Option PatchSelector) → Type 0
-IsUnbound None meaning = ⊥
-IsUnbound (Some form) meaning = meaning form ≡ None
+-- the text is a selector, and a prefix in it isn't bound in the scope
+abbrev pub IsUnbound : Option Reading → List (List Decl) → Type 0
+IsUnbound None here = ⊥
+IsUnbound (Some reading) here = reading.means here ≡ None
 
--- the fault of a text that is refused: it has no form of a selector, or a prefix in it isn't bound
-abbrev pub IsRefused : Option RawPatchSelector → (RawPatchSelector → Option PatchSelector) → SelectorFault → Type 0
-IsRefused form meaning (BadSelector place) = form ≡ None
-IsRefused form meaning (UnboundPrefix place) = IsUnbound form meaning
+-- the fault of a text that is refused: it is no selector, or a prefix in it isn't bound
+abbrev pub IsRefused : Option Reading → List (List Decl) → SelectorFault → Type 0
+IsRefused reading here (BadSelector place) = reading ≡ None
+IsRefused reading here (UnboundPrefix place) = IsUnbound reading here

@@ -6,7 +6,8 @@ use Rattle.patch_words.specs.Applied as words
 use Rattle.patch_words.specs.Replay as replay
 use Rattle.patch_apply.specs.declared.fault.Wrong.{Wrong}
 use Rattle.patch_apply.specs.declared.fault.ApplyFault.{ApplyFault}
-use Rattle.patch_apply.specs.Applying.{IsTold}
+use Rattle.patch_apply.specs.declared.replica.Applied.{Applied}
+use Rattle.patch_apply.specs.Views.{answer_in, told_as}
 use Rattle.patch_apply.specs.inner.Seen.{wrong_in}
 
 -- of an operation: the value, seen so, or what is wrong
@@ -15,8 +16,20 @@ Gives view stated (Ok x) = stated ≡ Ok (view x)
 Gives view stated (Err (Fault wrong)) = stated ≡ Err (wrong_in wrong)
 Gives view stated (Err NoMemory) = Unit {0}
 
+-- a fault that is stated is told so
+pub record IsTold {Y : Type 0} (stated : Result Y replay.CopyFault) (fault : ApplyFault) : Type 0 where
+  pub stated_fault : replay.CopyFault
+  pub is : stated ≡ Err stated_fault
+  pub told : fault ≡ told_as stated_fault
+
 -- of documents: the value, seen so, or the first fault
 abbrev pub Tells : {X Y : Type 0} → (X → Y) → Result Y replay.CopyFault → Result X (ReadError ApplyFault) → Type 0
 Tells view stated (Ok x) = stated ≡ Ok (view x)
 Tells view stated (Err (Fault fault)) = IsTold stated fault
 Tells view stated (Err NoMemory) = Unit {0}
+
+-- of a notice: the answer that is stated, and what is stated is held then; or the fault that is stated, or want of memory, and what was held is
+abbrev pub AppliesAs : Result (replay.CopyAnswer × replay.CopyHeld) replay.CopyFault → replay.CopyHeld → Result Applied (ReadError ApplyFault) → replay.CopyHeld → Type 0
+AppliesAs stated old (Ok answer) new = stated ≡ Ok (answer_in answer, new)
+AppliesAs stated old (Err (Fault fault)) new = IsTold stated fault × (new ≡ old)
+AppliesAs stated old (Err NoMemory) new = new ≡ old

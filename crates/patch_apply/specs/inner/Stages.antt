@@ -13,7 +13,8 @@ use Rattle.xml_tree.specs.declared.names.Decl.{Decl}
 use Rattle.xml_tree.specs.declared.names.Name.{Name}
 use Rattle.node_select.specs.Names.{uri_of}
 use Rattle.node_select.specs.declared.selector.PatchSelector.{PatchSelector}
-use Rattle.patch_words.specs.Applied.{Wrong, Directive, Prefix, Unlocated, WrongNodes, Task, Position, Behind, Prepend, Before, After, done, end_of, form_of, given, is_bare, is_bound_type, is_space_at, located, made, meaning_in, means_alike, nodes_at, own_place, plain_value, space_before, suits, task_of, tested, value_in, with_attrs, operation_word}
+use Rattle.patch_words.specs.Applied.{Wrong, Directive, Prefix, Unlocated, WrongNodes, Task, Position, Behind, Prepend, Before, After, done, given, is_bare, is_bound_type, is_space_at, located, made, means_alike, nodes_at, own_place, plain_value, space_before, suits, task_of, tested, value_in, with_attrs, operation_word}
+use Rattle.patch_words.specs.readers.Applied.{reading_in}
 use Rattle.patch_words.specs.Notices.{diff_uri}
 use Rattle.patch_words.specs.Replay.{is_ours}
 
@@ -24,7 +25,7 @@ task_said name attrs = option_and_then (λ w. task_of w (plain_value (codes "pos
 -- the selector, where it suits what is to be done and its prefixes are bound
 abbrev pub selector_tested : List (List Decl) → List ℕ → Task → Result PatchSelector Wrong
 selector_tested here sel task =
-    given (form_of sel) Directive (λ form. tested (suits task (end_of form)) Directive (given (meaning_in here form) Prefix (λ s. tested (is_bound_type here task) Prefix (Ok s))))
+    given (reading_in sel) Directive (λ reading. tested (suits task reading.ends) Directive (given (reading.means here) Prefix (λ s. tested (is_bound_type here task) Prefix (Ok s))))
 
 -- where content goes: the element whose nodes it comes among, and the number of the node before which it comes
 abbrev pub site_of : Position → List ℕ → List ℕ
@@ -69,7 +70,7 @@ is_there_already c name p t = list_any (λ a. same_expanded (attr_name (scope_at
 
 abbrev pub task_done : List (List Decl) → List ℕ → Task → Content → Tree → Result Tree Wrong
 task_done here sel task content t =
-    given (form_of sel) Directive (λ form. tested (suits task (end_of form)) Directive (given (meaning_in here form) Prefix (λ s. tested (is_bound_type here task) Prefix (given (located s t) Unlocated (λ spot. done here task spot content t)))))
+    given (reading_in sel) Directive (λ reading. tested (suits task reading.ends) Directive (given (reading.means here) Prefix (λ s. tested (is_bound_type here task) Prefix (given (located s t) Unlocated (λ spot. done here task spot content t)))))
 
 abbrev pub done_where : List (List Decl) → Task → PatchSelector → Content → Tree → Result Tree Wrong
 done_where here task s content t = given (located s t) Unlocated (λ spot. done here task spot content t)

@@ -1,7 +1,8 @@
 use Rattle.std.proofs.Common.{ℕ, ◌+◌, List, Ok, drop, map, refl, subst, ap, ◌∙◌}
 use Rattle.std.proofs.lemmas.Result.{err_from_is_err_and}
 use Rattle.xml_tree.specs.Tree.{Tree}
-use Rattle.patch_words.specs.Replay.{all_taken, operation_count}
+use Rattle.patch_words.specs.Replay.{operation_count}
+use Rattle.patch_words.specs.readers.Replay.{all_taken}
 use Rattle.patch_apply.specs.Views.{held_in}
 use Rattle.patch_apply.specs.inner.Seen.{IsLowTurn, outcome_in, turn_in}
 use Rattle.patch_apply.specs.declared.turns.Turn.{Turn}

@@ -1,6 +1,6 @@
 use Rattle.std.proofs.Common.{◌≡◌, ℕ, drop, map, min}
 use Rattle.xml_tree.specs.Limits.{greatest_u64}
-use Rattle.patch_words.specs.Replay.{all_taken}
+use Rattle.patch_words.specs.readers.Replay.{all_taken}
 use Rattle.patch_apply.specs.Views.{IsLow, held_in}
 use Rattle.patch_apply.proofs.applying.all_taken.Given as goal
 

@@ -1,6 +1,7 @@
 use Rattle.std.proofs.Common.{◌≡◌, ◌<◌, ℕ, zero, suc, eqb, true, false, Option, Ok, List, [], ◌∷◌, ◌++◌, length, sym, subst, ap, ◌∙◌, arith}
 use Rattle.xml_tree.specs.Tree.{Tree}
-use Rattle.patch_words.specs.Replay.{CopyAnswer, all_taken, documents, is_all_mine}
+use Rattle.patch_words.specs.Replay.{CopyAnswer, documents, is_all_mine}
+use Rattle.patch_words.specs.readers.Replay.{all_taken}
 use Rattle.name_words.specs.Naming.{is_name_of}
 use Rattle.patch_apply.specs.Views.{held_in}
 use Rattle.patch_apply.specs.inner.Seen.{outcome_in}

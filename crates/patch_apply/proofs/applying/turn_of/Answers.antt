@@ -1,7 +1,7 @@
 use Rattle.std.proofs.Common.{ℕ, List, [], ◌∷◌, ◌++◌, ap, ◌∙◌}
 use Rattle.std.proofs.lemmas.Result.{err_from_is_err_and}
 use Rattle.xml_tree.specs.declared.names.Decl.{Decl}
-use Rattle.patch_words.specs.Replay.{by_tags}
+use Rattle.patch_words.specs.readers.Replay.{by_tags}
 use Rattle.patch_apply.specs.inner.Stages.{ours_in}
 use Rattle.patch_apply.specs.Views.{held_in}
 use Rattle.patch_apply.specs.inner.Seen.{turn_in}

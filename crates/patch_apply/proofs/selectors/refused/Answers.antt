@@ -1,6 +1,6 @@
 use Rattle.std.proofs.Common.{subst}
 use Rattle.node_select.specs.declared.fault.SelectorFault.{SelectorFault}
-use Rattle.patch_words.specs.Applied.{form_of, meaning_in}
+use Rattle.patch_words.specs.readers.Applied.{reading_in}
 use Rattle.patch_apply.specs.inner.Forms.{IsRefused}
 use Rattle.patch_apply.specs.inner.Seen.{task_in}
 use Rattle.patch_apply.proofs.Selecting.{formless}
@@ -10,8 +10,8 @@ pub returns-in-BadSelector : goal.returns-in-BadSelector
 returns-in-BadSelector c = record {
   what_is_wrong =
       formless c.args.here.now c.args.sel.now (task_in c.args.task.now)
-      (subst (λ (f : SelectorFault). IsRefused (form_of c.args.sel.now) (meaning_in c.args.here.now) f) c.in-BadSelector.is c.requires);
+      (subst (λ (f : SelectorFault). IsRefused (reading_in c.args.sel.now) c.args.here.now f) c.in-BadSelector.is c.requires);
 }
 
 pub unbound-requires : goal.unbound-requires
-unbound-requires c = subst (λ (f : SelectorFault). IsRefused (form_of c.args.sel.now) (meaning_in c.args.here.now) f) c.in-UnboundPrefix.is c.requires
+unbound-requires c = subst (λ (f : SelectorFault). IsRefused (reading_in c.args.sel.now) c.args.here.now f) c.in-UnboundPrefix.is c.requires

@@ -1,8 +1,9 @@
 use Rattle.std.proofs.Common.{chars, sym, ap, ◌∙◌}
 use Rattle.node_select.specs.Faults.{IsPatchSelectorAnswer}
-use Rattle.patch_apply.specs.inner.Forms.{is_type_bound, suits_form}
+use Rattle.patch_words.specs.Applied.{suits}
+use Rattle.patch_apply.specs.inner.Forms.{is_type_bound}
 use Rattle.patch_apply.specs.inner.Seen.{task_in}
-use Rattle.patch_apply.proofs.Selecting.{fault_answered, found, refused_so, selecting, suits_by_form, type_is_bound, unsuited, untyped}
+use Rattle.patch_apply.proofs.Selecting.{fault_answered, found, refused_so, selecting, type_is_bound, unsuited, untyped}
 use Rattle.patch_apply.proofs.selectors.selector_for.Goals as goal
 
 pub returns-then-not-suits : goal.returns-then-not-suits
@@ -11,7 +12,7 @@ returns-then-not-suits c = record {
       let here = c.args.here.now in let sel = c.args.sel.now in let task = task_in c.args.task.now in
       let x = found here c.in_ok-bindings.bindings (chars c.default_uri.result.now) c.as_str.result.now sel c.in_ok-bindings.ensures.all_bindings_in_scope c.default_uri.ensures.default_namespace c.as_str.ensures.characters_of_the_text c.in-Ok.selector
       c.in-Ok.ensures.answer_by_the_grammar in
-      unsuited here sel task x.raw x.form (suits_by_form task x.raw.1.1 ∙ ap (suits_form task) (sym (c.form_of.ensures.form_of_the_end ∙ x.ends)) ∙ sym c.suits.ensures.tells_whether_it_suits ∙ c.if-not-suits.true);
+      unsuited here sel task x.reading x.form (ap (suits task) (sym (c.form_of.ensures.form_of_the_end ∙ x.ends)) ∙ sym c.suits.ensures.tells_whether_it_suits ∙ c.if-not-suits.true);
 }
 
 pub returns-then-not-is_bound_type : goal.returns-then-not-is_bound_type
@@ -20,7 +21,7 @@ returns-then-not-is_bound_type c = record {
       let here = c.args.here.now in let sel = c.args.sel.now in let task = task_in c.args.task.now in
       let x = found here c.in_ok-bindings.bindings (chars c.default_uri.result.now) c.as_str.result.now sel c.in_ok-bindings.ensures.all_bindings_in_scope c.default_uri.ensures.default_namespace c.as_str.ensures.characters_of_the_text c.in-Ok.selector
       c.in-Ok.ensures.answer_by_the_grammar in
-      untyped here sel task x.raw c.in-Ok.selector x.form (suits_by_form task x.raw.1.1 ∙ ap (suits_form task) (sym (c.form_of.ensures.form_of_the_end ∙ x.ends)) ∙ sym c.suits.ensures.tells_whether_it_suits ∙ c.if-not-suits.false) x.means (sym (type_is_bound here task) ∙ ((λ i. is_type_bound (sym c.in_ok-bindings.ensures.all_bindings_in_scope i) task) ∙ sym c.is_bound_type.ensures.tells_whether_it_is_bound ∙ c.if-not-is_bound_type.true));
+      untyped here sel task x.reading c.in-Ok.selector x.form (ap (suits task) (sym (c.form_of.ensures.form_of_the_end ∙ x.ends)) ∙ sym c.suits.ensures.tells_whether_it_suits ∙ c.if-not-suits.false) x.means (sym (type_is_bound here task) ∙ ((λ i. is_type_bound (sym c.in_ok-bindings.ensures.all_bindings_in_scope i) task) ∙ sym c.is_bound_type.ensures.tells_whether_it_is_bound ∙ c.if-not-is_bound_type.true));
 }
 
 pub returns-in-Ok : goal.returns-in-Ok
@@ -29,7 +30,7 @@ returns-in-Ok c = record {
       let here = c.args.here.now in let sel = c.args.sel.now in let task = task_in c.args.task.now in
       let x = found here c.in_ok-bindings.bindings (chars c.default_uri.result.now) c.as_str.result.now sel c.in_ok-bindings.ensures.all_bindings_in_scope c.default_uri.ensures.default_namespace c.as_str.ensures.characters_of_the_text c.in-Ok.selector
       c.in-Ok.ensures.answer_by_the_grammar in
-      selecting here sel task x.raw c.in-Ok.selector x.form (suits_by_form task x.raw.1.1 ∙ ap (suits_form task) (sym (c.form_of.ensures.form_of_the_end ∙ x.ends)) ∙ sym c.suits.ensures.tells_whether_it_suits ∙ c.if-not-suits.false) x.means (sym (type_is_bound here task) ∙ ((λ i. is_type_bound (sym c.in_ok-bindings.ensures.all_bindings_in_scope i) task) ∙ sym c.is_bound_type.ensures.tells_whether_it_is_bound ∙ c.if-not-is_bound_type.false));
+      selecting here sel task x.reading c.in-Ok.selector x.form (ap (suits task) (sym (c.form_of.ensures.form_of_the_end ∙ x.ends)) ∙ sym c.suits.ensures.tells_whether_it_suits ∙ c.if-not-suits.false) x.means (sym (type_is_bound here task) ∙ ((λ i. is_type_bound (sym c.in_ok-bindings.ensures.all_bindings_in_scope i) task) ∙ sym c.is_bound_type.ensures.tells_whether_it_is_bound ∙ c.if-not-is_bound_type.false));
 }
 
 pub refused-requires : goal.refused-requires

@@ -1,7 +1,8 @@
 use Rattle.std.proofs.Common.{◌+◌, suc, Err, List, drop, map, refl, sym, ap, ◌∙◌}
 use Rattle.xml_tree.specs.Tree.{Tree}
-use Rattle.patch_words.specs.Applied.{applied}
-use Rattle.patch_words.specs.Replay.{all_applied, numbered}
+use Rattle.patch_words.specs.readers.Applied.{applied}
+use Rattle.patch_words.specs.Replay.{numbered}
+use Rattle.patch_words.specs.readers.Replay.{all_applied}
 use Rattle.patch_apply.proofs.Lows.{applied_low}
 use Rattle.patch_apply.proofs.Turning.{applied_next, fault_ends, item_now, one_more, tells_same}
 use Rattle.patch_apply.proofs.turns.all_applied.Goals as goal

@@ -1,7 +1,7 @@
 use Rattle.std.proofs.Common.{◌≡◌, ◌≤◌, ℕ, drop, map, min}
 use Rattle.xml_tree.specs.Limits.{greatest_u64}
 use Rattle.xml_tree.specs.Tree.{height}
-use Rattle.patch_words.specs.Replay.{all_applied}
+use Rattle.patch_words.specs.readers.Replay.{all_applied}
 use Rattle.patch_apply.proofs.turns.all_applied.Given as goal
 
 abbrev pub invariant-loop-operation : goal.invariant-loop-operation

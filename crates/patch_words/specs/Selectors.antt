@@ -1,0 +1,35 @@
+-- What a text says as the selector of an operation, by the grammar of the selectors of patches. RFC 5261, section 4.1.
+use Rattle.std.specs.Prelude.{◌≡◌, ℕ, true, List, [], Option, None, Some, unwrap_or, Result, Ok, Err, encode_utf8_all}
+use Rattle.xml_tree.specs.Characters.{all_chars}
+use Rattle.xml_tree.specs.Scopes.{bindings_in, bound}
+use Rattle.xml_tree.specs.declared.names.Decl.{Decl}
+use Rattle.node_select.specs.Faults.{IsPatchFormAnswer, IsPatchSelectorAnswer}
+use Rattle.node_select.specs.declared.fault.SelectorFault.{SelectorFault}
+use Rattle.node_select.specs.declared.selector.PatchForm.{PatchForm}
+use Rattle.node_select.specs.declared.selector.PatchSelector.{PatchSelector}
+
+-- what it ends in, whether its prefixes are bound or not; and what it means in the scope at the operation, where its prefixes are bound there
+pub record Reading : Type 0 where
+  pub ends : PatchForm
+  pub means : List (List Decl) → Option PatchSelector
+
+-- the selector, where there is one
+abbrev pub selector_in : Result PatchSelector SelectorFault → Option PatchSelector
+selector_in (Ok selector) = Some selector
+selector_in (Err fault) = None
+
+-- the text means this in a scope: the selector that the grammar gives it with the bindings there, where an unprefixed name has the default
+-- namespace there
+abbrev pub MeansIn : List ℕ → List (List Decl) → Option PatchSelector → Type 0
+MeansIn sel c meaning =
+    (answer : Result PatchSelector SelectorFault) × IsPatchSelectorAnswer (bindings_in c) (unwrap_or (bound c []) []) (encode_utf8_all sel) answer
+    × (meaning ≡ selector_in answer)
+
+-- the text says this: it ends in what the grammar tells, and means in each scope what it means there; none where it is no selector
+abbrev pub IsReading : List ℕ → Option Reading → Type 0
+IsReading sel None = IsPatchFormAnswer (encode_utf8_all sel) None
+IsReading sel (Some reading) = IsPatchFormAnswer (encode_utf8_all sel) (Some reading.ends) × ((c : List (List Decl)) → MeansIn sel c (reading.means c))
+
+-- of all texts of Chars, this tells what they say
+abbrev pub AreReadings : (List ℕ → Option Reading) → Type 0
+AreReadings read = (sel : List ℕ) → all_chars sel ≡ true → IsReading sel (read sel)
