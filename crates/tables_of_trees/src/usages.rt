@@ -11,12 +11,10 @@ use xml_tree::{Element, ReadError, depth, print_path};
 /// The answers of the tables of usages.
 pub fn answer(alloc: Global, table: &str, inputs: &[Field]) -> Result<String> {
     match (table, inputs) {
-        ("usages", [usage, text]) => {
-            found(alloc, named(usage.text()?)?, &document(alloc, text)?)
-        }
-        ("services", [text]) => addresses(alloc, &document(alloc, text)?),
+        ("usages", [usage, text]) => found(alloc, usage, text),
+        ("services", [text]) => addresses(alloc, text),
         ("index", texts) => index(alloc, texts),
-        ("capabilities", []) => print(alloc, &caps(alloc)?),
+        ("capabilities", []) => capabilities(alloc),
         _ => bail!("other inputs"),
     }
 }
@@ -31,50 +29,86 @@ fn named(usage: &str) -> Result<Usage> {
 }
 
 // What a document is: `invalid`, or `valid` with what it is beyond that.
-fn found(alloc: Global, usage: Usage, root: &Element) -> Result<String> {
-    if !schema(alloc, usage, root)? {
-        return Ok(String::from_str(alloc, "invalid")?);
+fn found(alloc: Global, usage: &Field, text: &Field) -> Result<String> {
+    let usage = named(usage.text()?)?;
+    let root = document(alloc, text)?;
+    if schema(alloc, usage, &root)? {
+        return valid(alloc, usage, &root);
     }
-    if depth(root) > 64 {
-        bail!("too deep a document");
-    }
+    Ok(String::from_str(alloc, "invalid")?)
+}
+
+// What a valid document is beyond that.
+fn valid(alloc: Global, usage: Usage, root: &Element) -> Result<String> {
     let formed = if constraints(alloc, usage, root)? {
         "formed"
     } else {
         "unformed"
     };
+    distinct(alloc, usage, root, formed)
+}
+
+// Whether the keys of a valid document are distinct.
+fn distinct(alloc: Global, usage: Usage, root: &Element, formed: &str) -> Result<String> {
+    if depth(root) > 64 {
+        bail!("too deep a document");
+    }
     match first_clash(alloc, usage, root)? {
         None => Ok(format!(in alloc; "valid {formed} distinct")?),
-        Some(clash) => Ok(format!(in alloc; "valid {formed} {}", place(alloc, &clash)?)?),
+        Some(clash) => clashing(alloc, formed, &clash),
     }
 }
 
-// The place of the key that clashes.
-fn place(alloc: Global, clash: &Clash) -> Result<String> {
+// A valid document, and the place of the key that clashes.
+fn clashing(alloc: Global, formed: &str, clash: &Clash) -> Result<String> {
     let path = print_path(alloc, &clash.path)?;
-    Ok(format!(in alloc; "{}/@{}", path.as_str(), clash.key.word())?)
+    let (path, key) = (path.as_str(), clash.key.word());
+    Ok(format!(in alloc; "valid {formed} {path}/@{key}")?)
 }
 
 // The addresses of a document's services, in order.
-fn addresses(alloc: Global, root: &Element) -> Result<String> {
+fn addresses(alloc: Global, text: &Field) -> Result<String> {
+    let root = document(alloc, text)?;
     let mut shown = String::new(alloc);
+    push_addresses(alloc, &mut shown, &root)?;
+    Ok(shown)
+}
+
+fn push_addresses(alloc: Global, shown: &mut String, root: &Element) -> Result<()> {
     for uri in services(alloc, root)? {
         write!(shown, "<{uri}>")?;
     }
-    Ok(shown)
+    Ok(())
 }
 
 // The print of the index of the services of documents.
 fn index(alloc: Global, texts: &[Field]) -> Result<String> {
     let mut maker = IndexMaker::new(alloc)?;
-    for text in texts {
-        match maker.add(&document(alloc, text)?) {
-            Ok(()) => {}
-            Err(ReadError::Fault(IndexFault::TooLarge(len))) => return Ok(format!(in alloc;
-                "too-large {len}"
-            )?),
-            Err(ReadError::NoMemory) => bail!("no memory"),
-        }
+    if let Some(len) = too_large(alloc, &mut maker, texts)? {
+        return Ok(format!(in alloc; "too-large {len}")?);
     }
     print(alloc, &maker.finish())
+}
+
+// The length for which the first document is refused, if one is.
+fn too_large(alloc: Global, maker: &mut IndexMaker, texts: &[Field]) -> Result<Option<usize>> {
+    for text in texts {
+        if let Some(len) = refused(maker, &document(alloc, text)?)? {
+            return Ok(Some(len));
+        }
+    }
+    Ok(None)
+}
+
+fn refused(maker: &mut IndexMaker, root: &Element) -> Result<Option<usize>> {
+    match maker.add(root) {
+        Ok(()) => Ok(None),
+        Err(ReadError::Fault(IndexFault::TooLarge(len))) => Ok(Some(len)),
+        Err(ReadError::NoMemory) => bail!("no memory"),
+    }
+}
+
+fn capabilities(alloc: Global) -> Result<String> {
+    let root = caps(alloc)?;
+    print(alloc, &root)
 }
