@@ -27,11 +27,8 @@ impl Answers for Calls {
             "documents" | "fragments" | "attribute_bodies" | "document_prints" => {
                 texts::answer(self.alloc, table, inputs)
             }
-            "selectors" | "patch_selectors" | "selections" | "bindings" | "attributes" => {
-                selectors::answer(self.alloc, table, inputs)
-            }
             "roots" | "targets" | "ids" | "names" => addresses::answer(self.alloc, table, inputs),
-            _ => bail!("no such table"),
+            _ => selectors::answer(self.alloc, table, inputs),
         }
     }
 }
