@@ -2,7 +2,7 @@
 //! (RFC 9110, section 13).
 
 use anyhow::{Result, bail};
-use preconditions::{ConditionFault, Verdict, condition, read_conditions};
+use preconditions::{ConditionFault, Conditions, Verdict, condition, read_conditions};
 use std::alloc::Global;
 use table_cases::Field;
 use xcap_io::Bytes;
@@ -26,23 +26,51 @@ fn word(verdict: Verdict) -> &'static str {
     }
 }
 
+// What the two fields of a request say, or why they say nothing.
+fn read(
+    alloc: Global,
+    if_match: &Field,
+    if_none_match: &Field,
+) -> Result<Result<Conditions, ConditionFault>> {
+    let if_match = values(alloc, if_match.option()?)?;
+    let if_none_match = values(alloc, if_none_match.option()?)?;
+    Ok(read_conditions(alloc, if_match.as_slice(), if_none_match.as_slice()))
+}
+
+// What follows from conditions, where they could be read.
+fn told(
+    alloc: Global,
+    read: &Result<Conditions, ConditionFault>,
+    tag: Option<u64>,
+    exists: bool,
+) -> Result<String> {
+    match read {
+        Ok(conditions) => verdicts(alloc, conditions, tag, exists),
+        Err(ConditionFault::BadCondition) => Ok(String::from_str(alloc, "unreadable")?),
+        Err(ConditionFault::NoMemory) => bail!("no memory"),
+    }
+}
+
+// What follows for a request that reads, and for one that writes.
+fn verdicts(
+    alloc: Global,
+    conditions: &Conditions,
+    tag: Option<u64>,
+    exists: bool,
+) -> Result<String> {
+    let reading = word(condition(conditions, tag, exists, true));
+    let writing = word(condition(conditions, tag, exists, false));
+    Ok(format!(in alloc; "{reading}, {writing}")?)
+}
+
 /// What the two fields of a case say: lines of `If-Match` and of `If-None-Match`, the document's
 /// tag, and whether the resource is there.
 pub fn answer(alloc: Global, inputs: &[Field]) -> Result<String> {
     let [if_match, if_none_match, tag, exists] = inputs else {
         bail!("the columns are others");
     };
-    let if_match = values(alloc, if_match.option()?)?;
-    let if_none_match = values(alloc, if_none_match.option()?)?;
     let tag = table_cases::tag(tag)?;
     let exists = exists.text()? == "there";
-    match read_conditions(alloc, if_match.as_slice(), if_none_match.as_slice()) {
-        Ok(conditions) => {
-            let reading = word(condition(&conditions, tag, exists, true));
-            let writing = word(condition(&conditions, tag, exists, false));
-            Ok(format!(in alloc; "{reading}, {writing}")?)
-        }
-        Err(ConditionFault::BadCondition) => Ok(String::from_str(alloc, "unreadable")?),
-        Err(ConditionFault::NoMemory) => bail!("no memory"),
-    }
+    let read = read(alloc, if_match, if_none_match)?;
+    told(alloc, &read, tag, exists)
 }

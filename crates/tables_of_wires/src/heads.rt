@@ -10,17 +10,29 @@ use table_cases::{Field, home, usage};
 use xcap_io::Bytes;
 use xml_tree::{List, Text};
 
-// A request with the fields that stand on these lines.
-fn request(alloc: Global, method: &str, lines: &str) -> Result<Request> {
+// The field that stands on a line.
+fn field_of(alloc: Global, line: &str) -> Result<http_wire::Field> {
+    let (name, value) = line.split_once(": ").context("no field")?;
+    let name = Text::from(alloc, name)?;
+    let value = Bytes::from(alloc, value.as_bytes())?;
+    Ok(http_wire::Field { name, value })
+}
+
+// The fields that stand on these lines.
+fn fields_of(alloc: Global, lines: &str) -> Result<List<http_wire::Field>> {
     let mut fields = List::empty(alloc);
     for line in lines.lines() {
-        let (name, value) = line.split_once(": ").context("no field")?;
-        let name = Text::from(alloc, name)?;
-        let value = Bytes::from(alloc, value.as_bytes())?;
-        fields.push(http_wire::Field { name, value })?;
+        fields.push(field_of(alloc, line)?)?;
     }
+    Ok(fields)
+}
+
+// A request with the fields that stand on these lines.
+fn request(alloc: Global, method: &str, lines: &str) -> Result<Request> {
+    let method = Text::from(alloc, method)?;
+    let fields = fields_of(alloc, lines)?;
     Ok(Request {
-        method: Text::from(alloc, method)?,
+        method,
         target: Bytes::new(alloc),
         closes: false,
         fields,
@@ -28,31 +40,46 @@ fn request(alloc: Global, method: &str, lines: &str) -> Result<Request> {
     })
 }
 
-fn method(alloc: Global, name: &str) -> Result<&'static str> {
+fn word(alloc: Global, word: &str) -> Result<String> {
+    Ok(String::from_str(alloc, word)?)
+}
+
+fn method(alloc: Global, name: &str) -> Result<String> {
     let request = request(alloc, name, "")?;
-    let method = Method::of(&request);
-    Ok(match method {
+    word(alloc, method_word(Method::of(&request)))
+}
+
+fn method_word(method: Method) -> &'static str {
+    match method {
         Method::Get if method.reads() => "GET reads",
         Method::Head if method.reads() => "HEAD reads",
         Method::Put if method.is_known() => "PUT",
         Method::Delete if method.is_known() => "DELETE",
         Method::Other if !method.is_known() => "other",
         _ => "told in two ways",
-    })
+    }
 }
 
-fn rights(alloc: Global, auid: &str, user: Option<&str>, lines: &str) -> Result<&'static str> {
-    let request = request(alloc, "GET", lines)?;
-    let home = home(alloc, user)?;
-    let auid = usage(auid)?;
-    let reads = is_allowed(false, auid, &home, &request);
-    let writes = is_allowed(true, auid, &home, &request);
-    Ok(match (reads, writes) {
+fn rights(alloc: Global, auid: &Field, user: &Field, lines: &Field) -> Result<String> {
+    let request = request(alloc, "GET", lines.text()?)?;
+    rights_of(alloc, auid, user, &request)
+}
+
+fn rights_of(alloc: Global, auid: &Field, user: &Field, request: &Request) -> Result<String> {
+    let auid = usage(auid.text()?)?;
+    let home = home(alloc, user.option()?)?;
+    let reads = is_allowed(false, auid, &home, request);
+    let writes = is_allowed(true, auid, &home, request);
+    word(alloc, rights_word(reads, writes))
+}
+
+fn rights_word(reads: bool, writes: bool) -> &'static str {
+    match (reads, writes) {
         (true, true) => "reads, writes",
         (true, false) => "reads",
         (false, true) => "writes",
         (false, false) => "nothing",
-    })
+    }
 }
 
 fn media(name: &str) -> Result<Media> {
@@ -65,12 +92,17 @@ fn media(name: &str) -> Result<Media> {
     })
 }
 
-fn media_type(alloc: Global, name: &str, lines: &str) -> Result<&'static str> {
-    let request = request(alloc, "PUT", lines)?;
-    if has_type(&request, media(name)?) {
-        return Ok("yes");
-    }
-    Ok("no")
+fn media_type(alloc: Global, name: &Field, lines: &Field) -> Result<String> {
+    let media = media(name.text()?)?;
+    let request = request(alloc, "PUT", lines.text()?)?;
+    word(
+        alloc,
+        if has_type(&request, media) {
+            "yes"
+        } else {
+            "no"
+        },
+    )
 }
 
 fn outcome_word(outcome: Outcome) -> &'static str {
@@ -82,27 +114,27 @@ fn outcome_word(outcome: Outcome) -> &'static str {
     }
 }
 
+fn outcomes(alloc: Global, tag: &Field, exists: &Field, lines: &Field) -> Result<String> {
+    let tag = table_cases::tag(tag)?;
+    let exists = exists.text()? == "there";
+    let request = request(alloc, "GET", lines.text()?)?;
+    outcomes_of(alloc, &request, tag, exists)
+}
+
 // What the conditions make of a GET, and of a PUT.
-fn outcomes(alloc: Global, tag: Option<u64>, exists: bool, lines: &str) -> Result<String> {
-    let request = request(alloc, "GET", lines)?;
-    let reading = outcome_word(outcome(alloc, &request, tag, exists, true)?);
-    let writing = outcome_word(outcome(alloc, &request, tag, exists, false)?);
+fn outcomes_of(alloc: Global, request: &Request, tag: Option<u64>, exists: bool) -> Result<String> {
+    let reading = outcome_word(outcome(alloc, request, tag, exists, true)?);
+    let writing = outcome_word(outcome(alloc, request, tag, exists, false)?);
     Ok(format!(in alloc; "{reading}, {writing}")?)
 }
 
 /// What the head of a case asks.
 pub fn answer(alloc: Global, table: &str, inputs: &[Field]) -> Result<String> {
-    let word = match (table, inputs) {
-        ("methods", [name]) => method(alloc, name.text()?)?,
-        ("rights", [auid, user, lines]) => {
-            rights(alloc, auid.text()?, user.option()?, lines.text()?)?
-        }
-        ("types", [name, lines]) => media_type(alloc, name.text()?, lines.text()?)?,
-        ("outcomes", [tag, exists, lines]) => {
-            let exists = exists.text()? == "there";
-            return outcomes(alloc, table_cases::tag(tag)?, exists, lines.text()?);
-        }
+    match (table, inputs) {
+        ("methods", [name]) => method(alloc, name.text()?),
+        ("rights", [auid, user, lines]) => rights(alloc, auid, user, lines),
+        ("types", [name, lines]) => media_type(alloc, name, lines),
+        ("outcomes", [tag, exists, lines]) => outcomes(alloc, tag, exists, lines),
         _ => bail!("the columns are others"),
-    };
-    Ok(String::from_str(alloc, word)?)
+    }
 }

@@ -14,49 +14,92 @@ use xml_tree::Text;
 
 // ---- replies
 
-// The reply of a kind.
-fn reply(alloc: Global, kind: &str, tag: Option<u64>, body: Bytes, closes: bool) -> Result<Reply> {
-    let size = body.len();
-    Ok(match kind {
-        "found" => Reply::with(200, tag, Some(Media::Element), body, closes),
-        "found, the head" => {
-            Reply::with(200, tag, Some(Media::Element), body, closes).head_only()
-        }
-        "lent" => Reply::lent(200, tag, Media::ResourceLists, size, closes),
-        "not modified" => Reply::with(304, tag, None, Bytes::new(alloc), closes),
-        "missing" => Reply::fixed(404, closes),
-        "failed" => Reply::fixed(500, closes),
-        "other method" => Reply::method(false, closes),
-        "other method, only read" => Reply::method(true, closes),
-        _ => bail!("no kind of reply"),
-    })
+// A reply with an element.
+fn found(alloc: Global, tag: Option<u64>, body: &[u8], closes: bool) -> Result<Reply> {
+    let body = Bytes::from(alloc, body)?;
+    Ok(Reply::with(200, tag, Some(Media::Element), body, closes))
 }
 
-fn sent(alloc: Global, reply: &Reply) -> Result<String> {
+// The reply of a kind that has no body.
+fn bare(kind: &str, closes: bool) -> Result<Reply> {
+    match kind {
+        "missing" => Ok(Reply::fixed(404, closes)),
+        "failed" => Ok(Reply::fixed(500, closes)),
+        "other method" => Ok(Reply::method(false, closes)),
+        "other method, only read" => Ok(Reply::method(true, closes)),
+        _ => bail!("no kind of reply"),
+    }
+}
+
+// The reply of a kind.
+fn reply(alloc: Global, kind: &str, tag: Option<u64>, body: &[u8], closes: bool) -> Result<Reply> {
+    match kind {
+        "found" => found(alloc, tag, body, closes),
+        "found, the head" => Ok(found(alloc, tag, body, closes)?.head_only()),
+        "lent" => Ok(Reply::lent(200, tag, Media::ResourceLists, body.len(), closes)),
+        "not modified" => Ok(Reply::with(304, tag, None, Bytes::new(alloc), closes)),
+        _ => bare(kind, closes),
+    }
+}
+
+fn push_bytes(text: &mut String, bytes: &[u8]) -> Result<()> {
+    Ok(text.push_str(str::from_utf8(bytes)?)?)
+}
+
+fn shown(alloc: Global, reply: &Reply) -> Result<String> {
     let mut text = String::new(alloc);
-    text.push_str(str::from_utf8(reply.head())?)?;
-    text.push_str(str::from_utf8(reply.body())?)?;
+    push_bytes(&mut text, reply.head())?;
+    push_bytes(&mut text, reply.body())?;
     Ok(text)
+}
+
+// What is sent as the reply of a kind.
+fn sent(alloc: Global, kind: &Field, tag: &Field, body: &Field, closes: &Field) -> Result<String> {
+    let (kind, tag) = (kind.text()?, table_cases::tag(tag)?);
+    let closes = closes.text()? == "closes";
+    let reply = reply(alloc, kind, tag, body.bytes(), closes)?;
+    shown(alloc, &reply)
 }
 
 // ---- conflict documents
 
-fn conflict(alloc: Global, why: &str, what: &str) -> Result<String> {
-    let what = Text::from(alloc, what)?;
-    let body = match why {
-        "not-utf-8" => ErrorBody::NotUtf8,
-        "not-well-formed" => ErrorBody::NotWellFormed,
-        "not-xml-frag" => ErrorBody::NotXmlFrag,
-        "not-xml-att-value" => ErrorBody::NotXmlAttValue,
-        "no-parent" => ErrorBody::NoParent(what),
-        "schema" => ErrorBody::Schema,
-        "cannot-insert" => ErrorBody::CannotInsert,
-        "cannot-delete" => ErrorBody::CannotDelete,
-        "unique" => ErrorBody::Unique(what),
-        "constraint" => ErrorBody::Constraint,
+// What a body that can't be read is answered.
+fn unreadable(why: &str) -> Result<ErrorBody> {
+    match why {
+        "not-utf-8" => Ok(ErrorBody::NotUtf8),
+        "not-well-formed" => Ok(ErrorBody::NotWellFormed),
+        "not-xml-frag" => Ok(ErrorBody::NotXmlFrag),
+        "not-xml-att-value" => Ok(ErrorBody::NotXmlAttValue),
         _ => bail!("no such conflict"),
-    };
-    let document = error_document(alloc, &body)?;
+    }
+}
+
+// What an edit that can't be made is answered, and else what a body is that can't be read.
+fn refused(why: &str) -> Result<ErrorBody> {
+    match why {
+        "schema" => Ok(ErrorBody::Schema),
+        "cannot-insert" => Ok(ErrorBody::CannotInsert),
+        "cannot-delete" => Ok(ErrorBody::CannotDelete),
+        "constraint" => Ok(ErrorBody::Constraint),
+        _ => unreadable(why),
+    }
+}
+
+fn body_of(alloc: Global, why: &str, what: &str) -> Result<ErrorBody> {
+    match why {
+        "no-parent" => Ok(ErrorBody::NoParent(Text::from(alloc, what)?)),
+        "unique" => Ok(ErrorBody::Unique(Text::from(alloc, what)?)),
+        _ => refused(why),
+    }
+}
+
+fn conflict(alloc: Global, why: &str, what: &str) -> Result<String> {
+    let body = body_of(alloc, why, what)?;
+    document_of(alloc, &body)
+}
+
+fn document_of(alloc: Global, body: &ErrorBody) -> Result<String> {
+    let document = error_document(alloc, body)?;
     Ok(String::from_str(alloc, str::from_utf8(document.as_slice())?)?)
 }
 
@@ -102,34 +145,42 @@ impl Sink for Counter {
     }
 }
 
-// How often a sink with so much room was written to for a reply, and whether it took it.
-fn writes(alloc: Global, body: &[u8], room: usize) -> Result<String> {
-    let body = Bytes::from(alloc, body)?;
-    let reply = reply(alloc, "found", Some(1), body, false)?;
+// How a sink took a reply.
+fn writing(sink: &mut Counter, reply: &Reply) -> &'static str {
     let mut gatherer = Gatherer::new();
-    let mut sink = Counter {
-        line: MemLine::new(alloc, b"", 1, None, room)?,
+    match write_reply_through(sink, &mut gatherer, reply) {
+        Ok(()) => "written",
+        Err(Failed) => "failed",
+    }
+}
+
+fn counter_of(alloc: Global, room: usize) -> Result<Counter> {
+    let line = MemLine::new(alloc, b"", 1, None, room)?;
+    Ok(Counter {
+        line,
         room,
         writes: 0,
         faults: 0,
-    };
-    let end = match write_reply_through(&mut sink, &mut gatherer, &reply) {
-        Ok(()) => "written",
-        Err(Failed) => "failed",
-    };
+    })
+}
+
+// How often a sink with so much room is written to for a reply, and whether it takes it.
+fn writes_of(alloc: Global, reply: &Reply, room: usize) -> Result<String> {
+    let mut sink = counter_of(alloc, room)?;
+    let end = writing(&mut sink, reply);
     let writes = sink.writes;
     Ok(format!(in alloc; "{writes}, {end}")?)
+}
+
+fn writes(alloc: Global, body: &[u8], room: usize) -> Result<String> {
+    let reply = found(alloc, Some(1), body, false)?;
+    writes_of(alloc, &reply, room)
 }
 
 /// What is sent in a case.
 pub fn answer(alloc: Global, table: &str, inputs: &[Field]) -> Result<String> {
     match (table, inputs) {
-        ("replies", [kind, tag, body, closes]) => {
-            let body = Bytes::from(alloc, body.bytes())?;
-            let closes = closes.text()? == "closes";
-            let reply = reply(alloc, kind.text()?, table_cases::tag(tag)?, body, closes)?;
-            sent(alloc, &reply)
-        }
+        ("replies", [kind, tag, body, closes]) => sent(alloc, kind, tag, body, closes),
         ("conflicts", [why, what]) => conflict(alloc, why.text()?, what.text()?),
         ("writes", [body, room]) => writes(alloc, body.bytes(), room.count()?),
         _ => bail!("the columns are others"),

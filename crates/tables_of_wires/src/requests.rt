@@ -2,7 +2,7 @@
 //! and a byte at a time.
 
 use anyhow::{Result, bail};
-use http_wire::{Asked, Request, Wire, next_request};
+use http_wire::{Asked, ReadFault, Request, Wire, next_request};
 use std::alloc::Global;
 use table_cases::{Field, escaped};
 use xcap_io::MemLine;
@@ -25,117 +25,243 @@ fn word(asked: &Asked) -> &'static str {
     }
 }
 
-fn push_request(alloc: Global, text: &mut String, request: &Request) -> Result<()> {
-    let method = request.method.as_str();
-    let target = escaped(alloc, request.target.as_slice())?;
-    write!(text, "{method} {target}")?;
+fn push_escaped(alloc: Global, text: &mut String, bytes: &[u8]) -> Result<()> {
+    let shown = escaped(alloc, bytes)?;
+    Ok(text.push_str(shown.as_str())?)
+}
+
+fn push_field(alloc: Global, text: &mut String, field: &http_wire::Field) -> Result<()> {
+    let name = field.name.as_str();
+    write!(text, "; {name}: ")?;
+    push_escaped(alloc, text, field.value.as_slice())
+}
+
+// Adds the fields, and whether the connection closes behind the request.
+fn push_fields(alloc: Global, text: &mut String, request: &Request) -> Result<()> {
     for field in request.fields.as_slice() {
-        let name = field.name.as_str();
-        let value = escaped(alloc, field.value.as_slice())?;
-        write!(text, "; {name}: {value}")?;
+        push_field(alloc, text, field)?;
     }
     if request.closes {
         text.push_str("; closes")?;
     }
-    let body = escaped(alloc, request.body.as_slice())?;
-    write!(text, "; body: {body}")?;
     Ok(())
+}
+
+fn push_request(alloc: Global, text: &mut String, request: &Request) -> Result<()> {
+    let method = request.method.as_str();
+    write!(text, "{method} ")?;
+    push_escaped(alloc, text, request.target.as_slice())?;
+    push_fields(alloc, text, request)?;
+    text.push_str("; body: ")?;
+    push_escaped(alloc, text, request.body.as_slice())
 }
 
 // ---- answers
 
-// The first item, a request with all its parts.
-fn first(alloc: Global, line: &mut MemLine, wire: &mut Wire) -> Result<String> {
-    let mut text = String::new(alloc);
-    match next_request(alloc, line, wire) {
-        Ok(Asked::Request(request)) => push_request(alloc, &mut text, &request)?,
-        Ok(asked) => text.push_str(word(&asked))?,
-        Err(_) => text.push_str("failed")?,
+type Read = Result<Asked, ReadFault>;
+
+// Adds an item, a request with all its parts.
+fn push_item(alloc: Global, text: &mut String, read: &Read) -> Result<()> {
+    match read {
+        Ok(Asked::Request(request)) => push_request(alloc, text, request),
+        Ok(asked) => Ok(text.push_str(word(asked))?),
+        Err(_) => Ok(text.push_str("failed")?),
     }
-    Ok(text)
 }
 
-// How many requests there are, whether the last one closes, and what stands behind them.
-fn items(alloc: Global, line: &mut MemLine, wire: &mut Wire) -> Result<String> {
-    let mut requests = 0u32;
-    let mut closes = false;
-    for _ in 0..ITEMS {
-        let last = match next_request(alloc, line, wire) {
+// The requests so far: how many there are, and whether one of them closes.
+#[derive(Clone, Copy)]
+struct Seen {
+    requests: u32,
+    closes: bool,
+}
+
+impl Seen {
+    // Counts an item, if it is a request; else it answers what it is.
+    fn add(&mut self, read: &Read) -> Option<&'static str> {
+        match read {
             Ok(Asked::Request(request)) => {
-                requests = requests.saturating_add(1);
-                closes = closes || request.closes;
-                continue;
+                self.requests = self.requests.saturating_add(1);
+                self.closes = self.closes || request.closes;
+                None
             }
-            Ok(asked) => word(&asked),
-            Err(_) => "failed",
-        };
-        let closing = if closes { " closing" } else { "" };
-        return Ok(format!(in alloc; "{requests}{closing}, {last}")?);
-    }
-    bail!("no end")
-}
-
-// All bodies, a comma behind each.
-fn bodies(alloc: Global, line: &mut MemLine, wire: &mut Wire) -> Result<String> {
-    let mut text = String::new(alloc);
-    for _ in 0..ITEMS {
-        let Ok(Asked::Request(request)) = next_request(alloc, line, wire) else {
-            return Ok(text);
-        };
-        text.push_str(escaped(alloc, request.body.as_slice())?.as_str())?;
-        text.push_str(",")?;
-    }
-    bail!("no end")
-}
-
-// The items up to the first that is no request, what is held then, what is answered then, and the
-// items behind a reset.
-fn resets(alloc: Global, line: &mut MemLine, wire: &mut Wire) -> Result<String> {
-    let before = items(alloc, line, wire)?;
-    let held = wire.held();
-    let spent = items(alloc, line, wire)?;
-    wire.reset();
-    let behind = items(alloc, line, wire)?;
-    Ok(format!(in alloc; "{before}; {held} held; {spent}; {behind}")?)
-}
-
-// What a table asks of bytes that come so many at a time.
-fn asked(
-    alloc: Global,
-    table: &str,
-    wire: &mut Wire,
-    bytes: &[u8],
-    fails_at: Option<usize>,
-    step: usize,
-) -> Result<String> {
-    let mut line = MemLine::new(alloc, bytes, step.max(1), fails_at, 0)?;
-    wire.reset();
-    match table {
-        "requests" => first(alloc, &mut line, wire),
-        "bodies" => bodies(alloc, &mut line, wire),
-        "resets" => resets(alloc, &mut line, wire),
-        _ => items(alloc, &mut line, wire),
-    }
-}
-
-fn in_any_pieces(
-    alloc: Global,
-    table: &str,
-    bytes: &[u8],
-    fails_at: Option<usize>,
-) -> Result<String> {
-    let mut wire = Wire::new(alloc)?;
-    let whole = asked(alloc, table, &mut wire, bytes, fails_at, bytes.len())?;
-    for step in [7usize, 1] {
-        let cut = asked(alloc, table, &mut wire, bytes, fails_at, step)?;
-        if cut.as_str() != whole.as_str() {
-            return Ok(format!(in alloc; "{whole}; by {step} bytes: {cut}")?);
+            Ok(asked) => Some(word(asked)),
+            Err(_) => Some("failed"),
         }
     }
-    Ok(whole)
+}
+
+// Counts the requests up to the first item that is none, and answers what that is.
+fn count_requests(
+    alloc: Global,
+    line: &mut MemLine,
+    wire: &mut Wire,
+    seen: &mut Seen,
+) -> Result<&'static str> {
+    for _ in 0..ITEMS {
+        let read = next_request(alloc, line, wire);
+        if let Some(last) = seen.add(&read) {
+            return Ok(last);
+        }
+    }
+    bail!("no end")
+}
+
+// Adds how many requests there are, whether the last one closes, and what stands behind them.
+fn push_items(alloc: Global, text: &mut String, line: &mut MemLine, wire: &mut Wire) -> Result<()> {
+    let mut seen = Seen {
+        requests: 0,
+        closes: false,
+    };
+    let last = count_requests(alloc, line, wire, &mut seen)?;
+    let requests = seen.requests;
+    let closing = if seen.closes { " closing" } else { "" };
+    write!(text, "{requests}{closing}, {last}")?;
+    Ok(())
+}
+
+// Adds the body of a request; nothing, where there is none.
+fn push_body(alloc: Global, text: &mut String, read: &Read) -> Result<bool> {
+    let Ok(Asked::Request(request)) = read else {
+        return Ok(false);
+    };
+    push_escaped(alloc, text, request.body.as_slice())?;
+    text.push_str(",")?;
+    Ok(true)
+}
+
+// Adds all bodies, a comma behind each.
+fn push_bodies(
+    alloc: Global,
+    text: &mut String,
+    line: &mut MemLine,
+    wire: &mut Wire,
+) -> Result<()> {
+    for _ in 0..ITEMS {
+        let read = next_request(alloc, line, wire);
+        if !push_body(alloc, text, &read)? {
+            return Ok(());
+        }
+    }
+    bail!("no end")
+}
+
+// Adds the items up to the first that is no request, what is held then, what is answered then, and
+// the items behind a reset.
+fn push_resets(
+    alloc: Global,
+    text: &mut String,
+    line: &mut MemLine,
+    wire: &mut Wire,
+) -> Result<()> {
+    push_items(alloc, text, line, wire)?;
+    let held = wire.held();
+    write!(text, "; {held} held; ")?;
+    push_items(alloc, text, line, wire)?;
+    wire.reset();
+    text.push_str("; ")?;
+    push_items(alloc, text, line, wire)
+}
+
+fn push_answer(
+    alloc: Global,
+    table: &str,
+    text: &mut String,
+    line: &mut MemLine,
+    wire: &mut Wire,
+) -> Result<()> {
+    match table {
+        "requests" => push_item(alloc, text, &next_request(alloc, line, wire)),
+        "bodies" => push_bodies(alloc, text, line, wire),
+        "resets" => push_resets(alloc, text, line, wire),
+        _ => push_items(alloc, text, line, wire),
+    }
+}
+
+// Bytes, the place where reading them fails, if it does, and the table that asks of them.
+#[derive(Clone, Copy)]
+struct Question<'a> {
+    alloc: Global,
+    table: &'a str,
+    bytes: &'a [u8],
+    fails_at: Option<usize>,
+}
+
+impl<'a> Question<'a> {
+    fn of(
+        alloc: Global,
+        table: &'a str,
+        bytes: &'a Field,
+        fails_at: Option<usize>,
+    ) -> Question<'a> {
+        Question {
+            alloc,
+            table,
+            bytes: bytes.bytes(),
+            fails_at,
+        }
+    }
+
+    // What is answered where the bytes come so many at a time.
+    fn answer(&self, wire: &mut Wire, step: usize) -> Result<String> {
+        let mut line = MemLine::new(self.alloc, self.bytes, step.max(1), self.fails_at, 0)?;
+        wire.reset();
+        self.answer_on(&mut line, wire)
+    }
+
+    fn answer_on(&self, line: &mut MemLine, wire: &mut Wire) -> Result<String> {
+        let mut text = String::new(self.alloc);
+        push_answer(self.alloc, self.table, &mut text, line, wire)?;
+        Ok(text)
+    }
+
+    // Adds what is answered where the bytes come so many at a time, if that is another.
+    fn push_other(&self, text: &mut String, wire: &mut Wire, step: usize) -> Result<bool> {
+        let cut = self.answer(wire, step)?;
+        if cut.as_str() == text.as_str() {
+            return Ok(false);
+        }
+        write!(text, "; by {step} bytes: {cut}")?;
+        Ok(true)
+    }
+
+    // Adds the first other answer, where the bytes come seven or one at a time.
+    fn push_first_other(&self, text: &mut String, wire: &mut Wire) -> Result<()> {
+        for step in [7usize, 1] {
+            if self.push_other(text, wire, step)? {
+                return Ok(());
+            }
+        }
+        Ok(())
+    }
+
+    fn answer_in_any_pieces(&self, wire: &mut Wire) -> Result<String> {
+        let mut text = self.answer(wire, self.bytes.len())?;
+        self.push_first_other(&mut text, wire)?;
+        Ok(text)
+    }
+
+    fn in_any_pieces(&self) -> Result<String> {
+        let mut wire = Wire::new(self.alloc)?;
+        self.answer_in_any_pieces(&mut wire)
+    }
+
+    fn in_pieces_of(&self, step: usize) -> Result<String> {
+        let mut wire = Wire::new(self.alloc)?;
+        self.answer(&mut wire, step)
+    }
 }
 
 // ---- chunked bodies
+
+fn body_word(read: &Read, body: &[u8]) -> &'static str {
+    match read {
+        Ok(Asked::Request(request)) if request.body.as_slice() == body => "that body",
+        Ok(Asked::Request(_)) => "another body",
+        Ok(asked) => word(asked),
+        Err(_) => "failed",
+    }
+}
 
 // Whether the bytes behind a head of a chunked body are this body.
 fn is_body(
@@ -147,21 +273,19 @@ fn is_body(
 ) -> Result<&'static str> {
     let mut line = MemLine::new(alloc, bytes, step.max(1), None, 0)?;
     wire.reset();
-    match next_request(alloc, &mut line, wire) {
-        Ok(Asked::Request(request)) if request.body.as_slice() == body => Ok("that body"),
-        Ok(Asked::Request(_)) => Ok("another body"),
-        Ok(asked) => Ok(word(&asked)),
-        Err(_) => Ok("failed"),
-    }
+    let read = next_request(alloc, &mut line, wire);
+    Ok(body_word(&read, body))
 }
 
-fn chunked(alloc: Global, bytes: &[u8], body: &[u8]) -> Result<String> {
-    let mut all = CHUNKED.to_vec(alloc)?;
-    all.extend_from_slice(bytes)?;
-    let mut wire = Wire::new(alloc)?;
-    let whole = is_body(alloc, &mut wire, &all, body, all.len())?;
+fn is_body_in_any_pieces(
+    alloc: Global,
+    wire: &mut Wire,
+    bytes: &[u8],
+    body: &[u8],
+) -> Result<String> {
+    let whole = is_body(alloc, wire, bytes, body, bytes.len())?;
     for step in [7usize, 1] {
-        let cut = is_body(alloc, &mut wire, &all, body, step)?;
+        let cut = is_body(alloc, wire, bytes, body, step)?;
         if cut != whole {
             return Ok(format!(in alloc; "{whole}; by {step} bytes: {cut}")?);
         }
@@ -169,18 +293,30 @@ fn chunked(alloc: Global, bytes: &[u8], body: &[u8]) -> Result<String> {
     Ok(String::from_str(alloc, whole)?)
 }
 
+// The head of a chunked body, with bytes behind it.
+fn behind_head(alloc: Global, bytes: &[u8]) -> Result<Vec<u8>> {
+    let mut all = CHUNKED.to_vec(alloc)?;
+    all.extend_from_slice(bytes)?;
+    Ok(all)
+}
+
+fn chunked(alloc: Global, bytes: &[u8], body: &[u8]) -> Result<String> {
+    let all = behind_head(alloc, bytes)?;
+    let mut wire = Wire::new(alloc)?;
+    is_body_in_any_pieces(alloc, &mut wire, &all, body)
+}
+
 /// What the bytes of a case are.
 pub fn answer(alloc: Global, table: &str, inputs: &[Field]) -> Result<String> {
     match (table, inputs) {
         ("chunked", [bytes, body]) => chunked(alloc, bytes.bytes(), body.bytes()),
         ("resets", [bytes, step]) => {
-            let mut wire = Wire::new(alloc)?;
-            asked(alloc, table, &mut wire, bytes.bytes(), None, step.count()?)
+            Question::of(alloc, table, bytes, None).in_pieces_of(step.count()?)
         }
         ("faults", [bytes, place]) => {
-            in_any_pieces(alloc, table, bytes.bytes(), Some(place.count()?))
+            Question::of(alloc, table, bytes, Some(place.count()?)).in_any_pieces()
         }
-        (_, [bytes]) => in_any_pieces(alloc, table, bytes.bytes(), None),
+        (_, [bytes]) => Question::of(alloc, table, bytes, None).in_any_pieces(),
         _ => bail!("the columns are others"),
     }
 }
