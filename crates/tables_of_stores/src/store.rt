@@ -16,7 +16,7 @@ use std::alloc::Global;
 use store_core::{NoMemory, Store, StoreRefusal};
 use table_cases::Field;
 use tree_text::read_document;
-use usage_docs::{judge, services};
+use usage_docs::{Clash, judge, services};
 use xml_tree::{Element, Path, Text};
 
 // ---- documents
@@ -49,9 +49,7 @@ fn index_of(alloc: Global, user: &str) -> Result<DocId>
 fn read(alloc: Global, text: &str) -> Result<Element>
     ensures may_be_stored { IfOk result (λ root. MayBe usages.RlsServices root) }
 {
-    let Ok(root) = read_document(alloc, text.as_bytes(), 64) else {
-        bail!("no document");
-    };
+    let root = read_document(alloc, text.as_bytes(), 64)?;
     match judge(alloc, Usage::RlsServices, &root)? {
         None => Ok(root),
         Some(_) => bail!("no document of services"),
@@ -96,13 +94,16 @@ fn put(
     store.change(doc, change)
 }
 
+fn push_taken(text: &mut String, clash: &Clash) -> Result<()> {
+    let key = clash.key.word();
+    let numbers = clash.path.numbers();
+    write!(text, "{key} at {numbers:?} is taken; ")?;
+    Ok(())
+}
+
 fn push_refusal(text: &mut String, refusal: &StoreRefusal) -> Result<()> {
     match refusal {
-        StoreRefusal::ServiceTaken(clash) => {
-            let key = clash.key.word();
-            let numbers = clash.path.numbers();
-            write!(text, "{key} at {numbers:?} is taken; ")?;
-        }
+        StoreRefusal::ServiceTaken(clash) => push_taken(text, clash)?,
         StoreRefusal::TooLarge(length) => write!(text, "{length} bytes are too many; ")?,
         StoreRefusal::TooMany => text.push_str("too many documents; ")?,
         StoreRefusal::StoreFull(total) => write!(text, "{total} bytes in all are too many; ")?,
@@ -122,6 +123,34 @@ fn remove(store: &mut Store, doc: &DocId) -> Result<Result<u64, StoreRefusal>> {
     }
 }
 
+// The tree of a document whose one service has this address.
+fn root_of(alloc: Global, uri: &str) -> Result<Element>
+    ensures may_be_stored { IfOk result (λ root. MayBe usages.RlsServices root) }
+{
+    let text = spelled(alloc, uri)?;
+    read(alloc, text.as_str())
+}
+
+// The number of a change that was made.
+fn number_of(made: Result<EditNote, StoreRefusal>) -> Result<u64, StoreRefusal> {
+    made.map(|note| note.next)
+}
+
+// Puts a document whose one service has an address.
+fn put_root(
+    alloc: Global,
+    store: &mut Store,
+    doc: &DocId,
+    uri: &str,
+) -> Result<Result<u64, StoreRefusal>>
+    requires services { doc.now.auid ≡ auids.RlsServices }
+    requires readable { IsReadable doc.now }
+    requires users { IsUsers doc.now.home }
+{
+    let root = root_of(alloc, uri)?;
+    Ok(number_of(put(store, doc, root)?))
+}
+
 // Puts a user's document whose one service has an address.
 fn put_service(
     alloc: Global,
@@ -130,20 +159,36 @@ fn put_service(
     uri: &str,
 ) -> Result<Result<u64, StoreRefusal>> {
     let doc = index_of(alloc, user)?;
-    let text = spelled(alloc, uri)?;
-    let root = read(alloc, text.as_str())?;
-    Ok(put(store, &doc, root)?.map(|note| note.next))
+    put_root(alloc, store, &doc, uri)
 }
 
-// Makes the change of a line, a removal where it has no address, and tells its number.
-fn change(alloc: Global, store: &mut Store, line: &str, text: &mut String) -> Result<()> {
-    let number = match line.split_once(' ') {
-        Some((user, uri)) => put_service(alloc, store, user, uri)?,
-        None => remove(store, &index_of(alloc, line)?)?,
-    };
-    match number {
+fn remove_index(alloc: Global, store: &mut Store, user: &str) -> Result<Result<u64, StoreRefusal>> {
+    let doc = index_of(alloc, user)?;
+    remove(store, &doc)
+}
+
+// Makes the change of a line, a removal where it has no address.
+fn change(alloc: Global, store: &mut Store, line: &str) -> Result<Result<u64, StoreRefusal>> {
+    match line.split_once(' ') {
+        Some((user, uri)) => put_service(alloc, store, user, uri),
+        None => remove_index(alloc, store, line),
+    }
+}
+
+// Adds the number of a change, or why it is refused.
+fn push_made(text: &mut String, made: &Result<u64, StoreRefusal>) -> Result<()> {
+    match made {
         Ok(number) => write!(text, "{number}; ")?,
-        Err(refusal) => push_refusal(text, &refusal)?,
+        Err(refusal) => push_refusal(text, refusal)?,
+    }
+    Ok(())
+}
+
+// Makes the changes of these lines, and tells what each is answered.
+fn push_changes(alloc: Global, store: &mut Store, lines: &str, text: &mut String) -> Result<()> {
+    for line in lines.lines() {
+        let made = change(alloc, store, line)?;
+        push_made(text, &made)?;
     }
     Ok(())
 }
@@ -155,21 +200,27 @@ fn first_service(alloc: Global, root: &Element) -> Result<&str> {
     Ok(left.next().unwrap_or(""))
 }
 
-// The service addresses of the documents that the index lists, and the number that was given last.
-fn push_index(alloc: Global, store: &Store, text: &mut String) -> Result<()> {
+fn push_service(alloc: Global, root: &Element, text: &mut String) -> Result<()> {
+    text.push_str(first_service(alloc, root)?)?;
+    Ok(text.push_str(" ")?)
+}
+
+// The service addresses of the documents that the index lists.
+fn push_services(alloc: Global, store: &Store, text: &mut String) -> Result<()> {
     for root in store.user_indexes(alloc)? {
-        text.push_str(first_service(alloc, root)?)?;
-        text.push_str(" ")?;
+        push_service(alloc, root, text)?;
     }
-    let last = store.last_number();
-    write!(text, "{last}")?;
     Ok(())
 }
 
 // The service address and the tag of a user's document.
 fn push_held(alloc: Global, store: &Store, user: &str, text: &mut String) -> Result<()> {
     let doc = index_of(alloc, user)?;
-    match store.get(&doc) {
+    push_version(alloc, store, &doc, text)
+}
+
+fn push_version(alloc: Global, store: &Store, doc: &DocId, text: &mut String) -> Result<()> {
+    match store.get(doc) {
         None => text.push_str("nothing; ")?,
         Some((root, tag)) => {
             let uri = first_service(alloc, root)?;
@@ -179,18 +230,30 @@ fn push_held(alloc: Global, store: &Store, user: &str, text: &mut String) -> Res
     Ok(())
 }
 
+// What is held of a user, what the index lists, and the number that was given last.
+fn push_content(alloc: Global, store: &Store, user: &str, text: &mut String) -> Result<()> {
+    push_held(alloc, store, user, text)?;
+    push_services(alloc, store, text)?;
+    let last = store.last_number();
+    write!(text, "{last}")?;
+    Ok(())
+}
+
+// What changes are answered, and what is held then.
+fn told(alloc: Global, store: &mut Store, lines: &str, user: &str) -> Result<String> {
+    let mut text = String::new(alloc);
+    push_changes(alloc, store, lines, &mut text)?;
+    push_content(alloc, store, user, &mut text)?;
+    Ok(text)
+}
+
 /// What the changes of these lines are answered, what is held then of a user, and what the index
 /// lists. The first change has the number of the first column.
 pub fn answer(alloc: Global, inputs: &[Field]) -> Result<String> {
     let [first, lines, user] = inputs else {
         bail!("the columns are others");
     };
+    let (lines, user) = (lines.text()?, user.text()?);
     let mut store = Store::new(alloc, first.number()?.max(1))?;
-    let mut text = String::new(alloc);
-    for line in lines.text()?.lines() {
-        change(alloc, &mut store, line, &mut text)?;
-    }
-    push_held(alloc, &store, user.text()?, &mut text)?;
-    push_index(alloc, &store, &mut text)?;
-    Ok(text)
+    told(alloc, &mut store, lines, user)
 }
