@@ -23,21 +23,29 @@ fn note(alloc: Global, next: u64, change: Change) -> EditNote {
     }
 }
 
-// The notes of the changes of these lines.
-fn notes(alloc: Global, lines: &str) -> Result<Vec<EditNote>> {
-    let mut notes = Vec::new(alloc);
+// The change of a number that a line says.
+fn edit_of(alloc: Global, next: u64, line: &str) -> Result<Edit> {
+    let doc = lists_of(alloc, JOE)?;
+    let change = read_change(alloc, line)?;
+    let note = note(alloc, next, change);
+    Ok(Edit { doc, note })
+}
+
+// The changes of these lines.
+fn edits(alloc: Global, lines: &str) -> Result<Vec<Edit>> {
+    let mut edits = Vec::new(alloc);
     let mut next = 0u64;
     for line in lines.lines() {
         next = next.saturating_add(1);
-        notes.push(note(alloc, next, read_change(alloc, line)?))?;
+        edits.push(edit_of(alloc, next, line)?)?;
     }
-    Ok(notes)
+    Ok(edits)
 }
 
 // Tells a watcher of the changes.
-fn tell(watcher: &mut impl Watcher, doc: &DocId, notes: &[EditNote]) -> Result<()> {
-    for note in notes {
-        if watcher.told(doc, note) != Told::Kept {
+fn tell(watcher: &mut impl Watcher, edits: &[Edit]) -> Result<()> {
+    for edit in edits {
+        if watcher.told(&edit.doc, &edit.note) != Told::Kept {
             bail!("it was not kept");
         }
     }
@@ -45,9 +53,9 @@ fn tell(watcher: &mut impl Watcher, doc: &DocId, notes: &[EditNote]) -> Result<(
 }
 
 // The lines of an audit, which holds nothing.
-fn audited(alloc: Global, doc: &DocId, notes: &[EditNote]) -> Result<String> {
+fn audited(alloc: Global, doc: &DocId, edits: &[Edit]) -> Result<String> {
     let mut audit = Audit::new(alloc, MemLine::new(alloc, b"", 1, None, 1_000)?);
-    tell(&mut audit, doc, notes)?;
+    tell(&mut audit, edits)?;
     if audit.kept(doc).is_some() {
         bail!("an audit that holds a document");
     }
@@ -55,9 +63,9 @@ fn audited(alloc: Global, doc: &DocId, notes: &[EditNote]) -> Result<String> {
 }
 
 // What a mirror holds behind the last change: its number, and the document.
-fn mirrored(alloc: Global, doc: &DocId, notes: &[EditNote]) -> Result<String> {
+fn mirrored(alloc: Global, doc: &DocId, edits: &[Edit]) -> Result<String> {
     let mut mirror = Mirror::new(alloc);
-    tell(&mut mirror, doc, notes)?;
+    tell(&mut mirror, edits)?;
     match mirror.kept(doc) {
         Some((root, number)) => {
             let text = print(alloc, root)?;
@@ -79,32 +87,25 @@ fn push_recorded(text: &mut String, recorder: &Recorder, doc: &DocId) -> Result<
 }
 
 // The numbers of the changes that a recorder has of the document.
-fn recorded(alloc: Global, doc: &DocId, notes: &[EditNote]) -> Result<String> {
+fn recorded(alloc: Global, doc: &DocId, edits: &[Edit]) -> Result<String> {
     let mut recorder = Recorder::new(alloc);
-    tell(&mut recorder, doc, notes)?;
+    tell(&mut recorder, edits)?;
     let mut text = String::new(alloc);
     push_recorded(&mut text, &recorder, doc)?;
     Ok(text)
 }
 
-// Tells watchers of a change of the document.
-fn tell_note(alloc: Global, watchers: &mut impl Watchers<Edit>, note: EditNote) -> Result<()> {
-    let doc = lists_of(alloc, JOE)?;
-    watchers.tell(&Edit { doc, note });
-    Ok(())
-}
-
 // How many are left after each change of a mirror, an audit with room for so many bytes, and
 // another mirror.
-fn left(alloc: Global, room: usize, notes: Vec<EditNote>) -> Result<String> {
+fn left(alloc: Global, room: usize, edits: &[Edit]) -> Result<String> {
     let mut watchers: Vec<Box<dyn Watcher>> = Vec::new(alloc);
     watchers.push(Box::new(alloc, Mirror::new(alloc))?)?;
     let line = MemLine::new(alloc, b"", 1, None, room)?;
     watchers.push(Box::new(alloc, Audit::new(alloc, line))?)?;
     watchers.push(Box::new(alloc, Mirror::new(alloc))?)?;
     let mut text = String::new(alloc);
-    for note in notes {
-        tell_note(alloc, &mut watchers, note)?;
+    for edit in edits {
+        watchers.tell(edit);
         let left = watchers.len();
         write!(text, "{left},")?;
     }
@@ -112,24 +113,31 @@ fn left(alloc: Global, room: usize, notes: Vec<EditNote>) -> Result<String> {
 }
 
 // What a watcher makes of changes of one document.
-fn watched(alloc: Global, table: &str, notes: &[EditNote]) -> Result<String> {
+fn watched(alloc: Global, table: &str, edits: &[Edit]) -> Result<String> {
     let doc = lists_of(alloc, JOE)?;
     match table {
-        "audits" => audited(alloc, &doc, notes),
-        "mirrors" => mirrored(alloc, &doc, notes),
-        "recorders" => recorded(alloc, &doc, notes),
+        "audits" => audited(alloc, &doc, edits),
+        "mirrors" => mirrored(alloc, &doc, edits),
+        "recorders" => recorded(alloc, &doc, edits),
         _ => bail!("no such table"),
+    }
+}
+
+// What a watcher makes of changes, or several with room for so many bytes.
+fn made_of(alloc: Global, table: &str, room: Option<usize>, edits: &[Edit]) -> Result<String> {
+    match room {
+        Some(room) => left(alloc, room, edits),
+        None => watched(alloc, table, edits),
     }
 }
 
 /// What watchers make of the changes of a case.
 pub fn answer(alloc: Global, table: &str, inputs: &[Field]) -> Result<String> {
-    match inputs {
-        [lines] => {
-            let notes = notes(alloc, lines.text()?)?;
-            watched(alloc, table, &notes)
-        }
-        [room, lines] => left(alloc, room.count()?, notes(alloc, lines.text()?)?),
+    let (room, lines) = match inputs {
+        [lines] => (None, lines),
+        [room, lines] => (Some(room.count()?), lines),
         _ => bail!("the columns are others"),
-    }
+    };
+    let edits = edits(alloc, lines.text()?)?;
+    made_of(alloc, table, room, &edits)
 }
