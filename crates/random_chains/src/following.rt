@@ -2,9 +2,10 @@
 use crate::conversation::Document;
 use crate::naming::document_id;
 use anyhow::{Result, bail};
+use doc_names::DocId;
 use feed_requests::has_feed;
 use followed_feeds::{FollowFault, followed, is_low};
-use patch_apply::{Held, Replica};
+use patch_apply::{Applied, Held, Replica};
 use std::alloc::Global;
 use tree_text::print_document;
 use xcap_server::Server;
@@ -20,7 +21,7 @@ pub struct Version {
 }
 
 /// What came of the requests and notices so far.
-#[derive(Drop)]
+#[derive(Clone, Copy)]
 pub struct Followed {
     pub requests: u64,
     changes: u64,
@@ -72,6 +73,79 @@ enum Led {
     Nowhere,
 }
 
+// The version that is held of a document, under a tag.
+fn held_as(alloc: Global, tag: &Text, version: &Version) -> Result<Held> {
+    let tag = tag.copy(alloc)?;
+    let root = copy_tree(alloc, &version.root)?;
+    Ok(Held { tag, root })
+}
+
+/// A copy of a version under a tag, as one of the document of this name.
+pub fn copy_as(alloc: Global, name: &str, tag: &Text, version: &Version) -> Result<Replica> {
+    let doc = document_id(alloc, name)?;
+    let held = held_as(alloc, tag, version)?;
+    Ok(Replica {
+        doc,
+        held: Some(held),
+    })
+}
+
+/// A copy of a version of a document.
+pub fn copy_of(alloc: Global, name: &str, version: &Version) -> Result<Replica> {
+    copy_as(alloc, name, &version.tag, version)
+}
+
+fn came_of_id(
+    alloc: Global,
+    server: &mut Server,
+    doc: &DocId,
+    mode: Mode,
+    replica: &mut Replica,
+) -> Result<Result<Applied, FollowFault>> {
+    if !has_feed(doc) || !is_low(replica) {
+        bail!("a document that can't be followed");
+    }
+    Ok(followed(alloc, server, doc, mode, replica))
+}
+
+/// What comes of following a document of the server with a copy.
+pub fn came_of(
+    alloc: Global,
+    server: &mut Server,
+    name: &str,
+    mode: Mode,
+    replica: &mut Replica,
+) -> Result<Result<Applied, FollowFault>> {
+    let doc = document_id(alloc, name)?;
+    came_of_id(alloc, server, &doc, mode, replica)
+}
+
+// Where following led, by what came of it and what is held then.
+fn where_led(
+    alloc: Global,
+    came: &Result<Applied, FollowFault>,
+    replica: &Replica,
+    to: &Version,
+) -> Result<Led> {
+    match came {
+        Ok(_) if holds(alloc, replica, to)? => Ok(Led::There),
+        Err(FollowFault::Status(410)) => Ok(Led::Nowhere),
+        _ => Ok(Led::Elsewhere),
+    }
+}
+
+fn lead_copy(
+    alloc: Global,
+    server: &mut Server,
+    mode: Mode,
+    name: &str,
+    replica: &mut Replica,
+    to: &Version,
+) -> Result<Led> {
+    let came = came_of(alloc, server, name, mode, replica)?;
+    where_led(alloc, &came, replica, to)
+}
+
 // Follows a document from a version, in a mode.
 fn lead(
     alloc: Global,
@@ -81,23 +155,8 @@ fn lead(
     from: &Version,
     to: &Version,
 ) -> Result<Led> {
-    let doc = document_id(alloc, name)?;
-    let held = Held {
-        tag: from.tag.copy(alloc)?,
-        root: copy_tree(alloc, &from.root)?,
-    };
-    let mut replica = Replica {
-        doc: document_id(alloc, name)?,
-        held: Some(held),
-    };
-    if !has_feed(&doc) || !is_low(&replica) {
-        bail!("a document that can't be followed");
-    }
-    match followed(alloc, server, &doc, mode, &mut replica) {
-        Ok(_) if holds(alloc, &replica, to)? => Ok(Led::There),
-        Err(FollowFault::Status(410)) => Ok(Led::Nowhere),
-        _ => Ok(Led::Elsewhere),
-    }
+    let mut replica = copy_of(alloc, name, from)?;
+    lead_copy(alloc, server, mode, name, &mut replica, to)
 }
 
 // Follows a document from a version, in a mode, and counts what came of it.

@@ -29,19 +29,40 @@ fn number(word: &str) -> Result<u64> {
     }
 }
 
+// Makes so many requests, and follows each change.
+fn go_on(
+    rt: &HostRuntime,
+    talk: &mut Conversation,
+    choices: &mut Choices,
+    requests: u64,
+) -> Result<Followed> {
+    let mut followed = Followed::none();
+    for _ in 0..requests {
+        talk.go_on(choices)?;
+        talk.follow(rt, &mut followed)?;
+    }
+    followed.requests = requests;
+    Ok(followed)
+}
+
+// Prints what came of so many requests, and of following where nothing is brought up to date.
+fn print_followed(
+    rt: &HostRuntime,
+    talk: &mut Conversation,
+    choices: &mut Choices,
+    requests: u64,
+) -> Result<Followed> {
+    let followed = go_on(rt, talk, choices, requests)?;
+    followed.print(rt)?;
+    talk.print_edges(rt)?;
+    Ok(followed)
+}
+
 // Makes so many requests, follows each change, and prints what came of it.
 fn followed(rt: &HostRuntime, seed: u64, requests: u64) -> Result<Followed> {
     let mut choices = Choices::new(seed);
     let mut talk = Conversation::new(rt.alloc())?;
-    let mut followed = Followed::none();
-    for _ in 0..requests {
-        talk.go_on(&mut choices)?;
-        talk.follow(rt, &mut followed)?;
-    }
-    followed.requests = requests;
-    followed.print(rt)?;
-    talk.print_edges(rt)?;
-    Ok(followed)
+    print_followed(rt, &mut talk, &mut choices, requests)
 }
 
 fn main(rt: HostRuntime) -> Result<ExitCode> {

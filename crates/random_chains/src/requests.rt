@@ -39,11 +39,12 @@ pub fn delete(alloc: Global, node: String) -> Request {
 
 /// Puts a whole document.
 pub fn whole(alloc: Global, choices: &mut Choices, prefix: &str) -> Result<Request> {
+    let body = document(alloc, choices, prefix)?;
     Ok(Request {
         method: "PUT",
         node: String::new(alloc),
         media_type: "application/resource-lists+xml",
-        body: document(alloc, choices, prefix)?,
+        body,
     })
 }
 
@@ -66,35 +67,42 @@ fn entry_step(alloc: Global, list: &str, number: u32, by_position: bool) -> Resu
 fn of_entry(alloc: Global, choices: &mut Choices, prefix: &str, list: &str) -> Result<Request> {
     let number = choices.below(9);
     let by_position = choices.below(4) == 0;
-    let node = entry_step(alloc, list, number, by_position)?;
     if choices.below(3) == 0 {
+        let node = entry_step(alloc, list, number, by_position)?;
         return Ok(delete(alloc, node));
     }
     let body = entry(alloc, choices, prefix, number)?;
+    let node = entry_step(alloc, list, number, by_position)?;
     Ok(put(node, body))
 }
 
-// Changes an attribute of a list.
-fn of_attribute(alloc: Global, choices: &mut Choices, list: &str) -> Result<Request> {
+// Puts a value to an attribute of a list.
+fn put_attribute(alloc: Global, list: &str, value: &str) -> Result<Request> {
     let node = format!(in alloc; "{list}/@xml:lang")?;
-    if choices.below(3) == 0 {
-        return Ok(delete(alloc, node));
-    }
+    let body = String::from_str(alloc, value)?;
     Ok(Request {
         method: "PUT",
         node,
         media_type: ATTRIBUTE,
-        body: String::from_str(alloc, choices.one_of(&["en", "a&lt;b", "", "\u{e9}"]))?,
+        body,
     })
+}
+
+// Changes an attribute of a list.
+fn of_attribute(alloc: Global, choices: &mut Choices, list: &str) -> Result<Request> {
+    if choices.below(3) == 0 {
+        return Ok(delete(alloc, format!(in alloc; "{list}/@xml:lang")?));
+    }
+    put_attribute(alloc, list, choices.one_of(&["en", "a&lt;b", "", "\u{e9}"]))
 }
 
 // Changes the name of a list that is shown.
 fn of_name(alloc: Global, choices: &mut Choices, prefix: &str, list: &str) -> Result<Request> {
-    let node = format!(in alloc; "{list}/display-name")?;
     if choices.below(3) == 0 {
-        return Ok(delete(alloc, node));
+        return Ok(delete(alloc, format!(in alloc; "{list}/display-name")?));
     }
     let body = display_name(alloc, choices, prefix)?;
+    let node = format!(in alloc; "{list}/display-name")?;
     Ok(put(node, body))
 }
 
@@ -104,24 +112,36 @@ fn of_list(
     choices: &mut Choices,
     prefix: &str,
     number: u32,
-    node: String,
+    node: &str,
 ) -> Result<Request> {
     if choices.below(3) == 0 {
-        return Ok(delete(alloc, node));
+        return Ok(delete(alloc, String::from_str(alloc, node)?));
     }
     let body = list(alloc, choices, prefix, number)?;
+    let node = String::from_str(alloc, node)?;
     Ok(put(node, body))
+}
+
+// Edits the list of a number, or what it has.
+fn edit_list(
+    alloc: Global,
+    choices: &mut Choices,
+    prefix: &str,
+    number: u32,
+    list: &str,
+) -> Result<Request> {
+    match choices.below(48) {
+        0 => whole(alloc, choices, prefix),
+        1..=4 => of_list(alloc, choices, prefix, number, list),
+        5..=12 => of_attribute(alloc, choices, list),
+        13..=20 => of_name(alloc, choices, prefix, list),
+        _ => of_entry(alloc, choices, prefix, list),
+    }
 }
 
 /// Edits a document whose names have this prefix.
 pub fn edit(alloc: Global, choices: &mut Choices, prefix: &str) -> Result<Request> {
     let number = choices.below(3);
     let list = list_step(alloc, number)?;
-    match choices.below(48) {
-        0 => whole(alloc, choices, prefix),
-        1..=4 => of_list(alloc, choices, prefix, number, list),
-        5..=12 => of_attribute(alloc, choices, list.as_str()),
-        13..=20 => of_name(alloc, choices, prefix, list.as_str()),
-        _ => of_entry(alloc, choices, prefix, list.as_str()),
-    }
+    edit_list(alloc, choices, prefix, number, list.as_str())
 }
