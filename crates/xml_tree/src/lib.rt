@@ -24,6 +24,7 @@ mod room_edits;
 mod runs;
 mod scope;
 mod scope_laws;
+mod short_text;
 mod text;
 mod text_bytes;
 mod tree;

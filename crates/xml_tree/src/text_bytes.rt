@@ -2,16 +2,13 @@
 ghost use Rattle.std.specs.Prelude.{◌≡◌, ◌++◌, encode_utf8, string_bytes, [], IfOk, OnOk, OnErr};
 ghost use Rattle.xml_tree.specs.inner.Spelled.{bytes_of};
 
-use arrayvec::ArrayString;
+use crate::short_text::{MOST, ShortText};
 use std::alloc::{AllocError, Global};
-
-// How many bytes stand in place at most: most names, values and white space of a contact list.
-const IN_PLACE: usize = 24;
 
 /// The bytes of a text, which spell characters.
 #[derive(Debug, Drop)]
 pub(crate) enum TextBytes {
-    Short(Global, ArrayString<24>),
+    Short(Global, ShortText),
     Long(String),
 }
 
@@ -20,8 +17,8 @@ impl TextBytes {
     pub(crate) fn with_capacity(alloc: Global, bytes: usize) -> Result<TextBytes, AllocError>
         ensures holds_no_bytes { IfOk result (λ made. bytes_of made ≡ []) }
     {
-        if bytes <= IN_PLACE {
-            return Ok(TextBytes::Short(alloc, ArrayString::new()));
+        if bytes <= MOST {
+            return Ok(TextBytes::Short(alloc, ShortText::new()));
         }
         Ok(TextBytes::Long(String::with_capacity(alloc, bytes)?))
     }
@@ -30,10 +27,11 @@ impl TextBytes {
     pub(crate) fn from(alloc: Global, text: &str) -> Result<TextBytes, AllocError>
         ensures copies_the_bytes { IfOk result (λ made. bytes_of made ≡ text.now) }
     {
-        match ArrayString::from(text) {
-            Ok(short) => Ok(TextBytes::Short(alloc, short)),
-            Err(_) => Ok(TextBytes::Long(String::from_str(alloc, text)?)),
+        let mut short = ShortText::new();
+        if short.takes(text) {
+            return Ok(TextBytes::Short(alloc, short));
         }
+        Ok(TextBytes::Long(String::from_str(alloc, text)?))
     }
 
     /// The text, lent.
@@ -54,7 +52,7 @@ impl TextBytes {
         match self {
             TextBytes::Long(string) => string.push_str(text),
             TextBytes::Short(alloc, short) => {
-                if short.try_push_str(text).is_ok() {
+                if short.takes(text) {
                     return Ok(());
                 }
                 let long = joined(*alloc, short.as_str(), text)?;

@@ -4,5 +4,5 @@ use Rattle.xml_tree.specs.declared.text_bytes.TextBytes.{TextBytes}
 use Rattle.xml_tree.specs.declared.text_bytes.TextBytes.TheVariants.{Short, Long}
 
 abbrev pub bytes_of : TextBytes → List ℕ
-bytes_of (Short alloc string) = string.bytes
+bytes_of (Short alloc text) = text
 bytes_of (Long string) = string_bytes string
