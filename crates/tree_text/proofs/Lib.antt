@@ -16,6 +16,7 @@ pub mod RawLetters
 pub mod PlainRuns
 pub mod PlainFronts
 pub mod PlainNames
+pub mod EscapeLemmas
 pub mod PrintLemmas
 pub mod JudgeTags
 pub mod ReadParts

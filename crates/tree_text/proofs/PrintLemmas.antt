@@ -14,8 +14,8 @@ use Rattle.std.specs.Str.{bytes_eq, chars}
 pub three : (a x y z : List ℕ) → ((a ++ x) ++ y) ++ z ≡ a ++ (x ++ (y ++ z))
 three a x y z = append_assoc (a ++ x) y z ∙ append_assoc a x (y ++ z)
 
-pub set_value : (a v : List ℕ) (c d : ℕ) → (((a ++ c ∷ []) ++ d ∷ []) ++ v) ++ d ∷ [] ≡ a ++ c ∷ (d ∷ (v ++ d ∷ []))
-set_value a v c d = append_assoc ((a ++ c ∷ []) ++ d ∷ []) v (d ∷ []) ∙ append_assoc (a ++ c ∷ []) (d ∷ []) (v ++ d ∷ []) ∙ append_assoc a (c ∷ []) (d ∷ (v ++ d ∷ []))
+pub set_value : (a v : List ℕ) (c d : ℕ) → ((a ++ c ∷ (d ∷ [])) ++ v) ++ d ∷ [] ≡ a ++ c ∷ (d ∷ (v ++ d ∷ []))
+set_value a v c d = three a (c ∷ (d ∷ [])) v (d ∷ [])
 
 -- texts of the code, read as characters
 
@@ -35,6 +35,14 @@ pub letters_empty_end : chars (47 ∷ 62 ∷ []) ≡ 47 ∷ 62 ∷ []
 unfolding chars
 letters_empty_end = refl
 
+pub letters_end_start : chars (60 ∷ 47 ∷ []) ≡ 60 ∷ 47 ∷ []
+unfolding chars
+letters_end_start = refl
+
+pub letters_value_start : chars (61 ∷ 34 ∷ []) ≡ 61 ∷ 34 ∷ []
+unfolding chars
+letters_value_start = refl
+
 pub letters_comment_start : chars (60 ∷ 33 ∷ 45 ∷ 45 ∷ []) ≡ 60 ∷ 33 ∷ 45 ∷ 45 ∷ []
 unfolding chars
 letters_comment_start = refl
@@ -47,7 +55,7 @@ pub letters_header : chars (codes "<?xml version=\"1.0\" encoding=\"UTF-8\"?>\n"
 unfolding chars
 letters_header = refl
 
-pub ruleset literals = (letters_apos, letters_xmlns, letters_xmlns_colon, letters_empty_end, letters_comment_start, letters_comment_end, letters_header)
+pub ruleset literals = (letters_apos, letters_xmlns, letters_xmlns_colon, letters_empty_end, letters_end_start, letters_value_start, letters_comment_start, letters_comment_end, letters_header)
 
 -- ---- nodes and elements
 

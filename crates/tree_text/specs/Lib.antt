@@ -4,4 +4,5 @@ pub mod Kinds
 pub mod Names
 pub mod Printing
 pub mod Pieces
+pub mod inner
 pub mod readers

@@ -1,26 +1,17 @@
 //! Printing documents, elements and bodies.
 ghost use Rattle.std.specs.Prelude.{◌≡◌, ◌∷◌, ◌++◌, IfOk, OnOk, chars, encode_utf8_all, flat_map};
-ghost use Rattle.xml_tree.specs.Print.{closing, declaring, ending, is_empty, opening, print, print_content, print_attr, print_comment, print_decl, print_name, print_node, print_text, text_escape, value_escape, quoted_text};
+ghost use Rattle.xml_tree.specs.Print.{closing, declaring, ending, is_empty, opening, print, print_content, print_attr, print_comment, print_decl, print_name, print_node, print_text, value_escape, quoted_text};
 ghost use Rattle.tree_text.specs.Printing.{header, document_print, body_escape, body_print};
 
+use crate::escapes::{Place, push_escaped};
 use crate::names::is_nothing;
-use crate::texts::no_text;
+use crate::output::Output;
 use std::alloc::{AllocError, Global};
 use xcap_io::Bytes;
-use xml_tree::{Attr, Decl, Element, Name, Node, Text, text_reference, value_reference};
-
-/// Adds a character of a text.
-fn push_text_char(out: &mut Text, c: char) -> Result<(), AllocError>
-    ensures adds_the_character_of_a_text { OnOk result (out.new ≡ out.old ++ text_escape c) }
-{
-    match text_reference(c) {
-        Some(reference) => out.push_str(reference),
-        None => out.push(c),
-    }
-}
+use xml_tree::{Attr, Decl, Element, Name, Node, Text, value_reference};
 
 /// Adds a character of a value in quotes.
-fn push_value_char(out: &mut Text, c: char) -> Result<(), AllocError>
+fn push_value_char(out: &mut Output, c: char) -> Result<(), AllocError>
     ensures adds_the_character_of_a_value { OnOk result (out.new ≡ out.old ++ value_escape c) }
 {
     match value_reference(c) {
@@ -31,7 +22,7 @@ fn push_value_char(out: &mut Text, c: char) -> Result<(), AllocError>
 
 /// Adds a character of a body, which may stand in either quotes.
 #[tactic(auto, using(crate::proofs::PrintLemmas::literals))]
-fn push_body_char(out: &mut Text, c: char) -> Result<(), AllocError>
+fn push_body_char(out: &mut Output, c: char) -> Result<(), AllocError>
     ensures adds_the_character_of_a_body { OnOk result (out.new ≡ out.old ++ body_escape c) }
 {
     match c {
@@ -40,25 +31,19 @@ fn push_body_char(out: &mut Text, c: char) -> Result<(), AllocError>
     }
 }
 
-fn push_text(out: &mut Text, text: &str) -> Result<(), AllocError>
+fn push_text(out: &mut Output, text: &str) -> Result<(), AllocError>
     ensures adds_the_text { OnOk result (out.new ≡ out.old ++ print_text (chars text.now)) }
 {
-    for c in text.chars() {
-        push_text_char(out, c)?;
-    }
-    Ok(())
+    push_escaped(out, text, Place::Content)
 }
 
-fn push_value(out: &mut Text, value: &str) -> Result<(), AllocError>
+fn push_value(out: &mut Output, value: &str) -> Result<(), AllocError>
     ensures adds_the_value { OnOk result (out.new ≡ out.old ++ flat_map value_escape (chars value.now)) }
 {
-    for c in value.chars() {
-        push_value_char(out, c)?;
-    }
-    Ok(())
+    push_escaped(out, value, Place::Quotes)
 }
 
-fn push_body(out: &mut Text, value: &str) -> Result<(), AllocError>
+fn push_body(out: &mut Output, value: &str) -> Result<(), AllocError>
     ensures adds_the_body { OnOk result (out.new ≡ out.old ++ body_print (chars value.now)) }
 {
     for c in value.chars() {
@@ -68,18 +53,17 @@ fn push_body(out: &mut Text, value: &str) -> Result<(), AllocError>
 }
 
 /// Adds `=` and a value in quotes.
-#[tactic(auto, using(crate::proofs::PrintLemmas::set_value))]
-fn push_set(out: &mut Text, value: &Text) -> Result<(), AllocError>
+#[tactic(auto, using(crate::proofs::PrintLemmas::literals, crate::proofs::PrintLemmas::set_value))]
+fn push_set(out: &mut Output, value: &Text) -> Result<(), AllocError>
     ensures adds_the_set_value { OnOk result (out.new ≡ out.old ++ 61 ∷ quoted_text value.now) }
 {
-    out.push('=')?;
-    out.push('"')?;
+    out.push_str("=\"")?;
     push_value(out, value.as_str())?;
     out.push('"')
 }
 
 #[tactic(auto, using(crate::proofs::PrintLemmas::three))]
-fn push_name(out: &mut Text, name: &Name) -> Result<(), AllocError>
+fn push_name(out: &mut Output, name: &Name) -> Result<(), AllocError>
     ensures adds_the_name { OnOk result (out.new ≡ out.old ++ print_name name.now) }
 {
     if is_nothing(&name.prefix) {
@@ -92,7 +76,7 @@ fn push_name(out: &mut Text, name: &Name) -> Result<(), AllocError>
 
 /// Adds the name that declares a prefix.
 #[tactic(auto, using(crate::proofs::PrintLemmas::literals))]
-fn push_declaring(out: &mut Text, prefix: &Text) -> Result<(), AllocError>
+fn push_declaring(out: &mut Output, prefix: &Text) -> Result<(), AllocError>
     ensures adds_the_declaring_name { OnOk result (out.new ≡ out.old ++ declaring prefix.now) }
 {
     if is_nothing(prefix) {
@@ -104,7 +88,7 @@ fn push_declaring(out: &mut Text, prefix: &Text) -> Result<(), AllocError>
 }
 
 #[tactic(auto, using(crate::proofs::PrintLemmas::three))]
-fn push_decl(out: &mut Text, decl: &Decl) -> Result<(), AllocError>
+fn push_decl(out: &mut Output, decl: &Decl) -> Result<(), AllocError>
     ensures adds_the_declaration { OnOk result (out.new ≡ out.old ++ print_decl decl.now) }
 {
     out.push(' ')?;
@@ -113,7 +97,7 @@ fn push_decl(out: &mut Text, decl: &Decl) -> Result<(), AllocError>
 }
 
 #[tactic(auto, using(crate::proofs::PrintLemmas::three))]
-fn push_attr(out: &mut Text, attr: &Attr) -> Result<(), AllocError>
+fn push_attr(out: &mut Output, attr: &Attr) -> Result<(), AllocError>
     ensures adds_the_attribute { OnOk result (out.new ≡ out.old ++ print_attr attr.now) }
 {
     out.push(' ')?;
@@ -121,7 +105,7 @@ fn push_attr(out: &mut Text, attr: &Attr) -> Result<(), AllocError>
     push_set(out, &attr.value)
 }
 
-fn push_decls(out: &mut Text, decls: &[Decl]) -> Result<(), AllocError>
+fn push_decls(out: &mut Output, decls: &[Decl]) -> Result<(), AllocError>
     ensures adds_all_declarations { OnOk result (out.new ≡ out.old ++ flat_map print_decl decls.now) }
 {
     for decl in decls {
@@ -130,7 +114,7 @@ fn push_decls(out: &mut Text, decls: &[Decl]) -> Result<(), AllocError>
     Ok(())
 }
 
-fn push_attrs(out: &mut Text, attrs: &[Attr]) -> Result<(), AllocError>
+fn push_attrs(out: &mut Output, attrs: &[Attr]) -> Result<(), AllocError>
     ensures adds_all_attributes { OnOk result (out.new ≡ out.old ++ flat_map print_attr attrs.now) }
 {
     for attr in attrs {
@@ -140,7 +124,7 @@ fn push_attrs(out: &mut Text, attrs: &[Attr]) -> Result<(), AllocError>
 }
 
 /// Adds `<`, a name, declarations and attributes.
-fn push_opening(out: &mut Text, element: &Element) -> Result<(), AllocError>
+fn push_opening(out: &mut Output, element: &Element) -> Result<(), AllocError>
     ensures adds_the_opening { OnOk result (out.new ≡ out.old ++ opening element.now.name element.now.decls element.now.attrs) }
 {
     out.push('<')?;
@@ -150,18 +134,18 @@ fn push_opening(out: &mut Text, element: &Element) -> Result<(), AllocError>
 }
 
 /// Adds an end tag.
-fn push_closing(out: &mut Text, name: &Name) -> Result<(), AllocError>
+#[tactic(auto, using(crate::proofs::PrintLemmas::literals, crate::proofs::PrintLemmas::three))]
+fn push_closing(out: &mut Output, name: &Name) -> Result<(), AllocError>
     ensures adds_the_end_tag { OnOk result (out.new ≡ out.old ++ closing name.now) }
 {
-    out.push('<')?;
-    out.push('/')?;
+    out.push_str("</")?;
     push_name(out, name)?;
     out.push('>')
 }
 
 /// Adds a comment.
 #[tactic(auto, using(crate::proofs::PrintLemmas::literals, crate::proofs::PrintLemmas::three))]
-fn push_comment(out: &mut Text, text: &Text) -> Result<(), AllocError>
+fn push_comment(out: &mut Output, text: &Text) -> Result<(), AllocError>
     ensures adds_the_comment { OnOk result (out.new ≡ out.old ++ print_comment text.now) }
 {
     out.push_str("<!--")?;
@@ -171,7 +155,7 @@ fn push_comment(out: &mut Text, text: &Text) -> Result<(), AllocError>
 
 /// Adds the print of a node.
 #[cycle(print)]
-fn push_node(out: &mut Text, node: &Node) -> Result<(), AllocError>
+fn push_node(out: &mut Output, node: &Node) -> Result<(), AllocError>
     ensures adds_the_node { OnOk result (out.new ≡ out.old ++ print_node node.now) }
 {
     match node {
@@ -183,7 +167,7 @@ fn push_node(out: &mut Text, node: &Node) -> Result<(), AllocError>
 
 /// Adds what follows the attributes of an element: `/>`, or `>`, its nodes and its end tag.
 #[cycle(print)]
-fn push_ending(out: &mut Text, element: &Element) -> Result<(), AllocError>
+fn push_ending(out: &mut Output, element: &Element) -> Result<(), AllocError>
     ensures adds_the_ending { OnOk result (out.new ≡ out.old ++ ending element.now.name (is_empty element.now.content) (print_content element.now.content)) }
 {
     let nodes = element.nodes();
@@ -201,18 +185,11 @@ fn push_ending(out: &mut Text, element: &Element) -> Result<(), AllocError>
 
 /// Adds the print of an element.
 #[cycle(print)]
-fn push_element(out: &mut Text, element: &Element) -> Result<(), AllocError>
+fn push_element(out: &mut Output, element: &Element) -> Result<(), AllocError>
     ensures adds_the_element { OnOk result (out.new ≡ out.old ++ print element.now) }
 {
     push_opening(out, element)?;
     push_ending(out, element)
-}
-
-/// The bytes of a text, in UTF-8.
-fn bytes_of(alloc: Global, text: &Text) -> Result<Bytes, AllocError>
-    ensures bytes_of_the_text { IfOk result (λ bytes. bytes ≡ encode_utf8_all text.now) }
-{
-    Bytes::from(alloc, text.as_str().as_bytes())
 }
 
 /// The print of an element: the one text, of those that are read, that stands for it.
@@ -222,14 +199,14 @@ fn bytes_of(alloc: Global, text: &Text) -> Result<Bytes, AllocError>
 pub fn print_element(alloc: Global, element: &Element) -> Result<Bytes, AllocError>
     ensures prints_the_element { IfOk result (λ bytes. bytes ≡ encode_utf8_all (print element.now)) }
 {
-    let mut out = no_text(alloc);
+    let mut out = Output::new(alloc);
     push_element(&mut out, element)?;
-    bytes_of(alloc, &out)
+    Ok(out.into_bytes())
 }
 
 /// The XML declaration and a line feed.
 #[tactic(auto, using(crate::proofs::PrintLemmas::literals))]
-fn push_header(out: &mut Text) -> Result<(), AllocError>
+fn push_header(out: &mut Output) -> Result<(), AllocError>
     ensures adds_the_header { OnOk result (out.new ≡ out.old ++ header) }
 {
     out.push_str("<?xml version=\"1.0\" encoding=\"UTF-8\"?>\n")?;
@@ -243,10 +220,10 @@ fn push_header(out: &mut Text) -> Result<(), AllocError>
 pub fn print_document(alloc: Global, root: &Element) -> Result<Bytes, AllocError>
     ensures prints_the_document { IfOk result (λ bytes. bytes ≡ encode_utf8_all (document_print root.now)) }
 {
-    let mut out = no_text(alloc);
+    let mut out = Output::new(alloc);
     push_header(&mut out)?;
     push_element(&mut out, root)?;
-    bytes_of(alloc, &out)
+    Ok(out.into_bytes())
 }
 
 /// The print of an attribute body that spells this value.
@@ -256,7 +233,7 @@ pub fn print_document(alloc: Global, root: &Element) -> Result<Bytes, AllocError
 pub fn print_att_value(alloc: Global, value: &str) -> Result<Bytes, AllocError>
     ensures prints_the_value { IfOk result (λ bytes. bytes ≡ encode_utf8_all (body_print (chars value.now))) }
 {
-    let mut out = no_text(alloc);
+    let mut out = Output::new(alloc);
     push_body(&mut out, value)?;
-    bytes_of(alloc, &out)
+    Ok(out.into_bytes())
 }

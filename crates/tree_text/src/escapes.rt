@@ -1,0 +1,65 @@
+//! Texts as they are printed, with references in place of the characters that would be read otherwise.
+ghost use Rattle.std.specs.Prelude.{◌≡◌, ◌++◌, ◌∷◌, [], ◌<◌, length, take, get_or, chars, flat_map, IfSome, IfNone, OnOk};
+ghost use Rattle.tree_text.specs.inner.Escapes.{escape_in};
+
+use crate::output::Output;
+use std::alloc::AllocError;
+use xml_tree::{text_reference, value_reference};
+
+/// Where a text is printed.
+#[derive(Clone, Copy, Debug)]
+pub enum Place {
+    /// Between tags.
+    Content,
+    /// In a value between double quotes.
+    Quotes,
+}
+
+/// The reference that a byte of a text is printed as, unless it is printed as itself.
+#[inline(always)]
+#[tactic(auto, using(crate::proofs::EscapeLemmas::escape_high))]
+fn reference(place: Place, byte: u8) -> Option<&'static str>
+    ensures reference_of_the_byte { IfSome result (λ reference. chars reference.now ≡ escape_in place byte) }
+    ensures is_ascii { IfSome result (λ _. byte < 128) }
+    ensures plain_byte_stands_for_itself { IfNone result (escape_in place byte ≡ byte ∷ []) }
+{
+    if byte >= 128 {
+        return None;
+    }
+    match place {
+        Place::Content => text_reference(byte as char),
+        Place::Quotes => value_reference(byte as char),
+    }
+}
+
+/// The place of the first byte that is printed as a reference, and the reference.
+#[inline(always)]
+#[tactic(auto, using(crate::proofs::EscapeLemmas::plain_more))]
+fn first_reference(place: Place, bytes: &[u8]) -> Option<(usize, &'static str)>
+    ensures is_there { IfSome result (λ first. first.0 < length bytes.now) }
+    ensures is_ascii { IfSome result (λ first. get_or bytes.now first.0 0 < 128) }
+    ensures plain_in_front { IfSome result (λ first. flat_map (escape_in place) (take first.0 bytes.now) ≡ take first.0 bytes.now) }
+    ensures reference_of_the_byte { IfSome result (λ first. chars first.1.now ≡ escape_in place (get_or bytes.now first.0 0)) }
+    ensures all_plain_where_there_is_none { IfNone result (flat_map (escape_in place) bytes.now ≡ bytes.now) }
+{
+    for (at, &byte) in bytes.iter().enumerate() {
+        if let Some(reference) = reference(place, byte) {
+            return Some((at, reference));
+        }
+    }
+    None
+}
+
+/// Adds a text as it is printed in a place: runs of plain characters at once, and references between them.
+#[inline(always)]
+pub fn push_escaped(out: &mut Output, text: &str, place: Place) -> Result<(), AllocError>
+    ensures adds_the_printed_text { OnOk result (out.new ≡ out.old ++ flat_map (escape_in place) (chars text.now)) }
+{
+    let mut rest = text;
+    'references: while let Some((at, reference)) = first_reference(place, rest.as_bytes()) {
+        out.push_str(&rest[..at])?;
+        out.push_str(reference)?;
+        rest = &rest[at + 1..];
+    }
+    out.push_str(rest)
+}
