@@ -35,6 +35,16 @@ impl ShortText {
         }
     }
 
+    /// An equal text.
+    pub(crate) fn copy(&self) -> ShortText
+        ensures makes_an_equal_text { result ≡ self.now }
+    {
+        ShortText {
+            bytes: self.bytes,
+            len: self.len,
+        }
+    }
+
     /// The text, lent.
     pub(crate) fn as_str(&self) -> &str
         ensures lends_the_text { result.now ≡ self.now }

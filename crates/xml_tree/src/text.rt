@@ -72,7 +72,8 @@ impl Text {
     pub fn copy(&self, alloc: Global) -> Result<Text, AllocError>
         ensures makes_an_equal_text { IfOk result (λ made. made ≡ self.now) }
     {
-        Text::from(alloc, self.as_str())
+        let bytes = self.bytes.copy(alloc)?;
+        Ok(Text { bytes })
     }
 
     /// Adds a text at the end.

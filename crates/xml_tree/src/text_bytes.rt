@@ -34,6 +34,16 @@ impl TextBytes {
         Ok(TextBytes::Long(String::from_str(alloc, text)?))
     }
 
+    /// A copy of these bytes.
+    pub(crate) fn copy(&self, alloc: Global) -> Result<TextBytes, AllocError>
+        ensures copies_the_bytes { IfOk result (λ made. bytes_of made ≡ bytes_of self.now) }
+    {
+        match self {
+            TextBytes::Short(_, short) => Ok(TextBytes::Short(alloc, short.copy())),
+            TextBytes::Long(string) => TextBytes::from(alloc, string.as_str()),
+        }
+    }
+
     /// The text, lent.
     pub(crate) fn as_str(&self) -> &str
         ensures lends_the_text { result.now ≡ bytes_of self.now }

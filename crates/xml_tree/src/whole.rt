@@ -1,5 +1,5 @@
 //! What is asked of a whole tree: its depth, a copy of it, and whether it is another one.
-ghost use Rattle.std.specs.Prelude.{◌≡◌, ◌↔◌, IsTrue, IfOk, min};
+ghost use Rattle.std.specs.Prelude.{◌≡◌, ◌↔◌, ◌++◌, ◌∷◌, [], IsTrue, IfOk, OnOk, min};
 ghost use Rattle.xml_tree.specs.Tree.{height};
 
 use crate::names::{copy_attrs, copy_decls, same_attrs, same_decls};
@@ -46,14 +46,23 @@ pub fn copy_nodes(alloc: Global, nodes: &[Node]) -> Result<Vec<Node>, AllocError
 {
     let mut made = Vec::with_capacity(alloc, nodes.len())?;
     for node in nodes {
-        let copy = match node {
-            Node::Elem(kid) => Node::Elem(copy_tree(alloc, kid)?),
-            Node::Chars(text) => Node::Chars(text.copy(alloc)?),
-            Node::Comment(text) => Node::Comment(text.copy(alloc)?),
-        };
-        made.push(copy)?;
+        // What is made goes to its place at once, as nodes are large.
+        match node {
+            Node::Elem(kid) => push_node(&mut made, Node::Elem(copy_tree(alloc, kid)?))?,
+            Node::Chars(text) => push_node(&mut made, Node::Chars(text.copy(alloc)?))?,
+            Node::Comment(text) => push_node(&mut made, Node::Comment(text.copy(alloc)?))?,
+        }
     }
     Ok(made)
+}
+
+// Adds a node.
+#[inline(always)]
+fn push_node(made: &mut Vec<Node>, node: Node) -> Result<(), AllocError>
+    ensures adds_the_node { OnOk result (made.new.items ≡ made.old.items ++ node ∷ []) }
+{
+    made.push(node)?;
+    Ok(())
 }
 
 /// Whether two trees are the same, prefixes and the order of declarations and attributes included. Takes no memory.
