@@ -1,7 +1,7 @@
 //! Elements: their tags, their content, and the elements in it, no deeper than a limit.
-ghost use Rattle.std.specs.Prelude.{◌≡◌, ◌+◌, ◌-◌, ◌≤◌, ◌<◌, ◌++◌, true, [], ◌∷◌, length, IfOk, OnOk, Ok, Err};
+ghost use Rattle.std.specs.Prelude.{◌≡◌, ◌+◌, ◌-◌, ◌≤◌, ◌<◌, ◌++◌, true, [], ◌∷◌, length, chars, IfOk, OnOk, Ok, Err};
 ghost use Rattle.grammar_rules.specs.Reading.{Reader, judgement};
-ghost use Rattle.xml_tree.specs.Edits.{with_text};
+ghost use Rattle.xml_tree.specs.Edits.{with_elem, with_text};
 ghost use Rattle.xml_tree.specs.Tree.{Tree, last, tree_of};
 ghost use Rattle.tree_text.specs.declared.kind.Kind.{Kind};
 ghost use Rattle.tree_text.specs.readers.Bindings.{AreBack, AreKept, lists};
@@ -51,6 +51,33 @@ fn judged<'a>(
     Ok(())
 }
 
+/// Takes room for one node alone where the content ends before this rest of the text: most elements have one node or none.
+fn room_before(element: &mut Element, rest: &[char]) -> Result<(), AllocError>
+    ensures changes_nothing { element.new ≡ element.old }
+{
+    match rest {
+        ['<', '/', ..] => element.reserve_node(),
+        _ => Ok(()),
+    }
+}
+
+/// Adds plain characters to content, before this rest of the text.
+fn push_plain(element: &mut Element, plain: &str, rest: &[char]) -> Result<(), AllocError>
+    ensures adds_the_characters { OnOk result (element.new ≡ record element.old { content = with_text (chars plain.now) element.old.content }) }
+{
+    room_before(element, rest)?;
+    element.push_chars(plain)
+}
+
+/// Adds an element to the content of its parent, before this rest of the text.
+#[inline(always)]
+fn adopt(parent: &mut Element, element: Element, rest: &[char]) -> Result<(), AllocError>
+    ensures adds_the_element { OnOk result (parent.new ≡ record parent.old { content = with_elem element parent.old.content }) }
+{
+    room_before(parent, rest)?;
+    parent.push_elem(element)
+}
+
 /// Adds a character to content.
 fn push_char(alloc: Global, element: &mut Element, c: char) -> Result<(), AllocError>
     ensures adds_the_character { OnOk result (element.new ≡ record element.old { content = with_text (c ∷ []) element.old.content }) }
@@ -83,7 +110,7 @@ fn push_some<'a>(
     let mut bytes = [0; 64];
     let (plain, rest) = plain_in_content(text, &mut bytes);
     if ends_run(rest, '<') {
-        element.push_chars(plain)?;
+        push_plain(element, plain, rest)?;
         return Ok(rest);
     }
     push_mixed(alloc, text, element)
@@ -133,17 +160,25 @@ fn push_said(element: &mut Element, said: Said) -> Result<(), AllocError>
     element.push_attr(Attr { name, value })
 }
 
-/// Adds the attributes among what a tag says to an element, and keeps nothing of it. Most say nothing.
-fn push_attrs(element: &mut Element, said: &mut Vec<Said>) -> Result<(), AllocError>
+/// Adds the attributes among what a tag says to an element, and keeps nothing of it.
+fn push_all_said(element: &mut Element, said: &mut Vec<Said>) -> Result<(), AllocError>
+    ensures adds_the_attributes { OnOk result (element.new ≡ record element.old { attrs = element.old.attrs ++ attrs_of said.old.items }) }
+{
+    for one in said.drain(..) {
+        push_said(element, one)?;
+    }
+    Ok(())
+}
+
+/// The same, with room for so many. Most tags say nothing.
+fn push_attrs(element: &mut Element, said: &mut Vec<Said>, room: usize) -> Result<(), AllocError>
     ensures adds_the_attributes { OnOk result (element.new ≡ record element.old { attrs = element.old.attrs ++ attrs_of said.old.items }) }
 {
     if said.is_empty() {
         return Ok(());
     }
-    for one in said.drain(..) {
-        push_said(element, one)?;
-    }
-    Ok(())
+    element.reserve_attrs(room)?;
+    push_all_said(element, said)
 }
 
 /// Whether content goes on: a reference or a `<` follows, and no end tag.
@@ -314,9 +349,10 @@ fn fill<'a>(
 {
     let all = said.as_slice();
     let decls = decls_of(alloc, all)?;
+    let attrs = all.len().saturating_sub(decls.len());
     bindings.enter(alloc, decls)?;
     judged(alloc, text, bindings, element.name(), all, tag)?;
-    push_attrs(element, said)?;
+    push_attrs(element, said, attrs)?;
     let rest = behind_tag(alloc, bindings, depth + 1, inner, said, tag, element)?;
     let decls = bindings.leave();
     push_decls(element, decls)?;
@@ -354,7 +390,7 @@ fn push_child<'a>(
         &tag,
         &mut element,
     )?;
-    parent.push_elem(element)?;
+    adopt(parent, element, rest)?;
     Ok(rest)
 }
 

@@ -21,6 +21,7 @@ mod proper_laws;
 mod read_error;
 mod references;
 mod room_edits;
+mod rooms;
 mod runs;
 mod scope;
 mod scope_laws;

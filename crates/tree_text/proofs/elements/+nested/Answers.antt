@@ -132,7 +132,7 @@ pub push_child-returns : goal.push_child-returns
 push_child-returns t c =
     let scope = lists c.args.bindings.now in
     record {
-      reads_as_the_rule_does = rw c.in_ok-push_elem.ensures.adds_the_element (child_ok c.args.parent.now (read_element c.args.levels scope c.args.depth) c.args.text.now c.in_ok-rest.rest.now c.fill.new.element
+      reads_as_the_rule_does = rw c.in_ok-adopt.ensures.adds_the_element (child_ok c.args.parent.now (read_element c.args.levels scope c.args.depth) c.args.text.now c.in_ok-rest.rest.now c.fill.new.element
           (level_ok c.args.levels c.in-Some.inner c.args.depth scope c.args.text.now c.in_ok-rest.rest.now c.fill.new.element (omega (arith, c.in-Some.ensures)) c.in_ok-rest.ensures.reads_as_the_rule_does));
       bindings_are_those_of_before = c.in_ok-rest.ensures.bindings_are_those_of_before;
     }

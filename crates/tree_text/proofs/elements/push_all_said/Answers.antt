@@ -3,7 +3,7 @@ use Rattle.xml_tree.specs.Tree.{Tree}
 use Rattle.xml_tree.specs.declared.names.Attr.{Attr}
 use Rattle.tree_text.specs.Names.{attrs_of}
 use Rattle.tree_text.proofs.JudgeLemmas.{attrs-append}
-use Rattle.tree_text.proofs.elements.push_attrs.Goals as goal
+use Rattle.tree_text.proofs.elements.push_all_said.Goals as goal
 
 pub loop-one-preserved : goal.loop-one-preserved
 loop-one-preserved c =
