@@ -20,11 +20,11 @@ fn is_plain_in_content(c: char) -> bool
         || matches!(c, '\''..=';')
 }
 
-// Whether a character is an ASCII one that stands raw in a value between these quotes, and for itself.
+// Whether a character is an ASCII one that stands raw in a value between these quotes, and for itself. Letters are tested first.
 fn is_plain_in_value(c: char, quote: char) -> bool
     ensures tells_whether_it_is_plain_in_a_value { result ≡ is_plain_in_value quote c }
 {
-    c != quote && (matches!(c, '\''..=';') || matches!(c, ' '..='%') || matches!(c, '='..='~'))
+    c != quote && (matches!(c, '='..='~') || matches!(c, '\''..=';') || matches!(c, ' '..='%'))
 }
 
 // Whether a character is an ASCII one that stands in names. Most are small letters.

@@ -79,6 +79,7 @@ fn is_small_letter(c: char) -> bool
 }
 
 /// Whether a name may begin with a character. Most begin with a small letter.
+#[inline(always)]
 fn begins_name(c: char) -> bool
     ensures tells_whether_it_begins_names { result ≡ is_name_start c }
 {

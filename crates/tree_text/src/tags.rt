@@ -101,6 +101,7 @@ fn all_said<'a>(
 }
 
 /// Whether the tag is that of an empty element, and what follows its end.
+#[inline(always)]
 fn tag_end(text: &[char]) -> Result<(bool, &[char]), Stop<'_>>
     ensures reads_as_the_rule_does { Gives (λ x. (x.0, x.1.now)) result (read_tag_end text.now) }
     ensures lengths_add_up { IfOk result (λ x. length x.1.now ≤ length text.now) }
