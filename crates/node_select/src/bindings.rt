@@ -2,9 +2,10 @@
 ghost use Rattle.std.specs.Prelude.{◌≡◌, ◌++◌, ◌∷◌, [], OnOk, OnErr, chars, option_map};
 ghost use Rattle.node_select.specs.Names.{prefix_uri};
 
+use crate::choice::declared_in;
 use std::alloc::{AllocError, Global};
 use std::marker::Model;
-use xml_tree::{Decl, Scope, Text, is_xmlns};
+use xml_tree::{Decl, Declared, Scope, Text, is_xmlns};
 
 /// Prefixes with their URIs, as declarations: the last one of a prefix counts, and an empty URI binds nothing. `xml` is always bound to
 /// its own namespace, and `xmlns` never.
@@ -49,6 +50,13 @@ impl Bindings {
         let uri = Text::from(self.alloc, uri)?;
         self.decls.push(Decl { prefix, uri })?;
         Ok(())
+    }
+
+    // As declarations of one element, with an index where they are many and there is memory for one.
+    pub(crate) fn declared(&self) -> Declared<'_>
+        ensures declares_the_bindings { result ≡ self.now }
+    {
+        declared_in(self.alloc, &self.decls)
     }
 
     /// The URI that a prefix is bound to. Takes no memory.

@@ -7,13 +7,12 @@ ghost use Rattle.node_select.specs.Names.{prefix_uri, attr_uri, name_uri};
 ghost use Rattle.node_select.specs.readers.Raw.{HasRoom, attr_test, end_of, name_test, patch_end_of, step_of, steps_of, unbound_at, unbound_end, unbound_from, unbound_in, unbound_name, unbound_patch_end, unbound_test, no_end, widths};
 ghost use Rattle.node_select.specs.readers.Views.{end_in, patch_end_in, step_in, test_in};
 
-use crate::bindings::Bindings;
 use crate::choice::no_uri;
 use crate::raw::{RawEnd, RawPatchEnd, RawStep, RawTest};
 use crate::selector::{AttrTest, End, NameTest, PatchEnd, Step};
 use std::alloc::{AllocError, AllocFailed, Global};
 use tree_text::{Written, text_of};
-use xml_tree::{List, Text};
+use xml_tree::{Around, Declared, List, Text, is_xmlns};
 
 /// Why names can't be resolved.
 #[derive(Debug, Drop)]
@@ -41,11 +40,18 @@ impl<T: Drop> From<AllocFailed<T>> for Unresolved {
 }
 
 // The URI of a prefix, if it is bound.
-fn uri_of(alloc: Global, bindings: &Bindings, prefix: &[char]) -> Result<Option<Text>, AllocError>
+fn uri_of(
+    alloc: Global,
+    bindings: &Declared<'_>,
+    prefix: &[char],
+) -> Result<Option<Text>, AllocError>
     ensures uri_of_the_prefix { IfOk result (λ uri. uri ≡ prefix_uri bindings.now prefix.now) }
 {
     let prefix = text_of(alloc, prefix)?;
-    match bindings.resolve(prefix.as_str()) {
+    if is_xmlns(prefix.as_str()) {
+        return Ok(None);
+    }
+    match Around::empty().inside(bindings).resolve(&prefix) {
         None => Ok(None),
         Some(uri) => {
             let uri = Text::from(alloc, uri)?;
@@ -57,7 +63,7 @@ fn uri_of(alloc: Global, bindings: &Bindings, prefix: &[char]) -> Result<Option<
 // The URI of a name that stands there; a name without prefix has `none`.
 fn name_uri(
     alloc: Global,
-    bindings: &Bindings,
+    bindings: &Declared<'_>,
     none: &str,
     name: &Written<'_>,
     at: usize,
@@ -77,7 +83,7 @@ fn name_uri(
 // The URI of an attribute's name that stands there.
 fn attr_uri(
     alloc: Global,
-    bindings: &Bindings,
+    bindings: &Declared<'_>,
     name: &Written<'_>,
     at: usize,
 ) -> Result<Text, Unresolved>
@@ -89,7 +95,7 @@ fn attr_uri(
 // The name test of a step that stands there.
 fn name_test(
     alloc: Global,
-    bindings: &Bindings,
+    bindings: &Declared<'_>,
     default: &str,
     name: &Option<Written<'_>>,
     at: usize,
@@ -109,7 +115,7 @@ fn name_test(
 // The attribute test of a step, where the name of the attribute stands there.
 fn attr_test(
     alloc: Global,
-    bindings: &Bindings,
+    bindings: &Declared<'_>,
     test: &RawTest<'_>,
     at: usize,
 ) -> Result<AttrTest, Unresolved>
@@ -124,7 +130,7 @@ fn attr_test(
 // The attribute test of a step, if it has one.
 fn optional_test(
     alloc: Global,
-    bindings: &Bindings,
+    bindings: &Declared<'_>,
     test: &Option<RawTest<'_>>,
     at: usize,
 ) -> Result<Option<AttrTest>, Unresolved>
@@ -142,7 +148,7 @@ fn optional_test(
 // A step that stands there.
 fn step(
     alloc: Global,
-    bindings: &Bindings,
+    bindings: &Declared<'_>,
     default: &str,
     step: &RawStep<'_>,
     at: usize,
@@ -162,7 +168,7 @@ fn step(
 /// Steps, of which the first stands there, and where what follows them and a slash stands.
 pub fn steps(
     alloc: Global,
-    bindings: &Bindings,
+    bindings: &Declared<'_>,
     default: &str,
     steps: &[RawStep<'_>],
     at: usize,
@@ -183,7 +189,7 @@ pub fn steps(
 /// An end that stands there: its name stands behind the `@`.
 pub fn end(
     alloc: Global,
-    bindings: &Bindings,
+    bindings: &Declared<'_>,
     end: &RawEnd<'_>,
     at: usize,
 ) -> Result<End, Unresolved>
@@ -204,7 +210,7 @@ pub fn end(
 /// The same of a patch.
 pub fn patch_end(
     alloc: Global,
-    bindings: &Bindings,
+    bindings: &Declared<'_>,
     end: &RawPatchEnd<'_>,
     at: usize,
 ) -> Result<PatchEnd, Unresolved>

@@ -83,8 +83,9 @@ fn resolved(
     requires { HasRoom 0 (map step_in raw.now.steps.items) }
     ensures means_the_selector { Means (first_unbound bindings.now (selector_in raw.now)) (selector_of bindings.now (chars default_uri.now) (selector_in raw.now)) result }
 {
-    let (steps, at) = steps(alloc, bindings, default_uri, &raw.steps, 0)?;
-    let end = end(alloc, bindings, &raw.end, at)?;
+    let declared = bindings.declared();
+    let (steps, at) = steps(alloc, &declared, default_uri, &raw.steps, 0)?;
+    let end = end(alloc, &declared, &raw.end, at)?;
     Ok(Selector { steps, end })
 }
 
@@ -98,8 +99,9 @@ fn patch_resolved(
     requires { HasRoom raw.now.slash (map step_in raw.now.steps.items) }
     ensures means_the_selector_of_a_patch { Means (first_unbound_in_patch bindings.now (patch_selector_in raw.now)) (patch_selector_of bindings.now (chars default_uri.now) (patch_selector_in raw.now)) result }
 {
-    let (steps, at) = steps(alloc, bindings, default_uri, &raw.steps, raw.slash)?;
-    let end = patch_end(alloc, bindings, &raw.end, at)?;
+    let declared = bindings.declared();
+    let (steps, at) = steps(alloc, &declared, default_uri, &raw.steps, raw.slash)?;
+    let end = patch_end(alloc, &declared, &raw.end, at)?;
     Ok(PatchSelector { steps, end })
 }
 

@@ -1,4 +1,4 @@
-use Rattle.std.proofs.Common.{ℕ, List, subst, ap, map}
+use Rattle.std.proofs.Common.{ℕ, List, subst, sym, ap, map}
 use Rattle.std.proofs.lemmas.Result.{err_from_is_err_and}
 use Rattle.node_select.specs.declared.selector.Step.{Step}
 use Rattle.node_select.specs.declared.meaning.Unresolved.{Unresolved}
@@ -12,10 +12,10 @@ pub returns-in_err-steps : goal.returns-in_err-steps
 returns-in_err-steps c = record {
   means_the_selector_of_a_patch =
       let p = err_from_is_err_and c.from_residual.result c.from_residual.ensures.1 in
-      let b = c.args.bindings.now in
+      let b = c.declared-declared.result in
       let end = unbound_patch_end b (patch_end_in c.args.raw.now.end) in
       let why : Unresolved = c.in_err-steps.field-0.0 in
-      rw (p.1, p.2) (subst (λ (ss : List RawStep). Fails (unbound_from b c.args.raw.now.slash ss end) why) (ap (map step_in) c.deref.ensures.value)
+      rw (p.1, p.2, sym c.declared-declared.ensures.declares_the_bindings) (subst (λ (ss : List RawStep). Fails (unbound_from b c.args.raw.now.slash ss end) why) (ap (map step_in) c.deref.ensures.value)
       (steps_fail b c.args.raw.now.slash (map step_in c.deref.result.now) end c.in_err-steps.field-0.0 (c.in_err-steps.ensures {u = tt}).means_the_steps));
 }
 
@@ -23,10 +23,10 @@ pub returns-in_err-end : goal.returns-in_err-end
 returns-in_err-end c = record {
   means_the_selector_of_a_patch =
       let p = err_from_is_err_and c.from_residual-in_err-end.result c.from_residual-in_err-end.ensures.1 in
-      let b = c.args.bindings.now in
+      let b = c.declared-declared.result in
       let end = unbound_patch_end b (patch_end_in c.args.raw.now.end) in
       let why : Unresolved = c.in_err-end.field-0.0 in
       let done = (c.in_ok-steps.ensures {u = tt}).means_the_steps in
-      rw (p.1, p.2) (subst (λ (ss : List RawStep). Fails (unbound_from b c.args.raw.now.slash ss end) why) (ap (map step_in) c.deref.ensures.value)
+      rw (p.1, p.2, sym c.declared-declared.ensures.declares_the_bindings) (subst (λ (ss : List RawStep). Fails (unbound_from b c.args.raw.now.slash ss end) why) (ap (map step_in) c.deref.ensures.value)
       (end_fails b c.args.raw.now.slash c.in_ok-steps.at (map step_in c.deref.result.now) end c.in_err-end.field-0.0 done.0 (ap (λ (z : List Step × ℕ). z.1) done.1) (c.in_err-end.ensures {u = tt}).means_the_end_of_a_patch));
 }
