@@ -16,3 +16,4 @@ pub mod Resolving
 pub mod Walked
 pub mod Widths
 pub mod PatchForms
+pub mod Valued

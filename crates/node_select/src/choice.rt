@@ -1,7 +1,7 @@
 //! Which child of an element a step selects, and which attribute a name means.
-ghost use Rattle.std.specs.Prelude.{◌≡◌, ◌↔◌, ◌<◌, ◌+◌, ◌++◌, ◌^◌, [], IsTrue, map, chars, position, cond, Some};
+ghost use Rattle.std.specs.Prelude.{◌≡◌, ◌↔◌, ◌<◌, ◌+◌, ◌++◌, ◌^◌, ℕ, [], IsTrue, map, chars, position, cond, None, Some};
 ghost use Rattle.xml_tree.specs.Scopes.{inside};
-ghost use Rattle.std.specs.List.{find};
+ghost use Rattle.std.specs.List.{find, list_any};
 ghost use Rattle.std.specs.Option.{option_copied};
 ghost use Rattle.std.specs.Str.{bytes_eq};
 ghost use Rattle.xml_tree.specs.Tree.{kids_of};
@@ -156,10 +156,22 @@ fn is_named(alloc: Global, scope: &Around<'_>, step: &Step, kid: &Element) -> bo
     }
 }
 
-// Whether an element has the attribute that is asked for, in the scope around it.
+// Whether some attribute has the value that is asked for, whatever its name means.
+fn has_value(test: &AttrTest, attrs: &[Attr]) -> bool
+    ensures tells_whether_one_has_the_value { result ≡ list_any (λ attr. bytes_eq attr.value test.now.value) attrs.now }
+{
+    attrs.iter().any(|attr| attr.value.is(test.value.as_str()))
+}
+
+// Whether an element has the attribute that is asked for, in the scope around it. The values are looked at first, since few elements
+// have the one that is asked for.
+#[tactic(auto, using(crate::proofs::Valued::none_valued))]
 fn has_tested(alloc: Global, scope: &Around<'_>, test: &AttrTest, kid: &Element) -> bool
     ensures tells_whether_it_has_the_attribute { result ≡ has_asked (inside scope.now kid.now) (Some test.now) kid.now.attrs }
 {
+    if !has_value(test, kid.attrs()) {
+        return false;
+    }
     let declared = declared_in(alloc, kid.decls());
     has_asked(&(&*scope).inside(&declared), test, kid.attrs())
 }
@@ -236,8 +248,8 @@ fn count(before: u64, more: bool) -> u64
     if more { before + 1 } else { before }
 }
 
-// The number of the one element child that a step matches, in the scope at the element. One pass over the children.
-pub(crate) fn select_child(
+// The number of the one element child that a step matches, whose children of its name are counted.
+fn select_counted(
     alloc: Global,
     scope: &Around<'_>,
     step: &Step,
@@ -262,6 +274,56 @@ pub(crate) fn select_child(
         }
     }
     found
+}
+
+// Whether an element matches a step without a position, in the scope around it. The attribute is asked for before the name: it
+// tells most children apart at once.
+fn is_match_anywhere(alloc: Global, scope: &Around<'_>, step: &Step, kid: &Element) -> bool
+    requires { step.now.position ≡ None }
+    ensures tells_whether_it_matches { (before : ℕ) → result ≡ child_matches (is_named scope.now step.now) (is_tested scope.now step.now) step.now.position before (Some kid.now) }
+{
+    is_tested(alloc, scope, step, kid) && is_named(alloc, scope, step, kid)
+}
+
+// The same for a step without a position.
+fn select_anywhere(
+    alloc: Global,
+    scope: &Around<'_>,
+    step: &Step,
+    element: &Element,
+) -> Option<usize>
+    requires { step.now.position ≡ None }
+    ensures selects_the_one_that_matches { result ≡ selected_child scope.now step.now (kids_of element.now) }
+{
+    let mut found = None;
+    let mut i: usize = 0;
+    for node in element.nodes() {
+        if let Node::Elem(kid) = node {
+            if is_match_anywhere(alloc, scope, step, kid) {
+                if found.is_some() {
+                    return None; // one of several is none
+                }
+                found = Some(i);
+            }
+            i += 1;
+        }
+    }
+    found
+}
+
+// The number of the one element child that a step matches, in the scope at the element. One pass over the children.
+pub(crate) fn select_child(
+    alloc: Global,
+    scope: &Around<'_>,
+    step: &Step,
+    element: &Element,
+) -> Option<usize>
+    ensures selects_the_one_that_matches { result ≡ selected_child scope.now step.now (kids_of element.now) }
+{
+    match step.position {
+        None => select_anywhere(alloc, scope, step, element),
+        Some(_) => select_counted(alloc, scope, step, element),
+    }
 }
 
 impl Step {

@@ -6,8 +6,8 @@ use Rattle.step_laws.specs.Selection.{child_matches}
 use Rattle.step_laws.proofs.OnePass.{only_is_selected, second_is_none}
 use Rattle.node_select.specs.Selection.{MatchesChild, is_named, is_tested}
 use Rattle.node_select.proofs.Walked.{at_elem, at_other, at_end, count_next, here, only_hit, only_miss, at_most_one, no_element}
-use Rattle.node_select.proofs.choice.select_child.Goals as goal
-use Rattle.node_select.proofs.choice.select_child.Goals.{in-Elem, then-is_match_if+else-is_some, else-is_match_if, in_default}
+use Rattle.node_select.proofs.choice.select_counted.Goals as goal
+use Rattle.node_select.proofs.choice.select_counted.Goals.{in-Elem, then-is_match_if+else-is_some, else-is_match_if, in_default}
 
 -- what a child that was tested by its name matches
 matched : (s : List (List Decl)) (step : Step) (before : ℕ) (kid : Tree) (named r : Bool) → named ≡ is_named s step kid → r ≡ child_matches (λ _. named) (is_tested s step) step.position before (Some kid)
