@@ -146,14 +146,15 @@ fn raw_text(
     }
 }
 
-// The target of a shape, with the bindings of the query.
+// The target of a shape, with the bindings of the query. What stands behind the separator is escaped only for the feed of an element.
 fn target_of(
     alloc: Global,
     shape: Shape,
     bindings: &Bindings,
-    raw: Text,
+    raw_selector: Option<&[u8]>,
+    raw_query: Option<&[u8]>,
 ) -> Result<Target, ReadError<UriFault>>
-    ensures target_of_the_shape { StatedOr ReadError.NoMemory (target_of shape bindings.now raw) result }
+    ensures target_of_the_shape { StatedOr ReadError.NoMemory (target_of shape bindings.now (raw_text (option_map (λ x. x.now) raw_selector.entry) (option_map (λ x. x.now) raw_query.entry))) result }
 {
     match shape {
         Shape::Whole(doc) => Ok(Target::Document(doc)),
@@ -166,6 +167,7 @@ fn target_of(
         Shape::PartChanges(tag, doc, text) => {
             let selector = part(alloc, bindings, doc.auid, &text)?;
             let selector = about_element(selector)?;
+            let raw = raw_text(alloc, raw_selector, raw_query)?;
             Ok(Target::ElementFeed {
                 tag,
                 doc,
@@ -187,8 +189,7 @@ fn read_rest(alloc: Global, rest: &[u8]) -> Result<Target, ReadError<UriFault>>
     let query = read_optional_part(alloc, raw_query)?;
     let shape = shape_of(alloc, &segments, selector)?;
     let bindings = read_query(alloc, &query)?;
-    let raw = raw_text(alloc, raw_selector, raw_query)?;
-    target_of(alloc, shape, &bindings, raw)
+    target_of(alloc, shape, &bindings, raw_selector, raw_query)
 }
 
 // What stands under the root, or that nothing does.
