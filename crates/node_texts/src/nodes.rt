@@ -5,7 +5,7 @@ ghost use Rattle.std.specs.Option.{option_copied};
 ghost use Rattle.xml_tree.specs.Limits.{most_levels};
 ghost use Rattle.xml_tree.specs.Print.{print};
 ghost use Rattle.xml_tree.specs.Scopes.{bindings_in};
-ghost use Rattle.xml_tree.specs.Tree.{height, last, tree_of};
+ghost use Rattle.xml_tree.specs.Tree.{at, height, last, tree_of};
 ghost use Rattle.node_select.specs.Selection.{is_attr};
 ghost use Rattle.node_texts.specs.Nodes.{attribute_text, encoded, found_text, node_media, node_text, text_at};
 
@@ -65,6 +65,14 @@ fn bindings_text(alloc: Global, element: &Element, scope: &Scope<'_>) -> Result<
     print_element(alloc, &declaring)
 }
 
+// An element as it stands.
+fn element_text(alloc: Global, element: &Element) -> Result<Option<Bytes>, NoMemory>
+    ensures sends_the_element { IfOk result (λ text. text ≡ encoded (Some (print element.now))) }
+{
+    let text = print_element(alloc, element)?;
+    Ok(Some(text))
+}
+
 // What an end finds of an element in its scope.
 fn node_text(
     alloc: Global,
@@ -75,10 +83,7 @@ fn node_text(
     ensures sends_what_the_end_finds { IfOk result (λ text. text ≡ encoded (node_text end.now scope.now element.now)) }
 {
     match end {
-        End::Element => {
-            let text = print_element(alloc, element)?;
-            Ok(Some(text))
-        }
+        End::Element => element_text(alloc, element),
         End::Attribute { uri, local } => {
             attribute_text(alloc, attribute(alloc, element, scope, uri, local))
         }
@@ -102,17 +107,36 @@ fn has_node(alloc: Global, element: &Element, scope: &Scope<'_>, end: &End) -> b
 
 // ---- at a path
 
-// What an end finds of the element at a path.
+// What an end finds of an element in the scope at the path that leads to it.
+fn scoped_text_at(
+    alloc: Global,
+    root: &Element,
+    path: &Path,
+    element: &Element,
+    end: &End,
+) -> Result<Option<Bytes>, NoMemory>
+    requires { at path.now root.now ≡ Some element.now }
+    ensures sends_what_is_found_there { IfOk result (λ text. text ≡ encoded (text_at end.now path.now root.now)) }
+{
+    let Some(scope) = Scope::at(root, path) else {
+        return Ok(None);
+    };
+    node_text(alloc, element, &scope, end)
+}
+
+// What an end finds of the element at a path. An element is sent as it stands, whatever its scope is.
 fn text_at(alloc: Global, root: &Element, path: &Path, end: &End) -> Result<Option<Bytes>, NoMemory>
     ensures sends_what_is_found_there { IfOk result (λ text. text ≡ encoded (text_at end.now path.now root.now)) }
 {
     let Some(element) = element_at(root, path) else {
         return Ok(None);
     };
-    let Some(scope) = Scope::at(root, path) else {
-        return Ok(None);
-    };
-    node_text(alloc, element, &scope, end)
+    match end {
+        End::Element => element_text(alloc, element),
+        End::Attribute { .. } | End::Namespaces => {
+            scoped_text_at(alloc, root, path, element, end)
+        }
+    }
 }
 
 /// Whether an end finds something there: of an element that is selected already, so that no second
