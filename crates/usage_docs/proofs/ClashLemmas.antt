@@ -18,7 +18,7 @@ use Rattle.usage_docs.specs.declared.keys.Clash.{Clash}
 use Rattle.usage_docs.specs.Rows.{Scope, kind_of}
 use Rattle.usage_docs.specs.Keys.{key_of, value_of, key_value}
 use Rattle.usage_docs.specs.Clashes.{Mark, mark, mark_of, mark_at, RepeatsAt, NoLater}
-use Rattle.usage_docs.specs.Reading.Siblings.{node_kids, marks_of, IsAmong, RepeatsHere, IsFirst, RepeatedKey}
+use Rattle.usage_docs.specs.Reading.Siblings.{node_kids, one_more, marks_of, IsAmong, RepeatsHere, IsFirst, RepeatedKey}
 
 -- ---- an element in the scope inside it
 
@@ -46,9 +46,9 @@ given kind (Some v) m h =
     record { same_kind = ap (λ (x : Mark). x.kind) e; is_value = ap (λ (x : Mark). Some x.value) e }
 
 -- the parts of a mark
-record Marked (o : Option Kind) (ats : List Attr) (m : Mark) : Type 0 where
-  by_kind : o ≡ Some m.kind
-  by_value : key_value m.kind ats ≡ Some m.value
+pub record Marked (o : Option Kind) (ats : List Attr) (m : Mark) : Type 0 where
+  pub by_kind : o ≡ Some m.kind
+  pub by_value : key_value m.kind ats ≡ Some m.value
 
 marked : (o : Option Kind) (ats : List Attr) (m : Mark) → option_and_then (λ kind. option_map (mark kind) (key_value kind ats)) o ≡ Some m → Marked o ats m
 marked None ats m h = cc
@@ -56,13 +56,17 @@ marked (Some kind) ats m h =
     let g = given kind (key_value kind ats) m h in
     record { by_kind = ap Some g.same_kind; by_value = subst (λ k. key_value k ats ≡ Some m.value) g.same_kind g.is_value }
 
-mark_parts : (row : Kind) (c : Scope) (e : Tree) (m : Mark) → mark_of row c e ≡ Some m → Marked (kind_of row (inside c e) e.name) e.attrs m
+pub mark_parts : (row : Kind) (c : Scope) (e : Tree) (m : Mark) → mark_of row c e ≡ Some m → Marked (kind_of row (inside c e) e.name) e.attrs m
 unfolding mark_of
 mark_parts row c e m h = marked (kind_of row (inside c e) e.name) e.attrs m h
 
-pub value_in : (kind : Kind) (key : Key) (ats : List Attr) → key_of kind ≡ Some key → key_value kind ats ≡ value_of key ats
+value_in : (kind : Kind) (key : Key) (ats : List Attr) → key_of kind ≡ Some key → key_value kind ats ≡ value_of key ats
 unfolding key_value
 value_in kind key ats k = rw k
+
+pub no_key : (kind : Kind) (ats : List Attr) → key_of kind ≡ None → key_value kind ats ≡ None
+unfolding key_value
+no_key kind ats k = rw k
 
 -- ---- nodes and the elements among them
 
@@ -92,14 +96,7 @@ kid_at (Elem e ∷ ns) (suc place) node kid lt is elem = kid_at ns place node ki
 kid_at (Chars t ∷ ns) (suc place) node kid lt is elem = kid_at ns place node kid (omega arith) is elem
 kid_at (Comment x ∷ ns) (suc place) node kid lt is elem = kid_at ns place node kid (omega arith) is elem
 
--- one node more
-pub one_more : Node → ℕ → ℕ
-one_more (Elem e) k = suc k
-one_more (Chars t) k = k
-one_more (Comment x) k = k
-
 pub count_next : (ns : List Node) (place : ℕ) (node : Node) → place < length ns → node ≡ get_or ns place node → length (node_kids (take (suc place) ns)) ≡ one_more node (length (node_kids (take place ns)))
-unfolding one_more
 count_next [] place node lt is = absurd (omega arith)
 count_next (Elem e ∷ ns) zero node lt is = rw is
 count_next (Chars t ∷ ns) zero node lt is = rw is
@@ -109,16 +106,6 @@ count_next (Elem e ∷ ns) (suc place) (Chars t) lt is = ap suc (count_next ns p
 count_next (Elem e ∷ ns) (suc place) (Comment x) lt is = ap suc (count_next ns place (Comment x) (omega arith) is)
 count_next (Chars t ∷ ns) (suc place) node lt is = count_next ns place node (omega arith) is
 count_next (Comment x ∷ ns) (suc place) node lt is = count_next ns place node (omega arith) is
-
-pub count_elem : (ns : List Node) (place : ℕ) (node : Node) (kid : Tree) → place < length ns → node ≡ get_or ns place node → node ≡ Elem kid → length (node_kids (take (suc place) ns)) ≡ suc (length (node_kids (take place ns)))
-unfolding one_more
-count_elem ns place node kid lt is elem = count_next ns place node lt is ∙ ap (λ n. one_more n (length (node_kids (take place ns)))) elem
-
-pub count_other : (ns : List Node) (place : ℕ) (node : Node) → place < length ns → node ≡ get_or ns place node → ((kid : Tree) → node ≡ Elem kid → ⊥) → length (node_kids (take (suc place) ns)) ≡ length (node_kids (take place ns))
-unfolding one_more
-count_other ns place (Elem e) lt is other = absurd (other e refl)
-count_other ns place (Chars t) lt is other = count_next ns place (Chars t) lt is
-count_other ns place (Comment x) lt is other = count_next ns place (Comment x) lt is
 
 -- one of some marks, behind that which the first sibling may have
 among_cons : (o : Option Mark) (ms : List Mark) (m : Mark) → IsAmong (cons_option o ms) m → (o ≡ Some m) ⊎ IsAmong ms m
@@ -150,14 +137,10 @@ among_from row c m [] (suc i) j lt h = cc
 among_from row c m (x ∷ xs) (suc i) zero lt h = among_first (mark_of row c x) (marks_of row c (take i xs)) m h
 among_from row c m (x ∷ xs) (suc i) (suc j) lt h = among_rest (mark_of row c x) (marks_of row c (take i xs)) m (among_from row c m xs i j (omega arith) h)
 
-mark_within : (row : Kind) (c : Scope) (m : Mark) (ks : List Tree) (j : ℕ) → mark_at row c ks j ≡ Some m → j < length ks
+pub mark_within : (row : Kind) (c : Scope) (m : Mark) (ks : List Tree) (j : ℕ) → mark_at row c ks j ≡ Some m → j < length ks
 mark_within row c m [] j h = cc
 mark_within row c m (k ∷ ks) zero h = omega arith
 mark_within row c m (k ∷ ks) (suc j) h = let lt = mark_within row c m ks j h in omega arith
-
--- the child at a place among the nodes, and those before it
-pub there_is : (xs : List Tree) (ns : List Node) (place i : ℕ) (node : Node) (kid : Tree) → xs ≡ node_kids ns → i ≡ length (node_kids (take place ns)) → place < length ns → node ≡ get_or ns place node → node ≡ Elem kid → slice_get xs i ≡ Some kid
-there_is xs ns place i node kid kids count lt is elem = ap (λ ks. slice_get ks i) kids ∙ ap (slice_get (node_kids ns)) count ∙ kid_at ns place node kid lt is elem
 
 -- ---- the first clash at an element
 
@@ -260,7 +243,7 @@ there_within [] n kid h = cc
 there_within (x ∷ xs) zero kid h = omega arith
 there_within (x ∷ xs) (suc n) kid h = let lt = there_within xs n kid h in omega arith
 
-repeats_within : (row : Kind) (c : Scope) (xs : List Tree) (n : ℕ) (p : List ℕ) (key : Key) → RepeatsAt row c xs (n ∷ p) key → n < length xs
+pub repeats_within : (row : Kind) (c : Scope) (xs : List Tree) (n : ℕ) (p : List ℕ) (key : Key) → RepeatsAt row c xs (n ∷ p) key → n < length xs
 repeats_within row c xs n [] key r = mark_within row c r.shared xs n r.this
 repeats_within row c xs n (m ∷ p) key r = there_within xs n r.0 r.1.1.0
 

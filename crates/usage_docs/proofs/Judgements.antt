@@ -199,7 +199,7 @@ first_clash (more t n ds ats k rest) row c xs front base is none =
 
 -- ---- the judgement
 
-from_top : (usage : Usage) (t : Tree) (o : Option Clash) → IsFirst (RepeatsAt (root_kind usage) (t.decls ∷ []) (kids_of t)) [] o → IsFirstClash usage t o
+pub from_top : (usage : Usage) (t : Tree) (o : Option Clash) → IsFirst (RepeatsAt (root_kind usage) (t.decls ∷ []) (kids_of t)) [] o → IsFirstClash usage t o
 from_top usage t None h = h
 from_top usage t (Some clash) h =
     (subst (λ (p : List ℕ). Clashes usage t p clash.key) (sym h.1.0) h.1.1, λ q key r. subst (λ (p : List ℕ). NoLater p q) (sym h.1.0) (h.1.2 q key r))

@@ -60,7 +60,7 @@ fn is_key(key: Key, attr: &Attr) -> bool
 
 // The text of a key, where it is written.
 #[tactic(auto, unfolding(crate::specs::Keys::value_of))]
-pub(crate) fn text_of<'a>(key: Key, attrs: &'a [Attr]) -> Option<&'a Text>
+fn text_of<'a>(key: Key, attrs: &'a [Attr]) -> Option<&'a Text>
     ensures text_of_the_key { option_map (λ text. text.now) result ≡ value_of key attrs.now }
 {
     for attr in attrs {
@@ -81,13 +81,23 @@ pub fn value_of<'a>(key: Key, attrs: &'a [Attr]) -> Option<&'a str>
     }
 }
 
-/// The value of the key that elements of this kind have, where it is written. Takes no memory.
+/// The text of the key that elements of this kind have, where it is written. Takes no memory.
 #[tactic(auto, unfolding(crate::specs::Keys::key_value))]
+pub(crate) fn key_text<'a>(kind: Kind, attrs: &'a [Attr]) -> Option<&'a Text>
+    ensures text_of_the_key_of_the_kind { option_map (λ text. text.now) result ≡ key_value kind attrs.now }
+{
+    match key_of(kind) {
+        Some(key) => text_of(key, attrs),
+        None => None,
+    }
+}
+
+/// The value of the key that elements of this kind have, where it is written. Takes no memory.
 pub fn key_value<'a>(kind: Kind, attrs: &'a [Attr]) -> Option<&'a str>
     ensures value_of_the_key_of_the_kind { option_map (λ value. chars value.now) result ≡ key_value kind attrs.now }
 {
-    match key_of(kind) {
-        Some(key) => value_of(key, attrs),
+    match key_text(kind, attrs) {
+        Some(text) => Some(text.as_str()),
         None => None,
     }
 }

@@ -5,6 +5,7 @@
 
 mod attributes;
 mod capabilities;
+mod findings;
 mod forms;
 mod insertions;
 mod judging;
@@ -16,18 +17,20 @@ mod listing;
 mod making;
 mod parts;
 mod rows;
+mod trails;
 mod uris;
 mod validity;
 
 pub use attributes::{attrs_pass, key_of, key_value, value_of};
 pub use capabilities::caps;
-pub use forms::{all_formed, constraints, is_formed, is_formed_child};
+pub use forms::is_formed;
 pub use insertions::insertion_is_local;
-pub use judging::{Fault, judge};
-pub use keys::{Clash, clash_below, first_clash};
+pub use judging::{
+    Fault, clash_below, constraints, first_clash, is_formed_child, is_valid_child, judge, schema,
+};
+pub use keys::Clash;
 pub use laws::each_tree_has_one_judgement;
 pub use listing::{INDEX_LIMIT, IndexFault, IndexMaker};
 pub use parts::{END, follows, part_of};
 pub use rows::{Key, Kind, is_root, kind_of, root_kind};
 pub use uris::{ServiceUris, services};
-pub use validity::{is_valid_child, is_valid_in_row, schema};

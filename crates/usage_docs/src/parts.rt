@@ -1,6 +1,6 @@
 //! Children by numbers, as they are followed from left to right (RFC 4826, sections 3.2 and 4.2).
 ghost use Rattle.std.specs.Prelude.{◌≡◌, chars, if◌then◌else◌};
-ghost use Rattle.usage_docs.specs.Rows.{foreign, stray, is_foreign};
+ghost use Rattle.usage_docs.specs.Rows.{foreign, stray, is_foreign, kind_of};
 ghost use Rattle.usage_docs.specs.Reading.Parts.{part_named, foreign_part, single_parts, needs_first, follows, part_in, part_of};
 
 use crate::rows::{Kind, is_foreign, kind_by, space_of};
@@ -77,16 +77,39 @@ pub fn follows(row: Kind, before: u8, next: u8) -> bool
 /// The part behind the last child.
 pub const END: u8 = 4;
 
-/// The part that a child belongs to, counted from 1; 0 where it may not stand. Takes no memory.
-#[tactic(auto, unfolding(crate::specs::Reading::Parts::part_of, crate::specs::Rows::child_of))]
-pub fn part_of(row: Kind, scope: &Around<'_>, name: &Name) -> u8
-    ensures part_of_the_child { result ≡ part_of row scope.now name.now }
+/// What a child is in its parent.
+#[derive(Clone, Copy, Drop)]
+pub(crate) struct Placed {
+    /// The part that it belongs to, counted from 1; 0 where it may not stand.
+    pub part: u8,
+    /// Its kind, if it has one.
+    pub kind: Option<Kind>,
+}
+
+/// The part and the kind of a child, by the row of its parent and the scope that ends with its own declarations. Takes no memory.
+#[tactic(auto, unfolding(crate::specs::Reading::Parts::part_of, crate::specs::Rows::child_of, crate::specs::Rows::kind_of))]
+pub(crate) fn place_of(row: Kind, scope: &Around<'_>, name: &Name) -> Placed
+    ensures part_of_the_child { result.part ≡ part_of row scope.now name.now }
+    ensures kind_of_the_child { result.kind ≡ kind_of row scope.now name.now }
 {
     let space = space_of(scope, name);
     match kind_by(row, space, &name.local) {
-        Some(kind) => part_named(row, kind),
-        None => part_without_kind(row, space),
+        Some(kind) => Placed {
+            part: part_named(row, kind),
+            kind: Some(kind),
+        },
+        None => Placed {
+            part: part_without_kind(row, space),
+            kind: None,
+        },
     }
+}
+
+/// The part that a child belongs to, counted from 1; 0 where it may not stand. Takes no memory.
+pub fn part_of(row: Kind, scope: &Around<'_>, name: &Name) -> u8
+    ensures part_of_the_child { result ≡ part_of row scope.now name.now }
+{
+    place_of(row, scope, name).part
 }
 
 // The part of a child that has no kind.

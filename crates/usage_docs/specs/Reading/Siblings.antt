@@ -1,19 +1,15 @@
 -- Clashes as they are found: at an element behind its earlier siblings, and below an element.
-use Rattle.std.specs.Prelude.{◌≡◌, ℕ, ◌⊎◌, ◌↔◌, List, [], ◌∷◌, ◌++◌, Option, None, Some, IsTrue, option_map, filter_map}
-use Rattle.std.specs.List.{cons_option}
-use Rattle.std.specs.BTreeSet.{BTreeSet, contains}
+use Rattle.std.specs.Prelude.{◌≡◌, ℕ, suc, ◌⊎◌, ◌↔◌, List, [], ◌∷◌, ◌++◌, Option, None, Some, filter_map}
 use Rattle.xml_tree.specs.Tree.{Tree, kids_of}
 use Rattle.xml_tree.specs.declared.names.Attr.{Attr}
 use Rattle.xml_tree.specs.declared.tree.Node.{Node}
 use Rattle.xml_tree.specs.declared.tree.Node.TheVariants.{Elem, Chars, Comment}
 use Rattle.xml_tree.specs.Scopes.{inside}
-use Rattle.usage_docs.specs.contracts.keys.KeyedOrd.TheImpl.{cmp-value}
 use Rattle.usage_docs.specs.declared.rows.Kind.{Kind}
 use Rattle.usage_docs.specs.declared.rows.Key.{Key}
 use Rattle.usage_docs.specs.declared.keys.Clash.{Clash}
-use Rattle.usage_docs.specs.declared.keys.Keyed.{Keyed}
 use Rattle.usage_docs.specs.Rows.{Scope, kind_of}
-use Rattle.usage_docs.specs.Keys.{key_of, value_of, key_value}
+use Rattle.usage_docs.specs.Keys.{key_of, value_of}
 use Rattle.usage_docs.specs.Clashes.{Mark, mark, mark_of, RepeatsAt, NoLater}
 
 -- the elements among nodes
@@ -23,22 +19,20 @@ node_kids (Elem e ∷ ns) = e ∷ node_kids ns
 node_kids (Chars t ∷ ns) = node_kids ns
 node_kids (Comment x ∷ ns) = node_kids ns
 
+-- a node counts if it is an element
+abbrev pub one_more : Node → ℕ → ℕ
+one_more (Elem e) n = suc n
+one_more (Chars t) n = n
+one_more (Comment x) n = n
+
 -- the marks of some siblings, without those that have none
 abbrev pub marks_of : Kind → Scope → List Tree → List Mark
 marks_of row c es = filter_map (mark_of row c) es
-
--- the mark of an element of this kind with these attributes, if its key is written
-abbrev pub own_marks : Kind → List Attr → List Mark
-own_marks kind ats = cons_option (option_map (mark kind) (key_value kind ats)) []
 
 -- one of these marks is this one
 abbrev pub IsAmong : List Mark → Mark → Type 0
 IsAmong [] m = ⊥
 IsAmong (n ∷ ns) m = (n ≡ m) ⊎ IsAmong ns m
-
--- a set holds exactly these marks
-abbrev pub Holds : List Mark → BTreeSet Keyed → Type 0
-Holds ms seen = (k : Keyed) → IsTrue (contains cmp-value.it seen k) ↔ IsAmong ms (mark k.kind k.value.now)
 
 -- an element behind siblings with these marks has one of them, or one in it repeats a sibling's key at the path
 abbrev pub RepeatsHere : Kind → Scope → List Mark → Tree → List ℕ → Key → Type 0

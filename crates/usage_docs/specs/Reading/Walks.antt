@@ -1,5 +1,5 @@
 -- The children of an element as they are followed from left to right, each by the one before it.
-use Rattle.std.specs.Prelude.{◌≡◌, ℕ, [], ◌∷◌, ◌++◌, Option, None, Some, IsTrue}
+use Rattle.std.specs.Prelude.{ℕ, [], ◌∷◌, ◌++◌, IsTrue}
 use Rattle.std.specs.Option.{ForSome}
 use Rattle.xml_tree.specs.Tree.{Content, last, more, note}
 use Rattle.xml_tree.specs.declared.tree.Node.{Node}
@@ -38,8 +38,3 @@ abbrev pub IsNodeValid : Kind → Scope → ℕ → Node → Type 0
 IsNodeValid row c before (Elem e) = IsTrue (follows row before (part_of row (c ++ e.decls ∷ []) e.name)) × ValidChild row c e
 IsNodeValid row c before (Chars t) = IsTrue (text_passes row t)
 IsNodeValid row c before (Comment x) = Unit {0}
-
--- what a walk over nodes finds at one of them: the part before the next node, where the node may stand and is valid by itself
-abbrev pub IsNextPart : Kind → Scope → ℕ → Node → Option ℕ → Type 0
-IsNextPart row c before n None = IsNodeValid row c before n → ⊥
-IsNextPart row c before n (Some part) = IsNodeValid row c before n × (part ≡ part_behind row c before n)

@@ -1,36 +1,13 @@
-use Rattle.std.proofs.Common.{Option, subst}
-use Rattle.usage_docs.specs.Clashes.{IsFirstClash}
-use Rattle.usage_docs.specs.Forms.{Constraints}
-use Rattle.usage_docs.specs.Validity.{Schema}
-use Rattle.usage_docs.specs.declared.keys.Clash.{Clash}
-use Rattle.usage_docs.proofs.Judgements.{holds, fails}
+use Rattle.std.proofs.Common.{Option, subst, sym}
+use Rattle.usage_docs.specs.declared.judging.Fault.{Fault}
+use Rattle.usage_docs.specs.Judging.{Judged}
+use Rattle.usage_docs.proofs.FindingLemmas.{judged_by}
 use Rattle.usage_docs.proofs.judging.judge.Goals as goal
 
-pub returns-then-not-branch : goal.returns-then-not-branch
-returns-then-not-branch c = record { judges_the_tree = fails c.in_ok-schema.field-0 (Schema c.args.usage c.args.root.now) c.in_ok-schema.ensures.tells_whether_it_is_valid c.if-not-branch.true }
-
-pub returns-then-not-branch-2 : goal.returns-then-not-branch-2
-returns-then-not-branch-2 c = record {
-  judges_the_tree = (
-    holds c.in_ok-schema.field-0 (Schema c.args.usage c.args.root.now) c.in_ok-schema.ensures.tells_whether_it_is_valid c.if-not-branch.false,
-    fails c.in_ok-constraints.field-0 (Constraints c.args.usage c.args.root.now) c.in_ok-constraints.ensures.tells_whether_they_are_met c.if-not-branch-2.true,
-  );
-}
-
-pub returns-in-None : goal.returns-in-None
-returns-in-None c = record {
-  judges_the_tree = (
-    holds c.in_ok-schema.field-0 (Schema c.args.usage c.args.root.now) c.in_ok-schema.ensures.tells_whether_it_is_valid c.if-not-branch.false,
-    holds c.in_ok-constraints.field-0 (Constraints c.args.usage c.args.root.now) c.in_ok-constraints.ensures.tells_whether_they_are_met c.if-not-branch-2.false,
-    subst (λ (found : Option Clash). IsFirstClash c.args.usage c.args.root.now found) c.in-None.is c.in_ok-clash.ensures.finds_the_first_clash,
-  );
-}
-
-pub returns-in-Some : goal.returns-in-Some
-returns-in-Some c = record {
-  judges_the_tree = (
-    holds c.in_ok-schema.field-0 (Schema c.args.usage c.args.root.now) c.in_ok-schema.ensures.tells_whether_it_is_valid c.if-not-branch.false,
-    holds c.in_ok-constraints.field-0 (Constraints c.args.usage c.args.root.now) c.in_ok-constraints.ensures.tells_whether_they_are_met c.if-not-branch-2.false,
-    subst (λ (found : Option Clash). IsFirstClash c.args.usage c.args.root.now found) c.in-Some.is c.in_ok-clash.ensures.finds_the_first_clash,
-  );
-}
+pub returns : goal.returns
+returns c =
+    let found = c.in_ok-found.ensures in
+    record {
+      judges_the_tree = subst (λ (fault : Option Fault). Judged c.args.usage c.args.root.now fault) (sym c.fault_of.ensures.first_of_the_three)
+          (judged_by c.args.usage c.args.root.now c.in_ok-found.found found.valid_as_a_document found.formed_as_a_document (found.first_clash_of_a_document c.requires.low));
+    }

@@ -1,0 +1,5 @@
+use Rattle.usage_docs.specs.Reading.Repeats.{IsLeastPair}
+use Rattle.usage_docs.proofs.keys.least_pair.Given as goal
+
+abbrev pub invariant-loop-at : goal.invariant-loop-at
+invariant-loop-at l = IsLeastPair l.keys l.at l.found

@@ -1,0 +1,227 @@
+//! One walk over a tree, which finds whether it is valid, whether its references have their form, and its first clash of keys
+//! (RFC 4826, sections 3.2, 3.4.5, 4.2 and 4.4.5).
+ghost use Rattle.std.specs.Prelude.{◌≡◌, ◌≤◌, ◌<◌, ◌+◌, ◌^◌, ◌↔◌, Option, None, true, suc, length, IsTrue, OnOk, if◌then◌else◌};
+ghost use Rattle.std.specs.Option.{ForSome};
+ghost use Rattle.xml_tree.specs.Tree.{Tree, content_height, height, kids_of};
+ghost use Rattle.xml_tree.specs.Nodes.{node_height};
+ghost use Rattle.xml_tree.specs.declared.tree.Node.TheVariants.{Elem};
+ghost use Rattle.usage_docs.specs.declared.keys.Clash.{Clash};
+ghost use Rattle.usage_docs.specs.declared.rows.Kind.{Kind};
+ghost use Rattle.usage_docs.specs.Clashes.{RepeatsAt};
+ghost use Rattle.usage_docs.specs.Forms.{AllFormed, IsNodeFormed};
+ghost use Rattle.usage_docs.specs.Rows.{Scope};
+ghost use Rattle.usage_docs.specs.Validity.{ValidInRow};
+ghost use Rattle.usage_docs.specs.Reading.Repeats.{Enters, Holds, mark_by};
+ghost use Rattle.usage_docs.specs.Reading.Siblings.{one_more};
+ghost use Rattle.usage_docs.specs.Reading.Walks.{HoldsRow, IsNodeValid, part_behind};
+ghost use Rattle.usage_docs.specs.Reading.Findings.{IsKnownFormed, IsFirstAfter, IsFirstSoFar, PassesClash, PassesKey, RepeatsKnown};
+
+use crate::attributes::attrs_pass;
+use crate::forms::is_formed;
+use crate::keys::{Clash, Keyed, enter, first_repeat};
+use crate::parts::{END, Placed, follows, place_of};
+use crate::rows::Kind;
+use crate::trails::Trail;
+use crate::validity::text_passes;
+use std::alloc::Global;
+use xml_tree::{Around, Attr, Declared, Element, NoMemory, Node};
+
+/// What is found in a tree.
+#[derive(Debug, Drop)]
+pub(crate) struct Found {
+    /// Whether all is valid.
+    pub valid: bool,
+    /// Whether all references have their form.
+    pub formed: bool,
+    /// The first element whose key repeats that of a sibling.
+    pub clash: Option<Clash>,
+}
+
+impl Found {
+    /// No fault.
+    pub(crate) fn nothing() -> Found
+        ensures valid_so_far { result.valid ≡ true }
+        ensures formed_so_far { result.formed ≡ true }
+        ensures no_clash_so_far { result.clash ≡ None }
+    {
+        Found {
+            valid: true,
+            formed: true,
+            clash: None,
+        }
+    }
+}
+
+// The children of an element that were passed.
+#[derive(Drop)]
+struct Passed<'a> {
+    // How many they are.
+    count: usize,
+    // The part of the last of them; 0 before the first.
+    part: u8,
+    // How many stand before the first that has a clash in it.
+    clear: usize,
+    // The keys that they have.
+    keys: Vec<Keyed<'a>>,
+}
+
+impl<'a> Passed<'a> {
+    // One child more, with these attributes. It is clear unless a clash was found before or in it.
+    fn add(&mut self, child: Placed, attrs: &'a [Attr], clashes: bool) -> Result<(), NoMemory>
+        requires clear { self.old.clear ≤ self.old.count }
+        requires count { self.old.count < 2 ^ 63 }
+        ensures passes_the_part { OnOk result (self.new.part ≡ child.part) }
+        ensures counts_the_child { OnOk result (self.new.count ≡ suc self.old.count) }
+        ensures counts_if_it_is_clear { OnOk result (self.new.clear ≡ (if clashes then self.old.clear else suc self.old.clear)) }
+        ensures no_more_are_clear { OnOk result (self.new.clear ≤ self.new.count) }
+        ensures enters_the_key { OnOk result (Enters (mark_by child.kind attrs.now) self.old.count self.old.keys.items self.new.keys.items) }
+    {
+        enter(&mut self.keys, child.kind, attrs, self.count)?;
+        self.part = child.part;
+        self.count += 1;
+        self.clear += usize::from(!clashes);
+        Ok(())
+    }
+}
+
+// Notes the first of the passed children whose key an earlier one has too, if no clash comes before it.
+fn note_repeat(passed: Passed<'_>, trail: &Trail<'_>, found: &mut Found)
+    ensures others_stay { (found.new.valid ≡ found.old.valid) × (found.new.formed ≡ found.old.formed) }
+    ensures first_of_all { (row : Kind) (c : Scope) (e : Tree) (before : Option Clash) → Holds row c (kids_of e) (length (kids_of e)) passed.entry.keys.items → length trail.now + content_height e.content ≤ 64 → IsFirstSoFar row c (kids_of e) trail.now (length (kids_of e)) passed.entry.clear before found.old.clash → IsFirstAfter before (RepeatsAt row c (kids_of e)) trail.now found.new.clash }
+{
+    let Some(repeat) = first_repeat(passed.keys) else {
+        return;
+    };
+    if passed.clear < repeat.child {
+        return;
+    }
+    let here = trail.child(repeat.child);
+    let Some(path) = here.path() else {
+        return;
+    };
+    found.clash = Some(Clash {
+        path,
+        key: repeat.key,
+    });
+}
+
+/// Adds what is found in what an element of this row holds, in the scope inside it, where the element stands at the end of a trail.
+///
+/// # Errors
+/// `NoMemory` for want of memory.
+#[cycle(walk)]
+pub(crate) fn walk_inside(
+    alloc: Global,
+    row: Kind,
+    scope: &Around<'_>,
+    element: &Element,
+    trail: &Trail<'_>,
+    found: &mut Found,
+) -> Result<(), NoMemory>
+    ensures valid_inside { OnOk result (IsTrue found.new.valid ↔ (IsTrue found.old.valid × HoldsRow row scope.now element.now.content)) }
+    ensures formed_inside { OnOk result (IsTrue found.new.formed ↔ (IsTrue found.old.formed × AllFormed row scope.now element.now.content)) }
+    ensures first_clash_inside { OnOk result (length trail.now + content_height element.now.content ≤ 64 → IsFirstAfter found.old.clash (RepeatsAt row scope.now (kids_of element.now)) trail.now found.new.clash) }
+{
+    let nodes = element.nodes();
+    let mut passed = Passed {
+        count: 0,
+        part: 0,
+        clear: 0,
+        keys: Vec::new(alloc),
+    };
+    for node in nodes {
+        walk_node(alloc, row, scope, node, trail, &mut passed, found)?;
+    }
+    found.valid &= follows(row, passed.part, END);
+    note_repeat(passed, trail, found);
+    Ok(())
+}
+
+// Adds what is found in a node behind the children that were passed.
+#[cycle(walk)]
+fn walk_node<'a>(
+    alloc: Global,
+    row: Kind,
+    scope: &Around<'_>,
+    node: &'a Node,
+    trail: &Trail<'_>,
+    passed: &mut Passed<'a>,
+    found: &mut Found,
+) -> Result<(), NoMemory>
+    requires clear { passed.old.clear ≤ passed.old.count }
+    requires count { passed.old.count < 2 ^ 63 }
+    ensures valid_with_the_node { OnOk result (IsTrue found.new.valid ↔ (IsTrue found.old.valid × IsNodeValid row scope.now passed.old.part node.now)) }
+    ensures formed_with_the_node { OnOk result (IsTrue found.new.formed ↔ (IsTrue found.old.formed × IsNodeFormed row scope.now node.now)) }
+    ensures part_before_the_next { OnOk result (passed.new.part ≡ part_behind row scope.now passed.old.part node.now) }
+    ensures counts_the_node { OnOk result (passed.new.count ≡ one_more node.now passed.old.count) }
+    ensures no_more_are_clear { OnOk result (passed.new.clear ≤ passed.new.count) }
+    ensures enters_the_key { OnOk result (PassesKey row scope.now node.now passed.old passed.new) }
+    ensures first_clash_in_the_node { OnOk result (length trail.now + node_height node.now ≤ 64 → PassesClash row scope.now trail.now node.now passed.old found.old.clash passed.new found.new.clash) }
+{
+    match node {
+        Node::Elem(kid) => walk_child(alloc, row, scope, kid, trail, passed, found),
+        Node::Chars(text) => {
+            found.valid &= text_passes(row, text.as_str());
+            Ok(())
+        }
+        Node::Comment(_) => Ok(()),
+    }
+}
+
+// The same of a child.
+#[cycle(walk)]
+fn walk_child<'a>(
+    alloc: Global,
+    row: Kind,
+    scope: &Around<'_>,
+    kid: &'a Element,
+    trail: &Trail<'_>,
+    passed: &mut Passed<'a>,
+    found: &mut Found,
+) -> Result<(), NoMemory>
+    requires clear { passed.old.clear ≤ passed.old.count }
+    requires count { passed.old.count < 2 ^ 63 }
+    ensures valid_with_the_child { OnOk result (IsTrue found.new.valid ↔ (IsTrue found.old.valid × IsNodeValid row scope.now passed.old.part (Elem kid.now))) }
+    ensures formed_with_the_child { OnOk result (IsTrue found.new.formed ↔ (IsTrue found.old.formed × IsNodeFormed row scope.now (Elem kid.now))) }
+    ensures part_before_the_next { OnOk result (passed.new.part ≡ part_behind row scope.now passed.old.part (Elem kid.now)) }
+    ensures counts_the_child { OnOk result (passed.new.count ≡ suc passed.old.count) }
+    ensures no_more_are_clear { OnOk result (passed.new.clear ≤ passed.new.count) }
+    ensures enters_the_key { OnOk result (PassesKey row scope.now (Elem kid.now) passed.old passed.new) }
+    ensures first_clash_in_the_child { OnOk result (length trail.now + height kid.now ≤ 64 → PassesClash row scope.now trail.now (Elem kid.now) passed.old found.old.clash passed.new found.new.clash) }
+{
+    let declared = Declared::indexed(alloc, kid.decls())?;
+    let inside = (&*scope).inside(&declared);
+    let child = place_of(row, &inside, kid.name());
+    found.valid &= follows(row, passed.part, child.part);
+    let here = trail.child(passed.count);
+    walk_known(alloc, child.kind, &inside, kid, &here, found)?;
+    passed.add(child, kid.attrs(), found.clash.is_some())?;
+    Ok(())
+}
+
+/// Adds what is found in an element that has this kind, in the scope that ends with its own declarations, where it stands at the end of a
+/// trail. Nothing is found in one without a kind.
+///
+/// # Errors
+/// `NoMemory` for want of memory.
+#[cycle(walk)]
+pub(crate) fn walk_known(
+    alloc: Global,
+    kind: Option<Kind>,
+    scope: &Around<'_>,
+    element: &Element,
+    trail: &Trail<'_>,
+    found: &mut Found,
+) -> Result<(), NoMemory>
+    ensures valid_with_the_element { OnOk result (IsTrue found.new.valid ↔ (IsTrue found.old.valid × ForSome kind (λ known. ValidInRow known scope.now element.now))) }
+    ensures formed_with_the_element { OnOk result (IsTrue found.new.formed ↔ (IsTrue found.old.formed × ForSome kind (λ known. IsKnownFormed known scope.now element.now))) }
+    ensures first_clash_below { OnOk result (length trail.now + content_height element.now.content ≤ 64 → IsFirstAfter found.old.clash (RepeatsKnown kind scope.now element.now) trail.now found.new.clash) }
+{
+    let Some(known) = kind else {
+        return Ok(());
+    };
+    found.valid &= attrs_pass(known, scope, element.attrs());
+    found.formed &= is_formed(known, element);
+    walk_inside(alloc, known, scope, element, trail, found)?;
+    Ok(())
+}

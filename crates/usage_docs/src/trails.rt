@@ -1,0 +1,71 @@
+//! Places that are linked outwards.
+ghost use Rattle.std.specs.Prelude.{◌≡◌, ◌≤◌, ◌++◌, ◌∷◌, [], length, IsSome, IfSome};
+
+use std::marker::Model;
+use xml_tree::Path;
+
+/// A place in a tree, whose steps are linked outwards, so that nothing is copied where an element begins. Contracts see the
+/// numbers of its path.
+#[derive(Drop)]
+#[cycle(trail)]
+pub(crate) struct Trail<'a> {
+    step: Step<'a>,
+}
+
+#[derive(Drop)]
+#[cycle(trail)]
+enum Step<'a> {
+    // Where the trail begins.
+    At(&'a Path),
+    // The child of this number.
+    Child(&'a Trail<'a>, usize),
+}
+
+impl<'a> Model for Trail<'a> {
+    ghost use Rattle.std.specs.Prelude.{ℕ, List, length};
+    ghost use Rattle.std.specs.Coded.{coded_list, coded_ℕ};
+    ghost use Rattle.std.proofs.Common.{arith, length-append};
+
+    ghost Value = { List ℕ };
+
+    ghost coded = { coded_list coded_ℕ };
+
+    ghost use Rattle.usage_docs.specs.inner.Trails.{numbers_at};
+
+    ghost view = { λ t. numbers_at t.step };
+
+    ghost size = { length };
+
+    ghost size_decreases = { λ t h. Prim.grind (arith, length-append) };
+}
+
+impl<'a> Trail<'a> {
+    /// A trail that begins at this place.
+    pub(crate) fn at(path: &'a Path) -> Trail<'a>
+        ensures begins_at_the_place { result ≡ path.now }
+    {
+        Trail {
+            step: Step::At(path),
+        }
+    }
+
+    /// The trail to the child of this number.
+    pub(crate) fn child<'b>(&'b self, number: usize) -> Trail<'b>
+        ensures leads_to_the_child { result ≡ self.now ++ number ∷ [] }
+    {
+        Trail {
+            step: Step::Child(&*self, number),
+        }
+    }
+
+    /// The path of the place. It is there where the place has at most 64 numbers.
+    pub(crate) fn path(&self) -> Option<Path>
+        ensures is_there_if_it_is_short { length self.now ≤ 64 → IsSome result }
+        ensures path_to_the_place { IfSome result (λ path. path ≡ self.now) }
+    {
+        match self.step {
+            Step::At(path) => Some(path.copy()),
+            Step::Child(outer, number) => outer.path()?.child(number),
+        }
+    }
+}
