@@ -1,4 +1,5 @@
 pub mod Changes
+pub mod Lengths
 pub mod Moves
 pub mod Rebuilding
 pub mod Staging

@@ -1,12 +1,13 @@
 //! How long the print of a tree is after a change, from its length before: counted from what the
 //! change takes and brings alone.
-ghost use Rattle.std.specs.Prelude.{◌≡◌, ◌<◌, ◌+◌, flat_map, length, min, option_to_list, slice_get, if◌then◌else◌};
+ghost use Rattle.std.specs.Prelude.{◌≡◌, ◌<◌, ◌+◌, flat_map, length, min, option_to_list, slice_get, true, if◌then◌else◌};
 ghost use Rattle.xml_tree.specs.Attributes.{is_written_so};
 ghost use Rattle.std.specs.List.{find};
-ghost use Rattle.xml_tree.specs.Tree.{kids_of};
+ghost use Rattle.xml_tree.specs.Tree.{Tree, kids_of};
 ghost use Rattle.xml_tree.specs.Edits.{cut};
 ghost use Rattle.xml_tree.specs.Print.{byte_len, is_empty, print, print_attr};
 ghost use Rattle.edit_ops.specs.Changes.{Fits, edited};
+ghost use Rattle.edit_ops.specs.Lengths.{element_len};
 ghost use Rattle.edit_ops.specs.inner.Lengths.{brought, end_tag_len, lost};
 ghost use Rattle.edit_ops.specs.Rebuilding.{FitsHere};
 
@@ -96,16 +97,33 @@ fn lost_len(element: &Element, change: &Change) -> usize
     }
 }
 
-// What a change brings to it.
-fn brought_len(element: &Element, change: &Change) -> usize
+// ---- the element that a change brings
+
+/// How many bytes the print of the element has that a change makes, puts in or exchanges another for; 0 where it brings
+/// none, and the greatest number where it has more. Takes no memory.
+pub fn element_len(change: &Change) -> usize
+    ensures counts_the_element { result ≡ min (element_len change.now) usize.MAX }
+{
+    match change {
+        Change::CreateDocument { root } => printed_len(root),
+        Change::Insert { element, .. } => printed_len(element),
+        Change::Replace { element, .. } => printed_len(element),
+        Change::Remove { .. } => 0,
+        Change::SetAttr { .. } => 0,
+        Change::DropAttr { .. } => 0,
+        Change::RemoveDocument => 0,
+    }
+}
+
+// What a change brings to the element that it is made in, where the element that it brings has so many bytes.
+fn brought_len(element: &Element, change: &Change, put: usize) -> usize
+    requires put { put ≡ min (element_len change.now) usize.MAX }
     ensures counts_what_is_brought { result ≡ min (brought change.now element.now) usize.MAX }
 {
     match change {
         Change::CreateDocument { .. } => 0,
-        Change::Insert { element: put, .. } => {
-            printed_len(put).saturating_add(first_node_len(element))
-        }
-        Change::Replace { element: other, .. } => printed_len(other),
+        Change::Insert { .. } => put.saturating_add(first_node_len(element)),
+        Change::Replace { .. } => put,
         Change::Remove { .. } => 0,
         Change::SetAttr { name, value, .. } => attr_len(name, value),
         Change::DropAttr { .. } => 0,
@@ -113,16 +131,30 @@ fn brought_len(element: &Element, change: &Change) -> usize
     }
 }
 
-/// How many bytes the print of a tree has after a change, where `len` is how many it has before;
-/// the greatest number where it has more. What the change takes and what it brings is counted, and
-/// the rest of the tree isn't looked at. Takes no memory.
-pub fn printed_len_after(root: &Element, len: usize, change: &Change) -> usize
+// Whether a change exchanges the root.
+fn exchanges_the_root(change: &Change) -> bool
+    ensures leaves_its_element { result ≡ true → (t : Tree) → byte_len (print (edited t change.now)) ≡ element_len change.now }
+{
+    match change {
+        Change::Replace { at, .. } => at.numbers().is_empty(),
+        _ => false,
+    }
+}
+
+/// How many bytes the print of a tree has after a change, where `len` is how many it has before, and `put` is `element_len`
+/// of the change; the greatest number where it has more. What the change takes, and an attribute that it brings, is
+/// counted, and the rest of the tree isn't looked at. Takes no memory.
+pub fn printed_len_after(root: &Element, len: usize, change: &Change, put: usize) -> usize
     requires fits { Fits root.now change.now }
     requires len { len ≡ byte_len (print root.now) }
+    requires put { put ≡ min (element_len change.now) usize.MAX }
     ensures len_after { result ≡ min (byte_len (print (edited root.now change.now))) usize.MAX }
 {
+    if exchanges_the_root(change) {
+        return put;
+    }
     let Some(element) = element_at(root, &site_of(change)) else {
         unreachable!()
     };
-    (len - lost_len(element, change)).saturating_add(brought_len(element, change))
+    (len - lost_len(element, change)).saturating_add(brought_len(element, change, put))
 }

@@ -14,7 +14,7 @@ mod staged;
 pub use apply::apply_change;
 pub use change::Change;
 pub use laws::elements_beside_a_change_stay;
-pub use lengths::printed_len_after;
+pub use lengths::{element_len, printed_len_after};
 pub use moves::{moved, through};
 pub use rebuilding::{rebuilt, tag_of};
 pub use staged::{Staged, make_staged, stage};

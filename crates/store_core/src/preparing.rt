@@ -14,6 +14,7 @@ ghost use Rattle.store_core.specs.Keeping.{IsSoundFor, addresses_in};
 ghost use Rattle.store_core.specs.inner.Addresses.{AreExchanged};
 ghost use Rattle.store_core.specs.KeyAddresses.{KeepsAddressesOf};
 ghost use Rattle.edit_ops.specs.Changes.{Fits, edited};
+ghost use Rattle.edit_ops.specs.Lengths.{element_len};
 ghost use Rattle.store_core.specs.Preparing.{IsReady, total_of};
 ghost use Rattle.store_core.specs.Stored.{entry_of};
 ghost use Rattle.store_core.specs.declared.step.Step.TheVariants as steps;
@@ -29,7 +30,7 @@ use crate::registry::first_taken;
 use crate::step::{Step, find};
 use crate::store::Store;
 use doc_names::DocId;
-use edit_ops::{Change, Staged, printed_len_after, stage};
+use edit_ops::{Change, Staged, element_len, printed_len_after, stage};
 use notes::EditNote;
 use std::alloc::Global;
 use usage_docs::{Clash, Key};
@@ -45,13 +46,15 @@ fn document_len(root: &Element) -> usize
     printed_len(root).saturating_add(HEAD_LEN)
 }
 
-// How many bytes a document that has so many has after a change; the greatest number where it has more.
-fn len_after(root: &Element, len: usize, change: &Change) -> usize
+// How many bytes a document that has so many has after a change, where the element that the change brings has so many; the greatest
+// number where it has more.
+fn len_after(root: &Element, len: usize, change: &Change, put: usize) -> usize
     requires fits { Fits root.now change.now }
     requires len { len ≡ document_len root.now }
+    requires put { put ≡ min (element_len change.now) usize.MAX }
     ensures counts_the_changed_document { result ≡ min (document_len (edited root.now change.now)) usize.MAX }
 {
-    printed_len_after(root, len - HEAD_LEN, change).saturating_add(HEAD_LEN)
+    printed_len_after(root, len - HEAD_LEN, change, put).saturating_add(HEAD_LEN)
 }
 
 // The clash of the service at this place.
@@ -318,7 +321,8 @@ impl Store {
         let entry = self.held(doc);
         let leaves = leaving(self.alloc, doc.auid, &entry.tree, &change)?;
         let enters = entering(self.alloc, doc.auid, &change)?;
-        let len = len_after(&entry.tree, entry.len, &change);
+        let put = element_len(&change);
+        let len = len_after(&entry.tree, entry.len, &change, put);
         let first = first_number(&change);
         if let Some(refusal) = self.refusal_of_edit(doc, len, first, enters.as_slice()) {
             return Ok(Err(refusal));
