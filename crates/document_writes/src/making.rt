@@ -72,7 +72,7 @@ pub(crate) fn write(
 {
     match prepare(alloc, store, doc, change)? {
         Ok((name, prepared)) => Ok(Decision::Changes {
-            reply: put_reply(alloc, exists, prepared.note().next, closes),
+            reply: put_reply(alloc, exists, prepared.note().next(), closes),
             doc: name,
             prepared,
         }),

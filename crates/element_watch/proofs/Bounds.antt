@@ -1,8 +1,7 @@
 -- Traces as the code goes.
-use Rattle.std.proofs.Common.{◌≡◌, ◌↔◌, ◌-◌, ◌≤◌, ◌+◌, ℕ, suc, Bool, true, false, cond, not, is_some, List, [], ◌∷◌, ◌++◌, length, map, All, Option, None, Some, option_map, option_and_then, refl, sym, ap, ◌∙◌, subst, arith}
+use Rattle.std.proofs.Common.{◌≡◌, ◌↔◌, ◌-◌, ◌≤◌, ◌+◌, ℕ, suc, Bool, true, false, cond, not, is_some, List, [], ◌∷◌, ◌++◌, length, All, Option, None, Some, option_map, option_and_then, refl, sym, ap, ◌∙◌, subst, arith}
 use Rattle.std.specs.Prelude.{◌&&◌, ◌==◌, nat_le}
 use Rattle.std.specs.List.{AllByRecursion}
-use Rattle.std.proofs.lemmas.List.{length-map, map-append}
 use Rattle.std.proofs.lemmas.List.Elements.{All-from_recursion, recursion_from_All}
 use Rattle.std.proofs.lemmas.Option.{same_Some}
 use Rattle.xml_tree.specs.Edits.{own_number, parent_path}
@@ -12,8 +11,7 @@ use Rattle.edit_ops.specs.declared.change.Change.{Change}
 use Rattle.edit_ops.specs.declared.change.Change.TheVariants.{CreateDocument, Insert, Replace, Remove, SetAttr, DropAttr, RemoveDocument}
 use Rattle.edit_ops.proofs.WayLemmas.{behind-whole}
 use Rattle.notes.specs.Notes.{Note}
-use Rattle.notes.specs.declared.edit_note.EditNote.{EditNote}
-use Rattle.notes.specs.Recorded.{all_notes, note_in}
+use Rattle.notes.specs.Recorded.{all_notes}
 use Rattle.element_watch.specs.Touching.{PassesThrough}
 use Rattle.element_watch.proofs.Coming.{leads_is}
 use Rattle.element_watch.specs.inner.Back.{back, came_from, is_below_root, re_routed_if, without_gap}
@@ -127,16 +125,15 @@ small_after : (ns : List Note) (q p : List ℕ) (k : ℕ) → back q ns ≡ Some
 small_after ns q p k h le within small =
     All-from_recursion (λ n. n ≤ 4294967359) p (more (4294967359 - k + length ns) 4294967359 p (omega arith) (back_within ns (4294967359 - k) q p h (recursion_from_All (λ n. n ≤ 4294967359 - k) q small)))
 
-pub stays_small : (notes rest : List EditNote) (q p : List ℕ) (o : Option (List ℕ)) → o ≡ Some p → o ≡ back q (map note_in rest) → suc (length rest) ≤ length notes → length notes ≤ 64 → All (λ n. n ≤ 4294967359 - length notes) q
+pub stays_small : (notes rest : List Note) (q p : List ℕ) (o : Option (List ℕ)) → o ≡ Some p → o ≡ back q rest → suc (length rest) ≤ length notes → length notes ≤ 64 → All (λ n. n ≤ 4294967359 - length notes) q
     → All (λ n. n ≤ 4294967359) p
 stays_small notes rest q p o was is le few small =
-    small_after (map note_in rest) q p (length notes) (sym is ∙ was) (let same = length-map rest note_in in omega arith) few small
+    small_after rest q p (length notes) (sym is ∙ was) le few small
 
-pub middle_small : (older newer : List EditNote) (q p : List ℕ) (o : Option (List ℕ)) → o ≡ Some p → o ≡ back q (map note_in newer) → length older + length newer ≤ 64 → All (λ n. n ≤ 4294967295) q
+pub middle_small : (older newer : List Note) (q p : List ℕ) (o : Option (List ℕ)) → o ≡ Some p → o ≡ back q newer → length older + length newer ≤ 64 → All (λ n. n ≤ 4294967295) q
     → All (λ n. n ≤ 4294967359 - length older) p
 middle_small older newer q p o was is few small =
-    let same = length-map newer note_in in
-    All-from_recursion (λ n. n ≤ 4294967359 - length older) p (more (4294967295 + length (map note_in newer)) (4294967359 - length older) p (omega arith) (back_within (map note_in newer) 4294967295 q p (sym is ∙ was) (recursion_from_All (λ n. n ≤ 4294967295) q small)))
+    All-from_recursion (λ n. n ≤ 4294967359 - length older) p (more (4294967295 + length newer) (4294967359 - length older) p (omega arith) (back_within newer 4294967295 q p (sym is ∙ was) (recursion_from_All (λ n. n ≤ 4294967295) q small)))
 
 -- ---- two pieces of a list of notes
 
@@ -152,8 +149,8 @@ back_append [] ys q = by (back q ys)
     by (Some m) = refl
 back_append (n ∷ xs) ys q = ap (option_and_then (λ m. came_from m n.change)) (back_append xs ys q) ∙ one_more_note (back q ys) (λ m. back m xs) (λ m. came_from m n.change)
 
-pub trace_is : (older newer : List EditNote) (q p : List ℕ) (o : Option (List ℕ)) → o ≡ option_and_then (λ m. back m (map note_in older)) (back q (map note_in newer)) → (o ≡ Some p) ↔ PassesThrough p (all_notes older newer) q
+pub trace_is : (older newer : List Note) (q p : List ℕ) (o : Option (List ℕ)) → o ≡ option_and_then (λ m. back m older) (back q newer) → (o ≡ Some p) ↔ PassesThrough p (all_notes older newer) q
 trace_is older newer q p o is =
-    let whole : o ≡ back q (all_notes older newer) = is ∙ sym (back_append (map note_in older) (map note_in newer) q) ∙ ap (back q) (sym (map-append note_in older newer)) in
+    let whole : o ≡ back q (all_notes older newer) = is ∙ sym (back_append older newer q) in
     let r = leads_is (all_notes older newer) p q in
     (λ h. r.0 (sym whole ∙ h), λ h. whole ∙ r.1 h)

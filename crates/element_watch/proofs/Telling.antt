@@ -1,7 +1,6 @@
 -- What the code finds of an element, by what its parts answer.
-use Rattle.std.proofs.Common.{◌≡◌, ◌↔◌, ◌≤◌, ◌+◌, ℕ, Bool, true, false, List, ◌++◌, length, is_some, IsTrue, Option, None, Some, option_map, Result, Ok, Err, IfOk, encode_utf8_all, length-append, refl, sym, ap, ◌∙◌, arith}
+use Rattle.std.proofs.Common.{◌≡◌, ◌↔◌, ◌≤◌, ◌+◌, ℕ, Bool, true, false, List, length, is_some, IsTrue, Option, None, Some, option_map, Result, Ok, Err, IfOk, encode_utf8_all, length-append, refl, sym, ap, ◌∙◌, arith}
 use Rattle.std.specs.Prelude.{◌&&◌}
-use Rattle.std.proofs.lemmas.List.{length-map}
 use Rattle.std.proofs.lemmas.Option.{same_Some}
 use Rattle.xml_tree.specs.Tree.{Tree}
 use Rattle.tree_text.specs.Printing.{document_print}
@@ -12,8 +11,7 @@ use Rattle.doc_names.specs.declared.usages.Usage.{Usage}
 use Rattle.node_select.specs.Selection.{SelectsPath}
 use Rattle.node_select.specs.declared.selector.Selector.{Selector}
 use Rattle.notes.specs.Notes.{Note}
-use Rattle.notes.specs.Recorded.{all_notes, note_in}
-use Rattle.notes.specs.declared.edit_note.EditNote.{EditNote}
+use Rattle.notes.specs.Recorded.{all_notes}
 use Rattle.key_laws.specs.KeyAddresses.{IsKeyAddressOf}
 use Rattle.patch_text.specs.Elements.{element_notice}
 use Rattle.patch_text.specs.declared.elements.ElementState.{ElementState}
@@ -81,5 +79,5 @@ notice_text root c id selector raw ns u t tag state r got known is writes =
 
 -- ---- notes in two pieces
 
-pub few_of_all : (older newer : List EditNote) → length (all_notes older newer) ≤ 64 → length older + length newer ≤ 64
-few_of_all older newer few = omega (arith, length-map (older ++ newer) note_in, length-append older newer)
+pub few_of_all : (older newer : List Note) → length (all_notes older newer) ≤ 64 → length older + length newer ≤ 64
+few_of_all older newer few = omega (arith, length-append older newer)

@@ -4,7 +4,7 @@ ghost use Rattle.std.specs.Str.{bytes_eq};
 ghost use Rattle.store_core.specs.Limits.{most_notes};
 ghost use Rattle.edit_ops.specs.Moves.{behind, made_room, under};
 ghost use Rattle.edit_ops.specs.declared.change.Change.TheVariants.{Remove};
-ghost use Rattle.notes.specs.Recorded.{all_notes, note_in};
+ghost use Rattle.notes.specs.Recorded.{all_notes};
 ghost use Rattle.element_watch.specs.Touching.{PassesThrough};
 ghost use Rattle.element_watch.specs.inner.Back.{back, came_from, is_touched, re_routed_if, without_gap};
 
@@ -149,19 +149,27 @@ fn came_from(path: &Path, change: &Change) -> Option<Path>
 
 // ---- notes
 
+// Where the element at a path stood before a note's change: None where that made or touched it.
+fn before_note(path: &Path, note: &EditNote) -> Option<Path>
+    requires { All (λ n. n ≤ 4294967359) path.now }
+    ensures place_before_the_change { result ≡ came_from path.now note.now.change }
+{
+    came_from(path, note.change())
+}
+
 // Where the element at a path stood before notes, oldest first: None where one of them made or
 // touched it.
 #[tactic(auto, using(crate::proofs::Bounds::stays_small))]
 fn back(path: &Path, notes: &[EditNote]) -> Option<Path>
     requires few { length notes.now ≤ most_notes }
     requires small { All (λ n. n ≤ 4294967359 - length notes.now) path.now }
-    ensures place_before_the_notes { result ≡ back path.now (map note_in notes.now) }
+    ensures place_before_the_notes { result ≡ back path.now notes.now }
 {
     let [note, notes @ ..] = notes else {
         return Some(path.copy());
     };
     let after = back(path, notes)?;
-    came_from(&after, &note.change)
+    before_note(&after, note)
 }
 
 // The same of two pieces of a list of notes.
@@ -169,7 +177,7 @@ fn back(path: &Path, notes: &[EditNote]) -> Option<Path>
 fn back_through(path: &Path, older: &[EditNote], newer: &[EditNote]) -> Option<Path>
     requires small { All (λ n. n ≤ 4294967295) path.now }
     requires few { length older.now + length newer.now ≤ most_notes }
-    ensures place_before_both { result ≡ option_and_then (λ m. back m (map note_in older.now)) (back path.now (map note_in newer.now)) }
+    ensures place_before_both { result ≡ option_and_then (λ m. back m older.now) (back path.now newer.now) }
 {
     let middle = back(path, newer)?;
     back(&middle, older)

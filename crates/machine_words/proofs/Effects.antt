@@ -23,7 +23,6 @@ use Rattle.plan_words.specs.declared.spot.Spot.TheVariants.{Over, Under, Beside,
 use Rattle.plan_words.proofs.Twice.{deleted_is, judged_ok, put_is, put_twice, tested_ok, written_again, written_finds, written_is}
 use Rattle.xcap_uri.specs.declared.target.Target.{Target}
 use Rattle.xcap_uri.specs.declared.target.Target.TheVariants.{Document, Node, Deep, Feed, ElementFeed, Flat}
-use Rattle.notes.specs.Recorded.{note_in}
 use Rattle.notes.specs.declared.edit.Edit.{Edit}
 use Rattle.reply_text.specs.Heads.{Sent}
 use Rattle.http_wire.specs.declared.request.Request.{Request}
@@ -129,7 +128,7 @@ module _ (c : Content) (id : DocId) (made : Made) where
 -- what is held is what the change makes
 next_is : (root : List ℕ) (c next : Content) (request : Request) (edit : Edit) (id : DocId) (change : Change) → (reply : Sent) → Does root c request reply next (Some edit) → StoreMade c id change (told_as edit) → next ≡ content_after c id change
 next_is root c next request edit id change reply a s =
-    a.goes_on ∙ ap (λ (d : DocId). content_after c d (note_in edit.note).change) s.of_document ∙ ap (λ (x : Change). content_after c id x) s.of_change
+    a.goes_on ∙ ap (λ (d : DocId). content_after c d edit.note.change) s.of_document ∙ ap (λ (x : Change). content_after c id x) s.of_change
 
 module _ (root : List ℕ) (c next : Content) (request : Request) (edit : Edit) where
   abbrev made : Made

@@ -1,6 +1,5 @@
 -- The machine: its state is that of all documents with all their versions, and its step answers one request.
 use Rattle.std.specs.Prelude.{◌≡◌, ℕ, List, Option, None, Some, option_map}
-use Rattle.notes.specs.Recorded.{note_in}
 use Rattle.notes.specs.declared.edit.Edit.{Edit}
 use Rattle.reply_text.specs.Heads.{Sent}
 use Rattle.http_wire.specs.declared.request.Request.{Request}
@@ -18,7 +17,7 @@ after_answer m (Some made) = after m made.0 made.1.change
 
 -- what watchers are told of a change
 abbrev pub told_as : Edit → Made
-told_as e = (e.doc, note_in e.note)
+told_as e = (e.doc, e.note)
 
 -- the answer that a reply is, with the change that is told, if one is
 abbrev pub answer_as : Sent → Option Edit → Answer

@@ -1,32 +1,57 @@
 //! The note of a change.
-ghost use Rattle.std.specs.Prelude.{◌≡◌, IfOk};
+ghost use Rattle.std.specs.Prelude.{◌≡◌, [], IfOk, min};
 ghost use Rattle.xml_tree.specs.Tree.{Tree};
 ghost use Rattle.edit_ops.specs.Changes.{Fits};
+ghost use Rattle.edit_ops.specs.Lengths.{element_len};
 ghost use Rattle.notes.specs.Notes.{note_of};
-ghost use Rattle.notes.specs.Recorded.{IsOfDocument, note_in};
+ghost use Rattle.notes.specs.Operations.{weight};
+ghost use Rattle.notes.specs.Recorded.{IsOfDocument, made_note};
 
+use crate::NoMemory;
 use crate::making::{bindings_of_place, is_fresh};
+use crate::weighing::weight;
 use edit_ops::Change;
-use std::alloc::{AllocError, Global};
-use xml_tree::{Decl, Element, List, copy_decls};
+use std::alloc::Global;
+use std::marker::Model;
+use std::rc::Rc;
+use xml_tree::{Decl, Element, List};
 
-/// What is kept of a change of a document.
+/// What is kept of a change of a document. A copy shares it, so a document that was put stands in memory once for the notes that are
+/// retained and for those that are told. Contracts see the note.
 #[derive(Debug, Drop)]
 pub struct EditNote {
-    /// The tag before the change; 0 where it made the document.
-    pub previous: u64,
-    /// The tag after it.
-    pub next: u64,
-    /// All bindings in scope at its place, without that of `xml`: at the parent of an element that was put in, exchanged or taken out, at
-    /// the element of an attribute; none for the root, or for a document.
-    pub bindings: List<Decl>,
-    pub change: Change,
-    /// Whether it wrote an attribute that wasn't there.
-    pub fresh: bool,
+    kept: Rc<KeptNote>,
+}
+
+// A note, and its weight.
+#[derive(Debug, Drop)]
+pub struct KeptNote {
+    previous: u64,
+    next: u64,
+    bindings: List<Decl>,
+    change: Change,
+    fresh: bool,
+    weight: usize,
+}
+
+impl Model for EditNote {
+    ghost use Rattle.std.specs.Coded.{codes};
+    ghost use Rattle.edit_ops.specs.contracts.change.Change as c;
+    ghost use Rattle.notes.specs.Notes.{Note};
+    ghost use Rattle.notes.specs.inner.Kept.{IsWeighed, note_in};
+
+    ghost Value = { Note };
+
+    ghost coded = { Prim.hlevel (codes, c.the_row.coded) };
+
+    ghost view = { λ n. note_in n.kept.value };
+
+    ghost invariant = { λ n. IsWeighed n.kept.value };
 }
 
 impl EditNote {
-    /// The note of a change of a tree, which had the first tag, where the tree after it gets the second. The tree is the one before.
+    /// The note of a change of a tree, which had the first tag, where the tree after it gets the second. The tree is the one before;
+    /// `put` is `element_len` of the change, from which the note is weighed.
     ///
     /// # Errors
     /// `NoMemory` for want of memory.
@@ -36,50 +61,133 @@ impl EditNote {
         next: u64,
         root: &Element,
         change: Change,
-    ) -> Result<EditNote, AllocError>
-        requires { Fits root.now change }
-        ensures tells_of_the_change { IfOk result (λ made. note_in made ≡ note_of previous next root.now change) }
+        put: usize,
+    ) -> Result<EditNote, NoMemory>
+        requires fits { Fits root.now change }
+        requires put { put ≡ min (element_len change) usize.MAX }
+        ensures tells_of_the_change { IfOk result (λ made. made ≡ note_of previous next root.now change) }
     {
         let bindings = bindings_of_place(alloc, root, &change)?;
         let fresh = is_fresh(root, &change);
-        Ok(EditNote {
+        EditNote::made(
+            alloc,
             previous,
             next,
-            bindings: List::from(bindings),
+            List::from(bindings),
             change,
             fresh,
-        })
+            put,
+        )
     }
 
-    /// The note of a change that makes or removes a document. Takes no memory.
-    pub fn of_document(alloc: Global, previous: u64, next: u64, change: Change) -> EditNote
-        requires { IsOfDocument change }
-        ensures tells_of_the_change_in_any_tree { (t : Tree) → note_in result ≡ note_of previous next t change }
-    {
-        EditNote {
-            previous,
-            next,
-            bindings: List::empty(alloc),
-            change,
-            fresh: false,
-        }
-    }
-
-    /// An equal note.
+    /// The note of a change that makes or removes a document.
     ///
     /// # Errors
     /// `NoMemory` for want of memory.
-    pub fn copy(&self, alloc: Global) -> Result<EditNote, AllocError>
-        ensures makes_an_equal_note { IfOk result (λ made. made ≡ self.now) }
+    pub fn of_document(
+        alloc: Global,
+        previous: u64,
+        next: u64,
+        change: Change,
+    ) -> Result<EditNote, NoMemory>
+        requires { IsOfDocument change }
+        ensures tells_of_the_change_in_any_tree { IfOk result (λ made. (t : Tree) → made ≡ note_of previous next t change) }
     {
-        let bindings = List::from(copy_decls(alloc, self.bindings.as_slice())?);
-        let change = self.change.copy(alloc)?;
-        Ok(EditNote {
-            previous: self.previous,
-            next: self.next,
-            bindings,
+        let put = edit_ops::element_len(&change);
+        EditNote::made(
+            alloc,
+            previous,
+            next,
+            List::empty(alloc),
             change,
-            fresh: self.fresh,
-        })
+            false,
+            put,
+        )
+    }
+
+    /// A note by its parts, whatever tree they are of; `put` is `element_len` of the change.
+    ///
+    /// # Errors
+    /// `NoMemory` for want of memory.
+    pub fn made(
+        alloc: Global,
+        previous: u64,
+        next: u64,
+        bindings: List<Decl>,
+        change: Change,
+        fresh: bool,
+        put: usize,
+    ) -> Result<EditNote, NoMemory>
+        requires put { put ≡ min (element_len change) usize.MAX }
+        ensures holds_the_parts { IfOk result (λ made. made ≡ made_note previous next bindings change fresh) }
+    {
+        let weight = weight(bindings.as_slice(), fresh, &change, put);
+        let kept = Rc::new(
+            alloc,
+            KeptNote {
+                previous,
+                next,
+                bindings,
+                change,
+                fresh,
+                weight,
+            },
+        )?;
+        Ok(EditNote { kept })
+    }
+
+    /// The same note, shared.
+    ///
+    /// # Errors
+    /// `NoMemory` where it is shared too often.
+    pub fn copy(&self) -> Result<EditNote, NoMemory>
+        ensures shares_the_note { IfOk result (λ made. made ≡ self.now) }
+    {
+        let kept = self.kept.clone()?;
+        Ok(EditNote { kept })
+    }
+
+    /// The tag before the change; 0 where it made the document.
+    pub fn previous(&self) -> u64
+        ensures tag_before { result ≡ self.now.previous }
+    {
+        self.kept.previous
+    }
+
+    /// The tag after it.
+    pub fn next(&self) -> u64
+        ensures tag_after { result ≡ self.now.next }
+    {
+        self.kept.next
+    }
+
+    /// All bindings in scope at its place, without that of `xml`: at the parent of an element that was put in, exchanged or taken out, at
+    /// the element of an attribute; none for the root, or for a document.
+    pub fn bindings(&self) -> &[Decl]
+        ensures bindings_of_its_place { result.now ≡ self.now.bindings }
+    {
+        self.kept.bindings.as_slice()
+    }
+
+    /// The change.
+    pub fn change(&self) -> &Change
+        ensures lends_the_change { result.now ≡ self.now.change }
+    {
+        &self.kept.change
+    }
+
+    /// Whether it wrote an attribute that wasn't there.
+    pub fn is_fresh(&self) -> bool
+        ensures tells_whether_it_was_new { result ≡ self.now.fresh }
+    {
+        self.kept.fresh
+    }
+
+    /// The length in bytes of its operation, as a notice with the prefix `d` has it (RFC 5261, section 4): the greatest number where it is
+    /// longer, and 0 for a document that is made or removed.
+    pub fn weight(&self) -> usize
+        ensures length_of_its_operation { result ≡ min (weight self.now) usize.MAX }
+    {
+        self.kept.weight
     }
 }

@@ -14,4 +14,3 @@ pub use edit::Edit;
 pub use edit_note::EditNote;
 pub use lent_notes::Notes;
 pub use std::alloc::AllocError as NoMemory;
-pub use weighing::weight;

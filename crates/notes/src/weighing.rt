@@ -1,15 +1,15 @@
 //! How much a note weighs: the length of its operation, which isn't printed for it.
 ghost use Rattle.std.specs.Prelude.{◌≡◌, ◌+◌, true, false, codes, flat_map, min};
+ghost use Rattle.xml_tree.specs.Tree.{Tree};
 ghost use Rattle.xml_tree.specs.Print.{byte_len, print, print_attr, print_decl};
 ghost use Rattle.edit_ops.specs.declared.change.Change.TheVariants as change;
-ghost use Rattle.notes.specs.Operations.{attr_path_text, gap_attrs, weight, change_told};
+ghost use Rattle.edit_ops.specs.Lengths.{element_len};
+ghost use Rattle.notes.specs.Operations.{attr_path_text, gap_attrs, weight_of, change_told};
 ghost use Rattle.notes.specs.inner.Lengths.{bare_len as bare_sum, filled_len as filled_sum, valued_len as valued_sum, written_len};
-ghost use Rattle.notes.specs.Recorded.{note_in};
 
-use crate::edit_note::EditNote;
 use crate::lengths::{name_len, path_len, step_len, text_len};
 use edit_ops::Change;
-use xml_tree::{Decl, Element, Name, Path, Text, decls_len, printed_len};
+use xml_tree::{Decl, Name, Path, Text, decls_len};
 
 // ---- the words of operations and their attributes
 
@@ -77,17 +77,21 @@ fn gap_len(parent: &Path, gap: usize) -> usize
     sel.saturating_add(step_len(gap - 1)).saturating_add(AFTER)
 }
 
-fn insertion_len(bindings: &[Decl], parent: &Path, gap: usize, element: &Element) -> usize
-    ensures counts_the_told_insertion { result ≡ min (byte_len (print (change_told (codes "d") bindings.now false (change.Insert parent.now gap element.now)))) usize.MAX }
+// Of an element that has so many bytes.
+fn insertion_len(bindings: &[Decl], parent: &Path, gap: usize, put: usize) -> usize
+    ensures counts_the_told_insertion { (e : Tree) → put ≡ min (byte_len (print e)) usize.MAX
+        → result ≡ min (byte_len (print (change_told (codes "d") bindings.now false (change.Insert parent.now gap e)))) usize.MAX }
 {
-    filled_len(ADD, bindings, gap_len(parent, gap), printed_len(element))
+    filled_len(ADD, bindings, gap_len(parent, gap), put)
 }
 
-fn replacement_len(bindings: &[Decl], at: &Path, element: &Element) -> usize
-    ensures counts_the_told_replacement { result ≡ min (byte_len (print (change_told (codes "d") bindings.now false (change.Replace at.now element.now)))) usize.MAX }
+// By an element that has so many bytes.
+fn replacement_len(bindings: &[Decl], at: &Path, put: usize) -> usize
+    ensures counts_the_told_replacement { (e : Tree) → put ≡ min (byte_len (print e)) usize.MAX
+        → result ≡ min (byte_len (print (change_told (codes "d") bindings.now false (change.Replace at.now e)))) usize.MAX }
 {
     let attrs = path_len(at).saturating_add(SEL);
-    filled_len(REPLACE, bindings, attrs, printed_len(element))
+    filled_len(REPLACE, bindings, attrs, put)
 }
 
 fn removal_len(bindings: &[Decl], at: &Path) -> usize
@@ -138,22 +142,19 @@ fn writing_len(bindings: &[Decl], at: &Path, name: &Name, value: &Text, fresh: b
     rewriting_len(bindings, at, name, value)
 }
 
-/// The length in bytes of a note's operation, as a notice with the prefix `d` has it (RFC 5261, section 4): the greatest number where it is
-/// longer, and 0 for a document that is made or removed. Takes no memory.
-pub fn weight(note: &EditNote) -> usize
-    ensures counts_the_printed_operation { result ≡ min (weight (note_in note.now)) usize.MAX }
+// The length in bytes of the operation of a change, as a notice with the prefix `d` has it (RFC 5261, section 4), by the bindings of its
+// place, by whether it is fresh, and by the length of the element that it brings: the greatest number where it is longer, and 0 for a
+// document that is made or removed.
+pub(crate) fn weight(bindings: &[Decl], fresh: bool, change: &Change, put: usize) -> usize
+    requires put { put ≡ min (element_len change.now) usize.MAX }
+    ensures counts_the_printed_operation { result ≡ min (weight_of bindings.now fresh change.now) usize.MAX }
 {
-    let bindings = note.bindings.as_slice();
-    match &note.change {
+    match change {
         Change::CreateDocument { .. } => 0,
-        Change::Insert {
-            parent,
-            gap,
-            element,
-        } => insertion_len(bindings, parent, *gap, element),
-        Change::Replace { at, element } => replacement_len(bindings, at, element),
+        Change::Insert { parent, gap, .. } => insertion_len(bindings, parent, *gap, put),
+        Change::Replace { at, .. } => replacement_len(bindings, at, put),
         Change::Remove { at } => removal_len(bindings, at),
-        Change::SetAttr { at, name, value } => writing_len(bindings, at, name, value, note.fresh),
+        Change::SetAttr { at, name, value } => writing_len(bindings, at, name, value, fresh),
         Change::DropAttr { at, name } => drop_len(bindings, at, name),
         Change::RemoveDocument => 0,
     }

@@ -4,8 +4,8 @@ use Rattle.std.specs.Set.{is_member}
 use Rattle.xml_tree.specs.declared.names.Decl.{Decl}
 use Rattle.edit_ops.specs.declared.change.Change.{Change}
 use Rattle.edit_ops.specs.declared.change.Change.TheVariants.{CreateDocument, Insert, Replace, Remove, SetAttr, DropAttr, RemoveDocument}
-use Rattle.notes.specs.Recorded.{note_in, all_notes as joined}
-use Rattle.notes.specs.declared.edit_note.EditNote.{EditNote}
+use Rattle.notes.specs.Recorded.{all_notes as joined}
+use Rattle.notes.specs.Notes.{Note}
 use Rattle.notes.specs.Operations.{change_told as told}
 use Rattle.patch_words.specs.Declaring.{prefixes, prefixes_in}
 use Rattle.patch_words.specs.Notices.{candidate, first_free, operations, prefix_for}
@@ -67,11 +67,11 @@ told_prefixes ds false (SetAttr p name value) = refl
 told_prefixes ds fresh (DropAttr p name) = refl
 told_prefixes ds fresh RemoveDocument = refl
 
-notes_prefixes : (ns : List EditNote) → whole (operations [] (map note_in ns)) ≡ flat_map prefixes_told ns
+notes_prefixes : (ns : List Note) → whole (operations [] ns) ≡ flat_map prefixes_told ns
 notes_prefixes [] = refl
 notes_prefixes (n ∷ ns) = λ i. told_prefixes n.bindings n.fresh n.change i ++ notes_prefixes ns i
 
-pub prefix-listed : (older newer : List EditNote)
+pub prefix-listed : (older newer : List Note)
     → candidate (first_free (is_member bytes_eq (flat_map prefixes_told (older ++ newer))) (length (flat_map prefixes_told (older ++ newer))) 0) ≡ prefix_for (joined older newer)
 prefix-listed older newer =
     let os = operations [] (joined older newer) in

@@ -8,8 +8,7 @@ use Rattle.xml_tree.specs.declared.names.Name.{Name}
 use Rattle.xml_tree.specs.declared.names.Decl.{Decl}
 use Rattle.xml_tree.specs.declared.names.Attr.{Attr}
 use Rattle.notes.specs.Notes.{Note, tag_after}
-use Rattle.notes.specs.Recorded.{note_in, all_notes as joined}
-use Rattle.notes.specs.declared.edit_note.EditNote.{EditNote}
+use Rattle.notes.specs.Recorded.{all_notes as joined}
 use Rattle.patch_text.specs.inner.Lists.{is_none, with_all}
 
 pub all-append : (xs ys : List Tree) (t : Tree) → with_all (xs ++ ys) t ≡ with_all ys (with_all xs t)
@@ -34,26 +33,25 @@ module _ (n : Name) (ds : List Decl) (ats : List Attr) where
 
 -- one element for each note, where those before the i-th are put
 module _ (tell : Note → Tree) where
-  pub next-put : (ns : List EditNote) (i : ℕ) (d : EditNote) (t old new : Tree) → i < length ns → d ≡ get_or ns i d → old ≡ with_all (map tell (map note_in (take i ns))) t
-      → new ≡ record old { content = with_elem (tell (note_in d)) old.content } → new ≡ with_all (map tell (map note_in (take (i + 1) ns))) t
+  pub next-put : (ns : List Note) (i : ℕ) (d : Note) (t old new : Tree) → i < length ns → d ≡ get_or ns i d → old ≡ with_all (map tell (take i ns)) t
+      → new ≡ record old { content = with_elem (tell d) old.content } → new ≡ with_all (map tell (take (i + 1) ns)) t
   next-put ns i d t old new within is before put =
-      let more : take (i + 1) ns ≡ take i ns ++ d ∷ [] = take_more ns i d within ∙ ap (λ (x : EditNote). take i ns ++ x ∷ []) (sym is) in
-      let told : map tell (map note_in (take (i + 1) ns)) ≡ map tell (map note_in (take i ns)) ++ tell (note_in d) ∷ [] =
-      ap (λ (l : List EditNote). map tell (map note_in l)) more ∙ ap (map tell) (map-append note_in (take i ns) (d ∷ [])) ∙ map-append tell (map note_in (take i ns)) (note_in d ∷ []) in
-      put ∙ ap (λ (x : Tree). record x { content = with_elem (tell (note_in d)) x.content }) before
-      ∙ sym (all-append (map tell (map note_in (take i ns))) (tell (note_in d) ∷ []) t) ∙ ap (λ (l : List Tree). with_all l t) (sym told)
+      let more : take (i + 1) ns ≡ take i ns ++ d ∷ [] = take_more ns i d within ∙ ap (λ (x : Note). take i ns ++ x ∷ []) (sym is) in
+      let told : map tell (take (i + 1) ns) ≡ map tell (take i ns) ++ tell d ∷ [] = ap (map tell) more ∙ map-append tell (take i ns) (d ∷ []) in
+      put ∙ ap (λ (x : Tree). record x { content = with_elem (tell d) x.content }) before
+      ∙ sym (all-append (map tell (take i ns)) (tell d ∷ []) t) ∙ ap (λ (l : List Tree). with_all l t) (sym told)
 
 -- the tag that two pieces lead to
-pub tag-joined : (tag : ℕ) (older newer : List EditNote) → tag_after (tag_after tag (map note_in older)) (map note_in newer) ≡ tag_after tag (joined older newer)
+pub tag-joined : (tag : ℕ) (older newer : List Note) → tag_after (tag_after tag older) newer ≡ tag_after tag (joined older newer)
 tag-joined tag [] newer = refl
 tag-joined tag (n ∷ older) newer = tag-joined n.next older newer
 
-pub last-tag : (from : ℕ) (ns : List EditNote) (n : EditNote) → slice_get ns (length ns - 1) ≡ Some n → tag_after from (map note_in ns) ≡ n.next
+pub last-tag : (from : ℕ) (ns : List Note) (n : Note) → slice_get ns (length ns - 1) ≡ Some n → tag_after from ns ≡ n.next
 last-tag from [] n h = cc
 last-tag from (x ∷ []) n h =
     let e : length (x ∷ []) - 1 ≡ 0 = omega arith in
     let g : Some x ≡ Some n = subst (λ (k : ℕ). slice_get (x ∷ []) k ≡ Some n) e h in
-    let same : x ≡ n = cc in ap (λ (y : EditNote). y.next) same
+    let same : x ≡ n = cc in ap (λ (y : Note). y.next) same
 last-tag from (x ∷ y ∷ ns) n h =
     let e : length (x ∷ y ∷ ns) - 1 ≡ suc (length (y ∷ ns) - 1) = omega arith in
     last-tag x.next (y ∷ ns) n (subst (λ (k : ℕ). slice_get (x ∷ y ∷ ns) k ≡ Some n) e h)
@@ -62,27 +60,27 @@ positive : (k : ℕ) → (suc k == 0) ≡ false
 positive k = grind (arith, nat_tests)
 
 -- no notes, by the lengths of two pieces
-pub some-older : (older newer : List EditNote) (a : Bool) → a ≡ (length older == 0) → a ≡ false → a ≡ is_none (joined older newer)
+pub some-older : (older newer : List Note) (a : Bool) → a ≡ (length older == 0) → a ≡ false → a ≡ is_none (joined older newer)
 some-older [] newer a is f = let both : true ≡ false = sym is ∙ f in cc
 some-older (n ∷ older) newer a is f = f
 
-pub none-older : (older newer : List EditNote) (a b : Bool) → a ≡ (length older == 0) → a ≡ true → b ≡ (length newer == 0) → b ≡ is_none (joined older newer)
+pub none-older : (older newer : List Note) (a b : Bool) → a ≡ (length older == 0) → a ≡ true → b ≡ (length newer == 0) → b ≡ is_none (joined older newer)
 none-older [] [] a b is t also = also
 none-older [] (n ∷ newer) a b is t also = also ∙ positive (length newer)
 none-older (n ∷ older) newer a b is t also = let both : false ≡ true = sym (is ∙ positive (length older)) ∙ t in cc
 
 -- all operations, put in two pieces
-pub two-put : (tell : Note → Tree) (n : Name) (ds : List Decl) (ats : List Attr) (older newer : List EditNote) (first some all : Tree) → first ≡ tree_of n ds ats (last [])
-    → some ≡ with_all (map tell (map note_in older)) first → all ≡ with_all (map tell (map note_in newer)) some → all ≡ tree_of n ds ats (listed (map tell (joined older newer)))
+pub two-put : (tell : Note → Tree) (n : Name) (ds : List Decl) (ats : List Attr) (older newer : List Note) (first some all : Tree) → first ≡ tree_of n ds ats (last [])
+    → some ≡ with_all (map tell older) first → all ≡ with_all (map tell newer) some → all ≡ tree_of n ds ats (listed (map tell (joined older newer)))
 two-put tell n ds ats older newer first some all made then next =
-    next ∙ ap (with_all (map tell (map note_in newer))) (then ∙ ap (with_all (map tell (map note_in older))) made)
-    ∙ sym (all-append (map tell (map note_in older)) (map tell (map note_in newer)) (tree_of n ds ats (last [])))
-    ∙ all-listed n ds ats (map tell (map note_in older) ++ map tell (map note_in newer))
-    ∙ ap (λ (l : List Tree). tree_of n ds ats (listed l)) (sym (map-append tell (map note_in older) (map note_in newer)) ∙ ap (map tell) (sym (map-append note_in older newer)))
+    next ∙ ap (with_all (map tell newer)) (then ∙ ap (with_all (map tell older)) made)
+    ∙ sym (all-append (map tell older) (map tell newer) (tree_of n ds ats (last [])))
+    ∙ all-listed n ds ats (map tell older ++ map tell newer)
+    ∙ ap (λ (l : List Tree). tree_of n ds ats (listed l)) (sym (map-append tell older newer))
 
 -- the same behind other elements
-pub two-behind : (tell : Note → Tree) (older newer : List EditNote) (t some all : Tree) → some ≡ with_all (map tell (map note_in older)) t → all ≡ with_all (map tell (map note_in newer)) some
+pub two-behind : (tell : Note → Tree) (older newer : List Note) (t some all : Tree) → some ≡ with_all (map tell older) t → all ≡ with_all (map tell newer) some
     → all ≡ with_all (map tell (joined older newer)) t
 two-behind tell older newer t some all then next =
-    next ∙ ap (with_all (map tell (map note_in newer))) then ∙ sym (all-append (map tell (map note_in older)) (map tell (map note_in newer)) t)
-    ∙ ap (λ (l : List Tree). with_all l t) (sym (map-append tell (map note_in older) (map note_in newer)) ∙ ap (map tell) (sym (map-append note_in older newer)))
+    next ∙ ap (with_all (map tell newer)) then ∙ sym (all-append (map tell older) (map tell newer) t)
+    ∙ ap (λ (l : List Tree). with_all l t) (sym (map-append tell older newer))

@@ -4,7 +4,7 @@ ghost use Rattle.doc_names.specs.Ids.{id_text};
 ghost use Rattle.tree_text.specs.Printing.{document_print};
 ghost use Rattle.notes.specs.Notes.{tag_after};
 ghost use Rattle.notes.specs.Operations.{operation};
-ghost use Rattle.notes.specs.Recorded.{note_in, all_notes};
+ghost use Rattle.notes.specs.Recorded.{all_notes};
 ghost use Rattle.patch_words.specs.Notices.{all_at_once, diff, document, gone_notice, one_by_one, operations, removed_document, tags_alone};
 ghost use Rattle.patch_text.specs.Modes.{documents_of, notice_of, told_notes};
 ghost use Rattle.patch_text.specs.inner.Lists.{is_none, with_all};
@@ -34,10 +34,10 @@ struct Names {
 
 // The tag that notes lead to, from this one on.
 fn last_tag(from: u64, notes: &[EditNote]) -> u64
-    ensures tag_that_they_lead_to { result ≡ tag_after from (map note_in notes.now) }
+    ensures tag_that_they_lead_to { result ≡ tag_after from notes.now }
 {
     match notes.last() {
-        Some(note) => note.next,
+        Some(note) => note.next(),
         None => from,
     }
 }
@@ -49,7 +49,7 @@ fn push_operations(
     prefix: &Text,
     notes: &[EditNote],
 ) -> Result<(), AllocError>
-    ensures adds_the_operations { OnOk result (document.new ≡ with_all (operations prefix.now (map note_in notes.now)) document.old) }
+    ensures adds_the_operations { OnOk result (document.new ≡ with_all (operations prefix.now notes.now) document.old) }
 {
     for note in notes {
         document.push_elem(operation(alloc, prefix, note)?)?;
@@ -80,13 +80,27 @@ fn removed(alloc: Global, names: &Names, from: u64) -> Result<Element, AllocErro
     Ok(gone)
 }
 
+// A document with one operation.
+fn of_operation(
+    alloc: Global,
+    names: &Names,
+    from: u64,
+    to: u64,
+    element: Element,
+) -> Result<Element, AllocError>
+    ensures document_of_the_operation { IfOk result (λ made. made ≡ document names.now.prefix names.now.sel from to (element ∷ [])) }
+{
+    let mut made = tagged(alloc, names, from, to)?;
+    made.push_elem(element)?;
+    Ok(made)
+}
+
 // A document with the operation of one note.
 fn of_one(alloc: Global, names: &Names, note: &EditNote) -> Result<Element, AllocError>
-    ensures document_of_the_note { IfOk result (λ made. made ≡ document names.now.prefix names.now.sel note.now.previous note.now.next (operation names.now.prefix (note_in note.now) ∷ [])) }
+    ensures document_of_the_note { IfOk result (λ made. made ≡ document names.now.prefix names.now.sel note.now.previous note.now.next (operation names.now.prefix note.now ∷ [])) }
 {
-    let mut made = tagged(alloc, names, note.previous, note.next)?;
-    made.push_elem(operation(alloc, &names.prefix, note)?)?;
-    Ok(made)
+    let element = operation(alloc, &names.prefix, note)?;
+    of_operation(alloc, names, note.previous(), note.next(), element)
 }
 
 // A document with the operations of all notes.
@@ -112,7 +126,7 @@ fn push_each(
     names: &Names,
     notes: &[EditNote],
 ) -> Result<(), AllocError>
-    ensures adds_a_document_for_each { OnOk result (notice.new ≡ with_all (one_by_one names.now.prefix names.now.sel (map note_in notes.now)) notice.old) }
+    ensures adds_a_document_for_each { OnOk result (notice.new ≡ with_all (one_by_one names.now.prefix names.now.sel notes.now) notice.old) }
 {
     for note in notes {
         notice.push_elem(of_one(alloc, names, note)?)?;

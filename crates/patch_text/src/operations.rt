@@ -5,7 +5,6 @@ ghost use Rattle.xml_tree.specs.PathTexts.{path_text};
 ghost use Rattle.xml_tree.specs.Print.{print_name};
 ghost use Rattle.xml_tree.specs.Tree.{last};
 ghost use Rattle.notes.specs.Operations.{attr_name_text, attr_path_text, gap_attrs, operation, operation_of, sel_attr, change_told};
-ghost use Rattle.notes.specs.Recorded.{note_in};
 
 use crate::parts::{element_of, push_plain};
 use edit_ops::Change;
@@ -159,18 +158,19 @@ fn removal(
     beginning(alloc, prefix, bindings, "remove", sel)
 }
 
-// An attribute is written: added where it is new, else exchanged.
+// An attribute is written: added where it is fresh, else exchanged.
 fn writing(
     alloc: Global,
     prefix: &Text,
-    note: &EditNote,
+    bindings: &[Decl],
+    fresh: bool,
     at: &Path,
     name: &Name,
     value: &Text,
 ) -> Result<Element, AllocError>
-    ensures tells_the_writing { IfOk result (λ made. made ≡ change_told prefix.now note.now.bindings note.now.fresh (change.SetAttr at.now name.now value.now)) }
+    ensures tells_the_writing { IfOk result (λ made. made ≡ change_told prefix.now bindings.now fresh (change.SetAttr at.now name.now value.now)) }
 {
-    let mut made = written_at(alloc, prefix, note, at, name)?;
+    let mut made = written_at(alloc, prefix, bindings, fresh, at, name)?;
     made.push_chars(value.as_str())?;
     Ok(made)
 }
@@ -180,14 +180,14 @@ fn writing(
 fn written_at(
     alloc: Global,
     prefix: &Text,
-    note: &EditNote,
+    bindings: &[Decl],
+    fresh: bool,
     at: &Path,
     name: &Name,
 ) -> Result<Element, AllocError>
-    ensures tells_where_it_is_written { IfOk result (λ made. made ≡ change_told prefix.now note.now.bindings note.now.fresh (change.SetAttr at.now name.now [])) }
+    ensures tells_where_it_is_written { IfOk result (λ made. made ≡ change_told prefix.now bindings.now fresh (change.SetAttr at.now name.now [])) }
 {
-    let bindings = note.bindings.as_slice();
-    if note.fresh {
+    if fresh {
         let sel = print_path(alloc, at)?;
         let mut made = beginning(alloc, prefix, bindings, "add", sel)?;
         push_plain(alloc, &mut made, "type", name_text(alloc, name)?)?;
@@ -212,18 +212,19 @@ fn dropped(
     beginning(alloc, prefix, bindings, "remove", sel)
 }
 
-// The operation of a note. A change of a whole document has none, and an empty `remove` stands for
+// The operation of a change. A change of a whole document has none, and an empty `remove` stands for
 // it.
 #[tactic(auto, using(crate::proofs::Words::words))]
-pub(crate) fn operation(
+fn change_told(
     alloc: Global,
     prefix: &Text,
-    note: &EditNote,
+    bindings: &[Decl],
+    fresh: bool,
+    change: &Change,
 ) -> Result<Element, AllocError>
-    ensures operation_of_the_note { IfOk result (λ made. made ≡ operation prefix.now (note_in note.now)) }
+    ensures operation_of_the_change { IfOk result (λ made. made ≡ change_told prefix.now bindings.now fresh change.now) }
 {
-    let bindings = note.bindings.as_slice();
-    match &note.change {
+    match change {
         Change::CreateDocument { .. } => bare(alloc, prefix, bindings, "remove"),
         Change::Insert {
             parent,
@@ -232,8 +233,27 @@ pub(crate) fn operation(
         } => insertion(alloc, prefix, bindings, parent, *gap, element),
         Change::Replace { at, element } => replacement(alloc, prefix, bindings, at, element),
         Change::Remove { at } => removal(alloc, prefix, bindings, at),
-        Change::SetAttr { at, name, value } => writing(alloc, prefix, note, at, name, value),
+        Change::SetAttr { at, name, value } => {
+            writing(alloc, prefix, bindings, fresh, at, name, value)
+        }
         Change::DropAttr { at, name } => dropped(alloc, prefix, bindings, at, name),
         Change::RemoveDocument => bare(alloc, prefix, bindings, "remove"),
     }
+}
+
+/// The operation of a note.
+pub(crate) fn operation(
+    alloc: Global,
+    prefix: &Text,
+    note: &EditNote,
+) -> Result<Element, AllocError>
+    ensures operation_of_the_note { IfOk result (λ made. made ≡ operation prefix.now note.now) }
+{
+    change_told(
+        alloc,
+        prefix,
+        note.bindings(),
+        note.is_fresh(),
+        note.change(),
+    )
 }

@@ -75,8 +75,8 @@ fn add_notes(alloc: Global, seen: &mut BTreeSet<Text>, notes: &[EditNote]) -> Re
     ensures gains_the_prefixes_told { OnOk result (Gains (flat_map prefixes_told notes.now) seen.old seen.new) }
 {
     for note in notes {
-        add_decls(alloc, seen, note.bindings.as_slice())?;
-        add_change(alloc, seen, &note.change)?;
+        add_decls(alloc, seen, note.bindings())?;
+        add_change(alloc, seen, note.change())?;
     }
     Ok(())
 }

@@ -25,7 +25,8 @@ module _ (es : List (DocId × Entry)) (rs : List (List ℕ × ℕ)) (last total 
   pub may-step : Steppable es p.doc p.step
   may-step = steppable es rs last total p p.step storing ready-here.planned ready-here.planned.step
 
-  module _ (left rows : List (List ℕ × ℕ)) (next : List (DocId × Entry)) (created : ℕ) (leaves enters : List (List ℕ)) (stepped : Stepped es p.doc p.note.next p.step created next) (leaving : leaves ≡ p.leaves) (entering : enters ≡ p.enters)
+  module _ (left rows : List (List ℕ × ℕ)) (next : List (DocId × Entry)) (created number : ℕ) (leaves enters : List (List ℕ)) (numbered : number ≡ p.note.next) (stepped : Stepped es p.doc number p.step created next)
+      (leaving : leaves ≡ p.leaves) (entering : enters ≡ p.enters)
       (took : (uri : List ℕ) → registered left uri ≡ cond (is_member bytes_eq leaves uri) None (registered rs uri)) (gave : (uri : List ℕ) → registered rows uri ≡ cond (is_member bytes_eq enters uri) (Some created) (registered left uri)) where
     exchanges : (uri : List ℕ) → registered rows uri ≡ exchanged p.leaves p.enters created (registered rs uri) uri
     exchanges uri =
@@ -34,16 +35,21 @@ module _ (es : List (DocId × Entry)) (rs : List (List ℕ × ℕ)) (last total 
         ∙ ap (λ (us : List (List ℕ)). cond (is_member bytes_eq enters uri) (Some created) (cond (is_member bytes_eq us uri) None (registered rs uri))) leaving
         ∙ ap (λ (us : List (List ℕ)). cond (is_member bytes_eq us uri) (Some created) (cond (is_member bytes_eq p.leaves uri) None (registered rs uri))) entering
 
-    pub still-storing : IsStoring next rows p.note.next p.total
-    still-storing = (stored es rs last total p p.step created next rows storing ready-here.planned ready-here.planned.step stepped exchanges).1
+    stepped-so : Stepped es p.doc p.note.next p.step created next
+    stepped-so = subst (λ (n : ℕ). Stepped es p.doc n p.step created next) numbered stepped
 
-    pub holds-next : content_in next p.note.next ≡ content_after s.content q.doc q.note.change
+    pub still-storing : IsStoring next rows number p.total
+    still-storing =
+        subst (λ (n : ℕ). IsStoring next rows n p.total) (sym numbered) (stored es rs last total p p.step created next rows storing ready-here.planned ready-here.planned.step stepped-so exchanges).1
+
+    pub holds-next : content_in next number ≡ content_after s.content q.doc q.note.change
     holds-next =
-        (stored es rs last total p p.step created next rows storing ready-here.planned ready-here.planned.step stepped exchanges).0
+        ap (content_in next) numbered
+        ∙ (stored es rs last total p p.step created next rows storing ready-here.planned ready-here.planned.step stepped-so exchanges).0
         ∙ ap (λ (x : Stored). content_after x.content p.doc p.note.change) seen
         ∙ ap (λ (x : Readied). content_after s.content x.doc x.note.change) same
 
-    pub keeps-addresses : KeepsAddressesOf s.content q.doc q.note.change (content_in next p.note.next)
+    pub keeps-addresses : KeepsAddressesOf s.content q.doc q.note.change (content_in next number)
     keeps-addresses =
         let stands : Stands s.content storing.kept.0 = subst (λ (x : Stored). Stands x.content storing.kept.0) seen storing.kept.1 in
         subst (λ (x : Content). KeepsAddressesOf s.content q.doc q.note.change x) (sym holds-next) (change_stays s.content storing.kept.0 q.doc q.note.change stands storing.kept.2 ready.planned.asks)

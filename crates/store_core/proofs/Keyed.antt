@@ -53,6 +53,16 @@ module _ {V : Type 0} where
   taken-out doc es d =
       ap (λ eq. remove_entry (eq doc) es) derived_eq ∙ removed-once doc es (subst (λ (eq : DocId → DocId → Bool). IsDistinct eq (keys_of es)) derived_eq d)
 
+  same-step : (q : DocId → Bool) (e : DocId × V) (es : List (DocId × V)) (v : V) (b : Bool) → cond b (Some e.1) (lookup q es) ≡ Some v → (lookup q es ≡ Some v → set_value q es v ≡ es)
+      → cond b ((e.0, v) ∷ es) (e ∷ set_value q es v) ≡ e ∷ es
+  same-step q e es v true h by = ap (λ (x : V). (e.0, x) ∷ es) (sym (same_Some e.1 v h))
+  same-step q e es v false h by = ap (λ (xs : List (DocId × V)). e ∷ xs) (by h)
+
+  -- the value that is there written anew
+  pub same-set : (q : DocId → Bool) (es : List (DocId × V)) (v : V) → lookup q es ≡ Some v → set_value q es v ≡ es
+  same-set q [] v h = cc
+  same-set q (e ∷ es) v h = same-step q e es v (q e.0) h (same-set q es v)
+
   pub exchanged-in : (doc : DocId) (es : List (DocId × V)) (w : V) → IsDistinct eq-value.it (keys_of es) → set_value (eq-value.it doc) es w ≡ map (λ x. cond (same_id doc x.0) (x.0, w) x) es
   exchanged-in doc es w d =
       ap (λ eq. set_value (eq doc) es w) derived_eq ∙ set-once doc es w (subst (λ (eq : DocId → DocId → Bool). IsDistinct eq (keys_of es)) derived_eq d)

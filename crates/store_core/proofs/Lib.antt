@@ -7,6 +7,7 @@ pub mod Bridge
 pub mod ByUser
 pub mod Chains
 pub mod Committed
+pub mod Counts
 pub mod Ends
 pub mod Entries
 pub mod Exchanging

@@ -12,7 +12,6 @@ use Rattle.edit_ops.specs.Staging.{IsStaged}
 use Rattle.edit_ops.specs.declared.change.Change.{Change}
 use Rattle.edit_ops.specs.declared.change.Change.TheVariants.{CreateDocument, Insert, Replace, Remove, SetAttr, DropAttr, RemoveDocument}
 use Rattle.notes.specs.Notes.{Note, note_of}
-use Rattle.notes.specs.Recorded.{note_in}
 use Rattle.store_core.specs.declared.refusal.StoreRefusal.{StoreRefusal}
 use Rattle.store_core.specs.declared.entry.Entry.{Entry}
 use Rattle.store_core.specs.declared.step.Step.TheVariants.{Make, Edit, End}
@@ -156,13 +155,13 @@ edit-planned c doc change v number len total leaves enters p asks edits held fre
     let h = held.0 in
     let note = noted.0 in
     let staged = noted.1 in
-    let q : Readied = record { doc = doc; note = note_in note; step = Edit staged note len; leaves = leaves; enters = enters; total = total } in
+    let q : Readied = record { doc = doc; note = note; step = Edit staged note len; leaves = leaves; enters = enters; total = total } in
     let tree : v.tree ≡ h.tree = sym held.2 in
-    let full : note_in note ≡ note_of h.tag c.next h.tree change =
+    let full : note ≡ note_of h.tag c.next h.tree change =
     noted.2 ∙ ap (λ (t : ℕ). note_of t number v.tree change) (sym held.3) ∙ ap (λ (t : Tree). note_of h.tag number t change) tree ∙ ap (λ (n : ℕ). note_of h.tag n h.tree change) numbered in
     let same : change ≡ note.change = sym (ap (λ (n : Note). n.change) full) in
     let after : edited v.tree change ≡ edited h.tree note.change = ap (λ (t : Tree). edited t change) tree ∙ ap (λ (x : Change). edited h.tree x) same in
-    let made : changing c doc change ≡ Ok (note_in note, content_after c doc change) =
+    let made : changing c doc change ≡ Ok (note, content_after c doc change) =
     edit-changing c doc change h edits held.1
     ∙ not-refused-at-all (against_tree c doc false (edited h.tree change)) (against_number c) (note_of h.tag c.next h.tree change) (content_after c doc change)
     (ap (λ (t : Tree). against_tree c doc false (edited t change)) (sym tree) ∙ free) free_number
@@ -171,7 +170,7 @@ edit-planned c doc change v number len total leaves enters p asks edits held fre
     subst (λ (x : Readied). Plans c doc change (Ok x)) (sym noted.4)
     (plans-made c doc change q refl (sym same) (record {
       asks = subst (λ (x : Change). Asks c doc x) same asks;
-      made = subst (λ (x : Change). changing c doc x ≡ Ok (note_in note, content_after c doc x)) same made;
+      made = subst (λ (x : Change). changing c doc x ≡ Ok (note, content_after c doc x)) same made;
       number = ap (λ (n : Note). n.next) full;
       step = (
         h,

@@ -1,7 +1,7 @@
 -- What is retained of notes, as a ring gives up its oldest ones.
-use Rattle.std.proofs.Common.{◌≡◌, ℕ, suc, ◌+◌, ◌-◌, ◌<◌, ◌≤◌, ◌&&◌, ◌⊎◌, nat_le, not, Bool, true, false, cond, List, [], ◌∷◌, ◌++◌, length, drop, get_or, map, sum_by, refl, sym, ap, ◌∙◌, ⊎_elim, arith, length-append, drop-cons, add-one}
+use Rattle.std.proofs.Common.{◌≡◌, ℕ, ◌+◌, ◌-◌, ◌*◌, ◌<◌, ◌≤◌, ◌&&◌, ◌⊎◌, nat_le, nat_lt, min, Bool, true, false, cond, List, [], ◌∷◌, ◌++◌, length, drop, slice_get, sum_by, Option, None, Some, refl, sym, ap, ◌∙◌, ⊎_elim, arith, length-append}
 use Rattle.std.proofs.lemmas.Bool.Decides.{nat_tests}
-use Rattle.std.proofs.lemmas.List.{length-map, map-append}
+use Rattle.std.proofs.lemmas.List.Sums.{sum_by-append}
 use Rattle.circular_buffer.specs.Buffer.{keep_last}
 use Rattle.store_core.specs.State.{is_small, small_end}
 use Rattle.store_core.proofs.Accepted.{sum-first}
@@ -27,43 +27,36 @@ module _ {A : Type 0} (weight : A → ℕ) where
   small-stays (x ∷ []) h = refl
   small-stays (x ∷ y ∷ xs) h = ap (λ b. cond b (x ∷ y ∷ xs) (small_end weight (y ∷ xs))) h
 
-  pub heavy-is : (ns : List A) (b : Bool) → b ≡ nat_le (sum_by weight ns) 65536 → not b ≡ true → is_small weight ns ≡ false
-  heavy-is ns true e h = cc
-  heavy-is ns false e h = heavy-by (length ns) (nat_le (sum_by weight ns) 65536) (sym e)
+  pub too-heavy : (ns : List A) → 65536 < sum_by weight ns → is_small weight ns ≡ false
+  too-heavy ns h = by (length ns) (sum_by weight ns) h
     where
-      heavy-by : (n : ℕ) (t : Bool) → t ≡ false → (nat_le n 64 && t) ≡ false
-      heavy-by n true e = cc
-      heavy-by n false e = grind (arith, nat_tests)
+      by : (n w : ℕ) → 65536 < w → (nat_le n 64 && nat_le w 65536) ≡ false
+      by n w h = grind (arith, nat_tests)
 
-  pub light-is : (ns : List A) (b : Bool) → b ≡ nat_le (sum_by weight ns) 65536 → not b ≡ false → length ns ≤ 64 → small_end weight ns ≡ ns
-  light-is ns true e h few = small-stays ns (light-by (length ns) (nat_le (sum_by weight ns) 65536) (sym e) few)
+  pub light-stays : (ns : List A) → sum_by weight ns ≤ 65536 → length ns ≤ 64 → small_end weight ns ≡ ns
+  light-stays ns light few = small-stays ns (by (length ns) (sum_by weight ns) light few)
     where
-      light-by : (n : ℕ) (t : Bool) → t ≡ true → n ≤ 64 → (nat_le n 64 && t) ≡ true
-      light-by n true e few = grind (arith, nat_tests)
-      light-by n false e few = cc
-  light-is ns false e h few = cc
+      by : (n w : ℕ) → w ≤ 65536 → n ≤ 64 → (nat_le n 64 && nat_le w 65536) ≡ true
+      by n w light few = grind (arith, nat_tests)
 
-module _ {E A : Type 0} (f : E → A) (weight : A → ℕ) where
   -- the oldest of too heavy notes goes
-  pub popped : (xs : List E) → 1 < length xs → is_small weight (map f xs) ≡ false → small_end weight (map f (drop 1 xs)) ≡ small_end weight (map f xs)
+  pub popped : (xs : List A) → 1 < length xs → is_small weight xs ≡ false → small_end weight (drop 1 xs) ≡ small_end weight xs
   popped [] h e = absurd (omega arith)
   popped (x ∷ []) h e = absurd (omega arith)
-  popped (x ∷ y ∷ xs) h e = sym (heavy-goes weight (f x) (f y) (map f xs) e)
+  popped (x ∷ y ∷ xs) h e = sym (heavy-goes x y xs e)
 
   -- a note more in a ring that held at most 64
-  all-kept : (xs : List E) (n : E) (k : ℕ) → k ≡ 0 → small_end weight (map f (drop k (xs ++ n ∷ []))) ≡ small_end weight (map f xs ++ f n ∷ [])
-  all-kept xs n k e = ap (λ (i : ℕ). small_end weight (map f (drop i (xs ++ n ∷ [])))) e ∙ ap (λ (ys : List A). small_end weight ys) (map-append f xs (n ∷ []))
+  all-kept : (xs : List A) (n : A) (k : ℕ) → k ≡ 0 → small_end weight (drop k (xs ++ n ∷ [])) ≡ small_end weight (xs ++ n ∷ [])
+  all-kept xs n k e = ap (λ (i : ℕ). small_end weight (drop i (xs ++ n ∷ []))) e
 
-  first-gone : (xs : List E) (n : E) (k : ℕ) → k ≡ 1 → length xs ≡ 64 → small_end weight (map f (drop k (xs ++ n ∷ []))) ≡ small_end weight (map f xs ++ f n ∷ [])
+  first-gone : (xs : List A) (n : A) (k : ℕ) → k ≡ 1 → length xs ≡ 64 → small_end weight (drop k (xs ++ n ∷ [])) ≡ small_end weight (xs ++ n ∷ [])
   first-gone [] n k e h = absurd (omega arith)
   first-gone (x ∷ []) n k e h = absurd (omega arith)
   first-gone (x ∷ y ∷ xs) n k e h =
-      let long : 64 < length (f x ∷ f y ∷ (map f xs ++ f n ∷ [])) = omega (arith, h, length-append (map f xs) (f n ∷ []), length-map xs f) in
-      ap (λ (i : ℕ). small_end weight (map f (drop i (x ∷ y ∷ (xs ++ n ∷ []))))) e
-      ∙ ap (λ (ys : List A). small_end weight (f y ∷ ys)) (map-append f xs (n ∷ []))
-      ∙ sym (first-goes weight (f x) (f y) (map f xs ++ f n ∷ []) long)
+      let long : 64 < length (x ∷ y ∷ (xs ++ n ∷ [])) = omega (arith, h, length-append xs (n ∷ [])) in
+      ap (λ (i : ℕ). small_end weight (drop i (x ∷ y ∷ (xs ++ n ∷ [])))) e ∙ sym (first-goes x y (xs ++ n ∷ []) long)
 
-  pub pushed : (cap : ℕ) (xs : List E) (n : E) → cap ≡ 64 → length xs ≤ cap → small_end weight (map f (keep_last cap (xs ++ n ∷ []))) ≡ small_end weight (map f xs ++ f n ∷ [])
+  pub pushed : (cap : ℕ) (xs : List A) (n : A) → cap ≡ 64 → length xs ≤ cap → small_end weight (keep_last cap (xs ++ n ∷ [])) ≡ small_end weight (xs ++ n ∷ [])
   pushed cap xs n e h =
       let len = length-append xs (n ∷ []) in
       ⊎_elim
@@ -74,9 +67,69 @@ module _ {E A : Type 0} (f : E → A) (weight : A → ℕ) where
       few-or-full : (m : ℕ) → m ≤ 64 → (m < 64) ⊎ (m ≡ 64)
       few-or-full m h = grind arith
 
-  -- the weights of notes from one on
-  pub weighed-next : (xs : List E) (i : ℕ) (d : E) → i < length xs → sum_by weight (map f (drop i xs)) ≡ weight (f (get_or xs i d)) + sum_by weight (map f (drop (i + 1) xs))
-  weighed-next xs i d h =
-      let next : drop i xs ≡ get_or xs i d ∷ drop (suc i) xs = drop-cons xs i d h in
-      ap (λ (ys : List E). sum_by weight (map f ys)) next ∙ sum-first weight (f (get_or xs i d)) (map f (drop (suc i) xs))
-      ∙ ap (λ (j : ℕ). weight (f (get_or xs i d)) + sum_by weight (map f (drop j xs))) (sym (add-one i))
+-- ---- what the notes of a ring count together
+
+module _ {E : Type 0} (c : E → ℕ) where
+  abbrev pub sum_in : Option E → ℕ
+  sum_in None = 0
+  sum_in (Some x) = c x
+
+  pub sum-popped : (xs : List E) → sum_by c (drop 1 xs) + sum_in (slice_get xs 0) ≡ sum_by c xs
+  sum-popped [] = refl
+  sum-popped (x ∷ xs) = omega (arith, sum-first c x xs)
+
+  sum-behind : (xs : List E) (n : E) → sum_by c (xs ++ n ∷ []) ≡ sum_by c xs + c n
+  sum-behind xs n = omega (arith, sum_by-append c xs (n ∷ []), sum-first c n [])
+
+  none-out : (cap : ℕ) (xs : List E) (n : E) (k : ℕ) → k ≡ 0 → nat_lt (length xs) cap ≡ true
+      → sum_by c (drop k (xs ++ n ∷ [])) + sum_in (cond (nat_lt (length xs) cap) None (slice_get (xs ++ n ∷ []) 0)) ≡ sum_by c xs + c n
+  none-out cap xs n k e h =
+      let rest = ap (λ (i : ℕ). sum_by c (drop i (xs ++ n ∷ []))) e in
+      let gone = ap (λ b. sum_in (cond b None (slice_get (xs ++ n ∷ []) 0))) h in
+      omega (arith, rest, gone, sum-behind xs n)
+
+  one-out : (cap : ℕ) (xs : List E) (n : E) (k : ℕ) → k ≡ 1 → nat_lt (length xs) cap ≡ false
+      → sum_by c (drop k (xs ++ n ∷ [])) + sum_in (cond (nat_lt (length xs) cap) None (slice_get (xs ++ n ∷ []) 0)) ≡ sum_by c xs + c n
+  one-out cap xs n k e h =
+      let rest = ap (λ (i : ℕ). sum_by c (drop i (xs ++ n ∷ []))) e in
+      let gone = ap (λ b. sum_in (cond b None (slice_get (xs ++ n ∷ []) 0))) h in
+      omega (arith, rest, gone, sum-popped (xs ++ n ∷ []), sum-behind xs n)
+
+  -- of a note more, and of the one that it pushes out
+  pub sum-pushed : (cap : ℕ) (xs : List E) (n : E) → cap ≡ 64 → length xs ≤ cap
+      → sum_by c (keep_last cap (xs ++ n ∷ [])) + sum_in (cond (nat_lt (length xs) cap) None (slice_get (xs ++ n ∷ []) 0)) ≡ sum_by c xs + c n
+  sum-pushed cap xs n e h = by (nat_lt (length xs) cap) refl
+    where
+      few : (m cap : ℕ) → true ≡ nat_lt m cap → m < cap
+      few m cap h = grind (arith, nat_tests)
+
+      full : (m cap : ℕ) → false ≡ nat_lt m cap → m ≤ cap → m ≡ cap
+      full m cap h within = grind (arith, nat_tests)
+
+      by : (b : Bool) → b ≡ nat_lt (length xs) cap
+          → sum_by c (keep_last cap (xs ++ n ∷ [])) + sum_in (cond (nat_lt (length xs) cap) None (slice_get (xs ++ n ∷ []) 0)) ≡ sum_by c xs + c n
+      by true is = none-out cap xs n (length (xs ++ n ∷ []) - cap) (omega (arith, length-append xs (n ∷ []), few (length xs) cap is)) (sym is)
+      by false is = one-out cap xs n (length (xs ++ n ∷ []) - cap) (omega (arith, length-append xs (n ∷ []), full (length xs) cap is h, e)) (sym is)
+
+  -- a bound of each bounds the sum
+  pub sum-bound : (xs : List E) → ((x : E) → c x ≤ 65537) → sum_by c xs ≤ length xs * 65537
+  sum-bound [] h = omega arith
+  sum-bound (x ∷ xs) h = omega (arith, sum-first c x xs, h x, sum-bound xs h)
+
+module _ {A : Type 0} (weight : A → ℕ) where
+  -- a weight, but no more than one above the limit
+  abbrev cut : A → ℕ
+  cut x = min (weight x) 65537
+
+  -- what items count is no more than what they weigh
+  pub counts-less : (xs : List A) → sum_by cut xs ≤ sum_by weight xs
+  counts-less [] = omega arith
+  counts-less (x ∷ xs) = omega (arith, sum-first cut x xs, sum-first weight x xs, counts-less xs)
+
+  -- and as much, within the limit
+  pub counts-all : (xs : List A) → sum_by cut xs ≤ 65536 → sum_by weight xs ≡ sum_by cut xs
+  counts-all [] h = refl
+  counts-all (x ∷ xs) h =
+      let first = sum-first cut x xs in
+      let rest = counts-all xs (omega (arith, first, h)) in
+      omega (arith, first, h, sum-first weight x xs, rest)

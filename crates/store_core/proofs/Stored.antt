@@ -17,8 +17,6 @@ use Rattle.edit_ops.specs.Staging.{IsStaged}
 use Rattle.edit_ops.specs.declared.change.Change.{Change}
 use Rattle.edit_ops.specs.declared.staged.Staged.{Staged}
 use Rattle.notes.specs.Notes.{Note, note_of}
-use Rattle.notes.specs.Recorded.{note_in}
-use Rattle.notes.specs.declared.edit_note.EditNote.{EditNote}
 use Rattle.store_core.specs.declared.entry.Entry.{Entry}
 use Rattle.store_core.specs.declared.step.Step.{Step}
 use Rattle.store_core.specs.declared.step.Step.TheVariants.{Make, Edit, End}
@@ -89,9 +87,6 @@ numbers-below : (last n : ℕ) (es : List Row) → n ≡ last + 1 → AllByRecur
 numbers-below last n [] e a = tt
 numbers-below last n (r ∷ es) e a = ((λ (same : n ≡ number_in r). omega (arith, same, e, a.0)), numbers-below last n es e a.1)
 
-abbrev HasRing : Row → Type 0
-HasRing e = e.1.notes.capacity ≡ 64
-
 abbrev HasLen : Row → Type 0
 HasLen e = e.1.len ≡ len_in e
 
@@ -134,7 +129,6 @@ made-stored es rs last total p entry rows s planned step reg =
           (subst (λ (ns : List ℕ). AllByRecursion (λ t. number_in row ≢ t) ns) (sym (append-nil (map number_in es))) (numbers-below last (number_in row) es n s.given)));
       given = each-append (λ (r : Row). number_in r ≤ p.note.next) es (row ∷ []) (later last p.note.next es planned.number s.given) (omega (arith, n, planned.number), tt);
       sum = omega (arith, step.5, total-is es last, sum_by-append len_in es (row ∷ []), sum-first len_in row []);
-      rings = each-append HasRing es (row ∷ []) s.rings (ap (λ (x : Entry). x.notes.capacity) step.2, tt);
       lens = each-append HasLen es (row ∷ []) s.lens (ap (λ (x : Entry). x.len) step.2, tt);
     }
 
@@ -146,16 +140,16 @@ renewed-rows es doc v w r =
     let q : Row → Bool = λ e. same_id doc e.0 in
     ap (λ (rows : List Row). map (λ (e : Row). cond (q e) (f e) e) rows) r.parts ∙ one-exchanged q f r.before r.behind (doc, v) r.none-before r.passes r.none-behind
 
-renewed-held : (doc : DocId) (v w : Entry) (number len : ℕ) (kept : EditNote) (change : Change) → IsRenewed v number kept len w → kept.change ≡ change → note_in kept ≡ note_of v.tag number v.tree change
+renewed-held : (doc : DocId) (v w : Entry) (number len : ℕ) (kept : Note) (change : Change) → IsRenewed v number kept len w → kept.change ≡ change → kept ≡ note_of v.tag number v.tree change
     → held_in (doc, w) ≡ held_after number change (held_in (doc, v))
 renewed-held doc v w number len kept change new same note =
     let held : ℕ → Tree → List Note → Held = λ n x ns. record { id = doc; tag = n; tree = x; notes = ns } in
-    ap (λ (n : ℕ). held n w.tree (map note_in w.notes.items)) new.tag
-    ∙ ap (λ (x : Tree). held number x (map note_in w.notes.items)) (new.tree ∙ ap (λ (x : Change). edited v.tree x) same)
-    ∙ ap (λ (ns : List Note). held number (edited v.tree change) ns) (new.notes ∙ ap (λ (n : Note). retained (map note_in v.notes.items ++ n ∷ [])) note)
+    ap (λ (n : ℕ). held n w.tree w.notes) new.tag
+    ∙ ap (λ (x : Tree). held number x w.notes) (new.tree ∙ ap (λ (x : Change). edited v.tree x) same)
+    ∙ ap (λ (ns : List Note). held number (edited v.tree change) ns) (new.notes ∙ ap (λ (n : Note). retained (v.notes ++ n ∷ [])) note)
 
-renewed-content : (es : List Row) (last : ℕ) (p : Readied) (v w : Entry) (len : ℕ) (kept : EditNote) (h : Held) (r : Around es p.doc v)
-    → p.note.next ≡ last + 1 → act_of p.note.change ≡ Edits → h ≡ held_in (p.doc, v) → kept.change ≡ p.note.change → note_in kept ≡ note_of h.tag (last + 1) h.tree p.note.change → IsRenewed v p.note.next kept len w
+renewed-content : (es : List Row) (last : ℕ) (p : Readied) (v w : Entry) (len : ℕ) (kept : Note) (h : Held) (r : Around es p.doc v)
+    → p.note.next ≡ last + 1 → act_of p.note.change ≡ Edits → h ≡ held_in (p.doc, v) → kept.change ≡ p.note.change → kept ≡ note_of h.tag (last + 1) h.tree p.note.change → IsRenewed v p.note.next kept len w
     → content_in (r.before ++ (p.doc, w) ∷ r.behind) p.note.next ≡ content_after (content_in es last) p.doc p.note.change
 renewed-content es last p v w len kept h r number edits same changed note new =
     let c = content_in es last in
@@ -176,7 +170,7 @@ renewed-content es last p v w len kept h r number edits same changed note new =
     ∙ ap (λ (hs : List Held). content hs (c.next + 1)) (map-append held_in r.before ((p.doc, w) ∷ r.behind) ∙ ap (λ (x : Held). before ++ x ∷ behind) held ∙ sym all)
     ∙ sym (ap (λ (act : Act). content_after_act c p.doc change act) edits)
 
-renewed-stored : (es : List Row) (rs : List (List ℕ × ℕ)) (last total : ℕ) (p : Readied) (staged : Staged) (kept : EditNote) (len : ℕ) (v w : Entry) (rows : List (List ℕ × ℕ))
+renewed-stored : (es : List Row) (rs : List (List ℕ × ℕ)) (last total : ℕ) (p : Readied) (staged : Staged) (kept : Note) (len : ℕ) (v w : Entry) (rows : List (List ℕ × ℕ))
     → IsStoring es rs last total → IsPlanned (content_in es last) p → IsStepOf (content_in es last) p (Edit staged kept len) → lookup (same_id p.doc) es ≡ Some v → IsRenewed v p.note.next kept len w
     → ((uri : List ℕ) → registered rows uri ≡ exchanged p.leaves p.enters w.created (registered rs uri) uri)
     → (content_in (map (λ e. cond (same_id p.doc e.0) (e.0, w) e) es) p.note.next ≡ content_after (content_in es last) p.doc p.note.change)
@@ -199,7 +193,6 @@ renewed-stored es rs last total p staged kept len v w rows s planned step found 
     let before-apart : AreApart (flat_map uris_in (r.before ++ old ∷ r.behind)) = subst (λ (ds : List Row). AreApart (flat_map uris_in ds)) r.parts (known-of es rs last total s).services in
     let given = subst (λ (ds : List Row). AllByRecursion (λ e. number_in e ≤ p.note.next) ds) r.parts (later last p.note.next es planned.number s.given) in
     let given-behind = each-right (λ (e : Row). number_in e ≤ p.note.next) r.before (old ∷ r.behind) given in
-    let rings = subst (λ (ds : List Row). AllByRecursion HasRing ds) r.parts s.rings in
     let lens = subst (λ (ds : List Row). AllByRecursion HasLen ds) r.parts s.lens in
     let exchange = step.7 in
     let was : uris_in old ≡ exchange.0 ++ (p.leaves ++ exchange.1) = ap (λ (x : Tree). uris_in (p.doc, record v { tree = x })) (sym tree) ∙ exchange.2 in
@@ -217,7 +210,6 @@ renewed-stored es rs last total p staged kept len v w rows s planned step found 
       given = each-append (λ (e : Row). number_in e ≤ p.note.next) r.before (row ∷ r.behind) (each-left (λ (e : Row). number_in e ≤ p.note.next) r.before (old ∷ r.behind) given) (omega (arith, new.created, given-behind.0), given-behind.1);
       sum =
           omega (arith, step.8, total-is es last, ap (sum_by len_in) r.parts, sum-put len_in r.before old r.behind, sum-put len_in r.before row r.behind, ap document_len tree, long);
-      rings = each-append HasRing r.before (row ∷ r.behind) (each-left HasRing r.before (old ∷ r.behind) rings) (new.capacity, (each-right HasRing r.before (old ∷ r.behind) rings).1);
       lens = each-append HasLen r.before (row ∷ r.behind) (each-left HasLen r.before (old ∷ r.behind) lens) (new.len ∙ long, (each-right HasLen r.before (old ∷ r.behind) lens).1);
     } in (
       ap (λ (ds : List Row). content_in ds p.note.next) all ∙ stands,
@@ -253,7 +245,6 @@ ended-stored es rs last total p v created rows s planned step found reg =
     let numbers : AreApart (map number_in r.before ++ (number_in old ∷ [] ++ map number_in r.behind)) =
     subst (λ (ns : List ℕ). AreApart ns) (ap (map number_in) r.parts ∙ map-append number_in r.before (old ∷ r.behind)) s.numbers in
     let given = subst (λ (ds : List Row). AllByRecursion (λ e. number_in e ≤ p.note.next) ds) r.parts (later last p.note.next es planned.number s.given) in
-    let rings = subst (λ (ds : List Row). AllByRecursion HasRing ds) r.parts s.rings in
     let lens = subst (λ (ds : List Row). AllByRecursion HasLen ds) r.parts s.lens in
     subst (λ (ds : List Row). IsStoring ds rows p.note.next p.total) (sym all) (record {
       kept = subst (λ (ds : List Row). (m : State) × Stands (content_in ds p.note.next) m × Kept m) all next;
@@ -266,7 +257,6 @@ ended-stored es rs last total p v created rows s planned step found reg =
       numbers = subst (λ (ns : List ℕ). AreApart ns) (sym (map-append number_in r.before r.behind)) (apart-cut (map number_in r.before) (number_in old ∷ []) (map number_in r.behind) numbers);
       given = each-cut (λ (e : Row). number_in e ≤ p.note.next) r.before (old ∷ []) r.behind given;
       sum = omega (arith, step.5, total-is es last, ap (sum_by len_in) r.parts, sum-put len_in r.before old r.behind, ap document_len tree);
-      rings = each-cut HasRing r.before (old ∷ []) r.behind rings;
       lens = each-cut HasLen r.before (old ∷ []) r.behind lens;
     })
 
@@ -328,9 +318,11 @@ first-storing es rs first last none empty h e =
       numbers = tt;
       given = tt;
       sum = refl;
-      rings = tt;
       lens = tt;
     }))
+
+pub same-content : (es ds : List Row) (last : ℕ) (room : Room) (s : Stored) → ds ≡ es → (let x : Stored = record { content = content_in es last; room = room } in x) ≡ s → content_in ds last ≡ s.content
+same-content es ds last room s e seen = ap (λ (x : List Row). content_in x last) e ∙ ap (λ (x : Stored). x.content) seen
 
 pub same-storing : (es ds : List Row) (rs us : List (List ℕ × ℕ)) (last total : ℕ) → ds ≡ es → us ≡ rs → IsStoring es rs last total → IsStoring ds us last total
 same-storing es ds rs us last total e g s =
@@ -349,11 +341,6 @@ sound-entry es rs last total doc v s found =
     let r = around-of es rs last total doc v s found in
     sound_held (content_in es last) doc (held_in (doc, v)) (held-found es doc v r) (all_sound (content_in es last) s.kept.0 s.kept.1 s.kept.2)
 
-pub ring-of : (es : List Row) (rs : List (List ℕ × ℕ)) (last total : ℕ) (doc : DocId) (v : Entry) → IsStoring es rs last total → lookup (same_id doc) es ≡ Some v → v.notes.capacity ≡ 64
-ring-of es rs last total doc v s found =
-    let r = around-of es rs last total doc v s found in
-    (each-right HasRing r.before ((doc, v) ∷ r.behind) (subst (λ (ds : List Row). AllByRecursion HasRing ds) r.parts s.rings)).0
-
 pub len-of : (es : List Row) (rs : List (List ℕ × ℕ)) (last total : ℕ) (doc : DocId) (v : Entry) → IsStoring es rs last total → lookup (same_id doc) es ≡ Some v → v.len ≡ document_len v.tree
 len-of es rs last total doc v s found =
     let r = around-of es rs last total doc v s found in
@@ -368,7 +355,7 @@ not-there es rs last total doc (Some v) s e missing =
     cc
 
 -- the edit of a note that is kept fits the entry of its document, and its memory is the one for that entry's tree
-may-edit : (es : List Row) (rs : List (List ℕ × ℕ)) (last total : ℕ) (p : Readied) (staged : Staged) (kept : EditNote) (len : ℕ) (v : Entry)
+may-edit : (es : List Row) (rs : List (List ℕ × ℕ)) (last total : ℕ) (p : Readied) (staged : Staged) (kept : Note) (len : ℕ) (v : Entry)
     → IsStoring es rs last total → IsPlanned (content_in es last) p → IsStepOf (content_in es last) p (Edit staged kept len) → lookup (same_id p.doc) es ≡ Some v
     → Fits v.tree kept.change × IsStaged v.tree kept.change staged
 may-edit es rs last total p staged kept len v s planned step found =
@@ -387,7 +374,7 @@ steppable es rs last total p (Make entry) s planned step = not-there es rs last 
 steppable es rs last total p (Edit staged kept len) s planned step =
     let found = found-entry es p.doc step.0 (lookup (same_id p.doc) es) refl step.1 in
     let may = may-edit es rs last total p staged kept len found.0 s planned step found.1 in
-    (found.0, found.1, ring-of es rs last total p.doc found.0 s found.1, may.0, may.1)
+    (found.0, found.1, may.0, may.1)
 steppable es rs last total p End s planned step = tt
 
 pub absent-entry : (es : List Row) (rs : List (List ℕ × ℕ)) (last total : ℕ) (doc : DocId) → IsStoring es rs last total → document_in held_name (map held_in es) doc ≡ None → lookup (same_id doc) es ≡ None

@@ -1,13 +1,11 @@
 -- The notes since a version, found in two pieces of a list and by a document's entry.
 use Rattle.std.proofs.Common.{◌≡◌, ℕ, ◌==◌, Bool, true, false, if◌then◌else◌, List, [], ◌∷◌, ◌++◌, map, Option, None, Some, refl, sym, ap, ◌∙◌}
-use Rattle.std.proofs.lemmas.List.{map-append}
 use Rattle.std.specs.Map.{lookup}
 use Rattle.std.specs.Option.{option_map}
 use Rattle.doc_names.specs.Same.{same_id}
 use Rattle.doc_names.specs.declared.doc_id.DocId.{DocId}
 use Rattle.notes.specs.Notes.{Note}
-use Rattle.notes.specs.Recorded.{note_in, all_notes as joined}
-use Rattle.notes.specs.declared.edit_note.EditNote.{EditNote}
+use Rattle.notes.specs.Recorded.{all_notes as joined}
 use Rattle.store_core.specs.declared.entry.Entry.{Entry}
 use Rattle.store_core.specs.Changing.{document_in, held_name}
 use Rattle.store_core.specs.Held.{Held}
@@ -31,22 +29,17 @@ from-append tag (x ∷ xs) ys = by (x.previous == tag) (from-append tag xs ys)
     by true rest = refl
     by false rest = rest
 
-in-two : (tag : ℕ) (older newer : List EditNote) → notes_from tag (joined older newer) ≡ either (notes_from tag (map note_in older)) (map note_in newer) (notes_from tag (map note_in newer))
-in-two tag older newer = ap (notes_from tag) (map-append note_in older newer) ∙ from-append tag (map note_in older) (map note_in newer)
+pub in-older : (tag : ℕ) (older newer found : List Note) → Some found ≡ notes_from tag older → Some (joined found newer) ≡ notes_from tag (joined older newer)
+in-older tag older newer found is = ap (λ (o : Option (List Note)). either o newer (notes_from tag newer)) is ∙ sym (from-append tag older newer)
 
-pub in-older : (tag : ℕ) (older newer found : List EditNote) → Some (map note_in found) ≡ notes_from tag (map note_in older) → Some (joined found newer) ≡ notes_from tag (joined older newer)
-in-older tag older newer found is =
-    ap Some (map-append note_in found newer) ∙ ap (λ (o : Option (List Note)). either o (map note_in newer) (notes_from tag (map note_in newer))) is ∙ sym (in-two tag older newer)
-
-pub in-newer : (tag : ℕ) (older newer : List EditNote) → None ≡ notes_from tag (map note_in older) → notes_from tag (map note_in newer) ≡ notes_from tag (joined older newer)
-in-newer tag older newer none =
-    ap (λ (o : Option (List Note)). either o (map note_in newer) (notes_from tag (map note_in newer))) none ∙ sym (in-two tag older newer)
+pub in-newer : (tag : ℕ) (older newer : List Note) → None ≡ notes_from tag older → notes_from tag newer ≡ notes_from tag (joined older newer)
+in-newer tag older newer none = ap (λ (o : Option (List Note)). either o newer (notes_from tag newer)) none ∙ sym (from-append tag older newer)
 
 -- ---- by the entry
 
 -- what an entry tells
 abbrev pub entry_story : ℕ → Entry → Story
-entry_story tag v = if v.tag == tag then Told [] else story_of (notes_from tag (map note_in v.notes.items))
+entry_story tag v = if v.tag == tag then Told [] else story_of (notes_from tag v.notes)
 
 abbrev pub or_gone : Option Story → Story
 or_gone None = Gone

@@ -6,7 +6,6 @@ use Rattle.edit_ops.specs.Changes.{edited}
 use Rattle.edit_ops.specs.Staging.{IsStaged}
 use Rattle.edit_ops.specs.declared.change.Change.TheVariants.{CreateDocument, RemoveDocument}
 use Rattle.notes.specs.Notes.{Note, note_of}
-use Rattle.notes.specs.Recorded.{note_in}
 use Rattle.store_core.specs.declared.step.Step.{Step}
 use Rattle.store_core.specs.declared.step.Step.TheVariants.{Make, Edit, End}
 use Rattle.store_core.specs.Held.{Held, Stock}
@@ -41,7 +40,7 @@ IsStepOf c p (Make entry) =
     × (p.enters ≡ addresses_in p.doc.auid entry.tree) × (p.total ≡ total_of c + document_len entry.tree)
 IsStepOf c p (Edit staged kept len) =
     (h : Held) × (document_in held_name c.documents p.doc ≡ Some h) × (act_of p.note.change ≡ Edits) × IsStaged h.tree p.note.change staged
-    × (len ≡ document_len (edited h.tree p.note.change)) × (note_in kept ≡ p.note) × (p.note ≡ note_of h.tag c.next h.tree p.note.change)
+    × (len ≡ document_len (edited h.tree p.note.change)) × (kept ≡ p.note) × (p.note ≡ note_of h.tag c.next h.tree p.note.change)
     × Exchanges (addresses_in p.doc.auid h.tree) p.leaves p.enters (addresses_in p.doc.auid (edited h.tree p.note.change))
     × (p.total + document_len h.tree ≡ total_of c + len)
 IsStepOf c p End =
@@ -64,5 +63,5 @@ pub record IsReady (s : Stored) (p : Readied) : Type 0 where
 -- ---- a change that is made at once
 
 -- the call makes the step that is stated; or nothing changes, and the refusal is the stated one
-abbrev pub Steps : {T N S E : Type 0} → Result (N × S) E → (T → N) → Result T E → S → S → Type 0
-Steps stated read r old new = MatchResult r (λ x. stated ≡ Ok (read x, new)) (λ e. (new ≡ old) × (stated ≡ Err e))
+abbrev pub Steps : {N S E : Type 0} → Result (N × S) E → Result N E → S → S → Type 0
+Steps stated r old new = MatchResult r (λ n. stated ≡ Ok (n, new)) (λ e. (new ≡ old) × (stated ≡ Err e))

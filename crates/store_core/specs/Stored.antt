@@ -1,9 +1,7 @@
 -- What contracts see of a store, and the entry that a new document gets.
 use Rattle.std.specs.Prelude.{ℕ, []}
-use Rattle.circular_buffer.specs.Buffer.{buffer}
 use Rattle.xml_tree.specs.Tree.{Tree}
 use Rattle.usage_docs.specs.Services.{document_len}
-use Rattle.store_core.specs.Limits.{most_notes}
 use Rattle.store_core.specs.declared.entry.Entry.{Entry}
 use Rattle.store_core.specs.Held.{Stock}
 
@@ -19,4 +17,4 @@ pub record Stored : Type 0 where
 
 -- the entry of a document that is made with this number
 abbrev pub entry_of : ℕ → Tree → Entry
-entry_of number t = record { created = number; tag = number; tree = t; len = document_len t; notes = buffer [] most_notes }
+entry_of number t = record { created = number; tag = number; tree = t; len = document_len t; notes = [] }

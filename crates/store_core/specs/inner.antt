@@ -2,4 +2,5 @@
 pub mod Addresses
 pub mod Listed
 pub mod Planning
+pub mod Rings
 pub mod Storing

@@ -1,6 +1,5 @@
 //! Changes that have all their memory are made.
 ghost use Rattle.std.specs.Prelude.{◌≡◌, IfOk, Ok, OnErr, OnOk};
-ghost use Rattle.notes.specs.Recorded.{note_in};
 ghost use Rattle.store_core.specs.Asking.{Asks};
 ghost use Rattle.store_core.specs.Changing.{changing, content_after};
 ghost use Rattle.store_core.specs.KeyAddresses.{KeepsAddressesOf};
@@ -20,7 +19,7 @@ impl Store {
     pub fn commit(&mut self, prepared: Prepared) -> EditNote
         requires { IsReady self.old prepared }
         ensures holds_the_prepared_change { self.new.content ≡ content_after self.old.content prepared.doc prepared.note.change }
-        ensures note_that_was_prepared { note_in result ≡ prepared.note }
+        ensures note_that_was_prepared { result ≡ prepared.note }
         ensures keeps_key_addresses { KeepsAddressesOf self.old.content prepared.doc prepared.note.change self.new.content }
     {
         let Prepared {
@@ -32,9 +31,10 @@ impl Store {
             total,
         } = prepared;
         leave(&mut self.services, leaves.as_slice());
-        let created = step.take(&mut self.documents, doc, note.next);
+        let number = note.next();
+        let created = step.take(&mut self.documents, doc, number);
         enter(&mut self.services, enters.into_vec(), created);
-        self.last = note.next;
+        self.last = number;
         self.total = total;
         note
     }
@@ -50,7 +50,7 @@ impl Store {
         change: Change,
     ) -> Result<Result<EditNote, StoreRefusal>, NoMemory>
         requires { Asks self.old.content doc.now change }
-        ensures makes_the_change_or_refuses { IfOk result (λ r. Steps (changing self.old.content doc.now change) note_in r self.old.content self.new.content) }
+        ensures makes_the_change_or_refuses { IfOk result (λ r. Steps (changing self.old.content doc.now change) r self.old.content self.new.content) }
         ensures want_of_memory_changes_nothing { OnErr result (self.new.content ≡ self.old.content) }
         ensures keeps_key_addresses { IfOk result (λ r. OnOk r (KeepsAddressesOf self.old.content doc.now change self.new.content)) }
     {

@@ -13,6 +13,7 @@ mod prepared;
 mod preparing;
 mod refusal;
 mod registry;
+mod retained;
 mod since;
 mod step;
 mod store;

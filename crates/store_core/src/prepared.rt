@@ -1,6 +1,5 @@
 //! A change that has all its memory and isn't made yet.
 ghost use Rattle.std.specs.Prelude.{◌≡◌, length};
-ghost use Rattle.notes.specs.Recorded.{note_in};
 
 use crate::step::Step;
 use doc_names::DocId;
@@ -23,7 +22,6 @@ pub struct Prepared {
 }
 
 impl Model for Prepared {
-    ghost use Rattle.notes.specs.Recorded.{note_in};
     ghost use Rattle.store_core.specs.Preparing.{Readied};
     ghost use Rattle.std.specs.Coded.{codes};
     ghost use Rattle.doc_names.specs.contracts.doc_id.DocId as d;
@@ -34,13 +32,13 @@ impl Model for Prepared {
 
     ghost coded = { Prim.hlevel (codes, d.the_row.coded, c.the_row.coded, s.the_row.coded) };
 
-    ghost view = { λ p. record { doc = p.doc; note = note_in p.note; step = p.step; leaves = p.leaves; enters = p.enters; total = p.total } };
+    ghost view = { λ p. record { doc = p.doc; note = p.note; step = p.step; leaves = p.leaves; enters = p.enters; total = p.total } };
 }
 
 impl Prepared {
     /// The note that the change will be answered with, lent. Takes no memory.
     pub fn note(&self) -> &EditNote
-        ensures lends_the_note { note_in result.now ≡ self.now.note }
+        ensures lends_the_note { result.now ≡ self.now.note }
     {
         &self.note
     }

@@ -18,7 +18,6 @@ ghost use Rattle.edit_ops.specs.Lengths.{element_len};
 ghost use Rattle.store_core.specs.Preparing.{IsReady, total_of};
 ghost use Rattle.store_core.specs.Stored.{entry_of};
 ghost use Rattle.store_core.specs.declared.step.Step.TheVariants as steps;
-ghost use Rattle.notes.specs.Recorded.{note_in};
 
 use crate::NoMemory;
 use crate::addresses::{addresses, entering, first_number, leaving};
@@ -128,9 +127,10 @@ fn creation(
     let tree = copy_tree(alloc, &root)?;
     let entry = Entry::new(alloc, number, tree, len)?;
     let change = Change::CreateDocument { root };
+    let note = EditNote::of_document(alloc, 0, number, change)?;
     Ok(Prepared {
         doc,
-        note: EditNote::of_document(alloc, 0, number, change),
+        note,
         step: Step::Make(entry),
         leaves: List::empty(alloc),
         enters,
@@ -151,7 +151,7 @@ fn edit(
 ) -> Result<Prepared, NoMemory>
     ensures prepares_the_edit { IfOk result (λ p. p ≡ record {
       doc = doc.now;
-      note = note_in note;
+      note = note;
       step = steps.Edit staged note len;
       leaves = leaves;
       enters = enters;
@@ -159,7 +159,7 @@ fn edit(
     }) }
 {
     let doc = doc.copy(alloc)?;
-    let kept = note.copy(alloc)?;
+    let kept = note.copy()?;
     Ok(Prepared {
         doc,
         note,
@@ -189,9 +189,10 @@ fn removal(
     }) }
 {
     let doc = doc.copy(alloc)?;
+    let note = EditNote::of_document(alloc, tag, number, Change::RemoveDocument)?;
     Ok(Prepared {
         doc,
-        note: EditNote::of_document(alloc, tag, number, Change::RemoveDocument),
+        note,
         step: Step::End,
         leaves,
         enters: List::empty(alloc),
@@ -199,23 +200,25 @@ fn removal(
     })
 }
 
-// A document that is edited, whose addresses, length and total are known.
+// A document that is edited, whose addresses, lengths and total are known.
 fn noted(
     alloc: Global,
     doc: &DocId,
     entry: &Entry,
     number: u64,
     change: Change,
+    put: usize,
     len: usize,
     leaves: List<Text>,
     enters: List<Text>,
     total: u64,
 ) -> Result<Prepared, NoMemory>
-    requires { Fits entry.now.tree change }
+    requires fits { Fits entry.now.tree change }
+    requires put { put ≡ min (element_len change) usize.MAX }
     ensures notes_the_edit { IfOk result (λ p. IsNoted doc.now entry.now number change len leaves enters total p) }
 {
     let staged = stage(alloc, &entry.tree, &change)?;
-    let note = EditNote::of(alloc, entry.tag, number, &entry.tree, change)?;
+    let note = EditNote::of(alloc, entry.tag, number, &entry.tree, change, put)?;
     edit(alloc, doc, staged, note, len, leaves, enters, total)
 }
 
@@ -333,7 +336,7 @@ impl Store {
         let others = self.total_without(doc);
         let total = others.saturating_add(len as u64);
         let prepared = noted(
-            self.alloc, doc, entry, number, change, len, leaves, enters, total,
+            self.alloc, doc, entry, number, change, put, len, leaves, enters, total,
         )?;
         Ok(Ok(prepared))
     }

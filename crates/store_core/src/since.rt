@@ -3,7 +3,7 @@ ghost use Rattle.std.specs.Prelude.{◌≡◌, ◌==◌, ℕ, List, [], map, if�
 ghost use Rattle.std.specs.Option.{option_map};
 ghost use Rattle.doc_names.specs.declared.doc_id.DocId.{DocId};
 ghost use Rattle.notes.specs.Notes.{Note};
-ghost use Rattle.notes.specs.Recorded.{note_in, all_notes};
+ghost use Rattle.notes.specs.Recorded.{all_notes};
 ghost use Rattle.store_core.specs.Held.{Stands, Stock};
 ghost use Rattle.store_core.specs.History.{IsSince};
 ghost use Rattle.store_core.specs.Keeping.{Kept};
@@ -30,10 +30,10 @@ pub enum Since<'a> {
 
 // The notes from the one on that goes on from this tag, if there is one.
 fn from_tag(notes: &[EditNote], tag: u64) -> Option<&[EditNote]>
-    ensures notes_from_the_tag { option_map (λ found. map note_in found.now) result ≡ notes_from tag (map note_in notes.now) }
+    ensures notes_from_the_tag { option_map (λ found. found.now) result ≡ notes_from tag notes.now }
 {
     for (number, note) in notes.iter().enumerate() {
-        if note.previous == tag {
+        if note.previous() == tag {
             return Some(&notes[number..]);
         }
     }
@@ -42,7 +42,7 @@ fn from_tag(notes: &[EditNote], tag: u64) -> Option<&[EditNote]>
 
 // The same, in two pieces of which the older is empty.
 fn from_tag_alone(newer: &[EditNote], tag: u64) -> Option<Notes<'_>>
-    ensures notes_of_one_piece_from_the_tag { option_map (λ found. all_notes found.older.now found.newer.now) result ≡ notes_from tag (map note_in newer.now) }
+    ensures notes_of_one_piece_from_the_tag { option_map (λ found. all_notes found.older.now found.newer.now) result ≡ notes_from tag newer.now }
 {
     match from_tag(newer, tag) {
         Some(found) => Some(Notes {
@@ -68,7 +68,7 @@ fn from_tag_in<'a>(older: &'a [EditNote], newer: &'a [EditNote], tag: u64) -> Op
 
 // What the entry of a document tells.
 fn told_by(entry: &Entry, tag: u64) -> Since<'_>
-    ensures tells_its_story { story_in result ≡ (if entry.now.tag == tag then Told [] else story_of (notes_from tag (map note_in entry.now.notes.items))) }
+    ensures tells_its_story { story_in result ≡ (if entry.now.tag == tag then Told [] else story_of (notes_from tag entry.now.notes)) }
 {
     if entry.tag == tag {
         return Since::Changes(Notes {
@@ -76,7 +76,7 @@ fn told_by(entry: &Entry, tag: u64) -> Since<'_>
             newer: &[],
         });
     }
-    let (older, newer) = entry.notes.as_slices();
+    let Notes { older, newer } = entry.notes.notes();
     match from_tag_in(older, newer, tag) {
         Some(notes) => Since::Changes(notes),
         None => Since::Unknown,

@@ -7,7 +7,6 @@ ghost use Rattle.doc_names.specs.Same.{same_id};
 ghost use Rattle.edit_ops.specs.Changes.{Fits};
 ghost use Rattle.edit_ops.specs.Staging.{IsStaged};
 ghost use Rattle.store_core.specs.declared.entry.Entry.{Entry as Held};
-ghost use Rattle.store_core.specs.Limits.{most_notes};
 ghost use Rattle.store_core.specs.inner.Storing.{IsRenewed};
 
 use crate::entry::{Entry, renew};
@@ -58,7 +57,7 @@ fn exchange(
     note: EditNote,
     len: usize,
 ) -> u64
-    requires { (v : Held) × (lookup (same_id doc.now) documents.old.entries ≡ Some v) × (v.notes.capacity ≡ most_notes) × Fits v.tree note.change × IsStaged v.tree note.change staged }
+    requires { (v : Held) × (lookup (same_id doc.now) documents.old.entries ≡ Some v) × Fits v.tree note.change × IsStaged v.tree note.change staged }
     ensures renews_the_one_entry { (v : Held) × (w : Held) × (lookup (same_id doc.now) documents.old.entries ≡ Some v) × IsRenewed v number note len w
         × (documents.new.entries ≡ map (λ e. if same_id doc.now e.0 then (e.0, w) else e) documents.old.entries) × (result ≡ w.created) }
 {

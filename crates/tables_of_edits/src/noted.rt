@@ -3,8 +3,8 @@ ghost use Rattle.edit_ops.specs.Changes.{Fits};
 
 use crate::changes::{fits, read_change};
 use anyhow::{Result, bail};
-use edit_ops::Change;
-use notes::{EditNote, NoMemory, Notes, weight};
+use edit_ops::{Change, element_len};
+use notes::{EditNote, NoMemory, Notes};
 use std::alloc::Global;
 use table_cases::{Field, document};
 use xml_tree::Element;
@@ -12,7 +12,8 @@ use xml_tree::Element;
 fn note_in(alloc: Global, root: &Element, change: &Change) -> Result<EditNote, NoMemory>
     requires { Fits root.now change.now }
 {
-    EditNote::of(alloc, 1, 2, root, change.copy(alloc)?)
+    let put = element_len(change);
+    EditNote::of(alloc, 1, 2, root, change.copy(alloc)?, put)
 }
 
 // The note of a change of the document that a field spells.
@@ -24,9 +25,14 @@ fn note_of(alloc: Global, text: &Field, change: &Change) -> Result<EditNote> {
     Ok(note_in(alloc, &root, change)?)
 }
 
+// The note that the document has ended.
+fn note_of_end(alloc: Global) -> Result<EditNote> {
+    Ok(EditNote::of_document(alloc, 1, 2, Change::RemoveDocument)?)
+}
+
 fn note(alloc: Global, text: &Field, change: &Change) -> Result<EditNote> {
     match change {
-        Change::RemoveDocument => { Ok(EditNote::of_document(alloc, 1, 2, Change::RemoveDocument)) }
+        Change::RemoveDocument => note_of_end(alloc),
         _ => note_of(alloc, text, change),
     }
 }
@@ -34,7 +40,7 @@ fn note(alloc: Global, text: &Field, change: &Change) -> Result<EditNote> {
 // What the note of a number weighs.
 fn weight_of(notes: &Notes<'_>, number: usize) -> usize {
     match notes.get(number) {
-        Some(note) => weight(note),
+        Some(note) => note.weight(),
         None => 0,
     }
 }
@@ -52,7 +58,7 @@ fn weighed(alloc: Global, notes: &Notes<'_>, length: usize) -> Result<String> {
 
 // Whether a note weighs so many bytes, and so does its copy, in a list of the two.
 fn weighed_twice(alloc: Global, note: EditNote, length: usize) -> Result<String> {
-    let older = [note.copy(alloc)?];
+    let older = [note.copy()?];
     let newer = [note];
     let notes = Notes {
         older: older.as_slice(),

@@ -5,7 +5,7 @@ ghost use Rattle.edit_ops.specs.Changes.{Fits};
 use crate::changes::{fits, read_change_in};
 use crate::viewed::view_of;
 use anyhow::{Result, bail};
-use edit_ops::{Change, apply_change};
+use edit_ops::{Change, apply_change, element_len};
 use notes::{EditNote, Notes};
 use patch_text::notice;
 use std::alloc::Global;
@@ -36,7 +36,8 @@ fn made(alloc: Global, tree: &mut Element, tag: u64, change: &Change) -> Result<
     requires { Fits tree.old change.now }
 {
     let copy = change.copy(alloc)?;
-    let note = EditNote::of(alloc, tag, tag.saturating_add(1), tree, copy)?;
+    let put = element_len(&copy);
+    let note = EditNote::of(alloc, tag, tag.saturating_add(1), tree, copy, put)?;
     apply_change(alloc, tree, change)?;
     Ok(note)
 }

@@ -3,8 +3,8 @@
 use crate::changes::read_change;
 use anyhow::{Result, bail};
 use doc_names::DocId;
-use edit_ops::Change;
-use notes::{Edit, EditNote};
+use edit_ops::{Change, element_len};
+use notes::{Edit, EditNote, NoMemory};
 use std::alloc::Global;
 use table_cases::{Field, lists_of, print};
 use watchers::{Audit, Mirror, Recorder, Told, Watcher, Watchers};
@@ -13,21 +13,18 @@ use xml_tree::List;
 
 const JOE: &str = "sip:joe@example.com";
 
-fn note(alloc: Global, next: u64, change: Change) -> EditNote {
-    EditNote {
-        previous: next.saturating_sub(1),
-        next,
-        bindings: List::empty(alloc),
-        change,
-        fresh: false,
-    }
+fn note(alloc: Global, next: u64, change: Change) -> Result<EditNote, NoMemory> {
+    let put = element_len(&change);
+    let bindings = List::empty(alloc);
+    let previous = next.saturating_sub(1);
+    EditNote::made(alloc, previous, next, bindings, change, false, put)
 }
 
 // The change of a number that a line says.
 fn edit_of(alloc: Global, next: u64, line: &str) -> Result<Edit> {
     let doc = lists_of(alloc, JOE)?;
     let change = read_change(alloc, line)?;
-    let note = note(alloc, next, change);
+    let note = note(alloc, next, change)?;
     Ok(Edit { doc, note })
 }
 
@@ -79,7 +76,7 @@ fn mirrored(alloc: Global, doc: &DocId, edits: &[Edit]) -> Result<String> {
 fn push_recorded(text: &mut String, recorder: &Recorder, doc: &DocId) -> Result<()> {
     for edit in recorder.edits() {
         if edit.doc.same(doc) {
-            let next = edit.note.next;
+            let next = edit.note.next();
             write!(text, "{next},")?;
         }
     }

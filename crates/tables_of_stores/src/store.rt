@@ -118,7 +118,7 @@ fn remove(store: &mut Store, doc: &DocId) -> Result<Result<u64, StoreRefusal>> {
         return Ok(Ok(0));
     }
     match store.prepare(doc, Change::RemoveDocument)? {
-        Ok(prepared) => Ok(Ok(store.commit(prepared).next)),
+        Ok(prepared) => Ok(Ok(store.commit(prepared).next())),
         Err(refusal) => Ok(Err(refusal)),
     }
 }
@@ -133,7 +133,7 @@ fn root_of(alloc: Global, uri: &str) -> Result<Element>
 
 // The number of a change that was made.
 fn number_of(made: Result<EditNote, StoreRefusal>) -> Result<u64, StoreRefusal> {
-    made.map(|note| note.next)
+    made.map(|note| note.next())
 }
 
 // Puts a document whose one service has an address.

@@ -82,10 +82,10 @@ pub(crate) fn line_of(alloc: Global, doc: &DocId, note: &EditNote) -> Result<Str
     ensures line_of_the_change { IfOk result (λ line. string_bytes line ≡ line_bytes (record { doc = doc.now; note = note.now })) }
 {
     let id = print_doc_id(alloc, doc)?;
-    let mut line = format!(in alloc; "{} ", note.next)?;
+    let mut line = format!(in alloc; "{} ", note.next())?;
     line.push_str(id.as_str())?;
     line.push_str(" ")?;
-    push_change(alloc, &mut line, &note.change)?;
+    push_change(alloc, &mut line, note.change())?;
     line.push_str("\n")?;
     Ok(line)
 }

@@ -120,15 +120,24 @@ impl Mirror {
         Ok(())
     }
 
+    // Holds what a change leaves of a document.
+    fn hold_after(&mut self, doc: &DocId, change: &Change, number: u64) -> Result<(), AllocError>
+        ensures holds_the_tree_after { OnOk result (HoldsAfter change.now number (held_in self.old doc.now) (held_in self.new doc.now)) }
+        ensures other_documents_stay { OthersStay self.old doc.now self.new }
+        ensures failure_changes_nothing { OnErr result (HoldsSame self.old self.new) }
+    {
+        match change {
+            Change::CreateDocument { root } => self.begin(doc, root, number),
+            change => self.go_on(doc, change, number),
+        }
+    }
+
     fn mirror(&mut self, doc: &DocId, note: &EditNote) -> Result<(), AllocError>
         ensures holds_the_tree_after { OnOk result (HoldsAfter note.now.change note.now.next (held_in self.old doc.now) (held_in self.new doc.now)) }
         ensures other_documents_stay { OthersStay self.old doc.now self.new }
         ensures failure_changes_nothing { OnErr result (HoldsSame self.old self.new) }
     {
-        match &note.change {
-            Change::CreateDocument { root } => self.begin(doc, root, note.next),
-            change => self.go_on(doc, change, note.next),
-        }
+        self.hold_after(doc, note.change(), note.next())
     }
 }
 

@@ -52,7 +52,7 @@ impl Recorder {
         ensures failure_changes_nothing { OnErr result (self.new ≡ self.old) }
     {
         let doc = doc.copy(self.alloc)?;
-        let note = note.copy(self.alloc)?;
+        let note = note.copy()?;
         self.edits.push(Edit { doc, note })?;
         Ok(())
     }

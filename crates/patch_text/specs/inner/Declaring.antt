@@ -10,7 +10,7 @@ use Rattle.xml_tree.specs.declared.tree.Node.{Node}
 use Rattle.xml_tree.specs.declared.tree.Node.TheVariants.{Elem, Chars, Comment}
 use Rattle.edit_ops.specs.declared.change.Change.{Change}
 use Rattle.edit_ops.specs.declared.change.Change.TheVariants.{CreateDocument, Insert, Replace, Remove, SetAttr, DropAttr, RemoveDocument}
-use Rattle.notes.specs.declared.edit_note.EditNote.{EditNote}
+use Rattle.notes.specs.Notes.{Note}
 use Rattle.patch_words.specs.Declaring.{prefixes, prefixes_in}
 
 -- ---- as a list
@@ -32,7 +32,7 @@ prefixes_put (DropAttr p name) = []
 prefixes_put RemoveDocument = []
 
 -- of the operation of a note
-abbrev pub prefixes_told : EditNote → List (List ℕ)
+abbrev pub prefixes_told : Note → List (List ℕ)
 prefixes_told n = prefixes n.bindings ++ prefixes_put n.change
 
 -- ---- as a set of texts

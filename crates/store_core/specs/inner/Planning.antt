@@ -11,10 +11,8 @@ use Rattle.edit_ops.specs.Changes.{Fits}
 use Rattle.edit_ops.specs.Staging.{IsStaged}
 use Rattle.edit_ops.specs.declared.change.Change.{Change}
 use Rattle.edit_ops.specs.declared.staged.Staged.{Staged}
-use Rattle.notes.specs.Notes.{note_of}
-use Rattle.notes.specs.Recorded.{note_in}
-use Rattle.notes.specs.declared.edit_note.EditNote.{EditNote}
-use Rattle.store_core.specs.Limits.{most_bytes, most_bytes_together, most_notes}
+use Rattle.notes.specs.Notes.{Note, note_of}
+use Rattle.store_core.specs.Limits.{most_bytes, most_bytes_together}
 use Rattle.store_core.specs.declared.entry.Entry.{Entry}
 use Rattle.store_core.specs.declared.step.Step.{Step}
 use Rattle.store_core.specs.declared.step.Step.TheVariants.{Make, Edit, End}
@@ -41,8 +39,8 @@ IsHeldAs c doc v = (h : Held) × (document_in held_name c.documents doc ≡ Some
 -- an edit of what this entry holds, with its note and its memory, before the store has the room for it
 abbrev pub IsNoted : DocId → Entry → ℕ → Change → ℕ → List (List ℕ) → List (List ℕ) → ℕ → Readied → Type 0
 IsNoted doc v number change len leaves enters total p =
-    (note : EditNote) × (staged : Staged) × (note_in note ≡ note_of v.tag number v.tree change) × IsStaged v.tree change staged
-    × (p ≡ record { doc = doc; note = note_in note; step = Edit staged note len; leaves = leaves; enters = enters; total = total })
+    (note : Note) × (staged : Staged) × (note ≡ note_of v.tag number v.tree change) × IsStaged v.tree change staged
+    × (p ≡ record { doc = doc; note = note; step = Edit staged note len; leaves = leaves; enters = enters; total = total })
 
 -- what planning a change answers: the change with its memory, as it was asked for; or the reason against it
 unfoldable pub Plans : Stock → DocId → Change → Result Readied StoreRefusal → Type 0
@@ -61,5 +59,5 @@ Stepped old doc number End created new = new ≡ filter (λ e. not (same_id doc 
 abbrev pub Steppable : List (DocId × Entry) → DocId → Step → Type 0
 Steppable old doc (Make entry) = lookup (same_id doc) old ≡ None
 Steppable old doc (Edit staged kept len) =
-    (v : Entry) × (lookup (same_id doc) old ≡ Some v) × (v.notes.capacity ≡ most_notes) × Fits v.tree kept.change × IsStaged v.tree kept.change staged
+    (v : Entry) × (lookup (same_id doc) old ≡ Some v) × Fits v.tree kept.change × IsStaged v.tree kept.change staged
 Steppable old doc End = Unit {0}

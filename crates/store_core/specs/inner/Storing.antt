@@ -8,9 +8,7 @@ use Rattle.std.specs.Str.{bytes_eq}
 use Rattle.edit_ops.specs.Changes.{edited}
 use Rattle.usage_docs.specs.Services.{document_len}
 use Rattle.doc_names.specs.declared.doc_id.DocId.{DocId}
-use Rattle.notes.specs.Recorded.{note_in}
-use Rattle.notes.specs.declared.edit_note.EditNote.{EditNote}
-use Rattle.store_core.specs.Limits.{most_notes}
+use Rattle.notes.specs.Notes.{Note}
 use Rattle.store_core.specs.declared.entry.Entry.{Entry}
 use Rattle.store_core.specs.State.{State, retained}
 use Rattle.store_core.specs.Held.{Held, Stands, Stock}
@@ -20,7 +18,7 @@ use Rattle.store_core.specs.Keeping.{AreApart, Kept, addresses_in}
 
 -- a document by its entry
 abbrev pub held_in : DocId × Entry → Held
-held_in e = record { id = e.0; tag = e.1.tag; tree = e.1.tree; notes = map note_in e.1.notes.items }
+held_in e = record { id = e.0; tag = e.1.tag; tree = e.1.tree; notes = e.1.notes }
 
 -- all documents, and the number behind the last one given
 abbrev pub content_in : List (DocId × Entry) → ℕ → Stock
@@ -40,13 +38,12 @@ abbrev pub number_in : DocId × Entry → ℕ
 number_in e = e.1.created
 
 -- the entry of a document after the edit of a note, which is kept, and which left so many bytes
-pub record IsRenewed (old : Entry) (number : ℕ) (note : EditNote) (bytes : ℕ) (new : Entry) : Type 0 where
+pub record IsRenewed (old : Entry) (number : ℕ) (note : Note) (bytes : ℕ) (new : Entry) : Type 0 where
   pub created : new.created ≡ old.created
   pub tag : new.tag ≡ number
   pub tree : new.tree ≡ edited old.tree note.change
   pub len : new.len ≡ bytes
-  pub notes : map note_in new.notes.items ≡ retained (map note_in old.notes.items ++ note_in note ∷ [])
-  pub capacity : new.notes.capacity ≡ most_notes
+  pub notes : new.notes ≡ retained (old.notes ++ note ∷ [])
 
 -- ---- who holds an address
 
@@ -85,7 +82,5 @@ pub record IsStoring (es : List (DocId × Entry)) (rs : List (List ℕ × ℕ)) 
   pub given : AllByRecursion (λ e. number_in e ≤ last) es
   -- the total is that of its documents' lengths
   pub sum : total ≡ sum_by len_in es
-  -- each document has room for the notes that may be retained
-  pub rings : AllByRecursion (λ e. e.1.notes.capacity ≡ most_notes) es
   -- the length that is kept of each is the one that it has
   pub lens : AllByRecursion (λ e. e.1.len ≡ len_in e) es

@@ -3,8 +3,8 @@ use Rattle.std.proofs.lemmas.Grind.{common_steps}
 use Rattle.element_watch.proofs.Bounds.{stays_small}
 use Rattle.element_watch.proofs.tracing.+back.Goals as goal
 
-pub came_from-requires : goal.came_from-requires
-came_from-requires t c =
+pub before_note-requires : goal.before_note-requires
+before_note-requires t c =
     let rest = take (length c.args.notes.now - 1) (drop 1 c.args.notes.now) in
     let some = c.in-len1-up.len_at_least in
     stays_small c.args.notes.now rest c.args.path.now c.in_ok-after.after c.back.result c.in_ok-after.was c.back.ensures.place_before_the_notes (grind (arith, common_steps)) c.requires.few c.requires.small

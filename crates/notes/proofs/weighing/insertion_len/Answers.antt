@@ -7,8 +7,8 @@ use Rattle.notes.proofs.weighing.insertion_len.Goals as goal
 
 pub returns : goal.returns
 returns c = record {
-  counts_the_told_insertion =
-      let ds = c.args.bindings.now in let p = c.args.parent.now in let g = c.args.gap in let e = c.args.element.now in
-      filled_stops 18446744073709551615 3 (byte_len (flat_map print_decl ds)) c.gap_len.result (byte_len (flat_map print_attr (gap_attrs p g))) c.printed_len.result (byte_len (print e))
-      c.filled_len.result (byte_len (print (told (codes "d") ds false (Insert p g e)))) c.filled_len.ensures.counts_the_filled_element c.gap_len.ensures.counts_the_attributes_of_the_gap c.printed_len.ensures.counts_the_printed_element (insertion ds false p g e);
+  counts_the_told_insertion = λ e put.
+      let ds = c.args.bindings.now in let p = c.args.parent.now in let g = c.args.gap in
+      filled_stops 18446744073709551615 3 (byte_len (flat_map print_decl ds)) c.gap_len.result (byte_len (flat_map print_attr (gap_attrs p g))) c.args.put (byte_len (print e))
+      c.filled_len.result (byte_len (print (told (codes "d") ds false (Insert p g e)))) c.filled_len.ensures.counts_the_filled_element c.gap_len.ensures.counts_the_attributes_of_the_gap put (insertion ds false p g e);
 }

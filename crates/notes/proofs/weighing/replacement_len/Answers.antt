@@ -9,9 +9,9 @@ use Rattle.notes.proofs.weighing.replacement_len.Goals as goal
 
 pub returns : goal.returns
 returns c = record {
-  counts_the_told_replacement =
-      let ds = c.args.bindings.now in let p = c.args.at.now in let e = c.args.element.now in
+  counts_the_told_replacement = λ e put.
+      let ds = c.args.bindings.now in let p = c.args.at.now in
       let attrs : c.saturating_add-attrs.result ≡ min (written_len (path_text p) + 7) 18446744073709551615 = omega arith in
-      filled_stops 18446744073709551615 7 (byte_len (flat_map print_decl ds)) c.saturating_add-attrs.result (written_len (path_text p) + 7) c.printed_len.result (byte_len (print e))
-      c.filled_len.result (byte_len (print (told (codes "d") ds false (Replace p e)))) c.filled_len.ensures.counts_the_filled_element attrs c.printed_len.ensures.counts_the_printed_element (replacement ds false p e);
+      filled_stops 18446744073709551615 7 (byte_len (flat_map print_decl ds)) c.saturating_add-attrs.result (written_len (path_text p) + 7) c.args.put (byte_len (print e))
+      c.filled_len.result (byte_len (print (told (codes "d") ds false (Replace p e)))) c.filled_len.ensures.counts_the_filled_element attrs put (replacement ds false p e);
 }

@@ -1,6 +1,5 @@
 use Rattle.std.proofs.Common.{ℕ, ap, map, ◌∙◌}
 use Rattle.notes.specs.Notes.{tag_after}
-use Rattle.notes.specs.Recorded.{note_in}
 use Rattle.patch_text.proofs.Listing.{tag-joined}
 use Rattle.patch_text.proofs.notices.last_tag_in.Goals as goal
 
@@ -8,5 +7,5 @@ pub returns : goal.returns
 returns c = record {
   tag_that_all_lead_to =
       let newer = c.args.notes.newer.now in
-      c.last_tag-2.ensures.tag_that_they_lead_to ∙ ap (λ (k : ℕ). tag_after k (map note_in newer)) c.last_tag.ensures.tag_that_they_lead_to ∙ tag-joined c.args.from c.args.notes.older.now newer;
+      c.last_tag-2.ensures.tag_that_they_lead_to ∙ ap (λ (k : ℕ). tag_after k newer) c.last_tag.ensures.tag_that_they_lead_to ∙ tag-joined c.args.from c.args.notes.older.now newer;
 }

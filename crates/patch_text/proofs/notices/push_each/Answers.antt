@@ -4,8 +4,6 @@ use Rattle.xml_tree.specs.Edits.{with_elem}
 use Rattle.xml_tree.specs.Tree.{Tree}
 use Rattle.notes.specs.Notes.{Note}
 use Rattle.notes.specs.Operations.{operation}
-use Rattle.notes.specs.Recorded.{note_in}
-use Rattle.notes.specs.declared.edit_note.EditNote.{EditNote}
 use Rattle.patch_words.specs.Notices.{document, one_by_one}
 use Rattle.patch_text.specs.inner.Lists.{with_all}
 use Rattle.patch_text.proofs.Listing.{next-put}
@@ -24,5 +22,5 @@ pub returns : goal.returns
 returns c = record {
   adds_a_document_for_each =
       c.loop-note.invariant
-      ∙ ap (λ (ns : List EditNote). with_all (one_by_one c.args.names.now.prefix c.args.names.now.sel (map note_in ns)) c.args.notice.now) (take_all c.loop-note.note-index c.args.notes.now c.loop-note-test.false);
+      ∙ ap (λ (ns : List Note). with_all (one_by_one c.args.names.now.prefix c.args.names.now.sel ns) c.args.notice.now) (take_all c.loop-note.note-index c.args.notes.now c.loop-note-test.false);
 }

@@ -1,8 +1,7 @@
 use Rattle.std.proofs.Common.{◌≡◌, map, take}
-use Rattle.notes.specs.Recorded.{note_in}
 use Rattle.patch_words.specs.Notices.{one_by_one}
 use Rattle.patch_text.specs.inner.Lists.{with_all}
 use Rattle.patch_text.proofs.notices.push_each.Given as goal
 
 abbrev pub invariant-loop-note : goal.invariant-loop-note
-invariant-loop-note l = l.notice ≡ with_all (one_by_one l.names.prefix l.names.sel (map note_in (take l.note-index l.notes))) l.initial.notice
+invariant-loop-note l = l.notice ≡ with_all (one_by_one l.names.prefix l.names.sel (take l.note-index l.notes)) l.initial.notice

@@ -3,8 +3,7 @@ use Rattle.std.proofs.lemmas.List.{take_all}
 use Rattle.xml_tree.specs.Edits.{with_elem}
 use Rattle.xml_tree.specs.Tree.{Tree}
 use Rattle.notes.specs.Operations.{operation}
-use Rattle.notes.specs.Recorded.{note_in}
-use Rattle.notes.specs.declared.edit_note.EditNote.{EditNote}
+use Rattle.notes.specs.Notes.{Note}
 use Rattle.patch_words.specs.Notices.{operations}
 use Rattle.patch_text.specs.inner.Lists.{with_all}
 use Rattle.patch_text.proofs.Listing.{next-put}
@@ -19,5 +18,5 @@ loop-note-preserved c =
 pub returns : goal.returns
 returns c = record {
   adds_the_operations =
-      c.loop-note.invariant ∙ ap (λ (ns : List EditNote). with_all (operations c.args.prefix.now (map note_in ns)) c.args.document.now) (take_all c.loop-note.note-index c.args.notes.now c.loop-note-test.false);
+      c.loop-note.invariant ∙ ap (λ (ns : List Note). with_all (operations c.args.prefix.now ns) c.args.document.now) (take_all c.loop-note.note-index c.args.notes.now c.loop-note-test.false);
 }

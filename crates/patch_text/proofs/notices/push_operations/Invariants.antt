@@ -1,8 +1,7 @@
 use Rattle.std.proofs.Common.{◌≡◌, map, take}
-use Rattle.notes.specs.Recorded.{note_in}
 use Rattle.patch_words.specs.Notices.{operations}
 use Rattle.patch_text.specs.inner.Lists.{with_all}
 use Rattle.patch_text.proofs.notices.push_operations.Given as goal
 
 abbrev pub invariant-loop-note : goal.invariant-loop-note
-invariant-loop-note l = l.document ≡ with_all (operations l.prefix (map note_in (take l.note-index l.notes))) l.initial.document
+invariant-loop-note l = l.document ≡ with_all (operations l.prefix (take l.note-index l.notes)) l.initial.document

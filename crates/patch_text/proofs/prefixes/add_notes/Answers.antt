@@ -11,7 +11,7 @@ pub loop-note-preserved : goal.loop-note-preserved
 loop-note-preserved c =
     let n = c.note-item.result in
     gains-next prefixes_told [] c.args.notes.now c.loop-note.note-index n c.args.seen.now c.loop-note.seen c.add_change.new.seen c.loop-note-test.true c.note-item.is c.loop-note.invariant
-    (gains-then (prefixes n.bindings) (prefixes_put n.change) c.loop-note.seen c.add_decls.new.seen c.add_change.new.seen (rw c.as_slice.ensures.lends_the_items at c.in_ok-add_decls.ensures.gains_their_prefixes) c.in_ok-add_change.ensures.gains_the_prefixes_put)
+    (gains-then (prefixes n.bindings) (prefixes_put n.change) c.loop-note.seen c.add_decls.new.seen c.add_change.new.seen (rw c.bindings.ensures.bindings_of_its_place at c.in_ok-add_decls.ensures.gains_their_prefixes) (rw c.change.ensures.lends_the_change at c.in_ok-add_change.ensures.gains_the_prefixes_put))
 
 pub returns : goal.returns
 returns c = record { gains_the_prefixes_told = gains-end prefixes_told [] c.args.notes.now c.loop-note.note-index c.args.seen.now c.loop-note.seen c.loop-note-test.false c.loop-note.invariant }

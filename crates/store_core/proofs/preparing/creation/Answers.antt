@@ -3,7 +3,6 @@ use Rattle.xml_tree.specs.Tree.{Tree}
 use Rattle.doc_names.specs.declared.doc_id.DocId.{DocId}
 use Rattle.edit_ops.specs.declared.change.Change.TheVariants.{CreateDocument}
 use Rattle.notes.specs.Notes.{Note}
-use Rattle.notes.specs.Recorded.{note_in}
 use Rattle.store_core.specs.declared.entry.Entry.{Entry}
 use Rattle.store_core.specs.declared.step.Step.TheVariants.{Make}
 use Rattle.store_core.specs.Preparing.{Readied}
@@ -14,10 +13,10 @@ pub returns : goal.returns
 returns c = record {
   prepares_the_creation =
       let n : Note = record { previous = 0; next = c.args.number; bindings = []; change = CreateDocument c.args.root; fresh = false } in
-      let note : note_in c.of_document.result ≡ n = c.of_document.ensures.tells_of_the_change_in_any_tree c.args.root in
+      let note : c.in_ok-note.note ≡ n = c.in_ok-note.ensures.tells_of_the_change_in_any_tree c.args.root in
       let made : DocId → Note → Entry → List (List ℕ) → Readied = λ d x e us. record { doc = d; note = x; step = Make e; leaves = us; enters = c.args.enters; total = c.args.total } in
       let d = c.args.doc.now in
-      ap (λ (x : DocId). made x (note_in c.of_document.result) c.in_ok-entry.entry c.empty.result) c.in_ok-doc.ensures.makes_an_equal_name
+      ap (λ (x : DocId). made x c.in_ok-note.note c.in_ok-entry.entry c.empty.result) c.in_ok-doc.ensures.makes_an_equal_name
       ∙ ap (λ (x : Note). made d x c.in_ok-entry.entry c.empty.result) note
       ∙ ap (λ (x : Entry). made d n x c.empty.result) (c.in_ok-entry.ensures.made_with_the_number ∙ ap (λ (t : Tree). entry_of c.args.number t) c.in_ok-tree.ensures.makes_an_equal_tree)
       ∙ ap (λ (us : List (List ℕ)). made d n (entry_of c.args.number c.args.root) us) c.empty.ensures.holds_no_items;

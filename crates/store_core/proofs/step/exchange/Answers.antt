@@ -7,20 +7,15 @@ use Rattle.store_core.specs.declared.entry.Entry.{Entry}
 use Rattle.store_core.proofs.Keyed.{exchanged-in, looked-up, one-value}
 use Rattle.store_core.proofs.step.exchange.Goals as goal
 
-pub renew-requires-clause-ring : goal.renew-requires-clause-ring
-renew-requires-clause-ring c =
-    let r = c.requires in
-    subst (λ (v : Entry). v.notes.capacity ≡ 64) (one-value c.args.doc.now c.args.documents.now.entries r.0 c.in-Some.entry.now r.1 c.in-Some.ensures.value) r.2
-
 pub renew-requires-clause-fits : goal.renew-requires-clause-fits
 renew-requires-clause-fits c =
     let r = c.requires in
-    subst (λ (v : Entry). Fits v.tree c.args.note.change) (one-value c.args.doc.now c.args.documents.now.entries r.0 c.in-Some.entry.now r.1 c.in-Some.ensures.value) r.3
+    subst (λ (v : Entry). Fits v.tree c.args.note.change) (one-value c.args.doc.now c.args.documents.now.entries r.0 c.in-Some.entry.now r.1 c.in-Some.ensures.value) r.2
 
 pub renew-requires-clause-staged : goal.renew-requires-clause-staged
 renew-requires-clause-staged c =
     let r = c.requires in
-    subst (λ (v : Entry). IsStaged v.tree c.args.note.change c.args.staged) (one-value c.args.doc.now c.args.documents.now.entries r.0 c.in-Some.entry.now r.1 c.in-Some.ensures.value) r.4
+    subst (λ (v : Entry). IsStaged v.tree c.args.note.change c.args.staged) (one-value c.args.doc.now c.args.documents.now.entries r.0 c.in-Some.entry.now r.1 c.in-Some.ensures.value) r.3
 
 pub returns : goal.returns
 returns c = record {

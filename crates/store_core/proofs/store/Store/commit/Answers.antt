@@ -1,5 +1,4 @@
 use Rattle.indexmap.specs.IndexMap.{spare}
-use Rattle.notes.specs.Recorded.{note_in}
 use Rattle.store_core.specs.Preparing.{Readied}
 use Rattle.store_core.specs.Stored.{Room}
 use Rattle.store_core.proofs.Committed.{holds-next, keeps-addresses, may-step, still-storing}
@@ -10,7 +9,7 @@ take-created-requires-clause-fits c =
     let s = c.self.inside in
     let p = c.prepared.inside in
     let room : Room = record { documents = spare s.documents; services = spare s.services } in
-    let seen : Readied = record { doc = p.doc; note = note_in p.note; step = p.step; leaves = p.leaves; enters = p.enters; total = p.total } in
+    let seen : Readied = record { doc = p.doc; note = p.note; step = p.step; leaves = p.leaves; enters = p.enters; total = p.total } in
     may-step s.documents.entries s.services.entries s.last s.total room c.args.self.now seen c.args.prepared c.self.view_is c.prepared.view_is c.self.invariant c.requires
 
 pub invariant_of-self : goal.invariant_of-self
@@ -18,9 +17,9 @@ invariant_of-self c =
     let s = c.self.inside in
     let p = c.prepared.inside in
     let room : Room = record { documents = spare s.documents; services = spare s.services } in
-    let seen : Readied = record { doc = p.doc; note = note_in p.note; step = p.step; leaves = p.leaves; enters = p.enters; total = p.total } in
+    let seen : Readied = record { doc = p.doc; note = p.note; step = p.step; leaves = p.leaves; enters = p.enters; total = p.total } in
     still-storing s.documents.entries s.services.entries s.last s.total room c.args.self.now seen c.args.prepared c.self.view_is c.prepared.view_is c.self.invariant c.requires
-    c.leave.new.registry.entries c.enter.new.registry.entries c.take-created.new.documents.entries c.take-created.result c.as_slice.result.now c.into_vec.result.items c.take-created.ensures.takes_the_step c.as_slice.ensures.lends_the_items c.into_vec.ensures.hands_out_the_items
+    c.leave.new.registry.entries c.enter.new.registry.entries c.take-created.new.documents.entries c.take-created.result c.next-number.result c.as_slice.result.now c.into_vec.result.items c.next-number.ensures.tag_after c.take-created.ensures.takes_the_step c.as_slice.ensures.lends_the_items c.into_vec.ensures.hands_out_the_items
     c.leave.ensures.addresses_are_left c.enter.ensures.enters_these_alone
 
 pub returns-clause-holds_the_prepared_change : goal.returns-clause-holds_the_prepared_change
@@ -28,9 +27,9 @@ returns-clause-holds_the_prepared_change c =
     let s = c.self.inside in
     let p = c.prepared.inside in
     let room : Room = record { documents = spare s.documents; services = spare s.services } in
-    let seen : Readied = record { doc = p.doc; note = note_in p.note; step = p.step; leaves = p.leaves; enters = p.enters; total = p.total } in
+    let seen : Readied = record { doc = p.doc; note = p.note; step = p.step; leaves = p.leaves; enters = p.enters; total = p.total } in
     holds-next s.documents.entries s.services.entries s.last s.total room c.args.self.now seen c.args.prepared c.self.view_is c.prepared.view_is c.self.invariant c.requires
-    c.leave.new.registry.entries c.enter.new.registry.entries c.take-created.new.documents.entries c.take-created.result c.as_slice.result.now c.into_vec.result.items c.take-created.ensures.takes_the_step c.as_slice.ensures.lends_the_items c.into_vec.ensures.hands_out_the_items
+    c.leave.new.registry.entries c.enter.new.registry.entries c.take-created.new.documents.entries c.take-created.result c.next-number.result c.as_slice.result.now c.into_vec.result.items c.next-number.ensures.tag_after c.take-created.ensures.takes_the_step c.as_slice.ensures.lends_the_items c.into_vec.ensures.hands_out_the_items
     c.leave.ensures.addresses_are_left c.enter.ensures.enters_these_alone
 
 pub returns-clause-keeps_key_addresses : goal.returns-clause-keeps_key_addresses
@@ -38,7 +37,7 @@ returns-clause-keeps_key_addresses c =
     let s = c.self.inside in
     let p = c.prepared.inside in
     let room : Room = record { documents = spare s.documents; services = spare s.services } in
-    let seen : Readied = record { doc = p.doc; note = note_in p.note; step = p.step; leaves = p.leaves; enters = p.enters; total = p.total } in
+    let seen : Readied = record { doc = p.doc; note = p.note; step = p.step; leaves = p.leaves; enters = p.enters; total = p.total } in
     keeps-addresses s.documents.entries s.services.entries s.last s.total room c.args.self.now seen c.args.prepared c.self.view_is c.prepared.view_is c.self.invariant c.requires
-    c.leave.new.registry.entries c.enter.new.registry.entries c.take-created.new.documents.entries c.take-created.result c.as_slice.result.now c.into_vec.result.items c.take-created.ensures.takes_the_step c.as_slice.ensures.lends_the_items c.into_vec.ensures.hands_out_the_items
+    c.leave.new.registry.entries c.enter.new.registry.entries c.take-created.new.documents.entries c.take-created.result c.next-number.result c.as_slice.result.now c.into_vec.result.items c.next-number.ensures.tag_after c.take-created.ensures.takes_the_step c.as_slice.ensures.lends_the_items c.into_vec.ensures.hands_out_the_items
     c.leave.ensures.addresses_are_left c.enter.ensures.enters_these_alone

@@ -1,0 +1,54 @@
+-- What the notes of a ring count against the limit of their weights.
+use Rattle.std.proofs.Common.{◌≡◌, ℕ, ◌+◌, ◌*◌, ◌<◌, ◌≤◌, nat_lt, min, true, false, cond, List, [], ◌∷◌, ◌++◌, length, drop, slice_get, sum_by, Option, None, Some, refl, arith}
+use Rattle.std.proofs.lemmas.Bool.Decides.{nat_tests}
+use Rattle.circular_buffer.specs.Buffer.{Buffer, buffer, keep_last}
+use Rattle.notes.specs.Notes.{Note}
+use Rattle.notes.specs.Operations.{weight}
+use Rattle.store_core.specs.State.{is_small, retained}
+use Rattle.store_core.specs.inner.Rings.{IsRing, counted, counted_in}
+use Rattle.store_core.proofs.Rings.{counts-all, counts-less, light-stays, sum-bound, sum-popped, sum-pushed, sum_in, too-heavy}
+
+pub over : (n : ℕ) → nat_lt 65536 n ≡ true → 65536 < n
+over n h = grind (arith, nat_tests)
+
+pub under : (n : ℕ) → nat_lt 65536 n ≡ false → n ≤ 65536
+under n h = grind (arith, nat_tests)
+
+pub heavy-ring : (ring : Buffer Note) (count : ℕ) → IsRing ring count → 65536 < count → is_small weight ring.items ≡ false
+heavy-ring ring count r h = too-heavy weight ring.items (omega (arith, counts-less weight ring.items, r.sum, h))
+
+pub light-ring : (ring : Buffer Note) (count : ℕ) → IsRing ring count → count ≤ 65536 → length ring.items ≤ ring.capacity → retained ring.items ≡ ring.items
+light-ring ring count r h few =
+    let all = counts-all weight ring.items (omega (arith, r.sum, h)) in
+    light-stays weight ring.items (omega (arith, all, r.sum, h)) (omega (arith, few, r.room))
+
+-- a count stays small
+pub small-count : (ring : Buffer Note) (count : ℕ) → IsRing ring count → length ring.items ≤ ring.capacity → count ≤ 4194368
+small-count ring count r few =
+    let bound = sum-bound counted ring.items (λ n. omega arith) in
+    omega (arith, bound, r.sum, r.room, few)
+
+in-one : (o : Option Note) → sum_in counted o ≡ counted_in o
+in-one None = refl
+in-one (Some n) = refl
+
+-- without the oldest note
+pub popped-ring : (ring : Buffer Note) (count after : ℕ) → IsRing ring count → after + counted_in (slice_get ring.items 0) ≡ count → IsRing (buffer (drop 1 ring.items) ring.capacity) after
+popped-ring ring count after r e = record {
+  room = r.room;
+  sum = omega (arith, sum-popped counted ring.items, in-one (slice_get ring.items 0), r.sum, e);
+}
+
+pub first-within : (ring : Buffer Note) (count : ℕ) → IsRing ring count → counted_in (slice_get ring.items 0) ≤ count
+first-within ring count r = omega (arith, sum-popped counted ring.items, in-one (slice_get ring.items 0), r.sum)
+
+module _ (ring : Buffer Note) (count : ℕ) (note : Note) (r : IsRing ring count) (few : length ring.items ≤ ring.capacity) where
+  abbrev pub out : Option Note
+  out = cond (nat_lt (length ring.items) ring.capacity) None (slice_get (ring.items ++ note ∷ []) 0)
+
+  pub out-within : counted_in out ≤ count + counted note
+  out-within = omega (arith, sum-pushed counted ring.capacity ring.items note r.room few, in-one out, r.sum)
+
+  -- with a note more
+  pub pushed-ring : (after : ℕ) → after + counted_in out ≡ count + counted note → IsRing (buffer (keep_last ring.capacity (ring.items ++ note ∷ [])) ring.capacity) after
+  pushed-ring after e = record { room = r.room; sum = omega (arith, sum-pushed counted ring.capacity ring.items note r.room few, in-one out, r.sum, e) }
