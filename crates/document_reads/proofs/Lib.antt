@@ -2,3 +2,4 @@ pub mod Heights
 pub mod Leading
 pub mod Lengths
 pub mod Gathering
+pub mod HeldOnes

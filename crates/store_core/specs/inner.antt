@@ -2,5 +2,6 @@
 pub mod Addresses
 pub mod Listed
 pub mod Planning
+pub mod Prints
 pub mod Rings
 pub mod Storing

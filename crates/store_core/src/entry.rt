@@ -6,8 +6,9 @@ ghost use Rattle.edit_ops.specs.Staging.{IsStaged};
 ghost use Rattle.usage_docs.specs.Services.{document_len};
 ghost use Rattle.store_core.specs.inner.Storing.{IsRenewed};
 
+use crate::kept_tree::KeptTree;
 use crate::retained::Retained;
-use edit_ops::{Staged, make_staged};
+use edit_ops::Staged;
 use notes::EditNote;
 use std::alloc::{AllocError, Global};
 use xml_tree::Element;
@@ -17,7 +18,7 @@ use xml_tree::Element;
 pub struct Entry {
     pub(crate) created: u64,
     pub(crate) tag: u64,
-    pub(crate) tree: Element,
+    pub(crate) tree: KeptTree,
     pub(crate) len: usize,
     pub(crate) notes: Retained,
 }
@@ -37,7 +38,7 @@ impl Entry {
         Ok(Entry {
             created: number,
             tag: number,
-            tree,
+            tree: KeptTree::new(tree),
             len,
             notes,
         })
@@ -50,7 +51,7 @@ pub(crate) fn renew(entry: &mut Entry, number: u64, staged: Staged, note: EditNo
     requires staged { IsStaged entry.old.tree note.change staged }
     ensures renewed_by_the_edit { IsRenewed entry.old number note len entry.new }
 {
-    make_staged(&mut entry.tree, note.change(), staged);
+    entry.tree.make(note.change(), staged);
     entry.len = len;
     entry.tag = number;
     entry.notes.keep(note);

@@ -56,7 +56,7 @@ fn trees_by_user<'a>(
     let mut made = BTreeMap::new(alloc);
     for (doc, entry) in documents.iter() {
         if let Some(user) = listed_user(doc) {
-            made.insert(user, &entry.tree)?;
+            made.insert(user, entry.tree.root())?;
         }
     }
     Ok(made)

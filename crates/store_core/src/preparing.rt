@@ -217,8 +217,9 @@ fn noted(
     requires put { put ≡ min (element_len change) usize.MAX }
     ensures notes_the_edit { IfOk result (λ p. IsNoted doc.now entry.now number change len leaves enters total p) }
 {
-    let staged = stage(alloc, &entry.tree, &change)?;
-    let note = EditNote::of(alloc, entry.tag, number, &entry.tree, change, put)?;
+    let tree = entry.tree.root();
+    let staged = stage(alloc, tree, &change)?;
+    let note = EditNote::of(alloc, entry.tag, number, tree, change, put)?;
     edit(alloc, doc, staged, note, len, leaves, enters, total)
 }
 
@@ -322,10 +323,11 @@ impl Store {
         ensures plans_the_edit { IfOk result (Plans self.now.content doc.now change) }
     {
         let entry = self.held(doc);
-        let leaves = leaving(self.alloc, doc.auid, &entry.tree, &change)?;
+        let tree = entry.tree.root();
+        let leaves = leaving(self.alloc, doc.auid, tree, &change)?;
         let enters = entering(self.alloc, doc.auid, &change)?;
         let put = element_len(&change);
-        let len = len_after(&entry.tree, entry.len, &change, put);
+        let len = len_after(tree, entry.len, &change, put);
         let first = first_number(&change);
         if let Some(refusal) = self.refusal_of_edit(doc, len, first, enters.as_slice()) {
             return Ok(Err(refusal));

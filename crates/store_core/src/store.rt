@@ -75,7 +75,7 @@ impl Store {
         ensures tree_is_sound { IfSome result (λ x. IsSoundFor (usage_of doc.now.auid) x.0.now) }
     {
         let entry = find(&self.documents, doc)?;
-        Some((&entry.tree, entry.tag))
+        Some((entry.tree.root(), entry.tag))
     }
 
     /// The number that was given last. Takes no memory.

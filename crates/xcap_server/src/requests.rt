@@ -43,12 +43,13 @@ fn plain(status: u16, request: &Request) -> Decision
 fn get_target(
     alloc: Global,
     root: &Root,
-    store: &Store,
+    store: &mut Store,
     target: &Target,
     method: Method,
     request: &Request,
 ) -> Result<Reply, AllocError>
-    ensures replies_as_the_machine { IfOk result (λ reply. ReadsTarget root.now store.now.content target.now method request.now (unchanged reply)) }
+    ensures replies_as_the_machine { IfOk result (λ reply. ReadsTarget root.now store.old.content target.now method request.now (unchanged reply)) }
+    ensures holds_the_same { store.new.content ≡ store.old.content }
 {
     match target {
         Target::Document(doc) => get_document(alloc, store, doc, method, request),

@@ -1,0 +1,21 @@
+use Rattle.std.proofs.Common.{◌≡◌, encode_utf8_all, sym, ◌∙◌}
+use Rattle.std.proofs.lemmas.Option.{same_Some}
+use Rattle.tree_text.specs.Printing.{document_print}
+use Rattle.store_core.specs.Changing.{document_in, held_name}
+use Rattle.document_reads.proofs.HeldOnes.{printed}
+use Rattle.document_reads.proofs.documents.kept_reply.Goals as goal
+
+pub unreachable-requires : goal.unreachable-requires
+unreachable-requires c =
+    let held = c.requires.held in
+    let there = printed (document_in held_name c.args.store.now.content.documents c.args.doc.now) held.0 c.args.tag held.1 in
+    let none = sym c.in_default.is ∙ c.in_ok-text.ensures.prints_the_document ∙ there in
+    cc
+
+pub returns-clause-sends_the_print : goal.returns-clause-sends_the_print
+returns-clause-sends_the_print c =
+    let held = c.requires.held in
+    let there = printed (document_in held_name c.args.store.now.content.documents c.args.doc.now) held.0 c.args.tag held.1 in
+    let text : c.in-Some.text ≡ encode_utf8_all (document_print held.0) =
+    same_Some c.in-Some.text (encode_utf8_all (document_print held.0)) (sym c.in-Some.is ∙ c.in_ok-text.ensures.prints_the_document ∙ there) in
+    (held.0, held.2, rw (c.document_media-media.ensures.tells_the_media_type, text) at c.with_text.ensures.sends_as_asked)

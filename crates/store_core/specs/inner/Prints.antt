@@ -1,0 +1,9 @@
+-- The print of a document, as it is kept beside the tree.
+use Rattle.std.specs.Prelude.{◌≡◌, ℕ, List, Option, None, Some, encode_utf8_all}
+use Rattle.xml_tree.specs.Tree.{Tree}
+use Rattle.tree_text.specs.Printing.{document_print}
+
+-- if a print is there, it is that of the document with this tree
+abbrev pub IsPrintOf : Tree → Option (List ℕ) → Type 0
+IsPrintOf t None = Unit {0}
+IsPrintOf t (Some bytes) = bytes ≡ encode_utf8_all (document_print t)

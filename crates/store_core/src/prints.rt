@@ -1,0 +1,55 @@
+//! Documents as they are printed (RFC 4825, section 8.3).
+ghost use Rattle.std.specs.Prelude.{◌≡◌, encode_utf8_all, IfOk, Some};
+ghost use Rattle.std.specs.Map.{lookup};
+ghost use Rattle.indexmap.specs.IndexMap.{spare};
+ghost use Rattle.std.specs.Option.{option_map};
+ghost use Rattle.doc_names.specs.Same.{same_id};
+ghost use Rattle.tree_text.specs.Printing.{document_print};
+ghost use Rattle.store_core.specs.Changing.{document_in, held_name};
+
+use crate::NoMemory;
+use crate::entry::Entry;
+use crate::step::Documents;
+use crate::store::Store;
+use doc_names::DocId;
+use std::alloc::Global;
+use xcap_io::Bytes;
+
+// The print of an entry's document.
+fn print_of(alloc: Global, entry: &mut Entry) -> Result<Option<Bytes>, NoMemory>
+    ensures prints_the_document { IfOk result (λ print. print ≡ Some (encode_utf8_all (document_print entry.old.tree))) }
+    ensures holds_the_same { entry.new ≡ entry.old }
+{
+    let print = entry.tree.print(alloc)?;
+    Ok(Some(print))
+}
+
+// The print of a document, if it is there.
+fn print_in(
+    alloc: Global,
+    documents: &mut Documents,
+    doc: &DocId,
+) -> Result<Option<Bytes>, NoMemory>
+    ensures prints_the_document { IfOk result (λ print. print ≡ option_map (λ v. encode_utf8_all (document_print v.tree)) (lookup (same_id doc.now) documents.old.entries)) }
+    ensures holds_the_same { documents.new.entries ≡ documents.old.entries }
+    ensures room_stays { spare documents.new ≡ spare documents.old }
+{
+    match documents.get_mut(doc) {
+        Some(entry) => print_of(alloc, entry),
+        None => Ok(None),
+    }
+}
+
+impl Store {
+    /// The print of a document: None exactly where it isn't held. It is printed when it is first asked for since the document
+    /// changed, and then stays beside the tree, if there is memory for that: so at most all documents stand there once as printed.
+    ///
+    /// # Errors
+    /// `NoMemory` for want of memory.
+    pub fn print(&mut self, doc: &DocId) -> Result<Option<Bytes>, NoMemory>
+        ensures prints_the_document { IfOk result (λ print. print ≡ option_map (λ h. encode_utf8_all (document_print h.tree)) (document_in held_name self.old.content.documents doc.now)) }
+        ensures holds_the_same { self.new ≡ self.old }
+    {
+        print_in(self.alloc, &mut self.documents, doc)
+    }
+}
