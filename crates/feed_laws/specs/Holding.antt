@@ -11,6 +11,7 @@ use Rattle.xcap_uri.specs.declared.target.Mode.{Mode}
 use Rattle.xcap_uri.specs.declared.target.Mode.TheVariants.{NoPatching, XcapPatching, Aggregate}
 use Rattle.xcap_uri.specs.declared.target.Target.TheVariants.{Feed}
 use Rattle.notes.specs.declared.edit.Edit.{Edit}
+use Rattle.patch_words.specs.Notices.{most_notice_levels}
 use Rattle.patch_words.specs.Replay.{CopyAnswer, CopyHeld, Removed, Replays, is_notice}
 use Rattle.reply_text.specs.Heads.{Sent}
 use Rattle.http_wire.specs.declared.request.Request.{Request}
@@ -26,7 +27,7 @@ use Rattle.replay_laws.specs.Subscribers.{answer_between, fetch_between, subscri
 -- the body is the text of a notice, and who holds this of the document and applies the notice gets the answer and then holds that
 pub record Updates (id : DocId) (body : List ℕ) (held : CopyHeld) (answer : CopyAnswer) (new : CopyHeld) : Type 0 where
   pub notice : Tree
-  pub is_read : TextAnswer 67 [] body (Ok notice)
+  pub is_read : TextAnswer most_notice_levels [] body (Ok notice)
   pub form : is_notice notice ≡ true
   pub proper : ProperIn [] notice
   pub is_applied : Replays (is_name_of id) notice held (Ok (answer, new))

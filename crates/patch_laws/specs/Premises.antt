@@ -7,14 +7,15 @@ use Rattle.xml_tree.specs.Proper.{ProperIn}
 use Rattle.xml_tree.specs.Scopes.{bound}
 use Rattle.xml_tree.specs.Tree.{Tree, height}
 use Rattle.xml_tree.specs.declared.names.Decl.{Decl}
+use Rattle.node_select.specs.Grammar.{greatest_position}
 use Rattle.edit_ops.specs.Changes.{edited}
 use Rattle.notes.specs.Notes.{Note}
 
 -- ---- paths
 
--- the number of a child whose position, counted from 1, can be read: one above 4,294,967,295 is read as 0, which no child has
+-- the number of a child whose position, counted from 1, can be read: one above the greatest is read as 0, which no child has
 abbrev pub IsPosition : ℕ → Type 0
-IsPosition n = n < 4294967295
+IsPosition n = n < greatest_position
 
 abbrev pub ArePositions : List ℕ → Type 0
 ArePositions p = AllByRecursion IsPosition p
@@ -35,11 +36,11 @@ Meets c d = (p : List ℕ) → (p ≢ [] → IsSome (bound c p)) → bound c p �
 abbrev pub IsSound : Tree → Type 0
 IsSound t = ProperIn [] t × (height t ≤ most_levels)
 
--- a tree that notices lead from and to: its print isn't too long, besides
+-- a tree that notices lead from and to: its print isn't too long, besides, so that each position in it can be read
 pub record IsTold (t : Tree) : Type 0 where
   pub proper : ProperIn [] t
   pub low : height t ≤ most_levels
-  pub short : byte_len (print t) ≤ 4294967295
+  pub short : byte_len (print t) ≤ greatest_position
 
 -- the tree before the notes, and the one after each
 abbrev pub AreTold : Tree → List Note → Type 0

@@ -8,7 +8,7 @@ use Rattle.xml_tree.specs.Tree.{Tree}
 use Rattle.tree_text.specs.Faults.{TextAnswer}
 use Rattle.tree_text.specs.Printing.{document_print}
 use Rattle.notes.specs.Notes.{Note}
-use Rattle.patch_words.specs.Notices.{declares}
+use Rattle.patch_words.specs.Notices.{declares, most_notice_levels}
 use Rattle.patch_words.specs.Replay.{CopyHeld, CopyAnswer, Same, Patched, is_notice}
 use Rattle.patch_laws.specs.Premises.{IsSound}
 
@@ -23,9 +23,9 @@ abbrev pub answer_for : List Note → CopyAnswer
 answer_for [] = Same
 answer_for (n ∷ ns) = Patched
 
--- the bytes of the notice's text are by the grammar this tree, of 67 levels at most; it has the form of a notice, and is proper
+-- the bytes of the notice's text are by the grammar this tree, of `most_notice_levels` levels at most; it has the form of a notice, and is proper
 pub record IsReadBack (notice : Tree) : Type 0 where
-  pub read : TextAnswer 67 [] (encode_utf8_all (document_print notice)) (Ok notice)
+  pub read : TextAnswer most_notice_levels [] (encode_utf8_all (document_print notice)) (Ok notice)
   pub form : is_notice notice ≡ true
   pub proper : ProperIn [] notice
 

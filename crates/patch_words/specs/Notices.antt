@@ -2,6 +2,7 @@
 use Rattle.std.specs.Prelude.{◌≡◌, ℕ, zero, suc, ◌+◌, ◌<◌, Bool, true, false, ◌||◌, codes, decimal, List, [], ◌∷◌, ◌++◌, map, length, if◌then◌else◌}
 use Rattle.std.specs.List.{list_any}
 use Rattle.std.specs.Str.{bytes_eq}
+use Rattle.xml_tree.specs.Limits.{most_levels}
 use Rattle.xml_tree.specs.Tree.{Content, last, more, note, Tree, tree_of, of_kids}
 use Rattle.xml_tree.specs.declared.names.Decl.{Decl}
 use Rattle.xml_tree.specs.declared.names.Attr.{Attr}
@@ -12,6 +13,10 @@ use Rattle.notes.specs.Operations.{operation, plain_attr}
 -- the namespace of notices (RFC 5874, section 7.2)
 abbrev pub diff_uri : List ℕ
 diff_uri = codes "urn:ietf:params:xml:ns:xcap-diff"
+
+-- how many levels a notice has at most: those of a document, and the notice, its document and an operation around them
+abbrev pub most_notice_levels : ℕ
+most_notice_levels = most_levels + 3
 
 -- ---- the prefix of that namespace
 

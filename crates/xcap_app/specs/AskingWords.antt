@@ -6,6 +6,7 @@ use Rattle.xcap_uri.specs.Cuts.{front_before}
 use Rattle.xcap_uri.specs.Numerals.{numeral_of}
 use Rattle.xcap_uri.specs.Roots.{root_of}
 use Rattle.client_commands.specs.declared.asker.Asker.{Asker}
+use Rattle.xcap_app.specs.declared.asking_words.TheConstants.{GREATEST_ROUNDS}
 use Rattle.xcap_app.specs.declared.command.Command.{Command}
 use Rattle.xcap_app.specs.declared.command.Command.TheVariants.{Fetch, Put, Delete, Follow}
 
@@ -42,9 +43,9 @@ abbrev pub asker_of : List ℕ → List ℕ → Option Asker
 asker_of user root =
     if is_word user then option_map (λ r. record { user = user_of user; root = r }) (http_root_of root) else None
 
--- ROUNDS: a numeral of at most 1,000
+-- ROUNDS: a numeral of at most `GREATEST_ROUNDS`
 unfoldable pub rounds_of : List ℕ → Option ℕ
-rounds_of word = option_and_then (λ n. if nat_le n 1000 then Some n else None) (numeral_of word)
+rounds_of word = option_and_then (λ n. if nat_le n GREATEST_ROUNDS then Some n else None) (numeral_of word)
 
 -- `fetch USER ROOT PATH`
 abbrev pub fetch_of : List ℕ → List ℕ → List ℕ → Option Command

@@ -9,6 +9,7 @@ use Rattle.xcap_app.specs.AskingWords.{delete_of, fetch_of, follow_of, put_of}
 use Rattle.xcap_app.specs.declared.command.Command.{Command}
 use Rattle.xcap_app.specs.declared.command.Command.TheVariants.{Replay, Serve, Keep, Check, Sample}
 use Rattle.xcap_app.specs.declared.words.Service.{Service}
+use Rattle.xcap_app.specs.declared.words.TheConstants.{GREATEST_COUNT, GREATEST_SAMPLE}
 
 unfoldable pub lists_word : List ℕ
 lists_word = codes "resource-lists"
@@ -23,9 +24,9 @@ usage_named word =
     else if bytes_eq word services_word then Some RlsServices
     else None
 
--- COUNT: a numeral of at most 1,000,000
+-- COUNT: a numeral of at most `GREATEST_COUNT`
 unfoldable pub count_of : List ℕ → Option ℕ
-count_of word = option_and_then (λ n. if nat_le n 1000000 then Some n else None) (numeral_of word)
+count_of word = option_and_then (λ n. if nat_le n GREATEST_COUNT then Some n else None) (numeral_of word)
 
 -- `replay ROOT`, where ROOT is a root
 abbrev pub replay_of : List ℕ → Option Command
@@ -35,9 +36,9 @@ replay_of root = option_map (λ r. Replay r) (root_of root)
 abbrev pub check_of : List ℕ → Option Command
 check_of word = option_map (λ usage. Check usage) (usage_named word)
 
--- N: a numeral of at most 100,000
+-- N: a numeral of at most `GREATEST_SAMPLE`
 unfoldable pub requests_of : List ℕ → Option ℕ
-requests_of word = option_and_then (λ n. if nat_le n 100000 then Some n else None) (numeral_of word)
+requests_of word = option_and_then (λ n. if nat_le n GREATEST_SAMPLE then Some n else None) (numeral_of word)
 
 -- `sample N`
 abbrev pub sample_of : List ℕ → Option Command
