@@ -18,10 +18,7 @@ use request_terms::has_type;
 use std::alloc::Global;
 use tree_text::{TextFault, read_document};
 use usage_docs::judge;
-use xml_tree::{Element, ReadError};
-
-/// How many levels a document has at most.
-pub(crate) const DEPTH: usize = 64;
+use xml_tree::{Element, MAX_LEVELS, ReadError};
 
 /// What comes of the body of a PUT.
 #[derive(Drop)]
@@ -74,7 +71,7 @@ fn judged(alloc: Global, usage: Usage, root: Element, closes: bool) -> Result<Bo
 fn body_read(alloc: Global, usage: Usage, request: &Request) -> Result<Body, NoMemory>
     ensures comes_of_the_text { IfOk result (λ body. Comes (λ answer a. PutsSpelled usage request.now answer a) usage body) }
 {
-    match read_document(alloc, request.body.as_slice(), DEPTH) {
+    match read_document(alloc, request.body.as_slice(), MAX_LEVELS) {
         Ok(root) => judged(alloc, usage, root, request.closes),
         Err(ReadError::Fault(fault)) => {
             let reply = refused_text(alloc, fault, request.closes)?;

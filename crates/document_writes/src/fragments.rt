@@ -19,7 +19,7 @@ ghost use Rattle.machine_words.specs.Fragments.{MayBeWritten, PutsAt, PutsElemen
 ghost use Rattle.document_writes.specs.inner.Planning.{IsPlanFor, LeadsSomewhere};
 
 use crate::NoMemory;
-use crate::bodies::{DEPTH, text_conflict};
+use crate::bodies::text_conflict;
 use crate::conflicts::conflict;
 use crate::plan::{Plan, plan_of};
 use conflict_docs::ErrorBody;
@@ -32,7 +32,7 @@ use reply_text::Reply;
 use request_terms::has_type;
 use std::alloc::Global;
 use tree_text::{TextFault, ValueFault, read_att_value, read_fragment};
-use xml_tree::{Element, Path, ReadError, Scope};
+use xml_tree::{Element, MAX_LEVELS, Path, ReadError, Scope};
 
 // ---- elements
 
@@ -76,9 +76,9 @@ fn levels_for(spot: &Spot) -> usize
     ensures levels_of_the_spot { result ≡ levels_for spot.now }
 {
     match spot {
-        Spot::Over(path) => DEPTH.saturating_sub(path.numbers().len()),
-        Spot::Under(place) => DEPTH.saturating_sub(place.numbers().len() + 1),
-        Spot::Beside => DEPTH,
+        Spot::Over(path) => MAX_LEVELS.saturating_sub(path.numbers().len()),
+        Spot::Under(place) => MAX_LEVELS.saturating_sub(place.numbers().len() + 1),
+        Spot::Beside => MAX_LEVELS,
         Spot::Value(_) => 0,
     }
 }

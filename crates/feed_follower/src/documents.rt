@@ -14,9 +14,7 @@ use tree_text::read_document;
 use xcap_client::{ClientFault, fetch};
 use xcap_io::{Line, Peer};
 use xcap_uri::Root;
-
-/// How many levels of elements a document has at most.
-const MAX_LEVELS: usize = 64;
+use xml_tree::MAX_LEVELS;
 
 // The version of the document that a response brings.
 fn version_in(alloc: Global, response: Response) -> Result<Held, FollowerFault>

@@ -26,7 +26,7 @@ use reply_text::Reply;
 use std::alloc::{AllocError, Global};
 use xcap_server::{Server, answer};
 use xcap_uri::{Mode, Root, numeral};
-use xml_tree::depth;
+use xml_tree::{MAX_LEVELS, depth};
 
 /// Whether what a copy holds has at most 64 levels, as every document has. Takes no memory.
 pub fn is_low(replica: &Replica) -> bool
@@ -34,7 +34,7 @@ pub fn is_low(replica: &Replica) -> bool
 {
     match &replica.held {
         None => true,
-        Some(held) => depth(&held.root) <= 64,
+        Some(held) => depth(&held.root) <= MAX_LEVELS,
     }
 }
 

@@ -14,10 +14,7 @@ use crate::meanings::means_alike;
 use crate::nodes::{next_number, nodes_depth};
 use crate::tasks::Position;
 use std::alloc::{AllocError, Global};
-use xml_tree::{Element, Node, Path, Scope, depth, element_at, place_of};
-
-// How many elements are one in another at most.
-const DEPTH: usize = 64;
+use xml_tree::{Element, MAX_LEVELS, Node, Path, Scope, depth, element_at, place_of};
 
 // ---- places
 
@@ -123,14 +120,14 @@ pub(crate) fn gap_of(position: Position, tree: &Element, path: Path) -> Gap
 pub(crate) fn may_hold(path: &Path, nodes: &[Node]) -> bool
     ensures tells_whether_they_fit { result ≡ nat_le (length path.now + suc (nodes_height nodes.now)) most_levels }
 {
-    nodes_depth(nodes).saturating_add(path.numbers().len() + 1) <= DEPTH
+    nodes_depth(nodes).saturating_add(path.numbers().len() + 1) <= MAX_LEVELS
 }
 
 /// Whether an element may stand at a path, by its depth.
 pub(crate) fn may_stand(path: &Path, element: &Element) -> bool
     ensures tells_whether_it_fits { result ≡ nat_le (length path.now + height element.now) most_levels }
 {
-    depth(element).saturating_add(path.numbers().len()) <= DEPTH
+    depth(element).saturating_add(path.numbers().len()) <= MAX_LEVELS
 }
 
 // ---- scopes

@@ -9,10 +9,10 @@ use crate::fault::NoticeFault;
 use std::alloc::Global;
 use std::marker::Model;
 use tree_text::read_document;
-use xml_tree::{Element, ReadError};
+use xml_tree::{Element, MAX_LEVELS, ReadError};
 
 // How many levels a notice has at most: those of a document, and the notice, its document and an operation around them.
-const NOTICE_DEPTH: usize = 67;
+const NOTICE_DEPTH: usize = MAX_LEVELS + 3;
 
 /// A notice. Contracts see its tree.
 #[derive(Debug, Drop)]

@@ -12,7 +12,7 @@ use watchers::Watcher;
 use xcap_io::MemLine;
 use xcap_server::{Server, serve_connection};
 use xcap_uri::read_root;
-use xml_tree::Text;
+use xml_tree::{MAX_LEVELS, Text};
 
 // A response: whether its status is one of success, its tag and its body.
 #[derive(Drop)]
@@ -133,7 +133,7 @@ fn got(alloc: Global, server: &mut Server, name: &str) -> Result<Response> {
 }
 
 fn version(alloc: Global, tag: &Text, body: &str) -> Result<Version> {
-    let root = read_document(alloc, body.as_bytes(), 64)?;
+    let root = read_document(alloc, body.as_bytes(), MAX_LEVELS)?;
     let tag = tag.copy(alloc)?;
     let text = String::from_str(alloc, body)?;
     Ok(Version { tag, text, root })

@@ -13,5 +13,5 @@ mod words;
 pub use fields::{Field, escaped, is_case, read_fields};
 pub use judging::{Answers, judge_tables};
 pub use names::{home, lists_of, tag, usage};
-pub use readings::{LEVELS, bindings, decls, document, element, name, path, print};
+pub use readings::{bindings, decls, document, element, name, path, print};
 pub use words::first_word;

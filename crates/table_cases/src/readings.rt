@@ -9,16 +9,13 @@ use anyhow::{Context, Result, bail};
 use node_select::Bindings;
 use std::alloc::Global;
 use tree_text::{print_element, read_document};
-use xml_tree::{Decl, Element, Name, Path, Text, printed_len};
-
-/// The greatest depth of a document.
-pub const LEVELS: usize = 64;
+use xml_tree::{Decl, Element, MAX_LEVELS, Name, Path, Text, printed_len};
 
 /// The root element of the document that a field spells.
 pub fn document(alloc: Global, field: &Field) -> Result<Element>
     ensures of_lawful_height { IfOk result (λ tree. height tree ≤ 64) }
 {
-    Ok(read_document(alloc, field.bytes(), LEVELS)?)
+    Ok(read_document(alloc, field.bytes(), MAX_LEVELS)?)
 }
 
 /// The element that a text spells, which may have three levels more than a document.

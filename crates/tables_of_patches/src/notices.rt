@@ -6,7 +6,7 @@ use patch_apply::{Applied, ApplyFault, Held, Notice, Replica, apply_notice, read
 use std::alloc::Global;
 use table_cases::{Field, home, print, usage};
 use tree_text::read_document;
-use xml_tree::{ReadError, Text, copy_tree, equal};
+use xml_tree::{MAX_LEVELS, ReadError, Text, copy_tree, equal};
 
 // What is wrong, and its number.
 fn fault(alloc: Global, fault: &ApplyFault) -> Result<String> {
@@ -124,7 +124,7 @@ fn notice(alloc: Global, bytes: &[u8]) -> Result<Option<Notice>> {
 
 // The answer to a notice where a version is held, with what is held then; after a fault that has to be what was held.
 fn applied(alloc: Global, doc: DocId, tag: &str, text: &Field, notice: &Notice) -> Result<String> {
-    let Ok(root) = read_document(alloc, text.bytes(), 64) else {
+    let Ok(root) = read_document(alloc, text.bytes(), MAX_LEVELS) else {
         bail!("no document");
     };
     let held = Held {

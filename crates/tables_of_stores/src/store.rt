@@ -17,7 +17,7 @@ use store_core::{NoMemory, Store, StoreRefusal};
 use table_cases::Field;
 use tree_text::read_document;
 use usage_docs::{Clash, judge, services};
-use xml_tree::{Element, Path, Text};
+use xml_tree::{Element, MAX_LEVELS, Path, Text};
 
 // ---- documents
 
@@ -49,7 +49,7 @@ fn index_of(alloc: Global, user: &str) -> Result<DocId>
 fn read(alloc: Global, text: &str) -> Result<Element>
     ensures may_be_stored { IfOk result (λ root. MayBe usages.RlsServices root) }
 {
-    let root = read_document(alloc, text.as_bytes(), 64)?;
+    let root = read_document(alloc, text.as_bytes(), MAX_LEVELS)?;
     match judge(alloc, Usage::RlsServices, &root)? {
         None => Ok(root),
         Some(_) => bail!("no document of services"),

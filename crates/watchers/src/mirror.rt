@@ -13,10 +13,7 @@ use indexmap::IndexMap;
 use notes::EditNote;
 use std::alloc::{AllocError, Global};
 use std::marker::Model;
-use xml_tree::{Element, copy_tree, depth};
-
-// How many levels a tree that is held has at most.
-const MAX_DEPTH: usize = 64;
+use xml_tree::{Element, MAX_LEVELS, copy_tree, depth};
 
 /// Every document of which it was told, as it is now.
 #[derive(Drop)]
@@ -55,7 +52,7 @@ fn follow(
     }
     apply_change(alloc, &mut held.tree, change)?;
     held.number = number;
-    Ok(depth(&held.tree) <= MAX_DEPTH)
+    Ok(depth(&held.tree) <= MAX_LEVELS)
 }
 
 impl Mirror {
@@ -91,7 +88,7 @@ impl Mirror {
         ensures other_documents_stay { OthersStay self.old doc.now self.new }
         ensures failure_changes_nothing { OnErr result (HoldsSame self.old self.new) }
     {
-        if depth(root) > MAX_DEPTH {
+        if depth(root) > MAX_LEVELS {
             self.forget(doc);
             return Ok(());
         }

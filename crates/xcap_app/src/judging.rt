@@ -10,10 +10,7 @@ use doc_names::Usage;
 use std::alloc::{AllocError, Global};
 use tree_text::{TextFault, read_document};
 use usage_docs::Fault;
-use xml_tree::{Element, ReadError};
-
-// How deep a document may be.
-const LEVELS: usize = 64;
+use xml_tree::{Element, MAX_LEVELS, ReadError};
 
 // How the command ends by the first fault of a tree, or none.
 fn exit_of(fault: Option<Fault>) -> Exit
@@ -54,7 +51,7 @@ fn judge_fault(fault: TextFault) -> Exit
 pub(crate) fn judge(alloc: Global, usage: Usage, text: &[u8]) -> Exit
     ensures judges_the_text { TextVerdict usage text.now result ⊎ (result ≡ Exit.OutOfMemory) }
 {
-    match read_document(alloc, text, LEVELS) {
+    match read_document(alloc, text, MAX_LEVELS) {
         Ok(root) => judge_tree(alloc, usage, &root).unwrap_or(Exit::OutOfMemory),
         Err(ReadError::Fault(fault)) => judge_fault(fault),
         Err(ReadError::NoMemory) => Exit::OutOfMemory,

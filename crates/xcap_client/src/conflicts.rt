@@ -7,10 +7,7 @@ ghost use Rattle.xcap_client.specs.Conflicts.{NamesError, error_in, error_uri, i
 use std::alloc::Global;
 use tree_text::read_document;
 use xcap_io::NoMemory;
-use xml_tree::{Element, ReadError, Scope, Text};
-
-/// How many levels of elements a body has that is read.
-const MAX_LEVELS: usize = 64;
+use xml_tree::{Element, MAX_LEVELS, ReadError, Scope, Text};
 
 fn is_error_uri(uri: &str) -> bool
     ensures tells_whether_it_is_that_one { result ≡ bytes_eq (chars uri.now) error_uri }

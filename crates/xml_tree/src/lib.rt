@@ -10,6 +10,7 @@ mod declarations;
 mod declared;
 mod edits;
 mod laws;
+mod limits;
 mod list;
 mod names;
 mod node_edits;
@@ -38,6 +39,7 @@ pub use laws::{
     heights_after_edits, kids_after_edits, nodes_are_the_content, other_places_stay,
     paths_are_short, paths_go_on, what_was_made_is_there,
 };
+pub use limits::MAX_LEVELS;
 pub use list::List;
 pub use names::{Attr, Decl, Name, copy_decls};
 pub use nodes::{place_of, place_of_gap};

@@ -6,15 +6,15 @@ use Rattle.watchers.specs.Mirrors.{OthersStay, held_in}
 use Rattle.watchers.proofs.Holdings.{held_now, others_stay}
 use Rattle.watchers.proofs.mirror.Mirror.begin.Goals as goal
 
-pub returns-then-depth-gt-MAX_DEPTH-clause-holds_the_new_tree : goal.returns-then-depth-gt-MAX_DEPTH-clause-holds_the_new_tree
-returns-then-depth-gt-MAX_DEPTH-clause-holds_the_new_tree c = inr (omega (arith, c.if-depth-gt-MAX_DEPTH.true, c.depth.ensures.counts_the_levels), c.forget.ensures.document_is_forgotten)
+pub returns-then-depth-gt-MAX_LEVELS-clause-holds_the_new_tree : goal.returns-then-depth-gt-MAX_LEVELS-clause-holds_the_new_tree
+returns-then-depth-gt-MAX_LEVELS-clause-holds_the_new_tree c = inr (omega (arith, c.if-depth-gt-MAX_LEVELS.true, c.depth.ensures.counts_the_levels), c.forget.ensures.document_is_forgotten)
 
 pub returns-clause-holds_the_new_tree : goal.returns-clause-holds_the_new_tree
 returns-clause-holds_the_new_tree c =
     let held : Holding = record { tree = c.in_ok-tree.tree; number = c.args.number } in
     let is : lookup (eq-value.it c.in_ok-doc.doc) c.insert.new.self.entries ≡ Some held = c.in_ok-insert.ensures.updates.1 in
     inl (
-      omega (arith, c.if-depth-gt-MAX_DEPTH.false, c.depth.ensures.counts_the_levels),
+      omega (arith, c.if-depth-gt-MAX_LEVELS.false, c.depth.ensures.counts_the_levels),
       ap (λ d. held_in c.insert.new.self.entries d) (sym c.in_ok-doc.ensures.makes_an_equal_name) ∙ held_now c.insert.new.self.entries c.in_ok-doc.doc (Some held) is ∙ ap (λ t. Some (t, c.args.number)) c.in_ok-tree.ensures.makes_an_equal_tree,
     )
 
