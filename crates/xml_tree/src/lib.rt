@@ -43,7 +43,7 @@ pub use limits::MAX_LEVELS;
 pub use list::List;
 pub use names::{Attr, Decl, Name, copy_decls};
 pub use nodes::{place_of, place_of_gap};
-pub use path::{Path, element_at};
+pub use path::{PATH_LIMIT, Path, element_at};
 pub use path_texts::print_path;
 pub use printed::{attr_len, decl_len, decls_len, name_len, printed_len, text_len, value_len};
 pub use proper_laws::{
@@ -51,7 +51,7 @@ pub use proper_laws::{
 };
 pub use read_error::ReadError;
 pub use references::{text_reference, value_reference};
-pub use scope::{Scope, is_xml, is_xmlns};
+pub use scope::{SCOPE_LIMIT, Scope, is_xml, is_xmlns};
 pub use scope_laws::bindings_are_those_of_the_scope;
 pub use std::alloc::AllocError as NoMemory;
 pub use text::Text;

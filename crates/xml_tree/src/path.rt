@@ -12,18 +12,19 @@ pub const PATH_LIMIT: usize = 64;
 /// A place in a tree: element-child numbers from 0, from the root down. The empty path is the root element.
 #[derive(Debug, Drop)]
 pub struct Path {
-    numbers: [usize; 64],
+    numbers: [usize; PATH_LIMIT],
     len: usize,
 }
 
 impl Model for Path {
     ghost use Rattle.std.specs.Prelude.{ℕ, ◌≤◌, List, take};
+    ghost use Rattle.xml_tree.specs.declared.path.TheConstants.{PATH_LIMIT};
 
     ghost Value = { List ℕ };
 
     ghost view = { λ p. take p.len p.numbers };
 
-    ghost invariant = { λ p. p.len ≤ 64 };
+    ghost invariant = { λ p. p.len ≤ PATH_LIMIT };
 }
 
 impl Path {
@@ -32,12 +33,12 @@ impl Path {
         ensures leads_to_the_root { result ≡ [] }
     {
         Path {
-            numbers: [0; 64],
+            numbers: [0; PATH_LIMIT],
             len: 0,
         }
     }
 
-    /// The path with a number more at its end: None exactly where it holds 64. Takes no memory.
+    /// The path with a number more at its end: None exactly where it holds `PATH_LIMIT`. Takes no memory.
     pub fn child(&self, number: usize) -> Option<Path>
         ensures only_where_there_is_room { IsSome result ↔ (length self.now < PATH_LIMIT) }
         ensures path_to_the_child { IfSome result (λ path. path ≡ self.now ++ number ∷ []) }

@@ -19,7 +19,7 @@ pub const SCOPE_LIMIT: usize = 67;
 /// Lists of declarations, lent, outermost first. Contracts see them as a list of lists; in each a later declaration is nearer.
 #[derive(Drop)]
 pub struct Scope<'a> {
-    lists: [&'a [Decl]; 67],
+    lists: [&'a [Decl]; SCOPE_LIMIT],
     len: usize,
 }
 
@@ -28,6 +28,7 @@ impl<'a> Model for Scope<'a> {
     ghost use Rattle.std.specs.Coded.{coded_list};
     ghost use Rattle.xml_tree.specs.inner.Codes.{decls_code};
     ghost use Rattle.xml_tree.specs.declared.names.Decl.{Decl};
+    ghost use Rattle.xml_tree.specs.declared.scope.TheConstants.{SCOPE_LIMIT};
 
     ghost Value = { List (List Decl) };
 
@@ -35,7 +36,7 @@ impl<'a> Model for Scope<'a> {
 
     ghost view = { λ s. map (λ x. x.now) (take s.len s.lists) };
 
-    ghost invariant = { λ s. s.len ≤ 67 };
+    ghost invariant = { λ s. s.len ≤ SCOPE_LIMIT };
 }
 
 impl<'a> Scope<'a> {
@@ -44,7 +45,7 @@ impl<'a> Scope<'a> {
         ensures declares_nothing { result ≡ [] }
     {
         Scope {
-            lists: [&[]; 67],
+            lists: [&[]; SCOPE_LIMIT],
             len: 0,
         }
     }
