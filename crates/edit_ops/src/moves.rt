@@ -1,6 +1,7 @@
 //! Where an element stands after a change.
 ghost use Rattle.std.specs.Prelude.{◌≡◌, ◌≤◌, ◌+◌, ◌++◌, ◌∷◌, suc, All, IfSome, length};
 ghost use Rattle.std.specs.Option.{option_copied};
+ghost use Rattle.xml_tree.specs.declared.path.TheConstants.{PATH_LIMIT};
 ghost use Rattle.edit_ops.specs.Moves.{behind, closed_up, made_room, moved, under, unless};
 ghost use Rattle.xml_tree.specs.Edits.{own_number, parent_path};
 
@@ -28,7 +29,7 @@ fn way<'a>(place: &[usize], path: &'a [usize]) -> Option<&'a [usize]>
 
 // The path with more numbers behind it.
 fn joined(path: Path, numbers: &[usize]) -> Path
-    requires { length path + length numbers.now ≤ 64 }
+    requires { length path + length numbers.now ≤ PATH_LIMIT }
     ensures joins_the_numbers { result ≡ path ++ numbers.now }
 {
     let mut made = path;
@@ -41,9 +42,9 @@ fn joined(path: Path, numbers: &[usize]) -> Path
     made
 }
 
-/// The path of a place, a number behind it, and more numbers. Together they are at most 64. Takes no memory.
+/// The path of a place, a number behind it, and more numbers. Together they are at most `PATH_LIMIT`. Takes no memory.
 pub fn through(place: &Path, number: usize, below: &[usize]) -> Path
-    requires { length place.now + suc (length below.now) ≤ 64 }
+    requires { length place.now + suc (length below.now) ≤ PATH_LIMIT }
     ensures leads_through_the_place { result ≡ place.now ++ (number ∷ below.now) }
 {
     match place.child(number) {

@@ -1,6 +1,7 @@
 //! Whether a selector is a key address.
 ghost use Rattle.std.specs.Prelude.{◌≡◌, ◌↔◌, ◌≤◌, ◌+◌, [], IsTrue, length};
 ghost use Rattle.std.specs.Str.{bytes_eq};
+ghost use Rattle.xml_tree.specs.declared.path.TheConstants.{PATH_LIMIT};
 ghost use Rattle.xml_tree.specs.Tree.{kids_of};
 ghost use Rattle.node_select.specs.Selection.{SelectsPath};
 ghost use Rattle.usage_docs.specs.Keys.{word};
@@ -77,7 +78,7 @@ fn are_steps_along<'a>(
     steps: &[Step],
     path: &[usize],
 ) -> bool
-    requires { length scope.now + length path.now ≤ 65 }
+    requires { length scope.now + length path.now ≤ PATH_LIMIT + 1 }
     ensures tells_whether_all_are_key_steps { result ≡ are_steps_along row scope.now (kids_of element.now) steps.now path.now }
 {
     let [number, path @ ..] = path else {

@@ -1,5 +1,6 @@
 //! How far the steps of a selector lead, in one descent.
 ghost use Rattle.std.specs.Prelude.{◌≡◌, ◌<◌, ◌≤◌, ◌+◌, ◌∷◌, [], length, take};
+ghost use Rattle.xml_tree.specs.Limits.{most_levels};
 ghost use Rattle.xml_tree.specs.Tree.{height, kids_of};
 ghost use Rattle.node_select.specs.inner.LongestWays.{ReachesBelow};
 ghost use Rattle.node_select.specs.Selection.{IsLongestMatch, SelectsPath};
@@ -21,7 +22,7 @@ pub struct Reached {
 /// How far steps lead. Each level is passed once. Memory is taken for indexes of declarations
 /// alone, and the answer is the same without it.
 pub fn reach(alloc: Global, root: &Element, steps: &[Step]) -> Reached
-    requires low { height root.now ≤ 64 }
+    requires low { height root.now ≤ most_levels }
     ensures longest_that_selects { IsLongestMatch steps.now root.now result.steps }
     ensures path_is_selected { 0 < result.steps → SelectsPath (take result.steps steps.now) root.now result.path }
 {
@@ -51,7 +52,7 @@ fn nowhere() -> Reached
 
 // How far they lead from the root down.
 fn reach_inside(alloc: Global, root: &Element, steps: &[Step]) -> Reached
-    requires low { height root.now ≤ 64 }
+    requires low { height root.now ≤ most_levels }
     ensures reaches_from_the_root { ReachesBelow (root.now.decls ∷ []) (kids_of root.now) steps.now [] result }
 {
     let declared = declared_in(alloc, root.decls());
@@ -72,7 +73,7 @@ fn reach_below(
     steps: &[Step],
     path: Path,
 ) -> Reached
-    requires low { length path + height element.now ≤ 64 }
+    requires low { length path + height element.now ≤ most_levels }
     ensures reaches_from_the_element { ReachesBelow scope.now (kids_of element.now) steps.now path result }
 {
     let [step, steps @ ..] = steps else {

@@ -1,5 +1,6 @@
 //! What a selector selects in a tree.
 ghost use Rattle.std.specs.Prelude.{◌≡◌, ◌≤◌, ◌+◌, ◌++◌, ◌↔◌, ℕ, List, [], ◌∷◌, length, option_map, Some};
+ghost use Rattle.xml_tree.specs.Limits.{most_levels};
 ghost use Rattle.xml_tree.specs.Tree.{height, kids_of};
 ghost use Rattle.node_select.specs.Selection.{IsLongestMatch, SelectsPath, depth_among, longest_in, selected_among, selected_in};
 
@@ -11,7 +12,7 @@ use xml_tree::{Around, Element, Path};
 /// The element that a selector's steps select: none exactly where some step matches no element or several. Each level is passed once. Memory is
 /// taken for indexes of declarations alone, and the answer is the same without it.
 pub fn select(alloc: Global, root: &Element, selector: &Selector) -> Option<Path>
-    requires { height root.now ≤ 64 }
+    requires { height root.now ≤ most_levels }
     ensures path_that_is_selected { (p : List ℕ) → (result ≡ Some p) ↔ SelectsPath selector.now.steps root.now p }
     ensures computes_the_same { result ≡ selected_in selector.now.steps root.now }
 {
@@ -20,7 +21,7 @@ pub fn select(alloc: Global, root: &Element, selector: &Selector) -> Option<Path
 
 /// The element that steps select, from the document on. Memory as for `select`.
 pub fn select_steps(alloc: Global, root: &Element, steps: &[Step]) -> Option<Path>
-    requires { height root.now ≤ 64 }
+    requires { height root.now ≤ most_levels }
     ensures path_that_is_selected { (p : List ℕ) → (result ≡ Some p) ↔ SelectsPath steps.now root.now p }
     ensures selects_in_the_document { result ≡ selected_in steps.now root.now }
 {
@@ -29,7 +30,7 @@ pub fn select_steps(alloc: Global, root: &Element, steps: &[Step]) -> Option<Pat
 
 // The element that steps select where the first is that of the root.
 fn select_outside(alloc: Global, root: &Element, steps: &[Step]) -> Option<Path>
-    requires { height root.now ≤ 64 }
+    requires { height root.now ≤ most_levels }
     ensures selects_in_the_document { result ≡ selected_in steps.now root.now }
 {
     let [step, steps @ ..] = steps else {
@@ -43,7 +44,7 @@ fn select_outside(alloc: Global, root: &Element, steps: &[Step]) -> Option<Path>
 
 // The element that steps select from the root down.
 fn select_inside(alloc: Global, root: &Element, steps: &[Step]) -> Option<Path>
-    requires { height root.now ≤ 64 }
+    requires { height root.now ≤ most_levels }
     ensures selects_below_the_root { result ≡ selected_among (root.now.decls ∷ []) (kids_of root.now) steps.now }
 {
     let declared = declared_in(alloc, root.decls());
@@ -64,7 +65,7 @@ fn select_below(
     steps: &[Step],
     path: Path,
 ) -> Option<Path>
-    requires { length path + height element.now ≤ 64 }
+    requires { length path + height element.now ≤ most_levels }
     ensures selects_below_the_element { result ≡ option_map (λ q. path ++ q) (selected_among scope.now (kids_of element.now) steps.now) }
 {
     let [step, steps @ ..] = steps else {

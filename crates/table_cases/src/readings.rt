@@ -2,6 +2,7 @@
 //! parts.
 
 ghost use Rattle.std.specs.Prelude.{◌≤◌, IfOk};
+ghost use Rattle.xml_tree.specs.Limits.{most_levels};
 ghost use Rattle.xml_tree.specs.Tree.{height};
 
 use crate::fields::Field;
@@ -13,14 +14,14 @@ use xml_tree::{Decl, Element, MAX_LEVELS, Name, Path, Text, printed_len};
 
 /// The root element of the document that a field spells.
 pub fn document(alloc: Global, field: &Field) -> Result<Element>
-    ensures of_lawful_height { IfOk result (λ tree. height tree ≤ 64) }
+    ensures of_lawful_height { IfOk result (λ tree. height tree ≤ most_levels) }
 {
     Ok(read_document(alloc, field.bytes(), MAX_LEVELS)?)
 }
 
 /// The element that a text spells, which may have three levels more than a document.
 pub fn element(alloc: Global, text: &str) -> Result<Element> {
-    Ok(read_document(alloc, text.as_bytes(), 67)?)
+    Ok(read_document(alloc, text.as_bytes(), MAX_LEVELS + 3)?)
 }
 
 /// The print of an element, which is as long as is promised.

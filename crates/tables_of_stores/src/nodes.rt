@@ -1,6 +1,7 @@
 //! What selectors find and how it is sent, places of nodes that are put, and the addresses of homes
 //! and closest ancestors (RFC 4825, sections 6 to 8, 10 and 11).
 ghost use Rattle.std.specs.Prelude.{◌≤◌};
+ghost use Rattle.xml_tree.specs.Limits.{most_levels};
 ghost use Rattle.xml_tree.specs.Tree.{height};
 
 use anyhow::{Result, bail};
@@ -33,7 +34,7 @@ fn word(alloc: Global, word: &str) -> Result<String> {
 
 // What is sent of a document, as two calls tell it.
 fn sent(alloc: Global, tree: &Element, selector: &Selector) -> Result<String>
-    requires { height tree.now ≤ 64 }
+    requires { height tree.now ≤ most_levels }
 {
     let is_found = is_found(alloc, tree, selector);
     match found_text(alloc, tree, selector)? {
@@ -57,7 +58,7 @@ fn sent_nothing(alloc: Global, is_found: bool) -> Result<String> {
 }
 
 fn place(alloc: Global, tree: &Element, selector: &Selector) -> Result<String>
-    requires { height tree.now ≤ 64 }
+    requires { height tree.now ≤ most_levels }
 {
     let is_there = has_place(alloc, tree, selector);
     word(alloc, if is_there { "yes" } else { "no" })
@@ -81,7 +82,7 @@ fn node(alloc: Global, table: &str, text: &Field, uri: &Field, steps: &Field) ->
 
 // The address of the closest ancestor of a node of a document.
 fn ancestor_of(alloc: Global, doc: &DocId, tree: &Element, selector: &Selector) -> Result<String>
-    requires { height tree.now ≤ 64 }
+    requires { height tree.now ≤ most_levels }
 {
     let root = root(alloc)?;
     let uri = ancestor_uri(alloc, &root, doc, tree, selector)?;

@@ -9,7 +9,7 @@ use node_select::{
 };
 use std::alloc::Global;
 use table_cases::{Field, bindings, document, path};
-use xml_tree::{Element, Path, ReadError, Scope, depth, element_at, print_path};
+use xml_tree::{Element, MAX_LEVELS, Path, ReadError, Scope, depth, element_at, print_path};
 
 /// The namespace of names without a prefix.
 const LISTS: &str = "urn:ietf:params:xml:ns:resource-lists";
@@ -111,7 +111,7 @@ fn selected_of(alloc: Global, text: &Field, selector: &Selector) -> Result<Strin
 }
 
 fn selected_in(alloc: Global, root: &Element, selector: &Selector) -> Result<String> {
-    if depth(root) > 64 {
+    if depth(root) > MAX_LEVELS {
         bail!("too deep a document");
     }
     let steps = longest_match(alloc, root, selector);

@@ -6,7 +6,7 @@ use doc_names::Usage;
 use std::alloc::Global;
 use table_cases::{Field, document, print};
 use usage_docs::{Clash, IndexFault, IndexMaker, caps, constraints, first_clash, schema, services};
-use xml_tree::{Element, ReadError, depth, print_path};
+use xml_tree::{Element, MAX_LEVELS, ReadError, depth, print_path};
 
 /// The answers of the tables of usages.
 pub fn answer(alloc: Global, table: &str, inputs: &[Field]) -> Result<String> {
@@ -50,7 +50,7 @@ fn valid(alloc: Global, usage: Usage, root: &Element) -> Result<String> {
 
 // Whether the keys of a valid document are distinct.
 fn distinct(alloc: Global, usage: Usage, root: &Element, formed: &str) -> Result<String> {
-    if depth(root) > 64 {
+    if depth(root) > MAX_LEVELS {
         bail!("too deep a document");
     }
     match first_clash(alloc, usage, root)? {

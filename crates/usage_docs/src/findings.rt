@@ -4,6 +4,7 @@ ghost use Rattle.std.specs.Prelude.{◌≡◌, ◌≤◌, ◌<◌, ◌+◌, ◌^
 ghost use Rattle.std.specs.Option.{ForSome};
 ghost use Rattle.xml_tree.specs.Tree.{Tree, content_height, height, kids_of};
 ghost use Rattle.xml_tree.specs.Nodes.{node_height};
+ghost use Rattle.xml_tree.specs.declared.path.TheConstants.{PATH_LIMIT};
 ghost use Rattle.xml_tree.specs.declared.tree.Node.TheVariants.{Elem};
 ghost use Rattle.usage_docs.specs.declared.keys.Clash.{Clash};
 ghost use Rattle.usage_docs.specs.declared.rows.Kind.{Kind};
@@ -87,7 +88,7 @@ impl<'a> Passed<'a> {
 // Notes the first of the passed children whose key an earlier one has too, if no clash comes before it.
 fn note_repeat(passed: Passed<'_>, trail: &Trail<'_>, found: &mut Found)
     ensures others_stay { (found.new.valid ≡ found.old.valid) × (found.new.formed ≡ found.old.formed) }
-    ensures first_of_all { (row : Kind) (c : Scope) (e : Tree) (before : Option Clash) → Holds row c (kids_of e) (length (kids_of e)) passed.entry.keys.items → length trail.now + content_height e.content ≤ 64 → IsFirstSoFar row c (kids_of e) trail.now (length (kids_of e)) passed.entry.clear before found.old.clash → IsFirstAfter before (RepeatsAt row c (kids_of e)) trail.now found.new.clash }
+    ensures first_of_all { (row : Kind) (c : Scope) (e : Tree) (before : Option Clash) → Holds row c (kids_of e) (length (kids_of e)) passed.entry.keys.items → length trail.now + content_height e.content ≤ PATH_LIMIT → IsFirstSoFar row c (kids_of e) trail.now (length (kids_of e)) passed.entry.clear before found.old.clash → IsFirstAfter before (RepeatsAt row c (kids_of e)) trail.now found.new.clash }
 {
     let Some(repeat) = first_repeat(passed.keys) else {
         return;
@@ -120,7 +121,7 @@ pub(crate) fn walk_inside(
 ) -> Result<(), NoMemory>
     ensures valid_inside { OnOk result (IsTrue found.new.valid ↔ (IsTrue found.old.valid × HoldsRow row scope.now element.now.content)) }
     ensures formed_inside { OnOk result (IsTrue found.new.formed ↔ (IsTrue found.old.formed × AllFormed row scope.now element.now.content)) }
-    ensures first_clash_inside { OnOk result (length trail.now + content_height element.now.content ≤ 64 → IsFirstAfter found.old.clash (RepeatsAt row scope.now (kids_of element.now)) trail.now found.new.clash) }
+    ensures first_clash_inside { OnOk result (length trail.now + content_height element.now.content ≤ PATH_LIMIT → IsFirstAfter found.old.clash (RepeatsAt row scope.now (kids_of element.now)) trail.now found.new.clash) }
 {
     let nodes = element.nodes();
     let mut passed = Passed {
@@ -156,7 +157,7 @@ fn walk_node<'a>(
     ensures counts_the_node { OnOk result (passed.new.count ≡ one_more node.now passed.old.count) }
     ensures no_more_are_clear { OnOk result (passed.new.clear ≤ passed.new.count) }
     ensures enters_the_key { OnOk result (PassesKey row scope.now node.now passed.old passed.new) }
-    ensures first_clash_in_the_node { OnOk result (length trail.now + node_height node.now ≤ 64 → PassesClash row scope.now trail.now node.now passed.old found.old.clash passed.new found.new.clash) }
+    ensures first_clash_in_the_node { OnOk result (length trail.now + node_height node.now ≤ PATH_LIMIT → PassesClash row scope.now trail.now node.now passed.old found.old.clash passed.new found.new.clash) }
 {
     match node {
         Node::Elem(kid) => walk_child(alloc, row, scope, kid, trail, passed, found),
@@ -187,7 +188,7 @@ fn walk_child<'a>(
     ensures counts_the_child { OnOk result (passed.new.count ≡ suc passed.old.count) }
     ensures no_more_are_clear { OnOk result (passed.new.clear ≤ passed.new.count) }
     ensures enters_the_key { OnOk result (PassesKey row scope.now (Elem kid.now) passed.old passed.new) }
-    ensures first_clash_in_the_child { OnOk result (length trail.now + height kid.now ≤ 64 → PassesClash row scope.now trail.now (Elem kid.now) passed.old found.old.clash passed.new found.new.clash) }
+    ensures first_clash_in_the_child { OnOk result (length trail.now + height kid.now ≤ PATH_LIMIT → PassesClash row scope.now trail.now (Elem kid.now) passed.old found.old.clash passed.new found.new.clash) }
 {
     let declared = Declared::indexed(alloc, kid.decls())?;
     let inside = (&*scope).inside(&declared);
@@ -215,7 +216,7 @@ pub(crate) fn walk_known(
 ) -> Result<(), NoMemory>
     ensures valid_with_the_element { OnOk result (IsTrue found.new.valid ↔ (IsTrue found.old.valid × ForSome kind (λ known. ValidInRow known scope.now element.now))) }
     ensures formed_with_the_element { OnOk result (IsTrue found.new.formed ↔ (IsTrue found.old.formed × ForSome kind (λ known. IsKnownFormed known scope.now element.now))) }
-    ensures first_clash_below { OnOk result (length trail.now + content_height element.now.content ≤ 64 → IsFirstAfter found.old.clash (RepeatsKnown kind scope.now element.now) trail.now found.new.clash) }
+    ensures first_clash_below { OnOk result (length trail.now + content_height element.now.content ≤ PATH_LIMIT → IsFirstAfter found.old.clash (RepeatsKnown kind scope.now element.now) trail.now found.new.clash) }
 {
     let Some(known) = kind else {
         return Ok(());

@@ -1,6 +1,8 @@
 //! The judgement of a document and of parts of one, each by one walk (RFC 4826, sections 3.2, 3.4.5, 4.2 and 4.4.5).
 ghost use Rattle.std.specs.Prelude.{◌≡◌, ◌≤◌, ◌+◌, ◌∷◌, [], ◌↔◌, length, IsTrue, IfOk};
+ghost use Rattle.xml_tree.specs.Limits.{most_levels};
 ghost use Rattle.xml_tree.specs.Tree.{content_height, height, kids_of};
+ghost use Rattle.xml_tree.specs.declared.path.TheConstants.{PATH_LIMIT};
 ghost use Rattle.xml_tree.specs.declared.tree.Node.TheVariants.{Elem};
 ghost use Rattle.usage_docs.specs.Clashes.{IsFirstClash, RepeatsAt};
 ghost use Rattle.usage_docs.specs.Forms.{Constraints, IsNodeFormed};
@@ -39,7 +41,7 @@ fn found_in_scope(
     requires { scope.now ≡ root.now.decls ∷ [] }
     ensures valid_as_a_root { IfOk result (λ found. IsTrue found.valid ↔ Schema usage root.now) }
     ensures formed_as_a_root { IfOk result (λ found. IsTrue found.formed ↔ Constraints usage root.now) }
-    ensures first_clash_of_a_root { IfOk result (λ found. height root.now ≤ 64 → IsFirstClash usage root.now found.clash) }
+    ensures first_clash_of_a_root { IfOk result (λ found. height root.now ≤ most_levels → IsFirstClash usage root.now found.clash) }
 {
     let kind = root_kind(usage);
     let mut found = Found::nothing();
@@ -53,7 +55,7 @@ fn found_in_scope(
 fn found_in_root(alloc: Global, usage: Usage, root: &Element) -> Result<Found, NoMemory>
     ensures valid_as_a_document { IfOk result (λ found. IsTrue found.valid ↔ Schema usage root.now) }
     ensures formed_as_a_document { IfOk result (λ found. IsTrue found.formed ↔ Constraints usage root.now) }
-    ensures first_clash_of_a_document { IfOk result (λ found. height root.now ≤ 64 → IsFirstClash usage root.now found.clash) }
+    ensures first_clash_of_a_document { IfOk result (λ found. height root.now ≤ most_levels → IsFirstClash usage root.now found.clash) }
 {
     let declared = Declared::indexed(alloc, root.decls())?;
     found_in_scope(alloc, usage, &Around::empty().inside(&declared), root)
@@ -100,7 +102,7 @@ fn fault_of(found: Found) -> Option<Fault>
 /// # Errors
 /// `NoMemory` for want of memory.
 pub fn judge(alloc: Global, usage: Usage, root: &Element) -> Result<Option<Fault>, NoMemory>
-    requires low { height root.now ≤ 64 }
+    requires low { height root.now ≤ most_levels }
     ensures judges_the_tree { IfOk result (λ fault. Judged usage root.now fault) }
 {
     let found = found_in_root(alloc, usage, root)?;
@@ -133,7 +135,7 @@ pub fn constraints(alloc: Global, usage: Usage, root: &Element) -> Result<bool, 
 /// # Errors
 /// `NoMemory` for want of memory.
 pub fn first_clash(alloc: Global, usage: Usage, root: &Element) -> Result<Option<Clash>, NoMemory>
-    requires { height root.now ≤ 64 }
+    requires { height root.now ≤ most_levels }
     ensures finds_the_first_clash { IfOk result (λ found. IsFirstClash usage root.now found) }
 {
     Ok(found_in_root(alloc, usage, root)?.clash)
@@ -182,7 +184,7 @@ pub fn clash_below(
     element: &Element,
     path: &Path,
 ) -> Result<Option<Clash>, NoMemory>
-    requires low { length path.now + content_height element.now.content ≤ 64 }
+    requires low { length path.now + content_height element.now.content ≤ PATH_LIMIT }
     ensures tells_the_first { IfOk result (λ found. IsFirst (RepeatsAt row scope.now (kids_of element.now)) path.now found) }
 {
     let mut found = Found::nothing();

@@ -1,5 +1,6 @@
 //! Places that are linked outwards.
 ghost use Rattle.std.specs.Prelude.{◌≡◌, ◌≤◌, ◌++◌, ◌∷◌, [], length, IsSome, IfSome};
+ghost use Rattle.xml_tree.specs.declared.path.TheConstants.{PATH_LIMIT};
 
 use std::marker::Model;
 use xml_tree::Path;
@@ -58,9 +59,9 @@ impl<'a> Trail<'a> {
         }
     }
 
-    /// The path of the place. It is there where the place has at most 64 numbers.
+    /// The path of the place. It is there where the place has at most `PATH_LIMIT` numbers.
     pub(crate) fn path(&self) -> Option<Path>
-        ensures is_there_if_it_is_short { length self.now ≤ 64 → IsSome result }
+        ensures is_there_if_it_is_short { length self.now ≤ PATH_LIMIT → IsSome result }
         ensures path_to_the_place { IfSome result (λ path. path ≡ self.now) }
     {
         match self.step {

@@ -1,5 +1,6 @@
 //! The URIs that a conflict document names where a node has no parent (RFC 4825, section 11).
 ghost use Rattle.std.specs.Prelude.{◌≡◌, ◌≤◌, ℕ, List, [], ◌∷◌, ◌++◌, IfOk, OnOk, chars, codes, flat_map};
+ghost use Rattle.xml_tree.specs.Limits.{most_levels};
 ghost use Rattle.xml_tree.specs.Tree.{height};
 ghost use Rattle.xml_tree.specs.PathTexts.{path_text};
 ghost use Rattle.xcap_uri.specs.Ancestors.{ancestor_uri, bracket_escape, closest_in, document_uri, home_uri};
@@ -90,7 +91,7 @@ fn push_path(alloc: Global, uri: &mut Text, path: &Path) -> Result<(), NoMemory>
 
 // The place of the element that the greatest number of first steps selects.
 fn closest(alloc: Global, tree: &Element, selector: &Selector) -> Option<Path>
-    requires { height tree.now ≤ 64 }
+    requires { height tree.now ≤ most_levels }
     ensures place_of_the_closest { result ≡ closest_in selector.now.steps tree.now }
 {
     let matched = longest_match(alloc, tree, selector);
@@ -109,7 +110,7 @@ pub fn ancestor_uri(
     tree: &Element,
     selector: &Selector,
 ) -> Result<Text, NoMemory>
-    requires { height tree.now ≤ 64 }
+    requires { height tree.now ≤ most_levels }
     ensures uri_of_the_ancestor { IfOk result (λ uri. uri ≡ ancestor_uri root.now doc.now tree.now selector.now.steps) }
 {
     let mut uri = document_uri(alloc, root, doc)?;
