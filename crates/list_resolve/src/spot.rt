@@ -1,5 +1,6 @@
 //! Elements of a kind, each with the scope inside it.
 ghost use Rattle.std.specs.Prelude.{◌≡◌, ◌+◌, ◌≤◌, ◌<◌, length, option_map, IfSome};
+ghost use Rattle.xml_tree.specs.declared.scope.TheConstants.{SCOPE_LIMIT};
 ghost use Rattle.xml_tree.specs.Tree.{height};
 ghost use Rattle.list_resolve.specs.Spots.{kid_spot, kid_spot_at, list_spot, root_spot};
 ghost use Rattle.list_resolve.specs.inner.Views.{spot_in};
@@ -30,7 +31,7 @@ impl<'a> Spot<'a> {
 
     /// A child, if it is of a kind. Takes no memory.
     pub(crate) fn below(&self, kid: &'a Element) -> Option<Spot<'a>>
-        requires { length self.now.scope < 67 }
+        requires { length self.now.scope < SCOPE_LIMIT }
         ensures spot_that_is_meant { option_map spot_in result ≡ kid_spot (spot_in self.now) kid.now }
         ensures scope_grows_by_one { IfSome result (λ s. length s.scope ≡ length self.now.scope + 1) }
         ensures spot_of_that_child { IfSome result (λ s. s.element.now ≡ kid.now) }
@@ -46,7 +47,7 @@ impl<'a> Spot<'a> {
 
     /// The child of this number, if there is one and it is of a kind. Takes no memory.
     pub(crate) fn kid(&self, number: usize) -> Option<Spot<'a>>
-        requires { length self.now.scope < 67 }
+        requires { length self.now.scope < SCOPE_LIMIT }
         ensures spot_that_is_meant { option_map spot_in result ≡ kid_spot_at (spot_in self.now) number }
         ensures scope_grows_by_one { IfSome result (λ s. length s.scope ≡ length self.now.scope + 1) }
         ensures is_no_higher { IfSome result (λ s. height s.element.now ≤ height self.now.element.now) }

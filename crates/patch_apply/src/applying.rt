@@ -1,6 +1,7 @@
 //! Applying a whole notice.
 ghost use Rattle.std.specs.Prelude.{◌≡◌, ◌<◌, ℕ, [], codes, IfOk, length, map, min, unwrap_or};
 ghost use Rattle.std.specs.Option.{option_copied};
+ghost use Rattle.xml_tree.specs.declared.scope.TheConstants.{SCOPE_LIMIT};
 ghost use Rattle.xml_tree.specs.Limits.{greatest_u64};
 ghost use Rattle.patch_words.specs.Applied.{plain_value};
 ghost use Rattle.patch_words.specs.Replay.{end_answer, is_all_mine, last_new, operation_count};
@@ -79,7 +80,7 @@ fn told_by<'a>(
     scope: &Scope<'_>,
     document: &'a Element,
 ) -> Result<Told<'a>, AllocError>
-    requires { length scope.now < 67 }
+    requires { length scope.now < SCOPE_LIMIT }
     ensures former_tag_of_the_document { IfOk result (λ told. option_copied told.previous ≡ plain_value (codes "previous-etag") document.now.attrs) }
     ensures new_tag_of_the_document { IfOk result (λ told. option_copied told.new ≡ plain_value (codes "new-etag") document.now.attrs) }
     ensures lends_the_operations { IfOk result (λ told. map (λ x. x.now) told.operations.items ≡ ours_in scope.now document.now) }

@@ -2,6 +2,7 @@
 ghost use Rattle.std.specs.Prelude.{◌≡◌, ◌<◌, ◌||◌, IfOk, chars, codes, is_some, map, length};
 ghost use Rattle.std.specs.List.{list_all};
 ghost use Rattle.std.specs.Option.{option_copied};
+ghost use Rattle.xml_tree.specs.declared.scope.TheConstants.{SCOPE_LIMIT};
 ghost use Rattle.patch_words.specs.Applied.{plain_value};
 ghost use Rattle.patch_words.specs.Replay.{documents, is_called, is_document, is_notice, is_operation, says_same};
 ghost use Rattle.patch_apply.specs.inner.Stages.{is_tagged, ours_in};
@@ -13,7 +14,7 @@ use xml_tree::{Element, Node, Scope, Text};
 // Whether an element of a notice is a document, in the scope at the notice.
 #[tactic(auto, using(crate::proofs::Words::words))]
 fn is_called_document(scope: &Scope<'_>, element: &Element) -> bool
-    requires { length scope.now < 67 }
+    requires { length scope.now < SCOPE_LIMIT }
     ensures tells_whether_it_is_called_so { result ≡ is_called scope.now (codes "document") element.now }
 {
     is_called(scope, "document", element)
@@ -43,7 +44,7 @@ pub(crate) fn operations_in<'a>(
     scope: &Scope<'_>,
     document: &'a Element,
 ) -> Result<Vec<&'a Element>, AllocError>
-    requires { length scope.now < 67 }
+    requires { length scope.now < SCOPE_LIMIT }
     ensures all_of_them { IfOk result (λ all. map (λ x. x.now) all.items ≡ ours_in scope.now document.now) }
 {
     let mut all = Vec::new(alloc);
@@ -60,7 +61,7 @@ pub(crate) fn operations_in<'a>(
 /// Whether operations say that the body is the same: one `body-not-changed` alone.
 #[tactic(auto, using(crate::proofs::Words::words))]
 pub(crate) fn says_same(scope: &Scope<'_>, operations: &[&Element]) -> bool
-    requires { length scope.now < 67 }
+    requires { length scope.now < SCOPE_LIMIT }
     ensures tells_whether_they_say_so { result ≡ says_same scope.now (map (λ x. x.now) operations.now) }
 {
     match operations {
@@ -72,7 +73,7 @@ pub(crate) fn says_same(scope: &Scope<'_>, operations: &[&Element]) -> bool
 // Whether it is an operation.
 #[tactic(auto, using(crate::proofs::Words::words))]
 fn is_operation(scope: &Scope<'_>, element: &Element) -> bool
-    requires { length scope.now < 67 }
+    requires { length scope.now < SCOPE_LIMIT }
     ensures tells_whether_it_is_one { result ≡ is_operation scope.now element.now }
 {
     is_called(scope, "add", element)
@@ -81,7 +82,7 @@ fn is_operation(scope: &Scope<'_>, element: &Element) -> bool
 
 // Whether all are operations.
 fn are_operations(scope: &Scope<'_>, operations: &[&Element]) -> bool
-    requires { length scope.now < 67 }
+    requires { length scope.now < SCOPE_LIMIT }
     ensures tells_whether_all_are { result ≡ list_all (is_operation scope.now) (map (λ x. x.now) operations.now) }
 {
     for operation in operations {

@@ -1,5 +1,6 @@
 //! Names of elements and attributes, and what they mean.
 ghost use Rattle.std.specs.Prelude.{◌≡◌, ◌<◌, [], option_map, chars, length};
+ghost use Rattle.xml_tree.specs.declared.scope.TheConstants.{SCOPE_LIMIT};
 ghost use Rattle.xml_tree.specs.Attributes.{is_written_so};
 ghost use Rattle.std.specs.List.{list_all};
 ghost use Rattle.std.specs.Option.{option_copied};
@@ -85,7 +86,7 @@ fn is_diff_name(scope: &Scope<'_>, name: &Name) -> bool
 
 /// Whether an element has a name in the namespace of notices, in the scope around it.
 pub(crate) fn is_ours(scope: &Scope<'_>, element: &Element) -> bool
-    requires { length scope.now < 67 }
+    requires { length scope.now < SCOPE_LIMIT }
     ensures tells_whether_it_is_ours { result ≡ is_ours scope.now element.now }
 {
     is_diff_name(&scope.with(element.decls()), element.name())
@@ -93,7 +94,7 @@ pub(crate) fn is_ours(scope: &Scope<'_>, element: &Element) -> bool
 
 /// Whether an element has this name in the namespace of notices.
 pub(crate) fn is_called(scope: &Scope<'_>, word: &str, element: &Element) -> bool
-    requires { length scope.now < 67 }
+    requires { length scope.now < SCOPE_LIMIT }
     ensures tells_whether_it_is_called_so { result ≡ is_called scope.now (chars word.now) element.now }
 {
     element.name().local.is(word) && is_ours(scope, element)

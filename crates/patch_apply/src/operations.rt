@@ -1,5 +1,6 @@
 //! Patch operations, one at a time (RFC 5261, section 4).
 ghost use Rattle.std.specs.Prelude.{◌≤◌, ◌<◌, length};
+ghost use Rattle.xml_tree.specs.declared.scope.TheConstants.{SCOPE_LIMIT};
 ghost use Rattle.xml_tree.specs.Limits.{most_levels};
 ghost use Rattle.xml_tree.specs.Tree.{height};
 ghost use Rattle.patch_words.specs.Applied.{remove_done, replace_done};
@@ -130,7 +131,7 @@ pub(crate) fn applied(
     operation: &Element,
     tree: Element,
 ) -> Result<Element, ReadError<Wrong>>
-    requires room { length scope.now < 67 }
+    requires room { length scope.now < SCOPE_LIMIT }
     requires low { height tree ≤ most_levels }
     ensures by_the_words { Gives (λ t. t) (applied scope.now operation.now tree) result }
 {

@@ -1,6 +1,7 @@
 //! What a document of a notice makes of what is held.
 ghost use Rattle.std.specs.Prelude.{◌≡◌, ◌≤◌, ◌<◌, ℕ, suc, min, map, length, Some, Result, Err, IfOk};
 ghost use Rattle.std.specs.Option.{option_copied};
+ghost use Rattle.xml_tree.specs.declared.scope.TheConstants.{SCOPE_LIMIT};
 ghost use Rattle.xml_tree.specs.Limits.{greatest_u64, most_levels};
 ghost use Rattle.xml_tree.specs.Tree.{Tree, height};
 ghost use Rattle.patch_words.specs.Applied as words;
@@ -54,7 +55,7 @@ fn all_applied(
     operations: &[&Element],
     tree: Element,
 ) -> Result<Element, ReadError<ApplyFault>>
-    requires room { length scope.now < 67 }
+    requires room { length scope.now < SCOPE_LIMIT }
     requires low { height tree ≤ most_levels }
     ensures by_the_words { (n : ℕ) → before ≡ min n greatest_u64 → Tells (λ t. t) (all_applied n scope.now (map (λ x. x.now) operations.now) tree) result }
     ensures is_low_enough { IfOk result (λ made. height made ≤ most_levels) }
@@ -114,7 +115,7 @@ fn changed(
     tag: &Text,
     held: Held,
 ) -> Result<Turn, ReadError<ApplyFault>>
-    requires room { length scope.now < 67 }
+    requires room { length scope.now < SCOPE_LIMIT }
     requires low { height held.root ≤ most_levels }
     ensures by_the_words { (n : ℕ) → before ≡ min n greatest_u64 → Tells turn_in (changed n scope.now (map (λ x. x.now) operations.now) tag.now (Some (version_in held))) result }
     ensures is_low_enough { IfOk result IsLowTurn }
@@ -140,7 +141,7 @@ fn renewed(
     tag: Option<&Text>,
     held: Option<Held>,
 ) -> Result<Turn, ReadError<ApplyFault>>
-    requires room { length scope.now < 67 }
+    requires room { length scope.now < SCOPE_LIMIT }
     requires low { IsLow (held_in held) }
     ensures by_the_words { (n : ℕ) → before ≡ min n greatest_u64 → Tells turn_in (renewed_copy n scope.now (map (λ x. x.now) operations.now) (option_copied tag.entry) (held_in held)) result }
     ensures is_low_enough { IfOk result IsLowTurn }
@@ -162,7 +163,7 @@ pub(crate) fn taken(
     told: &Told<'_>,
     held: Option<Held>,
 ) -> Result<Turn, ReadError<ApplyFault>>
-    requires room { length scope.now < 67 }
+    requires room { length scope.now < SCOPE_LIMIT }
     requires low { IsLow (held_in held) }
     ensures by_the_words { (n : ℕ) → before ≡ min n greatest_u64 → Tells turn_in (by_tags n scope.now (map (λ x. x.now) told.now.operations.items) (option_copied told.now.previous) (option_copied told.now.new) (held_in held)) result }
     ensures is_low_enough { IfOk result IsLowTurn }
@@ -178,7 +179,7 @@ pub(crate) fn taken(
 
 /// How many operations there are, where `body-not-changed` is none.
 pub(crate) fn operation_count(scope: &Scope<'_>, operations: &[&Element]) -> usize
-    requires { length scope.now < 67 }
+    requires { length scope.now < SCOPE_LIMIT }
     ensures counts_them { result ≡ counted_in scope.now (map (λ x. x.now) operations.now) }
 {
     if says_same(scope, operations) {

@@ -8,7 +8,7 @@ use anyhow::Result;
 use std::alloc::Global;
 use table_cases::name;
 use tree_text::read_document;
-use xml_tree::{Around, Attr, Declared, Element, Name, Node, Text};
+use xml_tree::{Around, Attr, Declared, Element, Name, Node, SCOPE_LIMIT, Text};
 
 // Adds a name with the URI of its namespace, which is empty where it has none.
 fn push_expanded(view: &mut String, uri: Option<&str>, local: &Text) -> Result<()> {
@@ -94,7 +94,7 @@ fn push_element(
 
 /// What a document says.
 pub fn view_of(alloc: Global, text: &[u8]) -> Result<String> {
-    let tree = read_document(alloc, text, 67)?;
+    let tree = read_document(alloc, text, SCOPE_LIMIT)?;
     let mut view = String::new(alloc);
     push_element(alloc, &mut view, &Around::empty(), &tree)?;
     Ok(view)

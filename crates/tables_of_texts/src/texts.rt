@@ -8,10 +8,7 @@ use tree_text::{
     TextFault, ValueFault, print_att_value, print_document, read_att_value, read_document,
     read_fragment,
 };
-use xml_tree::{Element, ReadError, Scope, Text};
-
-/// The greatest number of levels of a fragment with those of the scope around it.
-const ALL_LEVELS: usize = 67;
+use xml_tree::{Element, ReadError, SCOPE_LIMIT, Scope, Text};
 
 /// The answers of the tables of texts.
 pub fn answer(alloc: Global, table: &str, inputs: &[Field]) -> Result<String> {
@@ -27,7 +24,7 @@ pub fn answer(alloc: Global, table: &str, inputs: &[Field]) -> Result<String> {
 }
 
 fn of_document(alloc: Global, depth: usize, text: &[u8]) -> Result<String> {
-    if depth == 0 || depth > ALL_LEVELS {
+    if depth == 0 || depth > SCOPE_LIMIT {
         bail!("no depth of a document");
     }
     let read = read_document(alloc, text, depth);
@@ -62,7 +59,7 @@ fn within_place(
 
 fn in_scope(alloc: Global, depth: usize, scope: &Scope<'_>, text: &[u8]) -> Result<String> {
     let levels = scope.depth().saturating_add(depth);
-    if levels > ALL_LEVELS {
+    if levels > SCOPE_LIMIT {
         bail!("too many levels");
     }
     let read = read_fragment(alloc, text, scope, depth);

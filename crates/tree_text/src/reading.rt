@@ -2,6 +2,7 @@
 ghost use Rattle.std.specs.Prelude.{◌≡◌, ◌+◌, ◌≤◌, length, [], IfOk};
 ghost use Rattle.std.specs.Str.{chars};
 ghost use Rattle.grammar_rules.specs.Reading.{read_whole};
+ghost use Rattle.xml_tree.specs.declared.scope.TheConstants.{SCOPE_LIMIT};
 ghost use Rattle.xml_tree.specs.Proper.{ProperIn};
 ghost use Rattle.xml_tree.specs.Tree.{height};
 ghost use Rattle.tree_text.specs.Faults.{TextAnswer};
@@ -28,7 +29,7 @@ fn root<'a>(
     scope: &Scope<'_>,
     depth: usize,
 ) -> Result<Element, Stop<'a>>
-    requires { length scope.now + depth ≤ 67 }
+    requires { length scope.now + depth ≤ SCOPE_LIMIT }
     ensures reads_all_of_the_text { GivesAll result (read_whole (read_text depth scope.now) text.now) }
 {
     let rest = mark_if(text);
@@ -84,7 +85,7 @@ fn read(
     scope: &Scope<'_>,
     depth: usize,
 ) -> Result<Element, ReadError<TextFault>>
-    requires { length scope.now + depth ≤ 67 }
+    requires { length scope.now + depth ≤ SCOPE_LIMIT }
     ensures reads_the_tree_in_the_scope { Answered (λ answer. answer ≡ text_read depth scope.now bytes.now) result }
 {
     let Ok(text) = str::from_utf8(bytes) else {
@@ -107,7 +108,7 @@ pub fn read_document(
     depth: usize,
 ) -> Result<Element, ReadError<TextFault>>
     requires least { 1 ≤ depth }
-    requires most { depth ≤ 67 }
+    requires most { depth ≤ SCOPE_LIMIT }
     ensures answer_by_the_grammar { Answered (TextAnswer depth [] bytes.now) result }
     ensures is_proper { IfOk result (λ tree. ProperIn [] tree × (height tree ≤ depth)) }
 {
@@ -125,7 +126,7 @@ pub fn read_fragment(
     scope: &Scope<'_>,
     depth: usize,
 ) -> Result<Element, ReadError<TextFault>>
-    requires { length scope.now + depth ≤ 67 }
+    requires { length scope.now + depth ≤ SCOPE_LIMIT }
     ensures answer_by_the_grammar { Answered (TextAnswer depth scope.now bytes.now) result }
     ensures is_proper { IfOk result (λ tree. ProperIn scope.now tree × (height tree ≤ depth)) }
 {
