@@ -87,9 +87,13 @@ pub record LineState : Type 0 where
   pub port : PortState
   pub peer : PeerState
 
--- the count is greater now than before by so much at least, or it stands at the greatest `u64`
+-- where a count stays
+abbrev pub greatest_count : ℕ
+greatest_count = 2 ^ 64 - 1
+
+-- the count is greater now than before by so much at least, or it stands at the greatest
 abbrev pub RoseBy : ℕ → ℕ → ℕ → Type 0
-RoseBy n before now = min (before + n) (2 ^ 64 - 1) ≤ now
+RoseBy n before now = min (before + n) greatest_count ≤ now
 
 abbrev pub Rose : ℕ → ℕ → Type 0
 Rose before now = RoseBy 1 before now

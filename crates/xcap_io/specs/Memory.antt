@@ -1,6 +1,6 @@
 -- Lines in memory, and ports and peers made of them, as their callers see them. This is the project's own.
-use Rattle.std.specs.Prelude.{◌≡◌, ◌≢◌, ℕ, zero, suc, ◌+◌, ◌-◌, ◌^◌, ◌<◌, ◌≤◌, ◌==◌, min, List, [], ◌∷◌, ◌++◌, length, map, take, drop, Bool, true, false, Option, None, Some, Result, Ok, Err, option_map, unwrap_or, IsErr, ◌⊎◌, slice_index_or, slice_set}
-use Rattle.xcap_io.specs.Causes.{Begun, LineState, no_port, no_peer}
+use Rattle.std.specs.Prelude.{◌≡◌, ◌≢◌, ℕ, zero, suc, ◌+◌, ◌-◌, ◌<◌, ◌≤◌, ◌==◌, min, List, [], ◌∷◌, ◌++◌, length, map, take, drop, Bool, true, false, Option, None, Some, Result, Ok, Err, option_map, unwrap_or, IsErr, ◌⊎◌, slice_index_or, slice_set}
+use Rattle.xcap_io.specs.Causes.{Begun, LineState, greatest_count, no_port, no_peer}
 use Rattle.xcap_io.specs.Histories.{Traffic}
 
 -- A line in memory.
@@ -21,7 +21,7 @@ pub record MemoryLine : Type 0 where
 
 -- one fault more; the count ends at the greatest `u64`
 abbrev pub one_more : ℕ → ℕ
-one_more faults = min (faults + 1) (2 ^ 64 - 1)
+one_more faults = min (faults + 1) greatest_count
 
 -- how many bytes a read into so much room gives, where it doesn't fail
 abbrev pub given_by : MemoryLine → ℕ → ℕ
