@@ -115,13 +115,13 @@ module _ (ss new : List Tree) (inner total len : ℕ) (counted : inner ≡ elems
   len_is : len ≡ min (index_len (ss ++ new)) 18446744073709551615
   len_is = is ∙ len_at (elems_len (map Elem (ss ++ new))) total total_is ∙ ap (λ n. min n 18446744073709551615) (sym (index_len_is (ss ++ new)))
 
-  pub too_large : 16777216 < len → RefusesServices (ss ++ new) (TooLarge len)
+  pub too_large : index_limit < len → RefusesServices (ss ++ new) (TooLarge len)
   too_large h = let e = len_is in (omega arith, e)
 
-  pub small_enough : len ≤ 16777216 → index_len (ss ++ new) ≤ index_limit
+  pub small_enough : len ≤ index_limit → index_len (ss ++ new) ≤ index_limit
   small_enough h = let e = len_is in omega arith
 
-  pub counted_again : len ≤ 16777216 → total ≡ elems_len (map Elem (ss ++ new))
+  pub counted_again : len ≤ index_limit → total ≡ elems_len (map Elem (ss ++ new))
   counted_again h =
       let e = small_enough h in
       let w = index_len_is (ss ++ new) in

@@ -12,6 +12,7 @@ use Rattle.xml_tree.specs.Limits.{greatest_u64}
 use Rattle.usage_docs.specs.declared.rows.Kind.TheVariants.{RlsServices}
 use Rattle.usage_docs.specs.declared.rows.Key.TheVariants.{Uri}
 use Rattle.usage_docs.specs.declared.listing.IndexFault.{IndexFault}
+use Rattle.usage_docs.specs.declared.listing.TheConstants.{INDEX_LIMIT}
 use Rattle.usage_docs.specs.declared.listing.IndexFault.TheVariants.{TooLarge}
 use Rattle.usage_docs.specs.Rows.{Scope, kind_of, services_space}
 use Rattle.usage_docs.specs.Keys.{value_of}
@@ -71,7 +72,7 @@ index_len ss = document_len (index_of ss)
 
 -- the greatest length of the index
 abbrev pub index_limit : ℕ
-index_limit = 16777216
+index_limit = INDEX_LIMIT
 
 -- no index with these services can be: it would be so long
 abbrev pub RefusesServices : List Tree → IndexFault → Type 0
