@@ -20,6 +20,7 @@ use Rattle.tree_text.specs.declared.kind.Kind.{Kind}
 use Rattle.tree_text.specs.declared.kind.Kind.TheVariants.{Unbound}
 use Rattle.tree_text.specs.Pieces.{written}
 use Rattle.tree_text.specs.Grammar.{qname, reference, is_quote, is_raw_in}
+use Rattle.node_select.specs.declared.steps.TheConstants.{GREATEST_POSITION}
 use Rattle.node_select.specs.declared.selector.NameTest.{NameTest}
 use Rattle.node_select.specs.declared.selector.NameTest.TheVariants.{Any, Named}
 use Rattle.node_select.specs.declared.selector.AttrTest.{AttrTest}
@@ -50,7 +51,7 @@ value = quoted is_quote inside_quotes
 
 -- a position above the greatest one is read as 0, which no child has
 abbrev pub greatest_position : ℕ
-greatest_position = 4294967295
+greatest_position = GREATEST_POSITION
 
 abbrev pub position_of : List ℕ → ℕ
 position_of digits = if nat_le (number_from decimal_digits 0 digits) greatest_position then number_from decimal_digits 0 digits else 0
