@@ -4,12 +4,13 @@
 --     authority = 1*( ALPHA / DIGIT / "." / "-" / ":" / "[" / "]" )
 --     segment   = 1*( ALPHA / DIGIT / "-" / "." / "_" / "~" )
 --
--- with at most 256 octets. Neither an authority nor a segment has a `/`, so a text is a root by its pieces between the slashes.
+-- with at most `GREATEST_LENGTH` octets. Neither an authority nor a segment has a `/`, so a text is a root by its pieces between the slashes.
 use Rattle.std.specs.Prelude.{◌≡◌, ◌⊎◌, ◌≤◌, ℕ, Bool, true, false, ◌&&◌, ◌||◌, ◌==◌, nat_le, List, [], ◌∷◌, ◌++◌, codes, length, drop, flat_map, if◌then◌else◌, Option, Some, None}
 use Rattle.std.specs.List.{list_any, list_all}
 use Rattle.std.specs.Char.{is_ascii_alphanumeric}
 use Rattle.std.specs.Str.{bytes_eq}
 use Rattle.xcap_uri.specs.Cuts.{pieces}
+use Rattle.xcap_uri.specs.declared.root.TheConstants.{GREATEST_LENGTH}
 
 -- `/`
 abbrev pub slash : ℕ
@@ -41,7 +42,7 @@ pub record IsRoot (text authority path : List ℕ) : Type 0 where
   pub authority_is : is_some_of is_authority_char authority ≡ true
   pub path_is : path ≡ path_in segments
   pub segments_are : list_all (is_some_of is_segment_char) segments ≡ true
-  pub short : length text ≤ 256
+  pub short : length text ≤ GREATEST_LENGTH
 
 -- ---- the same by the pieces between the slashes (`roots_are_spelled_by_the_grammar`)
 
@@ -56,7 +57,7 @@ are_parts _ = false
 
 -- the text is a root
 abbrev pub is_root_text : List ℕ → Bool
-is_root_text text = nat_le (length text) 256 && are_parts (pieces slash text)
+is_root_text text = nat_le (length text) GREATEST_LENGTH && are_parts (pieces slash text)
 
 -- the third piece
 abbrev pub third : List (List ℕ) → List ℕ

@@ -4,6 +4,7 @@ use Rattle.std.specs.List.{list_all}
 use Rattle.std.specs.Option.{option_or}
 use Rattle.xcap_uri.specs.Cuts.{rest_after_front, pieces}
 use Rattle.xcap_uri.specs.Roots.{slash, is_authority_char, is_segment_char, is_some_of}
+use Rattle.xcap_uri.specs.declared.root.TheConstants.{GREATEST_LENGTH}
 
 -- what follows the scheme
 abbrev pub behind_scheme : List ℕ → Option (List ℕ)
@@ -20,4 +21,4 @@ has_form (Some rest) = are_authority_and_segments (pieces slash rest)
 
 -- the text reads as a root
 abbrev pub reads_as_root : List ℕ → Bool
-reads_as_root text = nat_le (length text) 256 && has_form (behind_scheme text)
+reads_as_root text = nat_le (length text) GREATEST_LENGTH && has_form (behind_scheme text)
