@@ -17,7 +17,7 @@ mod wire;
 // Fields found by their names, and words and blanks, by which the values of other fields are told too.
 pub use framing::{Named, find, is_same_word, trim_end, trim_start};
 pub use laws::{bytes_have_one_talk, given_bytes_decide, whole_items_stay};
-pub use limits::{MAX_BODY, MAX_FIELDS, MAX_HEAD};
+pub use limits::{MAX_BODY, MAX_FIELDS, MAX_HEAD, MAX_REQUESTS};
 pub use replies::{write_reply, write_reply_through};
 pub use request::{Asked, Field, Request, token_text};
 pub use requests::next_request;

@@ -1,6 +1,7 @@
 -- The requests of a sample, and the bytes of its connections. Addresses are those of RFC 4825, section 6, documents those of RFC 4826,
 -- section 3; which requests are made is the project's own.
 use Rattle.std.specs.Prelude.{ℕ, zero, suc, ◌+◌, ◌-◌, ◌*◌, ◌/◌, ◌%◌, ◌==◌, min, List, [], ◌∷◌, ◌++◌, codes, decimal, length, if◌then◌else◌}
+use Rattle.http_wire.specs.Limits.{most_requests}
 
 -- the root of the server
 unfoldable pub root_text : List ℕ
@@ -79,9 +80,9 @@ abbrev pub requests_from : ℕ → ℕ → List ℕ
 requests_from first zero = []
 requests_from first (suc more) = request_bytes first ++ requests_from (first + 1) more
 
--- the bytes of a connection, of so many requests in all: it has 1,000 of them, and the last one what is left
+-- the bytes of a connection, of so many requests in all: it has as many as it may have, and the last one what is left
 abbrev pub connection_bytes : ℕ → ℕ → List ℕ
-connection_bytes requests number = requests_from (number * 1000) (min 1000 (requests - number * 1000))
+connection_bytes requests number = requests_from (number * most_requests) (min most_requests (requests - number * most_requests))
 
 -- so many connections from this one on
 abbrev pub connections_from : ℕ → ℕ → ℕ → List (List ℕ)
@@ -90,4 +91,4 @@ connections_from requests number (suc more) = connection_bytes requests number �
 
 -- all connections of so many requests
 abbrev pub all_connections : ℕ → List (List ℕ)
-all_connections requests = connections_from requests 0 ((requests + 999) / 1000)
+all_connections requests = connections_from requests 0 ((requests + (most_requests - 1)) / most_requests)

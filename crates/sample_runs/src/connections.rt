@@ -3,11 +3,12 @@ ghost use Rattle.std.specs.Prelude.{◌≡◌, ◌+◌, ◌≤◌, IfOk};
 ghost use Rattle.sample_runs.specs.Requests.{all_connections, requests_from};
 
 use crate::requests::request;
+use http_wire::MAX_REQUESTS;
 use std::alloc::{AllocError, Global};
 use xcap_io::Bytes;
 
 // How many requests a connection has at most.
-const MOST: u64 = 1000;
+const MOST: u64 = MAX_REQUESTS as u64;
 
 // The bytes of so many requests, from the first of these on.
 fn connection(alloc: Global, first: u64, count: u64) -> Result<Bytes, AllocError>
@@ -29,7 +30,7 @@ pub(crate) fn connections(alloc: Global, requests: u64) -> Result<Vec<Bytes>, Al
     requires few { requests ≤ 4294967295 }
     ensures bytes_of_the_connections { IfOk result (λ all. all.items ≡ all_connections requests) }
 {
-    let count = (requests + 999) / MOST;
+    let count = (requests + (MOST - 1)) / MOST;
     let mut all = Vec::new(alloc);
     let mut number = 0;
     'connections: while number < count {

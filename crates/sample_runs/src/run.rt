@@ -1,5 +1,6 @@
 //! A sample, run on a server in memory.
 ghost use Rattle.std.specs.Prelude.{◌≡◌, ◌*◌, length, IfOk};
+ghost use Rattle.http_wire.specs.Limits.{most_requests};
 ghost use Rattle.sample_runs.specs.Noting.{Noted};
 ghost use Rattle.sample_runs.specs.Samples.{Samples};
 ghost use Rattle.sample_runs.specs.inner.Counting.{HasRoomFor, ServesThem, StandsNoted};
@@ -9,13 +10,14 @@ use crate::noting::Noting;
 use crate::port::KnownPort;
 use crate::summary::Summary;
 use http_serve::{Buffers, serve_lines};
+use http_wire::MAX_REQUESTS;
 use std::alloc::{AllocError, Global};
 use watchers::Watcher;
 use xcap_io::Bytes;
 
 // Serves connections of these bytes, one after the other. No watcher is told.
 fn serve_them(alloc: Global, noting: &mut Noting, connections: Vec<Bytes>) -> Result<(), AllocError>
-    requires room { HasRoomFor noting.old (length connections.items * 1000) }
+    requires room { HasRoomFor noting.old (length connections.items * most_requests) }
     ensures serves_to_the_end { IfOk result (λ _. (m : Noted) → StandsNoted noting.old.server.root noting.old m
         → ServesThem noting.old.server.root connections.items noting.new m) }
 {
@@ -38,7 +40,7 @@ pub fn run_sample(alloc: Global, requests: u32) -> Result<Summary, AllocError>
 {
     let requests = u64::from(requests);
     let connections = connections(alloc, requests)?;
-    let mut noting = Noting::new(alloc, connections.len() * 1000)?;
+    let mut noting = Noting::new(alloc, connections.len() * MAX_REQUESTS)?;
     serve_them(alloc, &mut noting, connections)?;
     Ok(noting.summary(requests))
 }
