@@ -8,15 +8,15 @@ use Rattle.reply_text.specs.Statuses.{reason}
 
 -- CR LF
 abbrev pub line_end : List ℕ
-line_end = 13 ∷ 10 ∷ []
+line_end = codes "\r\n"
 
 -- status-line = HTTP-version SP status-code SP reason-phrase CRLF
 unfoldable pub status_line : ℕ → List ℕ
-status_line n = codes "HTTP/1.1 " ++ decimal n ++ (32 ∷ []) ++ reason n ++ line_end
+status_line n = codes "HTTP/1.1 " ++ decimal n ++ codes " " ++ reason n ++ line_end
 
 -- the document's tag, a number in quotes
 unfoldable pub tag_line : ℕ → List ℕ
-tag_line n = codes "ETag: " ++ (34 ∷ []) ++ decimal n ++ (34 ∷ []) ++ line_end
+tag_line n = codes "ETag: \"" ++ decimal n ++ codes "\"" ++ line_end
 
 -- the methods that a resource takes: those that read, or all
 unfoldable pub allow_line : Bool → List ℕ
