@@ -1,5 +1,5 @@
 -- What the fields `If-Match` and `If-None-Match` of a request say. RFC 9110, sections 5.2 (lines of one field), 13.1.1 and 13.1.2.
-use Rattle.std.specs.Prelude.{◌≡◌, ◌≢◌, ℕ, List, [], ◌∷◌, Option, None, Some}
+use Rattle.std.specs.Prelude.{◌≡◌, ◌≢◌, ℕ, List, [], ◌∷◌, Option, None, Some, codes}
 use Rattle.preconditions.specs.declared.tags.EntityTag.{EntityTag}
 use Rattle.preconditions.specs.Tags.{comma_joined, SpellsTags}
 
@@ -17,7 +17,7 @@ pub record Preconditions : Type 0 where
 -- a field whose lines have these values says this: If-Match = "*" / #entity-tag, with one tag at least; its lines are joined by commas
 abbrev pub Says : List (List ℕ) → FieldValue → Type 0
 Says lines Missing = lines ≡ []
-Says lines Star = comma_joined lines ≡ 42 ∷ []
+Says lines Star = comma_joined lines ≡ codes "*"
 Says lines (Tags tags) = (lines ≢ []) × SpellsTags (comma_joined lines) tags × (tags ≢ [])
 
 -- both fields say this

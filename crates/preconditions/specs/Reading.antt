@@ -1,5 +1,5 @@
 -- The reading of condition fields, computed from left to right. That it is the grammar's one reading is a law (`fields_have_one_reading`).
-use Rattle.std.specs.Prelude.{◌≡◌, ℕ, ◌==◌, Bool, true, false, if◌then◌else◌, List, [], ◌∷◌, ◌++◌, drop, Option, None, Some, option_map, Result, Ok, Err}
+use Rattle.std.specs.Prelude.{◌≡◌, ℕ, ◌==◌, Bool, true, false, if◌then◌else◌, List, [], ◌∷◌, ◌++◌, drop, Option, None, Some, option_map, Result, Ok, Err, codes}
 use Rattle.std.specs.List.{take_while, prefix_len}
 use Rattle.std.specs.Str.{bytes_eq}
 use Rattle.preconditions.specs.declared.tags.EntityTag.{EntityTag}
@@ -94,7 +94,7 @@ listed (Some (t ∷ ts)) = Some (Tags (t ∷ ts))
 
 -- what the text of a field says, if it can be read
 abbrev pub text_value : List ℕ → Option FieldValue
-text_value text = if bytes_eq text (42 ∷ []) then Some Star else listed (tags_from Before text)
+text_value text = if bytes_eq text (codes "*") then Some Star else listed (tags_from Before text)
 
 -- what the lines of a field say, if they can be read
 abbrev pub field_value : List (List ℕ) → Option FieldValue

@@ -1,5 +1,5 @@
 -- Entity tags and lists of them. RFC 9110, sections 5.6.1 (lists), 5.6.3 (white space) and 8.8.3 (ETag).
-use Rattle.std.specs.Prelude.{◌≡◌, ℕ, ◌==◌, nat_le, Bool, ◌&&◌, ◌||◌, if◌then◌else◌, List, [], ◌∷◌, ◌++◌, Option, map, true, IfSome, filter_map, flat_map}
+use Rattle.std.specs.Prelude.{◌≡◌, ℕ, ◌==◌, nat_le, Bool, ◌&&◌, ◌||◌, if◌then◌else◌, List, [], ◌∷◌, ◌++◌, Option, map, true, IfSome, filter_map, flat_map, codes}
 use Rattle.std.specs.List.{AllByRecursion}
 use Rattle.std.specs.Option.{option_map_or}
 use Rattle.preconditions.specs.declared.tags.EntityTag.{EntityTag}
@@ -18,7 +18,7 @@ AreAll test cs = AllByRecursion (λ c. test c ≡ true) cs
 
 -- entity-tag = [ %s"W/" ] DQUOTE *etagc DQUOTE
 abbrev pub tag_text : EntityTag → List ℕ
-tag_text t = (if t.weak then (87 ∷ 47 ∷ []) else []) ++ (34 ∷ (t.opaque ++ 34 ∷ []))
+tag_text t = (if t.weak then codes "W/" else []) ++ (codes "\"" ++ (t.opaque ++ codes "\""))
 
 -- what stands between two commas of a list: OWS [ entity-tag ] OWS
 pub record ListPart : Type 0 where
@@ -37,7 +37,7 @@ pub record IsPart (p : ListPart) : Type 0 where
 -- texts with a comma between each two
 abbrev pub comma_joined : List (List ℕ) → List ℕ
 comma_joined [] = []
-comma_joined (text ∷ texts) = text ++ flat_map (λ t. 44 ∷ t) texts
+comma_joined (text ∷ texts) = text ++ flat_map (λ t. codes "," ++ t) texts
 
 -- the text is a list of exactly these tags, in order; any part may be empty
 pub record SpellsTags (text : List ℕ) (tags : List EntityTag) : Type 0 where

@@ -1,5 +1,5 @@
 //! The fields `If-Match` and `If-None-Match` (RFC 9110, sections 13.1.1 and 13.1.2).
-ghost use Rattle.std.specs.Prelude.{◌≡◌, ◌++◌, ◌∷◌, [], Some, None, IfOk, IsErrOf, flat_map};
+ghost use Rattle.std.specs.Prelude.{◌≡◌, ◌++◌, ◌∷◌, [], Some, None, IfOk, IsErrOf, flat_map, codes};
 ghost use Rattle.xcap_io.specs.Wanting.{StatedOr};
 ghost use Rattle.preconditions.specs.Fields.{ConditionsAnswer, SayBoth};
 ghost use Rattle.preconditions.specs.Reading.{text_value, field_value, conditions_of};
@@ -38,7 +38,7 @@ impl Model for Conditions {
 
 // The lines of a field as one text, with a comma between each two.
 fn joined(alloc: Global, first: &Bytes, others: &[Bytes]) -> Result<Bytes, NoMemory>
-    ensures joins_the_lines_by_commas { IfOk result (λ text. text ≡ first.now ++ flat_map (λ line. 44 ∷ line) others.now) }
+    ensures joins_the_lines_by_commas { IfOk result (λ text. text ≡ first.now ++ flat_map (λ line. codes "," ++ line) others.now) }
 {
     let mut text = first.copy(alloc)?;
     'lines: for line in others {
