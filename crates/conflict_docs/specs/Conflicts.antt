@@ -9,9 +9,7 @@ use Rattle.conflict_docs.specs.declared.conflicts.ErrorBody.TheVariants.{NotUtf8
 
 -- what stands before the child of the root, and behind it; there is no white space between the elements
 abbrev pub opening_bytes : List ℕ
-opening_bytes =
-    codes "<?xml version=" ++ (34 ∷ []) ++ codes "1.0" ++ (34 ∷ []) ++ codes " encoding=" ++ (34 ∷ []) ++ codes "UTF-8" ++ (34 ∷ []) ++ codes "?>" ++ (10 ∷ [])
-    ++ codes "<xcap-error xmlns=" ++ (34 ∷ []) ++ codes "urn:ietf:params:xml:ns:xcap-error" ++ (34 ∷ []) ++ codes ">"
+opening_bytes = codes "<?xml version=\"1.0\" encoding=\"UTF-8\"?>\n" ++ codes "<xcap-error xmlns=\"urn:ietf:params:xml:ns:xcap-error\">"
 
 abbrev pub closing_bytes : List ℕ
 closing_bytes = codes "</xcap-error>"
@@ -21,7 +19,7 @@ abbrev pub no_parent_bytes : List ℕ → List ℕ
 no_parent_bytes uri = codes "<no-parent><ancestor>" ++ flat_map text_escape uri ++ codes "</ancestor></no-parent>"
 
 abbrev pub unique_bytes : List ℕ → List ℕ
-unique_bytes field = (codes "<uniqueness-failure><exists field=" ++ (34 ∷ [])) ++ flat_map value_escape field ++ (34 ∷ codes "/></uniqueness-failure>")
+unique_bytes field = codes "<uniqueness-failure><exists field=\"" ++ flat_map value_escape field ++ codes "\"/></uniqueness-failure>"
 
 abbrev pub child_bytes : ErrorBody → List ℕ
 child_bytes NotUtf8 = codes "<not-utf-8/>"
@@ -71,7 +69,7 @@ conflict_root body = tree_of (name_of [] (codes "xcap-error")) error_decls [] (m
 
 -- a document's print: the declaration of XML, a line end, the root
 abbrev pub document_text : Tree → List ℕ
-document_text t = (codes "<?xml version=" ++ (34 ∷ codes "1.0" ++ (34 ∷ codes " encoding=" ++ (34 ∷ codes "UTF-8" ++ (34 ∷ codes "?>"))))) ++ 10 ∷ print t
+document_text t = codes "<?xml version=\"1.0\" encoding=\"UTF-8\"?>\n" ++ print t
 
 -- a URI, where there is one, is not empty
 abbrev pub IsNamed : ErrorBody → Type 0
