@@ -34,8 +34,8 @@ capabilities = tree_of (name_of [] (codes "xcap-caps")) (decl_of [] (xcap_space 
 -- and its print, without the line that stands before the root
 abbrev pub capabilities_text : List ℕ
 capabilities_text =
-    codes "<xcap-caps xmlns=" ++ (34 ∷ []) ++ codes "urn:ietf:params:xml:ns:xcap-caps" ++ (34 ∷ [])
-    ++ codes "><auids><auid>resource-lists</auid><auid>rls-services</auid><auid>xcap-caps</auid></auids><extensions/>"
+    codes "<xcap-caps xmlns=\"urn:ietf:params:xml:ns:xcap-caps\">"
+    ++ codes "<auids><auid>resource-lists</auid><auid>rls-services</auid><auid>xcap-caps</auid></auids><extensions/>"
     ++ codes "<namespaces><namespace>urn:ietf:params:xml:ns:resource-lists</namespace><namespace>urn:ietf:params:xml:ns:rls-services</namespace>"
     ++ codes "<namespace>urn:ietf:params:xml:ns:xcap-caps</namespace><namespace>urn:ietf:params:xml:ns:xcap-diff</namespace>"
     ++ codes "<namespace>urn:ietf:params:xml:ns:xcap-error</namespace></namespaces></xcap-caps>"

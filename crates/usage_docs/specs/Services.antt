@@ -56,9 +56,9 @@ index_of_documents ts = index_of (flat_map listed ts)
 
 -- the print of the index, without the line that stands before the root
 abbrev pub index_text : List Tree → List ℕ
-index_text [] = codes "<rls:rls-services xmlns:rls=" ++ (34 ∷ []) ++ codes "urn:ietf:params:xml:ns:rls-services" ++ (34 ∷ []) ++ codes "/>"
+index_text [] = codes "<rls:rls-services xmlns:rls=\"urn:ietf:params:xml:ns:rls-services\"/>"
 index_text (s ∷ ss) =
-    codes "<rls:rls-services xmlns:rls=" ++ (34 ∷ []) ++ codes "urn:ietf:params:xml:ns:rls-services" ++ (34 ∷ []) ++ codes ">"
+    codes "<rls:rls-services xmlns:rls=\"urn:ietf:params:xml:ns:rls-services\">"
     ++ flat_map print (s ∷ ss)
     ++ codes "</rls:rls-services>"
 
