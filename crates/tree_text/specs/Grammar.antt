@@ -1,7 +1,7 @@
 -- The texts that documents and fragments are read from, rule by rule: XML 1.0, fifth edition, and Namespaces in XML 1.0, without
 -- document types. The numbers in brackets are those of the productions of XML, and with an N those of Namespaces in XML. A rule says which
 -- texts it spells, as which values, and what may be met where a text breaks off in it.
-use Rattle.std.specs.Prelude.{◌≡◌, ℕ, zero, suc, ◌+◌, Bool, true, false, ◌&&◌, ◌||◌, ◌==◌, not, List, [], ◌∷◌, codes, Option, Some}
+use Rattle.std.specs.Prelude.{◌≡◌, ℕ, zero, suc, ◌+◌, Bool, true, false, ◌&&◌, ◌||◌, ◌==◌, not, List, [], ◌∷◌, ◌++◌, codes, Option, Some}
 use Rattle.std.specs.Char.{is_ascii_digit, is_ascii_alphabetic}
 use Rattle.xml_tree.specs.Characters.{is_char, is_space, is_name_start, is_name_char}
 use Rattle.xml_tree.specs.Tree.{Content, last, Tree}
@@ -143,7 +143,7 @@ behind_tag inner n false = keeping_first (content inner) (end_tag n)
 
 -- a start tag's `<`, with the first character of its name
 abbrev pub StartsTag : List ℕ → Type 0
-StartsTag text = (c : ℕ) × (text ≡ 60 ∷ c ∷ []) × (is_name_start c ≡ true)
+StartsTag text = (c : ℕ) × (text ≡ codes "<" ++ c ∷ []) × (is_name_start c ≡ true)
 
 -- [39] element, in the scope around it, at this depth, with fewer than n elements in one another. Its start says its depth. Its tag,
 -- where it is whole, says which of its names are wrong. What it contains stands in the scope of its declarations too.

@@ -5,7 +5,7 @@ use Rattle.xml_tree.specs.Print.{print}
 
 -- the XML declaration, and a line feed
 abbrev pub header : List ℕ
-header = codes "<?xml version=\"1.0\" encoding=\"UTF-8\"?>" ++ 10 ∷ []
+header = codes "<?xml version=\"1.0\" encoding=\"UTF-8\"?>\n"
 
 -- a document: the declaration, and its root element; nothing follows
 abbrev pub document_print : Tree → List ℕ
