@@ -1,6 +1,6 @@
 -- Reading functions, one for each rule of the grammar: they read from left to right, and a test of what comes next tells which
 -- member of a choice is read, and whether a repetition goes on.
-use Rattle.std.specs.Prelude.{drop, ℕ, zero, suc, ◌+◌, Bool, true, false, ◌&&◌, ◌||◌, ◌==◌, not, List, [], ◌∷◌, ◌++◌, Option, None, Some, if◌then◌else◌}
+use Rattle.std.specs.Prelude.{drop, ℕ, zero, suc, ◌+◌, Bool, true, false, ◌&&◌, ◌||◌, ◌==◌, not, List, [], ◌∷◌, ◌++◌, Option, None, Some, if◌then◌else◌, codes}
 use Rattle.std.specs.Char.{is_ascii_digit, is_ascii_alphabetic}
 use Rattle.xml_tree.specs.Characters.{is_char, is_space, is_name_start, is_name_char}
 use Rattle.xml_tree.specs.Tree.{Content, last, Tree}
@@ -49,7 +49,7 @@ read_entity =
     read_either (head_is (λ c. c == 108)) (read_stands_for 60 lt)
     (read_either (head_is (λ c. c == 103)) (read_stands_for 62 gt)
     (read_either (head_is (λ c. c == 113)) (read_stands_for 34 quot)
-    (read_either (starts (97 ∷ 112 ∷ [])) (read_stands_for 39 apos) (read_stands_for 38 amp))))
+    (read_either (starts (codes "ap")) (read_stands_for 39 apos) (read_stands_for 38 amp))))
 
 abbrev pub read_numbered : Reader Kind ℕ
 read_numbered = read_behind (read_word hash) (read_either (head_is (λ c. c == 120)) (read_behind (read_word small_x) (read_number hexadecimal last_char is_char)) (read_number decimal_digits last_char is_char))

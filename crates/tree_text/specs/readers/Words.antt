@@ -1,107 +1,107 @@
--- The fixed words of the grammar by names, as the codes of their characters.
-use Rattle.std.specs.Prelude.{ℕ, List, [], ◌∷◌}
+-- The fixed words of the grammar by names.
+use Rattle.std.specs.Prelude.{ℕ, codes, List, [], ◌∷◌}
 
 -- `<` and `>`
 abbrev pub less : List ℕ
-less = 60 ∷ []
+less = codes "<"
 
 abbrev pub greater : List ℕ
-greater = 62 ∷ []
+greater = codes ">"
 
 -- `/>` and `</`
 abbrev pub empty_end : List ℕ
-empty_end = 47 ∷ 62 ∷ []
+empty_end = codes "/>"
 
 abbrev pub end_start : List ℕ
-end_start = 60 ∷ 47 ∷ []
+end_start = codes "</"
 
 -- `=`, `:`, `&`, `;`, `#` and `x`
 abbrev pub equals_sign : List ℕ
-equals_sign = 61 ∷ []
+equals_sign = codes "="
 
 abbrev pub colon : List ℕ
-colon = 58 ∷ []
+colon = codes ":"
 
 abbrev pub ampersand : List ℕ
-ampersand = 38 ∷ []
+ampersand = codes "&"
 
 abbrev pub semicolon : List ℕ
-semicolon = 59 ∷ []
+semicolon = codes ";"
 
 abbrev pub hash : List ℕ
-hash = 35 ∷ []
+hash = codes "#"
 
 abbrev pub small_x : List ℕ
-small_x = 120 ∷ []
+small_x = codes "x"
 
 -- `amp`, `lt`, `gt`, `quot` and `apos`
 abbrev pub amp : List ℕ
-amp = 97 ∷ 109 ∷ 112 ∷ []
+amp = codes "amp"
 
 abbrev pub lt : List ℕ
-lt = 108 ∷ 116 ∷ []
+lt = codes "lt"
 
 abbrev pub gt : List ℕ
-gt = 103 ∷ 116 ∷ []
+gt = codes "gt"
 
 abbrev pub quot : List ℕ
-quot = 113 ∷ 117 ∷ 111 ∷ 116 ∷ []
+quot = codes "quot"
 
 abbrev pub apos : List ℕ
-apos = 97 ∷ 112 ∷ 111 ∷ 115 ∷ []
+apos = codes "apos"
 
 -- `<!--` and `--`
 abbrev pub comment_start : List ℕ
-comment_start = 60 ∷ 33 ∷ 45 ∷ 45 ∷ []
+comment_start = codes "<!--"
 
 abbrev pub dashes : List ℕ
-dashes = 45 ∷ 45 ∷ []
+dashes = codes "--"
 
 -- `<![CDATA[` and `]]>`
 abbrev pub section_start : List ℕ
-section_start = 60 ∷ 33 ∷ 91 ∷ 67 ∷ 68 ∷ 65 ∷ 84 ∷ 65 ∷ 91 ∷ []
+section_start = codes "<![CDATA["
 
 abbrev pub section_end : List ℕ
-section_end = 93 ∷ 93 ∷ 62 ∷ []
+section_end = codes "]]>"
 
 -- `<?` and `?>`
 abbrev pub instruction_start : List ℕ
-instruction_start = 60 ∷ 63 ∷ []
+instruction_start = codes "<?"
 
 abbrev pub instruction_end : List ℕ
-instruction_end = 63 ∷ 62 ∷ []
+instruction_end = codes "?>"
 
 -- `<?xml`, `version`, `1.`, `encoding`, `standalone`, `yes` and `no`
 abbrev pub declaration_start : List ℕ
-declaration_start = 60 ∷ 63 ∷ 120 ∷ 109 ∷ 108 ∷ []
+declaration_start = codes "<?xml"
 
 abbrev pub version : List ℕ
-version = 118 ∷ 101 ∷ 114 ∷ 115 ∷ 105 ∷ 111 ∷ 110 ∷ []
+version = codes "version"
 
 abbrev pub one_dot : List ℕ
-one_dot = 49 ∷ 46 ∷ []
+one_dot = codes "1."
 
 abbrev pub encoding : List ℕ
-encoding = 101 ∷ 110 ∷ 99 ∷ 111 ∷ 100 ∷ 105 ∷ 110 ∷ 103 ∷ []
+encoding = codes "encoding"
 
 abbrev pub standalone : List ℕ
-standalone = 115 ∷ 116 ∷ 97 ∷ 110 ∷ 100 ∷ 97 ∷ 108 ∷ 111 ∷ 110 ∷ 101 ∷ []
+standalone = codes "standalone"
 
 abbrev pub yes : List ℕ
-yes = 121 ∷ 101 ∷ 115 ∷ []
+yes = codes "yes"
 
 abbrev pub not_alone : List ℕ
-not_alone = 110 ∷ 111 ∷ []
+not_alone = codes "no"
 
 -- `<!`, `<![` and `DOCTYPE`
 abbrev pub bang : List ℕ
-bang = 60 ∷ 33 ∷ []
+bang = codes "<!"
 
 abbrev pub bang_bracket : List ℕ
-bang_bracket = 60 ∷ 33 ∷ 91 ∷ []
+bang_bracket = codes "<!["
 
 abbrev pub doctype : List ℕ
-doctype = 68 ∷ 79 ∷ 67 ∷ 84 ∷ 89 ∷ 80 ∷ 69 ∷ []
+doctype = codes "DOCTYPE"
 
 -- the byte order mark, U+FEFF
 abbrev pub byte_order_mark : List ℕ
@@ -109,11 +109,11 @@ byte_order_mark = 0xFEFF ∷ []
 
 -- `xml`
 abbrev pub xml : List ℕ
-xml = 120 ∷ 109 ∷ 108 ∷ []
+xml = codes "xml"
 
 -- `utf-8` and `us-ascii`
 abbrev pub utf_8 : List ℕ
-utf_8 = 117 ∷ 116 ∷ 102 ∷ 45 ∷ 56 ∷ []
+utf_8 = codes "utf-8"
 
 abbrev pub us_ascii : List ℕ
-us_ascii = 117 ∷ 115 ∷ 45 ∷ 97 ∷ 115 ∷ 99 ∷ 105 ∷ 105 ∷ []
+us_ascii = codes "us-ascii"
