@@ -6,4 +6,4 @@ use Rattle.doc_names.specs.Escapes.{escaped_part}
 use Rattle.doc_names.specs.Ids.{id_text}
 
 abbrev pub feed_path : List ℕ → DocId → List ℕ
-feed_path tag doc = codes "~feed/aggregate/" ++ (escaped_part tag ++ 47 ∷ id_text doc)
+feed_path tag doc = codes "~feed/aggregate/" ++ (escaped_part tag ++ (codes "/" ++ id_text doc))

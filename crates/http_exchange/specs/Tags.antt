@@ -6,7 +6,7 @@ use Rattle.http_wire.specs.Fields.{values_of}
 
 -- opaque-tag = DQUOTE *etagc DQUOTE
 abbrev pub IsQuoted : List ℕ → List ℕ → Type 0
-IsQuoted text opaque = AreAll is_tag_byte opaque × (text ≡ 34 ∷ (opaque ++ 34 ∷ []))
+IsQuoted text opaque = AreAll is_tag_byte opaque × (text ≡ codes "\"" ++ (opaque ++ codes "\""))
 
 -- the value is an entity tag, weak or not, with this between its quotes
 abbrev pub IsTagWith : List ℕ → List ℕ → Type 0
