@@ -48,7 +48,7 @@ answered_text s =
     ++ (codes "\ncreated " ++ (decimal s.created
     ++ (codes "\nchanged " ++ (decimal s.changed
     ++ (codes "\nrefused " ++ (decimal s.refused
-    ++ 10 ∷ [])))))))
+    ++ codes "\n")))))))
 
 -- what is held then, on three lines
 unfoldable pub held_text : Summary → List ℕ
@@ -56,7 +56,7 @@ held_text s =
     codes "documents " ++ (decimal s.documents
     ++ (codes "\nbytes " ++ (decimal s.bytes
     ++ (codes "\nlast " ++ (decimal s.last
-    ++ 10 ∷ [])))))
+    ++ codes "\n")))))
 
 abbrev pub summary_text : Summary → List ℕ
 summary_text s = answered_text s ++ held_text s

@@ -28,4 +28,4 @@ change_bytes RemoveDocument = codes "delete"
 
 -- the number, the document's printed id and the change, separated by spaces; and a line end
 abbrev pub line_bytes : Edit → List ℕ
-line_bytes edit = decimal edit.note.next ++ (codes " " ++ (encode_utf8_all (id_text edit.doc) ++ (codes " " ++ (change_bytes edit.note.change ++ 10 ∷ []))))
+line_bytes edit = decimal edit.note.next ++ (codes " " ++ (encode_utf8_all (id_text edit.doc) ++ (codes " " ++ (change_bytes edit.note.change ++ codes "\n"))))

@@ -31,21 +31,21 @@ status_of OutOfMemory = 7
 
 -- of an element that repeats a sibling's key: its place as a positional selector, and the key
 abbrev pub clash_words : Clash → List ℕ
-clash_words clash = codes "uniqueness-failure " ++ (encode_utf8_all (path_text clash.path) ++ (codes "/@" ++ (word clash.key ++ 10 ∷ [])))
+clash_words clash = codes "uniqueness-failure " ++ (encode_utf8_all (path_text clash.path) ++ (codes "/@" ++ (word clash.key ++ codes "\n")))
 
 -- why the input is no valid document, on one line
 abbrev pub refusal_words : Refusal → List ℕ
 refusal_words TooLarge = codes "too-large\n"
 refusal_words NotUtf8 = codes "not-utf-8\n"
-refusal_words (NotWellFormed place) = codes "not-well-formed " ++ (decimal place ++ 10 ∷ [])
+refusal_words (NotWellFormed place) = codes "not-well-formed " ++ (decimal place ++ codes "\n")
 refusal_words Schema = codes "schema-validation-error\n"
 refusal_words Constraint = codes "constraint-failure\n"
 refusal_words (Unique clash) = clash_words clash
 
 -- why the input is no journal, on one line
 abbrev pub journal_words : JournalRefusal → List ℕ
-journal_words (Damaged place) = codes "journal: damaged " ++ (decimal place ++ 10 ∷ [])
-journal_words (RefusedAt number) = codes "journal: refused " ++ (decimal number ++ 10 ∷ [])
+journal_words (Damaged place) = codes "journal: damaged " ++ (decimal place ++ codes "\n")
+journal_words (RefusedAt number) = codes "journal: refused " ++ (decimal number ++ codes "\n")
 journal_words TooLong = codes "journal: too-long\n"
 
 -- the words on the stream for errors, on one line; none where all went well

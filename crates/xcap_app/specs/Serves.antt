@@ -17,7 +17,7 @@ use Rattle.xcap_app.specs.declared.exit.Exit.TheVariants.{Done, Usage, InputFail
 
 -- the line about so many connections
 abbrev pub served_line : ℕ → List ℕ
-served_line connections = codes "served " ++ (decimal connections ++ 10 ∷ [])
+served_line connections = codes "served " ++ (decimal connections ++ codes "\n")
 
 -- no further connection was wanted, or none was to come
 abbrev pub IsComplete : Stop → Type 0
