@@ -9,14 +9,9 @@ use Rattle.doc_names.specs.declared.doc_id.DocId.{DocId}
 
 abbrev pub same_auid : Auid → Auid → Bool
 same_auid ResourceLists ResourceLists = true
-same_auid ResourceLists RlsServices = false
-same_auid ResourceLists XcapCaps = false
-same_auid RlsServices ResourceLists = false
 same_auid RlsServices RlsServices = true
-same_auid RlsServices XcapCaps = false
-same_auid XcapCaps ResourceLists = false
-same_auid XcapCaps RlsServices = false
 same_auid XcapCaps XcapCaps = true
+same_auid _ _ = false
 
 abbrev pub same_home : Home → Home → Bool
 same_home Global Global = true

@@ -6,11 +6,8 @@ use Rattle.tree_text.specs.declared.kind.Kind.TheVariants.{Encoded, Doctyped, De
 
 -- a start tag is a fault where it stands deeper than the limit, the others always
 abbrev pub is_fault : ℕ → Kind → Bool
-is_fault limit Encoded = true
-is_fault limit Doctyped = true
 is_fault limit (Depth depth) = nat_lt limit depth
-is_fault limit Unbound = true
-is_fault limit Repeated = true
+is_fault limit _ = true
 
 -- Of two at one place the one with the lesser rank counts: a declaration that may not stand and repeats a prefix may not stand. No two
 -- kinds have one rank, so there is one answer.

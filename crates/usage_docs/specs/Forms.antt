@@ -10,7 +10,7 @@ use Rattle.xml_tree.specs.declared.tree.Node.{Node}
 use Rattle.xml_tree.specs.declared.tree.Node.TheVariants.{Elem, Chars, Comment}
 use Rattle.doc_names.specs.declared.usages.Usage.{Usage}
 use Rattle.usage_docs.specs.declared.rows.Kind.{Kind}
-use Rattle.usage_docs.specs.declared.rows.Kind.TheVariants.{ResourceLists, EntryList, Entry, EntryRef, External, DisplayName, RlsServices, Service, ResourceList, Packages, Package}
+use Rattle.usage_docs.specs.declared.rows.Kind.TheVariants.{EntryRef, External, ResourceList}
 use Rattle.usage_docs.specs.declared.rows.Key.TheVariants.{Ref, Anchor}
 use Rattle.usage_docs.specs.Rows.{Scope, kind_of, root_kind}
 use Rattle.usage_docs.specs.Keys.{value_of}
@@ -55,14 +55,7 @@ unfoldable pub is_formed : Kind → List Attr → Content → Bool
 is_formed EntryRef ats k = option_map_or is_reference (value_of Ref ats) true
 is_formed External ats k = option_map_or is_http (value_of Anchor ats) true
 is_formed ResourceList ats k = is_http (trimmed (text_of k))
-is_formed ResourceLists ats k = true
-is_formed EntryList ats k = true
-is_formed Entry ats k = true
-is_formed DisplayName ats k = true
-is_formed RlsServices ats k = true
-is_formed Service ats k = true
-is_formed Packages ats k = true
-is_formed Package ats k = true
+is_formed _ ats k = true
 
 -- so do those of all elements of a kind in a content
 abbrev pub AllFormed : Kind → Scope → Content → Type 0
