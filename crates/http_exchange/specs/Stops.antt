@@ -19,14 +19,8 @@ CountsStop before now (Err stops.NoMemory) = now ≡ before
 
 -- the same of what stands in the place of a response
 abbrev pub CountsFault : {T : Type 0} → ℕ → ℕ → Result T ResponseFault → Type 0
-CountsFault before now (Ok x) = now ≡ before
 CountsFault before now (Err faults.ReadFailed) = Rose before now
-CountsFault before now (Err faults.NoMemory) = now ≡ before
-CountsFault before now (Err faults.Head) = now ≡ before
-CountsFault before now (Err faults.Coding) = now ≡ before
-CountsFault before now (Err faults.Length) = now ≡ before
-CountsFault before now (Err (faults.TooLong n)) = now ≡ before
-CountsFault before now (Err (faults.Short have wanted)) = now ≡ before
+CountsFault before now _ = now ≡ before
 
 -- What an answer says: where a read failed, that something lacks; where memory ran out, nothing; and else what it says itself.
 abbrev pub ByCause : {T : Type 0} → Result T ResponseFault → Type 0 → (Result T ResponseFault → Type 0) → Type 0

@@ -28,13 +28,8 @@ scope_of_place t RemoveDocument = []
 
 -- whether the change writes an attribute that the tree before doesn't have
 abbrev pub is_fresh : Tree → Change → Bool
-is_fresh t (CreateDocument root) = false
-is_fresh t (Insert parent gap element) = false
-is_fresh t (Replace p element) = false
-is_fresh t (Remove p) = false
 is_fresh t (SetAttr p name value) = is_none (attr_at p name t)
-is_fresh t (DropAttr p name) = false
-is_fresh t RemoveDocument = false
+is_fresh t _ = false
 
 -- the note of a change of the tree t, which has the first tag, where the tree after it gets the second
 abbrev pub note_of : ℕ → ℕ → Tree → Change → Note

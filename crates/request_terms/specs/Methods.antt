@@ -34,8 +34,5 @@ is_known Other = false
 
 -- GET's reply, or that without its body (RFC 9110, section 9.3.2)
 abbrev pub as_asked : Method → Sent → Sent
-as_asked Get reply = reply
 as_asked Head reply = record reply { body = [] }
-as_asked Put reply = reply
-as_asked Delete reply = reply
-as_asked Other reply = reply
+as_asked _ reply = reply

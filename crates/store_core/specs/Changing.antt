@@ -13,7 +13,7 @@ use Rattle.doc_names.specs.Same.{same_id}
 use Rattle.doc_names.specs.declared.doc_id.DocId.{DocId}
 use Rattle.edit_ops.specs.Changes.{edited}
 use Rattle.edit_ops.specs.declared.change.Change.{Change}
-use Rattle.edit_ops.specs.declared.change.Change.TheVariants.{CreateDocument, Insert, Replace, Remove, SetAttr, DropAttr, RemoveDocument}
+use Rattle.edit_ops.specs.declared.change.Change.TheVariants.{CreateDocument, RemoveDocument}
 use Rattle.notes.specs.Notes.{Note, note_of}
 use Rattle.store_core.specs.Limits.{most_bytes, most_bytes_together, most_documents}
 use Rattle.store_core.specs.declared.refusal.StoreRefusal.{StoreRefusal}
@@ -53,12 +53,8 @@ pub data Act : Type 0 where
 
 abbrev pub act_of : Change → Act
 act_of (CreateDocument root) = Makes root
-act_of (Insert parent gap element) = Edits
-act_of (Replace p element) = Edits
-act_of (Remove p) = Edits
-act_of (SetAttr p name value) = Edits
-act_of (DropAttr p name) = Edits
 act_of RemoveDocument = Removes
+act_of _ = Edits
 
 -- ---- the state
 

@@ -1,12 +1,12 @@
 -- The documents that the index of all services lists. RFC 4826, section 4.4.7: those that users keep under the name `index`.
-use Rattle.std.specs.Prelude.{◌≡◌, ℕ, Bool, true, false, List, map, codes, Option, None, Some, chars, filter_map}
+use Rattle.std.specs.Prelude.{◌≡◌, ℕ, Bool, true, List, map, codes, Option, None, Some, chars, filter_map}
 use Rattle.std.specs.List.Sorted.{IsSortedByKey, IsStableByKey}
 use Rattle.std.specs.Cmp.Lexicographic.{slice_cmp}
 use Rattle.std.specs.Ordering.{nat_cmp}
 use Rattle.std.specs.Str.{bytes_eq}
 use Rattle.xml_tree.specs.Tree.{Tree}
 use Rattle.doc_names.specs.declared.doc_id.Auid.{Auid}
-use Rattle.doc_names.specs.declared.doc_id.Auid.TheVariants.{ResourceLists, RlsServices, XcapCaps}
+use Rattle.doc_names.specs.declared.doc_id.Auid.TheVariants.{RlsServices}
 use Rattle.doc_names.specs.declared.doc_id.Home.{Home}
 use Rattle.doc_names.specs.declared.doc_id.Home.TheVariants.{Global, User}
 use Rattle.store_core.specs.Held.{Held, Stock}
@@ -21,10 +21,8 @@ indexed_in Global t = None
 indexed_in (User xui) t = Some (xui, t)
 
 abbrev pub indexed_by : Auid → Bool → Home → Tree → Option (List ℕ × Tree)
-indexed_by ResourceLists is_index home t = None
-indexed_by RlsServices false home t = None
 indexed_by RlsServices true home t = indexed_in home t
-indexed_by XcapCaps is_index home t = None
+indexed_by _ _ home t = None
 
 abbrev pub indexed : Held → Option (List ℕ × Tree)
 indexed h = indexed_by h.id.auid (bytes_eq h.id.name index) h.id.home h.tree
