@@ -1,6 +1,6 @@
 -- Where a reference leads. RFC 4826, sections 3.4.5 and 4.4.5: to the element that its target addresses (RFC 4825, section 6), if that
 -- is the address of an element in a document of lists that the same user keeps here, and the element is an entry or a list, as is due.
-use Rattle.std.specs.Prelude.{◌≡◌, ℕ, Bool, ◌&&◌, List, Option, None, Some, Result, Ok, Err, option_map, option_and_then, encode_utf8_all, if◌then◌else◌}
+use Rattle.std.specs.Prelude.{◌≡◌, ℕ, Bool, ◌&&◌, List, Option, None, Some, Result, Ok, option_map, option_and_then, encode_utf8_all, if◌then◌else◌}
 use Rattle.xml_tree.specs.Tree.{Tree}
 use Rattle.node_select.specs.Selection.{selected_in}
 use Rattle.node_select.specs.declared.selector.Selector.{Selector}
@@ -11,7 +11,7 @@ use Rattle.doc_names.specs.declared.doc_id.DocId.{DocId}
 use Rattle.xcap_uri.specs.Targets.{TargetAnswer, is_element}
 use Rattle.xcap_uri.specs.declared.fault.UriFault.{UriFault}
 use Rattle.xcap_uri.specs.declared.target.Target.{Target}
-use Rattle.xcap_uri.specs.declared.target.Target.TheVariants.{Document, Node, Deep, Feed, ElementFeed, Flat}
+use Rattle.xcap_uri.specs.declared.target.Target.TheVariants.{Node}
 use Rattle.store_core.specs.Held.{Held}
 use Rattle.store_core.specs.Changing.{document_in, held_name}
 use Rattle.list_resolve.specs.declared.place.Place.{Place}
@@ -64,13 +64,8 @@ lead_to g wanted doc selector =
 
 -- where a target leads
 abbrev pub lead_of : Ground → Wanted → Result Target UriFault → Option Lead
-lead_of g wanted (Ok (Document doc)) = None
 lead_of g wanted (Ok (Node doc selector)) = lead_to g wanted doc selector
-lead_of g wanted (Ok (Deep auid home)) = None
-lead_of g wanted (Ok (Feed mode tag doc)) = None
-lead_of g wanted (Ok (ElementFeed tag doc selector raw)) = None
-lead_of g wanted (Ok (Flat doc service)) = None
-lead_of g wanted (Err fault) = None
+lead_of g wanted _ = None
 
 -- a reference leads there: what its target means tells where
 abbrev pub ReferenceLeadsTo : Ground → Reference → Option Lead → Type 0

@@ -4,7 +4,7 @@ use Rattle.std.specs.Prelude.{ℕ, Bool, true, false, List, ◌∷◌, ◌++◌,
 use Rattle.xml_tree.specs.Tree.{Content}
 use Rattle.xml_tree.specs.declared.names.Attr.{Attr}
 use Rattle.usage_docs.specs.declared.rows.Kind.{Kind}
-use Rattle.usage_docs.specs.declared.rows.Kind.TheVariants.{ResourceLists, EntryList, Entry, EntryRef, External, DisplayName, RlsServices, Service, ResourceList, Packages, Package}
+use Rattle.usage_docs.specs.declared.rows.Kind.TheVariants.{EntryList, Entry, EntryRef, External, ResourceList}
 use Rattle.usage_docs.specs.declared.rows.Key.TheVariants.{Ref, Anchor}
 use Rattle.usage_docs.specs.Keys.{value_of}
 use Rattle.usage_docs.specs.Forms.{trimmed}
@@ -26,36 +26,10 @@ abbrev pub reference_of : List ℕ → Kind → List Attr → Content → Option
 reference_of root EntryRef ats k = option_map (λ value. reference wanted.AnEntry (from_root root value)) (value_of Ref ats)
 reference_of root External ats k = option_map (λ value. reference wanted.AList value) (value_of Anchor ats)
 reference_of root ResourceList ats k = Some (reference wanted.AList (trimmed (text_of k)))
-reference_of root ResourceLists ats k = None
-reference_of root EntryList ats k = None
-reference_of root Entry ats k = None
-reference_of root DisplayName ats k = None
-reference_of root RlsServices ats k = None
-reference_of root Service ats k = None
-reference_of root Packages ats k = None
-reference_of root Package ats k = None
+reference_of root _ ats k = None
 
 -- whether a reference that wants this may lead to an element of this kind
 abbrev pub is_wanted : Wanted → Kind → Bool
 is_wanted wanted.AnEntry Entry = true
-is_wanted wanted.AnEntry ResourceLists = false
-is_wanted wanted.AnEntry EntryList = false
-is_wanted wanted.AnEntry EntryRef = false
-is_wanted wanted.AnEntry External = false
-is_wanted wanted.AnEntry DisplayName = false
-is_wanted wanted.AnEntry RlsServices = false
-is_wanted wanted.AnEntry Service = false
-is_wanted wanted.AnEntry ResourceList = false
-is_wanted wanted.AnEntry Packages = false
-is_wanted wanted.AnEntry Package = false
 is_wanted wanted.AList EntryList = true
-is_wanted wanted.AList ResourceLists = false
-is_wanted wanted.AList Entry = false
-is_wanted wanted.AList EntryRef = false
-is_wanted wanted.AList External = false
-is_wanted wanted.AList DisplayName = false
-is_wanted wanted.AList RlsServices = false
-is_wanted wanted.AList Service = false
-is_wanted wanted.AList ResourceList = false
-is_wanted wanted.AList Packages = false
-is_wanted wanted.AList Package = false
+is_wanted _ _ = false

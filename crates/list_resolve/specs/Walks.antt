@@ -6,7 +6,7 @@ use Rattle.xml_tree.specs.Tree.{Content, last, more, note, Tree}
 use Rattle.xml_tree.specs.Scopes.{inside}
 use Rattle.xml_tree.specs.declared.names.Attr.{Attr}
 use Rattle.usage_docs.specs.declared.rows.Kind.{Kind}
-use Rattle.usage_docs.specs.declared.rows.Kind.TheVariants.{ResourceLists, EntryList, Entry, EntryRef, External, DisplayName, RlsServices, Service, ResourceList, Packages, Package}
+use Rattle.usage_docs.specs.declared.rows.Kind.TheVariants.{EntryList, Entry, EntryRef, External, ResourceList}
 use Rattle.usage_docs.specs.declared.rows.Key.TheVariants.{Uri}
 use Rattle.usage_docs.specs.Rows.{Scope, kind_of}
 use Rattle.usage_docs.specs.Keys.{value_of}
@@ -41,12 +41,7 @@ given behind root EntryList ats k items = items
 given behind root EntryRef ats k items = reference_items behind (reference_of root EntryRef ats k)
 given behind root External ats k items = reference_items behind (reference_of root External ats k)
 given behind root ResourceList ats k items = reference_items behind (reference_of root ResourceList ats k)
-given behind root ResourceLists ats k items = []
-given behind root DisplayName ats k items = []
-given behind root RlsServices ats k items = []
-given behind root Service ats k items = []
-given behind root Packages ats k items = []
-given behind root Package ats k items = []
+given behind root _ ats k items = []
 
 -- the same of a child, which gives nothing where it has no kind
 abbrev pub given_if : (Reference → List Item) → List ℕ → Option Kind → List Attr → Content → List Item → List Item
