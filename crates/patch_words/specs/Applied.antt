@@ -268,12 +268,9 @@ abbrev pub within_depth : Tree → Bool
 within_depth t = nat_le (height t) most_levels
 
 abbrev pub off_root : Position → List ℕ → Bool
-off_root Behind p = true
-off_root Prepend p = true
 off_root Before [] = false
-off_root Before (n ∷ p) = true
 off_root After [] = false
-off_root After (n ∷ p) = true
+off_root _ _ = true
 
 abbrev pub is_below : List ℕ → Bool
 is_below [] = false
