@@ -13,7 +13,7 @@ use Rattle.doc_names.specs.Usages.{usage_of}
 use Rattle.doc_names.specs.declared.usages.Usage.{Usage}
 use Rattle.reply_text.specs.Heads.{plain}
 use Rattle.xcap_uri.specs.declared.fault.UriFault.{UriFault}
-use Rattle.xcap_uri.specs.declared.fault.UriFault.TheVariants.{OutsideRoot, UnknownAuid, BadShape, BadEscape, BadQuery, UnboundPrefix, BadSelector}
+use Rattle.xcap_uri.specs.declared.fault.UriFault.TheVariants.{OutsideRoot, UnknownAuid}
 use Rattle.xcap_uri.specs.declared.target.Target.{Target}
 use Rattle.xcap_uri.specs.declared.target.Target.TheVariants.{Document, Node, Deep, Feed, ElementFeed, Flat}
 use Rattle.http_wire.specs.declared.request.Request.{Request}
@@ -35,11 +35,7 @@ use Rattle.machine_words.specs.Fragments.{PutsNode, DeletesNode, MayBeWritten}
 abbrev pub fault_status : UriFault → ℕ
 fault_status OutsideRoot = 404
 fault_status UnknownAuid = 404
-fault_status BadShape = 400
-fault_status BadEscape = 400
-fault_status BadQuery = 400
-fault_status UnboundPrefix = 400
-fault_status BadSelector = 400
+fault_status _ = 400
 
 -- bindings can't be put
 abbrev pub is_bindings : End → Bool
@@ -89,17 +85,13 @@ abbrev pub Puts : List ℕ → Stock → Target → Usage → Request → Answer
 Puts root c (Document id) usage request a = PutsDocument c id usage request a
 Puts root c (Node id selector) usage request a = PutsNode root c id usage selector request a
 Puts root c (Deep auid home) usage request a = a ≡ puts_deeper root auid home request
-Puts root c (Feed mode tag id) usage request a = ⊥
-Puts root c (ElementFeed tag id selector raw) usage request a = ⊥
-Puts root c (Flat id service) usage request a = ⊥
+Puts root c _ usage request a = ⊥
 
 abbrev pub Deletes : Stock → Target → Usage → Request → Answer → Type 0
 Deletes c (Document id) usage request a = DeletesDocument c id request a
 Deletes c (Node id selector) usage request a = DeletesNode c id usage selector request a
 Deletes c (Deep auid home) usage request a = a ≡ unchanged (plain 404 request.closes)
-Deletes c (Feed mode tag id) usage request a = ⊥
-Deletes c (ElementFeed tag id selector raw) usage request a = ⊥
-Deletes c (Flat id service) usage request a = ⊥
+Deletes c _ usage request a = ⊥
 
 -- ---- all in order
 

@@ -51,11 +51,7 @@ IfStored (Some usage) request a Writes = Writes usage
 -- a text isn't UTF-8, or has another fault, which each kind of resource has its own conflict for
 abbrev pub text_conflict : ErrorBody → TextFault → ErrorBody
 text_conflict malformed texts.NotUtf8 = conflicts.NotUtf8
-text_conflict malformed (texts.NotWellFormed place) = malformed
-text_conflict malformed (texts.Doctype place) = malformed
-text_conflict malformed (texts.TooDeep place) = malformed
-text_conflict malformed (texts.Namespace place) = malformed
-text_conflict malformed (texts.RepeatedAttribute place) = malformed
+text_conflict malformed _ = malformed
 
 -- ---- trees that are a document of the usage, or not
 
