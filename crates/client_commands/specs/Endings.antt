@@ -8,27 +8,23 @@ use Rattle.xcap_client.specs.Calls.{Calls}
 use Rattle.xcap_client.specs.declared.fault.ClientFault.{ClientFault}
 use Rattle.feed_follower.specs.Faults.{of_client}
 use Rattle.client_commands.specs.declared.ended.Ended.{Ended}
-use Rattle.client_commands.specs.declared.ended.Ended.TheVariants.{Done, InputFailed, OutputFailed, TooLarge, Failed, OutOfMemory}
+use Rattle.client_commands.specs.declared.ended.Ended.TheVariants.{Done, OutputFailed, Failed, OutOfMemory}
 
 -- how a command ends that has written its output: the line took it all, or failed
 abbrev pub Writes : List ℕ → Ended → LineState → LineState → Type 0
 Writes bytes Done old new = TakesAll bytes old new
-Writes bytes InputFailed old new = ⊥
 Writes bytes OutputFailed old new = TakesSome bytes old new
-Writes bytes TooLarge old new = ⊥
-Writes bytes (Failed fault) old new = ⊥
-Writes bytes OutOfMemory old new = ⊥
+Writes bytes _ old new = ⊥
 
 -- One call was made, and its response was taken, and the output took this text made of it, or some of that where it failed; or the call
 -- failed, and nothing was written; or memory was wanted for the output behind the call, and nothing was written.
 abbrev pub MakesOneCall : List ℕ → Ask → (Response → List ℕ) → Ended → LineState → LineState → LineState → LineState → Type 0
 MakesOneCall root ask text Done peer peer' output output' =
     (response : Response) × Calls root ask peer peer' (Ok response) × TakesAll (text response) output output'
-MakesOneCall root ask text InputFailed peer peer' output output' = ⊥
 MakesOneCall root ask text OutputFailed peer peer' output output' =
     (response : Response) × Calls root ask peer peer' (Ok response) × TakesSome (text response) output output'
-MakesOneCall root ask text TooLarge peer peer' output output' = ⊥
 MakesOneCall root ask text (Failed fault) peer peer' output output' =
     (given : ClientFault) × Calls root ask peer peer' (Err given) × (fault ≡ of_client given) × (output' ≡ output)
 MakesOneCall root ask text OutOfMemory peer peer' output output' =
     (response : Response) × Calls root ask peer peer' (Ok response) × (output' ≡ output)
+MakesOneCall root ask text _ peer peer' output output' = ⊥

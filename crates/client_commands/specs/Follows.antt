@@ -11,7 +11,7 @@ use Rattle.feed_follower.specs.declared.fault.FollowerFault.{FollowerFault}
 use Rattle.feed_follower.specs.declared.feeds.Round.{Round}
 use Rattle.client_commands.specs.Lines.{copy_text, tag_line}
 use Rattle.client_commands.specs.declared.ended.Ended.{Ended}
-use Rattle.client_commands.specs.declared.ended.Ended.TheVariants.{Done, InputFailed, OutputFailed, TooLarge, Failed, OutOfMemory}
+use Rattle.client_commands.specs.declared.ended.Ended.TheVariants.{Done, OutputFailed, Failed, OutOfMemory}
 
 -- One round was made, and the output took its line.
 pub record RoundMade (f f' : Following) (peer peer' output output' : LineState) : Type 0 where
@@ -29,13 +29,11 @@ RoundsMade (suc n) f f' peer peer' output output' =
 -- How one round can end the command: the round failed; or it went well, and the output took some of its line, or memory was wanted for the
 -- line.
 abbrev pub RoundEnds : Following → Following → Ended → LineState → LineState → LineState → LineState → Type 0
-RoundEnds f f' Done peer peer' output output' = ⊥
-RoundEnds f f' InputFailed peer peer' output output' = ⊥
 RoundEnds f f' OutputFailed peer peer' output output' =
     (round : Round) × Rounds f f' peer peer' (Ok round) × TakesSome (tag_line f'.held) output output'
-RoundEnds f f' TooLarge peer peer' output output' = ⊥
 RoundEnds f f' (Failed fault) peer peer' output output' = Rounds f f' peer peer' (Err fault) × (output' ≡ output)
 RoundEnds f f' OutOfMemory peer peer' output output' = (round : Round) × Rounds f f' peer peer' (Ok round) × (output' ≡ output)
+RoundEnds f f' _ peer peer' output output' = ⊥
 
 -- what a round did: none where the command goes on
 abbrev pub MakesRound : Following → Following → Option Ended → LineState → LineState → LineState → LineState → Type 0
@@ -45,11 +43,9 @@ MakesRound f f' (Some ended) peer peer' output output' = RoundEnds f f' ended pe
 -- the document was written, if one is held; or some of it; or memory was wanted for that
 abbrev pub WritesCopy : CopyHeld → Ended → LineState → LineState → Type 0
 WritesCopy held Done output output' = TakesAll (copy_text held) output output'
-WritesCopy held InputFailed output output' = ⊥
 WritesCopy held OutputFailed output output' = TakesSome (copy_text held) output output'
-WritesCopy held TooLarge output output' = ⊥
-WritesCopy held (Failed fault) output output' = ⊥
 WritesCopy held OutOfMemory output output' = output' ≡ output
+WritesCopy held _ output output' = ⊥
 
 -- A follower made its rounds, all that were wanted, and then the document was written; or one of them ended the command, and those before it
 -- had been made.

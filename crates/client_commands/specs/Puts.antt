@@ -7,7 +7,7 @@ use Rattle.xcap_client.specs.Asks.{putting}
 use Rattle.client_commands.specs.Endings.{MakesOneCall}
 use Rattle.client_commands.specs.Lines.{put_line}
 use Rattle.client_commands.specs.declared.ended.Ended.{Ended}
-use Rattle.client_commands.specs.declared.ended.Ended.TheVariants.{Done, InputFailed, OutputFailed, TooLarge, Failed, OutOfMemory}
+use Rattle.client_commands.specs.declared.ended.Ended.TheVariants.{InputFailed, TooLarge, OutOfMemory}
 
 -- the input gave a text, which was put
 abbrev pub PutsText : List ℕ → Option (List ℕ) → List ℕ → List ℕ → Ended → LineState → LineState → LineState → LineState → LineState → LineState → Type 0
@@ -20,12 +20,10 @@ AsksNothing peer peer' output output' = (peer' ≡ peer) × (output' ≡ output)
 
 -- The input gave a text, which was put; or it failed, or has more bytes than are put, and nothing was asked.
 abbrev pub Puts : List ℕ → Option (List ℕ) → List ℕ → List ℕ → Ended → LineState → LineState → LineState → LineState → LineState → LineState → Type 0
-Puts root user path media Done peer peer' input input' output output' = PutsText root user path media Done peer peer' input input' output output'
 Puts root user path media InputFailed peer peer' input input' output output' =
     ((front : List ℕ) × GaveAndFailed front input input' × (length front ≤ most_body_bytes)) × AsksNothing peer peer' output output'
-Puts root user path media OutputFailed peer peer' input input' output output' = PutsText root user path media OutputFailed peer peer' input input' output output'
 Puts root user path media TooLarge peer peer' input input' output output' =
     ((front : List ℕ) × JustGave front input input' × (length front ≡ most_body_bytes + 1)) × AsksNothing peer peer' output output'
-Puts root user path media (Failed fault) peer peer' input input' output output' = PutsText root user path media (Failed fault) peer peer' input input' output output'
 Puts root user path media OutOfMemory peer peer' input input' output output' =
     ((input' ≡ input) × AsksNothing peer peer' output output') ⊎ PutsText root user path media OutOfMemory peer peer' input input' output output'
+Puts root user path media ended peer peer' input input' output output' = PutsText root user path media ended peer peer' input input' output output'

@@ -9,7 +9,7 @@ use Rattle.xcap_uri.specs.Roots.{slash}
 use Rattle.xcap_uri.specs.Targets.{TargetAnswer}
 use Rattle.xcap_uri.specs.declared.fault.UriFault.{UriFault}
 use Rattle.xcap_uri.specs.declared.target.Target.{Target}
-use Rattle.xcap_uri.specs.declared.target.Target.TheVariants.{Document, Node, Deep, Feed, ElementFeed, Flat}
+use Rattle.xcap_uri.specs.declared.target.Target.TheVariants.{Document}
 use Rattle.xcap_client.specs.Asks.{getting, removing}
 use Rattle.client_commands.specs.Endings.{MakesOneCall}
 use Rattle.client_commands.specs.Follows.{Follows}
@@ -64,11 +64,7 @@ is_stored doc = is_some (usage_of doc.auid) && is_users doc.home
 -- the document that a target means, where it can be followed
 abbrev pub document_in : Target → Option DocId
 document_in (Document doc) = if is_stored doc then Some doc else None
-document_in (Node doc selector) = None
-document_in (Deep auid home) = None
-document_in (Feed mode tag doc) = None
-document_in (ElementFeed tag doc selector raw) = None
-document_in (Flat doc service) = None
+document_in _ = None
 
 abbrev pub document_told : Result Target UriFault → Option DocId
 document_told (Ok target) = document_in target

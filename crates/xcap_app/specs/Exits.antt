@@ -62,15 +62,10 @@ words_of OutOfMemory = codes "out of memory\n"
 
 -- the words take memory: the input was refused, or a call of the client failed
 abbrev pub IsRefused : Exit → Type 0
-IsRefused Done = ⊥
-IsRefused Usage = ⊥
-IsRefused InputFailed = ⊥
-IsRefused OutputFailed = ⊥
-IsRefused NetworkFailed = ⊥
 IsRefused (Refused refusal) = Unit {0}
 IsRefused (Client fault) = Unit {0}
 IsRefused (BadJournal refusal) = Unit {0}
-IsRefused OutOfMemory = ⊥
+IsRefused _ = ⊥
 
 -- the bytes of words
 abbrev pub said : Words → List ℕ

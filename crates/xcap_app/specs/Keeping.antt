@@ -29,7 +29,7 @@ use Rattle.xcap_app.specs.Frames.{JustWritten}
 use Rattle.xcap_app.specs.Serves.{IsComplete}
 use Rattle.xcap_app.specs.Telling.{IsTold as IsToldAs}
 use Rattle.xcap_app.specs.declared.exit.Exit.{Exit}
-use Rattle.xcap_app.specs.declared.exit.Exit.TheVariants.{Done, Usage, InputFailed, OutputFailed, NetworkFailed, Refused, Client, BadJournal, OutOfMemory}
+use Rattle.xcap_app.specs.declared.exit.Exit.TheVariants.{Done, InputFailed, OutputFailed, NetworkFailed, Refused, BadJournal, OutOfMemory}
 use Rattle.xcap_app.specs.declared.journal_refusal.JournalRefusal.TheVariants as refusals
 
 -- how the command ends that couldn't read its old journal
@@ -124,17 +124,12 @@ module _ {W : Type 0} (Keeps : List Edit → W → W → Type 0) (IsWritten : Li
   abbrev pub KeepsOn : List ℕ → List ℕ → ℕ → Exit → List Request → State → LineState → LineState → W → W → Type 0
   KeepsOn address root count Done requests state port port' watchers watchers' =
       (served : Served) × ServesKept address root count served requests state port port' watchers watchers' [] 0 × IsComplete served.stop
-  KeepsOn address root count Usage requests state port port' watchers watchers' = ⊥
-  KeepsOn address root count InputFailed requests state port port' watchers watchers' = ⊥
   KeepsOn address root count OutputFailed requests state port port' watchers watchers' =
       (served : Served) × (rest : List ℕ) × (failures : ℕ) × ServesKept address root count served requests state port port' watchers watchers' rest failures × HasFailed
   KeepsOn address root count NetworkFailed requests state port port' watchers watchers' =
       DoesntListen requests port port' watchers watchers'
       ⊎ ((served : Served) × ServesKept address root count served requests state port port' watchers watchers' [] 0 × (served.stop ≡ PortFailed))
-  KeepsOn address root count (Refused refusal) requests state port port' watchers watchers' = ⊥
-  KeepsOn address root count (Client fault) requests state port port' watchers watchers' = ⊥
-  KeepsOn address root count (BadJournal refusal) requests state port port' watchers watchers' = ⊥
-  KeepsOn address root count OutOfMemory requests state port port' watchers watchers' = ⊥
+  KeepsOn address root count _ requests state port port' watchers watchers' = ⊥
 
 -- Memory was wanted before anything was done; or the old journal wasn't read to its end, and no more was done; or it was, and the
 -- connections that came were served.

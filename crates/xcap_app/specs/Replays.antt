@@ -11,7 +11,7 @@ use Rattle.http_serve.specs.declared.connection.Ended.{Ended}
 use Rattle.http_serve.specs.declared.connection.Ended.TheVariants.{Closed, ReadFailed, WriteFailed}
 use Rattle.xcap_app.specs.Frames.{JustRead, JustWritten, both_lines}
 use Rattle.xcap_app.specs.declared.exit.Exit.{Exit}
-use Rattle.xcap_app.specs.declared.exit.Exit.TheVariants.{Done, Usage, InputFailed, OutputFailed, NetworkFailed, Refused, Client, BadJournal, OutOfMemory}
+use Rattle.xcap_app.specs.declared.exit.Exit.TheVariants.{Done, InputFailed, OutputFailed, OutOfMemory}
 
 -- how the command ends with its connection
 abbrev pub exit_of : Ended → Exit
@@ -35,11 +35,7 @@ module _ {W : Type 0} (Keeps : List Edit → W → W → Type 0) where
   -- did; or memory was wanted, and nothing was done.
   abbrev pub Replays : List ℕ → Exit → LineState → LineState → LineState → LineState → W → W → Type 0
   Replays root Done input input' output output' watchers watchers' = ServesInput root (first_state 1) Closed input input' output output' watchers watchers'
-  Replays root Usage input input' output output' watchers watchers' = ⊥
   Replays root InputFailed input input' output output' watchers watchers' = ServesInput root (first_state 1) ReadFailed input input' output output' watchers watchers'
   Replays root OutputFailed input input' output output' watchers watchers' = ServesInput root (first_state 1) WriteFailed input input' output output' watchers watchers'
-  Replays root NetworkFailed input input' output output' watchers watchers' = ⊥
-  Replays root (Refused refusal) input input' output output' watchers watchers' = ⊥
-  Replays root (Client fault) input input' output output' watchers watchers' = ⊥
-  Replays root (BadJournal refusal) input input' output output' watchers watchers' = ⊥
   Replays root OutOfMemory input input' output output' watchers watchers' = (input' ≡ input) × (output' ≡ output) × (watchers' ≡ watchers)
+  Replays root _ input input' output output' watchers watchers' = ⊥

@@ -10,20 +10,14 @@ use Rattle.xcap_app.specs.Samples.{RunsSample}
 use Rattle.xcap_app.specs.declared.command.Command.{Command}
 use Rattle.xcap_app.specs.declared.command.Command.TheVariants.{Replay, Serve, Keep, Check, Sample, Fetch, Put, Delete, Follow}
 use Rattle.xcap_app.specs.declared.exit.Exit.{Exit}
-use Rattle.xcap_app.specs.declared.exit.Exit.TheVariants.{Done, Usage, InputFailed, OutputFailed, NetworkFailed, Refused, Client, BadJournal, OutOfMemory}
+use Rattle.xcap_app.specs.declared.exit.Exit.TheVariants.{Usage, OutOfMemory}
 use Rattle.xcap_app.specs.Serves.{ServesCommand}
 
 -- how a run ends whose words spell no command; want of memory may come before that is known
 abbrev pub EndsUnspelled : Exit → Type 0
-EndsUnspelled Done = ⊥
 EndsUnspelled Usage = Unit {0}
-EndsUnspelled InputFailed = ⊥
-EndsUnspelled OutputFailed = ⊥
-EndsUnspelled NetworkFailed = ⊥
-EndsUnspelled (Refused refusal) = ⊥
-EndsUnspelled (Client fault) = ⊥
-EndsUnspelled (BadJournal refusal) = ⊥
 EndsUnspelled OutOfMemory = Unit {0}
+EndsUnspelled _ = ⊥
 
 -- W is the type of the watchers, and `Keeps` says what they are after such changes.
 module _ {W : Type 0} (Keeps : List Edit → W → W → Type 0) where

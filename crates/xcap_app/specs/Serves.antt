@@ -13,7 +13,7 @@ use Rattle.http_serve.specs.declared.port.Stop.{Stop}
 use Rattle.http_serve.specs.declared.port.Stop.TheVariants.{Count, NoMore, PortFailed}
 use Rattle.stream_texts.specs.Outputs.{TakesAll, TakesSome}
 use Rattle.xcap_app.specs.declared.exit.Exit.{Exit}
-use Rattle.xcap_app.specs.declared.exit.Exit.TheVariants.{Done, Usage, InputFailed, OutputFailed, NetworkFailed, Refused, Client, BadJournal, OutOfMemory}
+use Rattle.xcap_app.specs.declared.exit.Exit.TheVariants.{Done, OutputFailed, NetworkFailed, OutOfMemory}
 
 -- the line about so many connections
 abbrev pub served_line : ℕ → List ℕ
@@ -41,8 +41,6 @@ module _ {W : Type 0} (Keeps : List Edit → W → W → Type 0) where
   ServesCommand address root count Done port port' output output' watchers watchers' =
       (served : Served) × ServesAddress address root count served port port' watchers watchers' × IsComplete served.stop
       × TakesAll (served_line served.connections) output output'
-  ServesCommand address root count Usage port port' output output' watchers watchers' = ⊥
-  ServesCommand address root count InputFailed port port' output output' watchers watchers' = ⊥
   ServesCommand address root count OutputFailed port port' output output' watchers watchers' =
       (served : Served) × ServesAddress address root count served port port' watchers watchers' × IsComplete served.stop
       × TakesSome (served_line served.connections) output output'
@@ -50,7 +48,5 @@ module _ {W : Type 0} (Keeps : List Edit → W → W → Type 0) where
       ((((port' ≡ with_port_faults port port'.port.faults) × Rose port.port.faults port'.port.faults) × (watchers' ≡ watchers))
       ⊎ ((served : Served) × ServesAddress address root count served port port' watchers watchers' × (served.stop ≡ PortFailed)))
       × (output' ≡ output)
-  ServesCommand address root count (Refused refusal) port port' output output' watchers watchers' = ⊥
-  ServesCommand address root count (Client fault) port port' output output' watchers watchers' = ⊥
-  ServesCommand address root count (BadJournal refusal) port port' output output' watchers watchers' = ⊥
   ServesCommand address root count OutOfMemory port port' output output' watchers watchers' = (port' ≡ port) × (output' ≡ output) × (watchers' ≡ watchers)
+  ServesCommand address root count _ port port' output output' watchers watchers' = ⊥
