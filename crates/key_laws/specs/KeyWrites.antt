@@ -13,7 +13,7 @@ use Rattle.node_select.specs.declared.selector.Selector.{Selector}
 use Rattle.edit_ops.specs.Changes.{edited}
 use Rattle.edit_ops.specs.Moves.{behind, moved}
 use Rattle.edit_ops.specs.declared.change.Change.{Change}
-use Rattle.edit_ops.specs.declared.change.Change.TheVariants.{CreateDocument, Insert, Replace, Remove, SetAttr, DropAttr, RemoveDocument}
+use Rattle.edit_ops.specs.declared.change.Change.TheVariants.{SetAttr, DropAttr}
 use Rattle.key_laws.specs.KeyAddresses.{IsKeyAddressOf}
 
 -- ---- keys that are written
@@ -34,13 +34,9 @@ pub record IsKeyOn (u : Usage) (t : Tree) (p q : List ℕ) (name : Name) : Type 
 
 -- the change writes or drops a key attribute of an element on the path
 abbrev pub WritesKeyOn : Usage → Tree → List ℕ → Change → Type 0
-WritesKeyOn u t p (CreateDocument root) = ⊥
-WritesKeyOn u t p (Insert parent gap element) = ⊥
-WritesKeyOn u t p (Replace q element) = ⊥
-WritesKeyOn u t p (Remove q) = ⊥
 WritesKeyOn u t p (SetAttr q name value) = IsKeyOn u t p q name
 WritesKeyOn u t p (DropAttr q name) = IsKeyOn u t p q name
-WritesKeyOn u t p RemoveDocument = ⊥
+WritesKeyOn u t p _ = ⊥
 
 -- ---- what addresses select
 

@@ -62,12 +62,8 @@ operation prefix n = change_told prefix n.bindings n.fresh n.change
 -- the length in bytes of the operation's text with the prefix `d`; a document that is made or removed weighs nothing
 abbrev pub weight_of : List Decl → Bool → Change → ℕ
 weight_of bindings fresh (CreateDocument root) = 0
-weight_of bindings fresh (Insert parent gap element) = byte_len (print (change_told (codes "d") bindings fresh (Insert parent gap element)))
-weight_of bindings fresh (Replace p element) = byte_len (print (change_told (codes "d") bindings fresh (Replace p element)))
-weight_of bindings fresh (Remove p) = byte_len (print (change_told (codes "d") bindings fresh (Remove p)))
-weight_of bindings fresh (SetAttr p name value) = byte_len (print (change_told (codes "d") bindings fresh (SetAttr p name value)))
-weight_of bindings fresh (DropAttr p name) = byte_len (print (change_told (codes "d") bindings fresh (DropAttr p name)))
 weight_of bindings fresh RemoveDocument = 0
+weight_of bindings fresh change = byte_len (print (change_told (codes "d") bindings fresh change))
 
 abbrev pub weight : Note → ℕ
 weight n = weight_of n.bindings n.fresh n.change
