@@ -10,7 +10,8 @@ use Rattle.store_core.specs.Stored.{Stored}
 use Rattle.store_core.specs.declared.refusal.StoreRefusal.{StoreRefusal}
 use Rattle.store_core.specs.Held.{Stock as Content}
 use Rattle.machine_words.specs.Answers.{Answer, unchanged}
-use Rattle.machine_words.specs.Writing.{change_answer, refused, store_answer}
+use Rattle.machine_words.specs.Writing.{change_answer, refused}
+use Rattle.machine_words.proofs.Changed.{as_the_store, told_by_store}
 use Rattle.document_writes.specs.Deciding.{Decides, answer_of}
 use Rattle.document_writes.specs.inner.Making.{IsPrepared}
 use Rattle.document_writes.specs.declared.decision.Decision.{Decision}
@@ -40,10 +41,10 @@ module _ (c : Content) (id : DocId) (change : Change) (closes : Bool) (reply_to 
       let with_reply : Sent → Answer = λ r. record { reply = r; made = Some (name, p.note) } in
       let with_name : DocId → Answer = λ d. record { reply = reply_to p.note; made = Some (d, p.note) } in
       record {
-        answers = ap with_reply is ∙ ap with_name m.named ∙ sym (ap (λ (x : Result (Note × Content) StoreRefusal). store_answer id closes reply_to x) m.answered);
+        answers = ap with_reply is ∙ ap with_name m.named ∙ sym (as_the_store c id change closes reply_to ∙ ap (λ (x : Result (Note × Content) StoreRefusal). told_by_store id closes reply_to x) m.answered);
         ready = (m.of_document ∙ sym m.named, m.ready);
       }
 
   -- a change that is refused
   pub refuses : (reply : Sent) (refusal : StoreRefusal) → changing c id change ≡ Err refusal → reply ≡ refused refusal closes → Decides Is s (Stays reply)
-  refuses reply refusal e told = stays Is s reply (ap unchanged told ∙ sym (ap (λ (x : Result (Note × Content) StoreRefusal). store_answer id closes reply_to x) e))
+  refuses reply refusal e told = stays Is s reply (ap unchanged told ∙ sym (as_the_store c id change closes reply_to ∙ ap (λ (x : Result (Note × Content) StoreRefusal). told_by_store id closes reply_to x) e))

@@ -45,8 +45,9 @@ use Rattle.machine_words.specs.Fragments.{CutsNode, DeletesNodeIn, PutsAt, PutsE
 use Rattle.machine_words.specs.Machine.{Does, answer_as, told_as}
 use Rattle.machine_words.specs.Requests.{ByMethod, ByTarget, ByUser, Deletes, IsAnswer, IsAnswered, Puts, auid_of, home_of, is_read_only, takes}
 use Rattle.machine_words.specs.Resources.{version_of}
-use Rattle.machine_words.specs.Writing.{DeletesDocumentIn, IfStored, PutsDocument, PutsSpelled, PutsText, by_judgement, change_answer, deleted_reply, put_answer, put_reply, store_answer, version_tag as tag_of}
+use Rattle.machine_words.specs.Writing.{DeletesDocumentIn, IfStored, PutsDocument, PutsSpelled, PutsText, by_judgement, change_answer, deleted_reply, put_answer, put_reply, version_tag as tag_of}
 use Rattle.machine_words.proofs.Steps.{made_change}
+use Rattle.machine_words.proofs.Changed.{as_the_store, told_by_store}
 
 -- a request of this method, for this target, is accepted: it makes a change, which is told as this edit, and then this is held
 pub record Accepts (root : List ℕ) (c : Content) (request : Request) (method : Method) (target : Target) (next : Content) (edit : Edit) : Type 0 where
@@ -151,9 +152,9 @@ answered_so None note c x h = let same : ◌≡◌ {A = Note × Content} (note, 
 answered_so (Some refusal) note c x h = let z : ◌≡◌ {A = Result (Note × Content) StoreRefusal} (Err refusal) (Ok x) = h in cc
 
 pub store_made : (c : Content) (id : DocId) (change : Change) (closes : Bool) (reply : Note → Sent) (a : Answer) (made : Made) → a.made ≡ Some made → a ≡ change_answer c id change closes reply → StoreMade c id change made
-store_made c id change closes reply a made is same = by (changing c id change) refl (sym is ∙ ap (λ (x : Answer). x.made) same)
+store_made c id change closes reply a made is same = by (changing c id change) refl (sym is ∙ ap (λ (x : Answer). x.made) (same ∙ as_the_store c id change closes reply))
   where
-    by : (r : Result (Note × Content) StoreRefusal) → changing c id change ≡ r → Some made ≡ (store_answer id closes reply r).made → StoreMade c id change made
+    by : (r : Result (Note × Content) StoreRefusal) → changing c id change ≡ r → Some made ≡ (told_by_store id closes reply r).made → StoreMade c id change made
     by (Err refusal) e h = let z : Some made ≡ None = h in cc
     by (Ok (note, next)) e h =
         let both : ◌≡◌ {A = Made} made (id, note) = cc in

@@ -1,5 +1,6 @@
 pub mod Asked
 pub mod Cases
+pub mod Changed
 pub mod Leading
 pub mod OneAnswer
 pub mod Steps

@@ -56,8 +56,9 @@ use Rattle.machine_words.specs.FlatLists.{sends_flat}
 use Rattle.machine_words.specs.Reading.{SendsDocument, SendsFound, SendsNode}
 use Rattle.machine_words.specs.Requests.{ByMethod, ByTarget, ByUser, Deletes, IsAnswer, IsAnswered, Puts, auid_of, fault_status, home_of, is_read_only, takes, ReadsTarget as Reads}
 use Rattle.machine_words.specs.Resources.{Resource, absent, beyond_limit, there, version_of}
-use Rattle.machine_words.specs.Writing.{DeletesDocumentIn, IfStored, PutsBody, PutsDocument, PutsSpelled, PutsText, by_judgement, change_answer, deleted_reply, fault_conflict, put_answer, put_change, put_reply, store_answer, text_conflict, version_tag as tag_of}
+use Rattle.machine_words.specs.Writing.{DeletesDocumentIn, IfStored, PutsBody, PutsDocument, PutsSpelled, PutsText, by_judgement, change_answer, deleted_reply, fault_conflict, put_answer, put_change, put_reply, text_conflict, version_tag as tag_of}
 use Rattle.machine_words.proofs.Cases.{either}
+use Rattle.machine_words.proofs.Changed.{as_the_store, told_by_store}
 
 -- ---- answers
 
@@ -91,7 +92,7 @@ module _ (request : Request) (a : Answer) where
   no_usage (Some usage) P so is = so usage is
 
   module _ (c : Content) (id : DocId) (reply : Note → Sent) (other : (note : Note) → IsNot503 (reply note).status) where
-    by_store : (made : Result (Note × Content) StoreRefusal) → a ≡ store_answer id request.closes reply made → Fine a
+    by_store : (made : Result (Note × Content) StoreRefusal) → a ≡ told_by_store id request.closes reply made → Fine a
     by_store (Err (refusals.ServiceTaken clash)) is = fine _ refl is
     by_store (Err (refusals.TooLarge len)) is = fine _ refl is
     by_store (Err refusals.TooMany) is = fine _ refl is
@@ -104,7 +105,7 @@ module _ (request : Request) (a : Answer) where
     by_plan (Err plans.CannotInsert) is = fine _ refl is
     by_plan (Err plans.CannotDelete) is = fine _ refl is
     by_plan (Err (plans.Faulty fault)) is = fine _ refl is
-    by_plan (Ok change) is = by_store (changing c id change) is
+    by_plan (Ok change) is = by_store (changing c id change) (is ∙ as_the_store c id change request.closes reply)
 
 -- ---- reading
 
@@ -175,7 +176,7 @@ module _ (c : Content) (id : DocId) (request : Request) (a : Answer) where
   judged_so None t is =
       let exists = is_some (version_of c id) in
       let change = put_change exists t in
-      by_store request a c id (put_reply exists request.closes) (put_so exists request.closes) (changing c id change) is
+      by_store request a c id (put_reply exists request.closes) (put_so exists request.closes) (changing c id change) (is ∙ as_the_store c id change request.closes (put_reply exists request.closes))
 
   text_so : (usage : Usage) (read : Result Tree TextFault) → PutsText usage read request.closes (put_answer c id request.closes) a → Fine a
   text_so usage (Err fault) is = conflicts_so request a (text_conflict conflicts.NotWellFormed fault) is
@@ -225,7 +226,7 @@ module _ (c : Content) (id : DocId) (request : Request) (a : Answer) where
   document_deleted_so None is = only request a 404 refl is
   document_deleted_so (Some (t, tag)) is =
       behind request a (Some tag) true false (a ≡ change_answer c id RemoveDocument request.closes (deleted_reply request.closes))
-      (by_store request a c id (deleted_reply request.closes) (λ note. refl) (changing c id RemoveDocument)) is
+      (λ so. by_store request a c id (deleted_reply request.closes) (λ note. refl) (changing c id RemoveDocument) (so ∙ as_the_store c id RemoveDocument request.closes (deleted_reply request.closes))) is
 
   cut_so : (usage : Usage) (selector : Selector) (t : Tree) → CutsNode c id usage selector t request a → Fine a
   cut_so usage selector t is = by_plan request a c id (cut_reply request.closes) (λ note. refl) is.0 is.2

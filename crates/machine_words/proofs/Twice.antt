@@ -61,10 +61,11 @@ use Rattle.machine_words.specs.Effects.{IsUnconditional, LeavesTrees, trees_of}
 use Rattle.machine_words.specs.Fragments.{PutsAt, PutsElementText, PutsFragment, PutsFrom, PutsNodeOf, PutsValueText, is_there, levels_for, put_planned, scope_for}
 use Rattle.machine_words.specs.Machine.{content_after_answer}
 use Rattle.machine_words.specs.Resources.{version_of}
-use Rattle.machine_words.specs.Writing.{PutsDocument, PutsSpelled, PutsText, by_judgement, change_answer, put_answer, put_change, put_reply, store_answer, version_tag as tag_of}
+use Rattle.machine_words.specs.Writing.{PutsDocument, PutsSpelled, PutsText, by_judgement, change_answer, put_answer, put_change, put_reply, version_tag as tag_of}
 use Rattle.machine_words.proofs.Accepted.{match_true, unstopped_by}
 use Rattle.machine_words.proofs.After.{same_trees}
 use Rattle.machine_words.proofs.Steps.{made_change}
+use Rattle.machine_words.proofs.Changed.{as_the_store, told_by_store}
 
 -- ---- no condition stops it
 
@@ -85,7 +86,7 @@ module _ (c : Content) (id : DocId) (change : Change) (h : Held) (acts : act_of 
       ∙ ap (λ (o : Option StoreRefusal). answered (or_else o (against_number c)) note (content_after c id change)) let_in
 
   by_number : (request : Request) (a : Answer) (reply : Note → Sent) → ((n : Note) → (reply n).status ≡ 200) → edited h.tree change ≡ h.tree → AreApart (map held_name c.documents)
-      → (b : Bool) → nat_le 18446744073709551616 c.next ≡ b → a ≡ store_answer id request.closes reply (answered (only_if b NoNumber) note (content_after c id change))
+      → (b : Bool) → nat_le 18446744073709551616 c.next ≡ b → a ≡ told_by_store id request.closes reply (answered (only_if b NoNumber) note (content_after c id change))
       → changing c id change ≡ answered (only_if b NoNumber) note (content_after c id change) → LeavesTrees c request a
   by_number request a reply ok same apart true e is made = subst (λ (t : Bool). MatchBool t (a ≡ unchanged (plain 507 request.closes)) ((a.reply.status ≡ 200) × (trees_of (content_after_answer c a.made) ≡ trees_of c))) (sym e) is
   by_number request a reply ok same apart false e is made =
@@ -98,7 +99,7 @@ module _ (c : Content) (id : DocId) (change : Change) (h : Held) (acts : act_of 
   pub leaves_trees : (request : Request) (a : Answer) (reply : Note → Sent) → ((n : Note) → (reply n).status ≡ 200) → edited h.tree change ≡ h.tree → AreApart (map held_name c.documents)
       → a ≡ change_answer c id change request.closes reply → LeavesTrees c request a
   leaves_trees request a reply ok same apart is =
-      by_number request a reply ok same apart (nat_le 18446744073709551616 c.next) refl (is ∙ ap (store_answer id request.closes reply) changing_is) changing_is
+      by_number request a reply ok same apart (nat_le 18446744073709551616 c.next) refl (is ∙ (as_the_store c id change request.closes reply ∙ ap (told_by_store id request.closes reply) changing_is)) changing_is
 
 -- ---- a document once more
 

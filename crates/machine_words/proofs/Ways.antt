@@ -1,6 +1,6 @@
 -- The two ways to answer a request, each with a reply that closes where the request does: with one that tells no change, and nothing is
 -- changed; or with one that tells a change which the store makes, and which may be asked for where each document held is sound.
-use Rattle.std.proofs.Common.{◌≡◌, ◌≤◌, ℕ, Bool, true, false, not, ◌||◌, ◌==◌, List, [], is_some, Option, None, Some, Result, Ok, Err, IfOk, refl, sym, subst, arith, encode_utf8_all}
+use Rattle.std.proofs.Common.{◌≡◌, ◌≤◌, ℕ, Bool, true, false, not, ◌||◌, ◌==◌, List, [], is_some, Option, None, Some, Result, Ok, Err, IfOk, refl, sym, subst, arith, encode_utf8_all, ◌∙◌}
 use Rattle.xml_tree.specs.Tree.{Tree, height}
 use Rattle.xml_tree.specs.Proper.{ProperIn}
 use Rattle.tree_text.specs.Faults.{BodyAnswer, TextAnswer}
@@ -75,12 +75,13 @@ use Rattle.machine_words.specs.Reading.{SendsDocument, SendsFound, SendsNode}
 use Rattle.machine_words.specs.Requests.{ByMethod, ByTarget, ByUser, Deletes, IsAnswer, IsAnswered, IsWritableTarget, Puts, auid_of, fault_status, home_of, is_read_only, takes, ReadsTarget as Reads}
 use Rattle.machine_words.specs.Resources.{Resource, absent, beyond_limit, there, version_of}
 use Rattle.machine_words.specs.Fragments.{CutsNode, DeletesNodeIn, PutsAt, PutsElementText, PutsFragment, PutsFrom, PutsNodeIn, PutsValueText, cut_reply, is_there, levels_for, plan_answer, plan_refused, put_planned, scope_for}
-use Rattle.machine_words.specs.Writing.{DeletesDocumentIn, IfStored, PutsBody, PutsDocument, PutsSpelled, PutsText, by_judgement, change_answer, deleted_reply, fault_conflict, put_answer, put_change, put_reply, refused, store_answer, text_conflict, version_tag as tag_of}
+use Rattle.machine_words.specs.Writing.{DeletesDocumentIn, IfStored, PutsBody, PutsDocument, PutsSpelled, PutsText, by_judgement, change_answer, deleted_reply, fault_conflict, put_answer, put_change, put_reply, refused, text_conflict, version_tag as tag_of}
 use Rattle.store_core.proofs.SoundHeld.{AllSound}
 use Rattle.store_core.specs.Held.{Stock as Content}
 use Rattle.machine_words.proofs.Asked.{asks_to_delete, asks_to_edit, asks_to_put, sound_at, users_write}
 use Rattle.machine_words.proofs.Named.{writable_target}
 use Rattle.machine_words.proofs.Cases.{either}
+use Rattle.machine_words.proofs.Changed.{as_the_store, told_by_store}
 
 pub data Way (method : Method) (closes : Bool) (c : Content) (a : Answer) : Type 0 where
   stays : (reply : Sent) → tells_change method reply.status ≡ false → reply.closes ≡ closes → a ≡ unchanged reply → Way method closes c a
@@ -131,7 +132,7 @@ module _ (method : Method) (c : Content) (request : Request) (a : Answer) where
 
   -- a change that may be asked for, where each reply to one that is made tells it
   by_store : (id : DocId) (change : Change) (reply : Note → Sent) → (AllSound c → Asks c id change) → ((note : Note) → tells_change method (reply note).status ≡ true) → ((note : Note) → (reply note).closes ≡ request.closes)
-      → (made : Result (Note × Content) StoreRefusal) → changing c id change ≡ made → a ≡ store_answer id request.closes reply made → Way method request.closes c a
+      → (made : Result (Note × Content) StoreRefusal) → changing c id change ≡ made → a ≡ told_by_store id request.closes reply made → Way method request.closes c a
   by_store id change reply asks tells closes (Err refusal) e is = store_refuses refusal is
   by_store id change reply asks tells closes (Ok (note, next)) e is = changes (reply note) (tells note) (closes note) id change note next asks e is
 
@@ -145,7 +146,7 @@ module _ (method : Method) (c : Content) (request : Request) (a : Answer) where
   by_plan : (id : DocId) (reply : Note → Sent) (plan : Result Change EditRefusal) → ((change : Change) → plan ≡ Ok change → AllSound c → Asks c id change)
       → ((note : Note) → tells_change method (reply note).status ≡ true) → ((note : Note) → (reply note).closes ≡ request.closes) → a ≡ plan_answer c id request.closes reply plan → Way method request.closes c a
   by_plan id reply (Err why) asks tells closes is = plan_refuses why is
-  by_plan id reply (Ok change) asks tells closes is = by_store id change reply (asks change refl) tells closes (changing c id change) refl is
+  by_plan id reply (Ok change) asks tells closes is = by_store id change reply (asks change refl) tells closes (changing c id change) refl (is ∙ as_the_store c id change request.closes reply)
 
   no_usage : (u : Option Usage) (P : Usage → Type 0) → ((usage : Usage) → u ≡ Some usage → P usage → Way method request.closes c a) → IfStored u request a P → Way method request.closes c a
   no_usage None P so is = only 403 refl refl is
@@ -240,7 +241,8 @@ module _ (c : Content) (id : DocId) (request : Request) (a : Answer) where
         let good = answer_proper 64 [] request.body t e in
         let may : MayBeFor (Some usage) t = record { proper = good.0; low = good.1; faultless = j } in
         let asks = asks_to_put c id t readable users (subst (λ (x : Option Usage). MayBeFor x t) (sym known) may) in
-        by_store Put c request a id (put_change exists t) (put_reply exists request.closes) (λ _. asks) (put_tells exists request.closes) (put_closes exists request.closes) (changing c id (put_change exists t)) refl is
+        by_store Put c request a id (put_change exists t) (put_reply exists request.closes) (λ _. asks) (put_tells exists request.closes) (put_closes exists request.closes) (changing c id (put_change exists t)) refl
+        (is ∙ as_the_store c id (put_change exists t) request.closes (put_reply exists request.closes))
 
     text_put : (read : Result Tree TextFault) → TextAnswer 64 [] request.body read → PutsText usage read request.closes (put_answer c id request.closes) a → Way Put request.closes c a
     text_put (Err fault) e is = conflicts_so Put c request a (text_conflict conflicts.NotWellFormed fault) is
@@ -322,7 +324,8 @@ module _ (c : Content) (id : DocId) (request : Request) (a : Answer) where
   document_deleted None e is = only Delete c request a 404 refl refl is
   document_deleted (Some (t, tag)) e is =
       behind Delete c request a (Some tag) true false (a ≡ change_answer c id RemoveDocument request.closes (deleted_reply request.closes))
-      (by_store Delete c request a id RemoveDocument (deleted_reply request.closes) (λ _. asks_to_delete c id t tag e) (λ note. refl) (λ note. refl) (changing c id RemoveDocument) refl) is
+      (λ so. by_store Delete c request a id RemoveDocument (deleted_reply request.closes) (λ _. asks_to_delete c id t tag e) (λ note. refl) (λ note. refl) (changing c id RemoveDocument) refl
+      (so ∙ as_the_store c id RemoveDocument request.closes (deleted_reply request.closes))) is
 
   node_cut : (usage : Usage) (selector : Selector) (t : Tree) (tag : ℕ) → ◌≡◌ {A = Option (Tree × ℕ)} (version_of c id) (Some (t, tag)) → usage_of id.auid ≡ Some usage → CutsNode c id usage selector t request a → Way Delete request.closes c a
   node_cut usage selector t tag held known is =

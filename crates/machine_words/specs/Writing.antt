@@ -27,7 +27,7 @@ use Rattle.reply_text.specs.declared.media_types.Media.{Media}
 use Rattle.http_wire.specs.declared.request.Request.{Request}
 use Rattle.request_terms.specs.MediaTypes.{document_media, has_type}
 use Rattle.xcap_uri.specs.Ancestors.{home_uri}
-use Rattle.store_core.specs.Changing.{changing}
+use Rattle.store_core.specs.Changing.{act_of, against, document_in, held_name, note_for}
 use Rattle.store_core.specs.declared.refusal.StoreRefusal.{StoreRefusal}
 use Rattle.store_core.specs.declared.refusal.StoreRefusal.TheVariants.{ServiceTaken, TooLarge, TooMany, StoreFull, NoNumber}
 use Rattle.store_core.specs.Held.{Stock}
@@ -80,14 +80,16 @@ refused TooMany closes = plain 507 closes
 refused (StoreFull total) closes = plain 507 closes
 refused NoNumber closes = plain 507 closes
 
--- a change that the store refuses, and one that it makes, whose note the reply goes by
-abbrev pub store_answer : DocId → Bool → (Note → Sent) → Result (Note × Stock) StoreRefusal → Answer
-store_answer id closes reply (Err refusal) = unchanged (refused refusal closes)
-store_answer id closes reply (Ok (note, next)) = record { reply = reply note; made = Some (id, note) }
+-- a change that is refused, and one that is made, whose note the reply goes by
+abbrev pub store_answer : DocId → Bool → (Note → Sent) → Option StoreRefusal → Note → Answer
+store_answer id closes reply (Some refusal) note = unchanged (refused refusal closes)
+store_answer id closes reply None note = record { reply = reply note; made = Some (id, note) }
 
--- the answer to a change of a document
+-- the answer to a change of a document, by the first reason against it
 abbrev pub change_answer : Stock → DocId → Change → Bool → (Note → Sent) → Answer
-change_answer c id change closes reply = store_answer id closes reply (changing c id change)
+change_answer c id change closes reply =
+    let held = document_in held_name c.documents id in
+    store_answer id closes reply (against c id change held (act_of change)) (note_for c id change held)
 
 -- what is put is new, or takes the place of what was there; the document's new tag is the number of the change
 abbrev pub put_reply : Bool → Bool → Note → Sent

@@ -37,8 +37,9 @@ use Rattle.machine_words.specs.Answers.{Answer, Behind, BehindConditions, Made, 
 use Rattle.machine_words.specs.Requests.{ByMethod, ByTarget, ByUser, Deletes, IsAnswer, IsAnswered, Puts, auid_of, home_of, takes}
 use Rattle.machine_words.specs.Resources.{version_of}
 use Rattle.machine_words.specs.Fragments.{CutsNode, DeletesNodeIn, PutsAt, PutsElement, PutsElementText, PutsFragment, PutsFrom, PutsNodeIn, PutsValueText, cut_reply, is_there, plan_answer}
-use Rattle.machine_words.specs.Writing.{DeletesDocumentIn, IfStored, PutsBody, PutsDocument, PutsSpelled, PutsText, by_judgement, deleted_reply, put_answer, put_change, put_reply, store_answer, version_tag}
+use Rattle.machine_words.specs.Writing.{DeletesDocumentIn, IfStored, PutsBody, PutsDocument, PutsSpelled, PutsText, by_judgement, change_answer, deleted_reply, put_answer, put_change, put_reply, version_tag}
 use Rattle.machine_words.proofs.Accepted.{stopped_never}
+use Rattle.machine_words.proofs.Changed.{as_the_store, told_by_store}
 
 -- The change, the request, and whether its connection ends in the other's place.
 module _ (made : Made) (request : Request) (closes : Bool) where
@@ -68,13 +69,18 @@ module _ (made : Made) (request : Request) (closes : Bool) where
       behind is = by_outcome is.1.0 is.1.1 (subst (λ (stop : Option Sent). Behind stop a P) is.1.2 is.2)
 
     module _ (c : Stock) (id : DocId) (reply reply' : Note → Sent) where
-      by_store : (r : Result (Note × Stock) StoreRefusal) → a ≡ store_answer id request.closes reply r → Makes (λ b. b ≡ store_answer id closes reply' r)
+      by_store : (r : Result (Note × Stock) StoreRefusal) → a ≡ told_by_store id request.closes reply r → Makes (λ b. b ≡ told_by_store id closes reply' r)
       by_store (Err refusal) is = never _ is
-      by_store (Ok (note, next)) is = (store_answer id closes reply' (Ok (note, next)), refl, sym (ap (λ (x : Answer). x.made) is) ∙ makes)
+      by_store (Ok (note, next)) is = (told_by_store id closes reply' (Ok (note, next)), refl, sym (ap (λ (x : Answer). x.made) is) ∙ makes)
+
+      by_change : (change : Change) → a ≡ change_answer c id change request.closes reply → Makes (λ b. b ≡ change_answer c id change closes reply')
+      by_change change is =
+          let m = by_store (changing c id change) (is ∙ as_the_store c id change request.closes reply) in
+          (m.0, m.1 ∙ sym (as_the_store c id change closes reply'), m.2)
 
       by_plan : (plan : Result Change EditRefusal) → a ≡ plan_answer c id request.closes reply plan → Makes (λ b. b ≡ plan_answer c id closes reply' plan)
       by_plan (Err why) is = never _ is
-      by_plan (Ok change) is = by_store (changing c id change) is
+      by_plan (Ok change) is = by_change change is
 
     -- ---- PUT
 
@@ -83,7 +89,7 @@ module _ (made : Made) (request : Request) (closes : Bool) where
       judged (Some fault) t is = never _ is
       judged None t is =
           let exists = is_some (version_of c id) in
-          by_store c id (put_reply exists request.closes) (put_reply exists closes) (changing c id (put_change exists t)) is
+          by_change c id (put_reply exists request.closes) (put_reply exists closes) (put_change exists t) is
 
       text : (usage : Usage) (read : Result Tree TextFault) → PutsText usage read request.closes (put_answer c id request.closes) a → Makes (λ b. PutsText usage read closes (put_answer c id closes) b)
       text usage (Err fault) is = never _ is
@@ -138,8 +144,8 @@ module _ (made : Made) (request : Request) (closes : Bool) where
       document_deleted : (version : Option (Tree × ℕ)) → DeletesDocumentIn c id version request a → Makes (λ b. DeletesDocumentIn c id version other b)
       document_deleted None is = never _ is
       document_deleted (Some (t, tag)) is =
-          behind (Some tag) true (a ≡ store_answer id request.closes (deleted_reply request.closes) (changing c id RemoveDocument)) (λ b. b ≡ store_answer id closes (deleted_reply closes) (changing c id RemoveDocument))
-          (by_store c id (deleted_reply request.closes) (deleted_reply closes) (changing c id RemoveDocument)) is
+          behind (Some tag) true (a ≡ change_answer c id RemoveDocument request.closes (deleted_reply request.closes)) (λ b. b ≡ change_answer c id RemoveDocument closes (deleted_reply closes))
+          (by_change c id (deleted_reply request.closes) (deleted_reply closes) RemoveDocument) is
 
       cut : (usage : Usage) (selector : Selector) (t : Tree) → CutsNode c id usage selector t request a → Makes (λ b. CutsNode c id usage selector t other b)
       cut usage selector t is = let m = by_plan c id (cut_reply request.closes) (cut_reply closes) is.0 is.2 in (m.0, (is.0, is.1, m.1), m.2)
