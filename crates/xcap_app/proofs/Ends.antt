@@ -10,7 +10,6 @@ use Rattle.tree_text.specs.declared.fault.TextFault.{TextFault}
 use Rattle.tree_text.specs.declared.fault.TextFault.TheVariants as faults
 use Rattle.doc_names.specs.declared.usages.Usage.{Usage as TheUsage}
 use Rattle.usage_docs.specs.declared.judging.Fault.{Fault}
-use Rattle.usage_docs.specs.declared.judging.Fault.TheVariants.{Invalid, Unformed, Repeated}
 use Rattle.notes.specs.declared.edit.Edit.{Edit}
 use Rattle.xml_tree.specs.Tree.{Tree}
 use Rattle.xcap_io.specs.Causes.{LineState, Rose}
@@ -41,7 +40,7 @@ use Rattle.xcap_app.specs.declared.command.Command.TheVariants.{Replay, Serve, K
 use Rattle.xcap_app.specs.declared.exit.Exit.{Exit}
 use Rattle.xcap_app.specs.declared.exit.Exit.TheVariants.{Done, Usage, InputFailed, OutputFailed, NetworkFailed, Refused, Client, BadJournal, OutOfMemory}
 use Rattle.xcap_app.specs.declared.refusal.Refusal.{Refusal}
-use Rattle.xcap_app.specs.declared.refusal.Refusal.TheVariants.{TooLarge, NotUtf8, NotWellFormed, Schema, Constraint, Unique}
+use Rattle.xcap_app.specs.declared.refusal.Refusal.TheVariants.{TooLarge, NotUtf8, NotWellFormed, Faulty}
 
 -- ---- texts
 
@@ -70,9 +69,7 @@ IsVerdict (Client fault) = ⊥
 IsVerdict (Refused TooLarge) = ⊥
 IsVerdict (Refused NotUtf8) = Unit {0}
 IsVerdict (Refused (NotWellFormed place)) = Unit {0}
-IsVerdict (Refused Schema) = Unit {0}
-IsVerdict (Refused Constraint) = Unit {0}
-IsVerdict (Refused (Unique clash)) = Unit {0}
+IsVerdict (Refused (Faulty fault)) = Unit {0}
 IsVerdict (BadJournal refusal) = ⊥
 IsVerdict OutOfMemory = Unit {0}
 
@@ -86,9 +83,7 @@ fault_verdict (faults.Doctype place) exit e = subst IsVerdict (sym e) tt
 
 judged_verdict : (fault : Option Fault) → IsVerdict (exit_of fault)
 judged_verdict None = tt
-judged_verdict (Some Invalid) = tt
-judged_verdict (Some Unformed) = tt
-judged_verdict (Some (Repeated clash)) = tt
+judged_verdict (Some fault) = tt
 
 tree_verdict : (usage : TheUsage) (t : Tree) (exit : Exit) → TreeVerdict usage t exit → IsVerdict exit
 tree_verdict usage t exit (fault, judged, is) = subst IsVerdict (sym is) (judged_verdict fault)
@@ -116,9 +111,7 @@ examined usage text (Client fault) input input' g j v = absurd v
 examined usage text (Refused TooLarge) input input' g j v = absurd v
 examined usage text (Refused NotUtf8) input input' g j v = (text, g, surely usage text (Refused NotUtf8) (λ e. cc) j)
 examined usage text (Refused (NotWellFormed place)) input input' g j v = (text, g, surely usage text (Refused (NotWellFormed place)) (λ e. cc) j)
-examined usage text (Refused Schema) input input' g j v = (text, g, surely usage text (Refused Schema) (λ e. cc) j)
-examined usage text (Refused Constraint) input input' g j v = (text, g, surely usage text (Refused Constraint) (λ e. cc) j)
-examined usage text (Refused (Unique clash)) input input' g j v = (text, g, surely usage text (Refused (Unique clash)) (λ e. cc) j)
+examined usage text (Refused (Faulty fault)) input input' g j v = (text, g, surely usage text (Refused (Faulty fault)) (λ e. cc) j)
 examined usage text (BadJournal refusal) input input' g j v = v
 examined usage text OutOfMemory input input' g j v = (text, g.gave, let fits : length text ≤ 262144 = g.fits in omega arith)
 
@@ -161,9 +154,7 @@ module _ {W : Type 0} (Keeps : List Edit → W → W → Type 0) where
   refused_out usage TooLarge input input' e = (e.0, e.1, omega (arith, e.2))
   refused_out usage NotUtf8 input input' e = (e.0, e.1.gave, omega (arith, e.1.fits))
   refused_out usage (NotWellFormed place) input input' e = (e.0, e.1.gave, omega (arith, e.1.fits))
-  refused_out usage Schema input input' e = (e.0, e.1.gave, omega (arith, e.1.fits))
-  refused_out usage Constraint input input' e = (e.0, e.1.gave, omega (arith, e.1.fits))
-  refused_out usage (Unique clash) input input' e = (e.0, e.1.gave, omega (arith, e.1.fits))
+  refused_out usage (Faulty fault) input input' e = (e.0, e.1.gave, omega (arith, e.1.fits))
 
   -- a journal that was refused, where memory was wanted for the words about that
   told_out : (exit told : Exit) → IsRefused told → IsTold exit told → IsTold exit OutOfMemory

@@ -2,6 +2,7 @@
 use Rattle.std.specs.Prelude.{ℕ, List, [], ◌∷◌, ◌++◌, codes, decimal, encode_utf8_all, string_bytes}
 use Rattle.xml_tree.specs.PathTexts.{path_text}
 use Rattle.usage_docs.specs.Keys.{word}
+use Rattle.usage_docs.specs.declared.judging.Fault.TheVariants.{Invalid, Unformed, Repeated}
 use Rattle.usage_docs.specs.declared.keys.Clash.{Clash}
 use Rattle.client_commands.specs.Words.{fault_words, status_of as status_of_fault}
 use Rattle.xcap_app.specs.declared.exit.Exit.{Exit}
@@ -11,7 +12,7 @@ use Rattle.xcap_app.specs.declared.exit.Words.TheVariants.{Fixed, Made}
 use Rattle.xcap_app.specs.declared.journal_refusal.JournalRefusal.{JournalRefusal}
 use Rattle.xcap_app.specs.declared.journal_refusal.JournalRefusal.TheVariants.{Damaged, Refused as RefusedAt, TooLong}
 use Rattle.xcap_app.specs.declared.refusal.Refusal.{Refusal}
-use Rattle.xcap_app.specs.declared.refusal.Refusal.TheVariants.{TooLarge, NotUtf8, NotWellFormed, Schema, Constraint, Unique}
+use Rattle.xcap_app.specs.declared.refusal.Refusal.TheVariants.{TooLarge, NotUtf8, NotWellFormed, Faulty}
 
 -- the commands, on one line
 unfoldable pub usage_line : List ℕ
@@ -38,9 +39,9 @@ abbrev pub refusal_words : Refusal → List ℕ
 refusal_words TooLarge = codes "too-large\n"
 refusal_words NotUtf8 = codes "not-utf-8\n"
 refusal_words (NotWellFormed place) = codes "not-well-formed " ++ (decimal place ++ codes "\n")
-refusal_words Schema = codes "schema-validation-error\n"
-refusal_words Constraint = codes "constraint-failure\n"
-refusal_words (Unique clash) = clash_words clash
+refusal_words (Faulty Invalid) = codes "schema-validation-error\n"
+refusal_words (Faulty Unformed) = codes "constraint-failure\n"
+refusal_words (Faulty (Repeated clash)) = clash_words clash
 
 -- why the input is no journal, on one line
 abbrev pub journal_words : JournalRefusal → List ℕ

@@ -6,7 +6,6 @@ use Rattle.tree_text.specs.declared.fault.TextFault.{TextFault}
 use Rattle.tree_text.specs.declared.fault.TextFault.TheVariants as faults
 use Rattle.usage_docs.specs.Judging.{Judged}
 use Rattle.usage_docs.specs.declared.judging.Fault.{Fault}
-use Rattle.usage_docs.specs.declared.judging.Fault.TheVariants.{Invalid, Unformed, Repeated}
 use Rattle.doc_names.specs.declared.usages.Usage.{Usage}
 use Rattle.xml_tree.specs.Tree.{Tree}
 use Rattle.xml_tree.specs.Limits.{most_levels}
@@ -17,9 +16,7 @@ use Rattle.xcap_app.specs.declared.refusal.Refusal.TheVariants as refusals
 -- how `check` ends by the first fault of a tree, or none
 abbrev pub exit_of : Option Fault → Exit
 exit_of None = exits.Done
-exit_of (Some Invalid) = exits.Refused refusals.Schema
-exit_of (Some Unformed) = exits.Refused refusals.Constraint
-exit_of (Some (Repeated clash)) = exits.Refused (refusals.Unique clash)
+exit_of (Some fault) = exits.Refused (refusals.Faulty fault)
 
 -- what is said of a tree
 abbrev pub TreeVerdict : Usage → Tree → Exit → Type 0

@@ -13,14 +13,12 @@ use usage_docs::Fault;
 use xml_tree::{Element, MAX_LEVELS, ReadError};
 
 // How the command ends by the first fault of a tree, or none.
-fn exit_of(fault: Option<Fault>) -> Exit
-    ensures by_the_judgement { result ≡ exit_of fault }
+fn exit_of(judged: Option<Fault>) -> Exit
+    ensures by_the_judgement { result ≡ exit_of judged }
 {
-    match fault {
+    match judged {
         None => Exit::Done,
-        Some(Fault::Invalid) => Exit::Refused(Refusal::Schema),
-        Some(Fault::Unformed) => Exit::Refused(Refusal::Constraint),
-        Some(Fault::Repeated(clash)) => Exit::Refused(Refusal::Unique(clash)),
+        Some(fault) => Exit::Refused(Refusal::Faulty(fault)),
     }
 }
 

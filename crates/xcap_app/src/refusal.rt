@@ -1,9 +1,10 @@
 // Why a text is refused.
 ghost use Rattle.std.specs.Prelude.{◌≡◌, IfOk, string_bytes};
 ghost use Rattle.xcap_app.specs.Exits.{clash_words, refusal_words};
+ghost use Rattle.xcap_app.specs.declared.refusal.Refusal.TheVariants as refusals;
 
 use std::alloc::{AllocError, Global};
-use usage_docs::Clash;
+use usage_docs::{Clash, Fault};
 use xml_tree::print_path;
 
 /// Why the input of `check` is no valid document, the first reason in this order.
@@ -15,12 +16,8 @@ pub enum Refusal {
     NotUtf8,
     /// It spells no tree of at most 64 levels; its first fault is at this byte (XML 1.0; Namespaces in XML 1.0).
     NotWellFormed(usize),
-    /// It isn't valid for its usage (RFC 4826, sections 3.2 and 4.2).
-    Schema,
-    /// A reference in it doesn't have its form (RFC 4826, sections 3.4.5 and 4.4.5).
-    Constraint,
-    /// This is the first element whose key repeats that of a sibling.
-    Unique(Clash),
+    /// Its tree is no document of its usage: this is its first fault (RFC 4826, sections 3 and 4).
+    Faulty(Fault),
 }
 
 // The words about an element whose key repeats that of a sibling.
@@ -36,6 +33,17 @@ fn clash_words(alloc: Global, clash: &Clash) -> Result<String, AllocError>
     Ok(words)
 }
 
+// The words about what keeps a tree from being a document of its usage.
+fn fault_words(alloc: Global, fault: &Fault) -> Result<String, AllocError>
+    ensures words_about_the_fault { IfOk result (λ words. string_bytes words ≡ refusal_words (refusals.Faulty fault.now)) }
+{
+    match fault {
+        Fault::Invalid => String::from_str(alloc, "schema-validation-error\n"),
+        Fault::Unformed => String::from_str(alloc, "constraint-failure\n"),
+        Fault::Repeated(clash) => clash_words(alloc, clash),
+    }
+}
+
 impl Refusal {
     /// What is told of it.
     ///
@@ -48,9 +56,7 @@ impl Refusal {
             Refusal::TooLarge => String::from_str(alloc, "too-large\n"),
             Refusal::NotUtf8 => String::from_str(alloc, "not-utf-8\n"),
             Refusal::NotWellFormed(place) => format!(in alloc; "not-well-formed {place}\n"),
-            Refusal::Schema => String::from_str(alloc, "schema-validation-error\n"),
-            Refusal::Constraint => String::from_str(alloc, "constraint-failure\n"),
-            Refusal::Unique(clash) => clash_words(alloc, clash),
+            Refusal::Faulty(fault) => fault_words(alloc, fault),
         }
     }
 }
