@@ -1,11 +1,8 @@
 -- What a field is computed to say is what its lines say by the grammar.
-use Rattle.std.proofs.Common.{◌≡◌, ◌≢◌, inl, inr, IfOk, IsErrOf, ℕ, Bool, true, false, cond, List, [], ◌∷◌, Option, None, Some, Result, Ok, Err, refl, sym, ap, ◌∙◌, subst}
+use Rattle.std.proofs.Common.{◌≡◌, ◌≢◌, IfOk, ℕ, Bool, true, false, cond, List, [], ◌∷◌, Option, None, Some, Result, Ok, Err, refl, ap, ◌∙◌, subst}
 use Rattle.std.specs.Str.{bytes_eq}
 use Rattle.std.proofs.lemmas.Slice.Eq.{bytes_eq-Decides}
-use Rattle.xcap_io.specs.Wanting.{StatedOr as Answers}
 use Rattle.preconditions.specs.declared.tags.EntityTag.{EntityTag}
-use Rattle.preconditions.specs.declared.faults.ConditionFault.{ConditionFault}
-use Rattle.preconditions.specs.declared.faults.ConditionFault.TheVariants.{BadCondition, NoMemory}
 use Rattle.preconditions.specs.Tags.{comma_joined}
 use Rattle.preconditions.specs.Fields.{FieldValue, Missing, Star, Tags, Preconditions, Says, SayBoth, ConditionsAnswer}
 use Rattle.preconditions.specs.Reading.{Before, tags_from, listed, text_value, field_value, both, conditions_of}
@@ -71,7 +68,7 @@ value-said (line ∷ lines) value h = text-said line lines value (bytes_eq (comm
 
 -- ---- both fields
 
-both-said : (ms ns : List (List ℕ)) (a b : Option FieldValue) (c : Preconditions) → field_value ms ≡ a → field_value ns ≡ b → both a b ≡ Ok c → SayBoth ms ns c
+both-said : (ms ns : List (List ℕ)) (a b : Option FieldValue) (c : Preconditions) → field_value ms ≡ a → field_value ns ≡ b → both a b ≡ Some c → SayBoth ms ns c
 both-said ms ns None b c e f h = cc
 both-said ms ns (Some a) None c e f h = cc
 both-said ms ns (Some a) (Some b) c e f h =
@@ -79,32 +76,27 @@ both-said ms ns (Some a) (Some b) c e f h =
     let said : SayBoth ms ns (record { if_match = a; if_none_match = b }) = (value-said ms a e, value-said ns b f) in
     subst (λ (d : Preconditions). SayBoth ms ns d) same said
 
-pub conditions-said : (ms ns : List (List ℕ)) (c : Preconditions) → conditions_of ms ns ≡ Ok c → SayBoth ms ns c
+pub conditions-said : (ms ns : List (List ℕ)) (c : Preconditions) → conditions_of ms ns ≡ Some c → SayBoth ms ns c
 conditions-said ms ns c h = both-said ms ns (field_value ms) (field_value ns) c refl refl h
 
-pub said-conditions : (ms ns : List (List ℕ)) (c : Preconditions) → SayBoth ms ns c → conditions_of ms ns ≡ Ok c
+pub said-conditions : (ms ns : List (List ℕ)) (c : Preconditions) → SayBoth ms ns c → conditions_of ms ns ≡ Some c
 said-conditions ms ns c h =
     ap (λ a. both a (field_value ns)) (said-value ms c.if_match h.0)
     ∙ ap (λ b. both (Some c.if_match) b) (said-value ns c.if_none_match h.1)
 
--- what a call answers of them, want of memory aside
-pub answer-said : (ms ns : List (List ℕ)) (r : Result Preconditions ConditionFault) → Answers NoMemory (conditions_of ms ns) r → IfOk r (λ c. SayBoth ms ns c)
-answer-said ms ns (Ok c) (inl e) = conditions-said ms ns c (sym e)
-answer-said ms ns (Ok c) (inr e) = cc
-answer-said ms ns (Err f) h = tt
+-- what a call answers is said by the grammar; and where nothing is computed nothing is said
+pub answer-said : {E : Type 0} (ms ns : List (List ℕ)) (r : Result Preconditions E) → IfOk r (λ c. conditions_of ms ns ≡ Some c) → IfOk r (λ c. SayBoth ms ns c)
+answer-said ms ns (Ok c) is = conditions-said ms ns c is
+answer-said ms ns (Err f) is = tt
 
-pub answer-refused : (ms ns : List (List ℕ)) (r : Result Preconditions ConditionFault) → Answers NoMemory (conditions_of ms ns) r → IsErrOf r BadCondition → (c : Preconditions) → SayBoth ms ns c → ⊥
-answer-refused ms ns r (inl e) h c s = let g = said-conditions ms ns c s in cc
-answer-refused ms ns r (inr e) h c s = cc
+pub no_conditions : (ms ns : List (List ℕ)) → conditions_of ms ns ≡ None → ConditionsAnswer ms ns None
+no_conditions ms ns none c said = let same = said-conditions ms ns c said in cc
 
 -- ---- one answer
 
-no_conditions : (ms ns : List (List ℕ)) (f : ConditionFault) → conditions_of ms ns ≡ Err f → ConditionsAnswer ms ns None
-no_conditions ms ns f is c said = let same = said-conditions ms ns c said in cc
-
-some_of : (ms ns : List (List ℕ)) (r : Result Preconditions ConditionFault) → conditions_of ms ns ≡ r → (a : Option Preconditions) × ConditionsAnswer ms ns a
-some_of ms ns (Ok c) is = (Some c, conditions-said ms ns c is)
-some_of ms ns (Err f) is = (None, no_conditions ms ns f is)
+some_of : (ms ns : List (List ℕ)) (a : Option Preconditions) → conditions_of ms ns ≡ a → (b : Option Preconditions) × ConditionsAnswer ms ns b
+some_of ms ns (Some c) is = (Some c, conditions-said ms ns c is)
+some_of ms ns None is = (None, no_conditions ms ns is)
 
 pub some_conditions : (ms ns : List (List ℕ)) → (a : Option Preconditions) × ConditionsAnswer ms ns a
 some_conditions ms ns = some_of ms ns (conditions_of ms ns) refl

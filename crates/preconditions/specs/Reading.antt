@@ -1,10 +1,8 @@
 -- The reading of condition fields, computed from left to right. That it is the grammar's one reading is a law (`fields_have_one_reading`).
-use Rattle.std.specs.Prelude.{◌≡◌, ℕ, ◌==◌, Bool, true, false, if◌then◌else◌, List, [], ◌∷◌, ◌++◌, drop, Option, None, Some, option_map, Result, Ok, Err, codes}
+use Rattle.std.specs.Prelude.{◌≡◌, ℕ, ◌==◌, Bool, true, false, if◌then◌else◌, List, [], ◌∷◌, ◌++◌, drop, Option, None, Some, option_map, codes}
 use Rattle.std.specs.List.{take_while, prefix_len}
 use Rattle.std.specs.Str.{bytes_eq}
 use Rattle.preconditions.specs.declared.tags.EntityTag.{EntityTag}
-use Rattle.preconditions.specs.declared.faults.ConditionFault.{ConditionFault}
-use Rattle.preconditions.specs.declared.faults.ConditionFault.TheVariants.{BadCondition}
 use Rattle.preconditions.specs.Tags.{is_tag_byte, comma_joined, is_ows_byte}
 use Rattle.preconditions.specs.Fields.{FieldValue, Missing, Star, Tags, Preconditions}
 
@@ -103,11 +101,12 @@ field_value (line ∷ lines) = text_value (comma_joined (line ∷ lines))
 
 -- ---- both fields
 
-abbrev pub both : Option FieldValue → Option FieldValue → Result Preconditions ConditionFault
-both None if_none_match = Err BadCondition
-both (Some a) None = Err BadCondition
-both (Some a) (Some b) = Ok (record { if_match = a; if_none_match = b })
+-- what both say, if each can be read
+abbrev pub both : Option FieldValue → Option FieldValue → Option Preconditions
+both None if_none_match = None
+both (Some a) None = None
+both (Some a) (Some b) = Some (record { if_match = a; if_none_match = b })
 
--- what both fields say, or that one of them can't be read
-abbrev pub conditions_of : List (List ℕ) → List (List ℕ) → Result Preconditions ConditionFault
+-- the same of their lines
+abbrev pub conditions_of : List (List ℕ) → List (List ℕ) → Option Preconditions
 conditions_of if_match if_none_match = both (field_value if_match) (field_value if_none_match)

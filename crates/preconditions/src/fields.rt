@@ -1,6 +1,5 @@
 //! The fields `If-Match` and `If-None-Match` (RFC 9110, sections 13.1.1 and 13.1.2).
 ghost use Rattle.std.specs.Prelude.{◌≡◌, ◌++◌, ◌∷◌, [], Some, None, IfOk, IsErrOf, flat_map, codes};
-ghost use Rattle.xcap_io.specs.Wanting.{StatedOr};
 ghost use Rattle.preconditions.specs.Fields.{ConditionsAnswer, SayBoth};
 ghost use Rattle.preconditions.specs.Reading.{text_value, field_value, conditions_of};
 ghost use Rattle.preconditions.specs.inner.Values.{value_of};
@@ -91,12 +90,14 @@ pub fn read_conditions(
     read_both(alloc, if_match, if_none_match)
 }
 
+// What both fields say.
 fn read_both(
     alloc: Global,
     if_match: &[Bytes],
     if_none_match: &[Bytes],
 ) -> Result<Conditions, ConditionFault>
-    ensures conditions_of_both_or_their_fault { StatedOr ConditionFault.NoMemory (conditions_of if_match.now if_none_match.now) result }
+    ensures reads_as_the_rules_do { IfOk result (λ c. conditions_of if_match.now if_none_match.now ≡ Some c) }
+    ensures refused_has_no_reading { IsErrOf result ConditionFault.BadCondition → conditions_of if_match.now if_none_match.now ≡ None }
 {
     let if_match = read_field(alloc, if_match)?;
     let if_none_match = read_field(alloc, if_none_match)?;
