@@ -1,6 +1,7 @@
 -- The stages of an operation, one after another.
 use Rattle.std.proofs.Common.{◌≡◌, ℕ, Bool, codes, true, false, List, [], ◌∷◌, ◌++◌, Option, None, Some, Result, Ok, Err, sym, ap, ◌∙◌, subst}
 use Rattle.std.specs.List.{list_all}
+use Rattle.xml_tree.specs.Memory.{Answered}
 use Rattle.xml_tree.specs.declared.read_error.ReadError.{ReadError}
 use Rattle.xml_tree.specs.declared.read_error.ReadError.TheVariants.{Fault, NoMemory}
 use Rattle.xml_tree.specs.Tree.{Tree}
@@ -9,14 +10,14 @@ use Rattle.xml_tree.specs.declared.names.Decl.{Decl}
 use Rattle.node_select.specs.declared.selector.PatchSelector.{PatchSelector}
 use Rattle.patch_words.specs.Applied.{Wrong, Directive, Prefix, Unlocated, Task, done, given, is_bound_type, is_known, located, plain_value, suits, tested}
 use Rattle.patch_words.specs.readers.Applied.{applied, reading_in}
-use Rattle.patch_apply.specs.inner.Giving.{Gives}
+use Rattle.patch_apply.specs.inner.Giving.{IsGiven}
 use Rattle.patch_apply.specs.inner.Stages.{done_where, said_done, selector_tested, task_done, task_said}
 use Rattle.patch_apply.specs.inner.Seen.{wrong_in}
 use Rattle.patch_apply.specs.declared.fault.Wrong.{Wrong as CodeWrong}
 
 -- a call gives what is stated in other words too
-pub gives_same : {X Y : Type 0} (view : X → Y) (a b : Result Y Wrong) (r : Result X (ReadError CodeWrong)) → a ≡ b → Gives view a r → Gives view b r
-gives_same view a b r same h = subst (λ s. Gives view s r) same h
+pub gives_same : {X : Type 0} (a b : Result X Wrong) (r : Result X (ReadError CodeWrong)) → a ≡ b → Answered (IsGiven a) r → Answered (IsGiven b) r
+gives_same a b r same h = subst (λ s. Answered (IsGiven s) r) same h
 
 -- an attribute without prefix, where the word is written in the code
 pub plain_is : (w v : List ℕ) (attrs given : List Attr) (o : Option (List ℕ)) → w ≡ v → given ≡ attrs → o ≡ plain_value w given → plain_value v attrs ≡ o
@@ -70,8 +71,8 @@ module _ (here : List (List Decl)) (sel : List ℕ) (o t : Tree) where
   said_next task s e tests = said_some task e ∙ goes_on (λ r. r.means here) (next task) (reading_in sel) (λ r. suits task r.ends) (is_bound_type here task) s tests
 
   -- a call that refuses the selector refuses the operation
-  pub said_error : (task : Task) (error : ReadError CodeWrong) → task_said o.name o.attrs ≡ Some task → Gives {X = PatchSelector} (λ s. s) (selector_tested here sel task) (Err error)
-      → Gives {X = Tree} (λ x. x) (said_done here sel o t) (Err error)
+  pub said_error : (task : Task) (error : ReadError CodeWrong) → task_said o.name o.attrs ≡ Some task → Answered (IsGiven {X = PatchSelector} (selector_tested here sel task)) (Err error)
+      → Answered (IsGiven {X = Tree} (said_done here sel o t)) (Err error)
   said_error task (Fault wrong) e h = said_refused task (wrong_in wrong) e h
   said_error task NoMemory e h = tt
 

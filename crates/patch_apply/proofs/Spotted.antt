@@ -1,12 +1,13 @@
 -- What is done to what is selected, where the code has it by its number.
 use Rattle.std.proofs.Common.{◌≡◌, ℕ, Bool, List, [], Some, IsSome, Result, sym, subst}
 use Rattle.std.specs.List.{position}
+use Rattle.xml_tree.specs.Memory.{Answered}
 use Rattle.xml_tree.specs.declared.read_error.ReadError.{ReadError}
 use Rattle.xml_tree.specs.Tree.{Content, Tree, at}
 use Rattle.xml_tree.specs.declared.names.Decl.{Decl}
 use Rattle.patch_words.specs.Applied as words
 use Rattle.patch_words.specs.Applied.{path_of, remove_done, replace_done}
-use Rattle.patch_apply.specs.inner.Giving.{Gives}
+use Rattle.patch_apply.specs.inner.Giving.{IsGiven}
 use Rattle.patch_apply.specs.inner.Spotting.{IsSpot, IsThere, path_in}
 use Rattle.patch_apply.specs.inner.Stages.{take_done, value_done}
 use Rattle.patch_apply.specs.declared.fault.Wrong.{Wrong}
@@ -34,37 +35,37 @@ path_same t (AtText p i) (words.AtAttr q f) is = absurd is
 path_same t (AtText p i) (words.AtText q j) is = is.0
 
 module _ (c : List (List Decl)) (p : List ℕ) (content : Content) (t : Tree) (r : Result Tree (ReadError Wrong)) where
-  pub replace_element_at : Gives (λ x. x) (replace_done c (words.AtElement p) content t) r → (w : words.Spot) → IsSpot t (AtElement p) w → Gives (λ x. x) (replace_done c w content t) r
-  replace_element_at h (words.AtElement q) is = subst (λ (x : List ℕ). Gives (λ y. y) (replace_done c (words.AtElement x) content t) r) is h
+  pub replace_element_at : Answered (IsGiven (replace_done c (words.AtElement p) content t)) r → (w : words.Spot) → IsSpot t (AtElement p) w → Answered (IsGiven (replace_done c w content t)) r
+  replace_element_at h (words.AtElement q) is = subst (λ (x : List ℕ). Answered (IsGiven (replace_done c (words.AtElement x) content t)) r) is h
   replace_element_at h (words.AtAttr q f) is = absurd is
   replace_element_at h (words.AtText q j) is = absurd is
 
-  pub replace_attr_at : (i : ℕ) → Gives (λ x. x) (value_done p i content t) r → (w : words.Spot) → IsSpot t (AtAttr p i) w → Gives (λ x. x) (replace_done c w content t) r
+  pub replace_attr_at : (i : ℕ) → Answered (IsGiven (value_done p i content t)) r → (w : words.Spot) → IsSpot t (AtAttr p i) w → Answered (IsGiven (replace_done c w content t)) r
   replace_attr_at i h (words.AtElement q) is = absurd is
   replace_attr_at i h (words.AtAttr q f) is =
-      let x = some_there (at p t) (λ e. position f e.attrs ≡ Some i) is.1 in gives_same (λ y. y) _ _ r (sym (replaced_by_number c p q f i content t x.0 is.0 x.1 x.2)) h
+      let x = some_there (at p t) (λ e. position f e.attrs ≡ Some i) is.1 in gives_same _ _ r (sym (replaced_by_number c p q f i content t x.0 is.0 x.1 x.2)) h
   replace_attr_at i h (words.AtText q j) is = absurd is
 
-  pub replace_text_at : (i : ℕ) → Gives (λ x. x) (replace_done c (words.AtText p i) content t) r → (w : words.Spot) → IsSpot t (AtText p i) w → Gives (λ x. x) (replace_done c w content t) r
+  pub replace_text_at : (i : ℕ) → Answered (IsGiven (replace_done c (words.AtText p i) content t)) r → (w : words.Spot) → IsSpot t (AtText p i) w → Answered (IsGiven (replace_done c w content t)) r
   replace_text_at i h (words.AtElement q) is = absurd is
   replace_text_at i h (words.AtAttr q f) is = absurd is
   replace_text_at i h (words.AtText q j) is =
-      subst (λ (x : List ℕ). Gives (λ y. y) (replace_done c (words.AtText x j) content t) r) is.0 (subst (λ (n : ℕ). Gives (λ y. y) (replace_done c (words.AtText p n) content t) r) is.1 h)
+      subst (λ (x : List ℕ). Answered (IsGiven (replace_done c (words.AtText x j) content t)) r) is.0 (subst (λ (n : ℕ). Answered (IsGiven (replace_done c (words.AtText p n) content t)) r) is.1 h)
 
 module _ (before after : Bool) (p : List ℕ) (content : Content) (t : Tree) (r : Result Tree (ReadError Wrong)) where
-  pub remove_element_at : Gives (λ x. x) (remove_done before after (words.AtElement p) content t) r → (w : words.Spot) → IsSpot t (AtElement p) w → Gives (λ x. x) (remove_done before after w content t) r
-  remove_element_at h (words.AtElement q) is = subst (λ (x : List ℕ). Gives (λ y. y) (remove_done before after (words.AtElement x) content t) r) is h
+  pub remove_element_at : Answered (IsGiven (remove_done before after (words.AtElement p) content t)) r → (w : words.Spot) → IsSpot t (AtElement p) w → Answered (IsGiven (remove_done before after w content t)) r
+  remove_element_at h (words.AtElement q) is = subst (λ (x : List ℕ). Answered (IsGiven (remove_done before after (words.AtElement x) content t)) r) is h
   remove_element_at h (words.AtAttr q f) is = absurd is
   remove_element_at h (words.AtText q j) is = absurd is
 
-  pub remove_attr_at : (i : ℕ) → Gives (λ x. x) (take_done p i content t) r → (w : words.Spot) → IsSpot t (AtAttr p i) w → Gives (λ x. x) (remove_done before after w content t) r
+  pub remove_attr_at : (i : ℕ) → Answered (IsGiven (take_done p i content t)) r → (w : words.Spot) → IsSpot t (AtAttr p i) w → Answered (IsGiven (remove_done before after w content t)) r
   remove_attr_at i h (words.AtElement q) is = absurd is
   remove_attr_at i h (words.AtAttr q f) is =
-      let x = some_there (at p t) (λ e. position f e.attrs ≡ Some i) is.1 in gives_same (λ y. y) _ _ r (sym (removed_by_number [] p q f i content t x.0 is.0 x.1 x.2 before after)) h
+      let x = some_there (at p t) (λ e. position f e.attrs ≡ Some i) is.1 in gives_same _ _ r (sym (removed_by_number [] p q f i content t x.0 is.0 x.1 x.2 before after)) h
   remove_attr_at i h (words.AtText q j) is = absurd is
 
-  pub remove_text_at : (i : ℕ) → Gives (λ x. x) (remove_done before after (words.AtText p i) content t) r → (w : words.Spot) → IsSpot t (AtText p i) w → Gives (λ x. x) (remove_done before after w content t) r
+  pub remove_text_at : (i : ℕ) → Answered (IsGiven (remove_done before after (words.AtText p i) content t)) r → (w : words.Spot) → IsSpot t (AtText p i) w → Answered (IsGiven (remove_done before after w content t)) r
   remove_text_at i h (words.AtElement q) is = absurd is
   remove_text_at i h (words.AtAttr q f) is = absurd is
   remove_text_at i h (words.AtText q j) is =
-      subst (λ (x : List ℕ). Gives (λ y. y) (remove_done before after (words.AtText x j) content t) r) is.0 (subst (λ (n : ℕ). Gives (λ y. y) (remove_done before after (words.AtText p n) content t) r) is.1 h)
+      subst (λ (x : List ℕ). Answered (IsGiven (remove_done before after (words.AtText x j) content t)) r) is.0 (subst (λ (n : ℕ). Answered (IsGiven (remove_done before after (words.AtText p n) content t)) r) is.1 h)

@@ -1,5 +1,6 @@
 -- Operations and documents, one after another.
 use Rattle.std.proofs.Common.{◌≡◌, Bor, ℕ, zero, suc, ◌+◌, ◌<◌, min, true, false, cond, List, [], ◌∷◌, length, map, get_or, drop, Option, None, Some, Result, Ok, Err, refl, sym, ap, ◌∙◌, subst, add-one, arith}
+use Rattle.xml_tree.specs.Memory.{Answered}
 use Rattle.xml_tree.specs.declared.read_error.ReadError.{ReadError}
 use Rattle.xml_tree.specs.declared.read_error.ReadError.TheVariants as errors
 use Rattle.xml_tree.specs.Limits.{greatest_u64}
@@ -9,7 +10,7 @@ use Rattle.patch_words.specs.Applied.{Wrong}
 use Rattle.patch_words.specs.readers.Applied.{applied}
 use Rattle.patch_words.specs.Replay.{AtOperation, CopyFault, CopyHeld, Missing, Now, Outcome, Turn, WrongTag, held_tag, is_tag, numbered, operation_count, says_same, then_next, unless_missing}
 use Rattle.patch_words.specs.readers.Replay.{all_applied, all_taken, by_tags, changed, renewed_copy, document_taken}
-use Rattle.patch_apply.specs.inner.Giving.{Tells}
+use Rattle.patch_apply.specs.inner.Giving.{AreGiven}
 use Rattle.patch_apply.specs.Views.{fault_told}
 use Rattle.patch_apply.specs.inner.Seen.{fault_at, wrong_in}
 use Rattle.patch_apply.specs.declared.fault.ApplyFault.{ApplyFault}
@@ -103,24 +104,24 @@ pub so_many : (before count n k : ℕ) → before ≡ min n greatest_u64 → cou
 so_many before count n k e is = omega (arith, e, is)
 
 -- what is stated may be said in other words
-pub tells_same : {X Y : Type 0} (view : X → Y) (a b : Result Y CopyFault) (r : Result X (ReadError ApplyFault)) → a ≡ b → Tells view a r → Tells view b r
-tells_same view a b r same h = subst (λ s. Tells view s r) same h
+pub tells_same : {X Y : Type 0} (view : X → Y) (a b : Result Y CopyFault) (r : Result X (ReadError ApplyFault)) → a ≡ b → Answered (AreGiven view a) r → Answered (AreGiven view b) r
+tells_same view a b r same h = subst (λ s. Answered (AreGiven view s) r) same h
 
-pub error_alike : {X Z Y : Type 0} (v : X → Y) (u : Z → Y) (a b : Result Y CopyFault) (e : ReadError ApplyFault) → a ≡ b → Tells v a (Err e) → Tells u b (Err e)
+pub error_alike : {X Z Y : Type 0} (v : X → Y) (u : Z → Y) (a b : Result Y CopyFault) (e : ReadError ApplyFault) → a ≡ b → Answered (AreGiven v a) (Err e) → Answered (AreGiven u b) (Err e)
 error_alike v u a b (errors.Fault fault) same h = record { stated_fault = h.stated_fault; is = sym same ∙ h.is; told = h.told }
 error_alike v u a b errors.NoMemory same h = tt
 
 -- what is wrong with an operation is told with its number
-pub wrong_told : (n : ℕ) (stated : Result Tree Wrong) (w : CodeWrong) (told : ApplyFault) → stated ≡ Err (wrong_in w) → told ≡ fault_at (min (suc n) greatest_u64) w → Tells {X = Tree} (λ t. t) (numbered n stated) (Err (errors.Fault told))
+pub wrong_told : (n : ℕ) (stated : Result Tree Wrong) (w : CodeWrong) (told : ApplyFault) → stated ≡ Err (wrong_in w) → told ≡ fault_at (min (suc n) greatest_u64) w → Answered (AreGiven {X = Tree} (λ t. t) (numbered n stated)) (Err (errors.Fault told))
 wrong_told n stated w told is same = record { stated_fault = AtOperation (suc n) (wrong_in w); is = ap (numbered n) is; told = same ∙ told_at (suc n) w }
 
 -- a fault of a document ends the documents behind it
 pub turn_fault : {X Z : Type 0} (v : X → Turn) (u : Z → Outcome) (n : ℕ) (c : List (List Decl)) (d : Tree) (ds : List Tree) (held : CopyHeld) (all : Result Outcome CopyFault) (e : ReadError ApplyFault)
-    → all ≡ all_taken n c (d ∷ ds) held → Tells v (document_taken n c d held) (Err e) → Tells u all (Err e)
+    → all ≡ all_taken n c (d ∷ ds) held → Answered (AreGiven v (document_taken n c d held)) (Err e) → Answered (AreGiven u all) (Err e)
 turn_fault v u n c d ds held all (errors.Fault fault) same h = record { stated_fault = h.stated_fault; is = same ∙ taken_fault n c d ds held h.stated_fault h.is; told = h.told }
 turn_fault v u n c d ds held all errors.NoMemory same h = tt
 
 -- a fault ends what comes behind it
-pub fault_ends : {X Y Z W : Type 0} (v : X → Y) (u : Z → W) (a : Result Y CopyFault) (k : Y → Result W CopyFault) (e : ReadError ApplyFault) → Tells v a (Err e) → Tells u (then_next a k) (Err e)
+pub fault_ends : {X Y Z W : Type 0} (v : X → Y) (u : Z → W) (a : Result Y CopyFault) (k : Y → Result W CopyFault) (e : ReadError ApplyFault) → Answered (AreGiven v a) (Err e) → Answered (AreGiven u (then_next a k)) (Err e)
 fault_ends v u a k (errors.Fault fault) h = record { stated_fault = h.stated_fault; is = ap (λ r. then_next r k) h.is; told = h.told }
 fault_ends v u a k errors.NoMemory h = tt

@@ -1,6 +1,7 @@
 //! Applying a whole notice.
 ghost use Rattle.std.specs.Prelude.{◌≡◌, ◌<◌, ℕ, [], codes, IfOk, length, map, min, unwrap_or};
 ghost use Rattle.std.specs.Option.{option_copied};
+ghost use Rattle.xml_tree.specs.Memory.{Answered};
 ghost use Rattle.xml_tree.specs.declared.scope.TheConstants.{SCOPE_LIMIT};
 ghost use Rattle.xml_tree.specs.Limits.{greatest_u64};
 ghost use Rattle.patch_words.specs.Applied.{plain_value};
@@ -9,7 +10,8 @@ ghost use Rattle.patch_words.specs.readers.Replay.{all_taken, replayed, document
 ghost use Rattle.patch_words.specs.Replay as words;
 ghost use Rattle.patch_laws.specs.Replayed.{HoldsSound};
 ghost use Rattle.patch_apply.specs.Applying.{Applies};
-ghost use Rattle.patch_apply.specs.inner.Giving.{AppliesAs, Tells};
+ghost use Rattle.patch_apply.specs.inner.Giving.{AppliesAs, AreGiven};
+ghost use Rattle.patch_apply.specs.declared.turns.Turn.{Turn as TheTurn};
 ghost use Rattle.name_words.specs.Naming.{is_name_of};
 ghost use Rattle.patch_apply.specs.inner.Stages.{ours_in};
 ghost use Rattle.patch_apply.specs.Views.{IsLow, answer_in, held_in};
@@ -103,7 +105,7 @@ fn turn_of(
 ) -> Result<(Turn, usize), ReadError<ApplyFault>>
     requires room { length scope.now < 66 }
     requires low { IsLow (held_in held) }
-    ensures by_the_words { (n : ℕ) → before ≡ min n greatest_u64 → Tells (λ x. turn_in x.0) (document_taken n scope.now document.now (held_in held)) result }
+    ensures by_the_words { (n : ℕ) → before ≡ min n greatest_u64 → Answered (AreGiven {X = TheTurn × ℕ} (λ x. turn_in x.0) (document_taken n scope.now document.now (held_in held))) result }
     ensures counts_the_operations { IfOk result (λ x. x.1 ≡ operation_count scope.now document.now) }
     ensures is_low_enough { IfOk result (λ x. IsLowTurn x.0) }
 {
@@ -123,7 +125,7 @@ fn all_taken(
 ) -> Result<Option<Option<Held>>, ReadError<ApplyFault>>
     requires room { length scope.now < 66 }
     requires low { IsLow (held_in held) }
-    ensures by_the_words { Tells outcome_in (all_taken 0 scope.now (map (λ x. x.now) documents.now) (held_in held)) result }
+    ensures by_the_words { Answered (AreGiven outcome_in (all_taken 0 scope.now (map (λ x. x.now) documents.now) (held_in held))) result }
     ensures is_low_enough { IfOk result IsLowOutcome }
 {
     let mut held = held;

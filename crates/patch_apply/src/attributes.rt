@@ -1,5 +1,6 @@
 //! Edits of attributes and texts by operations, in place.
 ghost use Rattle.std.specs.Prelude.{◌≡◌, ◌≤◌, ◌<◌, ◌++◌, ◌∷◌, [], Bool, List, length, remove, IsSome, IsSomeAnd, IfOk, OnOk};
+ghost use Rattle.xml_tree.specs.Memory.{Answered};
 ghost use Rattle.xml_tree.specs.Limits.{most_levels};
 ghost use Rattle.xml_tree.specs.Attributes.{with_value};
 ghost use Rattle.xml_tree.specs.Edits.{change_at};
@@ -10,7 +11,7 @@ ghost use Rattle.xml_tree.specs.Tree.{at, height};
 ghost use Rattle.xml_tree.specs.declared.names.Decl.{Decl};
 ghost use Rattle.patch_words.specs.Applied.{attr_done, remove_done, replace_done, with_attrs};
 ghost use Rattle.patch_words.specs.Applied as spots;
-ghost use Rattle.patch_apply.specs.inner.Giving.{Gives};
+ghost use Rattle.patch_apply.specs.inner.Giving.{IsGiven};
 ghost use Rattle.patch_apply.specs.inner.Stages.{is_there_already, take_done, value_done};
 
 use crate::contents::{is_bare, value_in};
@@ -105,7 +106,7 @@ pub(crate) fn add_attr(
 ) -> Result<Element, ReadError<Wrong>>
     requires there { IsSome (at path.now tree) }
     requires low { height tree ≤ most_levels }
-    ensures by_the_words { Gives (λ t. t) (attr_done here.now name path.now operation.now.content tree) result }
+    ensures by_the_words { Answered (IsGiven (attr_done here.now name path.now operation.now.content tree)) result }
 {
     let found = value_in(alloc, operation)?;
     let Some(value) = found else {
@@ -132,7 +133,7 @@ pub(crate) fn replace_attr(
 ) -> Result<Element, ReadError<Wrong>>
     requires there { IsSomeAnd (at path.now tree) (λ e. place < length e.attrs) }
     requires low { height tree ≤ most_levels }
-    ensures by_the_words { Gives (λ t. t) (value_done path.now place operation.now.content tree) result }
+    ensures by_the_words { Answered (IsGiven (value_done path.now place operation.now.content tree)) result }
 {
     let found = value_in(alloc, operation)?;
     let Some(value) = found else {
@@ -152,7 +153,7 @@ pub(crate) fn remove_attr(
 ) -> Result<Element, ReadError<Wrong>>
     requires there { IsSomeAnd (at path.now tree) (λ e. place < length e.attrs) }
     requires low { height tree ≤ most_levels }
-    ensures by_the_words { Gives (λ t. t) (take_done path.now place operation.now.content tree) result }
+    ensures by_the_words { Answered (IsGiven (take_done path.now place operation.now.content tree)) result }
 {
     if !is_bare(operation) {
         return Err(ReadError::Fault(Wrong::WrongNodes));
@@ -183,7 +184,7 @@ pub(crate) fn replace_text(
 ) -> Result<Element, ReadError<Wrong>>
     requires there { IsSomeAnd (at path.now tree) (λ e. place < length (nodes_of e.content)) }
     requires low { height tree ≤ most_levels }
-    ensures by_the_words { (c : List (List Decl)) → Gives (λ t. t) (replace_done c (spots.AtText path.now place) operation.now.content tree) result }
+    ensures by_the_words { (c : List (List Decl)) → Answered (IsGiven (replace_done c (spots.AtText path.now place) operation.now.content tree)) result }
 {
     let found = value_in(alloc, operation)?;
     let Some(value) = found else {
@@ -205,7 +206,7 @@ pub(crate) fn remove_text(
 ) -> Result<Element, ReadError<Wrong>>
     requires there { IsSomeAnd (at path.now tree) (λ e. place < length (nodes_of e.content)) }
     requires low { height tree ≤ most_levels }
-    ensures by_the_words { (before after : Bool) → Gives (λ t. t) (remove_done before after (spots.AtText path.now place) operation.now.content tree) result }
+    ensures by_the_words { (before after : Bool) → Answered (IsGiven (remove_done before after (spots.AtText path.now place) operation.now.content tree)) result }
 {
     if !is_bare(operation) {
         return Err(ReadError::Fault(Wrong::WrongNodes));

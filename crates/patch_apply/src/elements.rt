@@ -1,11 +1,12 @@
 //! Edits of elements by operations, in place.
 ghost use Rattle.std.specs.Prelude.{◌≡◌, ◌≤◌, ◌<◌, ◌+◌, ◌-◌, suc, true, not, ◌||◌, length, slice_get, is_some, IsSome, IsSomeAnd, OnOk};
+ghost use Rattle.xml_tree.specs.Memory.{Answered};
 ghost use Rattle.xml_tree.specs.Limits.{most_levels};
 ghost use Rattle.xml_tree.specs.Nodes.{nodes_of};
 ghost use Rattle.xml_tree.specs.Tree.{at, height};
 ghost use Rattle.patch_words.specs.Applied.{cut_nodes, is_space_at, nodes_at, one_if, put_done, remove_done, replace_done, space_before};
 ghost use Rattle.patch_words.specs.Applied as spots;
-ghost use Rattle.patch_apply.specs.inner.Giving.{Gives};
+ghost use Rattle.patch_apply.specs.inner.Giving.{IsGiven};
 ghost use Rattle.patch_apply.specs.inner.Stages.{gap_done, has_space_beside};
 ghost use Rattle.patch_apply.specs.inner.Seen.{position_in};
 
@@ -41,7 +42,7 @@ pub(crate) fn put_content(
 ) -> Result<Element, ReadError<Wrong>>
     requires there { IsSome (at path tree) }
     requires low { height tree ≤ most_levels }
-    ensures by_the_words { Gives (λ t. t) (put_done here.now (position_in position) path operation.now.content tree) result }
+    ensures by_the_words { Answered (IsGiven (put_done here.now (position_in position) path operation.now.content tree)) result }
 {
     if !off_root(position, &path) {
         return Err(ReadError::Fault(Wrong::RootTouched));
@@ -63,7 +64,7 @@ fn put_in_gap(
 ) -> Result<Element, ReadError<Wrong>>
     requires within { IsSomeAnd (at gap.path tree) (λ e. gap.place ≤ length (nodes_of e.content)) }
     requires low { height tree ≤ most_levels }
-    ensures by_the_words { Gives (λ t. t) (gap_done here.now gap.path gap.place operation.now.content tree) result }
+    ensures by_the_words { Answered (IsGiven (gap_done here.now gap.path gap.place operation.now.content tree)) result }
 {
     let nodes = operation.nodes();
     if !may_hold(&gap.path, nodes) {
@@ -88,7 +89,7 @@ pub(crate) fn replace_element(
 ) -> Result<Element, ReadError<Wrong>>
     requires there { IsSome (at path.now tree) }
     requires low { height tree ≤ most_levels }
-    ensures by_the_words { Gives (λ t. t) (replace_done here.now (spots.AtElement path.now) operation.now.content tree) result }
+    ensures by_the_words { Answered (IsGiven (replace_done here.now (spots.AtElement path.now) operation.now.content tree)) result }
 {
     let Some(new) = sole_element(operation) else {
         return Err(ReadError::Fault(Wrong::WrongNodes));
@@ -174,7 +175,7 @@ pub(crate) fn remove_element(
 ) -> Result<Element, ReadError<Wrong>>
     requires there { IsSome (at path.now tree) }
     requires low { height tree ≤ most_levels }
-    ensures by_the_words { Gives (λ t. t) (remove_done before after (spots.AtElement path.now) operation.now.content tree) result }
+    ensures by_the_words { Answered (IsGiven (remove_done before after (spots.AtElement path.now) operation.now.content tree)) result }
 {
     if !is_below(path) {
         return Err(ReadError::Fault(Wrong::RootTouched));

@@ -1,12 +1,13 @@
 //! Patch operations, one at a time (RFC 5261, section 4).
 ghost use Rattle.std.specs.Prelude.{◌≤◌, ◌<◌, length};
+ghost use Rattle.xml_tree.specs.Memory.{Answered};
 ghost use Rattle.xml_tree.specs.declared.scope.TheConstants.{SCOPE_LIMIT};
 ghost use Rattle.xml_tree.specs.Limits.{most_levels};
 ghost use Rattle.xml_tree.specs.Tree.{height};
 ghost use Rattle.patch_words.specs.Applied.{remove_done, replace_done};
 ghost use Rattle.patch_words.specs.readers.Applied.{applied};
 ghost use Rattle.patch_words.specs.Applied as words;
-ghost use Rattle.patch_apply.specs.inner.Giving.{Gives};
+ghost use Rattle.patch_apply.specs.inner.Giving.{IsGiven};
 ghost use Rattle.patch_apply.specs.inner.Spotting.{IsSpot, IsThere};
 ghost use Rattle.patch_apply.specs.inner.Stages.{done_where, said_done};
 ghost use Rattle.patch_apply.specs.inner.Seen.{task_in};
@@ -32,7 +33,7 @@ fn replace(
 ) -> Result<Element, ReadError<Wrong>>
     requires there { IsThere tree spot }
     requires low { height tree ≤ most_levels }
-    ensures by_the_words { (w : words.Spot) → IsSpot tree spot w → Gives (λ t. t) (replace_done here.now w operation.now.content tree) result }
+    ensures by_the_words { (w : words.Spot) → IsSpot tree spot w → Answered (IsGiven (replace_done here.now w operation.now.content tree)) result }
 {
     match spot {
         Spot::AtElement(path) => replace_element(alloc, here, &path, operation, tree),
@@ -52,7 +53,7 @@ fn remove(
 ) -> Result<Element, ReadError<Wrong>>
     requires there { IsThere tree spot }
     requires low { height tree ≤ most_levels }
-    ensures by_the_words { (w : words.Spot) → IsSpot tree spot w → Gives (λ t. t) (remove_done before after w operation.now.content tree) result }
+    ensures by_the_words { (w : words.Spot) → IsSpot tree spot w → Answered (IsGiven (remove_done before after w operation.now.content tree)) result }
 {
     match spot {
         Spot::AtElement(path) => remove_element(alloc, before, after, &path, operation, tree),
@@ -72,7 +73,7 @@ fn done(
 ) -> Result<Element, ReadError<Wrong>>
     requires there { IsThere tree spot }
     requires low { height tree ≤ most_levels }
-    ensures by_the_words { (w : words.Spot) → IsSpot tree spot w → Gives (λ t. t) (words.done here.now (task_in task) w operation.now.content tree) result }
+    ensures by_the_words { (w : words.Spot) → IsSpot tree spot w → Answered (IsGiven (words.done here.now (task_in task) w operation.now.content tree)) result }
 {
     match task {
         Task::Put(position) => {
@@ -94,7 +95,7 @@ fn done_where(
     tree: Element,
 ) -> Result<Element, ReadError<Wrong>>
     requires low { height tree ≤ most_levels }
-    ensures by_the_words { Gives (λ t. t) (done_where here.now (task_in task) selector.now operation.now.content tree) result }
+    ensures by_the_words { Answered (IsGiven (done_where here.now (task_in task) selector.now operation.now.content tree)) result }
 {
     let Some(spot) = located(alloc, selector, &tree) else {
         return Err(ReadError::Fault(Wrong::Unlocated));
@@ -111,7 +112,7 @@ fn said(
     tree: Element,
 ) -> Result<Element, ReadError<Wrong>>
     requires low { height tree ≤ most_levels }
-    ensures by_the_words { Gives (λ t. t) (said_done here.now sel.now operation.now tree) result }
+    ensures by_the_words { Answered (IsGiven (said_done here.now sel.now operation.now tree)) result }
 {
     let meant = task_of_operation(alloc, operation.name(), operation.attrs())?;
     let Some(task) = meant else {
@@ -133,7 +134,7 @@ pub(crate) fn applied(
 ) -> Result<Element, ReadError<Wrong>>
     requires room { length scope.now < SCOPE_LIMIT }
     requires low { height tree ≤ most_levels }
-    ensures by_the_words { Gives (λ t. t) (applied scope.now operation.now tree) result }
+    ensures by_the_words { Answered (IsGiven (applied scope.now operation.now tree)) result }
 {
     let attrs = operation.attrs();
     let Some(sel) = plain_value(attrs, "sel") else {

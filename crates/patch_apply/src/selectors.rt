@@ -1,13 +1,14 @@
 //! The selector of an operation (RFC 5261, section 4.1).
 ghost use Rattle.std.specs.Prelude.{◌≡◌, ◌||◌, [], IfOk, chars, is_some, unwrap_or, Err};
 ghost use Rattle.std.specs.Str.{bytes_eq};
+ghost use Rattle.xml_tree.specs.Memory.{Answered};
 ghost use Rattle.xml_tree.specs.Scopes.{bindings_in, bound};
 ghost use Rattle.node_select.specs.Faults.{form_of as end_form};
 ghost use Rattle.node_select.specs.Names.{prefix_uri};
 ghost use Rattle.patch_words.specs.Applied.{is_element, suits};
 ghost use Rattle.patch_words.specs.readers.Applied.{reading_in};
 ghost use Rattle.patch_apply.specs.inner.Forms.{IsRefused, IsUnbound, is_type_bound, unbound_with};
-ghost use Rattle.patch_apply.specs.inner.Giving.{Gives};
+ghost use Rattle.patch_apply.specs.inner.Giving.{IsGiven};
 ghost use Rattle.patch_apply.specs.inner.Stages.{selector_tested};
 ghost use Rattle.patch_apply.specs.inner.Seen.{task_in, wrong_in};
 
@@ -103,7 +104,7 @@ pub(crate) fn selector_for(
     sel: &Text,
     task: &Task,
 ) -> Result<PatchSelector, ReadError<Wrong>>
-    ensures selector_that_is_meant { Gives (λ s. s) (selector_tested here.now sel.now (task_in task.now)) result }
+    ensures selector_that_is_meant { Answered (IsGiven (selector_tested here.now sel.now (task_in task.now))) result }
 {
     let bindings = bindings_of(alloc, here)?;
     match read_patch_selector(alloc, sel.as_str(), &bindings, default_uri(here)) {
@@ -130,7 +131,7 @@ fn refused(
     fault: SelectorFault,
 ) -> ReadError<Wrong>
     requires { IsRefused (reading_in sel.now) here.now fault }
-    ensures what_is_wrong { Gives (λ s. s) (selector_tested here.now sel.now (task_in task.now)) (Err result) }
+    ensures what_is_wrong { Answered (IsGiven (selector_tested here.now sel.now (task_in task.now))) (Err result) }
 {
     match fault {
         SelectorFault::BadSelector(_) => ReadError::Fault(Wrong::Directive),
@@ -141,7 +142,7 @@ fn refused(
 // What is wrong with a selector that has an unbound prefix: its end may not suit what is to be done.
 fn unbound(alloc: Global, here: &Scope<'_>, sel: &Text, task: &Task) -> ReadError<Wrong>
     requires { IsUnbound (reading_in sel.now) here.now }
-    ensures what_is_wrong { Gives (λ s. s) (selector_tested here.now sel.now (task_in task.now)) (Err result) }
+    ensures what_is_wrong { Answered (IsGiven (selector_tested here.now sel.now (task_in task.now))) (Err result) }
 {
     match patch_form(alloc, sel) {
         Err(_) => ReadError::NoMemory,

@@ -1,13 +1,14 @@
 //! What a document of a notice makes of what is held.
 ghost use Rattle.std.specs.Prelude.{◌≡◌, ◌≤◌, ◌<◌, ℕ, suc, min, map, length, Some, Result, Err, IfOk};
 ghost use Rattle.std.specs.Option.{option_copied};
+ghost use Rattle.xml_tree.specs.Memory.{Answered};
 ghost use Rattle.xml_tree.specs.declared.scope.TheConstants.{SCOPE_LIMIT};
 ghost use Rattle.xml_tree.specs.Limits.{greatest_u64, most_levels};
 ghost use Rattle.xml_tree.specs.Tree.{Tree, height};
 ghost use Rattle.patch_words.specs.Applied as words;
 ghost use Rattle.patch_words.specs.Replay.{WrongTag, held_tag, is_tag, numbered};
 ghost use Rattle.patch_words.specs.readers.Replay.{all_applied, by_tags, changed, renewed_copy};
-ghost use Rattle.patch_apply.specs.inner.Giving.{Gives, Tells};
+ghost use Rattle.patch_apply.specs.inner.Giving.{AreGiven, IsGiven};
 ghost use Rattle.patch_apply.specs.Views.{IsLow, held_in, version_in};
 ghost use Rattle.patch_apply.specs.inner.Seen.{IsLowTurn, counted_in, turn_in};
 
@@ -39,7 +40,7 @@ pub struct Told<'a> {
 
 // A fault of the operation of a number, where so many stand before it.
 fn error_at(error: ReadError<Wrong>, number: usize) -> ReadError<ApplyFault>
-    ensures fault_with_its_number { (n : ℕ) (stated : Result Tree words.Wrong) → number ≡ min (suc n) greatest_u64 → Gives {X = Tree} (λ t. t) stated (Err error) → Tells {X = Tree} (λ t. t) (numbered n stated) (Err result) }
+    ensures fault_with_its_number { (n : ℕ) (stated : Result Tree words.Wrong) → number ≡ min (suc n) greatest_u64 → Answered (IsGiven {X = Tree} stated) (Err error) → Answered (AreGiven {X = Tree} (λ t. t) (numbered n stated)) (Err result) }
 {
     match error {
         ReadError::Fault(wrong) => ReadError::Fault(wrong.at(number)),
@@ -57,7 +58,7 @@ fn all_applied(
 ) -> Result<Element, ReadError<ApplyFault>>
     requires room { length scope.now < SCOPE_LIMIT }
     requires low { height tree ≤ most_levels }
-    ensures by_the_words { (n : ℕ) → before ≡ min n greatest_u64 → Tells (λ t. t) (all_applied n scope.now (map (λ x. x.now) operations.now) tree) result }
+    ensures by_the_words { (n : ℕ) → before ≡ min n greatest_u64 → Answered (AreGiven (λ t. t) (all_applied n scope.now (map (λ x. x.now) operations.now) tree)) result }
     ensures is_low_enough { IfOk result (λ made. height made ≤ most_levels) }
 {
     let mut tree = tree;
@@ -86,7 +87,7 @@ fn is_tag(wanted: &Text, held: &Option<Held>) -> bool
 
 // That another tag is held, or none.
 fn wrong_tag(alloc: Global, held: &Option<Held>, wanted: &Text) -> ReadError<ApplyFault>
-    ensures tells_both_tags { Tells {X = ℕ} {Y = ℕ} (λ x. x) (Err (WrongTag (held_tag (held_in held.now)) wanted.now)) (Err result) }
+    ensures tells_both_tags { Answered (AreGiven {X = ℕ} {Y = ℕ} (λ x. x) (Err (WrongTag (held_tag (held_in held.now)) wanted.now))) (Err result) }
 {
     let wanted = match wanted.copy(alloc) {
         Ok(wanted) => wanted,
@@ -117,7 +118,7 @@ fn changed(
 ) -> Result<Turn, ReadError<ApplyFault>>
     requires room { length scope.now < SCOPE_LIMIT }
     requires low { height held.root ≤ most_levels }
-    ensures by_the_words { (n : ℕ) → before ≡ min n greatest_u64 → Tells turn_in (changed n scope.now (map (λ x. x.now) operations.now) tag.now (Some (version_in held))) result }
+    ensures by_the_words { (n : ℕ) → before ≡ min n greatest_u64 → Answered (AreGiven turn_in (changed n scope.now (map (λ x. x.now) operations.now) tag.now (Some (version_in held)))) result }
     ensures is_low_enough { IfOk result IsLowTurn }
 {
     if operations.is_empty() {
@@ -143,7 +144,7 @@ fn renewed(
 ) -> Result<Turn, ReadError<ApplyFault>>
     requires room { length scope.now < SCOPE_LIMIT }
     requires low { IsLow (held_in held) }
-    ensures by_the_words { (n : ℕ) → before ≡ min n greatest_u64 → Tells turn_in (renewed_copy n scope.now (map (λ x. x.now) operations.now) (option_copied tag.entry) (held_in held)) result }
+    ensures by_the_words { (n : ℕ) → before ≡ min n greatest_u64 → Answered (AreGiven turn_in (renewed_copy n scope.now (map (λ x. x.now) operations.now) (option_copied tag.entry) (held_in held))) result }
     ensures is_low_enough { IfOk result IsLowTurn }
 {
     let Some(tag) = tag else {
@@ -165,7 +166,7 @@ pub(crate) fn taken(
 ) -> Result<Turn, ReadError<ApplyFault>>
     requires room { length scope.now < SCOPE_LIMIT }
     requires low { IsLow (held_in held) }
-    ensures by_the_words { (n : ℕ) → before ≡ min n greatest_u64 → Tells turn_in (by_tags n scope.now (map (λ x. x.now) told.now.operations.items) (option_copied told.now.previous) (option_copied told.now.new) (held_in held)) result }
+    ensures by_the_words { (n : ℕ) → before ≡ min n greatest_u64 → Answered (AreGiven turn_in (by_tags n scope.now (map (λ x. x.now) told.now.operations.items) (option_copied told.now.previous) (option_copied told.now.new) (held_in held))) result }
     ensures is_low_enough { IfOk result IsLowTurn }
 {
     let Some(previous) = told.previous else {

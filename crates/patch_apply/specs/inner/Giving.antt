@@ -1,6 +1,5 @@
--- What a call of the code answers: what is stated, or want of memory.
+-- What is stated of the answer of a call of the code, want of memory aside (`Answered`); of a whole notice also what is held then.
 use Rattle.std.specs.Prelude.{◌≡◌, Result, Ok, Err}
-use Rattle.xml_tree.specs.Memory.{Answered}
 use Rattle.xml_tree.specs.declared.read_error.ReadError.{ReadError}
 use Rattle.xml_tree.specs.declared.read_error.ReadError.TheVariants.{Fault, NoMemory}
 use Rattle.patch_words.specs.Applied as words
@@ -11,13 +10,10 @@ use Rattle.patch_apply.specs.declared.replica.Applied.{Applied}
 use Rattle.patch_apply.specs.Views.{answer_in, told_as}
 use Rattle.patch_apply.specs.inner.Seen.{wrong_in}
 
--- of an operation: the value, seen so, or what is wrong
-abbrev pub IsGiven : {X Y : Type 0} → (X → Y) → Result Y words.Wrong → Result X Wrong → Type 0
-IsGiven view stated (Ok x) = stated ≡ Ok (view x)
-IsGiven view stated (Err wrong) = stated ≡ Err (wrong_in wrong)
-
-abbrev pub Gives : {X Y : Type 0} → (X → Y) → Result Y words.Wrong → Result X (ReadError Wrong) → Type 0
-Gives view stated result = Answered (IsGiven view stated) result
+-- of an operation: the value, or what is wrong
+abbrev pub IsGiven : {X : Type 0} → Result X words.Wrong → Result X Wrong → Type 0
+IsGiven stated (Ok x) = stated ≡ Ok x
+IsGiven stated (Err wrong) = stated ≡ Err (wrong_in wrong)
 
 -- a fault that is stated is told so
 pub record IsTold {Y : Type 0} (stated : Result Y replay.CopyFault) (fault : ApplyFault) : Type 0 where
@@ -29,9 +25,6 @@ pub record IsTold {Y : Type 0} (stated : Result Y replay.CopyFault) (fault : App
 abbrev pub AreGiven : {X Y : Type 0} → (X → Y) → Result Y replay.CopyFault → Result X ApplyFault → Type 0
 AreGiven view stated (Ok x) = stated ≡ Ok (view x)
 AreGiven view stated (Err fault) = IsTold stated fault
-
-abbrev pub Tells : {X Y : Type 0} → (X → Y) → Result Y replay.CopyFault → Result X (ReadError ApplyFault) → Type 0
-Tells view stated result = Answered (AreGiven view stated) result
 
 -- of a notice: the answer that is stated, and what is stated is held then; or the fault that is stated, or want of memory, and what was held is
 abbrev pub AppliesAs : Result (replay.CopyAnswer × replay.CopyHeld) replay.CopyFault → replay.CopyHeld → Result Applied (ReadError ApplyFault) → replay.CopyHeld → Type 0

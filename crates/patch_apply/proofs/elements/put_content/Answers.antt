@@ -20,7 +20,7 @@ returns-then-not-has_nodes c = record {
 pub returns : goal.returns
 returns c = record {
   by_the_words =
-      gives_same (λ t. t) _ _ c.put_in_gap.result
+      gives_same _ _ c.put_in_gap.result
       (
       (λ i. gap_done c.args.here.now (c.gap_of-gap.ensures.path_of_the_gap i) (c.gap_of-gap.ensures.place_of_the_gap i) c.args.operation.now.content c.args.tree)
       ∙ sym (

@@ -28,7 +28,7 @@ returns c = record {
   by_the_words =
       let o = c.args.operation.now in
       let inside = c.with-here.ensures.adds_the_list ∙ ap (λ (ds : List Decl). c.args.scope.now ++ ds ∷ []) c.decls.ensures.lends_the_declarations in
-      gives_same (λ t. t) _ _ c.said.result
+      gives_same _ _ c.said.result
       (
       ap (λ (h : List (List Decl)). said_done h c.in-Some.sel.now o c.args.tree) inside
       ∙ sym (

@@ -17,7 +17,7 @@ add_attr-requires-clause-there c = subst (λ (p : List ℕ). IsSome (at p c.args
 pub returns-in-Put : goal.returns-in-Put
 returns-in-Put c = record {
   by_the_words = λ w is.
-      gives_same (λ t. t) _ _ c.put_content.result
+      gives_same _ _ c.put_content.result
       (ap (λ (p : List ℕ). put_done c.args.here.now (position_in c.in-Put.position) p c.args.operation.now.content c.args.tree) (c.into_path.ensures.path_of_the_spot ∙ path_same c.args.tree c.args.spot w is)
       ∙ ap (λ (task : Task). words.done c.args.here.now (task_in task) w c.args.operation.now.content c.args.tree) (sym c.in-Put.is))
       c.put_content.ensures.by_the_words;
@@ -26,7 +26,7 @@ returns-in-Put c = record {
 pub returns-in-NewAttr : goal.returns-in-NewAttr
 returns-in-NewAttr c = record {
   by_the_words = λ w is.
-      gives_same (λ t. t) _ _ c.add_attr.result
+      gives_same _ _ c.add_attr.result
       (ap (λ (p : List ℕ). attr_done c.args.here.now c.in-NewAttr.name p c.args.operation.now.content c.args.tree) (c.into_path-in-NewAttr.ensures.path_of_the_spot ∙ path_same c.args.tree c.args.spot w is)
       ∙ ap (λ (task : Task). words.done c.args.here.now (task_in task) w c.args.operation.now.content c.args.tree) (sym c.in-NewAttr.is))
       c.add_attr.ensures.by_the_words;

@@ -14,7 +14,7 @@ pub returns : goal.returns
 returns c = record {
   by_the_words =
       let x = (c.in-Some.ensures {u = tt}).what_is_selected.1 in
-      gives_same (λ t. t) _ _ c.done.result
+      gives_same _ _ c.done.result
       (sym (ap (λ (o : Option Spot). given o Unlocated (λ spot. words.done c.args.here.now (task_in c.args.task) spot c.args.operation.now.content c.args.tree)) x.1))
       (c.done.ensures.by_the_words x.0 x.2);
 }

@@ -25,7 +25,7 @@ pub returns-in-Ok : goal.returns-in-Ok
 returns-in-Ok c = record {
   by_the_words =
       let o = c.args.operation.now in
-      gives_same (λ t. t) _ _ c.done_where.result
+      gives_same _ _ c.done_where.result
       (
       sym (
       said_next c.args.here.now c.args.sel.now o c.args.tree (task_in c.in-Some.task) c.in-Ok.selector
