@@ -8,4 +8,3 @@ pub mod Pairs
 pub mod Passing
 pub mod Sockets
 pub mod Streams
-pub mod Wanting

@@ -2,7 +2,7 @@
 //! server's own, what changed and the flat list of a service.
 ghost use Rattle.std.specs.Prelude.{◌≡◌, IfOk};
 ghost use Rattle.std.specs.List.{list_any};
-ghost use Rattle.xcap_io.specs.Wanting.{StatedOr};
+ghost use Rattle.xcap_uri.specs.Gives.{StatedOr};
 ghost use Rattle.xcap_uri.specs.Shapes.{doc_of, tag_spelled};
 ghost use Rattle.xcap_uri.specs.readers.Shapes.{auid_of, changes, changes_or_part, document, feed_shape, flat_shape, in_home, in_usage, is_empty, mode_of, named, of_usage, of_user, part_changes, shape_of, stored_auid_of, stored_doc};
 

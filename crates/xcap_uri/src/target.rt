@@ -2,7 +2,7 @@
 ghost use Rattle.std.specs.Prelude.{◌≡◌, ◌++◌, None, Err, option_map, IfOk, OnOk, string_bytes};
 ghost use Rattle.doc_names.specs.Escapes.{escaped, is_visible};
 ghost use Rattle.xcap_uri.specs.Roots.{path_of};
-ghost use Rattle.xcap_io.specs.Wanting.{StatedOr};
+ghost use Rattle.xcap_uri.specs.Gives.{StatedOr};
 ghost use Rattle.xml_tree.specs.Memory.{Answered};
 ghost use Rattle.xcap_uri.specs.Targets.{IsReadableTarget, TargetAnswer, raw_text, under, under_root, with_query};
 ghost use Rattle.xcap_uri.specs.readers.Targets.{about_element, part_read, rest_read, target_of, target_read};
