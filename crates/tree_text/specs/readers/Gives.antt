@@ -1,4 +1,5 @@
--- What a reader of the code answers: what the reading function gives, unless memory ran out.
+-- What a reader of the code answers: what the reading function gives, unless memory ran out. This says more than `Answered` (`xml_tree/Memory`): the
+-- value is seen through a view, and a stop tells the text that is left, of which a fault makes a place.
 use Rattle.std.specs.Prelude.{◌≡◌, Result, Ok, Err}
 use Rattle.grammar_rules.specs.Reading.{Stop, Syntax, Faulty}
 use Rattle.tree_text.specs.declared.kind.Kind.{Kind}
