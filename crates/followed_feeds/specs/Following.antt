@@ -26,7 +26,7 @@ module _ (old : CopyHeld) (result : Result Applied FollowFault) (new : CopyHeld)
   abbrev pub Refuses : FollowFault → Type 0
   Refuses fault = (result ≡ Err fault) × (new ≡ old)
 
-  -- this, or want of memory
+  -- this, or want of memory, after which what was held is held: `Answered` (`xml_tree/Memory`) speaks of no holding
   abbrev pub OrNoMemory : Type 0 → Type 0
   OrNoMemory Comes = Comes ⊎ Refuses NoMemory
 
