@@ -10,8 +10,10 @@ use Rattle.xml_tree.proofs.PrintLengths.{ascii, byte_len-append, byte_len-attr, 
 use Rattle.xml_tree.proofs.PrintedNodes.{byte_len-bare, byte_len-whole}
 use Rattle.xml_tree.specs.PathTexts.{path_text, steps_text}
 use Rattle.xml_tree.specs.Expanded.{name_of as in_diff}
-use Rattle.edit_ops.specs.declared.change.Change.TheVariants.{Insert, Replace, Remove, SetAttr, DropAttr}
-use Rattle.notes.specs.Operations.{attr_name_text, attr_path_text, gap_attrs, operation_of, sel_attr, change_told as told, plain_attr as plain}
+use Rattle.edit_ops.specs.declared.change.Change.{Change}
+use Rattle.edit_ops.specs.declared.change.Change.TheVariants.{CreateDocument, Insert, Replace, Remove, SetAttr, DropAttr, RemoveDocument}
+use Rattle.notes.specs.Operations.{attr_name_text, attr_path_text, gap_attrs, operation_of, sel_attr, weight_of, change_told as told, plain_attr as plain}
+use Rattle.notes.specs.Recorded.{IsOfDocument}
 use Rattle.notes.specs.inner.Lengths.{bare_len, filled_len, valued_len, written_len}
 use Rattle.notes.proofs.Values.{written-append, written-path, written-quoted, written-steps}
 
@@ -151,3 +153,15 @@ module _ (m : ℕ) where
   pub valued_stops : (w d a x : ℕ) (v : List ℕ) (r t : ℕ) → r ≡ min (valued_len w d a v) m → a ≡ min x m → t ≡ valued_len w d x v → r ≡ min t m
   valued_stops w d a x [] r t made attrs whole = omega arith
   valued_stops w d a x (c ∷ cs) r t made attrs whole = omega arith
+
+-- ---- whole documents
+
+-- a document that is made or removed weighs nothing
+pub weightless : (ds : List Decl) (fresh : Bool) (change : Change) → IsOfDocument change → weight_of ds fresh change ≡ 0
+weightless ds fresh (CreateDocument root) h = refl
+weightless ds fresh (Insert p gap e) h = absurd h
+weightless ds fresh (Replace p e) h = absurd h
+weightless ds fresh (Remove p) h = absurd h
+weightless ds fresh (SetAttr p n v) h = absurd h
+weightless ds fresh (DropAttr p n) h = absurd h
+weightless ds fresh RemoveDocument h = refl

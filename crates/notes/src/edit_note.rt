@@ -6,6 +6,7 @@ ghost use Rattle.edit_ops.specs.Lengths.{element_len};
 ghost use Rattle.notes.specs.Notes.{note_of};
 ghost use Rattle.notes.specs.Operations.{weight};
 ghost use Rattle.notes.specs.Recorded.{IsOfDocument, made_note};
+ghost use Rattle.notes.specs.inner.Kept.{IsWeighed, note_in};
 
 use crate::NoMemory;
 use crate::making::{bindings_of_place, is_fresh};
@@ -80,10 +81,11 @@ impl EditNote {
         )
     }
 
-    /// The note of a change that makes or removes a document.
+    /// The note of a change that makes or removes a document. It weighs nothing, so nothing is counted.
     ///
     /// # Errors
     /// `NoMemory` for want of memory.
+    #[tactic(auto, using(crate::proofs::Operations::weightless))]
     pub fn of_document(
         alloc: Global,
         previous: u64,
@@ -93,16 +95,15 @@ impl EditNote {
         requires { IsOfDocument change }
         ensures tells_of_the_change_in_any_tree { IfOk result (λ made. (t : Tree) → made ≡ note_of previous next t change) }
     {
-        let put = edit_ops::element_len(&change);
-        EditNote::made(
-            alloc,
+        let note = KeptNote {
             previous,
             next,
-            List::empty(alloc),
+            bindings: List::empty(alloc),
             change,
-            false,
-            put,
-        )
+            fresh: false,
+            weight: 0,
+        };
+        EditNote::keep(alloc, note)
     }
 
     /// A note by its parts, whatever tree they are of; `put` is `element_len` of the change.
@@ -122,17 +123,23 @@ impl EditNote {
         ensures holds_the_parts { IfOk result (λ made. made ≡ made_note previous next bindings change fresh) }
     {
         let weight = weight(bindings.as_slice(), fresh, &change, put);
-        let kept = Rc::new(
-            alloc,
-            KeptNote {
-                previous,
-                next,
-                bindings,
-                change,
-                fresh,
-                weight,
-            },
-        )?;
+        let note = KeptNote {
+            previous,
+            next,
+            bindings,
+            change,
+            fresh,
+            weight,
+        };
+        EditNote::keep(alloc, note)
+    }
+
+    // A note that is weighed.
+    fn keep(alloc: Global, note: KeptNote) -> Result<EditNote, NoMemory>
+        requires weighed { IsWeighed note }
+        ensures holds_the_note { IfOk result (λ made. made ≡ note_in note) }
+    {
+        let kept = Rc::new(alloc, note)?;
         Ok(EditNote { kept })
     }
 
