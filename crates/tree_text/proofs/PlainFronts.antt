@@ -75,28 +75,28 @@ inner_by c false false false false false false i j k l m n h = absurd cc
 plain_inner : (c : ℕ) → is_plain_in_content c ≡ true → IsInner c
 plain_inner c h = inner_by c (within 94 126 c) (nat_eq c 32) (nat_eq c 10) (within 61 92 c) (within 33 37 c) (within 39 59 c) refl refl refl refl refl refl h
 
-value_by : (c : ℕ) (a b d : Bool) → within 61 126 c ≡ a → within 39 59 c ≡ b → within 32 37 c ≡ d → ((a || b) || d) ≡ true → IsPrinted c
+value_by : (c : ℕ) (a b d : Bool) → within 39 59 c ≡ a → within 32 37 c ≡ b → within 61 126 c ≡ d → ((a || b) || d) ≡ true → IsPrinted c
 value_by c true b d i j k h =
-    let w = bounds 61 126 c i in
-    let from : 61 ≤ c = w.0 in
-    printed c (omega (arith, from)) w.1 (λ x. omega (arith, x, from)) (λ x. omega (arith, x, from))
-value_by c false true d i j k h =
-    let w = bounds 39 59 c j in
+    let w = bounds 39 59 c i in
     let from : 39 ≤ c = w.0 in
     let to : c ≤ 59 = w.1 in
     printed c (omega (arith, from)) (omega (arith, to)) (λ x. omega (arith, x, from)) (λ x. omega (arith, x, to))
-value_by c false false true i j k h =
-    let w = bounds 32 37 c k in
+value_by c false true d i j k h =
+    let w = bounds 32 37 c j in
     let to : c ≤ 37 = w.1 in
     printed c w.0 (omega (arith, to)) (λ x. omega (arith, x, to)) (λ x. omega (arith, x, to))
+value_by c false false true i j k h =
+    let w = bounds 61 126 c k in
+    let from : 61 ≤ c = w.0 in
+    printed c (omega (arith, from)) w.1 (λ x. omega (arith, x, from)) (λ x. omega (arith, x, from))
 value_by c false false false i j k h = absurd cc
 
 module _ (quote c : ℕ) (h : is_plain_in_value quote c ≡ true) where
-  parts : (not (nat_eq c quote) ≡ true) × (((within 61 126 c || within 39 59 c) || within 32 37 c) ≡ true)
-  parts = and_parts (not (nat_eq c quote)) ((within 61 126 c || within 39 59 c) || within 32 37 c) h
+  parts : (not (nat_eq c quote) ≡ true) × (((within 39 59 c || within 32 37 c) || within 61 126 c) ≡ true)
+  parts = and_parts (not (nat_eq c quote)) ((within 39 59 c || within 32 37 c) || within 61 126 c) h
 
   plain_printed : IsPrinted c
-  plain_printed = value_by c (within 61 126 c) (within 39 59 c) (within 32 37 c) refl refl refl parts.1
+  plain_printed = value_by c (within 39 59 c) (within 32 37 c) (within 61 126 c) refl refl refl parts.1
 
   plain_raw_in : is_raw_in quote c ≡ true
   plain_raw_in = both_true (is_raw c) (not (nat_eq c quote)) plain_printed.stands parts.0

@@ -24,17 +24,17 @@ digit_in_name c h = or_right (is_name_start c) (is_joining c) (rw h (rw (by (nat
 capital_in_name : (c : ℕ) → within 65 90 c ≡ true → is_name_char c ≡ true
 capital_in_name c h = or_left (is_name_start c) (is_joining c) (rw h refl)
 
-in_name_by : (c : ℕ) (a b d e f g : Bool) → within 97 122 c ≡ a → nat_eq c 45 ≡ b → nat_eq c 46 ≡ d → within 48 57 c ≡ e → within 65 90 c ≡ f → nat_eq c 95 ≡ g → (((((a || b) || d) || e) || f) || g) ≡ true → is_name_char c ≡ true
-in_name_by c true b d e f g i j k l m n h = small_in_name c i
-in_name_by c false true d e f g i j k l m n h = let z = eqb-true c 45 j in rw z refl
-in_name_by c false false true e f g i j k l m n h = let z = eqb-true c 46 k in rw z refl
-in_name_by c false false false true f g i j k l m n h = digit_in_name c l
+in_name_by : (c : ℕ) (a b d e f g : Bool) → nat_eq c 45 ≡ a → nat_eq c 46 ≡ b → within 48 57 c ≡ d → within 97 122 c ≡ e → within 65 90 c ≡ f → nat_eq c 95 ≡ g → (((((a || b) || d) || e) || f) || g) ≡ true → is_name_char c ≡ true
+in_name_by c true b d e f g i j k l m n h = let z = eqb-true c 45 i in rw z refl
+in_name_by c false true d e f g i j k l m n h = let z = eqb-true c 46 j in rw z refl
+in_name_by c false false true e f g i j k l m n h = digit_in_name c k
+in_name_by c false false false true f g i j k l m n h = small_in_name c l
 in_name_by c false false false false true g i j k l m n h = capital_in_name c m
 in_name_by c false false false false false true i j k l m n h = let z = eqb-true c 95 n in rw z refl
 in_name_by c false false false false false false i j k l m n h = absurd cc
 
 plain_in_name : (c : ℕ) → is_plain_in_name c ≡ true → is_name_char c ≡ true
-plain_in_name c h = in_name_by c (within 97 122 c) (nat_eq c 45) (nat_eq c 46) (within 48 57 c) (within 65 90 c) (nat_eq c 95) refl refl refl refl refl refl h
+plain_in_name c h = in_name_by c (nat_eq c 45) (nat_eq c 46) (within 48 57 c) (within 97 122 c) (within 65 90 c) (nat_eq c 95) refl refl refl refl refl refl h
 
 -- what ends a name: no name goes on or begins there, and no colon follows
 record EndsName (rest : List ℕ) : Type 0 where

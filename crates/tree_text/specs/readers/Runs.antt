@@ -42,11 +42,11 @@ is_plain_in_content c = within 94 126 c || c == 32 || c == 10 || within 61 92 c 
 
 -- those that do so in a value between these quotes: from the space to the tilde but `&`, `<` and the quote
 abbrev pub is_plain_in_value : ℕ → ℕ → Bool
-is_plain_in_value quote c = not (c == quote) && (within 61 126 c || within 39 59 c || within 32 37 c)
+is_plain_in_value quote c = not (c == quote) && (within 39 59 c || within 32 37 c || within 61 126 c)
 
 -- ASCII letters, digits, `-`, `.` and `_`: they stand in names
 abbrev pub is_plain_in_name : ℕ → Bool
-is_plain_in_name c = within 97 122 c || c == 45 || c == 46 || within 48 57 c || within 65 90 c || c == 95
+is_plain_in_name c = c == 45 || c == 46 || within 48 57 c || within 97 122 c || within 65 90 c || c == 95
 
 -- whether a `>`, a space, a `=` or a `/` follows, which end most names
 abbrev pub ends_name : List ℕ → Bool
