@@ -1,9 +1,10 @@
 -- Characters that are written as references: all of them are ASCII, so the bytes of a text can be escaped one by one.
-use Rattle.std.proofs.Common.{◌≡◌, ℕ, ◌+◌, ◌/◌, ◌<◌, ◌≤◌, ◌==◌, Bool, true, false, List, [], ◌∷◌, ◌++◌, flat_map, encode_utf8_all, refl, sym, ap, ◌∙◌, arith, append-nil}
+use Rattle.std.proofs.Common.{◌≡◌, ℕ, ◌+◌, ◌/◌, ◌<◌, ◌≤◌, ◌==◌, Bool, true, false, List, [], ◌∷◌, ◌++◌, length, take, get_or, flat_map, encode_utf8_all, refl, sym, ap, ◌∙◌, arith, append-nil}
 use Rattle.std.specs.List.{AllByRecursion}
 use lib.Utf8.{encode}
 use Rattle.std.proofs.lemmas.Str.{encodes-append, encode_ascii}
 use Rattle.std.proofs.lemmas.Grind.{flat_map-append}
+use Rattle.std.proofs.lemmas.List.{take_more}
 use Rattle.std.proofs.lemmas.Bool.Decides.{nat_tests}
 use Rattle.xml_tree.specs.Print.{text_escape, value_escape}
 use Rattle.xml_tree.proofs.ByteOrder.{next, Width, of_one, of_two, of_three, of_four, width, encode_two, encode_three, encode_four}
@@ -68,3 +69,11 @@ encode-text cs = encode-escaped text_escape text_low text_high cs
 
 pub encode-value : (cs : List ℕ) → encode_utf8_all (flat_map value_escape cs) ≡ flat_map value_escape (encode_utf8_all cs)
 encode-value cs = encode-escaped value_escape value_low value_high cs
+
+-- ---- bytes that are written as themselves
+
+-- one more behind those in front
+pub plain_more : (f : ℕ → List ℕ) (bs : List ℕ) (i : ℕ) → i < length bs → flat_map f (take i bs) ≡ take i bs → f (get_or bs i 0) ≡ get_or bs i 0 ∷ [] → flat_map f (take (i + 1) bs) ≡ take (i + 1) bs
+plain_more f bs i within so_far one =
+    let more = take_more bs i 0 within in
+    ap (flat_map f) more ∙ flat_map-append f (take i bs) (get_or bs i 0 ∷ []) ∙ ap (λ l. l ++ (f (get_or bs i 0) ++ [])) so_far ∙ ap (λ l. take i bs ++ (l ++ [])) one ∙ sym more

@@ -1,5 +1,5 @@
 //! The length of the print of an element. It is counted from the tree, and nothing is printed.
-ghost use Rattle.std.specs.Prelude.{◌≡◌, flat_map, length, min};
+ghost use Rattle.std.specs.Prelude.{◌≡◌, flat_map, length, min, IsTrue};
 ghost use Rattle.xml_tree.specs.Print.{byte_len, declaring, opening, print, print_attr, print_comment, print_decl, print_name, print_node, text_escape, value_escape, quoted_text};
 
 use crate::names::{Attr, Decl, Name};
@@ -27,9 +27,38 @@ fn value_width(byte: u8) -> usize
     }
 }
 
-/// The length in bytes of the print of a text, by its bytes; the greatest number where it is longer, as in all that follows. Takes no memory.
-pub fn text_len(text: &[u8]) -> usize
-    ensures counts_the_escaped_text { result ≡ min (length (flat_map text_escape text.now)) usize.MAX }
+// Whether each byte of a text is written as itself.
+#[inline(always)]
+#[tactic(auto, using(crate::proofs::Escapes::plain_more))]
+fn is_plain_text(text: &[u8]) -> bool
+    ensures bytes_stand_for_themselves { IsTrue result → flat_map text_escape text.now ≡ text.now }
+{
+    for byte in text {
+        if let Some(_) = text_reference(*byte as char) {
+            return false;
+        }
+    }
+    true
+}
+
+// Whether each byte of a value in quotes is written as itself.
+#[inline(always)]
+#[tactic(auto, using(crate::proofs::Escapes::plain_more))]
+fn is_plain_value(value: &[u8]) -> bool
+    ensures bytes_stand_for_themselves_in_quotes { IsTrue result → flat_map value_escape value.now ≡ value.now }
+{
+    for byte in value {
+        if let Some(_) = value_reference(*byte as char) {
+            return false;
+        }
+    }
+    true
+}
+
+// The length of a text, byte by byte.
+#[inline(never)]
+fn referenced_text_len(text: &[u8]) -> usize
+    ensures counts_each_escaped_byte { result ≡ min (length (flat_map text_escape text.now)) usize.MAX }
 {
     let mut total = 0usize;
     for byte in text {
@@ -38,15 +67,37 @@ pub fn text_len(text: &[u8]) -> usize
     total
 }
 
-/// The length in bytes of a value as it is written, without the quotes, by its bytes. Takes no memory.
-pub fn value_len(value: &[u8]) -> usize
-    ensures counts_the_escaped_value { result ≡ min (length (flat_map value_escape value.now)) usize.MAX }
+// The length of a value without its quotes, byte by byte.
+#[inline(never)]
+fn referenced_value_len(value: &[u8]) -> usize
+    ensures counts_each_escaped_byte_in_quotes { result ≡ min (length (flat_map value_escape value.now)) usize.MAX }
 {
     let mut total = 0usize;
     for byte in value {
         total = total.saturating_add(value_width(*byte));
     }
     total
+}
+
+/// The length in bytes of the print of a text, by its bytes; the greatest number where it is longer, as in all that follows. Takes no memory.
+/// Most texts hold nothing that is written as a reference.
+pub fn text_len(text: &[u8]) -> usize
+    ensures counts_the_escaped_text { result ≡ min (length (flat_map text_escape text.now)) usize.MAX }
+{
+    if is_plain_text(text) {
+        return text.len();
+    }
+    referenced_text_len(text)
+}
+
+/// The length in bytes of a value as it is written, without the quotes, by its bytes. Takes no memory.
+pub fn value_len(value: &[u8]) -> usize
+    ensures counts_the_escaped_value { result ≡ min (length (flat_map value_escape value.now)) usize.MAX }
+{
+    if is_plain_value(value) {
+        return value.len();
+    }
+    referenced_value_len(value)
 }
 
 // The length of a value in its quotes.

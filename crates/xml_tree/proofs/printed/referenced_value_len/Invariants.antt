@@ -1,6 +1,6 @@
 use Rattle.std.proofs.Common.{◌≡◌, ◌+◌, ◌≤◌, drop, flat_map, length, min}
 use Rattle.xml_tree.specs.Print.{value_escape}
-use Rattle.xml_tree.proofs.printed.value_len.Given as goal
+use Rattle.xml_tree.proofs.printed.referenced_value_len.Given as goal
 
 abbrev pub invariant-loop-byte : goal.invariant-loop-byte
 invariant-loop-byte l =
