@@ -4,7 +4,7 @@ use Rattle.std.specs.Prelude.{nat_eq}
 use Rattle.std.proofs.lemmas.Bool.{eqb-true}
 use Rattle.std.proofs.Math.Nat.{min_comm}
 use Rattle.std.proofs.Math.Seq.{drop-cons, take-length, take-suc}
-use Rattle.std.proofs.lemmas.List.{get_or_default, length-append, length-drop, take-append-le, take_min, append-nil}
+use Rattle.std.proofs.lemmas.List.{get_or_default, length-append, length-drop, length-take, take-append-le, take_min, append-nil}
 use Rattle.grammar_rules.specs.Reading.{Stop, Syntax, ◌>>=◌, starts, front_of, after_front, all_but_last, front_without, after_without, read_up_to, read_name_of, read_some_of}
 use Rattle.tree_text.specs.declared.kind.Kind.{Kind}
 use Rattle.tree_text.specs.readers.Runs.{run_len, without_len}
@@ -54,6 +54,10 @@ run_done p xs i n h e t =
 -- the slice of the first ones
 pub take_least : (xs : List ℕ) (n least : ℕ) → least ≡ min (length xs) n → take least xs ≡ take n xs
 take_least xs n least is = ap (λ (k : ℕ). take k xs) (is ∙ min_comm (length xs) n) ∙ take_min n xs
+
+-- the first ones are as many in front as they are
+pub first_ones : (taken xs : List ℕ) (n : ℕ) → taken ≡ take n xs → taken ≡ take (length taken) xs
+first_ones taken xs n is = is ∙ sym (ap (λ (k : ℕ). take k xs) (ap length is ∙ length-take n xs) ∙ take_min n xs)
 
 -- the slice behind the first item
 rest_all : (text : List ℕ) → 1 ≤ length text → take (length text - 1) (drop 1 text) ≡ drop 1 text

@@ -1,5 +1,5 @@
 //! Elements: their tags, their content, and the elements in it, no deeper than a limit.
-ghost use Rattle.std.specs.Prelude.{◌≡◌, ◌+◌, ◌-◌, ◌≤◌, ◌<◌, ◌++◌, true, [], ◌∷◌, length, chars, IfOk, OnOk, Ok, Err};
+ghost use Rattle.std.specs.Prelude.{◌≡◌, ◌+◌, ◌-◌, ◌≤◌, ◌<◌, ◌++◌, true, [], ◌∷◌, length, IfOk, OnOk, Ok, Err};
 ghost use Rattle.grammar_rules.specs.Reading.{Reader, judgement};
 ghost use Rattle.xml_tree.specs.Edits.{with_elem, with_text};
 ghost use Rattle.xml_tree.specs.Tree.{Tree, last, tree_of};
@@ -23,11 +23,11 @@ use crate::runs::{lines, raw_run, starts};
 use crate::said::Said;
 use crate::stop::Stop;
 use crate::tags::{Tag, whole_tag};
-use crate::texts::text_of;
+use crate::texts::{ascii_text, text_of};
 use crate::values::{ends_run, reference};
 use crate::written::end_tag;
 use std::alloc::{AllocError, Global};
-use xml_tree::{Attr, Decl, Element, Name};
+use xml_tree::{Attr, Decl, Element, Name, Text};
 
 /// Stops at the first wrong name of a tag, which this follows, inside its element.
 fn judged<'a>(
@@ -62,11 +62,11 @@ fn room_before(element: &mut Element, rest: &[char]) -> Result<(), AllocError>
 }
 
 /// Adds plain characters to content, before this rest of the text.
-fn push_plain(element: &mut Element, plain: &str, rest: &[char]) -> Result<(), AllocError>
-    ensures adds_the_characters { OnOk result (element.new ≡ record element.old { content = with_text (chars plain.now) element.old.content }) }
+fn push_plain(element: &mut Element, plain: Text, rest: &[char]) -> Result<(), AllocError>
+    ensures adds_the_characters { OnOk result (element.new ≡ record element.old { content = with_text plain element.old.content }) }
 {
     room_before(element, rest)?;
-    element.push_chars(plain)
+    element.push_text(plain)
 }
 
 /// Adds an element to the content of its parent, before this rest of the text.
@@ -108,8 +108,9 @@ fn push_some<'a>(
     ensures reads_the_run_onto_it { IfOk result (λ rest. read_chars_onto element.old text.now ≡ Ok (element.new, rest.now)) }
 {
     let mut bytes = [0; 64];
-    let (plain, rest) = plain_in_content(text, &mut bytes);
+    let (len, rest) = plain_in_content(text, &mut bytes);
     if ends_run(rest, '<') {
+        let plain = ascii_text(alloc, &bytes, len)?;
         push_plain(element, plain, rest)?;
         return Ok(rest);
     }

@@ -1,9 +1,8 @@
 //! The plain characters in front of a text: ASCII ones that are read as they stand. One pass finds their end and makes them bytes.
-ghost use Rattle.std.specs.Prelude.{◌≡◌, ◌≤◌, ◌++◌, take, chars, length, IsTrue};
+ghost use Rattle.std.specs.Prelude.{◌≡◌, ◌≤◌, ◌++◌, take, length, IsTrue};
 ghost use Rattle.std.specs.List.{list_all};
+ghost use Rattle.std.specs.Str.{IsAscii};
 ghost use Rattle.tree_text.specs.readers.Runs.{is_plain_in_content, is_plain_in_name, is_plain_in_value, run_len};
-
-use crate::texts::ascii;
 
 // How many characters are read at most.
 const MOST: usize = 64;
@@ -96,36 +95,42 @@ fn name_len(text: &[char], bytes: &mut [u8; 64]) -> usize
     text.len()
 }
 
-/// The characters in front that are plain in content, 64 at most, and what follows them.
-pub fn plain_in_content<'a, 'b>(text: &'a [char], bytes: &'b mut [u8; 64]) -> (&'b str, &'a [char])
-    ensures text_is_front_and_rest { text.now ≡ chars result.0.now ++ result.1.now }
-    ensures length_of_the_plain_run { length (chars result.0.now) ≡ run_len is_plain_in_content (take 64 text.now) }
-    ensures is_plain_alone { IsTrue (list_all is_plain_in_content (chars result.0.now)) }
+/// How many characters in front are plain in content, 64 at most, and what follows them. They are written as bytes.
+pub fn plain_in_content<'a>(text: &'a [char], bytes: &mut [u8; 64]) -> (usize, &'a [char])
+    ensures text_is_front_and_rest { text.now ≡ take result.0 bytes.new ++ result.1.now }
+    ensures length_of_the_plain_run { result.0 ≡ run_len is_plain_in_content (take 64 text.now) }
+    ensures is_plain_alone { IsTrue (list_all is_plain_in_content (take result.0 bytes.new)) }
+    ensures fits_the_bytes { result.0 ≤ 64 }
+    ensures is_ascii { IsAscii (take result.0 bytes.new) }
 {
     let len = content_len(&text[..text.len().min(MOST)], bytes);
-    (ascii(bytes, len), &text[len..])
+    (len, &text[len..])
 }
 
-/// The characters in front that are plain in a value between these quotes, 64 at most, and what follows them.
-pub fn plain_in_value<'a, 'b>(
+/// How many characters in front are plain in a value between these quotes, 64 at most, and what follows them. They are written as bytes.
+pub fn plain_in_value<'a>(
     text: &'a [char],
     quote: char,
-    bytes: &'b mut [u8; 64],
-) -> (&'b str, &'a [char])
-    ensures text_is_front_and_rest { text.now ≡ chars result.0.now ++ result.1.now }
-    ensures length_of_the_plain_run { length (chars result.0.now) ≡ run_len (is_plain_in_value quote) (take 64 text.now) }
-    ensures is_plain_alone { IsTrue (list_all (is_plain_in_value quote) (chars result.0.now)) }
+    bytes: &mut [u8; 64],
+) -> (usize, &'a [char])
+    ensures text_is_front_and_rest { text.now ≡ take result.0 bytes.new ++ result.1.now }
+    ensures length_of_the_plain_run { result.0 ≡ run_len (is_plain_in_value quote) (take 64 text.now) }
+    ensures is_plain_alone { IsTrue (list_all (is_plain_in_value quote) (take result.0 bytes.new)) }
+    ensures fits_the_bytes { result.0 ≤ 64 }
+    ensures is_ascii { IsAscii (take result.0 bytes.new) }
 {
     let len = value_len(&text[..text.len().min(MOST)], quote, bytes);
-    (ascii(bytes, len), &text[len..])
+    (len, &text[len..])
 }
 
-/// The characters in front that are plain in names, 64 at most, and what follows them.
-pub fn plain_in_name<'a, 'b>(text: &'a [char], bytes: &'b mut [u8; 64]) -> (&'b str, &'a [char])
-    ensures lends_its_text { text.now ≡ chars result.0.now ++ result.1.now }
-    ensures length_of_the_plain_run { length (chars result.0.now) ≡ run_len is_plain_in_name (take 64 text.now) }
-    ensures is_plain_alone { IsTrue (list_all is_plain_in_name (chars result.0.now)) }
+/// How many characters in front are plain in names, 64 at most, and what follows them. They are written as bytes.
+pub fn plain_in_name<'a>(text: &'a [char], bytes: &mut [u8; 64]) -> (usize, &'a [char])
+    ensures text_is_front_and_rest { text.now ≡ take result.0 bytes.new ++ result.1.now }
+    ensures length_of_the_plain_run { result.0 ≡ run_len is_plain_in_name (take 64 text.now) }
+    ensures is_plain_alone { IsTrue (list_all is_plain_in_name (take result.0 bytes.new)) }
+    ensures fits_the_bytes { result.0 ≤ 64 }
+    ensures is_ascii { IsAscii (take result.0 bytes.new) }
 {
     let len = name_len(&text[..text.len().min(MOST)], bytes);
-    (ascii(bytes, len), &text[len..])
+    (len, &text[len..])
 }

@@ -29,9 +29,19 @@ pub fn ascii(bytes: &[u8; 64], len: usize) -> &str
     requires size { len ≤ 64 }
     requires ascii { IsAscii (take len bytes.now) }
     ensures lends_the_bytes_in_front { chars result.now ≡ take len bytes.now }
+    ensures stands_in_front { result.now ≡ take len bytes.now }
 {
     // It is proved that these bytes are ASCII.
     unsafe { str::from_utf8_unchecked(&bytes[..len]) }
+}
+
+/// A text of the bytes in front, which are ASCII.
+pub fn ascii_text(alloc: Global, bytes: &[u8; 64], len: usize) -> Result<Text, AllocError>
+    requires size { len ≤ 64 }
+    requires ascii { IsAscii (take len bytes.now) }
+    ensures holds_the_bytes_in_front { IfOk result (λ text. text ≡ take len bytes.now) }
+{
+    Text::from_front(alloc, ascii(bytes, len), bytes)
 }
 
 // Writes characters as bytes, and answers whether all are ASCII, so that they are.

@@ -14,7 +14,7 @@ ghost use Rattle.tree_text.specs.readers.Texts.{read_stands_for, read_entity, re
 use crate::fronts::plain_in_value;
 use crate::parts::word;
 use crate::stop::Stop;
-use crate::texts::push_all;
+use crate::texts::{ascii_text, push_all};
 use std::alloc::{AllocError, Global};
 use xml_tree::{Text, is_char};
 
@@ -274,9 +274,9 @@ fn blanked(alloc: Global, text: &[char], quote: char) -> Result<(Text, &[char]),
     ensures reads_a_blanked_run { IfOk result (λ x. read_blanked quote text.now ≡ Ok (x.0, x.1.now)) }
 {
     let mut bytes = [0; 64];
-    let (plain, rest) = plain_in_value(text, quote, &mut bytes);
+    let (len, rest) = plain_in_value(text, quote, &mut bytes);
     if ends_run(rest, quote) {
-        return Ok((Text::from(alloc, plain)?, rest));
+        return Ok((ascii_text(alloc, &bytes, len)?, rest));
     }
     let (run, rest) = raw_run(text, quote);
     Ok((raw_text(alloc, run)?, rest))

@@ -12,7 +12,7 @@ ghost use Rattle.tree_text.specs.readers.Words.{end_start};
 use crate::fronts::plain_in_name;
 use crate::parts::{letter, name, spaces, starts_with_name, word};
 use crate::stop::Stop;
-use crate::texts::{no_text, text_of};
+use crate::texts::{ascii_text, no_text, text_of};
 use std::alloc::{AllocError, Global};
 use xml_tree::{Name, Text};
 
@@ -144,11 +144,11 @@ pub fn own_qname(alloc: Global, text: &[char]) -> Result<(Name, Written<'_>, &[c
     ensures lengths_add_up { IfOk result (λ x. length (written x.0) + length x.2.now ≡ length text.now) }
 {
     let mut bytes = [0; 64];
-    let (plain, rest) = plain_in_name(text, &mut bytes);
+    let (len, rest) = plain_in_name(text, &mut bytes);
     if is_name_up_to(text, rest) {
         let name = Name {
             prefix: no_text(alloc),
-            local: Text::from(alloc, plain)?,
+            local: ascii_text(alloc, &bytes, len)?,
         };
         return Ok((name, unprefixed(text, rest), rest));
     }

@@ -1,5 +1,5 @@
 //! Texts of a few bytes, which stand in place.
-ghost use Rattle.std.specs.Prelude.{◌≡◌, ◌++◌, ◌≤◌, ◌+◌, ◌↔◌, [], length, IsTrue, IsFalse};
+ghost use Rattle.std.specs.Prelude.{◌≡◌, ◌++◌, ◌≤◌, ◌+◌, ◌↔◌, [], length, take, IsTrue, IsFalse};
 
 use std::marker::Model;
 
@@ -42,6 +42,20 @@ impl ShortText {
         ShortText {
             bytes: self.bytes,
             len: self.len,
+        }
+    }
+
+    /// A copy of a text of a few bytes that stands in front of these. As many as there is room for are copied at once.
+    pub(crate) fn of_front(text: &str, bytes: &[u8; 64]) -> ShortText
+        requires fits { length text.now ≤ 30 }
+        requires front { text.now ≡ take (length text.now) bytes.now }
+        ensures copies_the_bytes { result ≡ text.now }
+    {
+        let mut copied = [0u8; 30];
+        copied.copy_from_slice(&bytes[..30]);
+        ShortText {
+            bytes: copied,
+            len: text.len() as u8,
         }
     }
 

@@ -1,5 +1,5 @@
 //! Texts, which contracts see as their characters.
-ghost use Rattle.std.specs.Prelude.{◌≡◌, ◌++◌, ◌∷◌, [], ◌↔◌, length, IsTrue, IfOk, OnOk, OnErr, chars, encode_utf8_all, string_bytes};
+ghost use Rattle.std.specs.Prelude.{◌≡◌, ◌++◌, ◌∷◌, [], ◌↔◌, length, take, IsTrue, IfOk, OnOk, OnErr, chars, encode_utf8_all, string_bytes};
 ghost use Rattle.std.specs.Str.{bytes_eq};
 
 use crate::text_bytes::TextBytes;
@@ -35,6 +35,18 @@ impl Text {
     {
         let bytes = TextBytes::from(alloc, text)?;
         Ok(Text { bytes })
+    }
+
+    /// A copy of a text that stands in front of these bytes. A short one costs the same whatever its length.
+    ///
+    /// # Errors
+    /// `NoMemory` for want of memory.
+    pub fn from_front(alloc: Global, text: &str, bytes: &[u8; 64]) -> Result<Text, AllocError>
+        requires { text.now ≡ take (length text.now) bytes.now }
+        ensures copies_the_text { IfOk result (λ made. made ≡ chars text.now) }
+    {
+        let made = TextBytes::of_front(alloc, text, bytes)?;
+        Ok(Text { bytes: made })
     }
 
     /// The text that a string holds, which is not copied. Takes no memory.

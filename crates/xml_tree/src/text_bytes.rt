@@ -1,5 +1,5 @@
 //! The bytes of a text: a few stand in place, more have memory of their own.
-ghost use Rattle.std.specs.Prelude.{◌≡◌, ◌++◌, encode_utf8, string_bytes, [], IfOk, OnOk, OnErr};
+ghost use Rattle.std.specs.Prelude.{◌≡◌, ◌++◌, length, take, encode_utf8, string_bytes, [], IfOk, OnOk, OnErr};
 ghost use Rattle.xml_tree.specs.inner.Spelled.{bytes_of};
 
 use crate::short_text::{MOST, ShortText};
@@ -30,6 +30,21 @@ impl TextBytes {
         let mut short = ShortText::new();
         if short.takes(text) {
             return Ok(TextBytes::Short(alloc, short));
+        }
+        Ok(TextBytes::Long(String::from_str(alloc, text)?))
+    }
+
+    /// A copy of a text's bytes, which stand in front of these.
+    pub(crate) fn of_front(
+        alloc: Global,
+        text: &str,
+        bytes: &[u8; 64],
+    ) -> Result<TextBytes, AllocError>
+        requires { text.now ≡ take (length text.now) bytes.now }
+        ensures copies_the_bytes { IfOk result (λ made. bytes_of made ≡ text.now) }
+    {
+        if text.len() <= MOST {
+            return Ok(TextBytes::Short(alloc, ShortText::of_front(text, bytes)));
         }
         Ok(TextBytes::Long(String::from_str(alloc, text)?))
     }

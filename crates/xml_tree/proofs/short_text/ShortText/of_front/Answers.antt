@@ -1,0 +1,15 @@
+use Rattle.std.proofs.Common.{◌≡◌, ◌≤◌, ℕ, List, length, take, sym, ap, ◌∙◌, subst, IsUtf8}
+use Rattle.std.proofs.lemmas.List.{take-take}
+use Rattle.xml_tree.proofs.short_text.ShortText.of_front.Goals as goal
+
+-- what is copied begins with the text
+begins : (copied bytes text : List ℕ) → copied ≡ take 30 bytes → length text ≤ 30 → text ≡ take (length text) bytes → take (length text) copied ≡ text
+begins copied bytes text is fits front = ap (take (length text)) is ∙ take-take (length text) 30 bytes fits ∙ sym front
+
+pub invariant_of-result : goal.invariant_of-result
+invariant_of-result c =
+    let whole = begins c.copy_from_slice.new.self c.args.bytes.now c.args.text.now c.copy_from_slice.ensures.after c.requires.fits c.requires.front in
+    (c.requires.fits, ∣ subst IsUtf8 (sym whole) c.utf8.text ∣₁)
+
+pub returns : goal.returns
+returns c = record { copies_the_bytes = begins c.copy_from_slice.new.self c.args.bytes.now c.args.text.now c.copy_from_slice.ensures.after c.requires.fits c.requires.front }
