@@ -1,5 +1,5 @@
 -- What reading functions give on texts that begin with what their rules spell.
-use Rattle.std.proofs.Common.{◌≡◌, ℕ, zero, suc, ◌-◌, ◌<◌, ◌≤◌, Bool, true, false, List, [], ◌∷◌, ◌++◌, length, Result, Ok, refl, sym, ap, subst, eq-eqb, length-append, arith}
+use Rattle.std.proofs.Common.{◌≡◌, ℕ, zero, suc, ◌-◌, ◌<◌, ◌≤◌, Bool, true, false, List, [], ◌∷◌, ◌++◌, drop, length, Result, Ok, refl, sym, ap, subst, ◌∙◌, eq-eqb, length-append, arith}
 use Rattle.std.specs.Prelude.{nat_eq, Option, None}
 use Rattle.grammar_rules.specs.Rules.{AllPass}
 use Rattle.grammar_rules.specs.Reading.{Stop, Reader, ◌>>=◌, head_is, read_one, read_word, read_run, read_sequence, read_either, read_at_most, read_many, read_valued, read_sized, read_atomic, read_judged, read_between, read_name_of, read_before, read_behind, read_quoted}
@@ -46,6 +46,9 @@ reads_sized {rest = rest} used h = sized_by (length used) (omega (arith, length-
 word_read : (w rest : List ℕ) → read_word {Kind = Kind} w (w ++ rest) ≡ Ok (tt, rest)
 word_read [] rest = refl
 word_read (c ∷ cs) rest = let e : nat_eq c c ≡ true = eq-eqb c c refl in rw e (word_read cs rest)
+
+pub word_found : (w text : List ℕ) → text ≡ w ++ drop (length w) text → read_word {Kind = Kind} w text ≡ Ok (tt, drop (length w) text)
+word_found w text whole = ap (read_word w) whole ∙ word_read w (drop (length w) text)
 
 pub reads_word : (w rest : List ℕ) → Reads (read_word w) (w ++ rest) tt rest
 reads_word w rest = record { read = word_read w rest }

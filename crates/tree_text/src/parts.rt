@@ -1,5 +1,5 @@
 //! Words, white space and names: the parts in which no other rule stands.
-ghost use Rattle.std.specs.Prelude.{◌≡◌, ◌+◌, ◌<◌, [], ◌∷◌, length, IfOk, Ok};
+ghost use Rattle.std.specs.Prelude.{◌≡◌, ◌+◌, ◌<◌, ◌≤◌, [], ◌∷◌, ◌++◌, drop, length, IsTrue, IfOk, Ok};
 ghost use Rattle.grammar_rules.specs.Reading.{head_is, after_front, read_word};
 ghost use Rattle.xml_tree.specs.Characters.{is_space, is_name_start, is_name_char};
 ghost use Rattle.tree_text.specs.readers.Gives.{Gives};
@@ -34,9 +34,29 @@ pub fn word<'a>(text: &'a [char], word: &[char]) -> Result<&'a [char], Stop<'a>>
     }
 }
 
-/// The same for words of several letters.
+/// Whether a word stands in front. Its letters are compared several at once.
+fn word_is_first(text: &[char], word: &[char]) -> bool
+    ensures word_and_what_follows { IsTrue result → text.now ≡ word.now ++ drop (length word.now) text.now }
+    ensures fits_in_the_text { IsTrue result → length word.now ≤ length text.now }
+{
+    text.starts_with(word)
+}
+
+/// The same for words of several letters. Most are there.
 fn letters<'a>(text: &'a [char], word: &[char]) -> Result<&'a [char], Stop<'a>>
     ensures reads_as_the_rule_does { Gives (λ rest. (tt, rest.now)) result (read_word word.now text.now) }
+    ensures lengths_add_up { IfOk result (λ rest. length word.now + length rest.now ≡ length text.now) }
+{
+    if word_is_first(text, word) {
+        return Ok(text.split_at(word.len()).1);
+    }
+    each_letter(text, word)
+}
+
+/// The same, letter by letter.
+#[inline(never)]
+fn each_letter<'a>(text: &'a [char], word: &[char]) -> Result<&'a [char], Stop<'a>>
+    ensures reads_each_letter { Gives (λ rest. (tt, rest.now)) result (read_word word.now text.now) }
     ensures lengths_add_up { IfOk result (λ rest. length word.now + length rest.now ≡ length text.now) }
 {
     let mut rest = text;
@@ -86,6 +106,14 @@ fn begins_name(c: char) -> bool
     if is_small_letter(c) {
         return true;
     }
+    begins_some_name(c)
+}
+
+/// The same, whatever character it is.
+#[inline(never)]
+fn begins_some_name(c: char) -> bool
+    ensures tells_of_every_character { result ≡ is_name_start c }
+{
     is_name_start(c)
 }
 
@@ -145,6 +173,7 @@ pub fn starts_with_space(text: &[char]) -> bool
 }
 
 /// Whether the first character of a name stands in front.
+#[inline(always)]
 pub fn starts_with_name(text: &[char]) -> bool
     ensures tells_whether_a_name_is_first { result ≡ head_is is_name_start text.now }
 {

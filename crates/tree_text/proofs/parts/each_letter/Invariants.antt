@@ -1,7 +1,7 @@
 use Rattle.std.proofs.Common.{◌≡◌, ◌+◌, drop, length}
 use Rattle.grammar_rules.specs.Reading.{read_word}
 use Rattle.tree_text.specs.declared.kind.Kind.{Kind}
-use Rattle.tree_text.proofs.parts.letters.Given as goal
+use Rattle.tree_text.proofs.parts.each_letter.Given as goal
 
 -- what is left of the word is to be read from what is left of the text
 abbrev pub invariant-loop-expected : goal.invariant-loop-expected
