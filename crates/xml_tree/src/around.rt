@@ -85,17 +85,22 @@ impl<'a> Around<'a> {
         some_text(self.nearest(prefix))
     }
 
-    // What the nearest declaration of a prefix says.
+    // What the nearest declaration of a prefix says. Most elements declare nothing.
     fn nearest(&self, prefix: &Text) -> Option<&'a Text>
         ensures finds_what_is_declared { option_copied result ≡ declared (joined self.now) prefix.now }
     {
         match self.place {
             Place::Nothing => None,
             Place::Outermost(scope) => scope.nearest(prefix.as_str()),
-            Place::Within(outer, declared) => match declared.uri_of(prefix) {
-                Some(uri) => Some(uri),
-                None => outer.nearest(prefix),
-            },
+            Place::Within(outer, declared) => {
+                if declared.is_empty() {
+                    return outer.nearest(prefix);
+                }
+                match declared.uri_of(prefix) {
+                    Some(uri) => Some(uri),
+                    None => outer.nearest(prefix),
+                }
+            }
         }
     }
 }

@@ -1,5 +1,5 @@
 //! The declarations of an element, with an index where they are many.
-ghost use Rattle.std.specs.Prelude.{◌≡◌, [], map, IfOk};
+ghost use Rattle.std.specs.Prelude.{◌≡◌, ◌==◌, [], length, map, IfOk};
 ghost use Rattle.std.specs.Option.{option_copied};
 ghost use Rattle.xml_tree.specs.inner.Gathering.{gathered};
 ghost use Rattle.xml_tree.specs.Scopes.{AreInOrder, declared};
@@ -63,7 +63,15 @@ impl<'a> Declared<'a> {
         Ok(Declared { decls, index })
     }
 
+    /// Whether nothing is declared. Takes no memory.
+    pub fn is_empty(&self) -> bool
+        ensures tells_whether_nothing_is_declared { result ≡ (length self.now == 0) }
+    {
+        self.decls.is_empty()
+    }
+
     /// What the last declaration of a prefix says, if there is one: its URI, which is empty where the prefix is undeclared. Takes no memory.
+    #[inline(never)]
     pub fn uri_of(&self, prefix: &Text) -> Option<&'a Text>
         ensures last_of_the_prefix { option_copied result ≡ declared self.now prefix.now }
     {

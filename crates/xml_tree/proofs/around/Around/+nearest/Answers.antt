@@ -1,10 +1,23 @@
-use Rattle.std.proofs.Common.{List, Option, ℕ, ap, sym, ◌∙◌}
+use Rattle.std.proofs.Common.{◌≡◌, List, [], Option, ℕ, length, ap, sym, ◌∙◌, eqb-true}
+use Rattle.std.proofs.lemmas.List.{nil_from_length}
 use Rattle.std.specs.Option.{option_copied, option_or}
 use Rattle.xml_tree.specs.inner.Around.{lists_at}
 use Rattle.xml_tree.specs.Scopes.{declared, joined}
 use Rattle.xml_tree.specs.declared.names.Decl.{Decl}
 use Rattle.xml_tree.proofs.AroundLemmas.{declared_inside}
 use Rattle.xml_tree.proofs.around.Around.+nearest.Goals as goal
+
+pub returns-then-is_empty : goal.returns-then-is_empty
+returns-then-is_empty t c = record {
+  finds_what_is_declared =
+      let outer = c.in-Within.outer.now in
+      let p = c.args.prefix.now in
+      let ds = c.in-Within.declared.now in
+      let none : ds ≡ [] = nil_from_length ds (eqb-true (length ds) 0 (sym c.if-is_empty.ensures.tells_whether_nothing_is_declared)) in
+      let here = ap lists_at (sym c.in-Within.is) ∙ c.self.view_is in
+      c.nearest-then-is_empty.ensures.finds_what_is_declared ∙ ap (λ (l : List Decl). option_or (declared l p) (declared (joined outer) p)) (sym none) ∙ sym (declared_inside outer ds p)
+      ∙ ap (λ (s : List (List Decl)). declared (joined s) p) here;
+}
 
 pub returns-in-Some : goal.returns-in-Some
 returns-in-Some t c = record {
