@@ -1,10 +1,10 @@
 //! Texts as they are printed, with references in place of the characters that would be read otherwise.
-ghost use Rattle.std.specs.Prelude.{◌≡◌, ◌++◌, ◌∷◌, [], ◌<◌, length, take, get_or, chars, flat_map, IfSome, IfNone, OnOk};
+ghost use Rattle.std.specs.Prelude.{◌≡◌, ◌++◌, ◌∷◌, [], ◌<◌, length, take, get_or, chars, flat_map, IsTrue, IfSome, IfNone, OnOk};
 ghost use Rattle.tree_text.specs.inner.Escapes.{escape_in};
 
 use crate::output::Output;
 use std::alloc::AllocError;
-use xml_tree::{text_reference, value_reference};
+use xml_tree::{is_plain_text, is_plain_value, text_reference, value_reference};
 
 /// Where a text is printed.
 #[derive(Clone, Copy, Debug)]
@@ -13,6 +13,17 @@ pub enum Place {
     Content,
     /// In a value between double quotes.
     Quotes,
+}
+
+/// Whether each byte of a text is printed as itself.
+#[inline(always)]
+fn is_plain(place: Place, bytes: &[u8]) -> bool
+    ensures bytes_stand_for_themselves { IsTrue result → flat_map (escape_in place) bytes.now ≡ bytes.now }
+{
+    match place {
+        Place::Content => is_plain_text(bytes),
+        Place::Quotes => is_plain_value(bytes),
+    }
 }
 
 /// The reference that a byte of a text is printed as, unless it is printed as itself.
@@ -50,10 +61,21 @@ fn first_reference(place: Place, bytes: &[u8]) -> Option<(usize, &'static str)>
     None
 }
 
-/// Adds a text as it is printed in a place: runs of plain characters at once, and references between them.
+/// Adds a text as it is printed in a place. Most hold nothing that is printed as a reference.
 #[inline(always)]
 pub fn push_escaped(out: &mut Output, text: &str, place: Place) -> Result<(), AllocError>
     ensures adds_the_printed_text { OnOk result (out.new ≡ out.old ++ flat_map (escape_in place) (chars text.now)) }
+{
+    if is_plain(place, text.as_bytes()) {
+        return out.push_str(text);
+    }
+    push_parts(out, text, place)
+}
+
+/// The same: runs of plain characters at once, and references between them.
+#[inline(never)]
+fn push_parts(out: &mut Output, text: &str, place: Place) -> Result<(), AllocError>
+    ensures adds_runs_and_references { OnOk result (out.new ≡ out.old ++ flat_map (escape_in place) (chars text.now)) }
 {
     let mut rest = text;
     'references: while let Some((at, reference)) = first_reference(place, rest.as_bytes()) {

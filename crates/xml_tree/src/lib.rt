@@ -45,7 +45,10 @@ pub use names::{Attr, Decl, Name, copy_decls};
 pub use nodes::{place_of, place_of_gap};
 pub use path::{PATH_LIMIT, Path, element_at};
 pub use path_texts::print_path;
-pub use printed::{attr_len, decl_len, decls_len, name_len, printed_len, text_len, value_len};
+pub use printed::{
+    attr_len, decl_len, decls_len, is_plain_text, is_plain_value, name_len, printed_len, text_len,
+    value_len,
+};
 pub use proper_laws::{
     proper_after_an_edit, proper_at_each_place, proper_in_scopes_that_bind_alike, proper_when_put,
 };

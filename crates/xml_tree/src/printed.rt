@@ -27,10 +27,10 @@ fn value_width(byte: u8) -> usize
     }
 }
 
-// Whether each byte of a text is written as itself.
+/// Whether each byte of a text is written as itself. Takes no memory.
 #[inline(always)]
 #[tactic(auto, using(crate::proofs::Escapes::plain_more))]
-fn is_plain_text(text: &[u8]) -> bool
+pub fn is_plain_text(text: &[u8]) -> bool
     ensures bytes_stand_for_themselves { IsTrue result → flat_map text_escape text.now ≡ text.now }
 {
     for byte in text {
@@ -41,10 +41,10 @@ fn is_plain_text(text: &[u8]) -> bool
     true
 }
 
-// Whether each byte of a value in quotes is written as itself.
+/// Whether each byte of a value in quotes is written as itself. Takes no memory.
 #[inline(always)]
 #[tactic(auto, using(crate::proofs::Escapes::plain_more))]
-fn is_plain_value(value: &[u8]) -> bool
+pub fn is_plain_value(value: &[u8]) -> bool
     ensures bytes_stand_for_themselves_in_quotes { IsTrue result → flat_map value_escape value.now ≡ value.now }
 {
     for byte in value {
