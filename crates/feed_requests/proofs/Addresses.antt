@@ -26,14 +26,14 @@ use Rattle.xcap_uri.specs.Cuts.{rest_after_front, front_before, rest_behind, beh
 use Rattle.xcap_uri.specs.Escapes.{StandsFor, StandForOptional}
 use Rattle.xcap_uri.specs.Numerals.{numeral_of}
 use Rattle.xcap_uri.specs.Roots.{slash}
-use Rattle.xcap_uri.specs.Shapes.{Names, below, changes, doc_of, flat_list, in_home, mode_word, part, part_changes, tag_spelled, whole}
+use Rattle.xcap_uri.specs.Shapes.{Names, doc_of, in_home, mode_word, names_deep, names_document, names_element_feed, names_feed, names_flat, names_node, tag_spelled}
 use Rattle.xcap_uri.specs.Targets.{AreSegments, IsPath, Means, NamedAnswer, RestAnswer, TargetAnswer, element_feed_of, is_element, node_of, question, raw_text, under, under_root}
 use Rattle.xcap_uri.specs.Words.{feed}
 use Rattle.xcap_uri.specs.Order.{Where}
 use Rattle.xcap_uri.specs.declared.fault.UriFault.{UriFault}
 use Rattle.xcap_uri.specs.declared.fault.UriFault.TheVariants.{BadEscape, BadSelector}
 use Rattle.xcap_uri.specs.declared.shape.Shape.{Shape}
-use Rattle.xcap_uri.specs.declared.shape.Shape.TheVariants.{Changes}
+use Rattle.xcap_uri.specs.declared.shape.Shape.TheVariants as shapes
 use Rattle.xcap_uri.specs.declared.target.Mode.{Mode}
 use Rattle.xcap_uri.specs.declared.target.Mode.TheVariants.{NoPatching, XcapPatching, Aggregate}
 use Rattle.xcap_uri.specs.declared.target.Target.{Target}
@@ -175,23 +175,23 @@ module _ (mode : Mode) (n : ℕ) (tag : List ℕ) (doc : DocId) (has : HasFeed d
   no_element number other raw (Err fault) e = cc
 
   by_home : (segments : List (List ℕ)) (selector : Option (List ℕ)) (auid : Auid) (home : Home) (name : List ℕ) → segments ≡ in_home auid home (name ∷ []) → selector ≡ None → doc_of auid home name ≡ doc
-      → Names (with_front segments) selector (Changes mode n doc)
+      → Names (with_front segments) selector (shapes.Feed mode n doc)
   by_home segments selector auid Global name e f same =
       let never : Global ≡ User has.xui = ap (λ (d : DocId). d.home) same ∙ has.users in absurd cc
   by_home segments selector auid (User xui) name e f same =
-      subst (λ (d : DocId). Names (with_front segments) selector (Changes mode n d)) same
-      (changes mode n tag auid has.usage xui name (ap with_front e) is_tag (ap (λ (d : DocId). usage_of d.auid) same ∙ has.stored) f)
+      subst (λ (d : DocId). Names (with_front segments) selector (shapes.Feed mode n d)) same
+      (names_feed mode n tag auid has.usage xui name (ap with_front e) is_tag (ap (λ (d : DocId). usage_of d.auid) same ∙ has.stored) f)
 
   by_shape : (segments : List (List ℕ)) (selector : Option (List ℕ)) (bindings : List Decl) (raw : List ℕ) (shape : Shape) → Names segments selector shape → Means bindings raw shape named
-      → Names (with_front segments) selector (Changes mode n doc)
-  by_shape segments selector bindings raw _ (whole auid home name e f) is =
+      → Names (with_front segments) selector (shapes.Feed mode n doc)
+  by_shape segments selector bindings raw _ (names_document auid home name e f) is =
       let same : doc_of auid home name ≡ doc = cc in
       by_home segments selector auid home name e f same
-  by_shape segments selector bindings raw _ (part auid home name text e f some) is = absurd (no_part _ is.0 is.2)
-  by_shape segments selector bindings raw _ (below auid home name next more e) is = absurd cc
-  by_shape segments selector bindings raw _ (changes other number digits auid usage xui name e spelled stored f) is = absurd cc
-  by_shape segments selector bindings raw _ (part_changes number digits auid usage xui name text e spelled stored f some) is = absurd (no_element number _ raw is.0 is.2)
-  by_shape segments selector bindings raw _ (flat_list xui name service e f) is = absurd cc
+  by_shape segments selector bindings raw _ (names_node auid home name text e f some) is = absurd (no_part _ is.0 is.2)
+  by_shape segments selector bindings raw _ (names_deep auid home name next more e) is = absurd cc
+  by_shape segments selector bindings raw _ (names_feed other number digits auid usage xui name e spelled stored f) is = absurd cc
+  by_shape segments selector bindings raw _ (names_element_feed number digits auid usage xui name text e spelled stored f some) is = absurd (no_element number _ raw is.0 is.2)
+  by_shape segments selector bindings raw _ (names_flat xui name service e f) is = absurd cc
 
   by_names : (segments : List (List ℕ)) (selector query : Option (List ℕ)) (raw : List ℕ) → NamedAnswer segments selector query raw named → NamedAnswer (with_front segments) selector query raw asked
   by_names segments selector query raw is =
@@ -204,7 +204,7 @@ module _ (mode : Mode) (n : ℕ) (tag : List ℕ) (doc : DocId) (has : HasFeed d
         inl (
           inl refl,
           inl (
-            Changes mode n doc,
+            shapes.Feed mode n doc,
             by_shape segments selector bindings.0 raw shape.0 shape.1 bindings.2,
             inl (bindings.0, bindings.1, refl),
           ),

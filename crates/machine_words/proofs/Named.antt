@@ -14,7 +14,7 @@ use Rattle.xcap_uri.specs.Targets.{IsPartAnswer, Means, NamedAnswer, RestAnswer,
 use Rattle.xcap_uri.specs.declared.fault.UriFault.{UriFault}
 use Rattle.xcap_uri.specs.declared.fault.UriFault.TheVariants.{BadEscape, BadQuery, BadSelector, BadShape, OutsideRoot, UnknownAuid}
 use Rattle.xcap_uri.specs.declared.shape.Shape.{Shape}
-use Rattle.xcap_uri.specs.declared.shape.Shape.TheVariants.{Whole, Part, Below, Changes, PartChanges, FlatList}
+use Rattle.xcap_uri.specs.declared.shape.Shape.TheVariants as shapes
 use Rattle.xcap_uri.specs.declared.target.Target.{Target}
 use Rattle.xcap_uri.specs.declared.target.Target.TheVariants.{Document, Node, Deep, Feed, ElementFeed, Flat}
 use Rattle.machine_words.specs.Requests.{IsWritableTarget}
@@ -43,12 +43,12 @@ module _ (bindings : List Decl) (doc : DocId) (text : List ℕ) (t : Target) whe
       by false is = cc
 
 of_shape : (bindings : List Decl) (raw : List ℕ) (shape : Shape) (t : Target) → Means bindings raw shape (Ok t) → IsWritableTarget t
-of_shape bindings raw (Whole doc) t is = subst IsWritableTarget (sym (ok_is t (Document doc) is)) tt
-of_shape bindings raw (Part doc text) t is = of_part bindings doc text t is.0 is.1 is.2
-of_shape bindings raw (Below auid home) t is = subst IsWritableTarget (sym (ok_is t (Deep auid home) is)) tt
-of_shape bindings raw (Changes mode tag doc) t is = subst IsWritableTarget (sym (ok_is t (Feed mode tag doc) is)) tt
-of_shape bindings raw (PartChanges tag doc text) t is = of_feed bindings doc text t tag raw is.0 is.2
-of_shape bindings raw (FlatList doc service) t is = subst IsWritableTarget (sym (ok_is t (Flat doc service) is)) tt
+of_shape bindings raw (shapes.Document doc) t is = subst IsWritableTarget (sym (ok_is t (Document doc) is)) tt
+of_shape bindings raw (shapes.Node doc text) t is = of_part bindings doc text t is.0 is.1 is.2
+of_shape bindings raw (shapes.Deep auid home) t is = subst IsWritableTarget (sym (ok_is t (Deep auid home) is)) tt
+of_shape bindings raw (shapes.Feed mode tag doc) t is = subst IsWritableTarget (sym (ok_is t (Feed mode tag doc) is)) tt
+of_shape bindings raw (shapes.ElementFeed tag doc text) t is = of_feed bindings doc text t tag raw is.0 is.2
+of_shape bindings raw (shapes.Flat doc service) t is = subst IsWritableTarget (sym (ok_is t (Flat doc service) is)) tt
 
 -- what stands under the root, line by line
 of_query : (t : Target) (raw : List ℕ) (query : Option (List ℕ)) (shape : Shape) → Where (IsQuery query) BadQuery (λ bindings. Means bindings raw shape) (Ok t) → IsWritableTarget t

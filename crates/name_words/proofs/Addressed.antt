@@ -15,7 +15,7 @@ use Rattle.node_select.specs.declared.selector.Selector.{Selector}
 use Rattle.xcap_uri.specs.Cuts.{front_before, rest_behind, pieces}
 use Rattle.xcap_uri.specs.Escapes.{StandsFor, has_whole_escapes}
 use Rattle.xcap_uri.specs.Roots.{slash}
-use Rattle.xcap_uri.specs.Shapes.{Names, auid_word, below, changes, doc_of, flat_list, mode_word, part, part_changes, whole}
+use Rattle.xcap_uri.specs.Shapes.{Names, auid_word, doc_of, mode_word, names_deep, names_document, names_element_feed, names_feed, names_flat, names_node}
 use Rattle.xcap_uri.specs.Targets.{AreSegments, Means, NamedAnswer, RestAnswer, TargetAnswer, element_feed_of, is_element, node_of, question, raw_text}
 use Rattle.xcap_uri.specs.Words.{feed, users}
 use Rattle.xcap_uri.specs.declared.fault.UriFault.{UriFault}
@@ -77,14 +77,14 @@ module _ (mode : Mode) (tag : ℕ) (doc : DocId) where
   no_element number other raw (Err fault) e = cc
 
   by_shape : (segments : List (List ℕ)) (selector : Option (List ℕ)) (bindings : List Decl) (raw : List ℕ) (shape : Shape) → Names segments selector shape → list_all all_scalars segments ≡ true → Means bindings raw shape asked → is_encodable doc ≡ true
-  by_shape segments selector bindings raw _ (whole auid home name e f) h is = absurd cc
-  by_shape segments selector bindings raw _ (part auid home name text e f some) h is = absurd (no_part _ is.0 is.2)
-  by_shape segments selector bindings raw _ (below auid home name next more e) h is = absurd cc
-  by_shape segments selector bindings raw _ (changes other number digits auid usage xui name e is_tag stored f) h is =
+  by_shape segments selector bindings raw _ (names_document auid home name e f) h is = absurd cc
+  by_shape segments selector bindings raw _ (names_node auid home name text e f some) h is = absurd (no_part _ is.0 is.2)
+  by_shape segments selector bindings raw _ (names_deep auid home name next more e) h is = absurd cc
+  by_shape segments selector bindings raw _ (names_feed other number digits auid usage xui name e is_tag stored f) h is =
       let same : doc_of auid (User xui) name ≡ doc = cc in
       ap is_encodable (sym same) ∙ in_feed_encodable feed (mode_word other) digits (auid_word auid) users xui name (ap (list_all all_scalars) (sym e) ∙ h)
-  by_shape segments selector bindings raw _ (part_changes number digits auid usage xui name text e is_tag stored f some) h is = absurd (no_element number _ raw is.0 is.2)
-  by_shape segments selector bindings raw _ (flat_list xui name service e f) h is = absurd cc
+  by_shape segments selector bindings raw _ (names_element_feed number digits auid usage xui name text e is_tag stored f some) h is = absurd (no_element number _ raw is.0 is.2)
+  by_shape segments selector bindings raw _ (names_flat xui name service e f) h is = absurd cc
 
   by_names : (segments : List (List ℕ)) (selector query : Option (List ℕ)) (raw : List ℕ) → list_all all_scalars segments ≡ true → NamedAnswer segments selector query raw asked → is_encodable doc ≡ true
   by_names segments selector query raw h is =

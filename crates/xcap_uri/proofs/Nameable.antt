@@ -12,7 +12,7 @@ use Rattle.doc_names.specs.declared.doc_id.DocId.{DocId}
 use Rattle.xml_tree.specs.declared.read_error.ReadError.TheVariants.{Fault, NoMemory}
 use Rattle.xcap_uri.specs.declared.fault.UriFault.TheVariants.{BadShape}
 use Rattle.xcap_uri.specs.declared.shape.Shape.{Shape}
-use Rattle.xcap_uri.specs.declared.shape.Shape.TheVariants.{Whole, Part, Below, Changes, PartChanges, FlatList}
+use Rattle.xcap_uri.specs.declared.shape.Shape.TheVariants.{Document, Node, Deep, Feed, ElementFeed, Flat}
 use Rattle.xcap_uri.specs.declared.target.Mode.{Mode}
 use Rattle.xcap_uri.specs.declared.target.Target.{Target}
 use Rattle.xcap_uri.specs.Cuts.{front_before, rest_behind, pieces}
@@ -79,12 +79,12 @@ nameable (t ∷ ts) free e = let both = or_parts (Shapes.is_empty t) (list_any S
 -- ---- shapes
 
 ReadableShape : Shape → Type 0
-ReadableShape (Whole doc) = IsReadable doc
-ReadableShape (Part doc text) = IsReadable doc
-ReadableShape (Below auid home) = IsReadableHome home
-ReadableShape (Changes mode tag doc) = IsReadable doc
-ReadableShape (PartChanges tag doc text) = IsReadable doc
-ReadableShape (FlatList doc service) = IsReadable doc
+ReadableShape (Document doc) = IsReadable doc
+ReadableShape (Node doc text) = IsReadable doc
+ReadableShape (Deep auid home) = IsReadableHome home
+ReadableShape (Feed mode tag doc) = IsReadable doc
+ReadableShape (ElementFeed tag doc text) = IsReadable doc
+ReadableShape (Flat doc service) = IsReadable doc
 
 document_ok : (doc : DocId) (selector : Option (List ℕ)) → IsReadable doc → IfOk (Shapes.document doc selector) ReadableShape
 unfolding ReadableShape
@@ -118,22 +118,22 @@ chosen_ok : (b : Bool) (x : Option DocId) → IfSome x IsReadable → IfSome (if
 chosen_ok true x good = good
 chosen_ok false x good = tt
 
-part_ok : (tag : ℕ) (doc : DocId) (selector : Option (List ℕ)) → IsReadable doc → IfOk (Shapes.part_changes tag doc selector) ReadableShape
+element_feed_ok : (tag : ℕ) (doc : DocId) (selector : Option (List ℕ)) → IsReadable doc → IfOk (Shapes.element_feed tag doc selector) ReadableShape
 unfolding ReadableShape
-part_ok tag doc None good = tt
-part_ok tag doc (Some []) good = tt
-part_ok tag doc (Some (c ∷ cs)) good = good
+element_feed_ok tag doc None good = tt
+element_feed_ok tag doc (Some []) good = tt
+element_feed_ok tag doc (Some (c ∷ cs)) good = good
 
-changes_ok : (mode : Option Mode) (tag : ℕ) (doc : DocId) (selector : Option (List ℕ)) → IsReadable doc → IfOk (Shapes.changes mode tag doc selector) ReadableShape
+document_feed_ok : (mode : Option Mode) (tag : ℕ) (doc : DocId) (selector : Option (List ℕ)) → IsReadable doc → IfOk (Shapes.document_feed mode tag doc selector) ReadableShape
 unfolding ReadableShape
-changes_ok None tag doc selector good = tt
-changes_ok (Some mode) tag doc None good = good
-changes_ok (Some mode) tag doc (Some text) good = tt
+document_feed_ok None tag doc selector good = tt
+document_feed_ok (Some mode) tag doc None good = good
+document_feed_ok (Some mode) tag doc (Some text) good = tt
 
-either_ok : (mode : List ℕ) (tag : Option ℕ) (doc : Option DocId) (selector : Option (List ℕ)) → IfSome doc IsReadable → IfOk (Shapes.changes_or_part mode tag doc selector) ReadableShape
+either_ok : (mode : List ℕ) (tag : Option ℕ) (doc : Option DocId) (selector : Option (List ℕ)) → IfSome doc IsReadable → IfOk (Shapes.either_feed mode tag doc selector) ReadableShape
 either_ok mode None doc selector good = tt
 either_ok mode (Some tag) None selector good = tt
-either_ok mode (Some tag) (Some doc) selector good = if_ok _ _ _ ReadableShape (part_ok tag doc selector good) (changes_ok (Shapes.mode_of mode) tag doc selector good)
+either_ok mode (Some tag) (Some doc) selector good = if_ok _ _ _ ReadableShape (element_feed_ok tag doc selector good) (document_feed_ok (Shapes.mode_of mode) tag doc selector good)
 
 feed_ok : (ts : List (List ℕ)) (selector : Option (List ℕ)) → AreNameable ts → IfOk (Shapes.feed_shape ts selector) ReadableShape
 unfolding AreNameable
@@ -167,12 +167,12 @@ unless_empty ts selector false e free = named_ok ts selector (nameable ts free e
 
 target_ok : (shape : Shape) (bindings : List Decl) (raw : List ℕ) → ReadableShape shape → IfOk (target_of shape bindings raw) IsReadableTarget
 unfolding ReadableShape
-target_ok (Whole doc) bindings raw good = good
-target_ok (Part doc text) bindings raw good = bind_ok (part_read bindings doc.auid text) _ (λ _. Unit {0}) IsReadableTarget (always _) (λ selector _. good)
-target_ok (Below auid home) bindings raw good = good
-target_ok (Changes mode tag doc) bindings raw good = good
-target_ok (PartChanges tag doc text) bindings raw good = bind_ok (part_read bindings doc.auid text >>= about_element) _ (λ _. Unit {0}) IsReadableTarget (always _) (λ selector _. good)
-target_ok (FlatList doc service) bindings raw good = good
+target_ok (Document doc) bindings raw good = good
+target_ok (Node doc text) bindings raw good = bind_ok (part_read bindings doc.auid text) _ (λ _. Unit {0}) IsReadableTarget (always _) (λ selector _. good)
+target_ok (Deep auid home) bindings raw good = good
+target_ok (Feed mode tag doc) bindings raw good = good
+target_ok (ElementFeed tag doc text) bindings raw good = bind_ok (part_read bindings doc.auid text >>= about_element) _ (λ _. Unit {0}) IsReadableTarget (always _) (λ selector _. good)
+target_ok (Flat doc service) bindings raw good = good
 
 -- what stands under the root
 rest_ok : (rest : List ℕ) → IfOk (rest_read rest) IsReadableTarget

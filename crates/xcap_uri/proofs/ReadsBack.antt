@@ -16,7 +16,7 @@ use Rattle.doc_names.specs.declared.doc_id.Home.{Home}
 use Rattle.doc_names.specs.declared.doc_id.Home.TheVariants.{Global, User}
 use Rattle.doc_names.specs.declared.doc_id.DocId.{DocId}
 use Rattle.xcap_uri.specs.Gives.{UriError}
-use Rattle.xcap_uri.specs.declared.shape.Shape.TheVariants.{Whole}
+use Rattle.xcap_uri.specs.declared.shape.Shape.TheVariants as shapes
 use Rattle.xcap_uri.specs.declared.target.Target.TheVariants.{Document}
 use Rattle.xcap_uri.specs.Cuts.{pieces}
 use Rattle.xcap_uri.specs.Escapes.{has_whole_escapes}
@@ -208,13 +208,13 @@ global_path auid name n good_name =
 
 -- ---- shapes
 
-user_shape : (auid : Auid) (xui name : List ℕ) → is_empty xui ≡ false → is_empty name ≡ false → shape_of (chars (auid_text auid) ∷ chars (codes "users") ∷ xui ∷ name ∷ []) None ≡ Ok (Whole (record { auid = auid; home = User xui; name = name }))
+user_shape : (auid : Auid) (xui name : List ℕ) → is_empty xui ≡ false → is_empty name ≡ false → shape_of (chars (auid_text auid) ∷ chars (codes "users") ∷ xui ∷ name ∷ []) None ≡ Ok (shapes.Document (record { auid = auid; home = User xui; name = name }))
 unfolding chars
 user_shape ResourceLists xui name e f = rw (e, f) refl
 user_shape RlsServices xui name e f = rw (e, f) refl
 user_shape XcapCaps xui name e f = rw (e, f) refl
 
-global_shape : (auid : Auid) (name : List ℕ) → is_empty name ≡ false → shape_of (chars (auid_text auid) ∷ chars (codes "global") ∷ name ∷ []) None ≡ Ok (Whole (record { auid = auid; home = Global; name = name }))
+global_shape : (auid : Auid) (name : List ℕ) → is_empty name ≡ false → shape_of (chars (auid_text auid) ∷ chars (codes "global") ∷ name ∷ []) None ≡ Ok (shapes.Document (record { auid = auid; home = Global; name = name }))
 unfolding chars
 global_shape ResourceLists name f = rw f refl
 global_shape RlsServices name f = rw f refl
@@ -233,7 +233,7 @@ id_passes doc =
     pass_append (is_other question) (auid_text doc.auid) (home_text doc.home ++ part_text doc.name) (auid_passes question doc.auid refl refl refl)
     (pass_append (is_other question) (home_text doc.home) (part_text doc.name) (home_passes doc.home) (octets_pass (is_other question) questions (encode_utf8_all doc.name)))
 
-rest_is : (doc : DocId) (texts : List (List ℕ)) → path_read (id_text doc) ≡ Ok (texts, None) → shape_of texts None ≡ Ok (Whole doc) → rest_read (id_text doc) ≡ Ok (Document doc)
+rest_is : (doc : DocId) (texts : List (List ℕ)) → path_read (id_text doc) ≡ Ok (texts, None) → shape_of texts None ≡ Ok (shapes.Document doc) → rest_read (id_text doc) ≡ Ok (Document doc)
 rest_is doc texts path shape = rw (before_all question (id_text doc) (id_passes doc), behind_all question (id_text doc) (id_passes doc), path, shape) refl
 
 path_begins : (segments : List (List ℕ)) (ys : List ℕ) → (zs : List ℕ) × (path_in segments ++ (slash ∷ ys) ≡ slash ∷ zs)

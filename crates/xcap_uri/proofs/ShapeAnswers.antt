@@ -14,12 +14,12 @@ use Rattle.doc_names.specs.declared.usages.Usage.TheVariants as usages
 use Rattle.doc_names.specs.Usages.{usage_of}
 use Rattle.xml_tree.specs.declared.read_error.ReadError.TheVariants.{Fault}
 use Rattle.xcap_uri.specs.Gives.{UriError}
-use Rattle.xcap_uri.specs.Shapes.{auid_word, mode_word, doc_of, in_home, in_feed, Names, whole, part, below, changes, part_changes, flat_list, BeginRightly, AreNamed, tag_spelled as tag_of}
+use Rattle.xcap_uri.specs.Shapes.{auid_word, mode_word, doc_of, in_home, in_feed, Names, names_document, names_node, names_deep, names_feed, names_element_feed, names_flat, BeginRightly, AreNamed, tag_spelled as tag_of}
 use Rattle.xcap_uri.specs.readers.Shapes as reader
 use Rattle.xcap_uri.specs.Words.{resource_lists, rls_services, xcap_caps, global, users, feed, flat, no_patching, xcap_patching, aggregate, element_word as element}
 use Rattle.xcap_uri.specs.declared.fault.UriFault.TheVariants.{BadShape, UnknownAuid}
 use Rattle.xcap_uri.specs.declared.shape.Shape.{Shape}
-use Rattle.xcap_uri.specs.declared.shape.Shape.TheVariants.{Whole, Part, Below, Changes, PartChanges, FlatList}
+use Rattle.xcap_uri.specs.declared.shape.Shape.TheVariants.{Document, Node, Deep, Feed, ElementFeed, Flat}
 use Rattle.xcap_uri.specs.declared.target.Mode.{Mode}
 use Rattle.xcap_uri.specs.declared.target.Mode.TheVariants.{NoPatching, XcapPatching, Aggregate}
 use Rattle.xcap_uri.proofs.Ordering.{Decides}
@@ -41,14 +41,14 @@ module _ (segments : List (List ℕ)) (selector : Option (List ℕ)) where
   Good (Err e) = e ≡ Fault BadShape
 
   document_good : (auid : Auid) (home : Home) (name : List ℕ) (s : Option (List ℕ)) → selector ≡ s → segments ≡ in_home auid home (name ∷ []) → Good (reader.document (doc_of auid home name) s)
-  document_good auid home name None e h = whole auid home name h e
+  document_good auid home name None e h = names_document auid home name h e
   document_good auid home name (Some []) e h = refl
-  document_good auid home name (Some (c ∷ cs)) e h = part auid home name (c ∷ cs) h e (λ same. absurd cc)
+  document_good auid home name (Some (c ∷ cs)) e h = names_node auid home name (c ∷ cs) h e (λ same. absurd cc)
 
   home_good : (auid : Auid) (home : Home) (rest : List (List ℕ)) (s : Option (List ℕ)) → selector ≡ s → segments ≡ in_home auid home rest → Good (reader.in_home auid home rest s)
   home_good auid home [] s e h = refl
   home_good auid home (name ∷ []) s e h = document_good auid home name s e h
-  home_good auid home (name ∷ next ∷ more) s e h = below auid home name next more h
+  home_good auid home (name ∷ next ∷ more) s e h = names_deep auid home name next more h
 
   user_good : (auid : Auid) (rest : List (List ℕ)) (s : Option (List ℕ)) → selector ≡ s → segments ≡ auid_word auid ∷ users ∷ rest → Good (reader.of_user auid rest s)
   user_good auid [] s e h = refl
@@ -70,23 +70,23 @@ module _ (segments : List (List ℕ)) (selector : Option (List ℕ)) where
     abbrev Doc : DocId
     Doc = doc_of auid (User xui) name
 
-    element_good : (s : Option (List ℕ)) → selector ≡ s → segments ≡ in_feed element digits auid xui name → Good (reader.part_changes tag Doc s)
+    element_good : (s : Option (List ℕ)) → selector ≡ s → segments ≡ in_feed element digits auid xui name → Good (reader.element_feed tag Doc s)
     element_good None e h = refl
     element_good (Some []) e h = refl
-    element_good (Some (c ∷ cs)) e h = part_changes tag digits auid usage xui name (c ∷ cs) h is_tag stored e (λ same. absurd cc)
+    element_good (Some (c ∷ cs)) e h = names_element_feed tag digits auid usage xui name (c ∷ cs) h is_tag stored e (λ same. absurd cc)
 
-    mode_good : (mode : Mode) (s : Option (List ℕ)) → selector ≡ s → segments ≡ in_feed (mode_word mode) digits auid xui name → Good (reader.changes (Some mode) tag Doc s)
-    mode_good mode None e h = changes mode tag digits auid usage xui name h is_tag stored e
+    mode_good : (mode : Mode) (s : Option (List ℕ)) → selector ≡ s → segments ≡ in_feed (mode_word mode) digits auid xui name → Good (reader.document_feed (Some mode) tag Doc s)
+    mode_good mode None e h = names_feed mode tag digits auid usage xui name h is_tag stored e
     mode_good mode (Some text) e h = refl
 
-    no_mode : (s : Option (List ℕ)) → Good (reader.changes None tag Doc s)
+    no_mode : (s : Option (List ℕ)) → Good (reader.document_feed None tag Doc s)
     no_mode s = refl
 
     feed_with : List ℕ → List (List ℕ)
     feed_with mode = in_feed mode digits auid xui name
 
     modes_good : (mode : List ℕ) (s : Option (List ℕ)) → selector ≡ s → segments ≡ in_feed mode digits auid xui name → (x : Bool) → bytes_eq mode no_patching ≡ x → (y : Bool) → bytes_eq mode xcap_patching ≡ y
-        → (z : Bool) → bytes_eq mode aggregate ≡ z → Good (reader.changes (cond x (Some NoPatching) (cond y (Some XcapPatching) (cond z (Some Aggregate) None))) tag Doc s)
+        → (z : Bool) → bytes_eq mode aggregate ≡ z → Good (reader.document_feed (cond x (Some NoPatching) (cond y (Some XcapPatching) (cond z (Some Aggregate) None))) tag Doc s)
     unfolding feed_with
     modes_good mode s e h true i y j z k = mode_good NoPatching s e (h ∙ ap feed_with (is_word mode no_patching i))
     modes_good mode s e h false i true j z k = mode_good XcapPatching s e (h ∙ ap feed_with (is_word mode xcap_patching j))
@@ -94,14 +94,14 @@ module _ (segments : List (List ℕ)) (selector : Option (List ℕ)) where
     modes_good mode s e h false i false j false k = no_mode s
 
     either_good : (mode : List ℕ) (s : Option (List ℕ)) → selector ≡ s → segments ≡ in_feed mode digits auid xui name → (x : Bool) → bytes_eq mode element ≡ x
-        → Good (cond x (reader.part_changes tag Doc s) (reader.changes (reader.mode_of mode) tag Doc s))
+        → Good (cond x (reader.element_feed tag Doc s) (reader.document_feed (reader.mode_of mode) tag Doc s))
     unfolding feed_with
     either_good mode s e h true i = element_good s e (h ∙ ap feed_with (is_word mode element i))
     either_good mode s e h false i = modes_good mode s e h (bytes_eq mode no_patching) refl (bytes_eq mode xcap_patching) refl (bytes_eq mode aggregate) refl
 
   feed_by : (mode digits auid tree xui name : List ℕ) (s : Option (List ℕ)) → selector ≡ s → segments ≡ feed ∷ mode ∷ digits ∷ auid ∷ tree ∷ xui ∷ name ∷ []
       → (t : Option ℕ) → tag_of digits ≡ t → (u : Bool) → bytes_eq tree users ≡ u → (x : Bool) → bytes_eq auid resource_lists ≡ x → (y : Bool) → bytes_eq auid rls_services ≡ y
-      → Good (reader.changes_or_part mode t (cond u (option_map (λ a. doc_of a (User xui) name) (cond x (Some ResourceLists) (cond y (Some RlsServices) None))) None) s)
+      → Good (reader.either_feed mode t (cond u (option_map (λ a. doc_of a (User xui) name) (cond x (Some ResourceLists) (cond y (Some RlsServices) None))) None) s)
   feed_by mode digits auid tree xui name s e h None f u g x i y j = refl
   feed_by mode digits auid tree xui name s e h (Some tag) f false g x i y j = refl
   feed_by mode digits auid tree xui name s e h (Some tag) f true g true i y j =
@@ -118,7 +118,7 @@ module _ (segments : List (List ℕ)) (selector : Option (List ℕ)) where
   feed_good _ s e h = refl
 
   flat_good : (rest : List (List ℕ)) (s : Option (List ℕ)) → selector ≡ s → segments ≡ flat ∷ rest → Good (reader.flat_shape rest s)
-  flat_good (xui ∷ name ∷ service ∷ []) None e h = flat_list xui name service h e
+  flat_good (xui ∷ name ∷ service ∷ []) None e h = names_flat xui name service h e
   flat_good _ s e h = refl
 
   -- ---- all
@@ -161,51 +161,51 @@ judged segments selector = all_judged segments selector segments refl
 abbrev Read : Type 0
 Read = Result Shape UriError
 
-whole_is : (auid : Auid) (home : Home) (name : List ℕ) → reader.named (in_home auid home (name ∷ [])) None ≡ Ok (Whole (doc_of auid home name))
+document_is : (auid : Auid) (home : Home) (name : List ℕ) → reader.named (in_home auid home (name ∷ [])) None ≡ Ok (Document (doc_of auid home name))
 unfolding chars
-whole_is ResourceLists Global name = refl
-whole_is ResourceLists (User xui) name = refl
-whole_is RlsServices Global name = refl
-whole_is RlsServices (User xui) name = refl
-whole_is XcapCaps Global name = refl
-whole_is XcapCaps (User xui) name = refl
+document_is ResourceLists Global name = refl
+document_is ResourceLists (User xui) name = refl
+document_is RlsServices Global name = refl
+document_is RlsServices (User xui) name = refl
+document_is XcapCaps Global name = refl
+document_is XcapCaps (User xui) name = refl
 
-part_is : (auid : Auid) (home : Home) (name : List ℕ) (c : ℕ) (cs : List ℕ) → reader.named (in_home auid home (name ∷ [])) (Some (c ∷ cs)) ≡ Ok (Part (doc_of auid home name) (c ∷ cs))
+node_is : (auid : Auid) (home : Home) (name : List ℕ) (c : ℕ) (cs : List ℕ) → reader.named (in_home auid home (name ∷ [])) (Some (c ∷ cs)) ≡ Ok (Node (doc_of auid home name) (c ∷ cs))
 unfolding chars
-part_is ResourceLists Global name c cs = refl
-part_is ResourceLists (User xui) name c cs = refl
-part_is RlsServices Global name c cs = refl
-part_is RlsServices (User xui) name c cs = refl
-part_is XcapCaps Global name c cs = refl
-part_is XcapCaps (User xui) name c cs = refl
+node_is ResourceLists Global name c cs = refl
+node_is ResourceLists (User xui) name c cs = refl
+node_is RlsServices Global name c cs = refl
+node_is RlsServices (User xui) name c cs = refl
+node_is XcapCaps Global name c cs = refl
+node_is XcapCaps (User xui) name c cs = refl
 
-below_is : (auid : Auid) (home : Home) (name next : List ℕ) (more : List (List ℕ)) (selector : Option (List ℕ)) → reader.named (in_home auid home (name ∷ next ∷ more)) selector ≡ Ok (Below auid home)
+deep_is : (auid : Auid) (home : Home) (name next : List ℕ) (more : List (List ℕ)) (selector : Option (List ℕ)) → reader.named (in_home auid home (name ∷ next ∷ more)) selector ≡ Ok (Deep auid home)
 unfolding chars
-below_is ResourceLists Global name next more selector = refl
-below_is ResourceLists (User xui) name next more selector = refl
-below_is RlsServices Global name next more selector = refl
-below_is RlsServices (User xui) name next more selector = refl
-below_is XcapCaps Global name next more selector = refl
-below_is XcapCaps (User xui) name next more selector = refl
+deep_is ResourceLists Global name next more selector = refl
+deep_is ResourceLists (User xui) name next more selector = refl
+deep_is RlsServices Global name next more selector = refl
+deep_is RlsServices (User xui) name next more selector = refl
+deep_is XcapCaps Global name next more selector = refl
+deep_is XcapCaps (User xui) name next more selector = refl
 
 feed_is : (mode digits : List ℕ) (auid : Auid) (usage : Usage) (xui name : List ℕ) (selector : Option (List ℕ)) → usage_of auid ≡ Some usage
-    → reader.named (in_feed mode digits auid xui name) selector ≡ reader.changes_or_part mode (tag_of digits) (Some (doc_of auid (User xui) name)) selector
+    → reader.named (in_feed mode digits auid xui name) selector ≡ reader.either_feed mode (tag_of digits) (Some (doc_of auid (User xui) name)) selector
 unfolding chars
 feed_is mode digits ResourceLists usage xui name selector e = refl
 feed_is mode digits RlsServices usage xui name selector e = refl
 feed_is mode digits XcapCaps usage xui name selector e = absurd cc
 
-mode_is : (mode : Mode) (tag : ℕ) (doc : DocId) → reader.changes_or_part (mode_word mode) (Some tag) (Some doc) None ≡ Ok (Changes mode tag doc)
+mode_is : (mode : Mode) (tag : ℕ) (doc : DocId) → reader.either_feed (mode_word mode) (Some tag) (Some doc) None ≡ Ok (Feed mode tag doc)
 unfolding chars
 mode_is NoPatching tag doc = refl
 mode_is XcapPatching tag doc = refl
 mode_is Aggregate tag doc = refl
 
-element_is : (tag : ℕ) (doc : DocId) (c : ℕ) (cs : List ℕ) → reader.changes_or_part element (Some tag) (Some doc) (Some (c ∷ cs)) ≡ Ok (PartChanges tag doc (c ∷ cs))
+element_is : (tag : ℕ) (doc : DocId) (c : ℕ) (cs : List ℕ) → reader.either_feed element (Some tag) (Some doc) (Some (c ∷ cs)) ≡ Ok (ElementFeed tag doc (c ∷ cs))
 unfolding chars
 element_is tag doc c cs = refl
 
-flat_is : (xui name service : List ℕ) → reader.named (flat ∷ xui ∷ name ∷ service ∷ []) None ≡ Ok (FlatList (doc_of RlsServices (User xui) name) service)
+flat_is : (xui name service : List ℕ) → reader.named (flat ∷ xui ∷ name ∷ service ∷ []) None ≡ Ok (Flat (doc_of RlsServices (User xui) name) service)
 unfolding chars
 flat_is xui name service = refl
 
@@ -213,33 +213,33 @@ flat_is xui name service = refl
 moved : (segments all : List (List ℕ)) (selector s : Option (List ℕ)) (r : Read) → segments ≡ all → selector ≡ s → reader.named all s ≡ r → reader.named segments selector ≡ r
 moved segments all selector s r e f h = ap (λ (z : List (List ℕ)). reader.named z selector) e ∙ ap (reader.named all) f ∙ h
 
-part_read : (auid : Auid) (home : Home) (name text : List ℕ) → text ≢ [] → reader.named (in_home auid home (name ∷ [])) (Some text) ≡ Ok (Part (doc_of auid home name) text)
-part_read auid home name [] some = absurd (some refl)
-part_read auid home name (c ∷ cs) some = part_is auid home name c cs
+node_read : (auid : Auid) (home : Home) (name text : List ℕ) → text ≢ [] → reader.named (in_home auid home (name ∷ [])) (Some text) ≡ Ok (Node (doc_of auid home name) text)
+node_read auid home name [] some = absurd (some refl)
+node_read auid home name (c ∷ cs) some = node_is auid home name c cs
 
-element_read : (tag : ℕ) (doc : DocId) (text : List ℕ) → text ≢ [] → reader.changes_or_part element (Some tag) (Some doc) (Some text) ≡ Ok (PartChanges tag doc text)
+element_read : (tag : ℕ) (doc : DocId) (text : List ℕ) → text ≢ [] → reader.either_feed element (Some tag) (Some doc) (Some text) ≡ Ok (ElementFeed tag doc text)
 element_read tag doc [] some = absurd (some refl)
 element_read tag doc (c ∷ cs) some = element_is tag doc c cs
 
 feed_read : (mode digits : List ℕ) (auid : Auid) (usage : Usage) (xui name : List ℕ) (selector : Option (List ℕ)) (tag : ℕ) (r : Read) → usage_of auid ≡ Some usage → tag_of digits ≡ Some tag
-    → reader.changes_or_part mode (Some tag) (Some (doc_of auid (User xui) name)) selector ≡ r → reader.named (in_feed mode digits auid xui name) selector ≡ r
+    → reader.either_feed mode (Some tag) (Some (doc_of auid (User xui) name)) selector ≡ r → reader.named (in_feed mode digits auid xui name) selector ≡ r
 feed_read mode digits auid usage xui name selector tag r stored is_tag h =
-    feed_is mode digits auid usage xui name selector stored ∙ ap (λ (z : Option ℕ). reader.changes_or_part mode z (Some (doc_of auid (User xui) name)) selector) is_tag ∙ h
+    feed_is mode digits auid usage xui name selector stored ∙ ap (λ (z : Option ℕ). reader.either_feed mode z (Some (doc_of auid (User xui) name)) selector) is_tag ∙ h
 
 complete : (segments : List (List ℕ)) (selector : Option (List ℕ)) (shape : Shape) → Names segments selector shape → reader.named segments selector ≡ Ok shape
-complete segments selector _ (whole auid home name e f) = moved segments (in_home auid home (name ∷ [])) selector None (Ok (Whole (doc_of auid home name))) e f (whole_is auid home name)
-complete segments selector _ (part auid home name text e f some) =
-    moved segments (in_home auid home (name ∷ [])) selector (Some text) (Ok (Part (doc_of auid home name) text)) e f (part_read auid home name text some)
-complete segments selector _ (below auid home name next more e) =
-    moved segments (in_home auid home (name ∷ next ∷ more)) selector selector (Ok (Below auid home)) e refl (below_is auid home name next more selector)
-complete segments selector _ (changes mode tag digits auid usage xui name e is_tag stored f) =
-    moved segments (in_feed (mode_word mode) digits auid xui name) selector None (Ok (Changes mode tag (doc_of auid (User xui) name))) e f
-    (feed_read (mode_word mode) digits auid usage xui name None tag (Ok (Changes mode tag (doc_of auid (User xui) name))) stored is_tag (mode_is mode tag (doc_of auid (User xui) name)))
-complete segments selector _ (part_changes tag digits auid usage xui name text e is_tag stored f some) =
-    moved segments (in_feed element digits auid xui name) selector (Some text) (Ok (PartChanges tag (doc_of auid (User xui) name) text)) e f
-    (feed_read element digits auid usage xui name (Some text) tag (Ok (PartChanges tag (doc_of auid (User xui) name) text)) stored is_tag (element_read tag (doc_of auid (User xui) name) text some))
-complete segments selector _ (flat_list xui name service e f) =
-    moved segments (flat ∷ xui ∷ name ∷ service ∷ []) selector None (Ok (FlatList (doc_of RlsServices (User xui) name) service)) e f (flat_is xui name service)
+complete segments selector _ (names_document auid home name e f) = moved segments (in_home auid home (name ∷ [])) selector None (Ok (Document (doc_of auid home name))) e f (document_is auid home name)
+complete segments selector _ (names_node auid home name text e f some) =
+    moved segments (in_home auid home (name ∷ [])) selector (Some text) (Ok (Node (doc_of auid home name) text)) e f (node_read auid home name text some)
+complete segments selector _ (names_deep auid home name next more e) =
+    moved segments (in_home auid home (name ∷ next ∷ more)) selector selector (Ok (Deep auid home)) e refl (deep_is auid home name next more selector)
+complete segments selector _ (names_feed mode tag digits auid usage xui name e is_tag stored f) =
+    moved segments (in_feed (mode_word mode) digits auid xui name) selector None (Ok (Feed mode tag (doc_of auid (User xui) name))) e f
+    (feed_read (mode_word mode) digits auid usage xui name None tag (Ok (Feed mode tag (doc_of auid (User xui) name))) stored is_tag (mode_is mode tag (doc_of auid (User xui) name)))
+complete segments selector _ (names_element_feed tag digits auid usage xui name text e is_tag stored f some) =
+    moved segments (in_feed element digits auid xui name) selector (Some text) (Ok (ElementFeed tag (doc_of auid (User xui) name) text)) e f
+    (feed_read element digits auid usage xui name (Some text) tag (Ok (ElementFeed tag (doc_of auid (User xui) name) text)) stored is_tag (element_read tag (doc_of auid (User xui) name) text some))
+complete segments selector _ (names_flat xui name service e f) =
+    moved segments (flat ∷ xui ∷ name ∷ service ∷ []) selector None (Ok (Flat (doc_of RlsServices (User xui) name) service)) e f (flat_is xui name service)
 
 -- ---- segments that begin rightly
 

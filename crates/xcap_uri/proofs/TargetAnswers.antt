@@ -30,7 +30,7 @@ use Rattle.xcap_uri.specs.readers.Targets.{error_of, as_target_part, part_read, 
 use Rattle.xcap_uri.specs.declared.fault.UriFault.{UriFault}
 use Rattle.xcap_uri.specs.declared.fault.UriFault.TheVariants.{OutsideRoot, UnknownAuid, BadShape, BadEscape, BadQuery, BadSelector}
 use Rattle.xcap_uri.specs.declared.shape.Shape.{Shape}
-use Rattle.xcap_uri.specs.declared.shape.Shape.TheVariants.{Whole, Part, Below, Changes, PartChanges, FlatList}
+use Rattle.xcap_uri.specs.declared.shape.Shape.TheVariants as shapes
 use Rattle.xcap_uri.specs.declared.target.Target.{Target}
 use Rattle.xcap_uri.specs.declared.target.Target.TheVariants.{Node, ElementFeed}
 use Rattle.xcap_uri.proofs.Nameable.{target_readable}
@@ -94,24 +94,24 @@ module _ (tag : ℕ) (doc : DocId) (raw : List ℕ) (Is : Result Selector Select
 
 means_meets : (bindings : List Decl) (raw : List ℕ) (shape : Shape) → Meets (Means bindings raw shape) (target_of shape bindings raw)
 unfolding Meets
-means_meets bindings raw (Whole doc) = refl
-means_meets bindings raw (Part doc text) = node_meets doc (IsPartAnswer bindings doc.auid text) (stated bindings doc.auid text) (selector_answer bindings (chars (namespace_of doc.auid)) (encode_utf8_all text))
-means_meets bindings raw (Below auid home) = refl
-means_meets bindings raw (Changes mode tag doc) = refl
-means_meets bindings raw (PartChanges tag doc text) =
+means_meets bindings raw (shapes.Document doc) = refl
+means_meets bindings raw (shapes.Node doc text) = node_meets doc (IsPartAnswer bindings doc.auid text) (stated bindings doc.auid text) (selector_answer bindings (chars (namespace_of doc.auid)) (encode_utf8_all text))
+means_meets bindings raw (shapes.Deep auid home) = refl
+means_meets bindings raw (shapes.Feed mode tag doc) = refl
+means_meets bindings raw (shapes.ElementFeed tag doc text) =
     feed_meets tag doc raw (IsPartAnswer bindings doc.auid text) (stated bindings doc.auid text) (selector_answer bindings (chars (namespace_of doc.auid)) (encode_utf8_all text))
-means_meets bindings raw (FlatList doc service) = refl
+means_meets bindings raw (shapes.Flat doc service) = refl
 
 one_part : (bindings : List Decl) (auid : Auid) (text : List ℕ) (a b : Result Selector SelectorFault) → IsPartAnswer bindings auid text a → IsPartAnswer bindings auid text b → a ≡ b
 one_part bindings auid text = one_selector bindings (chars (namespace_of auid)) (encode_utf8_all text)
 
 one_meaning : (bindings : List Decl) (raw : List ℕ) (shape : Shape) (x y : Answer) → Means bindings raw shape x → Means bindings raw shape y → x ≡ y
-one_meaning bindings raw (Whole doc) x y p q = p ∙ sym q
-one_meaning bindings raw (Part doc text) x y p q = p.2 ∙ ap (node_of doc) (one_part bindings doc.auid text p.0 q.0 p.1 q.1) ∙ sym q.2
-one_meaning bindings raw (Below auid home) x y p q = p ∙ sym q
-one_meaning bindings raw (Changes mode tag doc) x y p q = p ∙ sym q
-one_meaning bindings raw (PartChanges tag doc text) x y p q = p.2 ∙ ap (element_feed_of tag doc raw) (one_part bindings doc.auid text p.0 q.0 p.1 q.1) ∙ sym q.2
-one_meaning bindings raw (FlatList doc service) x y p q = p ∙ sym q
+one_meaning bindings raw (shapes.Document doc) x y p q = p ∙ sym q
+one_meaning bindings raw (shapes.Node doc text) x y p q = p.2 ∙ ap (node_of doc) (one_part bindings doc.auid text p.0 q.0 p.1 q.1) ∙ sym q.2
+one_meaning bindings raw (shapes.Deep auid home) x y p q = p ∙ sym q
+one_meaning bindings raw (shapes.Feed mode tag doc) x y p q = p ∙ sym q
+one_meaning bindings raw (shapes.ElementFeed tag doc text) x y p q = p.2 ∙ ap (element_feed_of tag doc raw) (one_part bindings doc.auid text p.0 q.0 p.1 q.1) ∙ sym q.2
+one_meaning bindings raw (shapes.Flat doc service) x y p q = p ∙ sym q
 
 -- ---- the shape, and the query
 

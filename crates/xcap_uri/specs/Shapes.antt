@@ -13,7 +13,7 @@ use Rattle.xcap_uri.specs.Words.{global, users, feed, flat, no_patching, xcap_pa
 use Rattle.xcap_uri.specs.declared.target.Mode.{Mode}
 use Rattle.xcap_uri.specs.declared.target.Mode.TheVariants.{NoPatching, XcapPatching, Aggregate}
 use Rattle.xcap_uri.specs.declared.shape.Shape.{Shape}
-use Rattle.xcap_uri.specs.declared.shape.Shape.TheVariants.{Whole, Part, Below, Changes, PartChanges, FlatList}
+use Rattle.xcap_uri.specs.declared.shape.Shape.TheVariants.{Document, Node, Deep, Feed, ElementFeed, Flat}
 
 -- ---- the words
 
@@ -49,22 +49,22 @@ in_home auid home rest = auid_word auid ∷ (home_words home ++ rest)
 abbrev pub in_feed : List ℕ → List ℕ → Auid → List ℕ → List ℕ → List (List ℕ)
 in_feed mode digits auid xui name = feed ∷ mode ∷ digits ∷ auid_word auid ∷ users ∷ xui ∷ name ∷ []
 
--- segments, and the text of a selector, name a shape
+-- segments, and the text of a selector, name a shape, which is called as the target that it means
 pub data Names (segments : List (List ℕ)) (selector : Option (List ℕ)) : Shape → Type 0 where
   -- a usage, a home and a name: a document
-  whole : (auid : Auid) (home : Home) (name : List ℕ) → segments ≡ in_home auid home (name ∷ []) → selector ≡ None → Names segments selector (Whole (doc_of auid home name))
-  -- the same with a selector, which isn't empty: a part of the document
-  part : (auid : Auid) (home : Home) (name text : List ℕ) → segments ≡ in_home auid home (name ∷ []) → selector ≡ Some text → text ≢ [] → Names segments selector (Part (doc_of auid home name) text)
+  names_document : (auid : Auid) (home : Home) (name : List ℕ) → segments ≡ in_home auid home (name ∷ []) → selector ≡ None → Names segments selector (Document (doc_of auid home name))
+  -- the same with a selector, which isn't empty: a node of the document
+  names_node : (auid : Auid) (home : Home) (name text : List ℕ) → segments ≡ in_home auid home (name ∷ []) → selector ≡ Some text → text ≢ [] → Names segments selector (Node (doc_of auid home name) text)
   -- with further segments: what would lie below a document, where the selector isn't looked at
-  below : (auid : Auid) (home : Home) (name next : List ℕ) (more : List (List ℕ)) → segments ≡ in_home auid home (name ∷ next ∷ more) → Names segments selector (Below auid home)
+  names_deep : (auid : Auid) (home : Home) (name next : List ℕ) (more : List (List ℕ)) → segments ≡ in_home auid home (name ∷ next ∷ more) → Names segments selector (Deep auid home)
   -- the notice about a document of a stored usage has a mode, and no selector
-  changes : (mode : Mode) (tag : ℕ) (digits : List ℕ) (auid : Auid) (usage : Usage) (xui name : List ℕ) → segments ≡ in_feed (mode_word mode) digits auid xui name
-      → tag_spelled digits ≡ Some tag → usage_of auid ≡ Some usage → selector ≡ None → Names segments selector (Changes mode tag (doc_of auid (User xui) name))
+  names_feed : (mode : Mode) (tag : ℕ) (digits : List ℕ) (auid : Auid) (usage : Usage) (xui name : List ℕ) → segments ≡ in_feed (mode_word mode) digits auid xui name
+      → tag_spelled digits ≡ Some tag → usage_of auid ≡ Some usage → selector ≡ None → Names segments selector (Feed mode tag (doc_of auid (User xui) name))
   -- the notice about an element has `element` in place of the mode, and a selector, which isn't empty
-  part_changes : (tag : ℕ) (digits : List ℕ) (auid : Auid) (usage : Usage) (xui name text : List ℕ) → segments ≡ in_feed element_word digits auid xui name
-      → tag_spelled digits ≡ Some tag → usage_of auid ≡ Some usage → selector ≡ Some text → text ≢ [] → Names segments selector (PartChanges tag (doc_of auid (User xui) name) text)
+  names_element_feed : (tag : ℕ) (digits : List ℕ) (auid : Auid) (usage : Usage) (xui name text : List ℕ) → segments ≡ in_feed element_word digits auid xui name
+      → tag_spelled digits ≡ Some tag → usage_of auid ≡ Some usage → selector ≡ Some text → text ≢ [] → Names segments selector (ElementFeed tag (doc_of auid (User xui) name) text)
   -- `~flat`, a user, a name and the address of a service, without selector: the flat list of that service
-  flat_list : (xui name service : List ℕ) → segments ≡ flat ∷ xui ∷ name ∷ service ∷ [] → selector ≡ None → Names segments selector (FlatList (doc_of RlsServices (User xui) name) service)
+  names_flat : (xui name service : List ℕ) → segments ≡ flat ∷ xui ∷ name ∷ service ∷ [] → selector ≡ None → Names segments selector (Flat (doc_of RlsServices (User xui) name) service)
 
 -- ---- how they begin
 

@@ -23,7 +23,7 @@ use Rattle.xcap_uri.specs.Shapes.{Names, BeginRightly, AreNamed}
 use Rattle.xcap_uri.specs.declared.fault.UriFault.{UriFault}
 use Rattle.xcap_uri.specs.declared.fault.UriFault.TheVariants.{OutsideRoot, UnknownAuid, BadShape, BadEscape, BadQuery, UnboundPrefix, BadSelector}
 use Rattle.xcap_uri.specs.declared.shape.Shape.{Shape}
-use Rattle.xcap_uri.specs.declared.shape.Shape.TheVariants.{Whole, Part, Below, Changes, PartChanges, FlatList}
+use Rattle.xcap_uri.specs.declared.shape.Shape.TheVariants as shapes
 use Rattle.xcap_uri.specs.declared.target.Target.{Target}
 use Rattle.xcap_uri.specs.declared.target.Target.TheVariants.{Document, Node, Deep, Feed, ElementFeed, Flat}
 
@@ -92,12 +92,12 @@ element_feed_of tag doc raw (Err fault) = Err (target_fault fault)
 
 -- what a shape means, with these bindings and what stands behind the separator
 abbrev pub Means : List Decl → List ℕ → Shape → Result Target UriFault → Type 0
-Means bindings raw (Whole doc) answer = answer ≡ Ok (Document doc)
-Means bindings raw (Part doc text) answer = (read : Result Selector SelectorFault) × IsPartAnswer bindings doc.auid text read × (answer ≡ node_of doc read)
-Means bindings raw (Below auid home) answer = answer ≡ Ok (Deep auid home)
-Means bindings raw (Changes mode tag doc) answer = answer ≡ Ok (Feed mode tag doc)
-Means bindings raw (PartChanges tag doc text) answer = (read : Result Selector SelectorFault) × IsPartAnswer bindings doc.auid text read × (answer ≡ element_feed_of tag doc raw read)
-Means bindings raw (FlatList doc service) answer = answer ≡ Ok (Flat doc service)
+Means bindings raw (shapes.Document doc) answer = answer ≡ Ok (Document doc)
+Means bindings raw (shapes.Node doc text) answer = (read : Result Selector SelectorFault) × IsPartAnswer bindings doc.auid text read × (answer ≡ node_of doc read)
+Means bindings raw (shapes.Deep auid home) answer = answer ≡ Ok (Deep auid home)
+Means bindings raw (shapes.Feed mode tag doc) answer = answer ≡ Ok (Feed mode tag doc)
+Means bindings raw (shapes.ElementFeed tag doc text) answer = (read : Result Selector SelectorFault) × IsPartAnswer bindings doc.auid text read × (answer ≡ element_feed_of tag doc raw read)
+Means bindings raw (shapes.Flat doc service) answer = answer ≡ Ok (Flat doc service)
 
 -- ---- all in order
 

@@ -4,7 +4,7 @@ ghost use Rattle.std.specs.Prelude.{◌≡◌, IfOk};
 ghost use Rattle.std.specs.List.{list_any};
 ghost use Rattle.xcap_uri.specs.Gives.{StatedOr};
 ghost use Rattle.xcap_uri.specs.Shapes.{doc_of, tag_spelled};
-ghost use Rattle.xcap_uri.specs.readers.Shapes.{auid_of, changes, changes_or_part, document, feed_shape, flat_shape, in_home, in_usage, is_empty, mode_of, named, of_usage, of_user, part_changes, shape_of, stored_auid_of, stored_doc};
+ghost use Rattle.xcap_uri.specs.readers.Shapes.{auid_of, document, document_feed, either_feed, element_feed, feed_shape, flat_shape, in_home, in_usage, is_empty, mode_of, named, of_usage, of_user, shape_of, stored_auid_of, stored_doc};
 
 use crate::fault::UriFault;
 use crate::numerals::numeral;
@@ -13,21 +13,21 @@ use doc_names::{Auid, DocId, Home};
 use std::alloc::{AllocError, Global};
 use xml_tree::{ReadError, Text};
 
-/// What the segments of an address name, with the text of the selector, which isn't read yet.
+/// What the segments of an address name, called as the target that it means, with the text of the selector, which isn't read yet.
 #[derive(Debug, Drop)]
 pub enum Shape {
     /// A document.
-    Whole(DocId),
-    /// A part of a document.
-    Part(DocId, Text),
-    /// What would lie below a document.
-    Below(Auid, Home),
+    Document(DocId),
+    /// A node of a document.
+    Node(DocId, Text),
+    /// Something below a document, where nothing can be.
+    Deep(Auid, Home),
     /// The changes of a document since a tag.
-    Changes(Mode, u64, DocId),
-    /// Whether a part of a document may have changed since a tag.
-    PartChanges(u64, DocId, Text),
-    /// The flat list of a service.
-    FlatList(DocId, Text),
+    Feed(Mode, u64, DocId),
+    /// Whether an element may have changed since a tag.
+    ElementFeed(u64, DocId, Text),
+    /// The addresses behind a service of a document.
+    Flat(DocId, Text),
 }
 
 // The usage of this name.
@@ -87,12 +87,12 @@ fn document(doc: DocId, selector: Option<Text>) -> Result<Shape, ReadError<UriFa
     ensures names_the_document { result ≡ document doc selector }
 {
     match selector {
-        None => Ok(Shape::Whole(doc)),
+        None => Ok(Shape::Document(doc)),
         Some(text) => {
             if text.is_empty() {
                 return Err(ReadError::Fault(UriFault::BadShape));
             }
-            Ok(Shape::Part(doc, text))
+            Ok(Shape::Node(doc, text))
         }
     }
 }
@@ -113,7 +113,7 @@ fn in_home(
             let name = name.copy(alloc)?;
             document(DocId { auid, home, name }, selector)
         }
-        _ => Ok(Shape::Below(auid, home)),
+        _ => Ok(Shape::Deep(auid, home)),
     }
 }
 
@@ -182,9 +182,9 @@ fn stored_doc(
     }
 }
 
-// The changes of a part, which has a selector.
-fn part_changes(tag: u64, doc: DocId, selector: Option<Text>) -> Result<Shape, ReadError<UriFault>>
-    ensures names_the_changes_of_a_part { result ≡ part_changes tag doc selector }
+// The feed of an element, which has a selector.
+fn element_feed(tag: u64, doc: DocId, selector: Option<Text>) -> Result<Shape, ReadError<UriFault>>
+    ensures names_the_feed_of_an_element { result ≡ element_feed tag doc selector }
 {
     match selector {
         None => Err(ReadError::Fault(UriFault::BadShape)),
@@ -192,34 +192,34 @@ fn part_changes(tag: u64, doc: DocId, selector: Option<Text>) -> Result<Shape, R
             if text.is_empty() {
                 return Err(ReadError::Fault(UriFault::BadShape));
             }
-            Ok(Shape::PartChanges(tag, doc, text))
+            Ok(Shape::ElementFeed(tag, doc, text))
         }
     }
 }
 
-// The changes of a document, which have a mode and no selector.
-fn changes(
+// The feed of a document, which has a mode and no selector.
+fn document_feed(
     mode: Option<Mode>,
     tag: u64,
     doc: DocId,
     selector: Option<Text>,
 ) -> Result<Shape, ReadError<UriFault>>
-    ensures names_the_changes { result ≡ changes mode tag doc selector }
+    ensures names_the_feed_of_a_document { result ≡ document_feed mode tag doc selector }
 {
     match (mode, selector) {
-        (Some(mode), None) => Ok(Shape::Changes(mode, tag, doc)),
+        (Some(mode), None) => Ok(Shape::Feed(mode, tag, doc)),
         _ => Err(ReadError::Fault(UriFault::BadShape)),
     }
 }
 
-// Either of them.
-fn changes_or_part(
+// Either of the feeds.
+fn either_feed(
     mode: &Text,
     tag: Option<u64>,
     doc: Option<DocId>,
     selector: Option<Text>,
 ) -> Result<Shape, ReadError<UriFault>>
-    ensures names_the_changes_of_either { result ≡ changes_or_part mode.now tag doc selector }
+    ensures names_either_feed { result ≡ either_feed mode.now tag doc selector }
 {
     let Some(tag) = tag else {
         return Err(ReadError::Fault(UriFault::BadShape));
@@ -228,9 +228,9 @@ fn changes_or_part(
         return Err(ReadError::Fault(UriFault::BadShape));
     };
     if mode.is("element") {
-        return part_changes(tag, doc, selector);
+        return element_feed(tag, doc, selector);
     }
-    changes(mode_of(mode), tag, doc, selector)
+    document_feed(mode_of(mode), tag, doc, selector)
 }
 
 // What is named behind `~feed`.
@@ -244,7 +244,7 @@ fn feed_shape(
     match rest {
         [mode, tag, auid, tree, xui, name] => {
             let doc = stored_doc(alloc, auid, tree, xui, name)?;
-            changes_or_part(mode, tag_of(tag), doc, selector)
+            either_feed(mode, tag_of(tag), doc, selector)
         }
         _ => Err(ReadError::Fault(UriFault::BadShape)),
     }
@@ -252,7 +252,7 @@ fn feed_shape(
 
 // The flat list of a service of this document.
 fn flat_list(alloc: Global, xui: &Text, name: &Text, service: &Text) -> Result<Shape, AllocError>
-    ensures names_the_flat_list { IfOk result (λ shape. shape ≡ Shape.FlatList (doc_of Auid.RlsServices (Home.User xui.now) name.now) service.now) }
+    ensures names_the_flat_list { IfOk result (λ shape. shape ≡ Shape.Flat (doc_of Auid.RlsServices (Home.User xui.now) name.now) service.now) }
 {
     let xui = xui.copy(alloc)?;
     let name = name.copy(alloc)?;
@@ -262,7 +262,7 @@ fn flat_list(alloc: Global, xui: &Text, name: &Text, service: &Text) -> Result<S
         home: Home::User(xui),
         name,
     };
-    Ok(Shape::FlatList(doc, service))
+    Ok(Shape::Flat(doc, service))
 }
 
 // What is named behind `~flat`.

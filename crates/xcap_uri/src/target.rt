@@ -157,14 +157,14 @@ fn target_of(
     ensures target_of_the_shape { StatedOr ReadError.NoMemory (target_of shape bindings.now (raw_text (option_map (λ x. x.now) raw_selector.entry) (option_map (λ x. x.now) raw_query.entry))) result }
 {
     match shape {
-        Shape::Whole(doc) => Ok(Target::Document(doc)),
-        Shape::Part(doc, text) => {
+        Shape::Document(doc) => Ok(Target::Document(doc)),
+        Shape::Node(doc, text) => {
             let selector = part(alloc, bindings, doc.auid, &text)?;
             Ok(Target::Node(doc, selector))
         }
-        Shape::Below(auid, home) => Ok(Target::Deep(auid, home)),
-        Shape::Changes(mode, tag, doc) => Ok(Target::Feed { mode, tag, doc }),
-        Shape::PartChanges(tag, doc, text) => {
+        Shape::Deep(auid, home) => Ok(Target::Deep(auid, home)),
+        Shape::Feed(mode, tag, doc) => Ok(Target::Feed { mode, tag, doc }),
+        Shape::ElementFeed(tag, doc, text) => {
             let selector = part(alloc, bindings, doc.auid, &text)?;
             let selector = about_element(selector)?;
             let raw = raw_text(alloc, raw_selector, raw_query)?;
@@ -175,7 +175,7 @@ fn target_of(
                 raw,
             })
         }
-        Shape::FlatList(doc, service) => Ok(Target::Flat { doc, service }),
+        Shape::Flat(doc, service) => Ok(Target::Flat { doc, service }),
     }
 }
 

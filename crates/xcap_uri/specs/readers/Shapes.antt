@@ -15,7 +15,7 @@ use Rattle.xcap_uri.specs.declared.fault.UriFault.TheVariants.{BadShape, Unknown
 use Rattle.xcap_uri.specs.declared.target.Mode.{Mode}
 use Rattle.xcap_uri.specs.declared.target.Mode.TheVariants.{NoPatching, XcapPatching, Aggregate}
 use Rattle.xcap_uri.specs.declared.shape.Shape.{Shape}
-use Rattle.xcap_uri.specs.declared.shape.Shape.TheVariants.{Whole, Part, Below, Changes, PartChanges, FlatList}
+use Rattle.xcap_uri.specs.declared.shape.Shape.TheVariants.{Document, Node, Deep, Feed, ElementFeed, Flat}
 
 -- ---- the words
 
@@ -46,15 +46,15 @@ mode_of name =
 
 -- a document, or with a selector a part of it; an empty selector is none
 abbrev pub document : DocId → Option (List ℕ) → Result Shape UriError
-document doc None = Ok (Whole doc)
+document doc None = Ok (Document doc)
 document doc (Some []) = Err (Fault BadShape)
-document doc (Some (c ∷ cs)) = Ok (Part doc (c ∷ cs))
+document doc (Some (c ∷ cs)) = Ok (Node doc (c ∷ cs))
 
 -- in a home: a name, or more, which lies below a document; then the selector isn't looked at
 abbrev pub in_home : Auid → Home → List (List ℕ) → Option (List ℕ) → Result Shape UriError
 in_home auid home [] selector = Err (Fault BadShape)
 in_home auid home (name ∷ []) selector = document (doc_of auid home name) selector
-in_home auid home (name ∷ next ∷ more) selector = Ok (Below auid home)
+in_home auid home (name ∷ next ∷ more) selector = Ok (Deep auid home)
 
 -- behind `users`: a user
 abbrev pub of_user : Auid → List (List ℕ) → Option (List ℕ) → Result Shape UriError
@@ -76,31 +76,31 @@ abbrev pub stored_doc : List ℕ → List ℕ → List ℕ → List ℕ → Opti
 stored_doc auid tree xui name = if bytes_eq tree users then option_map (λ a. doc_of a (User xui) name) (stored_auid_of auid) else None
 
 -- the notice about an element has a selector, which isn't empty
-abbrev pub part_changes : ℕ → DocId → Option (List ℕ) → Result Shape UriError
-part_changes tag doc None = Err (Fault BadShape)
-part_changes tag doc (Some []) = Err (Fault BadShape)
-part_changes tag doc (Some (c ∷ cs)) = Ok (PartChanges tag doc (c ∷ cs))
+abbrev pub element_feed : ℕ → DocId → Option (List ℕ) → Result Shape UriError
+element_feed tag doc None = Err (Fault BadShape)
+element_feed tag doc (Some []) = Err (Fault BadShape)
+element_feed tag doc (Some (c ∷ cs)) = Ok (ElementFeed tag doc (c ∷ cs))
 
 -- the notice about a document has a mode, and no selector
-abbrev pub changes : Option Mode → ℕ → DocId → Option (List ℕ) → Result Shape UriError
-changes None tag doc selector = Err (Fault BadShape)
-changes (Some mode) tag doc None = Ok (Changes mode tag doc)
-changes (Some mode) tag doc (Some text) = Err (Fault BadShape)
+abbrev pub document_feed : Option Mode → ℕ → DocId → Option (List ℕ) → Result Shape UriError
+document_feed None tag doc selector = Err (Fault BadShape)
+document_feed (Some mode) tag doc None = Ok (Feed mode tag doc)
+document_feed (Some mode) tag doc (Some text) = Err (Fault BadShape)
 
-abbrev pub changes_or_part : List ℕ → Option ℕ → Option DocId → Option (List ℕ) → Result Shape UriError
-changes_or_part mode None doc selector = Err (Fault BadShape)
-changes_or_part mode (Some tag) None selector = Err (Fault BadShape)
-changes_or_part mode (Some tag) (Some doc) selector =
-    if bytes_eq mode element_word then part_changes tag doc selector else changes (mode_of mode) tag doc selector
+abbrev pub either_feed : List ℕ → Option ℕ → Option DocId → Option (List ℕ) → Result Shape UriError
+either_feed mode None doc selector = Err (Fault BadShape)
+either_feed mode (Some tag) None selector = Err (Fault BadShape)
+either_feed mode (Some tag) (Some doc) selector =
+    if bytes_eq mode element_word then element_feed tag doc selector else document_feed (mode_of mode) tag doc selector
 
 -- behind `~feed`: a mode or `element`, a tag, a stored usage, `users`, a user and a name
 abbrev pub feed_shape : List (List ℕ) → Option (List ℕ) → Result Shape UriError
-feed_shape (mode ∷ tag ∷ auid ∷ tree ∷ xui ∷ name ∷ []) selector = changes_or_part mode (tag_spelled tag) (stored_doc auid tree xui name) selector
+feed_shape (mode ∷ tag ∷ auid ∷ tree ∷ xui ∷ name ∷ []) selector = either_feed mode (tag_spelled tag) (stored_doc auid tree xui name) selector
 feed_shape _ selector = Err (Fault BadShape)
 
 -- behind `~flat`: a user, a name and the address of a service, without separator
 abbrev pub flat_shape : List (List ℕ) → Option (List ℕ) → Result Shape UriError
-flat_shape (xui ∷ name ∷ service ∷ []) None = Ok (FlatList (doc_of RlsServices (User xui) name) service)
+flat_shape (xui ∷ name ∷ service ∷ []) None = Ok (Flat (doc_of RlsServices (User xui) name) service)
 flat_shape _ selector = Err (Fault BadShape)
 
 -- ---- all shapes

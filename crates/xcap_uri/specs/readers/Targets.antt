@@ -22,7 +22,7 @@ use Rattle.xcap_uri.specs.readers.Escapes.{text_read, optional_text_read}
 use Rattle.xcap_uri.specs.readers.Shapes.{shape_of}
 use Rattle.xcap_uri.specs.declared.fault.UriFault.TheVariants.{OutsideRoot, BadSelector}
 use Rattle.xcap_uri.specs.declared.shape.Shape.{Shape}
-use Rattle.xcap_uri.specs.declared.shape.Shape.TheVariants.{Whole, Part, Below, Changes, PartChanges, FlatList}
+use Rattle.xcap_uri.specs.declared.shape.Shape.TheVariants as shapes
 use Rattle.xcap_uri.specs.declared.target.Target.{Target}
 use Rattle.xcap_uri.specs.declared.target.Target.TheVariants.{Document, Node, Deep, Feed, ElementFeed, Flat}
 
@@ -64,12 +64,12 @@ about_element selector = ends_in_element selector.end selector
 
 -- the target of a shape
 abbrev pub target_of : Shape → List Decl → List ℕ → Result Target UriError
-target_of (Whole doc) bindings raw = Ok (Document doc)
-target_of (Part doc text) bindings raw = part_read bindings doc.auid text >>= λ selector. Ok (Node doc selector)
-target_of (Below auid home) bindings raw = Ok (Deep auid home)
-target_of (Changes mode tag doc) bindings raw = Ok (Feed mode tag doc)
-target_of (PartChanges tag doc text) bindings raw = part_read bindings doc.auid text >>= about_element >>= λ selector. Ok (ElementFeed tag doc selector raw)
-target_of (FlatList doc service) bindings raw = Ok (Flat doc service)
+target_of (shapes.Document doc) bindings raw = Ok (Document doc)
+target_of (shapes.Node doc text) bindings raw = part_read bindings doc.auid text >>= λ selector. Ok (Node doc selector)
+target_of (shapes.Deep auid home) bindings raw = Ok (Deep auid home)
+target_of (shapes.Feed mode tag doc) bindings raw = Ok (Feed mode tag doc)
+target_of (shapes.ElementFeed tag doc text) bindings raw = part_read bindings doc.auid text >>= about_element >>= λ selector. Ok (ElementFeed tag doc selector raw)
+target_of (shapes.Flat doc service) bindings raw = Ok (Flat doc service)
 
 -- escapes, then the shape, then the query, then the selector
 abbrev pub rest_read : List ℕ → Result Target UriError
