@@ -20,6 +20,6 @@ escaped plain octets = flat_map (escaped_octet plain) octets
 abbrev pub escaped_part : List ℕ → List ℕ
 escaped_part text = escaped is_plain (encode_utf8_all text)
 
--- the octets that the selector of a notice about an element has as they are: the visible ones of ASCII
+-- the octets that the selector of a notice about an element has as they are: the visible ones of ASCII, from `!` (33) to `~` (126)
 abbrev pub is_visible : ℕ → Bool
 is_visible b = is_ascii b && (nat_le 33 b && nat_le b 126)

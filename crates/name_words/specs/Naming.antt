@@ -13,7 +13,7 @@ use Rattle.xcap_uri.specs.Escapes.{has_whole_escapes}
 abbrev pub is_part : List ℕ → List ℕ → Bool
 is_part octets part = has_whole_escapes part && bytes_eq (percent_decode part) octets
 
--- the parts of an address, between its slashes, stand for these, one for each
+-- the parts of an address, between its slashes (47), stand for these, one for each
 abbrev pub are_parts : List (List ℕ) → Option (List ℕ) → Bool
 are_parts [] None = true
 are_parts [] (Some address) = false

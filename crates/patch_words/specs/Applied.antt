@@ -73,7 +73,7 @@ abbrev pub position_of : List ℕ → Option Position
 position_of text =
     if bytes_eq text (codes "prepend") then Some Prepend else (if bytes_eq text (codes "before") then Some Before else (if bytes_eq text (codes "after") then Some After else None))
 
--- a QName, cut at its colon; none where it has none of its parts or a part is no NCName
+-- a QName, cut at its colon (58); none where it has none of its parts or a part is no NCName
 abbrev pub with_prefix : List ℕ → List ℕ → Option Name
 with_prefix prefix local = if is_name prefix && is_name local then Some (record { prefix = prefix; local = local }) else None
 
@@ -81,7 +81,7 @@ abbrev pub cut_name : List ℕ → List ℕ → Option Name
 cut_name seen [] = if is_name seen then Some (record { prefix = []; local = seen }) else None
 cut_name seen (c ∷ cs) = if c == 58 then with_prefix seen cs else cut_name (seen ++ c ∷ []) cs
 
--- `@` and a QName other than `xmlns`
+-- `@` (64) and a QName other than `xmlns`
 abbrev pub no_declaration : Name → Option Name
 no_declaration n = if bytes_eq n.prefix [] && bytes_eq n.local xmlns_prefix then None else Some n
 

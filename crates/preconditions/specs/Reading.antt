@@ -30,22 +30,24 @@ abbrev pub behind_byte : ℕ → List ℕ → Option (List ℕ)
 behind_byte b [] = None
 behind_byte b (c ∷ cs) = if c == b then Some cs else None
 
--- what follows those bytes and the quote behind them, if it is there
+-- what follows those bytes and the quote (34) behind them, if it is there
 abbrev pub closed : List ℕ → Option (List ℕ)
 closed s = behind_byte 34 (drop (prefix_len is_tag_byte s) s)
 
 abbrev pub quoted : Bool → List ℕ → Option (EntityTag × List ℕ)
 quoted weak s = option_map (λ rest. (entity_tag weak (opaque_front s), rest)) (closed s)
 
+-- the tag whose `W/` is read: a quote (34) follows
 abbrev pub behind_slash : List ℕ → Option (EntityTag × List ℕ)
 behind_slash [] = None
 behind_slash (c ∷ cs) = if c == 34 then quoted true cs else None
 
+-- the tag whose `W` is read: `/` (47) follows
 abbrev pub behind_letter : List ℕ → Option (EntityTag × List ℕ)
 behind_letter [] = None
 behind_letter (c ∷ cs) = if c == 47 then behind_slash cs else None
 
--- the tag at the front, and what follows it
+-- the tag at the front, which begins with a quote (34) or `W` (87), and what follows it
 abbrev pub first_tag : List ℕ → Option (EntityTag × List ℕ)
 first_tag [] = None
 first_tag (c ∷ cs) = if c == 34 then quoted false cs else if c == 87 then behind_letter cs else None
@@ -64,7 +66,7 @@ pub data Place : Type 0 where
 abbrev pub with_tags : List EntityTag → Option (List EntityTag) → Option (List EntityTag)
 with_tags tags more = option_map (λ ts. tags ++ ts) more
 
--- the tags of the rest of a list, if the rest can be read
+-- the tags of the rest of a list, if the rest can be read: at a comma (44), a quote (34), `W` (87) or `/` (47) the place changes
 abbrev pub tags_from : Place → List ℕ → Option (List EntityTag)
 tags_from Before [] = Some []
 tags_from Before (c ∷ cs) =

@@ -4,11 +4,11 @@ use Rattle.std.specs.List.{AllByRecursion}
 use Rattle.std.specs.Option.{option_map_or}
 use Rattle.preconditions.specs.declared.tags.EntityTag.{EntityTag}
 
--- etagc = %x21 / %x23-7E / obs-text
+-- etagc = %x21 / %x23-7E / obs-text: `!` (33), from `#` (35) to `~` (126), and from 128 to 255
 abbrev pub is_tag_byte : ℕ → Bool
 is_tag_byte c = c == 33 || (nat_le 35 c && nat_le c 126) || (nat_le 128 c && nat_le c 255)
 
--- SP / HTAB
+-- SP (32) / HTAB (9)
 abbrev pub is_ows_byte : ℕ → Bool
 is_ows_byte c = c == 32 || c == 9
 

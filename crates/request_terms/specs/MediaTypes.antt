@@ -11,7 +11,7 @@ use Rattle.http_wire.specs.Fields.{same_word}
 use Rattle.http_wire.specs.declared.request.Field.{Field}
 use Rattle.request_terms.specs.Rights.{fields_named}
 
--- what stands before the first `;`, without blanks at its ends
+-- what stands before the first `;` (59), without blanks at its ends
 abbrev pub first_of : List (List ℕ) → List ℕ
 first_of [] = []
 first_of (part ∷ parts) = part

@@ -42,7 +42,7 @@ equals = keeping_second spaces (keeping_second (word (codes "=")) spaces)
 abbrev pub stands_for : ℕ → List ℕ → Rule Kind ℕ
 stands_for c w = valued (λ _. c) (word w)
 
--- [68] one of the five entities that there are
+-- [68] one of the five entities that there are, those of `<` (60), `>` (62), `"` (34), `'` (39) and `&` (38)
 abbrev pub entity : Rule Kind ℕ
 entity = either (stands_for 60 (codes "lt")) (either (stands_for 62 (codes "gt")) (either (stands_for 34 (codes "quot")) (either (stands_for 39 (codes "apos")) (stands_for 38 (codes "amp")))))
 
@@ -58,11 +58,11 @@ numbered = keeping_second (word (codes "#")) (either (keeping_second (word (code
 abbrev pub reference : Rule Kind ℕ
 reference = keeping_second (word (codes "&")) (keeping_first (either numbered entity) (word (codes ";")))
 
--- either quote
+-- either quote: `"` (34) or `'` (39)
 abbrev pub is_quote : ℕ → Bool
 is_quote c = c == 34 || c == 39
 
--- a character that stands raw in text: any Char but `<` and `&`; and in a value between quotes: nor its own quote
+-- a character that stands raw in text: any Char but `<` (60) and `&` (38); and in a value between quotes: nor its own quote
 abbrev pub is_raw : ℕ → Bool
 is_raw c = is_char c && not (c == 60) && not (c == 38)
 
@@ -159,6 +159,7 @@ element (suc n) scope depth =
 abbrev pub version_number : Rule Kind (Unit {0})
 version_number = dropped (keeping_second (word (codes "1.")) (some_of is_ascii_digit))
 
+-- a letter, a digit, `.` (46), `_` (95) or `-` (45)
 abbrev pub is_encoding_char : ℕ → Bool
 is_encoding_char c = is_ascii_alphabetic c || is_ascii_digit c || c == 46 || c == 95 || c == 45
 

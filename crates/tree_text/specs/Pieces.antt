@@ -8,7 +8,7 @@ use Rattle.std.specs.List.{cons_option}
 use Rattle.grammar_rules.specs.Reading.{head_is}
 use Rattle.tree_text.specs.declared.said.Said.{Said}
 
--- Line ends (XML 1.0, 2.11): CR LF, and a CR that no LF follows, are read as LF. So a CR before an LF is read as nothing.
+-- Line ends (XML 1.0, 2.11): CR LF, and a CR (13) that no LF (10) follows, are read as LF. So a CR before an LF is read as nothing.
 abbrev pub line_char : ℕ → List ℕ → Option ℕ
 line_char c after = if c == 13 then (if head_is (λ d. d == 10) after then None else Some 10) else Some c
 
@@ -16,7 +16,7 @@ abbrev pub line_ends : List ℕ → List ℕ
 line_ends [] = []
 line_ends (c ∷ cs) = cons_option (line_char c cs) (line_ends cs)
 
--- White space in values (XML 1.0, 3.3.3): a tab and an LF that stand raw are read as spaces.
+-- White space in values (XML 1.0, 3.3.3): a tab (9) and an LF (10) that stand raw are read as spaces (32).
 abbrev pub blank : ℕ → ℕ
 blank c = if c == 9 || c == 10 then 32 else c
 

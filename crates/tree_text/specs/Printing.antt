@@ -11,7 +11,7 @@ header = codes "<?xml version=\"1.0\" encoding=\"UTF-8\"?>\n"
 abbrev pub document_print : Tree → List ℕ
 document_print root = header ++ print root
 
--- a character of a body: `&`, `<`, both quotes, tab, LF and CR are references
+-- a character of a body: `&` (38), `<` (60), `"` (34), `'` (39), tab (9), LF (10) and CR (13) are references
 abbrev pub body_escape : ℕ → List ℕ
 body_escape c =
     if c == 38 then codes "&amp;" else (if c == 60 then codes "&lt;" else (if c == 34 then codes "&quot;" else (if c == 39 then codes "&apos;" else

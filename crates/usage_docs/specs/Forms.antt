@@ -16,12 +16,12 @@ use Rattle.usage_docs.specs.Rows.{Scope, kind_of, root_kind}
 use Rattle.usage_docs.specs.Keys.{value_of}
 use Rattle.usage_docs.specs.Texts.{text_of}
 
--- what stands before the first `/`, or the whole where there is none
+-- what stands before the first `/` (47), or the whole where there is none
 abbrev pub first_segment : List ℕ → List ℕ
 first_segment [] = []
 first_segment (c ∷ cs) = if c == 47 then [] else (c ∷ first_segment cs)
 
--- a relative reference that begins with a segment: it is not empty, doesn't begin with `/`, and has no `:` before its first `/`
+-- a relative reference that begins with a segment: it is not empty, doesn't begin with `/`, and has no `:` (58) before its first `/`
 unfoldable pub is_reference : List ℕ → Bool
 is_reference s = not (bytes_eq (first_segment s) []) && list_all (λ c. not (c == 58)) (first_segment s)
 

@@ -10,7 +10,7 @@ use Rattle.xcap_app.specs.declared.asking_words.TheConstants.{GREATEST_ROUNDS}
 use Rattle.xcap_app.specs.declared.command.Command.{Command}
 use Rattle.xcap_app.specs.declared.command.Command.TheVariants.{Fetch, Put, Delete, Follow}
 
--- a visible character of ASCII
+-- a visible character of ASCII, from `!` (33) to `~` (126)
 abbrev pub is_visible : ℕ → Bool
 is_visible b = nat_le 33 b && nat_le b 126
 
@@ -26,7 +26,7 @@ text_of word = if is_word word then Some (chars word) else None
 abbrev pub user_of : List ℕ → Option (List ℕ)
 user_of word = if bytes_eq word (codes "-") then None else Some (chars word)
 
--- `http` stands before the first colon
+-- `http` stands before the first colon (58)
 abbrev pub begins_with_http : List ℕ → Bool
 begins_with_http text = bytes_eq (front_before 58 text) (codes "http")
 

@@ -4,7 +4,7 @@ use Rattle.std.specs.List.{list_any}
 use Rattle.xcap_uri.specs.Cuts.{front_before}
 use Rattle.xcap_uri.specs.Roots.{authority_of}
 
--- a `:` stands behind the last `]`, which ends a number of IPv6, or anywhere where there is none
+-- a `:` (58) stands behind the last `]` (93), which ends a number of IPv6, or anywhere where there is none
 abbrev pub names_port : List ℕ → Bool
 names_port authority = list_any (λ c. c == 58) (front_before 93 (reverse authority))
 

@@ -22,7 +22,7 @@ home_uri root auid (User xui) = root ++ (codes "/" ++ (auid_text auid ++ (codes 
 abbrev pub document_uri : List ℕ → DocId → List ℕ
 document_uri root id = root ++ (codes "/" ++ id_text id)
 
--- a character of a node selector in a URI
+-- a character of a node selector in a URI: `[` (91) and `]` (93) are escaped
 abbrev pub bracket_escape : ℕ → List ℕ
 bracket_escape c = if nat_eq c 91 then codes "%5B" else (if nat_eq c 93 then codes "%5D" else c ∷ [])
 

@@ -6,7 +6,7 @@ use Rattle.xml_tree.specs.Limits.{greatest_u64}
 use Rattle.grammar_rules.specs.Digits.{decimal_digits}
 use Rattle.grammar_rules.specs.Rules.{number_from}
 
--- the first octet is a digit other than 0
+-- the first octet is a digit from `1` (49) on
 abbrev pub begins_with_digit : List ℕ → Bool
 begins_with_digit [] = false
 begins_with_digit (c ∷ cs) = is_ascii_digit c && nat_le 49 c
@@ -16,7 +16,7 @@ abbrev pub numeral_of : List ℕ → Option ℕ
 numeral_of octets =
     if begins_with_digit octets && (list_all is_ascii_digit octets && nat_le (number_from decimal_digits 0 octets) greatest_u64) then Some (number_from decimal_digits 0 octets) else None
 
--- the same worked out digit by digit, behind digits that are worth n
+-- the same worked out digit by digit, from `0` (48) on, behind digits that are worth n
 abbrev pub number_behind : ℕ → List ℕ → Option ℕ
 number_behind n [] = Some n
 number_behind n (c ∷ cs) = if is_ascii_digit c && nat_le (n * 10 + (c - 48)) greatest_u64 then number_behind (n * 10 + (c - 48)) cs else None

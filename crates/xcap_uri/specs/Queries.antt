@@ -12,11 +12,11 @@ use Rattle.grammar_rules.specs.Rules.{AllPass}
 use Rattle.xml_tree.specs.Characters.{is_name, is_space}
 use Rattle.xml_tree.specs.declared.names.Decl.{Decl}
 
--- `(`, `)` and `^`
+-- `(` (40), `)` (41) and `^` (94)
 abbrev pub is_bracket_or_caret : ℕ → Bool
 is_bracket_or_caret c = c == 40 || c == 41 || c == 94
 
--- U+0020
+-- the space, U+0020 (32)
 abbrev pub is_blank : ℕ → Bool
 is_blank c = c == 32
 
@@ -26,9 +26,9 @@ pub data SpellsUri : List ℕ → List ℕ → Type 0 where
   ends : SpellsUri [] []
   -- a char stands for itself
   plain : (c : ℕ) (text uri : List ℕ) → is_bracket_or_caret c ≡ false → SpellsUri text uri → SpellsUri (c ∷ text) (c ∷ uri)
-  -- `^` and a `(`, a `)` or a `^` stand for the latter
+  -- `^` (94) and a `(`, a `)` or a `^` stand for the latter
   escaped : (c : ℕ) (text uri : List ℕ) → is_bracket_or_caret c ≡ true → SpellsUri text uri → SpellsUri (94 ∷ c ∷ text) (c ∷ uri)
-  -- a spelling in parentheses, which stand for themselves
+  -- a spelling in parentheses, `(` (40) and `)` (41), which stand for themselves
   nested : (inner inside text uri : List ℕ) → SpellsUri inner inside → SpellsUri text uri → SpellsUri (40 ∷ (inner ++ (41 ∷ text))) (40 ∷ (inside ++ (41 ∷ uri)))
 
 -- an item, and what it binds

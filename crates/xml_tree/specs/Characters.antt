@@ -14,14 +14,14 @@ is_space c = c == 0x20 || c == 0x9 || c == 0xD || c == 0xA
 
 -- [4] NameStartChar ::= [A-Z] | "_" | [a-z] | [#xC0-#xD6] | [#xD8-#xF6] | [#xF8-#x2FF] | [#x370-#x37D] | [#x37F-#x1FFF]
 --     | [#x200C-#x200D] | [#x2070-#x218F] | [#x2C00-#x2FEF] | [#x3001-#xD7FF] | [#xF900-#xFDCF] | [#xFDF0-#xFFFD] | [#x10000-#xEFFFF]
--- without the colon, which no NCName has
+-- without the colon, which no NCName has; `A` is 65, `Z` 90, `_` 95, `a` 97 and `z` 122
 abbrev pub is_name_start : ℕ → Bool
 is_name_start c =
     within 65 90 c || c == 95 || within 97 122 c || within 0xC0 0xD6 c || within 0xD8 0xF6 c || within 0xF8 0x2FF c
     || within 0x370 0x37D c || within 0x37F 0x1FFF c || within 0x200C 0x200D c || within 0x2070 0x218F c || within 0x2C00 0x2FEF c
     || within 0x3001 0xD7FF c || within 0xF900 0xFDCF c || within 0xFDF0 0xFFFD c || within 0x10000 0xEFFFF c
 
--- the characters that may stand in a name, and not begin one
+-- the characters that may stand in a name, and not begin one: `-` (45), `.` (46), from `0` (48) to `9` (57), and others
 abbrev pub is_joining : ℕ → Bool
 is_joining c = c == 45 || c == 46 || within 48 57 c || c == 0xB7 || within 0x300 0x36F c || within 0x203F 0x2040 c
 

@@ -4,11 +4,11 @@ use Rattle.std.specs.Prelude.{ℕ, Bool, true, not, ◌&&◌, ◌==◌, List, []
 use Rattle.std.specs.List.{list_all}
 use Rattle.xml_tree.specs.Characters.{is_char}
 
--- a Char that a reader keeps as it is: a CR is read as a line feed (section 2.11), so none stands in a tree
+-- a Char that a reader keeps as it is: a CR (13) is read as a line feed (section 2.11), so none stands in a tree
 abbrev pub is_kept_char : ℕ → Bool
 is_kept_char c = is_char c && not (c == 13)
 
--- no two hyphens stand side by side, and none stands last
+-- no two hyphens (45) stand side by side, and none stands last
 abbrev pub hyphens_apart : List ℕ → Bool
 hyphens_apart [] = true
 hyphens_apart (c ∷ []) = not (c == 45)

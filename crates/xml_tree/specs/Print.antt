@@ -9,12 +9,12 @@ use Rattle.xml_tree.specs.declared.names.Attr.{Attr}
 use Rattle.xml_tree.specs.declared.tree.Node.{Node}
 use Rattle.xml_tree.specs.declared.tree.Node.TheVariants.{Elem, Chars, Comment}
 
--- a character of a text: `&`, `<`, `>` and CR are references
+-- a character of a text: `&` (38), `<` (60), `>` (62) and CR (13) are references
 abbrev pub text_escape : ℕ → List ℕ
 text_escape c =
     if c == 38 then codes "&amp;" else (if c == 60 then codes "&lt;" else (if c == 62 then codes "&gt;" else (if c == 13 then codes "&#xD;" else (c ∷ []))))
 
--- a character of a value in quotes: `&`, `<`, `"`, tab, LF and CR are references
+-- a character of a value in quotes: `&` (38), `<` (60), `"` (34), tab (9), LF (10) and CR (13) are references
 abbrev pub value_escape : ℕ → List ℕ
 value_escape c =
     if c == 38 then codes "&amp;" else (if c == 60 then codes "&lt;" else (if c == 34 then codes "&quot;" else
@@ -23,11 +23,11 @@ value_escape c =
 abbrev pub print_text : List ℕ → List ℕ
 print_text t = flat_map text_escape t
 
--- a value in its quotes
+-- a value in its quotes, `"` (34)
 abbrev pub quoted_text : List ℕ → List ℕ
 quoted_text v = 34 ∷ (flat_map value_escape v ++ 34 ∷ [])
 
--- a name: the prefix and a colon, where there is a prefix, and the local name
+-- a name: the prefix and a colon (58), where there is a prefix, and the local name
 abbrev pub print_name : Name → List ℕ
 print_name n = if bytes_eq n.prefix [] then n.local else (n.prefix ++ 58 ∷ n.local)
 
@@ -35,18 +35,18 @@ print_name n = if bytes_eq n.prefix [] then n.local else (n.prefix ++ 58 ∷ n.l
 abbrev pub declaring : List ℕ → List ℕ
 declaring p = if bytes_eq p [] then codes "xmlns" else (codes "xmlns:" ++ p)
 
--- a declaration and an attribute: a space, the name, `=` and the value
+-- a declaration and an attribute: a space (32), the name, `=` (61) and the value
 abbrev pub print_decl : Decl → List ℕ
 print_decl d = 32 ∷ (declaring d.prefix ++ 61 ∷ quoted_text d.uri)
 
 abbrev pub print_attr : Attr → List ℕ
 print_attr a = 32 ∷ (print_name a.name ++ 61 ∷ quoted_text a.value)
 
--- `<`, the name, the declarations and the attributes
+-- `<` (60), the name, the declarations and the attributes
 abbrev pub opening : Name → List Decl → List Attr → List ℕ
 opening n ds ats = 60 ∷ (print_name n ++ (flat_map print_decl ds ++ flat_map print_attr ats))
 
--- `</`, the name, `>`
+-- `</` (60, 47), the name, `>` (62)
 abbrev pub closing : Name → List ℕ
 closing n = 60 ∷ 47 ∷ (print_name n ++ 62 ∷ [])
 
@@ -57,7 +57,7 @@ is_empty (last (x ∷ t)) = false
 is_empty (more t n ds ats c rest) = false
 is_empty (note t x rest) = false
 
--- what follows the attributes: `/>` where there are no nodes, else `>`, the nodes and the end tag
+-- what follows the attributes: `/>` where there are no nodes, else `>` (62), the nodes and the end tag
 abbrev pub ending : Name → Bool → List ℕ → List ℕ
 ending n empty inside = if empty then codes "/>" else (62 ∷ (inside ++ closing n))
 
