@@ -13,7 +13,7 @@ use Rattle.usage_docs.specs.Forms.{AllFormed, Constraints, is_formed}
 use Rattle.usage_docs.specs.Keys.{attrs_pass, key_of, value_of}
 use Rattle.usage_docs.specs.Rows.{Scope, Child, is_root, items_in, kind_of, model_of, root_kind, MatchesModel as Matches}
 use Rattle.usage_docs.specs.Reading.Parts.{end, follows, part_in}
-use Rattle.usage_docs.specs.Reading.Siblings.{IsAmong, IsFirst, RepeatedKey, RepeatsHere, marks_of}
+use Rattle.usage_docs.specs.Reading.Siblings.{IsFirst}
 use Rattle.usage_docs.specs.Texts.{text_of}
 use Rattle.usage_docs.specs.Validity.{AllKeep, KeepsRow, Schema, children_of, text_passes}
 use Rattle.usage_docs.proofs.KindTests.{same_kind, same_kind_exact}
@@ -21,6 +21,7 @@ use Rattle.usage_docs.proofs.Matching.{Chain, matched}
 use Rattle.usage_docs.specs.declared.keys.Clash.{Clash}
 use Rattle.usage_docs.specs.declared.rows.Key.{Key}
 use Rattle.usage_docs.specs.declared.rows.Kind.{Kind}
+use Rattle.usage_docs.proofs.EarlierMarks.{IsAmong, RepeatedKey, RepeatsHere, marks_of}
 use Rattle.usage_docs.proofs.ClashLemmas.{NoneBefore, at_below, at_here, at_none, found, none_at_end, passed}
 use Rattle.doc_names.specs.declared.usages.Usage.{Usage}
 use Rattle.usage_docs.specs.Judging.{Judged}

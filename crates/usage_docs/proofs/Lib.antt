@@ -2,6 +2,7 @@ pub mod Addresses
 pub mod BlankTexts
 pub mod CapabilitiesText
 pub mod ClashLemmas
+pub mod EarlierMarks
 pub mod FindingLemmas
 pub mod GapLemmas
 pub mod HiddenLemmas
