@@ -1,11 +1,10 @@
 -- What the code finds at an address. RFC 4825, section 6; RFC 4826, sections 4.4.7 and 4.4.8.
-use Rattle.std.specs.Prelude.{◌≡◌, ℕ, ◌<◌, ◌≤◌, Some}
-use Rattle.doc_names.specs.declared.doc_id.DocId.{DocId}
+use Rattle.std.specs.Prelude.{◌<◌, ◌≤◌}
 use Rattle.store_core.specs.Held.{Stock}
 use Rattle.xml_tree.specs.Tree.{Tree, height}
 use Rattle.xml_tree.specs.Limits.{most_levels}
 use Rattle.usage_docs.specs.Services.{document_len, index_limit}
-use Rattle.machine_words.specs.Resources.{IsIndexOfServices, LeadsTo, Resource, absent, beyond_limit, there, version_of}
+use Rattle.machine_words.specs.Resources.{IsIndexOfServices, Resource, absent, beyond_limit, there}
 use Rattle.document_reads.specs.declared.finding.Found.{Found}
 use Rattle.document_reads.specs.declared.finding.Found.TheVariants.{Absent, BeyondLimit, Held, Computed}
 
@@ -26,7 +25,3 @@ IsLow (Computed root tag) = height root ≤ most_levels
 -- the index of what is held would be longer than the limit
 abbrev pub HasLongIndex : Stock → Type 0
 HasLongIndex c = (root : Tree) × IsIndexOfServices c root × (index_limit < document_len root)
-
--- a document is held with this tag, and its name leads to it
-abbrev pub IsHeldWith : Stock → DocId → ℕ → Type 0
-IsHeldWith c id tag = (t : Tree) × (version_of c id ≡ Some (t, tag)) × LeadsTo c id (there t tag)

@@ -7,7 +7,7 @@ ghost use Rattle.request_terms.specs.Methods.{as_asked};
 ghost use Rattle.machine_words.specs.Answers.{found, unchanged};
 ghost use Rattle.machine_words.specs.Reading.{ReadsDocument, SendsFound};
 ghost use Rattle.machine_words.specs.Resources.{LeadsTo, there};
-ghost use Rattle.document_reads.specs.Finding.{IsHeldWith};
+ghost use Rattle.document_reads.specs.inner.Holding.{IsHeldWith};
 
 use crate::NoMemory;
 use crate::finding::{Found, resource};
