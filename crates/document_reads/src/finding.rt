@@ -84,7 +84,8 @@ fn global<'a>(alloc: Global, store: &'a Store, doc: &DocId) -> Result<Found<'a>,
     computed(alloc, store, doc.auid)
 }
 
-/// What the name of a document leads to. A document that is held is lent and one under `global` is made; each is at most 64 high.
+/// What the name of a document leads to. A document that is held is lent and one under `global` is made; each has at most `MAX_LEVELS`
+/// levels.
 ///
 /// # Errors
 /// `NoMemory` for want of memory.

@@ -24,7 +24,7 @@ pub enum RestartFault {
     Damaged(u64),
     /// The request of this record, counted from 1, is refused by what the requests before it were done again to.
     Refused(u64),
-    /// The old journal has more than 4,294,967,296 bytes.
+    /// The old journal has more than `MAX_JOURNAL` bytes.
     TooLong,
     /// Memory ran out.
     NoMemory,

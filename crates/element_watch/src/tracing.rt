@@ -185,7 +185,7 @@ fn back_through(path: &Path, older: &[EditNote], newer: &[EditNote]) -> Option<P
 
 /// Where the element at a path stood before notes of changes, oldest first: the one path that they
 /// move to it, where none touches it on the way. None exactly where there is no such path. No number
-/// of the path is above 4,294,967,295, and there are at most 64 notes. Takes no memory.
+/// of the path is above 4,294,967,295, and there are at most `MOST_NOTES` notes. Takes no memory.
 #[tactic(auto, using(crate::proofs::Bounds::trace_is))]
 pub fn trace(path: &Path, notes: Notes<'_>) -> Option<Path>
     requires small { All (λ n. n ≤ 4294967295) path.now }

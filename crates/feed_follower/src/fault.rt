@@ -19,7 +19,7 @@ pub enum FollowerFault {
     /// The response has a document and no tag.
     #[error("a document without a tag")]
     BadTag,
-    /// The response has a tag, and its body spells no document of at most 64 levels.
+    /// The response has a tag, and its body spells no document of at most `MAX_LEVELS` levels.
     #[error("no document: {0}")]
     BadText(TextFault),
     /// The body of a feed's response is no notice.

@@ -50,7 +50,8 @@ impl Follower {
     ///
     /// # Errors
     /// The first of these that applies: `Client` where there is no response, or where its status is neither 2xx nor 404; `BadTag`
-    /// where it has no tag; `BadText` where its body spells no document of at most 64 levels. `NoMemory` for want of memory.
+    /// where it has no tag; `BadText` where its body spells no document of at most `MAX_LEVELS` levels. `NoMemory` for want of
+    /// memory.
     pub fn start<C: Peer>(
         alloc: Global,
         peer: &mut C,

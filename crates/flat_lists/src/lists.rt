@@ -61,8 +61,8 @@ fn refused(fault: FlatFault, closes: bool) -> Reply
 }
 
 /// The reply to a GET or HEAD of a flat list: the document of the addresses behind the service with this address in a document; 404
-/// where the document isn't held or has no such service; 507 where its references are more than 4,096, or the reply's document would
-/// have more than 16,777,216 bytes. Conditions aren't looked at. HEAD gets the head of GET's reply.
+/// where the document isn't held or has no such service; 507 where its references are more than the `MARK_LIMIT` of `list_resolve`, or the
+/// reply's document would have more bytes than its `DOCUMENT_LIMIT`. Conditions aren't looked at. HEAD gets the head of GET's reply.
 ///
 /// # Errors
 /// `NoMemory` for want of memory.

@@ -28,7 +28,7 @@ use xcap_server::{Server, answer};
 use xcap_uri::{Mode, Root, numeral};
 use xml_tree::{MAX_LEVELS, depth};
 
-/// Whether what a copy holds has at most 64 levels, as every document has. Takes no memory.
+/// Whether what a copy holds has at most `MAX_LEVELS` levels, as every document has. Takes no memory.
 pub fn is_low(replica: &Replica) -> bool
     ensures tells_whether_it_is_low { IsTrue result ↔ IsLow (held_in replica.now.held) }
 {

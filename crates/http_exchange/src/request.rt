@@ -103,7 +103,7 @@ fn hand_over<S: Sink>(sink: &mut S, gatherer: &mut Gatherer, pieces: &[&[u8]]) -
     flush(sink, gatherer)
 }
 
-/// Writes the request; one of at most 8,192 bytes is handed over in one piece. Takes no memory.
+/// Writes the request; one that a `Gatherer` has room for is handed over in one piece. Takes no memory.
 ///
 /// # Errors
 /// `Failed` where a write failed; a proper prefix of the request was then taken, and the sink's count of such faults rose.

@@ -58,8 +58,8 @@ fn read_body<S: Source>(
 ///
 /// # Errors
 /// `ReadFailed` where a read failed before the bytes given decided; the source's count of such faults rose. `NoMemory` for want
-/// of memory. Else the first of these that applies: `Head` where there is no head of at most 16,384 bytes and 64 field lines,
-/// `Coding`, `Length`, `TooLong` for a body of more than 16,777,216 bytes, `Short`.
+/// of memory. Else the first of these that applies: `Head` where there is no head of at most `MAX_HEAD` bytes and `MAX_FIELDS` field
+/// lines, `Coding`, `Length`, `TooLong` for a body of more than `MAX_RESPONSE_BODY` bytes, `Short`.
 pub fn read_response<S: Source>(alloc: Global, source: &mut S) -> Result<Response, ResponseFault>
     ensures answers_what_was_given { Answers (S.state source.old).inward (S.state source.new).inward result }
     ensures only_reads_of_the_source { Reads (S.state source.old) (S.state source.new) }

@@ -17,7 +17,7 @@ module _ {M : Type 0} (Takes : M → ℕ → Type 0) (fewer : (machine : M) (n :
   pub none_answered : (old : M) (before : ℕ) → before ≡ 0 → (n : ℕ) → Takes old (n + 1000) → Takes old (n + (1000 - before))
   none_answered old before is n h = let e : n + 1000 ≡ n + (1000 - before) = omega (arith, is) in subst (λ (k : ℕ). Takes old k) e h
 
-  -- One more request of a connection was answered, of at most 1,000, of which so many were answered before.
+  -- One more request of a connection was answered, of at most `MAX_REQUESTS`, of which so many were answered before.
   pub one_answered : (old now next : M) (before after : ℕ) → before < 1000 → after ≡ before + 1 → ((n : ℕ) → Takes old (n + 1000) → Takes now (n + (1000 - before)))
       → ((n : ℕ) → Takes now (suc n) → Takes next n) → (n : ℕ) → Takes old (n + 1000) → Takes next (n + (1000 - after))
   one_answered old now next before after below is so_far one n h =

@@ -141,7 +141,7 @@ fn serve_turns<M: Machine, L: Source + Sink, W: Watchers<M::Edit>>(
 // Serves a connection: each request is read, answered by the machine, told to the watchers where it made a change, and
 // replied to, in this order, until a reply closes the connection, its bytes end, or a read or a write fails. What is no
 // request gets its fixed reply, and for want of memory a request gets the fixed 503; both close. After a read that failed
-// there is no further reply. Takes no memory before the first request. A connection has at most 1,000 requests.
+// there is no further reply. Takes no memory before the first request. A connection has at most `MAX_REQUESTS`.
 pub fn serve_line<M: Machine, L: Source + Sink, W: Watchers<M::Edit>>(
     machine: &mut M,
     buffers: &mut Buffers,

@@ -20,7 +20,7 @@ fn hand_over<S: Sink>(sink: &mut S, gatherer: &mut Gatherer, reply: &Reply) -> R
 }
 
 /// Writes the reply through a gatherer that holds nothing, and holds nothing afterwards, whatever is answered: in one
-/// write where the reply has at most 8,192 bytes. Takes no memory.
+/// write where the gatherer has room for the reply. Takes no memory.
 ///
 /// # Errors
 /// `Failed` where a write failed; a proper prefix of the reply was then taken, and the sink's count of such faults rose.
@@ -41,7 +41,7 @@ pub fn write_reply_through<S: Sink>(
     Ok(())
 }
 
-/// Writes the reply, in one write where it has at most 8,192 bytes. Takes no memory.
+/// Writes the reply, in one write where a `Gatherer` has room for it. Takes no memory.
 ///
 /// # Errors
 /// `Failed` where a write failed; a proper prefix of the reply was then taken, and the sink's count of such faults rose.

@@ -87,7 +87,7 @@ fn document_len(root: &Element) -> usize
 /// The document that shows a flat list.
 ///
 /// # Errors
-/// `TooLarge` exactly where the printed document would have more than 16,777,216 bytes, with their number, or with the greatest `usize` where
+/// `TooLarge` exactly where the printed document would have more than `DOCUMENT_LIMIT` bytes, with their number, or with the greatest `usize` where
 /// that is less; `NoMemory` for want of memory.
 pub fn flat_document(alloc: Global, uris: &[Text]) -> Result<Element, ReadError<FlatFault>>
     ensures document_of_the_list { Answered (λ answer. answer ≡ flat_document uris.now) result }

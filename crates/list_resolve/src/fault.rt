@@ -12,7 +12,7 @@ pub enum FlatFault {
     /// The document isn't held, or has no service with this address.
     #[error("no such service")]
     NoService,
-    /// The walk comes by more than 4,096 references.
+    /// The walk comes by more than `MARK_LIMIT` references.
     #[error("too many references")]
     TooWide,
     /// The document would have so many bytes, printed, and that is too many.

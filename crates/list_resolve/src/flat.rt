@@ -99,7 +99,7 @@ fn flat_of(ground: &Ground<'_>, service: &Spot<'_>) -> Result<List<Text>, FlatEr
 ///
 /// # Errors
 /// `NoService` exactly where the document isn't held or has no service with this address, `TooWide` exactly where the walk of the service comes
-/// by more than 4,096 references; `NoMemory` for want of memory.
+/// by more than `MARK_LIMIT` references; `NoMemory` for want of memory.
 pub fn flat_list(
     alloc: Global,
     store: &Store,

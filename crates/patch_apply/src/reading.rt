@@ -44,8 +44,9 @@ impl Notice {
     }
 }
 
-/// The notice that bytes spell: a document of at most 67 levels whose root is an `xcap-diff` with an `xcap-root`, and each of
-/// whose documents names what it speaks of and a tag, and has operations, or one `body-not-changed` alone (RFC 5874, section 3).
+/// The notice that bytes spell: a document of at most `NOTICE_DEPTH` levels whose root is an `xcap-diff` with an `xcap-root`, and
+/// each of whose documents names what it speaks of and a tag, and has operations, or one `body-not-changed` alone (RFC 5874,
+/// section 3).
 ///
 /// # Errors
 /// `NotADiff` exactly where the bytes spell no such document; `NoMemory` for want of memory.

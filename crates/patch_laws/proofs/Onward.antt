@@ -1,4 +1,4 @@
--- What an operation makes of a proper tree is proper and at most 64 levels deep, whoever wrote the operation.
+-- What an operation makes of a proper tree is proper and at most `MAX_LEVELS` levels deep, whoever wrote the operation.
 use Rattle.std.proofs.Common.{◌≡◌, ◌≢◌, ℕ, suc, ◌+◌, ◌-◌, ◌≤◌, Bool, true, false, cond, not, ◌&&◌, ◌||◌, List, [], ◌∷◌, ◌++◌, map, length, Option, Some, None, IsSome, is_some, option_and_then, option_map, slice_get, bytes_eq, Result, Ok, refl, sym, ap, ◌∙◌, subst, arith}
 use Rattle.std.specs.Prelude.{unwrap_or, nat_le, ◌==◌}
 use Rattle.std.specs.List.{AllByRecursion, IsDistinct, list_all, list_any}

@@ -1,4 +1,4 @@
--- What a notice leaves is proper and at most 64 levels deep, whoever wrote the notice.
+-- What a notice leaves is proper and at most `MAX_LEVELS` levels deep, whoever wrote the notice.
 use Rattle.std.proofs.Common.{◌≡◌, ℕ, suc, ◌+◌, Bool, true, false, cond, List, [], ◌∷◌, ◌++◌, filter, Option, Some, None, option_and_then, Result, Ok, Err, codes, refl, ap, ◌∙◌, subst}
 use Rattle.std.specs.List.{AllByRecursion, list_all}
 use Rattle.xml_tree.specs.Proper.{Proper, ProperIn}

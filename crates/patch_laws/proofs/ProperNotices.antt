@@ -1,4 +1,4 @@
--- A notice of notes is proper and at most 67 levels deep, so its print is read back as it.
+-- A notice of notes is proper and at most `MAX_LEVELS` and three levels deep, so its print is read back as it.
 use Rattle.std.proofs.Common.{◌≡◌, ℕ, zero, suc, ◌+◌, ◌<◌, ◌≤◌, ◌^◌, Bool, true, false, ◌||◌, List, [], ◌∷◌, ◌++◌, map, bytes_eq, codes, decimal, refl, ap, ◌∙◌, arith}
 use Rattle.std.specs.List.{AllByRecursion, IsDistinct, list_all}
 use Rattle.std.specs.Int.Digits.{digits_of}

@@ -103,8 +103,8 @@ pub fn notices_have_one_outcome()
         → ProperIn [] notice → Replays is_mine notice held a → Replays is_mine notice held b → a ≡ b }
 {}
 
-/// A law: what is held stays proper and at most 64 levels deep, whoever wrote the notice or the
-/// operation that is applied, and whatever its selector is taken to say.
+/// A law: what is held stays proper and at most `MAX_LEVELS` levels deep, whoever wrote the notice or
+/// the operation that is applied, and whatever its selector is taken to say.
 pub fn replicas_stay_sound()
     ensures of_one_operation { (read : List ℕ → Option Reading) (c : List (List Decl)) (o t u : Tree) → ProperIn c o → ProperIn [] t → words.applied read c o t ≡ Ok u → IsSound u }
     ensures of_a_whole_notice { (is_mine : List ℕ → Bool) (notice : Tree) (held new : CopyHeld) (answer : CopyAnswer) → ProperIn [] notice → HoldsSound held

@@ -80,8 +80,8 @@ pub fn each_plan_has_an_answer()
     ensures of_a_deletion { (u : Usage) (t : Tree) (selector : Selector) → (selector.end ≡ ends.Namespaces → ⊥) → (r : Result Change EditRefusal) × IsDeletePlan u t selector r }
 {}
 
-/// A planned change is one of the document, and leaves it proper and within 64 levels, where what
-/// is put is proper in the scope of its place and has room there.
+/// A planned change is one of the document, and leaves it proper and within `MAX_LEVELS` levels,
+/// where what is put is proper in the scope of its place and has room there.
 pub fn planned_changes_leave_proper_documents()
     ensures of_an_element { (u : Usage) (t : Tree) (selector : Selector) (spot : Spot) (e : Tree) (change : Change) → IsPutPlan u t selector.steps spot e (Ok change) → IsSpotOf t selector spot
         → ProperIn [] t → height t ≤ most_levels → IsProperAt t spot e → HasRoomAt spot e → LeavesProper t change }

@@ -10,7 +10,7 @@ use crate::statuses::reason;
 use itoa::Buffer;
 use std::marker::Model;
 
-// Up to 384 bytes; a head has at most 299.
+// How many bytes there is room for; a head has at most 299.
 const ROOM: usize = 384;
 
 /// The bytes of a head.

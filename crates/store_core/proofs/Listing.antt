@@ -1,4 +1,4 @@
--- The documents that the index of all services lists, as a store keeps them: each of another user, and each with at most 64 levels.
+-- The documents that the index of all services lists, as a store keeps them: each of another user, and each with at most `MAX_LEVELS` levels.
 use Rattle.std.proofs.Common.{◌≡◌, ◌≢◌, ℕ, ◌≤◌, Bool, true, false, Ordering, Less, Equal, Greater, Bor, List, [], ◌∷◌, map, Option, None, Some, refl, sym, ap, subst, ◌∙◌}
 use Rattle.std.proofs.lemmas.List.Elements.{All-from_recursion}
 use Rattle.std.proofs.lemmas.Option.{same_Some}
@@ -67,7 +67,7 @@ users-apart : (es : List Row) → AreApart (map name_in es) → NamesApart (list
 users-apart [] a = tt
 users-apart (e ∷ es) a = apart-step e es (indexed (held_in e)) refl a.0 (users-apart es a.1)
 
--- ---- their trees have at most 64 levels
+-- ---- their trees have at most `MAX_LEVELS` levels
 
 abbrev IsLow : Pair → Type 0
 IsLow x = height x.1 ≤ 64

@@ -10,7 +10,7 @@ module _ {A : Type 0} (weight : A → ℕ) where
   long : (n w : ℕ) → 64 < n → (nat_le n 64 && nat_le w 65536) ≡ false
   long n w h = grind (arith, nat_tests)
 
-  -- the first of more than 64 items isn't retained
+  -- the first of more than `MOST_NOTES` items isn't retained
   first-goes : (x y : A) (xs : List A) → 64 < length (x ∷ y ∷ xs) → small_end weight (x ∷ y ∷ xs) ≡ small_end weight (y ∷ xs)
   first-goes x y xs h = ap (λ b. cond b (x ∷ y ∷ xs) (small_end weight (y ∷ xs))) (long (length (x ∷ y ∷ xs)) (sum_by weight (x ∷ y ∷ xs)) h)
 
@@ -45,7 +45,7 @@ module _ {A : Type 0} (weight : A → ℕ) where
   popped (x ∷ []) h e = absurd (omega arith)
   popped (x ∷ y ∷ xs) h e = sym (heavy-goes x y xs e)
 
-  -- a note more in a ring that held at most 64
+  -- a note more in a ring that held at most `MOST_NOTES`
   all-kept : (xs : List A) (n : A) (k : ℕ) → k ≡ 0 → small_end weight (drop k (xs ++ n ∷ [])) ≡ small_end weight (xs ++ n ∷ [])
   all-kept xs n k e = ap (λ (i : ℕ). small_end weight (drop i (xs ++ n ∷ []))) e
 

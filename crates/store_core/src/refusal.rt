@@ -7,11 +7,11 @@ use usage_docs::Clash;
 pub enum StoreRefusal {
     /// Another document holds the address of this service.
     ServiceTaken(Clash),
-    /// The document would have so many bytes, more than 262,144.
+    /// The document would have so many bytes, more than `MOST_BYTES`.
     TooLarge(usize),
-    /// 1,000 documents are held.
+    /// `MOST_DOCUMENTS` are held.
     TooMany,
-    /// All documents together would have so many bytes, more than 33,554,432.
+    /// All documents together would have so many bytes, more than `MOST_BYTES_TOGETHER`.
     StoreFull(u64),
     /// The greatest number has been given.
     NoNumber,

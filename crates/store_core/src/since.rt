@@ -99,7 +99,7 @@ impl Store {
 
 /// A law: where a store stands for a kept state and tells notes since a tag, the document has a
 /// version with that tag, the notes lead from it to the version that the document has now, through
-/// sound trees, and they are at most 64.
+/// sound trees, and they are at most `MOST_NOTES`.
 pub fn notes_since_a_version_lead_from_it()
     ensures notes_lead_to_what_is_held { (c : Stock) (m : State) (id : DocId) (tag : ℕ) (ns : List Note) → Kept m → Stands c m → since c id tag ≡ Told ns → IsSince m id tag ns }
 {}

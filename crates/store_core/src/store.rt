@@ -68,7 +68,8 @@ impl Store {
     }
 
     /// The tree and the tag of a document: None exactly where it isn't held. The tree is sound for
-    /// its usage, at most 64 high and at most 262,144 bytes long, printed. Takes no memory.
+    /// its usage, with at most `MAX_LEVELS` levels and at most `MOST_BYTES` bytes, printed. Takes no
+    /// memory.
     pub fn get(&self, doc: &DocId) -> Option<(&Element, u64)>
         ensures version_that_is_held { option_map (λ x. (x.0.now, x.1)) result ≡ option_map {U = Tree × ℕ} (λ h. (h.tree, h.tag)) (document_in held_name self.now.content.documents doc.now) }
         ensures is_low_enough { IfSome result (λ x. height x.0.now ≤ most_levels) }

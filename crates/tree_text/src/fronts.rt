@@ -95,7 +95,7 @@ fn name_len(text: &[char], bytes: &mut [u8; 64]) -> usize
     text.len()
 }
 
-/// How many characters in front are plain in content, 64 at most, and what follows them. They are written as bytes.
+/// How many characters in front are plain in content, `MOST` of them at most, and what follows them. They are written as bytes.
 pub fn plain_in_content<'a>(text: &'a [char], bytes: &mut [u8; 64]) -> (usize, &'a [char])
     ensures text_is_front_and_rest { text.now ≡ take result.0 bytes.new ++ result.1.now }
     ensures length_of_the_plain_run { result.0 ≡ run_len is_plain_in_content (take 64 text.now) }
@@ -107,7 +107,7 @@ pub fn plain_in_content<'a>(text: &'a [char], bytes: &mut [u8; 64]) -> (usize, &
     (len, &text[len..])
 }
 
-/// How many characters in front are plain in a value between these quotes, 64 at most, and what follows them. They are written as bytes.
+/// How many characters in front are plain in a value between these quotes, `MOST` of them at most, and what follows them. They are written as bytes.
 pub fn plain_in_value<'a>(
     text: &'a [char],
     quote: char,

@@ -150,7 +150,7 @@ impl IndexMaker {
     /// they would be too many.
     ///
     /// # Errors
-    /// `TooLarge` exactly where the printed index would have more than 16,777,216 bytes, with their number; else `NoMemory`.
+    /// `TooLarge` exactly where the printed index would have more than `INDEX_LIMIT` bytes, with their number; else `NoMemory`.
     /// The index is then as before.
     pub fn add(&mut self, root: &Element) -> Result<(), ReadError<IndexFault>>
         ensures adds_the_services { OnOk result (self.new ≡ self.old ++ listed root.now) }

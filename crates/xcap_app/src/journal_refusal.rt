@@ -11,7 +11,7 @@ pub enum JournalRefusal {
     Damaged(u64),
     /// The request of this record, counted from 1, makes no change behind those before it.
     Refused(u64),
-    /// It has more than 4,294,967,296 bytes.
+    /// It has more than `MAX_JOURNAL` bytes.
     TooLong,
 }
 

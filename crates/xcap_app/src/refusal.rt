@@ -10,11 +10,11 @@ use xml_tree::print_path;
 /// Why the input of `check` is no valid document, the first reason in this order.
 #[derive(Debug, Drop)]
 pub enum Refusal {
-    /// It has more than 262,144 bytes.
+    /// It has more than `MOST_BYTES` bytes.
     TooLarge,
     /// It isn't UTF-8.
     NotUtf8,
-    /// It spells no tree of at most 64 levels; its first fault is at this byte (XML 1.0; Namespaces in XML 1.0).
+    /// It spells no tree of at most `MAX_LEVELS` levels; its first fault is at this byte (XML 1.0; Namespaces in XML 1.0).
     NotWellFormed(usize),
     /// Its tree is no document of its usage: this is its first fault (RFC 4826, sections 3 and 4).
     Faulty(Fault),

@@ -24,7 +24,7 @@ abbrev pub error_told : Result Tree TextFault → Option (List ℕ)
 error_told (Ok root) = error_in root
 error_told (Err fault) = None
 
--- read as a document of at most 64 levels, the body names this as wrong, or nothing
+-- read as a document of at most `most_levels` levels, the body names this as wrong, or nothing
 pub record NamesError (body : List ℕ) (name : Option (List ℕ)) : Type 0 where
   pub document : Result Tree TextFault
   pub read : TextAnswer most_levels [] body document

@@ -8,7 +8,7 @@ use std::marker::Model;
 // How many bytes are held at most.
 const ROOM: usize = 8192;
 
-/// Up to 8,192 bytes that are still to be handed over to a sink. It stands beside the sink, and takes no memory.
+/// Up to `ROOM` bytes that are still to be handed over to a sink. It stands beside the sink, and takes no memory.
 #[derive(Drop)]
 pub struct Gatherer {
     bytes: [u8; 8192],

@@ -1,5 +1,6 @@
 -- A note as code keeps it, with its weight.
 use Rattle.std.specs.Prelude.{◌≡◌, min}
+use Rattle.xml_tree.specs.Limits.{greatest_u64}
 use Rattle.notes.specs.Notes.{Note}
 use Rattle.notes.specs.Operations.{weight}
 use Rattle.notes.specs.declared.edit_note.KeptNote.{KeptNote}
@@ -9,4 +10,4 @@ note_in n = record { previous = n.previous; next = n.next; bindings = n.bindings
 
 -- it says how much it weighs; of more than the greatest number, that
 abbrev pub IsWeighed : KeptNote → Type 0
-IsWeighed n = n.weight ≡ min (weight (note_in n)) 18446744073709551615
+IsWeighed n = n.weight ≡ min (weight (note_in n)) greatest_u64

@@ -7,7 +7,7 @@ use Rattle.list_resolve.specs.inner.Views.{ground_in}
 use Rattle.list_resolve.proofs.Walks.{nodes_items}
 use Rattle.list_resolve.proofs.walk.+walk.Given as goal
 
--- by how many elements may still be added to the chain, then by height, which is at most 64 where a reference leads to
+-- by how many elements may still be added to the chain, then by height, which is at most `MAX_LEVELS` where a reference leads to
 abbrev pub decreases-walk_inside : goal.decreases-walk_inside
 decreases-walk_inside l = 300 * l.left + 3 * height l.element.now
 
