@@ -70,11 +70,11 @@ abbrev pub target_fault : SelectorFault → UriFault
 target_fault (selectors.BadSelector place) = BadSelector
 target_fault (selectors.UnboundPrefix place) = UnboundPrefix
 
--- the answer that the selector of a part has, with these bindings; unprefixed elements are in the namespace of the usage
+-- the answer that the text of a selector has, with these bindings; unprefixed elements are in the namespace of the usage
 abbrev pub IsPartAnswer : List Decl → Auid → List ℕ → Result Selector SelectorFault → Type 0
 IsPartAnswer bindings auid text = IsSelectorAnswer bindings (chars (namespace_of auid)) (encode_utf8_all text)
 
--- the part of a document, or the selector's fault
+-- the node of a document, or the selector's fault
 abbrev pub node_of : DocId → Result Selector SelectorFault → Result Target UriFault
 node_of doc (Ok selector) = Ok (Node doc selector)
 node_of doc (Err fault) = Err (target_fault fault)
@@ -85,7 +85,7 @@ is_element ends.Element = true
 is_element (ends.Attribute uri local) = false
 is_element ends.Namespaces = false
 
--- the notice about a part, or the selector's fault
+-- the notice about an element, or the selector's fault
 abbrev pub element_feed_of : ℕ → DocId → List ℕ → Result Selector SelectorFault → Result Target UriFault
 element_feed_of tag doc raw (Ok selector) = if is_element selector.end then Ok (ElementFeed tag doc selector raw) else Err BadSelector
 element_feed_of tag doc raw (Err fault) = Err (target_fault fault)

@@ -1,4 +1,4 @@
-//! What the segments of an address name: a document or a part of one (RFC 4825, section 6.2), or under `~feed` and `~flat`, which are this
+//! What the segments of an address name: a document or a node of one (RFC 4825, section 6.2), or under `~feed` and `~flat`, which are this
 //! server's own, what changed and the flat list of a service.
 ghost use Rattle.std.specs.Prelude.{◌≡◌, IfOk};
 ghost use Rattle.std.specs.List.{list_any};
@@ -82,7 +82,7 @@ fn tag_of(text: &Text) -> Option<u64>
     numeral(text.as_str().as_bytes())
 }
 
-// A document, or with a selector a part of it.
+// A document, or with a selector a node of it.
 fn document(doc: DocId, selector: Option<Text>) -> Result<Shape, ReadError<UriFault>>
     ensures names_the_document { result ≡ document doc selector }
 {

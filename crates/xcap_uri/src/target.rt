@@ -89,7 +89,7 @@ fn under_root<'a>(root: &Root, target: &'a [u8]) -> Option<&'a [u8]>
     }
 }
 
-// The selector of a part of a document.
+// The selector that a text spells in a document of this usage.
 fn part(
     alloc: Global,
     bindings: &Bindings,

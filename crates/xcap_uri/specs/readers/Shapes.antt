@@ -44,7 +44,7 @@ mode_of name =
 
 -- ---- documents
 
--- a document, or with a selector a part of it; an empty selector is none
+-- a document, or with a selector a node of it; an empty selector is none
 abbrev pub document : DocId → Option (List ℕ) → Result Shape UriError
 document doc None = Ok (Document doc)
 document doc (Some []) = Err (Fault BadShape)

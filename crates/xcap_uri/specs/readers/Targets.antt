@@ -49,7 +49,7 @@ abbrev pub as_target_part : Result Selector SelectorFault → Result Selector Ur
 as_target_part (Ok selector) = Ok selector
 as_target_part (Err fault) = Err (Fault (target_fault fault))
 
--- the selector of a part of a document
+-- the selector that a text spells in a document of this usage
 abbrev pub part_read : List Decl → Auid → List ℕ → Result Selector UriError
 part_read bindings auid text = as_target_part (selector_read bindings (chars (namespace_of auid)) (encode_utf8_all text))
 
