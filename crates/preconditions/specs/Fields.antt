@@ -1,5 +1,5 @@
 -- What the fields `If-Match` and `If-None-Match` of a request say. RFC 9110, sections 5.2 (lines of one field), 13.1.1 and 13.1.2.
-use Rattle.std.specs.Prelude.{◌≡◌, ◌≢◌, ℕ, List, [], ◌∷◌, Option, None, Some, codes}
+use Rattle.std.specs.Prelude.{◌≡◌, ◌≢◌, ℕ, List, [], Option, None, Some, codes}
 use Rattle.preconditions.specs.declared.tags.EntityTag.{EntityTag}
 use Rattle.preconditions.specs.Tags.{comma_joined, SpellsTags}
 

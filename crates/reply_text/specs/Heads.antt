@@ -1,6 +1,6 @@
 -- The bytes of a reply. RFC 9112, sections 2.1 (message), 4 (status line), 5 (field lines), 6.2 (Content-Length) and 9.6 (close);
 -- RFC 9110, sections 8.3 (Content-Type), 8.8.3 (ETag) and 10.2.1 (Allow).
-use Rattle.std.specs.Prelude.{ℕ, ◌==◌, Bool, List, [], ◌∷◌, ◌++◌, Option, codes, decimal, None, if◌then◌else◌}
+use Rattle.std.specs.Prelude.{ℕ, ◌==◌, Bool, List, [], ◌++◌, Option, codes, decimal, None, if◌then◌else◌}
 use Rattle.std.specs.Option.{option_map_or}
 use Rattle.reply_text.specs.declared.media_types.Media.{Media}
 use Rattle.reply_text.specs.declared.media_types.Media.TheVariants.{ResourceLists, RlsServices, XcapCaps, Element, Attribute, Namespaces, Error, Diff}

@@ -1,5 +1,5 @@
 -- What comes of a sample: how its requests were answered, and what is held then. This is the project's own.
-use Rattle.std.specs.Prelude.{◌≡◌, ℕ, ◌-◌, ◌==◌, true, List, [], ◌∷◌, ◌++◌, codes, decimal, length, map, count_by, sum_by}
+use Rattle.std.specs.Prelude.{◌≡◌, ℕ, ◌-◌, ◌==◌, true, List, ◌++◌, codes, decimal, length, map, count_by, sum_by}
 use Rattle.xcap_io.specs.Histories.{Traffic}
 use Rattle.http_wire.specs.Serving.{ServesAll}
 use Rattle.http_serve.specs.Fixed.{fixed}

@@ -1,5 +1,5 @@
 -- What the notes of a ring count against the limit of their weights.
-use Rattle.std.proofs.Common.{◌≡◌, ℕ, ◌+◌, ◌*◌, ◌<◌, ◌≤◌, nat_lt, min, true, false, cond, List, [], ◌∷◌, ◌++◌, length, drop, slice_get, sum_by, Option, None, Some, refl, arith}
+use Rattle.std.proofs.Common.{◌≡◌, ℕ, ◌+◌, ◌<◌, ◌≤◌, nat_lt, true, false, cond, [], ◌∷◌, ◌++◌, length, drop, slice_get, Option, None, Some, refl, arith}
 use Rattle.std.proofs.lemmas.Bool.Decides.{nat_tests}
 use Rattle.circular_buffer.specs.Buffer.{Buffer, buffer, keep_last}
 use Rattle.notes.specs.Notes.{Note}

@@ -1,5 +1,5 @@
 -- How a run of the program can end. The statuses and texts are the project's own.
-use Rattle.std.specs.Prelude.{ℕ, List, [], ◌∷◌, ◌++◌, codes, decimal, encode_utf8_all, string_bytes}
+use Rattle.std.specs.Prelude.{ℕ, List, [], ◌++◌, codes, decimal, encode_utf8_all, string_bytes}
 use Rattle.xml_tree.specs.PathTexts.{path_text}
 use Rattle.usage_docs.specs.Keys.{word}
 use Rattle.usage_docs.specs.declared.judging.Fault.TheVariants.{Invalid, Unformed, Repeated}

@@ -29,7 +29,7 @@ use Rattle.xcap_app.specs.Frames.{JustWritten}
 use Rattle.xcap_app.specs.Serves.{IsComplete}
 use Rattle.xcap_app.specs.Telling.{IsTold as IsToldAs}
 use Rattle.xcap_app.specs.declared.exit.Exit.{Exit}
-use Rattle.xcap_app.specs.declared.exit.Exit.TheVariants.{Done, InputFailed, OutputFailed, NetworkFailed, Refused, BadJournal, OutOfMemory}
+use Rattle.xcap_app.specs.declared.exit.Exit.TheVariants.{Done, InputFailed, OutputFailed, NetworkFailed, BadJournal, OutOfMemory}
 use Rattle.xcap_app.specs.declared.journal_refusal.JournalRefusal.TheVariants as refusals
 
 -- how the command ends that couldn't read its old journal

@@ -1,4 +1,4 @@
-use Rattle.std.proofs.Common.{ℕ, ap, map, ◌∙◌}
+use Rattle.std.proofs.Common.{ℕ, ap, ◌∙◌}
 use Rattle.notes.specs.Notes.{tag_after}
 use Rattle.patch_text.proofs.Listing.{tag-joined}
 use Rattle.patch_text.proofs.notices.last_tag_in.Goals as goal

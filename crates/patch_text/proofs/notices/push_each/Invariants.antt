@@ -1,4 +1,4 @@
-use Rattle.std.proofs.Common.{◌≡◌, map, take}
+use Rattle.std.proofs.Common.{◌≡◌, take}
 use Rattle.patch_words.specs.Notices.{one_by_one}
 use Rattle.patch_text.specs.inner.Lists.{with_all}
 use Rattle.patch_text.proofs.notices.push_each.Given as goal

@@ -1,4 +1,4 @@
-use Rattle.std.proofs.Common.{◌≡◌, map, take}
+use Rattle.std.proofs.Common.{◌≡◌, take}
 use Rattle.patch_words.specs.Notices.{operations}
 use Rattle.patch_text.specs.inner.Lists.{with_all}
 use Rattle.patch_text.proofs.notices.push_operations.Given as goal
