@@ -6,7 +6,8 @@ use Rattle.xml_tree.specs.Tree.{Tree, tree_of, Content, more_of, of_kids}
 use Rattle.xml_tree.specs.Edits.{with_elem}
 use Rattle.usage_docs.specs.Services.{document_len}
 use Rattle.list_resolve.specs.declared.fault.FlatFault.TheVariants.{TooLarge}
-use Rattle.list_resolve.specs.Documents.{entry_tree, list_tree, flat_tree, flat_document, document_limit}
+use Rattle.list_resolve.specs.declared.document.TheConstants.{DOCUMENT_LIMIT}
+use Rattle.list_resolve.specs.Documents.{entry_tree, list_tree, flat_tree, flat_document}
 
 kid_more : (es : List Tree) (e : Tree) → with_elem e (of_kids es) ≡ of_kids (es ++ e ∷ [])
 kid_more [] e = refl
@@ -29,18 +30,18 @@ list_next us i u old new e h lt there made pushed =
     ap (λ (x : Tree). with_elem x (of_kids (map entry_tree (take i us)))) made ∙ sym (entries_next us i u lt there) in
     pushed ∙ ap (λ (o : Tree). with_entry e o) h ∙ ap (λ (k : Content). tree_of (list_tree us).name [] [] k) same
 
-beyond : (n : ℕ) → document_limit < n → nat_lt document_limit n ≡ true
+beyond : (n : ℕ) → DOCUMENT_LIMIT < n → nat_lt DOCUMENT_LIMIT n ≡ true
 beyond n lt = grind (arith, common_steps)
 
-pub too_large : (uris : List (List ℕ)) (root : Tree) (len : ℕ) → root ≡ flat_tree uris → len ≡ min (document_len root) 18446744073709551615 → document_limit < len → flat_document uris ≡ Err (TooLarge len)
+pub too_large : (uris : List (List ℕ)) (root : Tree) (len : ℕ) → root ≡ flat_tree uris → len ≡ min (document_len root) 18446744073709551615 → DOCUMENT_LIMIT < len → flat_document uris ≡ Err (TooLarge len)
 too_large uris root len e counted lt =
     let whole : len ≡ min (document_len (flat_tree uris)) 18446744073709551615 = counted ∙ ap (λ (t : Tree). min (document_len t) 18446744073709551615) e in
     rw (beyond (document_len (flat_tree uris)) (omega arith)) (ap (λ n. Err (TooLarge n)) (sym whole))
 
-within : (n : ℕ) → n ≤ document_limit → nat_lt document_limit n ≡ false
+within : (n : ℕ) → n ≤ DOCUMENT_LIMIT → nat_lt DOCUMENT_LIMIT n ≡ false
 within n le = grind (arith, common_steps)
 
-pub not_too_large : (uris : List (List ℕ)) (root : Tree) (len : ℕ) → root ≡ flat_tree uris → len ≡ min (document_len root) 18446744073709551615 → len ≤ document_limit → Ok root ≡ flat_document uris
+pub not_too_large : (uris : List (List ℕ)) (root : Tree) (len : ℕ) → root ≡ flat_tree uris → len ≡ min (document_len root) 18446744073709551615 → len ≤ DOCUMENT_LIMIT → Ok root ≡ flat_document uris
 not_too_large uris root len e counted le =
     let whole : len ≡ min (document_len (flat_tree uris)) 18446744073709551615 = counted ∙ ap (λ (t : Tree). min (document_len t) 18446744073709551615) e in
     rw (within (document_len (flat_tree uris)) (omega arith)) (ap Ok e)

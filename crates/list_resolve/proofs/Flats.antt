@@ -1,12 +1,20 @@
 -- What was gathered of a walk is its flat list.
-use Rattle.std.proofs.Common.{◌≡◌, ◌≤◌, ◌<◌, ◌+◌, ℕ, true, false, nat_lt, cond, List, [], ◌∷◌, fold, Result, Ok, Err, IsErrAnd, subst, refl, sym, ap, ◌∙◌, arith}
+use Rattle.std.proofs.Common.{◌≡◌, ◌≤◌, ◌<◌, ◌+◌, ℕ, true, false, nat_lt, cond, List, [], ◌∷◌, fold, filter_map, count_by, Result, Ok, Err, IsErrAnd, subst, refl, sym, ap, ◌∙◌, arith}
 use Rattle.std.proofs.lemmas.Grind.{common_steps}
 use Rattle.list_resolve.specs.declared.fault.FlatFault.TheVariants.{NoService, TooWide, TooLarge}
 use Rattle.xml_tree.specs.declared.read_error.ReadError.TheVariants.{Fault, NoMemory}
 use Rattle.xml_tree.specs.Memory.{Answered}
 use Rattle.list_resolve.specs.Walks.{Item, address, mark}
-use Rattle.list_resolve.specs.Flat.{addresses, is_mark, marks, with_address, flat_of, mark_limit}
+use Rattle.list_resolve.specs.declared.gatherer.TheConstants.{MARK_LIMIT}
+use Rattle.list_resolve.specs.Flat.{address_of, is_mark, with_address, flat_of}
 use Rattle.list_resolve.specs.inner.Gathering.{FlatError, Tally, Fails, no_items, with_item, with_items}
+
+-- the addresses of a walk, in order, and how many references it came by
+abbrev addresses : List Item → List (List ℕ)
+addresses items = filter_map address_of items
+
+abbrev marks : List Item → ℕ
+marks items = count_by is_mark items
 
 uris_are : (items : List Item) (s : Tally) → (with_items s items).uris ≡ fold with_address s.uris (addresses items)
 uris_are [] s = refl
@@ -21,20 +29,20 @@ marks_from (mark ∷ items) s n h = marks_from items (with_item s mark) (n + 1) 
 marks_are : (items : List Item) → (with_items no_items items).marks ≡ marks items
 marks_are items = marks_from items no_items 0 refl
 
-within : (n : ℕ) → n ≤ mark_limit → nat_lt mark_limit n ≡ false
+within : (n : ℕ) → n ≤ MARK_LIMIT → nat_lt MARK_LIMIT n ≡ false
 within n le = grind (arith, common_steps)
 
-beyond : (n : ℕ) → mark_limit < n → nat_lt mark_limit n ≡ true
+beyond : (n : ℕ) → MARK_LIMIT < n → nat_lt MARK_LIMIT n ≡ true
 beyond n lt = grind (arith, common_steps)
 
-pub flat_is : (items : List Item) (s : Tally) → s ≡ with_items no_items items → s.marks ≤ mark_limit → flat_of items ≡ Ok s.uris
+pub flat_is : (items : List Item) (s : Tally) → s ≡ with_items no_items items → s.marks ≤ MARK_LIMIT → flat_of items ≡ Ok s.uris
 flat_is items s e le =
     let same : s.marks ≡ marks items = ap (λ g. g.marks) e ∙ marks_are items in
-    let few : nat_lt mark_limit (marks items) ≡ false = within (marks items) (omega arith) in
+    let few : nat_lt MARK_LIMIT (marks items) ≡ false = within (marks items) (omega arith) in
     let all : s.uris ≡ fold with_address [] (addresses items) = ap (λ g. g.uris) e ∙ uris_are items no_items in
     rw few (ap Ok (sym all))
 
-pub wide_is : (items : List Item) → mark_limit < (with_items no_items items).marks → flat_of items ≡ Err TooWide
+pub wide_is : (items : List Item) → MARK_LIMIT < (with_items no_items items).marks → flat_of items ≡ Err TooWide
 wide_is items lt =
     let same : (with_items no_items items).marks ≡ marks items = marks_are items in
     rw (beyond (marks items) (omega arith)) refl

@@ -1,5 +1,5 @@
 -- Where references lead: each to one place at most, where the element is found again.
-use Rattle.std.proofs.Common.{◌≡◌, ℕ, Bool, true, false, cond, ◌&&◌, List, Option, None, Some, IfSome, Result, Ok, Err, option_and_then, option_map, encode_utf8_all, refl, sym, ap, ◌∙◌, subst}
+use Rattle.std.proofs.Common.{◌≡◌, ℕ, Bool, true, false, cond, ◌&&◌, List, Option, None, Some, IfSome, Result, Ok, Err, option_and_then, option_map, encode_utf8_all, if◌then◌else◌, refl, sym, ap, ◌∙◌, subst}
 use Rattle.std.proofs.lemmas.Bool.{and_parts}
 use Rattle.xml_tree.specs.Tree.{Tree}
 use Rattle.node_select.specs.Selection.{selected_in}
@@ -22,10 +22,9 @@ use Rattle.xcap_uri.proofs.TargetAnswers.{one_target, some_target}
 use Rattle.list_resolve.specs.declared.place.Place.{Place}
 use Rattle.list_resolve.specs.declared.reference.Wanted.{Wanted}
 use Rattle.list_resolve.specs.declared.reference.Reference.{Reference}
-use Rattle.list_resolve.specs.Places.{place_of}
 use Rattle.list_resolve.specs.References.{is_wanted}
 use Rattle.list_resolve.specs.Spots.{Spot, list_spot}
-use Rattle.list_resolve.specs.Leads.{Ground, Lead, ReferenceLeadsTo, AreLeads, is_own, lead, lead_at, lead_by, lead_if, lead_of, tree_held}
+use Rattle.list_resolve.specs.Leads.{Ground, Lead, AreLeads, is_own, lead_at, lead_of, tree_held}
 use Rattle.list_resolve.specs.declared.leads.Lead.{Lead as CodeLead}
 use Rattle.list_resolve.specs.inner.Views.{lead_in, spot_in}
 use Rattle.list_resolve.specs.inner.Passing.{leads_in, lists_named, spot_at, target_meant}
@@ -47,7 +46,7 @@ is_meant root target = (some_target root (encode_utf8_all target)).1
 pub are_leads : (g : Ground) → AreLeads g (leads_in g)
 are_leads g = λ r. (target_meant g.root r.target, is_meant g.root r.target, refl)
 
-one_lead : (g : Ground) (r : Reference) (found : Option Lead) → ReferenceLeadsTo g r found → found ≡ leads_in g r
+one_lead : (g : Ground) (r : Reference) (found : Option Lead) → ((read : Result Target UriFault) × TargetAnswer g.root (encode_utf8_all r.target) read × (found ≡ lead_of g r.wanted read)) → found ≡ leads_in g r
 one_lead g r found (read, is, e) = e ∙ led g r read is
 
 -- there is one map of all references
@@ -64,6 +63,20 @@ fault_led g r bytes error fault same told answers =
     led g r (Err fault) (subst (λ (z : List ℕ). TargetAnswer g.root z (Err fault)) same is)
 
 -- ---- the place of what a reference leads to
+
+abbrev place_of : List ℕ → List ℕ → Place
+place_of name path = record { name = name; path = path }
+
+abbrev lead : Place → Spot → Lead
+lead place spot = record { place = place; spot = spot }
+
+-- the element at a place, if it is of the kind that is wanted
+abbrev lead_if : Wanted → Place → Spot → Option Lead
+lead_if wanted place spot = if is_wanted wanted spot.kind then Some (lead place spot) else None
+
+-- the element that a selector selects in a document with this name
+abbrev lead_by : Wanted → List ℕ → Selector → Tree → Option Lead
+lead_by wanted name selector root = option_and_then (lead_at wanted name root) (selected_in selector.steps root)
 
 own_name : (home : Home) (doc : DocId) → is_own home doc ≡ true → doc ≡ lists_named home doc.name
 own_name home doc own =

@@ -1,5 +1,6 @@
 -- A service address has exactly one answer in a document.
 use Rattle.std.proofs.Common.{◌≡◌, ℕ, List, Option, None, Some, Result, Ok, Err, option_and_then, refl, sym, ap, ◌∙◌}
+use Rattle.std.specs.Option.{option_map_or}
 use Rattle.doc_names.specs.declared.doc_id.DocId.{DocId}
 use Rattle.store_core.specs.Held.{Stock}
 use Rattle.list_resolve.specs.declared.fault.FlatFault.{FlatFault}
@@ -10,10 +11,18 @@ use Rattle.list_resolve.specs.inner.Gathering.{FlatError}
 use Rattle.list_resolve.specs.Spots.{Spot}
 use Rattle.list_resolve.specs.Walks.{walk}
 use Rattle.list_resolve.specs.declared.reference.Reference.{Reference}
-use Rattle.list_resolve.specs.Leads.{Lead, tree_held}
-use Rattle.list_resolve.specs.Flat.{IsFlatList, flat_if, flat_of, ground, service_of}
+use Rattle.list_resolve.specs.Leads.{Ground, Lead, tree_held}
+use Rattle.list_resolve.specs.Flat.{IsFlatList, flat_of, service_of}
 use Rattle.list_resolve.specs.inner.Passing.{leads_in}
 use Rattle.list_resolve.proofs.Leading.{are_leads, one_map}
+
+-- what the references of a service are read against
+abbrev ground : Stock → List ℕ → DocId → Ground
+ground c root doc = record { documents = c.documents; root = root; home = doc.home }
+
+-- the flat list of the walk of a service, if there is one
+abbrev flat_if : (Reference → Option Lead) → List ℕ → Option Spot → Result (List (List ℕ)) FlatFault
+flat_if leads root found = option_map_or (λ service. flat_of (walk leads root service)) found (Err NoService)
 
 -- what the code computes is an answer
 pub answer_is : (c : Stock) (root : List ℕ) (doc : DocId) (uri : List ℕ) (answer : Result (List (List ℕ)) FlatFault)

@@ -2,7 +2,7 @@
 use Rattle.std.proofs.Common.{◌≡◌, ℕ, Bool, true, false, cond, ◌||◌, List, [], ◌∷◌, ◌++◌, Option, None, Some, refl, sym, ap, subst, ◌∙◌, arith}
 use Rattle.std.specs.List.{AllByRecursion, list_any}
 use Rattle.std.proofs.lemmas.Option.{same_Some}
-use Rattle.std.specs.Option.{ForSome}
+use Rattle.std.specs.Option.{ForSome, option_map_or}
 use Rattle.std.specs.Str.{bytes_eq}
 use Rattle.std.specs.Cmp.Lexicographic.{bytes_decides}
 use Rattle.xml_tree.specs.Tree.{Content, last, more, note}
@@ -16,11 +16,11 @@ use Rattle.list_resolve.specs.References.{reference_of}
 use Rattle.list_resolve.specs.Places.{same_place, is_on}
 use Rattle.list_resolve.specs.Spots.{Spot}
 use Rattle.list_resolve.specs.Leads.{Ground}
-use Rattle.list_resolve.specs.Walks.{Item, address, mark, entry_items, given, given_if, reference_items, spot_items, walked}
+use Rattle.list_resolve.specs.Walks.{Item, address, mark, given, spot_items, walked}
 use Rattle.list_resolve.specs.inner.Gathering.{Tally, Gathered, gathering, passing, with_item, with_items}
 use Rattle.list_resolve.specs.inner.Passing.{AreGathered, IsPassed, IsSound, own_items, spot_at}
 use Rattle.list_resolve.specs.inner.PlaceTests.{place_exact}
-use Rattle.list_resolve.proofs.Walks.{marks_rise}
+use Rattle.list_resolve.proofs.Walks.{marks_rise, reference_items}
 
 -- ---- addresses stay
 
@@ -78,6 +78,10 @@ gathered_now (address uri ∷ items) s h = (stays_through uri items (with_item s
 gathered_now (mark ∷ items) s h = let rise = marks_rise items (with_item s mark) in absurd (omega arith)
 
 -- ---- without references it doesn't matter what stands behind one
+
+-- what a child gives, if it is of a kind
+abbrev given_if : (Reference → List Item) → List ℕ → Option Kind → List Attr → Content → List Item → List Item
+given_if behind root found ats k items = option_map_or (λ kind. given behind root kind ats k items) found []
 
 module _ (one other : Reference → List Item) (root : List ℕ) (uris : List (List ℕ)) where
   unreferred : (r : Option Reference) → AreGathered uris (reference_items one r) → reference_items one r ≡ reference_items other r
@@ -189,6 +193,10 @@ pub passed_there : (g : Ground) (s : Gathered) (p : Place) → is_on s.passed p 
 passed_there g s p h sound = one_of (IsPassed g s.tally.uris) p s.passed h sound
 
 -- ---- what the code gathers
+
+-- an entry gives its address
+abbrev entry_items : Option (List ℕ) → List Item
+entry_items found = option_map_or (λ uri. address uri ∷ []) found []
 
 pub entry_gathered : (g : Ground) (uri : List ℕ) (o : Option (List ℕ)) (old new : Gathered) → Some uri ≡ o → new ≡ gathering old (address uri) → IsSound g old
     → (new.tally ≡ with_items old.tally (entry_items o)) × IsSound g new

@@ -1,5 +1,6 @@
 -- A walk node by node, and what is gathered of it part by part.
-use Rattle.std.proofs.Common.{◌≡◌, ◌≤◌, ◌<◌, ◌+◌, ◌-◌, ℕ, zero, suc, List, [], ◌∷◌, ◌++◌, Option, drop, get_or, length, Result, Ok, Err, IsErrAnd, subst, refl, sym, ap, ◌∙◌, arith}
+use Rattle.std.proofs.Common.{◌≡◌, ◌≤◌, ◌<◌, ◌+◌, ◌-◌, ℕ, zero, suc, List, [], ◌∷◌, ◌++◌, Option, drop, get_or, length, Result, Ok, Err, IsErrAnd, if◌then◌else◌, subst, refl, sym, ap, ◌∙◌, arith}
+use Rattle.std.specs.Option.{option_map_or}
 use Rattle.std.proofs.lemmas.List.{drop_more}
 use Rattle.xml_tree.specs.Tree.{Content, last, more, note, Tree}
 use Rattle.xml_tree.specs.Edits.{with_text_before}
@@ -13,10 +14,12 @@ use Rattle.xml_tree.specs.declared.read_error.ReadError.TheVariants.{Fault, NoMe
 use Rattle.list_resolve.specs.declared.reference.Reference.{Reference}
 use Rattle.list_resolve.specs.declared.place.Place.{Place}
 use Rattle.list_resolve.specs.Leads.{Ground, Lead}
-use Rattle.list_resolve.specs.Walks.{Item, address, mark, walked, kid_items, behind, led_items}
+use Rattle.list_resolve.specs.Places.{is_on}
+use Rattle.list_resolve.specs.Walks.{Item, address, mark, walked, spot_items, behind}
+use Rattle.list_resolve.specs.inner.Kids.{kid_items}
 use Rattle.list_resolve.specs.inner.Gathering.{FlatError, Tally, Gathered, Fails, with_item, with_items}
 use Rattle.list_resolve.specs.inner.Passing.{Gathers}
-use Rattle.list_resolve.specs.Flat.{mark_limit}
+use Rattle.list_resolve.specs.declared.gatherer.TheConstants.{MARK_LIMIT}
 
 -- ---- node by node
 
@@ -46,10 +49,23 @@ pub at_elem : (behind : Reference → List Item) (root : List ℕ) (row : Kind) 
 at_elem behind root row c ns i x kid lt there is =
     ap (nodes_items behind root row c) (drop_more ns i x lt ∙ ap (λ y. y ∷ drop (i + 1) ns) (sym there ∙ is))
 
+-- ---- what references give
+
+-- a reference gives a mark, and then what stands behind it
+abbrev pub reference_items : (Reference → List Item) → Option Reference → List Item
+reference_items behind found = option_map_or (λ r. mark ∷ behind r) found []
+
+-- an element that a reference leads to gives what it does unless it is on the chain
+abbrev pub lead_items : (List Place → Reference → List Item) → List ℕ → List Place → Lead → List Item
+lead_items behind root chain l = if is_on chain l.place then [] else spot_items (behind (l.place ∷ chain)) root l.spot
+
+abbrev pub led_items : (List Place → Reference → List Item) → List ℕ → List Place → Option Lead → List Item
+led_items behind root chain found = option_map_or (lead_items behind root chain) found []
+
 -- what stands behind a mark, where an element may still be added to the chain
 pub behind_left : (leads : Reference → Option Lead) (root : List ℕ) (left : ℕ) (chain : List Place) (r : Reference) → 0 < left → behind leads root left chain r ≡ led_items (behind leads root (left - 1)) root chain (leads r)
 behind_left leads root zero chain r h = absurd (omega arith)
-behind_left leads root (suc n) chain r h = let e : suc n - 1 ≡ n = omega arith in rw e refl
+behind_left leads root (suc n) chain r h = let e : n ≡ suc n - 1 = omega arith in ap (λ (m : ℕ). led_items (behind leads root m) root chain (leads r)) e
 
 -- ---- part by part
 
@@ -80,7 +96,7 @@ pub fails_before : (items more_items whole : List Item) (s start : Tally) (fault
     → with_items s (items ++ more_items) ≡ with_items start whole → Fails items s fault → Fails whole start fault
 fails_before items more_items whole s start (Fault NoService) e h = h
 fails_before items more_items whole s start (Fault TooWide) e h =
-    let wide : mark_limit < (with_items s (items ++ more_items)).marks = fails_in_part items more_items s (Fault TooWide) h in
+    let wide : MARK_LIMIT < (with_items s (items ++ more_items)).marks = fails_in_part items more_items s (Fault TooWide) h in
     let same : (with_items s (items ++ more_items)).marks ≡ (with_items start whole).marks = ap (λ g. g.marks) e in
     omega arith
 fails_before items more_items whole s start (Fault (TooLarge len)) e h = h

@@ -4,20 +4,15 @@ use Rattle.xml_tree.specs.Tree.{Tree, tree_of, of_kids}
 use Rattle.xml_tree.specs.Limits.{greatest_u64}
 use Rattle.xml_tree.specs.Scopes.{decl_of}
 use Rattle.xml_tree.specs.Expanded.{name_of}
-use Rattle.xml_tree.specs.declared.names.Attr.{Attr}
 use Rattle.usage_docs.specs.Rows.{lists_space}
 use Rattle.usage_docs.specs.Services.{document_len}
 use Rattle.list_resolve.specs.declared.document.TheConstants.{DOCUMENT_LIMIT}
 use Rattle.list_resolve.specs.declared.fault.FlatFault.{FlatFault}
 use Rattle.list_resolve.specs.declared.fault.FlatFault.TheVariants.{TooLarge}
 
--- the attribute `uri="U"`
-abbrev pub uri_attr : List ℕ → Attr
-uri_attr uri = record { name = name_of [] (codes "uri"); value = uri }
-
 -- `<entry uri="U"/>`
 abbrev pub entry_tree : List ℕ → Tree
-entry_tree uri = tree_of (name_of [] (codes "entry")) [] (uri_attr uri ∷ []) (of_kids [])
+entry_tree uri = tree_of (name_of [] (codes "entry")) [] (record { name = name_of [] (codes "uri"); value = uri } ∷ []) (of_kids [])
 
 -- `<list>`, the entries in order, `</list>`
 abbrev pub list_tree : List (List ℕ) → Tree
@@ -27,13 +22,9 @@ list_tree uris = tree_of (name_of [] (codes "list")) [] [] (of_kids (map entry_t
 abbrev pub flat_tree : List (List ℕ) → Tree
 flat_tree uris = tree_of (name_of [] (codes "resource-lists")) (decl_of [] lists_space ∷ []) [] (of_kids (list_tree uris ∷ []))
 
--- the greatest length of such a document, printed
-abbrev pub document_limit : ℕ
-document_limit = DOCUMENT_LIMIT
-
--- the document of a flat list, unless it would be longer
+-- the document of a flat list, unless it would have more than `DOCUMENT_LIMIT` bytes, printed
 abbrev pub flat_document : List (List ℕ) → Result Tree FlatFault
 flat_document uris =
-    if nat_lt document_limit (document_len (flat_tree uris))
+    if nat_lt DOCUMENT_LIMIT (document_len (flat_tree uris))
     then Err (TooLarge (min (document_len (flat_tree uris)) greatest_u64))
     else Ok (flat_tree uris)

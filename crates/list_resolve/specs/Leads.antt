@@ -3,7 +3,6 @@
 use Rattle.std.specs.Prelude.{◌≡◌, ℕ, Bool, ◌&&◌, List, Option, None, Some, Result, Ok, option_map, option_and_then, encode_utf8_all, if◌then◌else◌}
 use Rattle.xml_tree.specs.Tree.{Tree}
 use Rattle.node_select.specs.Selection.{selected_in}
-use Rattle.node_select.specs.declared.selector.Selector.{Selector}
 use Rattle.doc_names.specs.Same.{same_auid, same_home}
 use Rattle.doc_names.specs.declared.doc_id.Auid.TheVariants as auids
 use Rattle.doc_names.specs.declared.doc_id.Home.{Home}
@@ -18,7 +17,6 @@ use Rattle.list_resolve.specs.declared.place.Place.{Place}
 use Rattle.list_resolve.specs.declared.reference.Wanted.{Wanted}
 use Rattle.list_resolve.specs.declared.reference.Reference.{Reference}
 use Rattle.list_resolve.specs.References.{is_wanted}
-use Rattle.list_resolve.specs.Places.{place_of}
 use Rattle.list_resolve.specs.Spots.{Spot, list_spot}
 
 -- what references are read against: the documents held, the root of addresses, and the home whose documents they may lead to
@@ -32,45 +30,27 @@ pub record Lead : Type 0 where
   pub place : Place
   pub spot : Spot
 
-abbrev pub lead : Place → Spot → Lead
-lead place spot = record { place = place; spot = spot }
-
 -- a document of lists of this home
 abbrev pub is_own : Home → DocId → Bool
 is_own home doc = same_auid doc.auid auids.ResourceLists && same_home doc.home home
 
--- the element, if it is of the kind that is wanted
-abbrev pub lead_if : Wanted → Place → Spot → Option Lead
-lead_if wanted place spot = if is_wanted wanted spot.kind then Some (lead place spot) else None
-
--- the element at a path of a document with this name
+-- the element at a path of a document with this name, if it is of the kind that is wanted
 abbrev pub lead_at : Wanted → List ℕ → Tree → List ℕ → Option Lead
-lead_at wanted name root path = option_and_then (lead_if wanted (place_of name path)) (list_spot root path)
-
--- the element that a selector selects in a document with this name
-abbrev pub lead_by : Wanted → List ℕ → Selector → Tree → Option Lead
-lead_by wanted name selector root = option_and_then (lead_at wanted name root) (selected_in selector.steps root)
+lead_at wanted name root path =
+    option_and_then (λ spot. if is_wanted wanted spot.kind then Some (record { place = record { name = name; path = path }; spot = spot }) else None) (list_spot root path)
 
 -- the tree of a document, if it is held
 abbrev pub tree_held : List Held → DocId → Option Tree
 tree_held hs doc = option_map (λ h. h.tree) (document_in held_name hs doc)
 
--- where the address of a node leads
-abbrev pub lead_to : Ground → Wanted → DocId → Selector → Option Lead
-lead_to g wanted doc selector =
-    if is_own g.home doc && is_element selector.end
-    then option_and_then (lead_by wanted doc.name selector) (tree_held g.documents doc)
-    else None
-
--- where a target leads
+-- where what a target means leads: the address of a node, to what its selector selects
 abbrev pub lead_of : Ground → Wanted → Result Target UriFault → Option Lead
-lead_of g wanted (Ok (Node doc selector)) = lead_to g wanted doc selector
+lead_of g wanted (Ok (Node doc selector)) =
+    if is_own g.home doc && is_element selector.end
+    then option_and_then (λ root. option_and_then (lead_at wanted doc.name root) (selected_in selector.steps root)) (tree_held g.documents doc)
+    else None
 lead_of g wanted _ = None
 
--- a reference leads there: what its target means tells where
-abbrev pub ReferenceLeadsTo : Ground → Reference → Option Lead → Type 0
-ReferenceLeadsTo g r found = (read : Result Target UriFault) × TargetAnswer g.root (encode_utf8_all r.target) read × (found ≡ lead_of g r.wanted read)
-
--- of all references, this tells where each leads
+-- of all references, this tells where each leads: what its target means tells where
 abbrev pub AreLeads : Ground → (Reference → Option Lead) → Type 0
-AreLeads g leads = (r : Reference) → ReferenceLeadsTo g r (leads r)
+AreLeads g leads = (r : Reference) → (read : Result Target UriFault) × TargetAnswer g.root (encode_utf8_all r.target) read × (leads r ≡ lead_of g r.wanted read)

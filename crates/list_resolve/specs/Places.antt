@@ -1,11 +1,8 @@
 -- Places of elements in the documents of lists of one user: the name of the document, and the path in it.
-use Rattle.std.specs.Prelude.{ℕ, Bool, ◌&&◌, List}
+use Rattle.std.specs.Prelude.{Bool, ◌&&◌, List}
 use Rattle.std.specs.List.{list_any}
 use Rattle.std.specs.Str.{bytes_eq}
 use Rattle.list_resolve.specs.declared.place.Place.{Place}
-
-abbrev pub place_of : List ℕ → List ℕ → Place
-place_of name path = record { name = name; path = path }
 
 -- whether two places are one
 abbrev pub same_place : Place → Place → Bool

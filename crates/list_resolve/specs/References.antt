@@ -11,25 +11,19 @@ use Rattle.usage_docs.specs.Forms.{trimmed}
 use Rattle.usage_docs.specs.Texts.{text_of}
 use Rattle.xcap_uri.specs.Roots.{slash}
 use Rattle.list_resolve.specs.declared.reference.Wanted.{Wanted}
-use Rattle.list_resolve.specs.declared.reference.Wanted.TheVariants as wanted
+use Rattle.list_resolve.specs.declared.reference.Wanted.TheVariants.{AnEntry, AList}
 use Rattle.list_resolve.specs.declared.reference.Reference.{Reference}
 
-abbrev pub reference : Wanted → List ℕ → Reference
-reference w target = record { wanted = w; target = target }
-
--- the target of a `ref`: the root, a slash and the value
-abbrev pub from_root : List ℕ → List ℕ → List ℕ
-from_root root value = root ++ slash ∷ value
-
--- the reference that an element of this kind is, under this root; in a valid document its attribute is there
+-- the reference that an element of this kind is, under this root; in a valid document its attribute is there. The target of a `ref` is the
+-- root, a slash and the value.
 abbrev pub reference_of : List ℕ → Kind → List Attr → Content → Option Reference
-reference_of root EntryRef ats k = option_map (λ value. reference wanted.AnEntry (from_root root value)) (value_of Ref ats)
-reference_of root External ats k = option_map (λ value. reference wanted.AList value) (value_of Anchor ats)
-reference_of root ResourceList ats k = Some (reference wanted.AList (trimmed (text_of k)))
+reference_of root EntryRef ats k = option_map (λ value. record { wanted = AnEntry; target = root ++ slash ∷ value }) (value_of Ref ats)
+reference_of root External ats k = option_map (λ value. record { wanted = AList; target = value }) (value_of Anchor ats)
+reference_of root ResourceList ats k = Some (record { wanted = AList; target = trimmed (text_of k) })
 reference_of root _ ats k = None
 
 -- whether a reference that wants this may lead to an element of this kind
 abbrev pub is_wanted : Wanted → Kind → Bool
-is_wanted wanted.AnEntry Entry = true
-is_wanted wanted.AList EntryList = true
+is_wanted AnEntry Entry = true
+is_wanted AList EntryList = true
 is_wanted _ _ = false

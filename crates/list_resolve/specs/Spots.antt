@@ -12,25 +12,18 @@ pub record Spot : Type 0 where
   pub scope : Scope
   pub element : Tree
 
-abbrev pub spot : Kind → Scope → Tree → Spot
-spot kind c e = record { kind = kind; scope = c; element = e }
-
 -- a child of an element of a kind, if it is of a kind itself
 abbrev pub kid_spot : Spot → Tree → Option Spot
-kid_spot s kid = option_map (λ kind. spot kind (inside s.scope kid) kid) (kind_of s.kind (inside s.scope kid) kid.name)
-
--- the same of the child of this number
-abbrev pub kid_spot_at : Spot → ℕ → Option Spot
-kid_spot_at s n = option_and_then (kid_spot s) (slice_get (kids_of s.element) n)
+kid_spot s kid = option_map (λ kind. record { kind = kind; scope = inside s.scope kid; element = kid }) (kind_of s.kind (inside s.scope kid) kid.name)
 
 -- the element at a path from there, if all on the path are of a kind
 abbrev pub spot_below : Spot → List ℕ → Option Spot
 spot_below s [] = Some s
-spot_below s (n ∷ p) = option_and_then (λ k. spot_below k p) (kid_spot_at s n)
+spot_below s (n ∷ p) = option_and_then (λ k. spot_below k p) (option_and_then (kid_spot s) (slice_get (kids_of s.element) n))
 
 -- the root of a document whose root is of this kind
 abbrev pub root_spot : Kind → Tree → Spot
-root_spot kind root = spot kind (root.decls ∷ []) root
+root_spot kind root = record { kind = kind; scope = root.decls ∷ []; element = root }
 
 -- the element at a path of a document of lists
 abbrev pub list_spot : Tree → List ℕ → Option Spot

@@ -1,8 +1,11 @@
 //! The flat list of a service (RFC 4826, section 4).
-ghost use Rattle.std.specs.Prelude.{◌≡◌, chars, length, option_and_then, option_map};
+ghost use Rattle.std.specs.Prelude.{◌≡◌, chars, false, length, option_and_then, option_map};
 ghost use Rattle.std.specs.Str.{bytes_eq};
+ghost use Rattle.std.specs.Option.{option_map_or};
 ghost use Rattle.xml_tree.specs.Memory.{Answered};
-ghost use Rattle.list_resolve.specs.Flat.{IsFlatList, flat_of, has_address, service_of, service_spot};
+ghost use Rattle.usage_docs.specs.declared.rows.Key.TheVariants.{Uri};
+ghost use Rattle.usage_docs.specs.Keys.{value_of};
+ghost use Rattle.list_resolve.specs.Flat.{IsFlatList, flat_of, service_of, service_spot};
 ghost use Rattle.list_resolve.specs.Leads.{tree_held};
 ghost use Rattle.list_resolve.specs.Walks.{walk};
 ghost use Rattle.list_resolve.specs.inner.Passing.{leads_in};
@@ -33,7 +36,7 @@ fn is_same_text(a: &str, b: &str) -> bool
 
 // Whether an element with these attributes has this address.
 fn has_address(uri: &str, attrs: &[Attr]) -> bool
-    ensures tells_whether_it_has_the_address { result ≡ has_address (chars uri.now) attrs.now }
+    ensures tells_whether_it_has_the_address { result ≡ option_map_or (λ own. bytes_eq own (chars uri.now)) (value_of Uri attrs.now) false }
 {
     match value_of(Key::Uri, attrs) {
         None => false,

@@ -1,10 +1,12 @@
 //! Where references lead.
-ghost use Rattle.std.specs.Prelude.{◌≡◌, ◌≤◌, option_map, IfOk, IfSome, Ok, Some};
+ghost use Rattle.std.specs.Prelude.{◌≡◌, ◌≤◌, option_and_then, option_map, IfOk, IfSome, Ok, Some};
 ghost use Rattle.xml_tree.specs.Limits.{most_levels};
 ghost use Rattle.xml_tree.specs.Tree.{height};
 ghost use Rattle.doc_names.specs.Same.{same_home};
+ghost use Rattle.node_select.specs.Selection.{selected_in};
 ghost use Rattle.xcap_uri.specs.Targets.{is_element};
-ghost use Rattle.list_resolve.specs.Leads.{is_own, lead_at, lead_by, lead_of, lead_to};
+ghost use Rattle.xcap_uri.specs.declared.target.Target.TheVariants.{Node};
+ghost use Rattle.list_resolve.specs.Leads.{is_own, lead_at, lead_of};
 ghost use Rattle.list_resolve.specs.inner.Passing.{leads_in, spot_at};
 ghost use Rattle.list_resolve.specs.inner.Views.{ground_in, lead_in, spot_in};
 
@@ -92,7 +94,7 @@ fn lead_by<'a>(
     root: &'a Element,
 ) -> Option<Lead<'a>>
     requires { height root.now ≤ most_levels }
-    ensures leads_where_it_is_due { option_map lead_in result ≡ lead_by wanted name selector.now root.now }
+    ensures leads_where_it_is_due { option_map lead_in result ≡ option_and_then (lead_at wanted name root.now) (selected_in selector.now.steps root.now) }
     ensures is_low_enough { IfSome result (λ l. height l.spot.element.now ≤ most_levels) }
 {
     let path = select(alloc, root, selector)?;
@@ -106,7 +108,7 @@ fn lead_to<'a>(
     doc: DocId,
     selector: &Selector,
 ) -> Option<Lead<'a>>
-    ensures leads_where_it_is_due { option_map lead_in result ≡ lead_to (ground_in ground.now) wanted doc selector.now }
+    ensures leads_where_it_is_due { option_map lead_in result ≡ lead_of (ground_in ground.now) wanted (Ok (Node doc selector.now)) }
     ensures is_low_enough { IfSome result (λ l. height l.spot.element.now ≤ most_levels) }
 {
     if !(is_own(ground.home, &doc) && is_element(&selector.end)) {

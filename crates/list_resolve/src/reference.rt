@@ -1,11 +1,12 @@
 //! References, and the targets that they are (RFC 4826, sections 3.4.5 and 4.4.5).
-ghost use Rattle.std.specs.Prelude.{◌≡◌, [], IfOk, chars};
+ghost use Rattle.std.specs.Prelude.{◌≡◌, ◌∷◌, ◌++◌, [], IfOk, chars};
 ghost use Rattle.usage_docs.specs.declared.rows.Kind.TheVariants.{EntryRef, External};
 ghost use Rattle.usage_docs.specs.Forms.{trimmed, trim_front, trim_back};
 ghost use Rattle.usage_docs.specs.Texts.{text_of};
 ghost use Rattle.xml_tree.specs.Characters.{is_space};
 ghost use Rattle.xml_tree.specs.Tree.{last};
-ghost use Rattle.list_resolve.specs.References.{from_root, is_wanted, reference_of};
+ghost use Rattle.xcap_uri.specs.Roots.{slash};
+ghost use Rattle.list_resolve.specs.References.{is_wanted, reference_of};
 
 use std::alloc::Global;
 use tree_text::{decoded, no_text, text_of};
@@ -42,7 +43,7 @@ impl Wanted {
 
 // The target of a `ref` with this value.
 fn from_root(alloc: Global, root: &Root, value: &str) -> Result<Text, NoMemory>
-    ensures target_under_the_root { IfOk result (λ made. made ≡ from_root root.now (chars value.now)) }
+    ensures target_under_the_root { IfOk result (λ made. made ≡ root.now ++ slash ∷ chars value.now) }
 {
     let mut target = Text::from(alloc, root.text())?;
     target.push('/')?;

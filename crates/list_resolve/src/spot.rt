@@ -1,8 +1,8 @@
 //! Elements of a kind, each with the scope inside it.
-ghost use Rattle.std.specs.Prelude.{◌≡◌, ◌+◌, ◌≤◌, ◌<◌, length, option_map, IfSome};
+ghost use Rattle.std.specs.Prelude.{◌≡◌, ◌+◌, ◌≤◌, ◌<◌, length, option_map, option_and_then, slice_get, IfSome};
 ghost use Rattle.xml_tree.specs.declared.scope.TheConstants.{SCOPE_LIMIT};
-ghost use Rattle.xml_tree.specs.Tree.{height};
-ghost use Rattle.list_resolve.specs.Spots.{kid_spot, kid_spot_at, list_spot, root_spot};
+ghost use Rattle.xml_tree.specs.Tree.{height, kids_of};
+ghost use Rattle.list_resolve.specs.Spots.{kid_spot, list_spot, root_spot};
 ghost use Rattle.list_resolve.specs.inner.Views.{spot_in};
 
 use usage_docs::{Kind, kind_of};
@@ -48,7 +48,7 @@ impl<'a> Spot<'a> {
     /// The child of this number, if there is one and it is of a kind. Takes no memory.
     pub(crate) fn kid(&self, number: usize) -> Option<Spot<'a>>
         requires { length self.now.scope < SCOPE_LIMIT }
-        ensures spot_that_is_meant { option_map spot_in result ≡ kid_spot_at (spot_in self.now) number }
+        ensures spot_that_is_meant { option_map spot_in result ≡ option_and_then (kid_spot (spot_in self.now)) (slice_get (kids_of self.now.element.now) number) }
         ensures scope_grows_by_one { IfSome result (λ s. length s.scope ≡ length self.now.scope + 1) }
         ensures is_no_higher { IfSome result (λ s. height s.element.now ≤ height self.now.element.now) }
     {

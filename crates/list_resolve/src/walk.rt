@@ -1,14 +1,17 @@
 //! The walk of a list, with the lists that references lead to (RFC 4826, sections 3.2 and 4.2).
-ghost use Rattle.std.specs.Prelude.{◌≡◌, ◌≤◌, ◌∷◌, Some, OnOk};
+ghost use Rattle.std.specs.Prelude.{◌≡◌, ◌≤◌, ◌∷◌, [], Some, OnOk, if◌then◌else◌};
+ghost use Rattle.std.specs.Option.{option_map_or};
 ghost use Rattle.xml_tree.specs.Limits.{most_levels};
 ghost use Rattle.xml_tree.specs.Tree.{height};
 ghost use Rattle.usage_docs.specs.declared.rows.Key.TheVariants.{Uri};
 ghost use Rattle.usage_docs.specs.declared.rows.Kind.TheVariants.{EntryList};
 ghost use Rattle.usage_docs.specs.Keys.{value_of};
 ghost use Rattle.list_resolve.specs.References.{reference_of};
-ghost use Rattle.list_resolve.specs.Walks.{behind, entry_items, given, kid_items, lead_items, reference_items, spot_items, walked};
+ghost use Rattle.list_resolve.specs.Places.{is_on};
+ghost use Rattle.list_resolve.specs.Walks.{address, behind, given, mark, spot_items, walked};
+ghost use Rattle.list_resolve.specs.inner.Kids.{kid_items};
 ghost use Rattle.list_resolve.specs.inner.Passing.{Gathers, IsPassed, IsSound, leads_in, spot_at};
-ghost use Rattle.list_resolve.specs.inner.Views.{ground_in, lead_in, spot_in};
+ghost use Rattle.list_resolve.specs.inner.Views.{ground_in, spot_in};
 
 use crate::chain::Chain;
 use crate::fault::FlatError;
@@ -22,7 +25,9 @@ use xml_tree::{Around, Attr, Declared, Element, NoMemory, Node};
 // Gathers the address of an entry with these attributes.
 fn add_entry(ground: &Ground<'_>, attrs: &[Attr], gatherer: &mut Gatherer) -> Result<(), FlatError>
     requires sound { IsSound (ground_in ground.now) gatherer.old }
-    ensures gathers_the_address { Gathers (ground_in ground.now) (entry_items (value_of Uri attrs.now)) gatherer.old gatherer.new result }
+    ensures gathers_the_address { Gathers (ground_in ground.now)
+        (option_map_or (λ uri. address uri ∷ []) (value_of Uri attrs.now) [])
+        gatherer.old gatherer.new result }
 {
     match value_of(Key::Uri, attrs) {
         None => Ok(()),
@@ -136,7 +141,8 @@ fn walk_reference(
 ) -> Result<(), FlatError>
     requires sound { IsSound (ground_in ground.now) gatherer.old }
     ensures gathers_the_reference { Gathers (ground_in ground.now)
-        (reference_items (behind (leads_in (ground_in ground.now)) ground.now.root.now left chain.now) (reference_of ground.now.root.now kind element.now.attrs element.now.content))
+        (option_map_or (λ r. mark ∷ behind (leads_in (ground_in ground.now)) ground.now.root.now left chain.now r)
+        (reference_of ground.now.root.now kind element.now.attrs element.now.content) [])
         gatherer.old gatherer.new result }
 {
     let Some(reference) = reference_of(ground.alloc, ground.root, kind, element)? else {
@@ -182,7 +188,8 @@ fn walk_lead(
     requires there { spot_at (ground_in ground.now) lead.place ≡ Some (spot_in lead.spot) }
     requires sound { IsSound (ground_in ground.now) gatherer.old }
     ensures gathers_what_it_leads_to { Gathers (ground_in ground.now)
-        (lead_items (behind (leads_in (ground_in ground.now)) ground.now.root.now left) ground.now.root.now chain.now (lead_in lead.entry))
+        (if is_on chain.now lead.entry.place then [] else
+        spot_items (behind (leads_in (ground_in ground.now)) ground.now.root.now left (lead.entry.place ∷ chain.now)) ground.now.root.now (spot_in lead.entry.spot))
         gatherer.old gatherer.new result }
 {
     if chain.has(&lead.place) {

@@ -1,6 +1,7 @@
 -- What the code has gathered of a walk so far.
 use Rattle.std.specs.Prelude.{ℕ, ◌<◌, ◌+◌, List, [], ◌∷◌, ◌++◌, fold, if◌then◌else◌}
 use Rattle.std.specs.Coded.{Coded, code_by, coded×, coded_ℕ, coded_list}
+use Rattle.list_resolve.specs.declared.gatherer.TheConstants.{MARK_LIMIT}
 use Rattle.list_resolve.specs.declared.fault.FlatFault.{FlatFault}
 use Rattle.list_resolve.specs.declared.fault.FlatFault.TheVariants.{NoService, TooWide, TooLarge}
 use Rattle.xml_tree.specs.declared.read_error.ReadError.{ReadError}
@@ -8,7 +9,7 @@ use Rattle.xml_tree.specs.declared.read_error.ReadError.TheVariants.{Fault, NoMe
 use Rattle.list_resolve.specs.declared.place.Place.{Place}
 use Rattle.list_resolve.specs.Places.{is_on}
 use Rattle.list_resolve.specs.Walks.{Item, address, mark}
-use Rattle.list_resolve.specs.Flat.{with_address, mark_limit}
+use Rattle.list_resolve.specs.Flat.{with_address}
 use Rattle.list_resolve.specs.inner.PlaceCodes.{place_code}
 use mathlib.Core.Path.{refl}
 
@@ -57,6 +58,6 @@ FlatError = ReadError FlatFault
 -- a call fails where these items are gathered: there are too many references among them, or there is no memory
 abbrev pub Fails : List Item → Tally → FlatError → Type 0
 Fails items old (Fault NoService) = ⊥
-Fails items old (Fault TooWide) = mark_limit < (with_items old items).marks
+Fails items old (Fault TooWide) = MARK_LIMIT < (with_items old items).marks
 Fails items old (Fault (TooLarge len)) = ⊥
 Fails items old NoMemory = Unit {0}

@@ -1,5 +1,5 @@
 use Rattle.std.proofs.Common.{◌≤◌, sym, arith}
-use Rattle.list_resolve.specs.Documents.{document_limit}
+use Rattle.list_resolve.specs.declared.document.TheConstants.{DOCUMENT_LIMIT}
 use Rattle.list_resolve.proofs.Documents.{not_too_large, too_large}
 use Rattle.list_resolve.proofs.document.flat_document.Goals as goal
 
@@ -13,6 +13,6 @@ pub returns : goal.returns
 returns c = record {
   document_of_the_list =
       let few = c.if-len-gt-DOCUMENT_LIMIT.false in
-      let le : c.document_len-len.result ≤ document_limit = omega arith in
+      let le : c.document_len-len.result ≤ DOCUMENT_LIMIT = omega arith in
       not_too_large c.args.uris.now c.in_ok-root.root c.document_len-len.result c.in_ok-root.ensures.root_with_the_list c.document_len-len.ensures.counts_the_printed_document le;
 }

@@ -1,11 +1,12 @@
 use Rattle.std.proofs.Common.{◌≡◌, ◌+◌, ◌-◌, [], ◌∷◌, ◌++◌, List, drop, Some, sym, ap, subst, ◌∙◌, option_map, arith}
 use Rattle.list_resolve.specs.References.{reference_of}
-use Rattle.list_resolve.specs.Walks.{Item, mark, behind, kid_items, led_items, lead_items, reference_items, walked}
+use Rattle.list_resolve.specs.Walks.{Item, mark, behind, walked}
 use Rattle.list_resolve.specs.inner.Gathering.{Fails, with_items}
+use Rattle.list_resolve.specs.inner.Kids.{kid_items}
 use Rattle.list_resolve.specs.inner.Passing.{Gathers, leads_in}
 use Rattle.list_resolve.specs.inner.Views.{ground_in, lead_in, spot_in}
 use Rattle.list_resolve.proofs.Passing.{is_passed, once_passed}
-use Rattle.list_resolve.proofs.Walks.{all_nodes, at_elem, behind_left, fails_before, fails_in_part, hands_on, nodes_items}
+use Rattle.list_resolve.proofs.Walks.{all_nodes, at_elem, behind_left, fails_before, fails_in_part, hands_on, lead_items, led_items, nodes_items, reference_items}
 use Rattle.list_resolve.proofs.walk.+walk.Goals as goal
 
 pub walk_inside-loop-node-init : goal.walk_inside-loop-node-init
