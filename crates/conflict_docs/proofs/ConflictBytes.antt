@@ -6,7 +6,14 @@ use Rattle.xml_tree.specs.Print.{print, print_text, text_escape, value_escape}
 use Rattle.xml_tree.proofs.Escapes.{encode-text, encode-value}
 use Rattle.conflict_docs.specs.declared.conflicts.ErrorBody.{ErrorBody}
 use Rattle.conflict_docs.specs.declared.conflicts.ErrorBody.TheVariants.{NotUtf8, NotWellFormed, NotXmlFrag, NotXmlAttValue, NoParent, Schema, CannotInsert, CannotDelete, Unique, Constraint}
-use Rattle.conflict_docs.specs.Conflicts.{IsNamed, conflict, conflict_root, conflict_bytes, document_text, opening_bytes, closing_bytes, child_bytes, no_parent_bytes, unique_bytes}
+use Rattle.conflict_docs.specs.Conflicts.{IsNamed, conflict, conflict_root, conflict_bytes, document_text, child_bytes}
+
+-- what stands before the child of the root, and behind it
+abbrev opening_bytes : List ℕ
+opening_bytes = codes "<?xml version=\"1.0\" encoding=\"UTF-8\"?>\n" ++ codes "<xcap-error xmlns=\"urn:ietf:params:xml:ns:xcap-error\">"
+
+abbrev closing_bytes : List ℕ
+closing_bytes = codes "</xcap-error>"
 
 -- three texts, of which the first and the last are written out
 three : (a b c x z : List ℕ) → encode_utf8_all a ≡ x → encode_utf8_all c ≡ z → encode_utf8_all (a ++ (b ++ c)) ≡ x ++ (encode_utf8_all b ++ z)
@@ -45,7 +52,7 @@ field_end : encode_utf8_all (34 ∷ codes "/></uniqueness-failure>") ≡ 34 ∷ 
 unfolding encode
 field_end = refl
 
-no_parent_is : (c : ℕ) (u : List ℕ) → encode_utf8_all (print (conflict (NoParent (c ∷ u)))) ≡ no_parent_bytes (encode_utf8_all (c ∷ u))
+no_parent_is : (c : ℕ) (u : List ℕ) → encode_utf8_all (print (conflict (NoParent (c ∷ u)))) ≡ child_bytes (NoParent (c ∷ u))
 no_parent_is c u =
     let t = print_text (c ∷ u) in
     let tail : ((t ++ codes "</ancestor>") ++ []) ++ codes "</no-parent>" ≡ t ++ codes "</ancestor></no-parent>" = simp (append-nil, append_assoc) in
@@ -54,7 +61,7 @@ no_parent_is c u =
     ∙ ap (λ x. codes "<no-parent><ancestor>" ++ (x ++ codes "</ancestor></no-parent>")) (encode-text (c ∷ u))
     ∙ sym (append_assoc (codes "<no-parent><ancestor>") (flat_map text_escape (encode_utf8_all (c ∷ u))) (codes "</ancestor></no-parent>"))
 
-unique_is : (f : List ℕ) → encode_utf8_all (print (conflict (Unique f))) ≡ unique_bytes (encode_utf8_all f)
+unique_is : (f : List ℕ) → encode_utf8_all (print (conflict (Unique f))) ≡ child_bytes (Unique f)
 unique_is f =
     let v = flat_map value_escape f in
     let start = codes "<uniqueness-failure><exists field=" ++ (34 ∷ []) in

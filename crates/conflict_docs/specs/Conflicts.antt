@@ -7,35 +7,23 @@ use Rattle.xml_tree.specs.Expanded.{name_of}
 use Rattle.conflict_docs.specs.declared.conflicts.ErrorBody.{ErrorBody}
 use Rattle.conflict_docs.specs.declared.conflicts.ErrorBody.TheVariants.{NotUtf8, NotWellFormed, NotXmlFrag, NotXmlAttValue, NoParent, Schema, CannotInsert, CannotDelete, Unique, Constraint}
 
--- what stands before the child of the root, and behind it; there is no white space between the elements
-abbrev pub opening_bytes : List ℕ
-opening_bytes = codes "<?xml version=\"1.0\" encoding=\"UTF-8\"?>\n" ++ codes "<xcap-error xmlns=\"urn:ietf:params:xml:ns:xcap-error\">"
-
-abbrev pub closing_bytes : List ℕ
-closing_bytes = codes "</xcap-error>"
-
--- the child, with the bytes of a URI or of a field
-abbrev pub no_parent_bytes : List ℕ → List ℕ
-no_parent_bytes uri = codes "<no-parent><ancestor>" ++ flat_map text_escape uri ++ codes "</ancestor></no-parent>"
-
-abbrev pub unique_bytes : List ℕ → List ℕ
-unique_bytes field = codes "<uniqueness-failure><exists field=\"" ++ flat_map value_escape field ++ codes "\"/></uniqueness-failure>"
-
+-- the child of the root
 abbrev pub child_bytes : ErrorBody → List ℕ
 child_bytes NotUtf8 = codes "<not-utf-8/>"
 child_bytes NotWellFormed = codes "<not-well-formed/>"
 child_bytes NotXmlFrag = codes "<not-xml-frag/>"
 child_bytes NotXmlAttValue = codes "<not-xml-att-value/>"
-child_bytes (NoParent uri) = no_parent_bytes (encode_utf8_all uri)
+child_bytes (NoParent uri) = codes "<no-parent><ancestor>" ++ flat_map text_escape (encode_utf8_all uri) ++ codes "</ancestor></no-parent>"
 child_bytes Schema = codes "<schema-validation-error/>"
 child_bytes CannotInsert = codes "<cannot-insert/>"
 child_bytes CannotDelete = codes "<cannot-delete/>"
-child_bytes (Unique field) = unique_bytes (encode_utf8_all field)
+child_bytes (Unique field) = codes "<uniqueness-failure><exists field=\"" ++ flat_map value_escape (encode_utf8_all field) ++ codes "\"/></uniqueness-failure>"
 child_bytes Constraint = codes "<constraint-failure/>"
 
--- the bytes of a conflict document
+-- the bytes of a conflict document; there is no white space between the elements
 abbrev pub conflict_bytes : ErrorBody → List ℕ
-conflict_bytes body = opening_bytes ++ child_bytes body ++ closing_bytes
+conflict_bytes body =
+    codes "<?xml version=\"1.0\" encoding=\"UTF-8\"?>\n" ++ codes "<xcap-error xmlns=\"urn:ietf:params:xml:ns:xcap-error\">" ++ child_bytes body ++ codes "</xcap-error>"
 
 -- ---- the same as a tree
 

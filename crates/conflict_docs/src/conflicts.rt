@@ -1,7 +1,7 @@
 //! Conflict documents (RFC 4825, section 11).
-ghost use Rattle.std.specs.Prelude.{◌≡◌, [], ◌∷◌, ◌++◌, IfNone, IfOk, IfSome, OnOk, encode_utf8_all, flat_map};
+ghost use Rattle.std.specs.Prelude.{◌≡◌, [], ◌∷◌, ◌++◌, IfNone, IfOk, IfSome, OnOk, codes, encode_utf8_all, flat_map};
 ghost use Rattle.xml_tree.specs.Print.{text_escape, value_escape};
-ghost use Rattle.conflict_docs.specs.Conflicts.{IsNamed, document_text, conflict_root, conflict_bytes, child_bytes, no_parent_bytes, unique_bytes};
+ghost use Rattle.conflict_docs.specs.Conflicts.{IsNamed, document_text, conflict_root, conflict_bytes, child_bytes};
 
 use std::alloc::Global;
 use xcap_io::Bytes;
@@ -73,7 +73,7 @@ fn push_child(document: &mut Bytes, body: &ErrorBody) -> Result<(), NoMemory>
 
 // Adds the child that names an ancestor.
 fn push_no_parent(document: &mut Bytes, uri: &[u8]) -> Result<(), NoMemory>
-    ensures adds_the_ancestor { OnOk result (document.new ≡ document.old ++ no_parent_bytes uri.now) }
+    ensures adds_the_ancestor { OnOk result (document.new ≡ document.old ++ (codes "<no-parent><ancestor>" ++ flat_map text_escape uri.now ++ codes "</ancestor></no-parent>")) }
 {
     document.extend(b"<no-parent><ancestor>")?;
     push_text(document, uri)?;
@@ -83,7 +83,7 @@ fn push_no_parent(document: &mut Bytes, uri: &[u8]) -> Result<(), NoMemory>
 
 // Adds the child that names an attribute.
 fn push_unique(document: &mut Bytes, field: &[u8]) -> Result<(), NoMemory>
-    ensures adds_the_attribute { OnOk result (document.new ≡ document.old ++ unique_bytes field.now) }
+    ensures adds_the_attribute { OnOk result (document.new ≡ document.old ++ (codes "<uniqueness-failure><exists field=\"" ++ flat_map value_escape field.now ++ codes "\"/></uniqueness-failure>")) }
 {
     document.extend(b"<uniqueness-failure><exists field=\"")?;
     push_value(document, field)?;
