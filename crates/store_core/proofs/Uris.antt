@@ -12,7 +12,7 @@ use Rattle.xml_tree.specs.Scopes.{bound, inside}
 use Rattle.xml_tree.specs.Tree.{Content, last, more, note, Tree, kids, kids_of}
 use Rattle.xml_tree.specs.declared.names.Attr.{Attr}
 use Rattle.xml_tree.specs.declared.names.Name.{Name}
-use Rattle.usage_docs.specs.Keys.{attribute_of, attrs_pass, has_needed, is_key, value_of, word}
+use Rattle.usage_docs.specs.Keys.{attribute_of, attrs_pass, is_key, value_of, word}
 use Rattle.usage_docs.specs.Rows.{Scope, Child, known, foreign, stray, ModelItem as Item, any, ends, takes, may_take, takes_none, takes_more, takes_no_more, IsIn, MatchesModel as Matches, child_of, children_in, is_foreign, items_in, kind_by, kind_in, kind_of, model_of, root_kind, space_of}
 use Rattle.usage_docs.specs.Services.{service_uri}
 use Rattle.usage_docs.specs.Validity.{AllKeep, Schema}
@@ -84,7 +84,7 @@ module _ (c : Scope) where
   there (Some uri) h = (uri, refl)
 
   has-uri : (d : Scope) (ats : List Attr) → IsTrue (attrs_pass Service d ats) → (uri : List ℕ) × (value_of Uri ats ≡ Some uri)
-  unfolding attrs_pass has_needed attribute_of
+  unfolding attrs_pass attribute_of
   has-uri d ats h = there (value_of Uri ats) (both _ _ h).1
 
   abbrev IsOne : Tree → Type 0

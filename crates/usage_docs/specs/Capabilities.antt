@@ -1,35 +1,26 @@
 -- The capabilities document. RFC 4825, section 12 (the usage xcap-caps).
-use Rattle.std.specs.Prelude.{ℕ, List, [], ◌∷◌, ◌++◌, codes}
+use Rattle.std.specs.Prelude.{ℕ, List, [], ◌∷◌, ◌++◌, codes, map}
 use Rattle.xml_tree.specs.Tree.{Content, last, Tree, tree_of, of_kids}
 use Rattle.xml_tree.specs.Expanded.{name_of}
 use Rattle.xml_tree.specs.Scopes.{decl_of}
 
--- an element of this name with a text, without anything else
-abbrev pub text_elem : List ℕ → List ℕ → Tree
-text_elem local text = tree_of (name_of [] local) [] [] (last text)
-
--- an element of this name with these elements and no white space
+-- an element of this name with this content, without anything else
 abbrev pub around : List ℕ → Content → Tree
 around local content = tree_of (name_of [] local) [] [] content
 
--- a namespace of XCAP
-abbrev pub xcap_space : List ℕ → List ℕ
-xcap_space word = codes "urn:ietf:params:xml:ns:" ++ word
-
 -- the application usages
 abbrev pub auids : Tree
-auids = around (codes "auids") (of_kids (text_elem (codes "auid") (codes "resource-lists") ∷ text_elem (codes "auid") (codes "rls-services") ∷ text_elem (codes "auid") (codes "xcap-caps") ∷ []))
+auids = around (codes "auids") (of_kids (map (λ auid. around (codes "auid") (last auid)) (codes "resource-lists" ∷ codes "rls-services" ∷ codes "xcap-caps" ∷ [])))
 
 -- the namespaces that documents and replies may have
-abbrev pub namespace_elem : List ℕ → Tree
-namespace_elem word = text_elem (codes "namespace") (xcap_space word)
-
 abbrev pub namespaces : Tree
-namespaces = around (codes "namespaces") (of_kids (namespace_elem (codes "resource-lists") ∷ namespace_elem (codes "rls-services") ∷ namespace_elem (codes "xcap-caps") ∷ namespace_elem (codes "xcap-diff") ∷ namespace_elem (codes "xcap-error") ∷ []))
+namespaces =
+    around (codes "namespaces") (of_kids (map (λ word. around (codes "namespace") (last (codes "urn:ietf:params:xml:ns:" ++ word)))
+    (codes "resource-lists" ∷ codes "rls-services" ∷ codes "xcap-caps" ∷ codes "xcap-diff" ∷ codes "xcap-error" ∷ [])))
 
 -- the document; there are no extensions
 abbrev pub capabilities : Tree
-capabilities = tree_of (name_of [] (codes "xcap-caps")) (decl_of [] (xcap_space (codes "xcap-caps")) ∷ []) [] (of_kids (auids ∷ around (codes "extensions") (of_kids []) ∷ namespaces ∷ []))
+capabilities = tree_of (name_of [] (codes "xcap-caps")) (decl_of [] (codes "urn:ietf:params:xml:ns:xcap-caps") ∷ []) [] (of_kids (auids ∷ around (codes "extensions") (of_kids []) ∷ namespaces ∷ []))
 
 -- and its print, without the line that stands before the root
 abbrev pub capabilities_text : List ℕ

@@ -55,17 +55,12 @@ value_of key ats = option_map (λ a. a.value) (find (is_key key) ats)
 unfoldable pub key_value : Kind → List Attr → Option (List ℕ)
 key_value kind ats = option_and_then (λ key. value_of key ats) (key_of kind)
 
--- a namespace of neither document type
-abbrev pub is_other_space : List ℕ → Bool
-is_other_space space = not (bytes_eq space lists_space) && not (bytes_eq space services_space)
-
--- the local name of the row's own attribute
-abbrev pub is_own_word : Kind → List ℕ → Bool
-is_own_word row local = option_map_or (λ key. bytes_eq local (word key)) (key_of row) false
-
 -- an unprefixed attribute is the row's own; a prefixed one is of a namespace of neither document type
 unfoldable pub attr_passes : Kind → Scope → Attr → Bool
-attr_passes row c a = if bytes_eq a.name.prefix [] then is_own_word row a.name.local else is_other_space (space_of c a.name)
+attr_passes row c a =
+    if bytes_eq a.name.prefix []
+    then option_map_or (λ key. bytes_eq a.name.local (word key)) (key_of row) false
+    else (not (bytes_eq (space_of c a.name) lists_space) && not (bytes_eq (space_of c a.name) services_space))
 
 -- an attribute that has to be there is
 abbrev pub is_met : Attribute → List Attr → Bool
@@ -73,9 +68,6 @@ is_met Nothing ats = true
 is_met (May key) ats = true
 is_met (Must key) ats = is_some (value_of key ats)
 
-unfoldable pub has_needed : Kind → List Attr → Bool
-has_needed row ats = is_met (attribute_of row) ats
-
 -- the attributes of an element of this row, in the scope that ends with its own declarations
 unfoldable pub attrs_pass : Kind → Scope → List Attr → Bool
-attrs_pass row c ats = list_all (attr_passes row c) ats && has_needed row ats
+attrs_pass row c ats = list_all (attr_passes row c) ats && is_met (attribute_of row) ats

@@ -17,12 +17,9 @@ abbrev pub is_text : Model → Bool
 is_text text_alone = true
 is_text (sequence items) = false
 
-unfoldable pub takes_text : Kind → Bool
-takes_text row = is_text (model_of row)
-
 -- a text in an element of this row: any where the model is text, else white space alone
 unfoldable pub text_passes : Kind → List ℕ → Bool
-text_passes row t = takes_text row || list_all is_space t
+text_passes row t = is_text (model_of row) || list_all is_space t
 
 -- what the children of an element of this row are, in order, in the scope inside it
 abbrev pub children_of : Kind → Scope → Content → List Child

@@ -1,9 +1,10 @@
 //! The attributes of the table's elements, and the keys among them (RFC 4826, sections 3.2, 3.4.5, 4.2 and 4.4.5).
-ghost use Rattle.std.specs.Prelude.{◌≡◌, Some, None, IsTrue, chars, option_map, is_some};
-ghost use Rattle.usage_docs.specs.Rows.{space_of};
+ghost use Rattle.std.specs.Prelude.{◌≡◌, ◌&&◌, false, not, Some, None, IsTrue, bytes_eq, chars, option_map, is_some};
+ghost use Rattle.usage_docs.specs.Rows.{lists_space, services_space, space_of};
 ghost use Rattle.std.specs.List.{list_all};
+ghost use Rattle.std.specs.Option.{option_map_or};
 ghost use Rattle.usage_docs.specs.Words.{is_ascii};
-ghost use Rattle.usage_docs.specs.Keys.{word, attribute_of, key_of, is_key, value_of, key_value, is_other_space, attr_passes, has_needed, attrs_pass, is_own_word};
+ghost use Rattle.usage_docs.specs.Keys.{word, attribute_of, key_of, is_key, value_of, key_value, attr_passes, attrs_pass, is_met};
 
 use crate::rows::{Attribute, Key, Kind, is_word, lists_space, services_space};
 use xml_tree::{Around, Attr, Text};
@@ -114,14 +115,14 @@ fn space_of<'a>(scope: &Around<'a>, attr: &Attr) -> &'a str
 
 // Whether a namespace is of neither document type.
 fn is_other_space(space: &str) -> bool
-    ensures tells_whether_it_is_of_neither { result ≡ is_other_space (chars space.now) }
+    ensures tells_whether_it_is_of_neither { result ≡ (not (bytes_eq (chars space.now) lists_space) && not (bytes_eq (chars space.now) services_space)) }
 {
     !is_word(space, lists_space()) && !is_word(space, services_space())
 }
 
 // Whether the local name is that of the row's own attribute.
 fn is_own_word(row: Kind, local: &str) -> bool
-    ensures tells_whether_it_is_the_own_word { result ≡ is_own_word row (chars local.now) }
+    ensures tells_whether_it_is_the_own_word { result ≡ option_map_or (λ key. bytes_eq (chars local.now) (word key)) (key_of row) false }
 {
     match key_of(row) {
         Some(key) => is_word(local, key.word()),
@@ -141,9 +142,8 @@ fn attr_passes(row: Kind, scope: &Around<'_>, attr: &Attr) -> bool
 }
 
 // Whether the attribute is there that an element of this row must have.
-#[tactic(auto, unfolding(crate::specs::Keys::has_needed))]
 fn has_needed(row: Kind, attrs: &[Attr]) -> bool
-    ensures tells_whether_the_needed_is_there { result ≡ has_needed row attrs.now }
+    ensures tells_whether_the_needed_is_there { result ≡ is_met (attribute_of row) attrs.now }
 {
     match attribute_of(row) {
         Attribute::Must(key) => has_value(key, attrs),

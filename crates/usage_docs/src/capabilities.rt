@@ -1,9 +1,9 @@
 //! The capabilities document (RFC 4825, section 12).
 ghost use Rattle.std.specs.Prelude.{◌≡◌, [], IfOk, IsTrue};
-ghost use Rattle.xml_tree.specs.Tree.{of_kids};
+ghost use Rattle.xml_tree.specs.Tree.{last, of_kids};
 ghost use Rattle.xml_tree.specs.Print.{print};
 ghost use Rattle.usage_docs.specs.Words.{is_ascii};
-ghost use Rattle.usage_docs.specs.Capabilities.{text_elem, around, auids, namespaces, capabilities, capabilities_text};
+ghost use Rattle.usage_docs.specs.Capabilities.{around, auids, namespaces, capabilities, capabilities_text};
 
 use crate::making::{declaration, name};
 use std::alloc::Global;
@@ -22,7 +22,7 @@ fn empty(alloc: Global, local: &str) -> Result<Element, NoMemory>
 fn text_elem(alloc: Global, local: &str, text: &str) -> Result<Element, NoMemory>
     requires local { IsTrue (is_ascii local.now) }
     requires text { IsTrue (is_ascii text.now) }
-    ensures has_the_text_alone { IfOk result (λ made. made ≡ text_elem local.now text.now) }
+    ensures has_the_text_alone { IfOk result (λ made. made ≡ around local.now (last text.now)) }
 {
     let mut made = empty(alloc, local)?;
     made.push_chars(text)?;

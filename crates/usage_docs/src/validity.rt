@@ -2,15 +2,16 @@
 ghost use Rattle.std.specs.Prelude.{◌≡◌, chars};
 ghost use Rattle.std.specs.List.{list_all};
 ghost use Rattle.xml_tree.specs.Characters.{is_space};
-ghost use Rattle.usage_docs.specs.Validity.{takes_text, text_passes};
+ghost use Rattle.usage_docs.specs.Rows.{model_of};
+ghost use Rattle.usage_docs.specs.Validity.{is_text, text_passes};
 
 use crate::rows::Kind;
 use xml_tree::is_space;
 
 // Whether the row is text alone.
-#[tactic(auto, unfolding(crate::specs::Validity::takes_text, crate::specs::Rows::model_of))]
+#[tactic(auto, unfolding(crate::specs::Rows::model_of))]
 fn takes_text(row: Kind) -> bool
-    ensures tells_whether_it_takes_text { result ≡ takes_text row }
+    ensures tells_whether_it_takes_text { result ≡ is_text (model_of row) }
 {
     matches!(row, Kind::DisplayName | Kind::ResourceList | Kind::Package)
 }
