@@ -6,7 +6,7 @@ use Rattle.std.specs.Int.{is_in_range as within}
 use Rattle.std.specs.Char.{is_ascii_digit as is_digit, is_ascii_hexdigit as is_hex_digit}
 use Rattle.xml_tree.specs.Characters.{is_char, is_name_start, is_name_char}
 use Rattle.grammar_rules.specs.Digits.{decimal_digits, hexadecimal}
-use Rattle.grammar_rules.specs.Rules.{word, either, optional, keeping_first, keeping_second, number}
+use Rattle.grammar_rules.specs.Rules.{word, run, either, valued, optional, between, keeping_first, keeping_second, number}
 use Rattle.grammar_rules.specs.Reading.{starts, read_word, read_either, read_valued}
 use Rattle.grammar_rules.specs.Answers.{Faults}
 use Rattle.grammar_rules.proofs.Exact.{Rest, ahead, Exact, exact_sequence}
@@ -26,7 +26,8 @@ use Rattle.tree_text.specs.Pieces.{qname_of}
 use Rattle.tree_text.specs.Grammar.{name, qname, stands_for, entity, numbered, reference, last_char, is_quote, is_raw, is_raw_in}
 use Rattle.tree_text.specs.readers.Texts.{read_qname, read_stands_for, read_entity, read_numbered, read_reference}
 use Rattle.node_select.specs.declared.selector.NameTest.TheVariants.{Any}
-use Rattle.node_select.specs.Grammar.{position_of, node_name, position, IsUnbound, names_attribute, attribute, plain_value, inside_quotes, value, test, attr_test, element_test}
+use Rattle.node_select.specs.Grammar.{position_of, node_name, position, IsUnbound, names_attribute, attribute, plain_value, value, test}
+use Rattle.node_select.specs.readers.Made.{attr_test, element_test}
 use Rattle.node_select.specs.readers.Words.{star, at_sign, open_bracket, close_bracket, equals_sign}
 use Rattle.node_select.specs.readers.Selectors.{read_position, read_inside_quotes, read_value}
 use Rattle.node_select.specs.Faults.{marks}
@@ -150,7 +151,7 @@ quote_not_ampersand : (q c : ℕ) → is_quote q ≡ true → (c == 38) ≡ true
 quote_not_ampersand q c is t e = let same : q ≡ 38 = sym e ∙ eqb-true c 38 t in let z : true ≡ false = sym is ∙ ap is_quote same in cc
 
 module _ {faults : Faults Kind} {K : Rest Kind} where
-  exact_inside : (q : ℕ) → is_quote q ≡ true → Exact faults (inside_quotes q) (λ _. ahead (word (q ∷ [])) (λ _. K)) (read_inside_quotes q)
+  exact_inside : (q : ℕ) → is_quote q ≡ true → Exact faults (valued plain_value (between (run (is_raw_in q)) reference)) (λ _. ahead (word (q ∷ [])) (λ _. K)) (read_inside_quotes q)
   exact_inside q is =
       exact_valued plain_value
       (exact_between_run_head (λ c. c == 38) starts_reference (λ c m. (m, raw_not_ampersand q c m)) (heads_starts (starts_word {P = Is q} refl)) (raw_not_quote q) (λ c t e. quote_not_ampersand q c is t e)

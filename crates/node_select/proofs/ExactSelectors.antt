@@ -28,7 +28,8 @@ use Rattle.node_select.specs.declared.selector.End.TheVariants.{Namespaces}
 use Rattle.node_select.specs.declared.selector.PatchEnd.{PatchEnd}
 use Rattle.node_select.specs.declared.selector.PatchEnd.TheVariants as patch_ends
 use Rattle.node_select.specs.Grammar
-use Rattle.node_select.specs.Grammar.{IsUnbound, names_attribute, attribute_end, patch_attribute_end, position, first_step_of, end_or_element, selector_of, patch_end_or_element, patch_selector_of}
+use Rattle.node_select.specs.Grammar.{IsUnbound, names_attribute, position}
+use Rattle.node_select.specs.readers.Made.{attribute_end, patch_attribute_end, first_step_of, end_or_element, selector_of, patch_end_or_element, patch_selector_of}
 use Rattle.node_select.specs.readers.Words.{slash, at_sign, namespaces, text_test}
 use Rattle.node_select.specs.readers.Selectors.{step_follows, patch_step_follows, slash_follows, namespace_axis, text_call}
 use Rattle.xml_tree.specs.declared.names.Decl.{Decl}

@@ -19,7 +19,8 @@ use Rattle.grammar_rules.proofs.Tests.{exact_optional_head, passed_covers, faile
 use Rattle.tree_text.specs.declared.kind.Kind.{Kind}
 use Rattle.node_select.specs.declared.selector.NameTest.TheVariants.{Any}
 use Rattle.node_select.specs.declared.selector.AttrTest.{AttrTest}
-use Rattle.node_select.specs.Grammar.{IsUnbound, node_name, element_test, position_of, position, attribute, attr_test, value, test, step, step_of}
+use Rattle.node_select.specs.Grammar.{IsUnbound, node_name, position_of, position, attribute, value, test, step}
+use Rattle.node_select.specs.readers.Made.{element_test, attr_test, step_of}
 use Rattle.node_select.specs.readers.Words.{at_sign, open_bracket, close_bracket, equals_sign}
 use Rattle.node_select.specs.readers.Selectors.{position_follows, test_follows, read_position}
 use Rattle.node_select.specs.Faults.{marks}

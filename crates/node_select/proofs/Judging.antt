@@ -20,6 +20,7 @@ use Rattle.node_select.specs.declared.selector.PatchEnd.TheVariants as patch_end
 use Rattle.node_select.specs.declared.selector.PatchSelector.{PatchSelector}
 use Rattle.node_select.specs.Names.{is_unbound}
 use Rattle.node_select.specs.Grammar
+use Rattle.node_select.specs.readers.Made
 use Rattle.node_select.specs.readers.Words
 use Rattle.node_select.specs.readers.Selectors.{star_follows, position_follows, read_position, read_value, test_follows, slash_follows, attribute_follows, step_follows, patch_step_follows}
 
@@ -29,7 +30,7 @@ judge bindings on name = if is_unbound bindings name && on then Some (Unbound, l
 
 module _ (bindings : List Decl) (default : List ℕ) (on : Bool) where
   abbrev pub judged_node_name : Reader Kind NameTest
-  judged_node_name = read_either star_follows (read_valued (λ _. Any) (read_word Words.star)) (read_valued (Grammar.element_test bindings default) (read_judged (judge bindings on) read_qname))
+  judged_node_name = read_either star_follows (read_valued (λ _. Any) (read_word Words.star)) (read_valued (Made.element_test bindings default) (read_judged (judge bindings on) read_qname))
 
   abbrev pub judged_attribute : Reader Kind Name
   judged_attribute = read_behind (read_word Words.at_sign) (read_judged (judge bindings on) (read_only Grammar.names_attribute read_qname))
@@ -37,34 +38,34 @@ module _ (bindings : List Decl) (default : List ℕ) (on : Bool) where
   abbrev pub judged_test : Reader Kind AttrTest
   judged_test =
       read_behind (read_word Words.open_bracket)
-      (read_before (read_valued (Grammar.attr_test bindings default) (read_sequence judged_attribute (λ _. read_behind (read_word Words.equals_sign) read_value))) (read_word Words.close_bracket))
+      (read_before (read_valued (Made.attr_test bindings default) (read_sequence judged_attribute (λ _. read_behind (read_word Words.equals_sign) read_value))) (read_word Words.close_bracket))
 
   abbrev pub judged_step : Reader Kind Step
   judged_step =
-      read_valued Grammar.step_of
+      read_valued Made.step_of
       (read_sequence (read_sequence judged_node_name (λ _. read_optional position_follows read_position)) (λ _. read_optional test_follows judged_test))
 
   abbrev pub judged_next : Reader Kind Step
   judged_next = read_behind (read_word Words.slash) judged_step
 
   abbrev pub judged_steps : (List ℕ → Bool) → Reader Kind (List Step)
-  judged_steps follows = read_valued Grammar.first_step_of (read_sequence judged_step (λ _. read_many follows judged_next))
+  judged_steps follows = read_valued Made.first_step_of (read_sequence judged_step (λ _. read_many follows judged_next))
 
   abbrev pub judged_end : Reader Kind End
-  judged_end = read_either attribute_follows (read_valued (Grammar.attribute_end bindings default) judged_attribute) (read_valued (λ _. Namespaces) (read_word Words.namespaces))
+  judged_end = read_either attribute_follows (read_valued (Made.attribute_end bindings default) judged_attribute) (read_valued (λ _. Namespaces) (read_word Words.namespaces))
 
   abbrev pub judged_selector : Reader Kind Selector
   judged_selector =
-      read_valued Grammar.selector_of
-      (read_sequence (judged_steps step_follows) (λ _. read_valued Grammar.end_or_element (read_optional slash_follows (read_behind (read_word Words.slash) judged_end))))
+      read_valued Made.selector_of
+      (read_sequence (judged_steps step_follows) (λ _. read_valued Made.end_or_element (read_optional slash_follows (read_behind (read_word Words.slash) judged_end))))
 
   abbrev pub judged_patch_end : Reader Kind PatchEnd
   judged_patch_end =
-      read_either attribute_follows (read_valued (Grammar.patch_attribute_end bindings default) judged_attribute)
+      read_either attribute_follows (read_valued (Made.patch_attribute_end bindings default) judged_attribute)
       (read_valued (λ n. patch_ends.Chars n) (read_behind (read_word Words.text_test) (read_optional test_follows read_position)))
 
   abbrev pub judged_patch_selector : Reader Kind PatchSelector
   judged_patch_selector =
       read_behind (read_optional slash_follows (read_word Words.slash))
-      (read_valued Grammar.patch_selector_of
-      (read_sequence (judged_steps patch_step_follows) (λ _. read_valued Grammar.patch_end_or_element (read_optional slash_follows (read_behind (read_word Words.slash) judged_patch_end)))))
+      (read_valued Made.patch_selector_of
+      (read_sequence (judged_steps patch_step_follows) (λ _. read_valued Made.patch_end_or_element (read_optional slash_follows (read_behind (read_word Words.slash) judged_patch_end)))))

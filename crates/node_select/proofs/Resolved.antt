@@ -18,7 +18,7 @@ use Rattle.node_select.specs.declared.selector.Step.{Step}
 use Rattle.node_select.specs.declared.selector.End.TheVariants.{Namespaces}
 use Rattle.node_select.specs.declared.selector.PatchSelector.{PatchSelector}
 use Rattle.node_select.specs.declared.selector.PatchEnd.TheVariants as patch_ends
-use Rattle.node_select.specs.Grammar
+use Rattle.node_select.specs.readers.Made
 use Rattle.node_select.specs.Grammar.{position, value, names_attribute}
 use Rattle.node_select.specs.readers.Words.{slash, star, at_sign, open_bracket, close_bracket, equals_sign, namespaces, text_test}
 use Rattle.node_select.specs.readers.Raw
@@ -107,7 +107,7 @@ module _ (bindings : List Decl) (default : List ℕ) (on : Bool) (whole : List �
   node_name_follows =
       either on whole star_follows
       (valued on whole (word_follows star) (λ _. None) (λ _. Any) (name_test bindings default) (unbound_name bindings) (λ a. refl) (λ n a. refl))
-      (valued on whole (name on whole bindings (λ u n m. m) qname_exact) (λ a. Some a) (Grammar.element_test bindings default) (name_test bindings default) (unbound_name bindings) (λ a. refl) (λ n a. refl))
+      (valued on whole (name on whole bindings (λ u n m. m) qname_exact) (λ a. Some a) (Made.element_test bindings default) (name_test bindings default) (unbound_name bindings) (λ a. refl) (λ n a. refl))
 
   attribute_follows_so : Follows on whole read_attribute (judged_attribute bindings default on) (λ a. a) (λ n a. unbound_at bindings (n + 1) a)
   attribute_follows_so =
@@ -117,11 +117,11 @@ module _ (bindings : List Decl) (default : List ℕ) (on : Bool) (whole : List �
       (λ x. x.1) (λ x. x.1) (λ a. a) (λ n a. unbound_at bindings (n + 1) a) (λ x. refl) (λ n x. refl)
 
   tested_follows : Follows on whole (read_sequence read_attribute (λ _. read_behind (read_word equals_sign) read_value))
-      (read_valued (Grammar.attr_test bindings default) (read_sequence (judged_attribute bindings default on) (λ _. read_behind (read_word equals_sign) read_value))) (Raw.attr_test bindings) (λ n x. unbound_at bindings (n + 1) x.0)
+      (read_valued (Made.attr_test bindings default) (read_sequence (judged_attribute bindings default on) (λ _. read_behind (read_word equals_sign) read_value))) (Raw.attr_test bindings) (λ n x. unbound_at bindings (n + 1) x.0)
   tested_follows =
       right on whole
       (sequence on whole attribute_follows_so equals_follows (λ n x. unbound_at bindings (n + 1) x.0) (λ n w text rest a c e fills. sym (first_none (unbound_at bindings (n + 1) a))))
-      (Grammar.attr_test bindings default) (Raw.attr_test bindings) (λ x. refl)
+      (Made.attr_test bindings default) (Raw.attr_test bindings) (λ x. refl)
 
   test_follows_so : Follows on whole read_test (judged_test bindings default on) (Raw.attr_test bindings) (λ n x. unbound_at bindings (n + 2) x.0)
   test_follows_so =
@@ -150,7 +150,7 @@ module _ (bindings : List Decl) (default : List ℕ) (on : Bool) (whole : List �
       (λ n w text rest a c e fills.
       let front : a.1 ≡ w = omega (arith, sized_wide (read_sequence read_node_name (λ _. read_optional position_follows read_position)) text (a, rest) e, fills) in
       ap (first_of (unbound_name bindings n a.0.0)) (behind_front n w a.1 c front))))
-      Raw.raw_step_of Grammar.step_of (Raw.step_of bindings default) (unbound_in bindings)
+      Raw.raw_step_of Made.step_of (Raw.step_of bindings default) (unbound_in bindings)
       (λ x. ap (λ (o : Option ℕ). let s : Step = record { name = name_test bindings default x.0.0.0.0; position = o; test = option_map (Raw.attr_test bindings) x.0.1 } in s) (option_same x.0.0.0.1))
       (λ n x. refl)
 
@@ -177,7 +177,7 @@ module _ (bindings : List Decl) (default : List ℕ) (on : Bool) (whole : List �
       (λ n w text rest a others e fills.
       let place : n + a.size + 1 ≡ n + w + 1 = omega (arith, (step_fills text a rest e).sizes, fills) in
       ap (λ (k : ℕ). first_of (unbound_in bindings n a) (unbound_from bindings k others no_end)) place))
-      Grammar.first_step_of Grammar.first_step_of (Raw.steps_of bindings default) (λ n ss. unbound_from bindings n ss no_end)
+      Made.first_step_of Made.first_step_of (Raw.steps_of bindings default) (λ n ss. unbound_from bindings n ss no_end)
       (λ x. ap (λ (l : List Step). Raw.step_of bindings default x.0 ∷ l) (steps_same x.1)) (λ n x. refl)
 
   -- ---- selectors
@@ -187,10 +187,10 @@ module _ (bindings : List Decl) (default : List ℕ) (on : Bool) (whole : List �
   end_follows : Follows on whole read_end (judged_end bindings default on) (Raw.end_of bindings) (λ n e. unbound_end bindings e n)
   end_follows =
       either on whole attribute_follows
-      (valued on whole attribute_follows_so (λ a. AtAttribute a) (Grammar.attribute_end bindings default) (Raw.end_of bindings) (λ n e. unbound_end bindings e n) (λ a. refl) (λ n a. behind_at n a))
+      (valued on whole attribute_follows_so (λ a. AtAttribute a) (Made.attribute_end bindings default) (Raw.end_of bindings) (λ n e. unbound_end bindings e n) (λ a. refl) (λ n a. behind_at n a))
       (valued on whole (word_follows namespaces) (λ _. AtNamespaces) (λ _. Namespaces) (Raw.end_of bindings) (λ n e. unbound_end bindings e n) (λ a. refl) (λ n a. refl))
 
-  end_same : (o : Option RawEnd) → Grammar.end_or_element (option_map (Raw.end_of bindings) o) ≡ Raw.end_of bindings (Raw.end_or_element o)
+  end_same : (o : Option RawEnd) → Made.end_or_element (option_map (Raw.end_of bindings) o) ≡ Raw.end_of bindings (Raw.end_or_element o)
   end_same None = refl
   end_same (Some e) = refl
 
@@ -199,7 +199,7 @@ module _ (bindings : List Decl) (default : List ℕ) (on : Bool) (whole : List �
   end_place n (Some e) = refl
 
   tail_follows : Follows on whole (read_valued Raw.end_or_element (read_optional slash_follows (read_behind (read_word slash) read_end)))
-      (read_valued Grammar.end_or_element (read_optional slash_follows (read_behind (read_word slash) (judged_end bindings default on)))) (Raw.end_of bindings) (λ n e. unbound_end bindings e (n + 1))
+      (read_valued Made.end_or_element (read_optional slash_follows (read_behind (read_word slash) (judged_end bindings default on)))) (Raw.end_of bindings) (λ n e. unbound_end bindings e (n + 1))
   tail_follows =
       valued on whole
       (optional on whole slash_follows
@@ -207,7 +207,7 @@ module _ (bindings : List Decl) (default : List ℕ) (on : Bool) (whole : List �
       (sequence on whole (word_follows slash) end_follows (λ n x. unbound_end bindings x.1 (n + 1))
       (λ n w text rest a c e fills. let one : n + 1 ≡ n + w = omega (arith, word_wide slash text (a, rest) e, fills) in ap (λ (k : ℕ). unbound_end bindings c k) one))
       (λ x. x.1) (λ x. x.1) (Raw.end_of bindings) (λ n e. unbound_end bindings e (n + 1)) (λ x. refl) (λ n x. refl)))
-      Raw.end_or_element Grammar.end_or_element (Raw.end_of bindings) (λ n e. unbound_end bindings e (n + 1)) end_same end_place
+      Raw.end_or_element Made.end_or_element (Raw.end_of bindings) (λ n e. unbound_end bindings e (n + 1)) end_same end_place
 
   -- an end stands behind the steps and a slash
   behind_steps : (follows : List ℕ → Bool) (n w : ℕ) (text rest : List ℕ) (ss : List RawStep) (end : ℕ → Option ℕ) → read_steps follows text ≡ Ok (ss, rest) → w + length rest ≡ length text
@@ -221,20 +221,20 @@ module _ (bindings : List Decl) (default : List ℕ) (on : Bool) (whole : List �
       right on whole
       (sequence on whole (steps_follows step_follows) tail_follows (λ n x. unbound_from bindings n x.0 (unbound_end bindings x.1))
       (λ n w text rest a c e fills. behind_steps step_follows n w text rest a (unbound_end bindings c) e fills))
-      Grammar.selector_of (Raw.selector_of bindings default) (λ x. refl)
+      Made.selector_of (Raw.selector_of bindings default) (λ x. refl)
 
   -- ---- selectors of patches
   patch_end_follows : Follows on whole read_patch_end (judged_patch_end bindings default on) (Raw.patch_end_of bindings) (λ n e. unbound_patch_end bindings e n)
   patch_end_follows =
       either on whole attribute_follows
-      (valued on whole attribute_follows_so (λ a. PatchAttribute a) (Grammar.patch_attribute_end bindings default) (Raw.patch_end_of bindings) (λ n e. unbound_patch_end bindings e n) (λ a. refl) (λ n a. behind_at n a))
+      (valued on whole attribute_follows_so (λ a. PatchAttribute a) (Made.patch_attribute_end bindings default) (Raw.patch_end_of bindings) (λ n e. unbound_patch_end bindings e n) (λ a. refl) (λ n a. behind_at n a))
       (valued on whole
       (valued on whole
       (sequence on whole (word_follows text_test) patch_position (λ n x. None) (λ n w text rest a c e fills. sym (if_none on whole (n + w) c)))
       (λ x. x.1) (λ x. x.1) (option_map (λ a. a)) (λ n o. None) (λ x. refl) (λ n x. refl))
       (λ o. PatchChars o) (λ o. patch_ends.Chars o) (Raw.patch_end_of bindings) (λ n e. unbound_patch_end bindings e n) (λ o. ap (λ (z : Option ℕ). patch_ends.Chars z) (option_same o)) (λ n o. refl))
 
-  patch_end_same : (o : Option RawPatchEnd) → Grammar.patch_end_or_element (option_map (Raw.patch_end_of bindings) o) ≡ Raw.patch_end_of bindings (Raw.patch_end_or_element o)
+  patch_end_same : (o : Option RawPatchEnd) → Made.patch_end_or_element (option_map (Raw.patch_end_of bindings) o) ≡ Raw.patch_end_of bindings (Raw.patch_end_or_element o)
   patch_end_same None = refl
   patch_end_same (Some e) = refl
 
@@ -243,7 +243,7 @@ module _ (bindings : List Decl) (default : List ℕ) (on : Bool) (whole : List �
   patch_end_place n (Some e) = refl
 
   patch_tail_follows : Follows on whole (read_valued Raw.patch_end_or_element (read_optional slash_follows (read_behind (read_word slash) read_patch_end)))
-      (read_valued Grammar.patch_end_or_element (read_optional slash_follows (read_behind (read_word slash) (judged_patch_end bindings default on)))) (Raw.patch_end_of bindings) (λ n e. unbound_patch_end bindings e (n + 1))
+      (read_valued Made.patch_end_or_element (read_optional slash_follows (read_behind (read_word slash) (judged_patch_end bindings default on)))) (Raw.patch_end_of bindings) (λ n e. unbound_patch_end bindings e (n + 1))
   patch_tail_follows =
       valued on whole
       (optional on whole slash_follows
@@ -251,7 +251,7 @@ module _ (bindings : List Decl) (default : List ℕ) (on : Bool) (whole : List �
       (sequence on whole (word_follows slash) patch_end_follows (λ n x. unbound_patch_end bindings x.1 (n + 1))
       (λ n w text rest a c e fills. let one : n + 1 ≡ n + w = omega (arith, word_wide slash text (a, rest) e, fills) in ap (λ (k : ℕ). unbound_patch_end bindings c k) one))
       (λ x. x.1) (λ x. x.1) (Raw.patch_end_of bindings) (λ n e. unbound_patch_end bindings e (n + 1)) (λ x. refl) (λ n x. refl)))
-      Raw.patch_end_or_element Grammar.patch_end_or_element (Raw.patch_end_of bindings) (λ n e. unbound_patch_end bindings e (n + 1)) patch_end_same patch_end_place
+      Raw.patch_end_or_element Made.patch_end_or_element (Raw.patch_end_of bindings) (λ n e. unbound_patch_end bindings e (n + 1)) patch_end_same patch_end_place
 
   abbrev slash_there : ℕ → Option (Unit {0})
   slash_there zero = None
@@ -269,13 +269,13 @@ module _ (bindings : List Decl) (default : List ℕ) (on : Bool) (whole : List �
 
   patch_parts : Follows on whole
       (read_sequence (read_steps patch_step_follows) (λ _. read_valued Raw.patch_end_or_element (read_optional slash_follows (read_behind (read_word slash) read_patch_end))))
-      (read_valued Grammar.patch_selector_of (read_sequence (judged_steps bindings default on patch_step_follows) (λ _. read_valued Grammar.patch_end_or_element (read_optional slash_follows (read_behind (read_word slash) (judged_patch_end bindings default on))))))
+      (read_valued Made.patch_selector_of (read_sequence (judged_steps bindings default on patch_step_follows) (λ _. read_valued Made.patch_end_or_element (read_optional slash_follows (read_behind (read_word slash) (judged_patch_end bindings default on))))))
       patch_of (λ n x. unbound_from bindings n x.0 (unbound_patch_end bindings x.1))
   patch_parts =
       right on whole
       (sequence on whole (steps_follows patch_step_follows) patch_tail_follows (λ n x. unbound_from bindings n x.0 (unbound_patch_end bindings x.1))
       (λ n w text rest a c e fills. behind_steps patch_step_follows n w text rest a (unbound_patch_end bindings c) e fills))
-      Grammar.patch_selector_of patch_of (λ x. refl)
+      Made.patch_selector_of patch_of (λ x. refl)
 
   pub patch_selector_follows : Follows on whole read_patch_selector (judged_patch_selector bindings default on) (Raw.patch_selector_of bindings default) (λ n x. unbound_from bindings (n + x.0) x.1.0 (unbound_patch_end bindings x.1.1))
   patch_selector_follows =

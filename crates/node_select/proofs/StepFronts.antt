@@ -9,7 +9,8 @@ use Rattle.tree_text.specs.readers.Words.{colon, ampersand, semicolon, hash, sma
 use Rattle.tree_text.specs.Grammar.{qname, reference, last_char, stands_for, numbered, entity}
 use Rattle.tree_text.specs.Pieces.{qname_of}
 use Rattle.node_select.specs.declared.selector.NameTest.TheVariants.{Any}
-use Rattle.node_select.specs.Grammar.{IsUnbound, names_attribute, plain_value, step_of, node_name, element_test, position_of, position, attribute, attr_test, value, test, step}
+use Rattle.node_select.specs.Grammar.{IsUnbound, names_attribute, plain_value, node_name, position_of, position, attribute, value, test, step}
+use Rattle.node_select.specs.readers.Made.{step_of, element_test, attr_test}
 use Rattle.node_select.specs.readers.Words.{star, open_bracket, close_bracket, at_sign, equals_sign}
 use Rattle.node_select.proofs.ExactParts.{lawful_reference, lawful_value, lawful_position, lawful_attribute, lawful_node_name}
 

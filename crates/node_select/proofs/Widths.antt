@@ -9,7 +9,8 @@ use Rattle.tree_text.specs.Grammar.{is_quote, is_raw_in}
 use Rattle.tree_text.specs.readers.Texts.{reference_follows}
 use Rattle.tree_text.proofs.TagLemmas.{shrinks_qname, shrinks_reference}
 use Rattle.tree_text.proofs.Shrinks.{Small, Shrinks, ok_small, shrinks_one, shrinks_word, shrinks_run, shrinks_empty, shrinks_sequence, shrinks_valued, shrinks_either, shrinks_many}
-use Rattle.node_select.specs.Grammar.{position_of, names_attribute, plain_value, first_step_of}
+use Rattle.node_select.specs.Grammar.{position_of, names_attribute, plain_value}
+use Rattle.node_select.specs.readers.Made.{first_step_of}
 use Rattle.node_select.specs.readers.Words.{star, at_sign, open_bracket, close_bracket, equals_sign, slash}
 use Rattle.node_select.specs.readers.Raw.{RawStep, RawPatchEnd, widths, AreWhole, HasRoom, RawSelector, RawPatchSelector, raw_step_of, end_or_element, patch_end_or_element, slash_width}
 use Rattle.node_select.specs.readers.Selectors.{star_follows, position_follows, test_follows, slash_follows, read_node_name, read_position, read_attribute, read_inside_quotes, read_value, read_test, read_step, read_next_step, read_steps, read_end, read_selector, read_patch_end, read_patch_selector, step_follows, patch_step_follows}

@@ -8,7 +8,7 @@
 --     patch    = [ "/" ] step *( "/" step ) [ "/" ( "@" QName / "text()" [ "[" 1*DIGIT "]" ] ) ]
 --
 -- A rule spells what its texts mean by the bindings of their prefixes. Where a prefix isn't bound, the name says so.
-use Rattle.std.specs.Prelude.{◌≡◌, ℕ, Bool, true, not, ◌&&◌, nat_le, codes, List, [], ◌∷◌, ◌++◌, length, Option, None, Some, if◌then◌else◌}
+use Rattle.std.specs.Prelude.{◌≡◌, ℕ, Bool, true, not, ◌&&◌, nat_le, codes, List, [], ◌∷◌, ◌++◌, length, unwrap_or, if◌then◌else◌}
 use Rattle.std.specs.Str.{bytes_eq}
 use Rattle.std.specs.Char.{is_ascii_digit}
 use Rattle.xml_tree.specs.Scopes.{xmlns_prefix}
@@ -43,11 +43,8 @@ more_plain ((c, cs) ∷ pieces) = c ∷ (cs ++ more_plain pieces)
 abbrev pub plain_value : List ℕ × List (ℕ × List ℕ) → List ℕ
 plain_value x = x.0 ++ more_plain x.1
 
-abbrev pub inside_quotes : ℕ → Rule Kind (List ℕ)
-inside_quotes quote = valued plain_value (between (run (is_raw_in quote)) reference)
-
 abbrev pub value : Rule Kind (List ℕ)
-value = quoted is_quote inside_quotes
+value = quoted is_quote (λ quote. valued plain_value (between (run (is_raw_in quote)) reference))
 
 -- a position above the greatest one is read as 0, which no child has
 abbrev pub greatest_position : ℕ
@@ -68,79 +65,52 @@ names_attribute n = not (bytes_eq n.prefix [] && bytes_eq n.local xmlns_prefix)
 abbrev pub IsUnbound : List Decl → Name → Kind → ℕ → Type 0
 IsUnbound bindings name kind back = (is_unbound bindings name ≡ true) × (kind ≡ Unbound) × (back ≡ length (written name))
 
--- ---- what is made of the parts
-
-abbrev pub step_of : (NameTest × Option ℕ) × Option AttrTest → Step
-step_of x = record { name = x.0.0; position = x.0.1; test = x.1 }
-
-abbrev pub first_step_of : {A : Type 0} → A × List A → List A
-first_step_of x = x.0 ∷ x.1
-
-abbrev pub end_or_element : Option End → End
-end_or_element None = Element
-end_or_element (Some end) = end
-
-abbrev pub selector_of : List Step × End → Selector
-selector_of x = record { steps = x.0; end = x.1 }
-
-abbrev pub patch_end_or_element : Option PatchEnd → PatchEnd
-patch_end_or_element None = patch_ends.Element
-patch_end_or_element (Some end) = end
-
-abbrev pub patch_selector_of : List Step × PatchEnd → PatchSelector
-patch_selector_of x = record { steps = x.0; end = x.1 }
-
 -- prefixes mean what these bindings say, and an element's name without prefix is in this namespace
 module _ (bindings : List Decl) (default : List ℕ) where
   -- ---- steps
 
-  abbrev pub element_test : Name → NameTest
-  element_test name = Named (name_uri bindings default name) name.local
-
   -- QName / "*"
   abbrev pub node_name : Rule Kind NameTest
-  node_name = either (valued (λ _. Any) (word (codes "*"))) (valued element_test (judged (IsUnbound bindings) qname))
+  node_name = either (valued (λ _. Any) (word (codes "*"))) (valued (λ name. Named (name_uri bindings default name) name.local) (judged (IsUnbound bindings) qname))
 
   -- "@" QName
   abbrev pub attribute : Rule Kind Name
   attribute = keeping_second (word (codes "@")) (judged (IsUnbound bindings) (only names_attribute qname))
 
-  abbrev pub attr_test : Name × List ℕ → AttrTest
-  attr_test x = record { uri = attr_uri bindings x.0; local = x.0.local; value = x.1 }
-
   -- "[" "@" QName "=" value "]"
   abbrev pub test : Rule Kind AttrTest
-  test = keeping_second (word (codes "[")) (keeping_first (valued attr_test (sequence attribute (λ _. keeping_second (word (codes "=")) value))) (word (codes "]")))
+  test =
+      keeping_second (word (codes "[")) (keeping_first (valued (λ x. record { uri = attr_uri bindings x.0; local = x.0.local; value = x.1 })
+      (sequence attribute (λ _. keeping_second (word (codes "=")) value))) (word (codes "]")))
 
   abbrev pub step : Rule Kind Step
-  step = valued step_of (sequence (sequence node_name (λ _. optional position)) (λ _. optional test))
+  step = valued (λ x. record { name = x.0.0; position = x.0.1; test = x.1 }) (sequence (sequence node_name (λ _. optional position)) (λ _. optional test))
 
   -- step *( "/" step )
   abbrev pub steps : Rule Kind (List Step)
-  steps = valued first_step_of (sequence step (λ _. many (keeping_second (word (codes "/")) step)))
+  steps = valued (λ x. x.0 ∷ x.1) (sequence step (λ _. many (keeping_second (word (codes "/")) step)))
 
   -- ---- selectors
 
-  abbrev pub attribute_end : Name → End
-  attribute_end name = Attribute (attr_uri bindings name) name.local
-
   -- "@" QName / "namespace::*"
   abbrev pub end : Rule Kind End
-  end = either (valued attribute_end attribute) (valued (λ _. Namespaces) (word (codes "namespace::*")))
+  end = either (valued (λ name. Attribute (attr_uri bindings name) name.local) attribute) (valued (λ _. Namespaces) (word (codes "namespace::*")))
 
+  -- without an end it selects an element
   abbrev pub selector : Rule Kind Selector
-  selector = valued selector_of (sequence steps (λ _. valued end_or_element (optional (keeping_second (word (codes "/")) end))))
+  selector =
+      valued (λ x. record { steps = x.0; end = x.1 }) (sequence steps (λ _. valued (λ o. unwrap_or o Element) (optional (keeping_second (word (codes "/")) end))))
 
   -- ---- selectors of patches
 
-  abbrev pub patch_attribute_end : Name → PatchEnd
-  patch_attribute_end name = patch_ends.Attribute (attr_uri bindings name) name.local
-
   -- "@" QName / "text()" [ "[" 1*DIGIT "]" ]
   abbrev pub patch_end : Rule Kind PatchEnd
-  patch_end = either (valued patch_attribute_end attribute) (valued (λ n. patch_ends.Chars n) (keeping_second (word (codes "text()")) (optional position)))
+  patch_end =
+      either (valued (λ name. patch_ends.Attribute (attr_uri bindings name) name.local) attribute)
+      (valued (λ n. patch_ends.Chars n) (keeping_second (word (codes "text()")) (optional position)))
 
   abbrev pub patch_selector : Rule Kind PatchSelector
   patch_selector =
       keeping_second (optional (word (codes "/")))
-      (valued patch_selector_of (sequence steps (λ _. valued patch_end_or_element (optional (keeping_second (word (codes "/")) patch_end)))))
+      (valued (λ x. record { steps = x.0; end = x.1 })
+      (sequence steps (λ _. valued (λ o. unwrap_or o patch_ends.Element) (optional (keeping_second (word (codes "/")) patch_end)))))

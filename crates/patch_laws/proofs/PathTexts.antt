@@ -15,7 +15,8 @@ use Rattle.tree_text.specs.declared.kind.Kind.{Kind}
 use Rattle.tree_text.specs.readers.Texts.{read_qname}
 use Rattle.tree_text.proofs.ReadFronts.{Reads, AllRead, reads_before, reads_behind, reads_left, reads_many, reads_name_of, reads_right, reads_sequence, reads_sized, reads_valued, reads_word}
 use Rattle.tree_text.proofs.PrintedNames.{IsWritten, reads_qname}
-use Rattle.node_select.specs.Grammar.{names_attribute, first_step_of, greatest_position, position_of}
+use Rattle.node_select.specs.Grammar.{names_attribute, greatest_position, position_of}
+use Rattle.node_select.specs.readers.Made.{first_step_of}
 use Rattle.node_select.specs.readers.Words.{at_sign, close_bracket, open_bracket, slash, star}
 use Rattle.node_select.specs.readers.Raw.{RawStep, RawPatchEnd, PatchAttribute, PatchElement, patch_end_or_element, raw_step_of, slash_width}
 use Rattle.node_select.specs.readers.Selectors.{attribute_follows, patch_step_follows, position_follows, read_attribute, read_next_step, read_node_name, read_patch_end, read_patch_selector, read_position, read_step, read_steps, read_test, slash_follows, star_follows, test_follows}

@@ -20,7 +20,8 @@ use Rattle.tree_text.specs.declared.kind.Kind.{Kind}
 use Rattle.tree_text.specs.declared.kind.Kind.TheVariants.{Unbound}
 use Rattle.tree_text.proofs.ProperTags.{pass_all}
 use Rattle.node_select.specs.Faults.{IsSelectorAnswer, marks, selector_told as told}
-use Rattle.node_select.specs.Grammar.{IsUnbound, attribute, end, end_or_element, names_attribute, selector, steps}
+use Rattle.node_select.specs.Grammar.{IsUnbound, attribute, end, names_attribute, selector, steps}
+use Rattle.node_select.specs.readers.Made.{end_or_element}
 use Rattle.node_select.specs.readers.Words.{at_sign, namespaces, slash}
 use Rattle.node_select.specs.Names.{attr_uri, is_unbound, prefix_uri}
 use Rattle.node_select.specs.declared.fault.SelectorFault.{SelectorFault}
