@@ -1,7 +1,6 @@
 -- The tag of a response: what its `ETag` field says (RFC 9110, section 8.8.3).
 use Rattle.std.specs.Prelude.{◌≡◌, ℕ, Bool, List, [], ◌∷◌, ◌++◌, Option, None, Some, codes, chars, IsUtf8}
 use Rattle.preconditions.specs.Tags.{AreAll, is_tag_byte, tag_text}
-use Rattle.preconditions.specs.Reading.{entity_tag}
 use Rattle.http_wire.specs.Fields.{values_of}
 
 -- opaque-tag = DQUOTE *etagc DQUOTE
@@ -10,7 +9,7 @@ IsQuoted text opaque = AreAll is_tag_byte opaque × (text ≡ codes "\"" ++ (opa
 
 -- the value is an entity tag, weak or not, with this between its quotes
 abbrev pub IsTagWith : List ℕ → List ℕ → Type 0
-IsTagWith value opaque = (weak : Bool) × AreAll is_tag_byte opaque × (value ≡ tag_text (entity_tag weak opaque))
+IsTagWith value opaque = (weak : Bool) × AreAll is_tag_byte opaque × (value ≡ tag_text (record { weak = weak; opaque = opaque }))
 
 -- There is one `ETag` field, its value is an entity tag, and what stands between the quotes is this text in UTF-8.
 pub record GivesTag (fields : List (List ℕ × List ℕ)) (tag : List ℕ) : Type 0 where

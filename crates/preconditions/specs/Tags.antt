@@ -26,9 +26,6 @@ pub record ListPart : Type 0 where
   pub tag : Option EntityTag
   pub behind : List ℕ
 
-abbrev pub list_part_text : ListPart → List ℕ
-list_part_text p = p.before ++ (option_map_or tag_text p.tag [] ++ p.behind)
-
 pub record IsPart (p : ListPart) : Type 0 where
   pub before : AreAll is_ows_byte p.before
   pub tag : IfSome p.tag (λ t. AreAll is_tag_byte t.opaque)
@@ -42,6 +39,6 @@ comma_joined (text ∷ texts) = text ++ flat_map (λ t. codes "," ++ t) texts
 -- the text is a list of exactly these tags, in order; any part may be empty
 pub record SpellsTags (text : List ℕ) (tags : List EntityTag) : Type 0 where
   pub parts : List ListPart
-  pub spelled : text ≡ comma_joined (map list_part_text parts)
+  pub spelled : text ≡ comma_joined (map (λ p. p.before ++ (option_map_or tag_text p.tag [] ++ p.behind)) parts)
   pub tagged : tags ≡ filter_map (λ p. p.tag) parts
   pub lawful : AllByRecursion IsPart parts

@@ -1,15 +1,24 @@
 -- What the conditions of a request make of it, and that this is one outcome.
 use Rattle.std.proofs.Common.{◌≡◌, ℕ, Bool, List, [], Option, None, Some, codes, refl, sym, ap, ◌∙◌}
+use Rattle.std.specs.Option.{option_map_or}
 use Rattle.http_wire.specs.declared.request.Field.{Field}
 use Rattle.http_wire.specs.declared.request.Request.{Request}
 use Rattle.preconditions.specs.Fields.{ConditionsAnswer, Missing, Preconditions, SayBoth}
 use Rattle.preconditions.specs.Verdicts.{verdict_of}
 use Rattle.preconditions.proofs.Values.{one_conditions, some_conditions}
 use Rattle.reply_text.specs.Heads.{Sent}
-use Rattle.request_terms.specs.Conditions.{HasOutcome, IsStop, LinesMake, by_conditions, by_verdict, stopped_by}
+use Rattle.request_terms.specs.Conditions.{HasOutcome, IsStop, by_verdict, stopped_by}
 use Rattle.request_terms.specs.Rights.{fields_named}
 use Rattle.request_terms.specs.declared.conditions.Outcome.{Outcome}
 use Rattle.request_terms.specs.declared.conditions.Outcome.TheVariants.{Go, Unreadable}
+
+-- what conditions make of a request, if they can be read
+abbrev by_conditions : Option Preconditions → Option ℕ → Bool → Bool → Outcome
+by_conditions said tag exists reading = option_map_or (λ conditions. by_verdict (verdict_of conditions tag exists reading)) said Unreadable
+
+-- what the lines of the two fields make of one
+abbrev pub LinesMake : List (List ℕ) → List (List ℕ) → Option ℕ → Bool → Bool → Outcome → Type 0
+LinesMake ms ns tag exists reading o = (said : Option Preconditions) × ConditionsAnswer ms ns said × (o ≡ by_conditions said tag exists reading)
 
 pub read_outcome : (ms ns : List (List ℕ)) (conditions : Preconditions) (tag : Option ℕ) (exists reading : Bool) (o : Outcome) → SayBoth ms ns conditions → o ≡ by_verdict (verdict_of conditions tag exists reading)
     → LinesMake ms ns tag exists reading o

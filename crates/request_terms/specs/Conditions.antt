@@ -1,6 +1,7 @@
 -- What the conditions of a request make of it. RFC 9110, section 13.2.2: If-Match is looked at first; sections 13.1.1 and 13.1.2 have the
 -- replies to one that doesn't hold.
 use Rattle.std.specs.Prelude.{◌≡◌, ℕ, Bool, List, [], codes, Option, None, Some}
+use Rattle.std.specs.Option.{option_map_or}
 use Rattle.http_wire.specs.declared.request.Field.{Field}
 use Rattle.http_wire.specs.declared.request.Request.{Request}
 use Rattle.preconditions.specs.Fields.{ConditionsAnswer, Preconditions}
@@ -17,21 +18,12 @@ by_verdict Go = outcomes.Go
 by_verdict Same = outcomes.NotModified
 by_verdict Failed = outcomes.Failed
 
--- by what the two fields say; none where they can't be read
-abbrev pub by_conditions : Option Preconditions → Option ℕ → Bool → Bool → Outcome
-by_conditions None tag exists reading = outcomes.Unreadable
-by_conditions (Some conditions) tag exists reading = by_verdict (verdict_of conditions tag exists reading)
-
--- what the lines of If-Match and of If-None-Match make of a request: the document's tag, whether the selected resource is there, and
--- whether the request reads
-abbrev pub LinesMake : List (List ℕ) → List (List ℕ) → Option ℕ → Bool → Bool → Outcome → Type 0
-LinesMake if_match if_none_match tag exists reading outcome =
-    (said : Option Preconditions) × ConditionsAnswer if_match if_none_match said × (outcome ≡ by_conditions said tag exists reading)
-
--- what the fields of a request make of it
+-- what the fields of a request make of it, by what If-Match and If-None-Match say, if they can be read: the document's tag, whether the
+-- selected resource is there, and whether the request reads
 abbrev pub HasOutcome : List Field → Option ℕ → Bool → Bool → Outcome → Type 0
 HasOutcome fields tag exists reading outcome =
-    LinesMake (fields_named (codes "if-match") fields) (fields_named (codes "if-none-match") fields) tag exists reading outcome
+    (said : Option Preconditions) × ConditionsAnswer (fields_named (codes "if-match") fields) (fields_named (codes "if-none-match") fields) said
+    × (outcome ≡ option_map_or (λ conditions. by_verdict (verdict_of conditions tag exists reading)) said outcomes.Unreadable)
 
 -- the reply of an outcome: to a condition that can't be read, that says that the client has the document with this tag already, or that
 -- doesn't hold; none where the request goes on

@@ -1,6 +1,10 @@
 //! The outcome of a request's conditions (RFC 9110, section 13.2.2).
-ghost use Rattle.std.specs.Prelude.{◌≡◌, IfOk};
-ghost use Rattle.request_terms.specs.Conditions.{HasOutcome, LinesMake, by_verdict};
+ghost use Rattle.std.specs.Prelude.{◌≡◌, IfOk, Option};
+ghost use Rattle.std.specs.Option.{option_map_or};
+ghost use Rattle.preconditions.specs.Fields.{ConditionsAnswer, Preconditions};
+ghost use Rattle.preconditions.specs.Verdicts.{verdict_of};
+ghost use Rattle.request_terms.specs.Conditions.{HasOutcome, by_verdict};
+ghost use Rattle.request_terms.specs.declared.conditions.Outcome.TheVariants.{Unreadable};
 
 use crate::named::copy_named;
 use crate::{NoMemory, Outcome};
@@ -27,7 +31,8 @@ fn outcome_by_lines(
     exists: bool,
     reading: bool,
 ) -> Result<Outcome, NoMemory>
-    ensures made_of_the_lines { IfOk result (λ o. LinesMake if_match.now if_none_match.now tag exists reading o) }
+    ensures made_of_the_lines { IfOk result (λ o. (said : Option Preconditions) × ConditionsAnswer if_match.now if_none_match.now said
+        × (o ≡ option_map_or (λ conditions. by_verdict (verdict_of conditions tag exists reading)) said Unreadable)) }
 {
     match read_conditions(alloc, if_match, if_none_match) {
         Ok(conditions) => Ok(by_verdict(condition(&conditions, tag, exists, reading))),

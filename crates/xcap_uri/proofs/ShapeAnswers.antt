@@ -16,7 +16,8 @@ use Rattle.xml_tree.specs.declared.read_error.ReadError.TheVariants.{Fault}
 use Rattle.xcap_uri.specs.Gives.{UriError}
 use Rattle.xcap_uri.specs.Shapes.{auid_word, mode_word, doc_of, in_home, in_feed, Names, names_document, names_node, names_deep, names_feed, names_element_feed, names_flat, BeginRightly, AreNamed, tag_spelled as tag_of}
 use Rattle.xcap_uri.specs.readers.Shapes as reader
-use Rattle.xcap_uri.specs.Words.{resource_lists, rls_services, xcap_caps, global, users, feed, flat, no_patching, xcap_patching, aggregate, element_word as element}
+use Rattle.xcap_uri.specs.Words.{global, users, feed, flat, element_word as element}
+use Rattle.xcap_uri.specs.readers.Words.{resource_lists, rls_services, xcap_caps, no_patching, xcap_patching, aggregate}
 use Rattle.xcap_uri.specs.declared.fault.UriFault.TheVariants.{BadShape, UnknownAuid}
 use Rattle.xcap_uri.specs.declared.shape.Shape.{Shape}
 use Rattle.xcap_uri.specs.declared.shape.Shape.TheVariants.{Document, Node, Deep, Feed, ElementFeed, Flat}

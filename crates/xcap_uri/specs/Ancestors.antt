@@ -1,6 +1,7 @@
 -- The URIs that a conflict document names where a node has no parent. RFC 4825, section 11: the closest ancestor that exists. A node's URI
 -- is the document's, the separator `~~` and the node selector (section 6), in which `[` and `]` are escaped (RFC 3986, section 3.3).
-use Rattle.std.specs.Prelude.{ℕ, nat_eq, List, [], ◌∷◌, ◌++◌, take, codes, flat_map, Option, None, Some, if◌then◌else◌}
+use Rattle.std.specs.Prelude.{ℕ, nat_eq, List, [], ◌∷◌, ◌++◌, take, codes, flat_map, if◌then◌else◌}
+use Rattle.std.specs.Option.{option_map_or}
 use Rattle.xml_tree.specs.Tree.{Tree}
 use Rattle.node_select.specs.Selection.{selected_in, longest_in}
 use Rattle.xml_tree.specs.PathTexts.{path_text}
@@ -18,23 +19,13 @@ abbrev pub home_uri : List ℕ → Auid → Home → List ℕ
 home_uri root auid Global = root ++ (codes "/" ++ (auid_text auid ++ codes "/global"))
 home_uri root auid (User xui) = root ++ (codes "/" ++ (auid_text auid ++ (codes "/users/" ++ escaped_part xui)))
 
--- the URI of a document
-abbrev pub document_uri : List ℕ → DocId → List ℕ
-document_uri root id = root ++ (codes "/" ++ id_text id)
-
 -- a character of a node selector in a URI: `[` (91) and `]` (93) are escaped
 abbrev pub bracket_escape : ℕ → List ℕ
 bracket_escape c = if nat_eq c 91 then codes "%5B" else (if nat_eq c 93 then codes "%5D" else c ∷ [])
 
--- what follows the document's URI in that of the element at a path; nothing where the document itself is meant
-abbrev pub ancestor_path : Option (List ℕ) → List ℕ
-ancestor_path None = []
-ancestor_path (Some p) = codes "/~~/" ++ flat_map bracket_escape (path_text p)
-
--- the path of the element that the greatest number of first steps selects, if the first step selects the root
-abbrev pub closest_in : List Step → Tree → Option (List ℕ)
-closest_in steps t = selected_in (take (longest_in steps t) steps) t
-
--- the URI of the closest ancestor of a node that isn't there: that element, or the document
+-- the URI of the closest ancestor of a node that isn't there: that of the element that the greatest number of first steps selects, or that
+-- of the document where not even the first step selects the root
 abbrev pub ancestor_uri : List ℕ → DocId → Tree → List Step → List ℕ
-ancestor_uri root id t steps = document_uri root id ++ ancestor_path (closest_in steps t)
+ancestor_uri root id t steps =
+    (root ++ (codes "/" ++ id_text id))
+    ++ option_map_or (λ p. codes "/~~/" ++ flat_map bracket_escape (path_text p)) (selected_in (take (longest_in steps t) steps) t) []

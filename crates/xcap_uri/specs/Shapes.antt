@@ -1,6 +1,6 @@
 -- What the segments of an address name. The document selectors are those of RFC 4825, section 6.2; what stands under `~feed` and `~flat` is
 -- this server's own. The segments are those before the separator, decoded; the selector is the text behind it, where there is a separator.
-use Rattle.std.specs.Prelude.{◌≡◌, ◌≢◌, ◌⊎◌, ℕ, List, [], ◌∷◌, ◌++◌, encode_utf8_all, Option, None, Some, chars}
+use Rattle.std.specs.Prelude.{◌≡◌, ◌≢◌, ◌⊎◌, ℕ, List, [], ◌∷◌, ◌++◌, encode_utf8_all, Option, None, Some, chars, codes}
 use Rattle.doc_names.specs.declared.doc_id.Auid.{Auid}
 use Rattle.doc_names.specs.declared.doc_id.Auid.TheVariants.{RlsServices}
 use Rattle.doc_names.specs.declared.doc_id.Home.{Home}
@@ -9,7 +9,7 @@ use Rattle.doc_names.specs.declared.doc_id.DocId.{DocId}
 use Rattle.doc_names.specs.declared.usages.Usage.{Usage}
 use Rattle.doc_names.specs.Usages.{auid_text, usage_of}
 use Rattle.xcap_uri.specs.Numerals.{numeral_of}
-use Rattle.xcap_uri.specs.Words.{global, users, feed, flat, no_patching, xcap_patching, aggregate, element_word}
+use Rattle.xcap_uri.specs.Words.{global, users, feed, flat, element_word}
 use Rattle.xcap_uri.specs.declared.target.Mode.{Mode}
 use Rattle.xcap_uri.specs.declared.target.Mode.TheVariants.{NoPatching, XcapPatching, Aggregate}
 use Rattle.xcap_uri.specs.declared.shape.Shape.{Shape}
@@ -26,11 +26,11 @@ abbrev pub home_words : Home → List (List ℕ)
 home_words Global = global ∷ []
 home_words (User xui) = users ∷ xui ∷ []
 
--- the name of a mode
+-- the name of a mode (RFC 5875, section 4.3)
 abbrev pub mode_word : Mode → List ℕ
-mode_word NoPatching = no_patching
-mode_word XcapPatching = xcap_patching
-mode_word Aggregate = aggregate
+mode_word NoPatching = chars (codes "no-patching")
+mode_word XcapPatching = chars (codes "xcap-patching")
+mode_word Aggregate = chars (codes "aggregate")
 
 -- the number of a tag, which is a numeral
 abbrev pub tag_spelled : List ℕ → Option ℕ

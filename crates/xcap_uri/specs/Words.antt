@@ -1,16 +1,6 @@
 -- The words of addresses, as characters. RFC 4825, section 6.2; RFC 4826, sections 3.4 and 4.4.
 use Rattle.std.specs.Prelude.{ℕ, List, codes, chars}
 
--- the names of the three usages
-abbrev pub resource_lists : List ℕ
-resource_lists = chars (codes "resource-lists")
-
-abbrev pub rls_services : List ℕ
-rls_services = chars (codes "rls-services")
-
-abbrev pub xcap_caps : List ℕ
-xcap_caps = chars (codes "xcap-caps")
-
 -- the two trees of documents of a usage
 abbrev pub global : List ℕ
 global = chars (codes "global")
@@ -28,13 +18,3 @@ flat = chars (codes "~flat")
 -- what stands for a mode in the address of a notice about an element
 abbrev pub element_word : List ℕ
 element_word = chars (codes "element")
-
--- the three modes, as RFC 5875 names them in section 4.3
-abbrev pub no_patching : List ℕ
-no_patching = chars (codes "no-patching")
-
-abbrev pub xcap_patching : List ℕ
-xcap_patching = chars (codes "xcap-patching")
-
-abbrev pub aggregate : List ℕ
-aggregate = chars (codes "aggregate")

@@ -6,3 +6,4 @@ pub mod Roots
 pub mod Shapes
 pub mod Targets
 pub mod UriSteps
+pub mod Words

@@ -1,9 +1,11 @@
 //! The URIs that a conflict document names where a node has no parent (RFC 4825, section 11).
-ghost use Rattle.std.specs.Prelude.{◌≡◌, ◌≤◌, ℕ, List, [], ◌∷◌, ◌++◌, IfOk, OnOk, chars, codes, flat_map};
+ghost use Rattle.std.specs.Prelude.{◌≡◌, ◌≤◌, ℕ, List, [], ◌∷◌, ◌++◌, IfOk, OnOk, chars, codes, flat_map, take};
 ghost use Rattle.xml_tree.specs.Limits.{most_levels};
 ghost use Rattle.xml_tree.specs.Tree.{height};
 ghost use Rattle.xml_tree.specs.PathTexts.{path_text};
-ghost use Rattle.xcap_uri.specs.Ancestors.{ancestor_uri, bracket_escape, closest_in, document_uri, home_uri};
+ghost use Rattle.node_select.specs.Selection.{longest_in, selected_in};
+ghost use Rattle.doc_names.specs.Ids.{id_text};
+ghost use Rattle.xcap_uri.specs.Ancestors.{ancestor_uri, bracket_escape, home_uri};
 
 use crate::root::Root;
 use doc_names::{Auid, DocId, Home, print_doc_id};
@@ -51,7 +53,7 @@ pub fn home_uri(alloc: Global, root: &Root, auid: Auid, home: &Home) -> Result<T
 
 // The URI of a document.
 fn document_uri(alloc: Global, root: &Root, doc: &DocId) -> Result<Text, NoMemory>
-    ensures uri_of_the_document { IfOk result (λ uri. uri ≡ document_uri root.now doc.now) }
+    ensures uri_of_the_document { IfOk result (λ uri. uri ≡ root.now ++ (codes "/" ++ id_text doc.now)) }
 {
     let id = print_doc_id(alloc, doc)?;
     uri_under(alloc, root, id.as_str())
@@ -92,7 +94,7 @@ fn push_path(alloc: Global, uri: &mut Text, path: &Path) -> Result<(), NoMemory>
 // The place of the element that the greatest number of first steps selects.
 fn closest(alloc: Global, tree: &Element, selector: &Selector) -> Option<Path>
     requires { height tree.now ≤ most_levels }
-    ensures place_of_the_closest { result ≡ closest_in selector.now.steps tree.now }
+    ensures place_of_the_closest { result ≡ selected_in (take (longest_in selector.now.steps tree.now) selector.now.steps) tree.now }
 {
     let matched = longest_match(alloc, tree, selector);
     select_steps(alloc, tree, &selector.steps.as_slice()[..matched])

@@ -5,7 +5,8 @@ use Rattle.std.specs.Str.{bytes_eq}
 use Rattle.xml_tree.specs.declared.read_error.ReadError.TheVariants.{Fault}
 use Rattle.xcap_uri.specs.Gives.{UriError}
 use Rattle.xcap_uri.specs.Shapes.{doc_of, tag_spelled}
-use Rattle.xcap_uri.specs.Words.{resource_lists, rls_services, xcap_caps, global, users, feed, flat, no_patching, xcap_patching, aggregate, element_word}
+use Rattle.xcap_uri.specs.Words.{global, users, feed, flat, element_word}
+use Rattle.xcap_uri.specs.readers.Words.{resource_lists, rls_services, xcap_caps, no_patching, xcap_patching, aggregate}
 use Rattle.doc_names.specs.declared.doc_id.Auid.{Auid}
 use Rattle.doc_names.specs.declared.doc_id.Auid.TheVariants.{ResourceLists, RlsServices, XcapCaps}
 use Rattle.doc_names.specs.declared.doc_id.Home.{Home}

@@ -1,6 +1,6 @@
 use Rattle.std.proofs.Common.{◌≡◌, ℕ, List, IfOk, codes, ap, subst, ◌∙◌}
-use Rattle.request_terms.specs.Conditions.{LinesMake}
 use Rattle.request_terms.specs.Rights.{fields_named}
+use Rattle.request_terms.proofs.ReadConditions.{LinesMake}
 use Rattle.request_terms.proofs.outcomes.outcome.Goals as goal
 
 pub returns : goal.returns
