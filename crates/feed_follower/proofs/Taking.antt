@@ -11,7 +11,7 @@ use Rattle.tree_text.specs.declared.fault.TextFault.{TextFault}
 use Rattle.doc_names.specs.declared.doc_id.DocId.{DocId}
 use Rattle.http_exchange.specs.declared.response.Response.{Response}
 use Rattle.name_words.specs.Naming.{is_name_of}
-use Rattle.patch_words.specs.Replay.{CopyAnswer, CopyHeld, CopyFault, Outcome, Replays, Same, Patched, Removed, Fetch, WrongDocument, all_taken, copy_answer, documents, is_all_mine, then_next}
+use Rattle.patch_words.specs.Replay.{CopyAnswer, CopyHeld, CopyFault, Replays, Same, Patched, Removed, Fetch, WrongDocument, all_taken, copy_answer, documents, is_all_mine, then_next}
 use Rattle.patch_laws.specs.Replayed.{HoldsSound}
 use Rattle.patch_apply.specs.Applying.{Applies}
 use Rattle.patch_apply.specs.Reading.{NoticeAnswer}
@@ -73,7 +73,7 @@ is_fetch (Ok x) = is_fetch_answer x.0
 is_fetch (Err fault) = false
 
 -- nothing else is held where the document has to be fetched
-by_outcome : (outcome : Result Outcome CopyFault) (ds : List Tree) (held held' : CopyHeld) (tag : List ℕ)
+by_outcome : (outcome : Result (Option CopyHeld) CopyFault) (ds : List Tree) (held held' : CopyHeld) (tag : List ℕ)
     → then_next outcome (λ end. Ok (copy_answer ds held end)) ≡ Ok (Fetch tag, held') → held' ≡ held
 by_outcome (Err fault) ds held held' tag same = absurd (false≢true (ap is_fetch same))
 by_outcome (Ok None) ds held held' tag same = sym (ap held_after same)
@@ -81,7 +81,7 @@ by_outcome (Ok (Some new)) [] held held' tag same = absurd (false≢true (ap is_
 by_outcome (Ok (Some None)) (d ∷ ds) held held' tag same = absurd (false≢true (ap is_fetch same))
 by_outcome (Ok (Some (Some h))) (d ∷ ds) held held' tag same = absurd (false≢true (ap is_fetch same))
 
-by_mine : (mine : Bool) (outcome : Result Outcome CopyFault) (ds : List Tree) (held held' : CopyHeld) (tag : List ℕ)
+by_mine : (mine : Bool) (outcome : Result (Option CopyHeld) CopyFault) (ds : List Tree) (held held' : CopyHeld) (tag : List ℕ)
     → (if mine then then_next outcome (λ end. Ok (copy_answer ds held end)) else Err WrongDocument) ≡ Ok (Fetch tag, held') → held' ≡ held
 by_mine true outcome ds held held' tag same = by_outcome outcome ds held held' tag same
 by_mine false outcome ds held held' tag same = absurd (false≢true (ap is_fetch same))

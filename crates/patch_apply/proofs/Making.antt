@@ -1,5 +1,5 @@
 -- What each task makes where its tests pass, by the depth of what it puts.
-use Rattle.std.proofs.Common.{◌≡◌, ◌≤◌, ℕ, suc, ◌+◌, ◌-◌, Bool, true, false, List, [], ◌∷◌, ◌++◌, length, remove, Some, IsSome, Ok, Err, refl, ◌∙◌}
+use Rattle.std.proofs.Common.{◌≡◌, ◌≤◌, ℕ, suc, ◌+◌, ◌-◌, Bool, true, false, List, [], ◌∷◌, ◌++◌, length, remove, Some, IsSome, Ok, Err, refl, ◌∙◌, if◌then◌else◌}
 use Rattle.std.specs.Prelude.{nat_le}
 use Rattle.xml_tree.specs.Attributes.{with_value}
 use Rattle.xml_tree.specs.Edits.{change_at, parent_path, put_over}
@@ -10,7 +10,7 @@ use Rattle.xml_tree.specs.Tree.{Content, Tree, at, height}
 use Rattle.xml_tree.specs.declared.names.Attr.{Attr}
 use Rattle.xml_tree.specs.declared.names.Decl.{Decl}
 use Rattle.xml_tree.specs.declared.names.Name.{Name}
-use Rattle.patch_words.specs.Applied.{Prefix, WrongNodes, AtElement, AtText, attr_done, attr_of, cut_element, is_bare, is_below, means_alike, one_if, own_place, remove_done, replace_done, sole_element, space_fits, value_in, with_attrs}
+use Rattle.patch_words.specs.Applied.{Prefix, WrongNodes, AtElement, AtText, attr_done, attr_of, cut_element, is_bare, is_below, means_alike, own_place, remove_done, replace_done, sole_element, space_fits, value_in, with_attrs}
 use Rattle.patch_apply.specs.inner.ByNodes.{nodes_height}
 use Rattle.patch_apply.specs.inner.Stages.{gap_done, is_there_already, take_done, value_done}
 use Rattle.patch_apply.proofs.Depths.{attrs_low, exchanged_low, put_over_low, shallow_low, text_height}
@@ -79,4 +79,4 @@ pub remove_made : (before after : Bool) (p : List ℕ) (content : Content) (t : 
     → is_below p ≡ true → is_bare content ≡ true → space_fits before after p t ≡ true → remove_done before after (AtElement p) content t ≡ Ok (cut_element before after p t)
 remove_made before after p content t there low below bare fits =
     remove_well before after p content t below bare fits
-    ∙ made_well (cut_element before after p t) true (shallow_low (parent_path p) (own_place p t - one_if before) (suc (own_place p t) + one_if after) [] t there low refl) refl
+    ∙ made_well (cut_element before after p t) true (shallow_low (parent_path p) (own_place p t - (if before then 1 else 0)) (suc (own_place p t) + (if after then 1 else 0)) [] t there low refl) refl

@@ -1,11 +1,11 @@
 -- A whole notice, document after document.
-use Rattle.std.proofs.Common.{◌≡◌, ℕ, ◌<◌, Bool, true, false, cond, List, [], ◌∷◌, length, None, Some, Result, Ok, Err, refl, sym, ap, ◌∙◌, subst, arith}
+use Rattle.std.proofs.Common.{◌≡◌, ℕ, ◌<◌, Bool, true, false, cond, List, [], ◌∷◌, length, None, Some, Result, Ok, Err, refl, sym, ap, ◌∙◌, subst, arith, is_some, Option, if◌then◌else◌}
 use Rattle.xml_tree.specs.declared.read_error.ReadError.{ReadError}
 use Rattle.xml_tree.specs.declared.read_error.ReadError.TheVariants.{Fault, NoMemory}
 use Rattle.xml_tree.specs.Proper.{ProperIn}
 use Rattle.xml_tree.specs.Tree.{Tree}
 use Rattle.patch_words.specs.Replay as replay
-use Rattle.patch_words.specs.Replay.{CopyAnswer, Fetch, CopyHeld, Outcome, Same, WrongDocument, copy_answer, documents, end_answer, is_all_mine, last_new, then_next}
+use Rattle.patch_words.specs.Replay.{CopyAnswer, Fetch, CopyHeld, Patched, Removed, Same, WrongDocument, copy_answer, documents, is_all_mine, last_new, then_next}
 use Rattle.patch_words.specs.readers.Applied.{reading_in}
 use Rattle.patch_words.specs.readers.Replay.{all_taken, replayed}
 use Rattle.patch_laws.specs.Replayed.{HoldsSound}
@@ -18,10 +18,10 @@ use Rattle.patch_apply.specs.declared.fault.ApplyFault.{ApplyFault}
 use Rattle.patch_apply.specs.declared.replica.Applied.{Applied}
 
 module _ (is_mine : List ℕ → Bool) (notice : Tree) (held : CopyHeld) where
-  abbrev answer_of : Result Outcome replay.CopyFault → Result (CopyAnswer × CopyHeld) replay.CopyFault
+  abbrev answer_of : Result (Option CopyHeld) replay.CopyFault → Result (CopyAnswer × CopyHeld) replay.CopyFault
   answer_of r = then_next r (λ end. Ok (copy_answer (documents notice) held end))
 
-  abbrev taken_all : Result Outcome replay.CopyFault
+  abbrev taken_all : Result (Option CopyHeld) replay.CopyFault
   taken_all = all_taken 0 (notice.decls ∷ []) (documents notice) held
 
   pub not_mine : is_all_mine is_mine (documents notice) ≡ false → replayed is_mine notice held ≡ Err WrongDocument
@@ -37,10 +37,10 @@ module _ (is_mine : List ℕ → Bool) (notice : Tree) (held : CopyHeld) where
     pub untold : all_taken 0 (notice.decls ∷ []) (documents notice) held ≡ Ok None → replayed is_mine notice held ≡ Ok (Fetch (last_new [] (documents notice)), held)
     untold e = of_mine ∙ ap answer_of e
 
-    pub done_with : (new : CopyHeld) → 0 < length (documents notice) → all_taken 0 (notice.decls ∷ []) (documents notice) held ≡ Ok (Some new) → replayed is_mine notice held ≡ Ok (end_answer new, new)
+    pub done_with : (new : CopyHeld) → 0 < length (documents notice) → all_taken 0 (notice.decls ∷ []) (documents notice) held ≡ Ok (Some new) → replayed is_mine notice held ≡ Ok (if is_some new then Patched else Removed, new)
     done_with new some e = of_mine ∙ ap answer_of e ∙ ap Ok (answer_is (documents notice) some)
       where
-        answer_is : (ds : List Tree) → 0 < length ds → copy_answer ds held (Some new) ≡ (end_answer new, new)
+        answer_is : (ds : List Tree) → 0 < length ds → copy_answer ds held (Some new) ≡ (if is_some new then Patched else Removed, new)
         answer_is [] h = absurd (omega arith)
         answer_is (d ∷ ds) h = refl
 

@@ -1,5 +1,7 @@
 -- Operations and documents, one after another.
 use Rattle.std.proofs.Common.{◌≡◌, Bor, ℕ, zero, suc, ◌+◌, ◌<◌, min, true, false, cond, List, [], ◌∷◌, length, map, get_or, drop, Option, None, Some, Result, Ok, Err, refl, sym, ap, ◌∙◌, subst, add-one, arith}
+use Rattle.std.specs.Str.{bytes_eq}
+use Rattle.std.specs.Option.{option_map_or}
 use Rattle.xml_tree.specs.Memory.{Answered}
 use Rattle.xml_tree.specs.declared.read_error.ReadError.{ReadError}
 use Rattle.xml_tree.specs.declared.read_error.ReadError.TheVariants as errors
@@ -8,7 +10,7 @@ use Rattle.xml_tree.specs.Tree.{Tree}
 use Rattle.xml_tree.specs.declared.names.Decl.{Decl}
 use Rattle.patch_words.specs.Applied.{Wrong}
 use Rattle.patch_words.specs.readers.Applied.{applied}
-use Rattle.patch_words.specs.Replay.{AtOperation, CopyFault, CopyHeld, Missing, Now, Outcome, Turn, WrongTag, held_tag, is_tag, numbered, operation_count, says_same, then_next, unless_missing}
+use Rattle.patch_words.specs.Replay.{AtOperation, CopyFault, CopyHeld, Missing, Now, Turn, WrongTag, held_tag, numbered, operation_count, says_same, then_next, unless_missing}
 use Rattle.patch_words.specs.readers.Replay.{all_applied, all_taken, by_tags, changed, renewed_copy, document_taken}
 use Rattle.patch_apply.specs.inner.Giving.{AreGiven}
 use Rattle.patch_apply.specs.Views.{fault_told}
@@ -42,10 +44,10 @@ module _ (n : ℕ) (c : List (List Decl)) (tag : List ℕ) (h : List ℕ × Tree
   changed_tree (o ∷ os) some e = ap (λ b. cond b (Ok (Now (Some (tag, h.1)))) (then_next (all_applied n c (o ∷ os) h.1) (λ t. Ok (Now (Some (tag, t)))))) e
 
 module _ (n : ℕ) (c : List (List Decl)) (os : List Tree) (previous : List ℕ) (new : Option (List ℕ)) (held : CopyHeld) where
-  pub other_tag : is_tag previous (held_tag held) ≡ false → by_tags n c os (Some previous) new held ≡ Err (WrongTag (held_tag held) previous)
+  pub other_tag : option_map_or (bytes_eq previous) (held_tag held) false ≡ false → by_tags n c os (Some previous) new held ≡ Err (WrongTag (held_tag held) previous)
   other_tag e = ap (λ b. cond b (renewed_copy n c os new held) (Err (WrongTag (held_tag held) previous))) e
 
-  pub same_tag : is_tag previous (held_tag held) ≡ true → by_tags n c os (Some previous) new held ≡ renewed_copy n c os new held
+  pub same_tag : option_map_or (bytes_eq previous) (held_tag held) false ≡ true → by_tags n c os (Some previous) new held ≡ renewed_copy n c os new held
   same_tag e = ap (λ b. cond b (renewed_copy n c os new held) (Err (WrongTag (held_tag held) previous))) e
 
 -- ---- documents
@@ -116,7 +118,7 @@ pub wrong_told : (n : ℕ) (stated : Result Tree Wrong) (w : CodeWrong) (told : 
 wrong_told n stated w told is same = record { stated_fault = AtOperation (suc n) (wrong_in w); is = ap (numbered n) is; told = same ∙ told_at (suc n) w }
 
 -- a fault of a document ends the documents behind it
-pub turn_fault : {X Z : Type 0} (v : X → Turn) (u : Z → Outcome) (n : ℕ) (c : List (List Decl)) (d : Tree) (ds : List Tree) (held : CopyHeld) (all : Result Outcome CopyFault) (e : ReadError ApplyFault)
+pub turn_fault : {X Z : Type 0} (v : X → Turn) (u : Z → Option CopyHeld) (n : ℕ) (c : List (List Decl)) (d : Tree) (ds : List Tree) (held : CopyHeld) (all : Result (Option CopyHeld) CopyFault) (e : ReadError ApplyFault)
     → all ≡ all_taken n c (d ∷ ds) held → Answered (AreGiven v (document_taken n c d held)) (Err e) → Answered (AreGiven u all) (Err e)
 turn_fault v u n c d ds held all (errors.Fault fault) same h = record { stated_fault = h.stated_fault; is = same ∙ taken_fault n c d ds held h.stated_fault h.is; told = h.told }
 turn_fault v u n c d ds held all errors.NoMemory same h = tt

@@ -1,11 +1,11 @@
 //! Applying a whole notice.
-ghost use Rattle.std.specs.Prelude.{◌≡◌, ◌<◌, ℕ, [], codes, IfOk, length, map, min, unwrap_or};
+ghost use Rattle.std.specs.Prelude.{◌≡◌, ◌<◌, ℕ, [], codes, IfOk, length, map, min, unwrap_or, is_some, if◌then◌else◌};
 ghost use Rattle.std.specs.Option.{option_copied};
 ghost use Rattle.xml_tree.specs.Memory.{Answered};
 ghost use Rattle.xml_tree.specs.declared.scope.TheConstants.{SCOPE_LIMIT};
 ghost use Rattle.xml_tree.specs.Limits.{greatest_u64};
 ghost use Rattle.patch_words.specs.Applied.{plain_value};
-ghost use Rattle.patch_words.specs.Replay.{end_answer, is_all_mine, last_new, operation_count};
+ghost use Rattle.patch_words.specs.Replay.{Patched, Removed, is_all_mine, last_new, operation_count};
 ghost use Rattle.patch_words.specs.readers.Replay.{all_taken, replayed, document_taken};
 ghost use Rattle.patch_words.specs.Replay as words;
 ghost use Rattle.patch_laws.specs.Replayed.{HoldsSound};
@@ -143,7 +143,7 @@ fn all_taken(
 
 // The answer where what is held afterwards is this.
 fn ended(held: &Option<Held>) -> Applied
-    ensures patched_or_removed { answer_in result ≡ end_answer (held_in held.now) }
+    ensures patched_or_removed { answer_in result ≡ (if is_some (held_in held.now) then Patched else Removed) }
 {
     match held {
         None => Applied::Removed,

@@ -1,10 +1,10 @@
 //! Edits of elements by operations, in place.
-ghost use Rattle.std.specs.Prelude.{◌≡◌, ◌≤◌, ◌<◌, ◌+◌, ◌-◌, suc, true, not, ◌||◌, length, slice_get, is_some, IsSome, IsSomeAnd, OnOk};
+ghost use Rattle.std.specs.Prelude.{◌≡◌, ◌≤◌, ◌<◌, ◌+◌, ◌-◌, suc, true, not, ◌||◌, length, slice_get, is_some, IsSome, IsSomeAnd, OnOk, if◌then◌else◌};
 ghost use Rattle.xml_tree.specs.Memory.{Answered};
 ghost use Rattle.xml_tree.specs.Limits.{most_levels};
 ghost use Rattle.xml_tree.specs.Nodes.{nodes_of};
 ghost use Rattle.xml_tree.specs.Tree.{at, height};
-ghost use Rattle.patch_words.specs.Applied.{cut_nodes, is_space_at, nodes_at, one_if, put_done, remove_done, replace_done, space_before};
+ghost use Rattle.patch_words.specs.Applied.{cut_nodes, is_space_at, nodes_at, put_done, remove_done, replace_done, space_before};
 ghost use Rattle.patch_words.specs.Applied as spots;
 ghost use Rattle.patch_apply.specs.inner.Giving.{IsGiven};
 ghost use Rattle.patch_apply.specs.inner.Stages.{gap_done, has_space_beside};
@@ -137,7 +137,7 @@ fn space_fits(tree: &Element, gap: &Gap, before: bool, after: bool) -> bool
 fn end_of_cut(tree: &Element, gap: &Gap, after: bool) -> usize
     requires within { IsSomeAnd (at gap.now.path tree.now) (λ e. gap.now.place < length (nodes_of e.content)) }
     requires space { (not after || is_space_at (suc gap.now.place) (nodes_at gap.now.path tree.now)) ≡ true }
-    ensures end_behind_the_space { result ≡ suc gap.now.place + one_if after }
+    ensures end_behind_the_space { result ≡ suc gap.now.place + (if after then 1 else 0) }
     ensures lies_among_the_nodes { IsSomeAnd (at gap.now.path tree.now) (λ e. result ≤ length (nodes_of e.content)) }
 {
     let behind = number_behind(tree, &gap.path, gap.place);
@@ -157,7 +157,7 @@ fn cut_with_space(
 ) -> Result<(), AllocError>
     requires within { IsSomeAnd (at gap.now.path tree.old) (λ e. gap.now.place < length (nodes_of e.content)) }
     requires space { has_space_beside before after gap.now.path gap.now.place tree.old ≡ true }
-    ensures cuts_with_the_space { OnOk result (tree.new ≡ cut_nodes gap.now.path (gap.now.place - one_if before) (suc gap.now.place + one_if after) tree.old) }
+    ensures cuts_with_the_space { OnOk result (tree.new ≡ cut_nodes gap.now.path (gap.now.place - (if before then 1 else 0)) (suc gap.now.place + (if after then 1 else 0)) tree.old) }
 {
     let from = gap.place - usize::from(before);
     let to = end_of_cut(tree, gap, after);

@@ -1,12 +1,12 @@
 //! What a document of a notice makes of what is held.
-ghost use Rattle.std.specs.Prelude.{◌≡◌, ◌≤◌, ◌<◌, ℕ, suc, min, map, length, Some, Result, Err, IfOk};
-ghost use Rattle.std.specs.Option.{option_copied};
+ghost use Rattle.std.specs.Prelude.{◌≡◌, ◌≤◌, ◌<◌, ℕ, suc, min, map, length, Some, Result, Err, IfOk, false, bytes_eq};
+ghost use Rattle.std.specs.Option.{option_copied, option_map_or};
 ghost use Rattle.xml_tree.specs.Memory.{Answered};
 ghost use Rattle.xml_tree.specs.declared.scope.TheConstants.{SCOPE_LIMIT};
 ghost use Rattle.xml_tree.specs.Limits.{greatest_u64, most_levels};
 ghost use Rattle.xml_tree.specs.Tree.{Tree, height};
 ghost use Rattle.patch_words.specs.Applied as words;
-ghost use Rattle.patch_words.specs.Replay.{WrongTag, held_tag, is_tag, numbered};
+ghost use Rattle.patch_words.specs.Replay.{WrongTag, held_tag, numbered};
 ghost use Rattle.patch_words.specs.readers.Replay.{all_applied, by_tags, changed, renewed_copy};
 ghost use Rattle.patch_apply.specs.inner.Giving.{AreGiven, IsGiven};
 ghost use Rattle.patch_apply.specs.Views.{IsLow, held_in, version_in};
@@ -77,7 +77,7 @@ fn all_applied(
 
 // Whether a tag is the one that is held.
 fn is_tag(wanted: &Text, held: &Option<Held>) -> bool
-    ensures tells_whether_it_is_held { result ≡ is_tag wanted.now (held_tag (held_in held.now)) }
+    ensures tells_whether_it_is_held { result ≡ option_map_or (bytes_eq wanted.now) (held_tag (held_in held.now)) false }
 {
     match held {
         None => false,

@@ -1,5 +1,5 @@
 -- What an operation makes of a proper tree is proper and at most `MAX_LEVELS` levels deep, whoever wrote the operation.
-use Rattle.std.proofs.Common.{◌≡◌, ◌≢◌, ℕ, suc, ◌+◌, ◌-◌, ◌≤◌, Bool, true, false, cond, not, ◌&&◌, ◌||◌, List, [], ◌∷◌, ◌++◌, map, length, Option, Some, None, IsSome, is_some, option_and_then, option_map, slice_get, bytes_eq, Result, Ok, refl, sym, ap, ◌∙◌, subst, arith}
+use Rattle.std.proofs.Common.{◌≡◌, ◌≢◌, ℕ, suc, ◌+◌, ◌-◌, ◌≤◌, Bool, true, false, cond, not, ◌&&◌, ◌||◌, List, [], ◌∷◌, ◌++◌, map, length, Option, Some, None, IsSome, is_some, option_and_then, option_map, slice_get, bytes_eq, Result, Ok, refl, sym, ap, ◌∙◌, subst, arith, if◌then◌else◌}
 use Rattle.std.specs.Prelude.{unwrap_or, nat_le, ◌==◌}
 use Rattle.std.specs.List.{AllByRecursion, IsDistinct, list_all, list_any}
 use Rattle.std.proofs.lemmas.Bool.Decides.{nat_tests}
@@ -405,7 +405,7 @@ remove_sound before after (AtElement p) k t u g is =
     let a = tested_ok (words.is_below p) words.RootTouched (tested (words.is_bare k) words.WrongNodes (tested (words.space_fits before after p t) words.NoSpace (made new true))) u is in
     let b = tested_ok (words.is_bare k) words.WrongNodes (tested (words.space_fits before after p t) words.NoSpace (made new true)) u a.1 in
     let d = tested_ok (words.space_fits before after p t) words.NoSpace (made new true) u b.1 in
-    made_sound new true u d.1 (λ _. with-nodes IsProperPart [] (parent_path p) (words.own_place p t - words.one_if before) (suc (words.own_place p t) + words.one_if after) [] t tt g)
+    made_sound new true u d.1 (λ _. with-nodes IsProperPart [] (parent_path p) (words.own_place p t - (if before then 1 else 0)) (suc (words.own_place p t) + (if after then 1 else 0)) [] t tt g)
 remove_sound before after (AtAttr p f) k t u g is =
     let new = change_at p (with_attrs (remove_first f)) t in
     let a = tested_ok (words.is_bare k) words.WrongNodes (made new true) u is in

@@ -1,5 +1,7 @@
 -- What a notice leaves is proper and at most `MAX_LEVELS` levels deep, whoever wrote the notice.
 use Rattle.std.proofs.Common.{◌≡◌, ℕ, suc, ◌+◌, Bool, true, false, cond, List, [], ◌∷◌, ◌++◌, filter, Option, Some, None, option_and_then, Result, Ok, Err, codes, refl, ap, ◌∙◌, subst}
+use Rattle.std.specs.Str.{bytes_eq}
+use Rattle.std.specs.Option.{option_map_or}
 use Rattle.std.specs.List.{AllByRecursion, list_all}
 use Rattle.xml_tree.specs.Proper.{Proper, ProperIn}
 use Rattle.xml_tree.specs.Tree.{Content, last, more, note, Tree, kids, kids_of}
@@ -7,7 +9,7 @@ use Rattle.xml_tree.specs.declared.names.Decl.{Decl}
 use Rattle.node_select.specs.declared.selector.PatchSelector.{PatchSelector}
 use Rattle.patch_words.specs.Applied.{Spot, Task, Word, Wrong, Directive, Prefix, Unlocated, done, given, is_bound_type, is_known, located, plain_value, suits, task_of, tested, operation_word, applied}
 use Rattle.patch_words.specs.Selectors.{Reading}
-use Rattle.patch_words.specs.Replay.{CopyAnswer, CopyFault, WrongTag, WrongDocument, CopyHeld, Outcome, Turn, Now, Missing, copy_answer, documents, held_tag, is_all_mine, is_called, is_ours, is_tag, numbered, operation_count, operations_in, says_same, then_next, unless_missing, all_applied, all_taken, by_tags, changed, renewed_copy, replayed, document_taken}
+use Rattle.patch_words.specs.Replay.{CopyAnswer, CopyFault, WrongTag, WrongDocument, CopyHeld, Turn, Now, Missing, copy_answer, documents, held_tag, is_all_mine, is_called, is_ours, numbered, operation_count, operations_in, says_same, then_next, unless_missing, all_applied, all_taken, by_tags, changed, renewed_copy, replayed, document_taken}
 use Rattle.patch_laws.specs.Premises.{IsSound}
 use Rattle.patch_laws.specs.Replayed.{HoldsSound}
 use Rattle.patch_laws.proofs.Onward.{done_sound, given_ok, task_named, tested_ok}
@@ -71,7 +73,7 @@ abbrev got : CopyHeld → Result (CopyAnswer × CopyHeld) CopyFault → CopyHeld
 got held (Ok x) = x.1
 got held (Err f) = held
 
-answered_sound : (ds : List Tree) (end : Outcome) (held new : CopyHeld) (answer : CopyAnswer) → ◌≡◌ {A = Result (CopyAnswer × CopyHeld) CopyFault} (Ok (copy_answer ds held end)) (Ok (answer, new)) → HoldsSound held
+answered_sound : (ds : List Tree) (end : Option CopyHeld) (held new : CopyHeld) (answer : CopyAnswer) → ◌≡◌ {A = Result (CopyAnswer × CopyHeld) CopyFault} (Ok (copy_answer ds held end)) (Ok (answer, new)) → HoldsSound held
     → ((x : CopyHeld) → end ≡ Some x → HoldsSound x) → HoldsSound new
 answered_sound ds None held new answer e g f = subst HoldsSound (ap (got held) e) g
 answered_sound [] (Some x) held new answer e g f = subst HoldsSound (ap (got held) e) (f x refl)
@@ -118,7 +120,7 @@ module _ (read : List ℕ → Option Reading) where
 
   tags_sound : (n : ℕ) (c : List (List Decl)) (os : List Tree) (previous tag : Option (List ℕ)) (held new : CopyHeld) → AllByRecursion (ProperIn c) os → HoldsSound held → by_tags read n c os previous tag held ≡ Ok (Now new) → HoldsSound new
   tags_sound n c os None tag held new h g is = absurd (cc)
-  tags_sound n c os (Some previous) tag held new h g is = by (is_tag previous (held_tag held)) is
+  tags_sound n c os (Some previous) tag held new h g is = by (option_map_or (bytes_eq previous) (held_tag held) false) is
     where
       by : (b : Bool) → cond b (renewed_copy read n c os tag held) (Err (WrongTag (held_tag held) previous)) ≡ Ok (Now new) → HoldsSound new
       by true e = renewed_sound n c os tag held new h g e
@@ -133,7 +135,7 @@ module _ (read : List ℕ → Option Reading) where
   all_taken_sound : (n : ℕ) (c : List (List Decl)) (ds : List Tree) (held new : CopyHeld) → AllByRecursion (ProperIn c) ds → HoldsSound held → all_taken read n c ds held ≡ Ok (Some new) → HoldsSound new
   all_taken_sound n c [] held new h g is = let same : held ≡ new = held_is held new is in subst HoldsSound same g
     where
-      held_is : (x y : CopyHeld) → ◌≡◌ {A = Result Outcome CopyFault} (Ok (Some x)) (Ok (Some y)) → x ≡ y
+      held_is : (x y : CopyHeld) → ◌≡◌ {A = Result (Option CopyHeld) CopyFault} (Ok (Some x)) (Ok (Some y)) → x ≡ y
       held_is x y e = cc
   all_taken_sound n c (d ∷ ds) held new h g is =
       let m = n + operation_count c d in

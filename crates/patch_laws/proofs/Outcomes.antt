@@ -1,5 +1,7 @@
 -- What a proper notice makes of what is held is one thing: its selectors are texts of Chars, of which the grammar tells what they say.
 use Rattle.std.proofs.Common.{◌≡◌, ℕ, suc, ◌+◌, Bool, true, false, cond, List, [], ◌∷◌, ◌++◌, Option, Some, None, option_map, option_and_then, Result, Ok, Err, codes, refl, sym, ap, ◌∙◌}
+use Rattle.std.specs.Str.{bytes_eq}
+use Rattle.std.specs.Option.{option_map_or}
 use Rattle.std.specs.Prelude.{find}
 use Rattle.std.specs.List.{AllByRecursion, list_all}
 use Rattle.xml_tree.specs.Attributes.{is_written_so}
@@ -10,7 +12,7 @@ use Rattle.xml_tree.specs.declared.names.Attr.{Attr}
 use Rattle.xml_tree.specs.declared.names.Decl.{Decl}
 use Rattle.patch_words.specs.Applied.{Wrong, Directive, Prefix, Unlocated, applied, done, given, is_bound_type, is_known, located, operation_word, plain_value, suits, task_of, tested}
 use Rattle.patch_words.specs.Selectors.{AreReadings, Reading}
-use Rattle.patch_words.specs.Replay.{CopyAnswer, CopyFault, CopyHeld, Missing, Now, Outcome, Replays, Turn, WrongDocument, WrongTag, all_applied, all_taken, by_tags, changed, copy_answer, document_taken, documents, held_tag, is_all_mine, is_called, is_ours, is_tag, numbered, operation_count, operations_in, renewed_copy, replayed, says_same, then_next, unless_missing}
+use Rattle.patch_words.specs.Replay.{CopyAnswer, CopyFault, CopyHeld, Missing, Now, Replays, Turn, WrongDocument, WrongTag, all_applied, all_taken, by_tags, changed, copy_answer, document_taken, documents, held_tag, is_all_mine, is_called, is_ours, numbered, operation_count, operations_in, renewed_copy, replayed, says_same, then_next, unless_missing}
 use Rattle.patch_words.specs.readers.Applied.{reading_in}
 use Rattle.patch_laws.proofs.OnwardNotices.{kept_proper, kids_proper}
 use Rattle.patch_laws.proofs.SelectorAnswers.{are_readings, one_reading}
@@ -44,7 +46,7 @@ next_alike : {A B : Type 0} (r : Result A CopyFault) (k l : A → Result B CopyF
 next_alike (Ok x) k l h = h x
 next_alike (Err f) k l h = refl
 
-turn_alike : (now : Turn) (k l : CopyHeld → Result Outcome CopyFault) → ((held : CopyHeld) → k held ≡ l held) → unless_missing now k ≡ unless_missing now l
+turn_alike : (now : Turn) (k l : CopyHeld → Result (Option CopyHeld) CopyFault) → ((held : CopyHeld) → k held ≡ l held) → unless_missing now k ≡ unless_missing now l
 turn_alike Missing k l h = refl
 turn_alike (Now held) k l h = h held
 
@@ -91,7 +93,7 @@ module _ (read other : List ℕ → Option Reading) (are : AreReadings read) (ot
   tags_alike : (n : ℕ) (c : List (List Decl)) (os : List Tree) (previous new : Option (List ℕ)) (held : CopyHeld) → AllByRecursion (ProperIn c) os → by_tags read n c os previous new held ≡ by_tags other n c os previous new held
   tags_alike n c os None new held h = refl
   tags_alike n c os (Some previous) new held h =
-      ap (λ (r : Result Turn CopyFault). cond (is_tag previous (held_tag held)) r (Err (WrongTag (held_tag held) previous))) (renewed_alike n c os new held h)
+      ap (λ (r : Result Turn CopyFault). cond (option_map_or (bytes_eq previous) (held_tag held) false) r (Err (WrongTag (held_tag held) previous))) (renewed_alike n c os new held h)
 
   document_alike : (n : ℕ) (c : List (List Decl)) (d : Tree) (held : CopyHeld) → ProperIn c d → document_taken read n c d held ≡ document_taken other n c d held
   document_alike n c d held h =
@@ -110,7 +112,7 @@ module _ (read other : List ℕ → Option Reading) (are : AreReadings read) (ot
   pub replayed_alike : (is_mine : List ℕ → Bool) (notice : Tree) (held : CopyHeld) → ProperIn [] notice → replayed read is_mine notice held ≡ replayed other is_mine notice held
   replayed_alike is_mine notice held h =
       let here = notice.decls ∷ [] in
-      ap (λ (r : Result Outcome CopyFault). cond (is_all_mine is_mine (documents notice)) (then_next r (λ end. Ok (copy_answer (documents notice) held end))) (Err WrongDocument))
+      ap (λ (r : Result (Option CopyHeld) CopyFault). cond (is_all_mine is_mine (documents notice)) (then_next r (λ end. Ok (copy_answer (documents notice) held end))) (Err WrongDocument))
       (all_taken_alike 0 here (documents notice) held (kept_proper here (is_called here (codes "document")) (kids_of notice) (kids_proper here notice.content h.1)))
 
 -- ---- what a notice makes of what is held

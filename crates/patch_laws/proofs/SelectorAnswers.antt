@@ -19,7 +19,7 @@ use Rattle.node_select.specs.readers.Selectors.{read_patch_selector}
 use Rattle.node_select.specs.readers.Whole.{meant, patch_selector_read, patch_told, raw_form_told}
 use Rattle.node_select.proofs.ExactSelectors.{one_patch_selector, patch_selector_answer}
 use Rattle.node_select.proofs.PatchForms.{form_answer, one_form}
-use Rattle.patch_words.specs.Selectors.{AreReadings, IsReading, MeansIn, Reading, selector_in}
+use Rattle.patch_words.specs.Selectors.{AreReadings, IsReading, Reading, selector_in}
 use Rattle.patch_words.specs.readers.Applied.{reading_in, reading_of, reading_told}
 use Rattle.patch_laws.specs.Selecting.{IsTakenAs}
 use Rattle.patch_laws.proofs.Prefixes.{both}
@@ -89,6 +89,12 @@ pub are_readings : AreReadings reading_in
 are_readings sel h = reading_is sel h
 
 -- ---- and nothing else
+
+-- what a text means in a scope
+abbrev MeansIn : List ℕ → List (List Decl) → Option PatchSelector → Type 0
+MeansIn sel c meaning =
+    (answer : Result PatchSelector SelectorFault) × IsPatchSelectorAnswer (bindings_in c) (unwrap_or (bound c []) []) (encode_utf8_all sel) answer
+    × (meaning ≡ selector_in answer)
 
 module _ (sel : List ℕ) where
   same_means : (c : List (List Decl)) (m n : Option PatchSelector) → MeansIn sel c m → MeansIn sel c n → m ≡ n

@@ -7,7 +7,7 @@ use Rattle.xml_tree.specs.Expanded.{name_of as in_diff}
 use Rattle.notes.specs.Operations.{plain_attr as plain}
 use Rattle.patch_words.specs.Notices.{candidate, diff}
 use Rattle.patch_text.specs.inner.Lists.{with_all}
-use Rattle.patch_text.specs.Elements.{element_address, element_told, elements_told, truth}
+use Rattle.patch_text.specs.Elements.{element_told, elements_told, truth}
 use Rattle.patch_text.specs.declared.elements.ElementState.{ElementState}
 use Rattle.patch_text.specs.declared.elements.ElementState.TheVariants.{Unchanged, Exists, Missing}
 use Rattle.patch_text.proofs.ElementWords.{element, exists_word, separated}
@@ -23,7 +23,7 @@ told_is prefix sel word exists t a b made is_word first second =
     second ∙ ap (gives y) (first ∙ ap (gives x) made)
     ∙ (λ i. tree_of (in_diff prefix (element i)) [] (plain (sel_word i) sel ∷ plain (exists_word i) (is_word i) ∷ []) (last []))
 
-pub address_is : (id line longer whole raw written : List ℕ) → line ≡ id → longer ≡ line ++ chars (codes "/~~/") → written ≡ raw → whole ≡ longer ++ written → whole ≡ element_address id raw
+pub address_is : (id line longer whole raw written : List ℕ) → line ≡ id → longer ≡ line ++ chars (codes "/~~/") → written ≡ raw → whole ≡ longer ++ written → whole ≡ id ++ codes "/~~/" ++ raw
 address_is id line longer whole raw written is_id between is_raw all =
     all ∙ ap (λ (l : List ℕ). l ++ written) (between ∙ (λ i. is_id i ++ separated i)) ∙ ap (λ (l : List ℕ). id ++ codes "/~~/" ++ l) is_raw
 

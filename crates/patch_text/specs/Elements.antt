@@ -12,10 +12,6 @@ abbrev pub truth : Bool → List ℕ
 truth true = codes "true"
 truth false = codes "false"
 
--- the address of an element: the printed name of its document, the separator between slashes, and its selector as it was written
-abbrev pub element_address : List ℕ → List ℕ → List ℕ
-element_address id raw = id ++ codes "/~~/" ++ raw
-
 -- what tells that the element with this address may have changed
 abbrev pub element_told : List ℕ → List ℕ → Bool → Tree
 element_told prefix sel exists =
@@ -27,6 +23,7 @@ elements_told prefix sel Unchanged = []
 elements_told prefix sel Exists = element_told prefix sel true ∷ []
 elements_told prefix sel Missing = element_told prefix sel false ∷ []
 
--- the notice of an element of the document with this printed name, by its selector as it was written
+-- the notice of an element of the document with this printed name, by its selector as it was written: its address has the separator
+-- between the two
 abbrev pub element_notice : List ℕ → List ℕ → List ℕ → ElementState → Tree
-element_notice root id raw state = diff (candidate 0) root (elements_told (candidate 0) (element_address id raw) state)
+element_notice root id raw state = diff (candidate 0) root (elements_told (candidate 0) (id ++ codes "/~~/" ++ raw) state)

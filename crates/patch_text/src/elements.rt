@@ -1,8 +1,8 @@
 //! Notices of single elements (RFC 5874, section 3).
-ghost use Rattle.std.specs.Prelude.{◌≡◌, [], ◌∷◌, IfOk, OnOk, chars, encode_utf8_all};
+ghost use Rattle.std.specs.Prelude.{◌≡◌, [], ◌∷◌, IfOk, OnOk, chars, encode_utf8_all, ◌++◌, codes};
 ghost use Rattle.doc_names.specs.Ids.{id_text};
 ghost use Rattle.tree_text.specs.Printing.{document_print};
-ghost use Rattle.patch_text.specs.Elements.{element_address, element_notice, element_told, elements_told, truth};
+ghost use Rattle.patch_text.specs.Elements.{element_notice, element_told, elements_told, truth};
 ghost use Rattle.patch_text.specs.inner.Lists.{with_all};
 
 use crate::notices::empty_notice;
@@ -34,7 +34,7 @@ fn truth(value: bool) -> &'static str
 
 // The address of an element of a document, by its selector as it was written.
 fn address(alloc: Global, doc: &DocId, raw: &Text) -> Result<Text, AllocError>
-    ensures joins_the_address { IfOk result (λ text. text ≡ element_address (id_text doc.now) raw.now) }
+    ensures joins_the_address { IfOk result (λ text. text ≡ id_text doc.now ++ codes "/~~/" ++ raw.now) }
 {
     let mut line = print_doc_id(alloc, doc)?;
     line.push_str("/~~/")?;

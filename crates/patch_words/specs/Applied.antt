@@ -213,13 +213,9 @@ put_at Prepend p ns t = put_nodes p 0 ns t
 put_at Before p ns t = put_nodes (parent_path p) (own_place p t) ns t
 put_at After p ns t = put_nodes (parent_path p) (suc (own_place p t)) ns t
 
--- how many nodes white space takes
-abbrev pub one_if : Bool → ℕ
-one_if true = 1
-one_if false = 0
-
+-- the element at a path taken out, with the node before it or behind it, where white space goes with it
 abbrev pub cut_element : Bool → Bool → List ℕ → Tree → Tree
-cut_element before after p t = let i = own_place p t in cut_nodes (parent_path p) (i - one_if before) (suc i + one_if after) t
+cut_element before after p t = let i = own_place p t in cut_nodes (parent_path p) (i - (if before then 1 else 0)) (suc i + (if after then 1 else 0)) t
 
 abbrev pub with_attrs : (List Attr → List Attr) → Tree → Tree
 with_attrs f e = record e { attrs = f e.attrs }

@@ -5,7 +5,6 @@ use Rattle.std.specs.Str.{bytes_eq}
 use Rattle.xml_tree.specs.Limits.{most_levels}
 use Rattle.xml_tree.specs.Tree.{Content, last, more, note, Tree, tree_of, of_kids}
 use Rattle.xml_tree.specs.declared.names.Decl.{Decl}
-use Rattle.xml_tree.specs.declared.names.Attr.{Attr}
 use Rattle.xml_tree.specs.Expanded.{name_of}
 use Rattle.notes.specs.Notes.{Note, tag_after}
 use Rattle.notes.specs.Operations.{operation, plain_attr}
@@ -68,19 +67,16 @@ prefix_for ns = candidate (first_free (is_taken (operations [] ns)) (declaration
 
 -- ---- documents and the whole notice
 
-abbrev pub tag_attr : List ℕ → ℕ → Attr
-tag_attr word tag = plain_attr word (decimal tag)
-
 -- what became of one document, by its printed id: from one tag to another by these operations
 abbrev pub document : List ℕ → List ℕ → ℕ → ℕ → List Tree → Tree
 document prefix sel from to os =
     tree_of (name_of prefix (codes "document")) []
-    (plain_attr (codes "sel") sel ∷ tag_attr (codes "new-etag") to ∷ tag_attr (codes "previous-etag") from ∷ []) (of_kids os)
+    (plain_attr (codes "sel") sel ∷ plain_attr (codes "new-etag") (decimal to) ∷ plain_attr (codes "previous-etag") (decimal from) ∷ []) (of_kids os)
 
 -- that it was removed
 abbrev pub removed_document : List ℕ → List ℕ → ℕ → Tree
 removed_document prefix sel from =
-    tree_of (name_of prefix (codes "document")) [] (plain_attr (codes "sel") sel ∷ tag_attr (codes "previous-etag") from ∷ []) (last [])
+    tree_of (name_of prefix (codes "document")) [] (plain_attr (codes "sel") sel ∷ plain_attr (codes "previous-etag") (decimal from) ∷ []) (last [])
 
 -- the notice: the root's text and a slash, and the documents
 abbrev pub diff : List ℕ → List ℕ → List Tree → Tree

@@ -1,6 +1,7 @@
 -- What a notice makes of a held document, or the first fault. RFC 5874, section 3, as far as notices are taken here.
 use Rattle.std.specs.Prelude.{◌≡◌, ℕ, suc, ◌+◌, Bool, false, ◌&&◌, ◌||◌, codes, List, [], ◌∷◌, ◌++◌, length, filter, Option, None, Some, is_some, unwrap_or, Result, Ok, Err, if◌then◌else◌}
 use Rattle.std.specs.List.{list_all}
+use Rattle.std.specs.Option.{option_map_or}
 use Rattle.std.specs.Str.{bytes_eq}
 use Rattle.xml_tree.specs.Expanded.{element_name}
 use Rattle.xml_tree.specs.Tree.{Tree, kids_of}
@@ -86,10 +87,6 @@ abbrev pub held_tag : CopyHeld → Option (List ℕ)
 held_tag None = None
 held_tag (Some h) = Some h.0
 
-abbrev pub is_tag : List ℕ → Option (List ℕ) → Bool
-is_tag wanted None = false
-is_tag wanted (Some tag) = bytes_eq wanted tag
-
 -- how many operations it has, where `body-not-changed` is none
 abbrev pub operation_count : List (List Decl) → Tree → ℕ
 operation_count c d = if says_same (c ++ d.decls ∷ []) (operations_in c d) then 0 else length (operations_in c d)
@@ -99,24 +96,18 @@ abbrev pub last_new : List ℕ → List Tree → List ℕ
 last_new tag [] = tag
 last_new tag (d ∷ ds) = last_new (unwrap_or (plain_value (codes "new-etag") d.attrs) tag) ds
 
--- what all documents make of what is held: the first that misses its operations ends the reading, and what was held stays
-abbrev pub Outcome : Type 0
-Outcome = Option CopyHeld
-
-abbrev pub unless_missing : Turn → (CopyHeld → Result Outcome CopyFault) → Result Outcome CopyFault
+-- what all documents make of what is held: the first that misses its operations ends the reading, and then there is nothing, since what was
+-- held stays
+abbrev pub unless_missing : Turn → (CopyHeld → Result (Option CopyHeld) CopyFault) → Result (Option CopyHeld) CopyFault
 unless_missing Missing k = Ok None
 unless_missing (Now held) k = k held
 
 -- ---- the whole notice
 
-abbrev pub end_answer : CopyHeld → CopyAnswer
-end_answer None = Removed
-end_answer (Some h) = Patched
-
-abbrev pub copy_answer : List Tree → CopyHeld → Outcome → CopyAnswer × CopyHeld
+abbrev pub copy_answer : List Tree → CopyHeld → Option CopyHeld → CopyAnswer × CopyHeld
 copy_answer ds held None = (Fetch (last_new [] ds), held)
 copy_answer [] held (Some new) = (Same, new)
-copy_answer (d ∷ ds) held (Some new) = (end_answer new, new)
+copy_answer (d ∷ ds) held (Some new) = (if is_some new then Patched else Removed, new)
 
 -- whether each document speaks of the replica's
 abbrev pub is_all_mine : (List ℕ → Bool) → List Tree → Bool
@@ -145,13 +136,13 @@ module _ (read : List ℕ → Option Reading) where
   abbrev pub by_tags : ℕ → List (List Decl) → List Tree → Option (List ℕ) → Option (List ℕ) → CopyHeld → Result Turn CopyFault
   by_tags n c os None new held = Ok Missing
   by_tags n c os (Some previous) new held =
-      if is_tag previous (held_tag held) then renewed_copy n c os new held else Err (WrongTag (held_tag held) previous)
+      if option_map_or (bytes_eq previous) (held_tag held) false then renewed_copy n c os new held else Err (WrongTag (held_tag held) previous)
 
   abbrev pub document_taken : ℕ → List (List Decl) → Tree → CopyHeld → Result Turn CopyFault
   document_taken n c d held =
       by_tags n (c ++ d.decls ∷ []) (operations_in c d) (plain_value (codes "previous-etag") d.attrs) (plain_value (codes "new-etag") d.attrs) held
 
-  abbrev pub all_taken : ℕ → List (List Decl) → List Tree → CopyHeld → Result Outcome CopyFault
+  abbrev pub all_taken : ℕ → List (List Decl) → List Tree → CopyHeld → Result (Option CopyHeld) CopyFault
   all_taken n c [] held = Ok (Some held)
   all_taken n c (d ∷ ds) held = then_next (document_taken n c d held) (λ now. unless_missing now (all_taken (n + operation_count c d) c ds))
 

@@ -18,17 +18,14 @@ abbrev pub selector_in : Result PatchSelector SelectorFault → Option PatchSele
 selector_in (Ok selector) = Some selector
 selector_in (Err fault) = None
 
--- the text means this in a scope: the selector that the grammar gives it with the bindings there, where an unprefixed name has the default
--- namespace there
-abbrev pub MeansIn : List ℕ → List (List Decl) → Option PatchSelector → Type 0
-MeansIn sel c meaning =
-    (answer : Result PatchSelector SelectorFault) × IsPatchSelectorAnswer (bindings_in c) (unwrap_or (bound c []) []) (encode_utf8_all sel) answer
-    × (meaning ≡ selector_in answer)
-
--- the text says this: it ends in what the grammar tells, and means in each scope what it means there; none where it is no selector
+-- the text says this: it ends in what the grammar tells, and means in each scope the selector that the grammar gives it with the bindings
+-- there, where an unprefixed name has the default namespace there; none where it is no selector
 abbrev pub IsReading : List ℕ → Option Reading → Type 0
 IsReading sel None = IsPatchFormAnswer (encode_utf8_all sel) None
-IsReading sel (Some reading) = IsPatchFormAnswer (encode_utf8_all sel) (Some reading.ends) × ((c : List (List Decl)) → MeansIn sel c (reading.means c))
+IsReading sel (Some reading) =
+    IsPatchFormAnswer (encode_utf8_all sel) (Some reading.ends)
+    × ((c : List (List Decl)) → (answer : Result PatchSelector SelectorFault)
+    × IsPatchSelectorAnswer (bindings_in c) (unwrap_or (bound c []) []) (encode_utf8_all sel) answer × (reading.means c ≡ selector_in answer))
 
 -- of all texts of Chars, this tells what they say
 abbrev pub AreReadings : (List ℕ → Option Reading) → Type 0

@@ -66,7 +66,7 @@ abbrev pub counted_in : List (List Decl) → List Tree → ℕ
 counted_in c os = if replay.says_same c os then 0 else length os
 
 -- what documents make of what is held, or none where one misses its operations
-abbrev pub outcome_in : Option (Option Held) → replay.Outcome
+abbrev pub outcome_in : Option (Option Held) → Option replay.CopyHeld
 outcome_in outcome = option_map held_in outcome
 
 abbrev pub IsLowOutcome : Option (Option Held) → Type 0

@@ -3,7 +3,7 @@ use Rattle.std.specs.Prelude.{ℕ, Bool, List, Option, Result}
 use Rattle.xml_tree.specs.Tree.{Tree}
 use Rattle.xml_tree.specs.declared.names.Decl.{Decl}
 use Rattle.patch_words.specs.Replay as words
-use Rattle.patch_words.specs.Replay.{CopyAnswer, CopyFault, CopyHeld, Outcome, Turn}
+use Rattle.patch_words.specs.Replay.{CopyAnswer, CopyFault, CopyHeld, Turn}
 use Rattle.patch_words.specs.readers.Applied.{reading_in}
 
 abbrev pub all_applied : ℕ → List (List Decl) → List Tree → Tree → Result Tree CopyFault
@@ -21,7 +21,7 @@ by_tags = words.by_tags reading_in
 abbrev pub document_taken : ℕ → List (List Decl) → Tree → CopyHeld → Result Turn CopyFault
 document_taken = words.document_taken reading_in
 
-abbrev pub all_taken : ℕ → List (List Decl) → List Tree → CopyHeld → Result Outcome CopyFault
+abbrev pub all_taken : ℕ → List (List Decl) → List Tree → CopyHeld → Result (Option CopyHeld) CopyFault
 all_taken = words.all_taken reading_in
 
 abbrev pub replayed : (List ℕ → Bool) → Tree → CopyHeld → Result (CopyAnswer × CopyHeld) CopyFault

@@ -1,7 +1,7 @@
-use Rattle.std.proofs.Common.{◌+◌, ◌-◌, suc, ℕ, List, IsSome, Ok, sym, subst, ap, ◌∙◌}
+use Rattle.std.proofs.Common.{◌+◌, ◌-◌, suc, ℕ, List, IsSome, Ok, sym, subst, ap, ◌∙◌, if◌then◌else◌}
 use Rattle.xml_tree.specs.Edits.{parent_path}
 use Rattle.xml_tree.specs.Tree.{at}
-use Rattle.patch_words.specs.Applied.{cut_nodes, one_if}
+use Rattle.patch_words.specs.Applied.{cut_nodes}
 use Rattle.patch_apply.specs.inner.Stages.{has_space_beside}
 use Rattle.patch_apply.proofs.Depths.{some_if}
 use Rattle.patch_apply.proofs.Done.{remove_no_space, remove_not, remove_root}
@@ -37,5 +37,5 @@ returns c = record {
       remove_made before after p c.args.operation.now.content t there c.requires.low (sym c.is_below.ensures.tells_whether_it_is_below ∙ c.if-not-is_below.false)
       (sym c.is_bare.ensures.tells_whether_it_is_bare ∙ c.if-not-is_bare.false)
       ((λ i. has_space_beside before after (same i) (here i) t) ∙ sym c.space_fits.ensures.tells_whether_it_is_there ∙ c.if-not-space_fits.false)
-      ∙ (λ i. Ok (cut_nodes (same i) (here i - one_if before) (suc (here i) + one_if after) t)) ∙ ap Ok (sym c.in_ok-cut_with_space.ensures.cuts_with_the_space);
+      ∙ (λ i. Ok (cut_nodes (same i) (here i - (if before then 1 else 0)) (suc (here i) + (if after then 1 else 0)) t)) ∙ ap Ok (sym c.in_ok-cut_with_space.ensures.cuts_with_the_space);
 }

@@ -1,9 +1,8 @@
-use Rattle.std.proofs.Common.{◌≡◌, ℕ, List, [], IfOk, encode_utf8_all, subst, ap, ◌∙◌}
+use Rattle.std.proofs.Common.{◌≡◌, ◌++◌, ℕ, List, [], IfOk, codes, encode_utf8_all, subst, ap, ◌∙◌}
 use Rattle.xml_tree.specs.Tree.{Tree}
 use Rattle.doc_names.specs.Ids.{id_text}
 use Rattle.tree_text.specs.Printing.{document_print}
 use Rattle.patch_words.specs.Notices.{diff}
-use Rattle.patch_text.specs.Elements.{element_address}
 use Rattle.patch_text.proofs.BuiltElements.{notice_is}
 use Rattle.patch_text.proofs.elements.notice_of_element.Goals as goal
 
@@ -11,7 +10,7 @@ pub returns : goal.returns
 returns c = record {
   prints_the_notice =
       let p = c.in_ok-prefix.prefix in
-      let is = notice_is c.args.state c.in_ok-prefix.prefix c.args.root.now c.in_ok-sel.sel (element_address (id_text c.args.doc.now) c.args.raw.now) c.in_ok-notice.notice c.push_state.new.notice c.in_ok-prefix.ensures.copies_the_text
+      let is = notice_is c.args.state c.in_ok-prefix.prefix c.args.root.now c.in_ok-sel.sel (id_text c.args.doc.now ++ codes "/~~/" ++ c.args.raw.now) c.in_ok-notice.notice c.push_state.new.notice c.in_ok-prefix.ensures.copies_the_text
       c.in_ok-sel.ensures.joins_the_address (c.in_ok-notice.ensures.notice_without_documents ∙ ap (λ (r : List ℕ). diff p r []) c.text.ensures.lends_its_text) c.in_ok-push_state.ensures.adds_what_the_state_tells in
       subst (λ (t : Tree). IfOk c.print_document.result (λ bytes. bytes ≡ encode_utf8_all (document_print t))) is c.print_document.ensures.prints_the_document;
 }
