@@ -14,7 +14,7 @@ use Rattle.grammar_rules.proofs.Laws.{Lawful, Quiet, Inside, inside_ahead, lawfu
 use Rattle.tree_text.specs.declared.kind.Kind.{Kind}
 use Rattle.tree_text.specs.declared.kind.Kind.TheVariants.{Unbound}
 use Rattle.tree_text.specs.readers.Words.{colon}
-use Rattle.tree_text.specs.Pieces.{written, qname_by}
+use Rattle.tree_text.specs.Pieces.{written, qname_of}
 use Rattle.tree_text.specs.Grammar.{name, qname}
 use Rattle.tree_text.specs.readers.Texts.{read_name, read_qname}
 use Rattle.node_select.specs.Names.{is_unbound}
@@ -86,7 +86,7 @@ pub record ReadSo (p : Reader Kind Name) (text : List ℕ) (n : Name) : Type 0 w
 abbrev pub HasPrefix : Name → Type 0
 HasPrefix n = bytes_eq n.prefix [] ≡ false
 
-prefixed_by : (text u v w f : List ℕ) (o : Option (List ℕ)) → text ≡ (u ++ v) ++ w → name.Spells u f → (optional (keeping_second (word {Kind = Kind} colon) name)).Spells v o → HasPrefix (qname_by f o) → ReadSo read_qname text (qname_by f o)
+prefixed_by : (text u v w f : List ℕ) (o : Option (List ℕ)) → text ≡ (u ++ v) ++ w → name.Spells u f → (optional (keeping_second (word {Kind = Kind} colon) name)).Spells v o → HasPrefix (qname_of (f, o)) → ReadSo read_qname text (qname_of (f, o))
 prefixed_by text u v w f None j m s h = absurd cc
 prefixed_by text u v w f (Some l) j m (inl s) h =
     let sp = s.1.1 in
@@ -116,7 +116,7 @@ prefixed_attribute text v w n j m h =
     record { read = s.read; rest = s.rest; read_is = rw (s.read_is, may_name n s.read s.prefix_is h) refl; prefix_is = s.prefix_is }
 
 -- how long a name is
-written_long : (u v f : List ℕ) (o : Option (List ℕ)) → name.Spells u f → (optional (keeping_second (word {Kind = Kind} colon) name)).Spells v o → length (written (qname_by f o)) ≡ length (u ++ v)
+written_long : (u v f : List ℕ) (o : Option (List ℕ)) → name.Spells u f → (optional (keeping_second (word {Kind = Kind} colon) name)).Spells v o → length (written (qname_of (f, o))) ≡ length (u ++ v)
 written_long u v f None m (inl s) = absurd (let e = s.2 in cc)
 written_long u v f None m (inr s) = ap length ((is_name_of u f m).same ∙ sym (append-nil u) ∙ ap (λ (z : List ℕ). u ++ z) (sym s.0))
 written_long u v f (Some l) m (inr s) = absurd (let e = s.1 in cc)
@@ -126,7 +126,7 @@ written_long u v f (Some l) m (inl s) =
     let l_is : l ≡ s.0 = cc (s.2) in
     let local : l ≡ sp.back = l_is ∙ s.1.2 ∙ (is_name_of sp.back s.1.0.1 sp.back_is).same in
     let at : v ≡ 58 ∷ sp.back = sp.joined ∙ ap (λ (z : List ℕ). z ++ sp.back) sp.front_is in
-    ap (λ (z : List ℕ). length (written (qname_by z (Some l)))) (i.same ∙ i.joined)
+    ap (λ (z : List ℕ). length (written (qname_of (z, Some l)))) (i.same ∙ i.joined)
     ∙ ap (λ (z : List ℕ). length ((i.first ∷ i.rest) ++ (58 ∷ z))) local
     ∙ ap (λ (z : List ℕ). length (z ++ (58 ∷ sp.back))) (sym i.joined)
     ∙ ap (λ (z : List ℕ). length (u ++ z)) (sym at)

@@ -2,7 +2,7 @@
 use Rattle.std.specs.Str.{bytes_eq}
 use Rattle.std.specs.Cmp.Lexicographic.{bytes_decides}
 use Rattle.std.specs.List.{AllByRecursion, IsDistinct}
-use Rattle.std.specs.Option.{option_or}
+use Rattle.std.specs.Option.{option_or, option_map_or}
 use Rattle.std.specs.Prelude.{◌&&◌, unwrap_or}
 use Rattle.std.proofs.Common.{◌≡◌, inl, inr, ℕ, suc, ◌≤◌, ◌+◌, Bool, true, false, cond, List, [], ◌∷◌, ◌++◌, length, find, map, Option, Some, None, IsSome, IsSomeAnd, IsTrue, option_map, option_and_then, Result, Ok, Err, refl, sym, ap, ◌∙◌, subst, arith}
 use Rattle.std.proofs.lemmas.Option.{same_Some}
@@ -39,7 +39,7 @@ use Rattle.plan_words.specs.declared.spot.Spot.TheVariants.{Over, Under, Beside,
 use Rattle.usage_docs.specs.declared.judging.Fault.TheVariants.{Invalid}
 use Rattle.plan_words.specs.declared.refusal.EditRefusal.{EditRefusal}
 use Rattle.plan_words.specs.declared.refusal.EditRefusal.TheVariants.{CannotInsert, CannotDelete, Faulty}
-use Rattle.plan_words.specs.Attributes.{IsWritable, kept_name, new_name, new_prefix, written_name}
+use Rattle.plan_words.specs.Attributes.{IsWritable, new_name, new_prefix, written_name}
 use Rattle.plan_words.specs.Deletions.{FindsNothingAfter, IsDeletePlan, IsPlanFor, IsRemoval}
 use Rattle.plan_words.specs.Lawful.{LawfulGap, LawfulOver}
 use Rattle.plan_words.specs.Plans.{LeavesProper}
@@ -325,7 +325,7 @@ tag_written c uri local n v e all may chars tag is meant = by (find (is_attr c u
   where
     by : (o : Option Attr) → find (is_attr c uri local) e.attrs ≡ o → IsTag c e.name e.decls (with_attr n v e.attrs)
     by (Some a) f =
-        let named : a.name ≡ n = same_Some a.name n (sym (ap (λ (o : Option Attr). kept_name o (new_name c uri local)) f) ∙ is) in
+        let named : a.name ≡ n = same_Some a.name n (sym (ap (λ (o : Option Attr). option_map_or (λ (a : Attr). Some a.name) o (new_name c uri local)) f) ∙ is) in
         let good = among_good c (is_attr c uri local) e.attrs a tag.attributes f in
         let new : IsAttribute c (attr_of n v) = subst (λ (m : Name). IsAttribute c (attr_of m v)) named (record { named = good.named; other = good.other; value = chars }) in
         let there = some_attr_is _ (subst (λ (m : Name). IsSome (find (attributes.is_written_so m) e.attrs)) named (found_by_name (is_attr c uri local) e.attrs a f)) in
@@ -337,7 +337,7 @@ tag_written c uri local n v e all may chars tag is meant = by (find (is_attr c u
           names = subst (IsDistinct same_expanded) (sym (names_kept c n v e.attrs there.0 there.1)) tag.names;
         }
     by None f =
-        let is_new : new_name c uri local ≡ Some n = sym (ap (λ (o : Option Attr). kept_name o (new_name c uri local)) f) ∙ is in
+        let is_new : new_name c uri local ≡ Some n = sym (ap (λ (o : Option Attr). option_map_or (λ (a : Attr). Some a.name) o (new_name c uri local)) f) ∙ is in
         let so = meant f in
         record {
           named = tag.named;

@@ -1,5 +1,6 @@
 -- What a planned change makes, and what the plan of the same is in the document that it makes.
 use Rattle.std.specs.Str.{bytes_eq}
+use Rattle.std.specs.Option.{option_map_or}
 use Rattle.std.proofs.Common.{◌≡◌, inl, inr, ℕ, ◌≤◌, ◌+◌, Bool, true, false, List, [], ◌∷◌, ◌++◌, length, find, slice_get, Option, Some, None, IsSome, IsTrue, option_map, option_and_then, Result, Ok, Err, refl, sym, ap, ◌∙◌, subst, arith}
 use Rattle.std.specs.Prelude.{◌&&◌}
 use Rattle.std.specs.Cmp.Lexicographic.{bytes_decides}
@@ -33,7 +34,7 @@ use Rattle.plan_words.specs.declared.spot.Spot.TheVariants.{Over, Under, Beside,
 use Rattle.usage_docs.specs.declared.judging.Fault.TheVariants.{Invalid}
 use Rattle.plan_words.specs.declared.refusal.EditRefusal.{EditRefusal}
 use Rattle.plan_words.specs.declared.refusal.EditRefusal.TheVariants.{CannotInsert, CannotDelete, Faulty}
-use Rattle.plan_words.specs.Attributes.{FindsValue, IsAttrPlan, IsValuePlan, IsWriting, kept_name, new_name, written_name}
+use Rattle.plan_words.specs.Attributes.{FindsValue, IsAttrPlan, IsValuePlan, IsWriting, new_name, written_name}
 use Rattle.plan_words.specs.Deletions.{FindsNothingAfter, IsDeletePlan, IsPlanFor, IsRemoval}
 use Rattle.plan_words.specs.Lawful.{LawfulGap, LawfulOver}
 use Rattle.plan_words.specs.Plans.{IsJudged, IsTested, by_fault}
@@ -237,10 +238,10 @@ module _ (c : List (List Decl)) (uri local : List ℕ) (n : Name) (v : List ℕ)
     where
       by : (o : Option Attr) → find means ats ≡ o → written_name c uri local (with_attr n v ats) ≡ Some n
       by (Some a) e =
-          let named : a.name ≡ n = same_Some a.name n (sym (ap (λ (o : Option Attr). kept_name o (new_name c uri local)) e) ∙ is) in
+          let named : a.name ≡ n = same_Some a.name n (sym (ap (λ (o : Option Attr). option_map_or (λ (a : Attr). Some a.name) o (new_name c uri local)) e) ∙ is) in
           let r = kept_found ats a e named in
-          ap (λ (o : Option Attr). kept_name o (new_name c uri local)) r.1 ∙ ap (λ (m : Name). Some m) r.2
-      by None e = ap (λ (o : Option Attr). kept_name o (new_name c uri local)) there ∙ ap (λ (m : Name). Some m) (new_found ats b e there)
+          ap (λ (o : Option Attr). option_map_or (λ (a : Attr). Some a.name) o (new_name c uri local)) r.1 ∙ ap (λ (m : Name). Some m) r.2
+      by None e = ap (λ (o : Option Attr). option_map_or (λ (a : Attr). Some a.name) o (new_name c uri local)) there ∙ ap (λ (m : Name). Some m) (new_found ats b e there)
 
 some_of : {A B : Type 0} (f : A → B) (o : Option A) (y : B) → option_map f o ≡ Some y → (x : A) × (o ≡ Some x)
 some_of f None y h = cc

@@ -1,6 +1,7 @@
 -- The attribute that a PUT writes. RFC 4825, sections 8.2.3 and 8.2.4; Namespaces in XML 1.0, section 6.2: the default namespace is not that
 -- of attributes, so only a prefix gives one a namespace. Which prefix a new one gets is this server's choice.
 use Rattle.std.specs.Prelude.{◌≡◌, ◌≢◌, ℕ, Bool, ◌&&◌, not, List, [], Option, None, Some, option_map, find, IsTrue, Result, Err, if◌then◌else◌}
+use Rattle.std.specs.Option.{option_map_or}
 use Rattle.std.specs.Str.{bytes_eq}
 use Rattle.doc_names.specs.declared.usages.Usage.{Usage}
 use Rattle.xml_tree.specs.Tree.{Tree, at}
@@ -38,14 +39,9 @@ new_prefix c uri =
 abbrev pub new_name : List (List Decl) → List ℕ → List ℕ → Option Name
 new_name c uri local = option_map (λ prefix. record { prefix = prefix; local = local }) (new_prefix c uri)
 
--- one that is there keeps its name
-abbrev pub kept_name : Option Attr → Option Name → Option Name
-kept_name (Some attr) new = Some attr.name
-kept_name None new = new
-
--- the name of the written attribute of this namespace and local name, among these attributes
+-- the name of the written attribute of this namespace and local name, among these attributes: one that is there keeps its name
 abbrev pub written_name : List (List Decl) → List ℕ → List ℕ → List Attr → Option Name
-written_name c uri local attrs = kept_name (find (is_attr c uri local) attrs) (new_name c uri local)
+written_name c uri local attrs = option_map_or (λ attr. Some attr.name) (find (is_attr c uri local) attrs) (new_name c uri local)
 
 -- ---- the plan
 

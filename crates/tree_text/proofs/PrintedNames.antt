@@ -14,7 +14,8 @@ use Rattle.xml_tree.specs.declared.names.Attr.{Attr}
 use Rattle.tree_text.specs.readers.Words.{colon}
 use Rattle.tree_text.specs.declared.said.Said.{Said}
 use Rattle.tree_text.specs.Grammar.{is_quote}
-use Rattle.tree_text.specs.Pieces.{qname_of, said_of}
+use Rattle.tree_text.specs.Pieces.{qname_of}
+use Rattle.tree_text.specs.readers.Made.{said_of}
 use Rattle.tree_text.specs.readers.Texts.{colon_follows, read_name, read_qname, read_equals, read_value, read_attribute, read_said, said_follows}
 use Rattle.tree_text.proofs.ReadFronts.{Reads, reads_sequence, reads_valued, reads_behind, reads_left, reads_right, reads_sized, reads_word, reads_one, reads_none, reads_name_of, reads_quoted, AllRead}
 use Rattle.tree_text.proofs.PrintedValues.{both, longer, reads_value}

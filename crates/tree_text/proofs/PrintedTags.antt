@@ -22,7 +22,8 @@ use Rattle.tree_text.specs.declared.said.Said.{Said}
 use Rattle.tree_text.specs.Names.{decls_of, attrs_of, is_misnamed, says_again, is_repeated, said_decl as decl_of, is_declaring as declares, is_unbound_in as is_unbound}
 use Rattle.tree_text.specs.readers.Judging.{wrong_said, first_wrong, first_of_tag, counted_back, tag_fault}
 use Rattle.tree_text.specs.Names as names
-use Rattle.tree_text.specs.Pieces.{StartTag, tag_of}
+use Rattle.tree_text.specs.Pieces.{StartTag}
+use Rattle.tree_text.specs.readers.Made.{tag_of}
 use Rattle.tree_text.specs.readers.Texts.{read_spaces, read_said, said_follows, read_tag_end, read_tag}
 use Rattle.tree_text.proofs.ReadFronts.{Reads, reads_sequence, reads_valued, reads_before, reads_behind, reads_judged, sized_by, reads_word, reads_none, reads_many}
 use Rattle.tree_text.proofs.PrintedValues.{not_true}

@@ -21,7 +21,8 @@ use Rattle.grammar_rules.proofs.Tests.{exact_either_head, exact_optional_head, e
 use Rattle.grammar_rules.proofs.Spaced.{blank_some_of, Leads, leads_sequence, leads_valued, spaced_run, exact_spaced_many}
 use Rattle.tree_text.specs.readers.Words.{less, greater, empty_end, colon, ampersand, semicolon, hash, small_x, amp, lt, gt, quot, apos, equals_sign}
 use Rattle.tree_text.specs.declared.kind.Kind.{Kind}
-use Rattle.tree_text.specs.Pieces.{qname_of, said_of, tag_of, value_spelled as value_of}
+use Rattle.tree_text.specs.Pieces.{qname_of, value_spelled as value_of}
+use Rattle.tree_text.specs.readers.Made.{said_of, tag_of}
 use Rattle.tree_text.specs.Grammar.{name, qname, spaces, equals, stands_for, entity, last_char, numbered, reference, is_quote, is_raw_in, value, attribute, said, tag_end, tag}
 use Rattle.tree_text.specs.readers.Texts.{read_name, read_qname, read_spaces, read_equals, read_stands_for, read_entity, read_numbered, read_reference, read_value, read_attribute, read_said, read_tag_end, read_tag}
 

@@ -1,7 +1,7 @@
 -- The texts that documents and fragments are read from, rule by rule: XML 1.0, fifth edition, and Namespaces in XML 1.0, without
 -- document types. The numbers in brackets are those of the productions of XML, and with an N those of Namespaces in XML. A rule says which
 -- texts it spells, as which values, and what may be met where a text breaks off in it.
-use Rattle.std.specs.Prelude.{◌≡◌, ℕ, zero, suc, ◌+◌, Bool, true, false, ◌&&◌, ◌||◌, ◌==◌, not, List, [], ◌∷◌, ◌++◌, codes, Option, Some}
+use Rattle.std.specs.Prelude.{◌≡◌, ℕ, zero, suc, ◌+◌, Bool, true, false, ◌&&◌, ◌||◌, ◌==◌, not, List, [], ◌∷◌, ◌++◌, length, codes, Option, Some}
 use Rattle.std.specs.Char.{is_ascii_digit, is_ascii_alphabetic}
 use Rattle.xml_tree.specs.Characters.{is_char, is_space, is_name_start, is_name_char}
 use Rattle.xml_tree.specs.Tree.{Content, last, Tree}
@@ -12,7 +12,7 @@ use Rattle.grammar_rules.specs.Rules.{Rule, never, empty, one, word, run, run_wi
 use Rattle.tree_text.specs.declared.kind.Kind.{Kind}
 use Rattle.tree_text.specs.declared.kind.Kind.TheVariants.{Encoded, Doctyped, Depth}
 use Rattle.tree_text.specs.declared.said.Said.{Said}
-use Rattle.tree_text.specs.Pieces.{Markup, Reference, Section, Comment, Instruction, Inner, line_ends, qname_of, written, said_of, StartTag, tag_of, same_letters, with_pieces, value_spelled}
+use Rattle.tree_text.specs.Pieces.{Markup, Reference, Section, Comment, Instruction, Inner, line_ends, qname_of, written, StartTag, same_letters, with_pieces, value_spelled}
 use Rattle.tree_text.specs.Names.{IsWrong, element_of, inside_tag}
 
 -- ---- names and white space
@@ -79,9 +79,9 @@ value quote = valued value_spelled (between (run (is_raw_in quote)) reference)
 abbrev pub attribute : Rule Kind (Name × List ℕ)
 attribute = sequence qname (λ _. keeping_second equals (quoted is_quote value))
 
--- an attribute behind white space
+-- an attribute behind white space: its name, its value, how many characters of white space stand before it, and how many it has
 abbrev pub said : Rule Kind Said
-said = valued said_of (sequence some_spaces (λ _. sized attribute))
+said = valued (λ x. record { name = x.1.0.0; value = x.1.0.1; gap = length x.0; size = x.1.1 }) (sequence some_spaces (λ _. sized attribute))
 
 -- `/>` ends an empty element, `>` a start tag
 abbrev pub tag_end : Rule Kind Bool
@@ -89,7 +89,9 @@ tag_end = either (valued (λ _. true) (word (codes "/>"))) (valued (λ _. false)
 
 -- [40] STag and [44] EmptyElemTag: `<`, a name, attributes each after S, S?, and `>` or `/>`
 abbrev pub tag : Rule Kind StartTag
-tag = valued tag_of (sized (keeping_second (word (codes "<")) (sequence qname (λ _. sequence (keeping_first (many said) spaces) (λ _. tag_end)))))
+tag =
+    valued (λ x. record { name = x.0.0; said = x.0.1.0; is_empty = x.0.1.1; size = x.1 })
+    (sized (keeping_second (word (codes "<")) (sequence qname (λ _. sequence (keeping_first (many said) spaces) (λ _. tag_end)))))
 
 -- [42] ETag: `</`, the name of the start tag, S?, `>`
 abbrev pub end_tag : Name → Rule Kind (Unit {0})

@@ -1,10 +1,11 @@
 -- What the pieces of a text say: values, the parts of a tag, and content put together from left to right.
-use Rattle.std.specs.Prelude.{ℕ, Bool, true, false, length, codes, List, [], ◌∷◌, ◌++◌, ◌==◌, if◌then◌else◌, ◌||◌, Option, None, Some}
+use Rattle.std.specs.Prelude.{ℕ, Bool, true, false, codes, List, [], ◌∷◌, ◌++◌, ◌==◌, if◌then◌else◌, ◌||◌, Option, None, Some}
 use Rattle.xml_tree.specs.Tree.{Content, Tree}
 use Rattle.xml_tree.specs.Edits.{with_text, with_elem, with_comment}
 use Rattle.xml_tree.specs.declared.names.Name.{Name}
 use Rattle.std.specs.Char.{to_ascii_lowercase}
 use Rattle.std.specs.List.{cons_option}
+use Rattle.std.specs.Option.{option_map_or}
 use Rattle.grammar_rules.specs.Reading.{head_is}
 use Rattle.tree_text.specs.declared.said.Said.{Said}
 
@@ -38,12 +39,8 @@ abbrev pub value_spelled : List ℕ × List (ℕ × List ℕ) → List ℕ
 value_spelled x = raw x.0 ++ more_value x.1
 
 -- a name without a prefix, or with one
-abbrev pub qname_by : List ℕ → Option (List ℕ) → Name
-qname_by n None = record { prefix = []; local = n }
-qname_by n (Some l) = record { prefix = n; local = l }
-
 abbrev pub qname_of : List ℕ × Option (List ℕ) → Name
-qname_of x = qname_by x.0 x.1
+qname_of x = option_map_or (λ local. record { prefix = x.0; local = local }) x.1 (record { prefix = []; local = x.0 })
 
 -- a name as it is written
 abbrev pub written_by : List ℕ → List ℕ → List ℕ
@@ -53,19 +50,12 @@ written_by (c ∷ cs) l = (c ∷ cs) ++ (codes ":" ++ l)
 abbrev pub written : Name → List ℕ
 written n = written_by n.prefix n.local
 
--- an attribute or a declaration in a tag: its name, its value, how many characters of white space stand before it, and how many it has
-abbrev pub said_of : List ℕ × ((Name × List ℕ) × ℕ) → Said
-said_of x = record { name = x.1.0.0; value = x.1.0.1; gap = length x.0; size = x.1.1 }
-
 -- a start tag, or the tag of an empty element
 pub record StartTag : Type 0 where
   pub name : Name
   pub said : List Said
   pub is_empty : Bool
   pub size : ℕ  -- how many characters it has
-
-abbrev pub tag_of : (Name × (List Said × Bool)) × ℕ → StartTag
-tag_of x = record { name = x.0.0; said = x.0.1.0; is_empty = x.0.1.1; size = x.1 }
 
 -- whether two words are one without regard to ASCII case, the second being in small letters
 abbrev pub same_letters : List ℕ → List ℕ → Bool

@@ -3,6 +3,7 @@
 pub mod Bindings
 pub mod Gives
 pub mod Judging
+pub mod Made
 pub mod Meanings
 pub mod Members
 pub mod Runs

@@ -12,7 +12,8 @@ use Rattle.tree_text.specs.readers.Words.{less, greater, empty_end, end_start, e
 use Rattle.tree_text.specs.declared.kind.Kind.{Kind}
 use Rattle.tree_text.specs.declared.kind.Kind.TheVariants.{Encoded, Doctyped, Depth}
 use Rattle.tree_text.specs.declared.said.Said.{Said}
-use Rattle.tree_text.specs.Pieces.{Markup, Reference, Section, Comment, Instruction, Inner, line_ends, qname_of, written, said_of, StartTag, tag_of, with_pieces, value_spelled}
+use Rattle.tree_text.specs.Pieces.{Markup, Reference, Section, Comment, Instruction, Inner, line_ends, qname_of, written, StartTag, with_pieces, value_spelled}
+use Rattle.tree_text.specs.readers.Made.{said_of, tag_of}
 use Rattle.tree_text.specs.Names.{element_of, inside_tag}
 use Rattle.tree_text.specs.readers.Judging.{tag_fault}
 use Rattle.tree_text.specs.Grammar.{last_char, is_quote, is_raw, is_raw_in, is_target, is_encoding_char, is_our_encoding}

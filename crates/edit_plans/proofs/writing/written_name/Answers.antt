@@ -1,9 +1,10 @@
 use Rattle.std.proofs.Common.{◌≡◌, ℕ, List, Option, Some, get_or, position, IfOk, sym, ap, ◌∙◌, subst}
+use Rattle.std.specs.Option.{option_map_or}
 use Rattle.xml_tree.specs.declared.names.Attr.{Attr}
 use Rattle.xml_tree.specs.declared.names.Decl.{Decl}
 use Rattle.xml_tree.specs.declared.names.Name.{Name}
 use Rattle.node_select.specs.Selection.{is_attr}
-use Rattle.plan_words.specs.Attributes.{kept_name, new_name}
+use Rattle.plan_words.specs.Attributes.{new_name}
 use Rattle.edit_plans.proofs.TagLemmas.{found_at_position, none_at_position}
 use Rattle.edit_plans.proofs.writing.written_name.Goals as goal
 
@@ -20,7 +21,7 @@ returns-in-None c = record {
       let attrs = c.args.element.now.attrs in
       let place = by_letters scope uri _ local _ attrs c.find_attr.result c.as_str.ensures.characters_of_the_text c.as_str-2.ensures.characters_of_the_text c.find_attr.ensures.place_of_the_first in
       let none = none_at_position (is_attr scope uri local) attrs (sym place ∙ c.in-None.is) in
-      subst (λ (o : Option Name). IfOk c.new_name.result (λ name. name ≡ o)) (sym (ap (λ (found : Option Attr). kept_name found (new_name scope uri local)) none)) c.new_name.ensures.finds_a_name;
+      subst (λ (o : Option Name). IfOk c.new_name.result (λ name. name ≡ o)) (sym (ap (λ (found : Option Attr). option_map_or (λ (a : Attr). Some a.name) found (new_name scope uri local)) none)) c.new_name.ensures.finds_a_name;
 }
 
 pub returns-in_ok-name-in-Some : goal.returns-in_ok-name-in-Some
@@ -33,5 +34,5 @@ returns-in_ok-name-in-Some c = record {
       let attr = c.index-attrs-place.result in
       let place = by_letters scope uri _ local _ attrs c.find_attr.result c.as_str.ensures.characters_of_the_text c.as_str-2.ensures.characters_of_the_text c.find_attr.ensures.place_of_the_first in
       let found = found_at_position (is_attr scope uri local) attrs c.in-Some.place attr (sym place ∙ c.in-Some.is) (subst (λ (xs : List Attr). attr ≡ get_or xs c.in-Some.place attr) c.attrs.ensures.lends_the_attributes c.index-attrs-place.is) in
-      ap (λ (n : Name). Some n) (c.in_ok-name-in-Some.ensures.makes_an_equal_name ∙ ap (λ (a : Attr). a.name) (sym c.index-attrs-place.is)) ∙ sym (ap (λ (o : Option Attr). kept_name o (new_name scope uri local)) found);
+      ap (λ (n : Name). Some n) (c.in_ok-name-in-Some.ensures.makes_an_equal_name ∙ ap (λ (a : Attr). a.name) (sym c.index-attrs-place.is)) ∙ sym (ap (λ (o : Option Attr). option_map_or (λ (a : Attr). Some a.name) o (new_name scope uri local)) found);
 }
