@@ -1,17 +1,18 @@
 -- What the name of a document leads to that is held.
 use Rattle.std.proofs.Common.{◌≡◌, ℕ, List, Option, None, Some, option_map, encode_utf8_all, sym, ap, subst}
 use Rattle.std.proofs.lemmas.Option.{same_Some}
+use Rattle.std.specs.Option.{option_map_or}
 use Rattle.xml_tree.specs.Tree.{Tree}
 use Rattle.tree_text.specs.Printing.{document_print}
 use Rattle.doc_names.specs.declared.doc_id.DocId.{DocId}
 use Rattle.doc_names.specs.declared.doc_id.Home.{Home}
 use Rattle.doc_names.specs.declared.doc_id.Home.TheVariants.{User}
 use Rattle.store_core.specs.Held.{Held, Stock}
-use Rattle.machine_words.specs.Resources.{LeadsFrom, LeadsTo, if_held, there, version_of}
+use Rattle.machine_words.specs.Resources.{LeadsFrom, LeadsTo, absent, there, version_of}
 
 -- the name of a user's document leads to the version that is held
 pub led : (c : Stock) (id : DocId) (xui : List ℕ) (t : Tree) (tag : ℕ) → id.home ≡ User xui → version_of c id ≡ Some (t, tag) → LeadsTo c id (there t tag)
-led c id xui t tag home is = subst (λ (home : Home). LeadsFrom c id home (there t tag)) (sym home) (sym (ap if_held is))
+led c id xui t tag home is = subst (λ (home : Home). LeadsFrom c id home (there t tag)) (sym home) (sym (ap (λ (version : Option (Tree × ℕ)). option_map_or (λ held. there held.0 held.1) version absent) is))
 
 -- the print of what is held, by its tree
 pub printed : (o : Option Held) (t : Tree) (tag : ℕ) → option_map {U = Tree × ℕ} (λ (h : Held). (h.tree, h.tag)) o ≡ Some (t, tag)

@@ -1,10 +1,11 @@
 //! What an address leads to (RFC 4825, section 6; RFC 4826, sections 4.4.7 and 4.4.8).
 ghost use Rattle.std.specs.Prelude.{◌≡◌, true, IfOk};
+ghost use Rattle.std.specs.Option.{option_map_or};
 ghost use Rattle.std.specs.Str.{bytes_eq};
 ghost use Rattle.usage_docs.specs.Capabilities.{capabilities};
 ghost use Rattle.doc_names.specs.declared.doc_id.Auid.TheVariants.{RlsServices};
 ghost use Rattle.store_core.specs.Indexes.{index};
-ghost use Rattle.machine_words.specs.Resources.{LeadsTo, LeadsUnderGlobal, if_held, there, version_of};
+ghost use Rattle.machine_words.specs.Resources.{LeadsTo, LeadsUnderGlobal, absent, there, version_of};
 ghost use Rattle.document_reads.specs.Finding.{IsLow, resource_of};
 
 use crate::NoMemory;
@@ -30,7 +31,7 @@ pub enum Found<'a> {
 
 // A document that is held, or nothing.
 fn held<'a>(store: &'a Store, doc: &DocId) -> Found<'a>
-    ensures leads_there { resource_of result ≡ if_held (version_of store.now.content doc.now) }
+    ensures leads_there { resource_of result ≡ option_map_or (λ held. there held.0 held.1) (version_of store.now.content doc.now) absent }
     ensures found_low { IsLow result }
 {
     match store.get(doc) {

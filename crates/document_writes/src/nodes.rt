@@ -7,9 +7,10 @@ ghost use Rattle.plan_words.specs.Spots.{IsSpotOf};
 ghost use Rattle.plan_words.specs.declared.refusal.EditRefusal.TheVariants as refusals;
 ghost use Rattle.store_core.specs.Keeping.{IsSound};
 ghost use Rattle.machine_words.specs.Answers.{BehindConditions, unchanged};
-ghost use Rattle.machine_words.specs.Fragments.{DeletesNode, DeletesNodeOf, PutsFragment, PutsNode, PutsNodeOf, MayBeWritten, is_there};
+ghost use Rattle.machine_words.specs.Fragments.{DeletesNode, PutsFragment, PutsNode, MayBeWritten, is_there};
 ghost use Rattle.machine_words.specs.Resources.{version_of};
 ghost use Rattle.machine_words.specs.Writing.{puts_deeper};
+ghost use Rattle.machine_words.specs.inner.Versions.{DeletesNodeOf, PutsNodeOf};
 ghost use Rattle.document_writes.specs.Deciding.{Decides};
 ghost use Rattle.document_writes.specs.inner.Planning.{IsCut, IsPlanFor, IsPlanOf};
 

@@ -1,8 +1,9 @@
 -- What a name leads to is one thing.
-use Rattle.std.proofs.Common.{◌≡◌, ◌-◌, Bool, true, false, refl, ap, ◌∙◌}
+use Rattle.std.proofs.Common.{◌≡◌, ◌-◌, ℕ, nat_lt, Bool, true, false, Option, if◌then◌else◌, refl, ap, ◌∙◌}
+use Rattle.std.specs.Option.{option_map_or}
 use Rattle.std.specs.Str.{bytes_eq}
 use Rattle.xml_tree.specs.Tree.{Tree}
-use Rattle.usage_docs.specs.Services.{index_of_documents}
+use Rattle.usage_docs.specs.Services.{document_len, index_limit, index_of_documents}
 use Rattle.usage_docs.specs.Capabilities.{capabilities}
 use Rattle.doc_names.specs.declared.doc_id.Auid.{Auid}
 use Rattle.doc_names.specs.declared.doc_id.Auid.TheVariants.{ResourceLists, RlsServices, XcapCaps}
@@ -12,7 +13,7 @@ use Rattle.doc_names.specs.declared.doc_id.DocId.{DocId}
 use Rattle.store_core.specs.Indexes.{index}
 use Rattle.store_core.proofs.ByUser.{index_trees, one-index-trees, some-index-trees}
 use Rattle.store_core.specs.Held.{Stock as Content}
-use Rattle.machine_words.specs.Resources.{IsIndexOfServices, LeadsFrom, LeadsTo, LeadsUnderGlobal, Resource, absent, if_held, if_within_limit, there, version_of}
+use Rattle.machine_words.specs.Resources.{IsIndexOfServices, LeadsFrom, LeadsTo, LeadsUnderGlobal, Resource, absent, beyond_limit, there, version_of}
 
 -- ---- the index
 
@@ -26,6 +27,12 @@ only_services : (c : Content) (root : Tree) → IsIndexOfServices c root → roo
 only_services c root h = h.2 ∙ ap index_of_documents (one-index-trees c h.0 (index_trees c) h.1 (some-index-trees c))
 
 -- ---- a document
+
+abbrev if_within_limit : Tree → ℕ → Resource
+if_within_limit t tag = if nat_lt index_limit (document_len t) then beyond_limit else there t tag
+
+abbrev if_held : Option (Tree × ℕ) → Resource
+if_held version = option_map_or (λ held. there held.0 held.1) version absent
 
 abbrev under_global : Content → Auid → Bool → Resource
 under_global c ResourceLists is_index = absent

@@ -61,8 +61,9 @@ use Rattle.machine_words.specs.Feeds.{sends_notice, story_answer}
 use Rattle.machine_words.specs.FlatLists.{IsFlatDocument, document_of, sends_flat}
 use Rattle.machine_words.specs.Reading.{SendsDocument, SendsFound, SendsNode}
 use Rattle.machine_words.specs.Resources.{LeadsTo, Resource, absent, beyond_limit, there, version_of}
-use Rattle.machine_words.specs.Fragments.{CutsNode, DeletesNodeIn, PutsAt, PutsElement, PutsElementText, PutsFragment, PutsFrom, PutsNodeIn, PutsNodeOf, PutsValue, PutsValueText, cut_reply, is_there, levels_for, plan_answer, put_planned, scope_for, value_conflict}
-use Rattle.machine_words.specs.Writing.{DeletesDocumentIn, IfStored, PutsBody, PutsDocument, PutsSpelled, PutsText, by_judgement, change_answer, deleted_reply, puts_deeper, put_answer, text_conflict, version_tag as tag_of}
+use Rattle.machine_words.specs.Fragments.{CutsNode, PutsAt, PutsElement, PutsFragment, PutsFrom, PutsValue, cut_reply, is_there, levels_for, plan_answer, put_planned, scope_for, value_conflict}
+use Rattle.machine_words.specs.Writing.{IfStored, PutsBody, PutsDocument, PutsSpelled, PutsText, by_judgement, change_answer, deleted_reply, puts_deeper, put_answer, text_conflict, version_tag as tag_of}
+use Rattle.machine_words.specs.inner.Versions.{DeletesDocumentIn, DeletesNodeIn, PutsElementText, PutsNodeIn, PutsNodeOf, PutsValueText}
 use Rattle.machine_words.proofs.Leading.{leads, only_leads, resource}
 
 -- there is an answer of this kind, and each one of it is that

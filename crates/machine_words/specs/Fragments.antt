@@ -1,7 +1,7 @@
 -- Requests that write an element or an attribute of a document. RFC 4825, sections 8.2.1 to 8.2.5 (PUT) and 8.4 (DELETE), with the conflicts of
 -- section 11 and the entity tags of section 8.5. Which change is made, or why there is none, is said by the plans. The order of the tests is
 -- this server's own: the parent, the conditions, the media type, the body, and then the plan.
-use Rattle.std.specs.Prelude.{◌≡◌, ℕ, suc, ◌-◌, Bool, true, false, List, [], length, is_some, Option, None, Some, Result, Ok, Err}
+use Rattle.std.specs.Prelude.{◌≡◌, ℕ, suc, ◌-◌, Bool, true, false, List, [], length, is_some, Some, Result, Ok, Err, MatchOption, MatchResult}
 use Rattle.std.specs.Bool.{MatchBool}
 use Rattle.store_core.specs.Held.{Stock}
 use Rattle.xml_tree.specs.Tree.{Tree}
@@ -89,32 +89,24 @@ module _ (c : Stock) (id : DocId) (usage : Usage) (selector : Selector) (t : Tre
   abbrev pub put_planned : Request → Result Change EditRefusal → Answer
   put_planned request plan = plan_answer c id request.closes (put_reply (is_there t selector) request.closes) plan
 
-  -- the answer to a text, which spells an element or has a fault
-  abbrev pub PutsElementText : Spot → Result Tree TextFault → Request → Answer → Type 0
-  PutsElementText spot (Err fault) request a = a ≡ unchanged (conflict (text_conflict conflicts.NotXmlFrag fault) request.closes)
-  PutsElementText spot (Ok e) request a =
-      (plan : Result Change EditRefusal) × IsPutPlan usage t selector.steps spot e plan × (a ≡ put_planned request plan)
-
-  -- the answer to a body, by the element that its text spells in the scope of the spot, with no more levels than it may have there
+  -- the answer to a body whose text spells an element in the scope of the spot, with no more levels than it may have there; or has a fault
   abbrev pub PutsElement : Spot → Request → Answer → Type 0
   PutsElement spot request a =
-      (read : Result Tree TextFault) × TextAnswer (levels_for spot) (scope_for t spot) request.body read × PutsElementText spot read request a
+      (read : Result Tree TextFault) × TextAnswer (levels_for spot) (scope_for t spot) request.body read
+      × MatchResult read (λ e. (plan : Result Change EditRefusal) × IsPutPlan usage t selector.steps spot e plan × (a ≡ put_planned request plan))
+      (λ fault. a ≡ unchanged (conflict (text_conflict conflicts.NotXmlFrag fault) request.closes))
 
-  -- the answer to a text, which spells the value of an attribute of the element at p or has a fault
-  abbrev pub PutsValueText : List ℕ → Result (List ℕ) ValueFault → Request → Answer → Type 0
-  PutsValueText p (Err fault) request a = a ≡ unchanged (conflict (value_conflict fault) request.closes)
-  PutsValueText p (Ok value) request a =
-      (plan : Result Change EditRefusal) × IsAttrPlan usage t selector.steps selector.end p value plan × (a ≡ put_planned request plan)
-
+  -- the answer to a body whose text spells the value of an attribute of the element at p; or has a fault
   abbrev pub PutsValue : List ℕ → Request → Answer → Type 0
-  PutsValue p request a = (read : Result (List ℕ) ValueFault) × BodyAnswer request.body read × PutsValueText p read request a
+  PutsValue p request a =
+      (read : Result (List ℕ) ValueFault) × BodyAnswer request.body read
+      × MatchResult read (λ value. (plan : Result Change EditRefusal) × IsAttrPlan usage t selector.steps selector.end p value plan × (a ≡ put_planned request plan))
+      (λ fault. a ≡ unchanged (conflict (value_conflict fault) request.closes))
 
-  -- by the kind of the spot
+  -- by the kind of the spot: of an attribute, or of an element
   abbrev pub PutsAt : Spot → Request → Answer → Type 0
-  PutsAt (Over p) request a = PutsElement (Over p) request a
-  PutsAt (Under q) request a = PutsElement (Under q) request a
-  PutsAt Beside request a = PutsElement Beside request a
   PutsAt (Value p) request a = PutsValue p request a
+  PutsAt spot request a = PutsElement spot request a
 
   -- the body is of the media type of elements or attributes
   abbrev pub PutsFragment : Spot → Request → Answer → Type 0
@@ -125,16 +117,11 @@ module _ (c : Stock) (id : DocId) (usage : Usage) (selector : Selector) (t : Tre
   PutsFrom root tag (Err none) request a = a ≡ unchanged (conflict (conflicts.NoParent (ancestor_uri root id t selector.steps)) request.closes)
   PutsFrom root tag (Ok spot) request a = BehindConditions request (Some tag) (is_there t selector) false a (PutsFragment spot request a)
 
-  abbrev pub PutsNodeOf : List ℕ → ℕ → Request → Answer → Type 0
-  PutsNodeOf root tag request a = (spot : Result Spot NoParent) × IsSpot t selector spot × PutsFrom root tag spot request a
-
--- a node of a document that is held, or not
-abbrev pub PutsNodeIn : List ℕ → Stock → DocId → Usage → Selector → Option (Tree × ℕ) → Request → Answer → Type 0
-PutsNodeIn root c id usage selector None request a = a ≡ puts_deeper root id.auid id.home request
-PutsNodeIn root c id usage selector (Some (t, tag)) request a = PutsNodeOf c id usage selector t root tag request a
-
+-- a node of a document that isn't held, or is
 abbrev pub PutsNode : List ℕ → Stock → DocId → Usage → Selector → Request → Answer → Type 0
-PutsNode root c id usage selector request a = PutsNodeIn root c id usage selector (version_of c id) request a
+PutsNode root c id usage selector request a =
+    MatchOption (version_of c id) (a ≡ puts_deeper root id.auid id.home request)
+    (λ held. (spot : Result Spot NoParent) × IsSpot held.0 selector spot × PutsFrom c id usage selector held.0 root held.1 spot request a)
 
 -- ---- DELETE (RFC 4825, section 8.4)
 
@@ -147,16 +134,10 @@ abbrev pub CutsNode : Stock → DocId → Usage → Selector → Tree → Reques
 CutsNode c id usage selector t request a =
     (plan : Result Change EditRefusal) × IsDeletePlan usage t selector plan × (a ≡ plan_answer c id request.closes (cut_reply request.closes) plan)
 
--- a node of a document that is held with this tree and this tag
-abbrev pub DeletesNodeOf : Stock → DocId → Usage → Selector → Tree → ℕ → Request → Answer → Type 0
-DeletesNodeOf c id usage selector t tag request a =
-    MatchBool (is_there t selector)
-    (BehindConditions request (Some tag) true false a (CutsNode c id usage selector t request a))
-    (a ≡ unchanged (plain 404 request.closes))
-
-abbrev pub DeletesNodeIn : Stock → DocId → Usage → Selector → Option (Tree × ℕ) → Request → Answer → Type 0
-DeletesNodeIn c id usage selector None request a = a ≡ unchanged (plain 404 request.closes)
-DeletesNodeIn c id usage selector (Some (t, tag)) request a = DeletesNodeOf c id usage selector t tag request a
-
+-- a node of a document that isn't held, or is: where the node is there, the conditions count
 abbrev pub DeletesNode : Stock → DocId → Usage → Selector → Request → Answer → Type 0
-DeletesNode c id usage selector request a = DeletesNodeIn c id usage selector (version_of c id) request a
+DeletesNode c id usage selector request a =
+    MatchOption (version_of c id) (a ≡ unchanged (plain 404 request.closes)) (λ held.
+    MatchBool (is_there held.0 selector)
+    (BehindConditions request (Some held.1) true false a (CutsNode c id usage selector held.0 request a))
+    (a ≡ unchanged (plain 404 request.closes)))

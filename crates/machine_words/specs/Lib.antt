@@ -10,3 +10,4 @@ pub mod Fragments
 pub mod Effects
 pub mod ElementFeeds
 pub mod Laws
+pub mod inner

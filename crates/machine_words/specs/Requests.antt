@@ -5,7 +5,7 @@ use Rattle.std.specs.Prelude.{◌≡◌, ℕ, Bool, true, false, not, List, Resu
 use Rattle.std.specs.Bool.{MatchBool}
 use Rattle.store_core.specs.Held.{Stock}
 use Rattle.node_select.specs.declared.selector.End.{End}
-use Rattle.node_select.specs.declared.selector.End.TheVariants.{Element, Attribute, Namespaces}
+use Rattle.node_select.specs.declared.selector.End.TheVariants.{Namespaces}
 use Rattle.xcap_uri.specs.Targets.{TargetAnswer}
 use Rattle.doc_names.specs.declared.doc_id.Auid.{Auid}
 use Rattle.doc_names.specs.declared.doc_id.Home.{Home}
@@ -39,18 +39,15 @@ fault_status _ = 400
 
 -- bindings can't be put
 abbrev pub is_bindings : End → Bool
-is_bindings Element = false
-is_bindings (Attribute uri local) = false
 is_bindings Namespaces = true
+is_bindings _ = false
 
 -- what can be read and nothing else
 abbrev pub is_read_only : Target → Bool
 is_read_only (Document id) = false
 is_read_only (Node id selector) = is_bindings selector.end
 is_read_only (Deep auid home) = false
-is_read_only (Feed mode tag id) = true
-is_read_only (ElementFeed tag id selector raw) = true
-is_read_only (Flat id service) = true
+is_read_only _ = true
 
 -- what a target takes of the methods
 abbrev pub takes : Target → Method → Bool

@@ -1,6 +1,7 @@
 -- What an address leads to. RFC 4825, section 6: a document. Those under `global` are computed (RFC 4825, section 12, and RFC 4826,
 -- sections 4.4.7 and 4.4.8).
-use Rattle.std.specs.Prelude.{◌≡◌, ℕ, ◌-◌, Bool, true, false, List, Option, None, Some, option_map, nat_lt, if◌then◌else◌}
+use Rattle.std.specs.Prelude.{◌≡◌, ℕ, ◌-◌, Bool, true, false, List, Option, option_map, nat_lt, if◌then◌else◌}
+use Rattle.std.specs.Option.{option_map_or}
 use Rattle.std.specs.Str.{bytes_eq}
 use Rattle.xml_tree.specs.Tree.{Tree}
 use Rattle.usage_docs.specs.Services.{index_of_documents, document_len, index_limit}
@@ -24,13 +25,6 @@ pub data Resource : Type 0 where
   beyond_limit : Resource
   there : Tree → ℕ → Resource
 
-abbrev pub if_held : Option (Tree × ℕ) → Resource
-if_held None = absent
-if_held (Some (t, tag)) = there t tag
-
-abbrev pub if_within_limit : Tree → ℕ → Resource
-if_within_limit t tag = if nat_lt index_limit (document_len t) then beyond_limit else there t tag
-
 -- the index of services of what is held
 abbrev pub IsIndexOfServices : Stock → Tree → Type 0
 IsIndexOfServices c root = (trees : List Tree) × AreIndexTrees c trees × (root ≡ index_of_documents trees)
@@ -39,13 +33,14 @@ IsIndexOfServices c root = (trees : List Tree) × AreIndexTrees c trees × (root
 abbrev pub LeadsUnderGlobal : Stock → Auid → Bool → Resource → Type 0
 LeadsUnderGlobal c ResourceLists is_index r = r ≡ absent
 LeadsUnderGlobal c RlsServices false r = r ≡ absent
-LeadsUnderGlobal c RlsServices true r = (root : Tree) × IsIndexOfServices c root × (r ≡ if_within_limit root (c.next - 1))
+LeadsUnderGlobal c RlsServices true r =
+    (root : Tree) × IsIndexOfServices c root × (r ≡ (if nat_lt index_limit (document_len root) then beyond_limit else there root (c.next - 1)))
 LeadsUnderGlobal c XcapCaps false r = r ≡ absent
 LeadsUnderGlobal c XcapCaps true r = r ≡ there capabilities 0
 
 abbrev pub LeadsFrom : Stock → DocId → Home → Resource → Type 0
 LeadsFrom c id Global r = LeadsUnderGlobal c id.auid (bytes_eq id.name index) r
-LeadsFrom c id (User xui) r = r ≡ if_held (version_of c id)
+LeadsFrom c id (User xui) r = r ≡ option_map_or (λ held. there held.0 held.1) (version_of c id) absent
 
 -- what the name of a document leads to
 abbrev pub LeadsTo : Stock → DocId → Resource → Type 0

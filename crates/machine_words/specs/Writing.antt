@@ -1,6 +1,6 @@
 -- Requests that write documents, and what they share with those that write nodes. RFC 4825, sections 8.2 (PUT) and 8.4 (DELETE), with the
 -- conflicts of section 11 and the entity tags of section 8.5; the order of the tests is this server's own.
-use Rattle.std.specs.Prelude.{◌≡◌, ℕ, Bool, true, false, List, [], ◌++◌, codes, is_some, Option, None, Some, Result, Ok, Err, if◌then◌else◌}
+use Rattle.std.specs.Prelude.{◌≡◌, ℕ, Bool, true, false, List, [], ◌++◌, codes, is_some, Option, None, Some, Result, Ok, Err, MatchOption, if◌then◌else◌}
 use Rattle.std.specs.Bool.{MatchBool}
 use Rattle.xml_tree.specs.PathTexts.{path_text}
 use Rattle.xml_tree.specs.Tree.{Tree}
@@ -29,7 +29,7 @@ use Rattle.request_terms.specs.MediaTypes.{document_media, has_type}
 use Rattle.xcap_uri.specs.Ancestors.{home_uri}
 use Rattle.store_core.specs.Changing.{act_of, against, document_in, held_name, note_for}
 use Rattle.store_core.specs.declared.refusal.StoreRefusal.{StoreRefusal}
-use Rattle.store_core.specs.declared.refusal.StoreRefusal.TheVariants.{ServiceTaken, TooLarge, TooMany, StoreFull, NoNumber}
+use Rattle.store_core.specs.declared.refusal.StoreRefusal.TheVariants.{ServiceTaken}
 use Rattle.store_core.specs.Held.{Stock}
 use Rattle.machine_words.specs.Answers.{Answer, BehindConditions, unchanged, conflict, tagged}
 use Rattle.machine_words.specs.Resources.{version_of}
@@ -75,10 +75,7 @@ by_judgement (Some fault) closes answer = unchanged (conflict (fault_conflict fa
 -- a service address that another document has is a conflict; the limits leave no room (RFC 4918, section 11.5)
 abbrev pub refused : StoreRefusal → Bool → Sent
 refused (ServiceTaken clash) closes = conflict (conflicts.Unique (clash_field clash)) closes
-refused (TooLarge len) closes = plain 507 closes
-refused TooMany closes = plain 507 closes
-refused (StoreFull total) closes = plain 507 closes
-refused NoNumber closes = plain 507 closes
+refused _ closes = plain 507 closes
 
 -- a change that is refused, and one that is made, whose note the reply goes by
 abbrev pub store_answer : DocId → Bool → (Note → Sent) → Option StoreRefusal → Note → Answer
@@ -141,11 +138,8 @@ puts_deeper root auid home request = unchanged (conflict (conflicts.NoParent (ho
 abbrev pub deleted_reply : Bool → Note → Sent
 deleted_reply closes note = plain 200 closes
 
--- a document that is held, or not
-abbrev pub DeletesDocumentIn : Stock → DocId → Option (Tree × ℕ) → Request → Answer → Type 0
-DeletesDocumentIn c id None request a = a ≡ unchanged (plain 404 request.closes)
-DeletesDocumentIn c id (Some (t, tag)) request a =
-    BehindConditions request (Some tag) true false a (a ≡ change_answer c id RemoveDocument request.closes (deleted_reply request.closes))
-
+-- a document that isn't held, or is
 abbrev pub DeletesDocument : Stock → DocId → Request → Answer → Type 0
-DeletesDocument c id request a = DeletesDocumentIn c id (version_of c id) request a
+DeletesDocument c id request a =
+    MatchOption (version_of c id) (a ≡ unchanged (plain 404 request.closes)) (λ held.
+    BehindConditions request (Some held.1) true false a (a ≡ change_answer c id RemoveDocument request.closes (deleted_reply request.closes)))

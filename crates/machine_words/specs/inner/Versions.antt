@@ -1,0 +1,66 @@
+-- What a request that writes is answered, by the version of the document that is held, and by what a text spells.
+use Rattle.std.specs.Prelude.{◌≡◌, ℕ, true, false, List, Option, Some, Result, MatchOption, MatchResult}
+use Rattle.std.specs.Bool.{MatchBool}
+use Rattle.store_core.specs.Held.{Stock}
+use Rattle.xml_tree.specs.Tree.{Tree}
+use Rattle.tree_text.specs.declared.fault.TextFault.{TextFault}
+use Rattle.tree_text.specs.declared.fault.ValueFault.{ValueFault}
+use Rattle.doc_names.specs.declared.usages.Usage.{Usage}
+use Rattle.doc_names.specs.declared.doc_id.DocId.{DocId}
+use Rattle.node_select.specs.declared.selector.Selector.{Selector}
+use Rattle.edit_ops.specs.declared.change.Change.{Change}
+use Rattle.edit_ops.specs.declared.change.Change.TheVariants.{RemoveDocument}
+use Rattle.plan_words.specs.declared.spot.Spot.{Spot}
+use Rattle.plan_words.specs.declared.spot.NoParent.{NoParent}
+use Rattle.plan_words.specs.declared.refusal.EditRefusal.{EditRefusal}
+use Rattle.plan_words.specs.Attributes.{IsAttrPlan}
+use Rattle.plan_words.specs.Puts.{IsPutPlan}
+use Rattle.plan_words.specs.Spots.{IsSpot}
+use Rattle.conflict_docs.specs.declared.conflicts.ErrorBody.TheVariants as conflicts
+use Rattle.reply_text.specs.Heads.{plain}
+use Rattle.http_wire.specs.declared.request.Request.{Request}
+use Rattle.machine_words.specs.Answers.{Answer, BehindConditions, unchanged, conflict}
+use Rattle.machine_words.specs.Fragments.{CutsNode, PutsFrom, is_there, put_planned, value_conflict}
+use Rattle.machine_words.specs.Writing.{change_answer, deleted_reply, puts_deeper, text_conflict}
+
+-- ---- PUT of a node
+
+module _ (c : Stock) (id : DocId) (usage : Usage) (selector : Selector) (t : Tree) where
+  -- a text, which spells an element or has a fault
+  abbrev pub PutsElementText : Spot → Result Tree TextFault → Request → Answer → Type 0
+  PutsElementText spot read request a =
+      MatchResult read (λ e. (plan : Result Change EditRefusal) × IsPutPlan usage t selector.steps spot e plan × (a ≡ put_planned c id usage selector t request plan))
+      (λ fault. a ≡ unchanged (conflict (text_conflict conflicts.NotXmlFrag fault) request.closes))
+
+  -- a text, which spells the value of an attribute or has a fault
+  abbrev pub PutsValueText : List ℕ → Result (List ℕ) ValueFault → Request → Answer → Type 0
+  PutsValueText p read request a =
+      MatchResult read
+      (λ value. (plan : Result Change EditRefusal) × IsAttrPlan usage t selector.steps selector.end p value plan × (a ≡ put_planned c id usage selector t request plan))
+      (λ fault. a ≡ unchanged (conflict (value_conflict fault) request.closes))
+
+  -- a node of a document that is held with this tree
+  abbrev pub PutsNodeOf : List ℕ → ℕ → Request → Answer → Type 0
+  PutsNodeOf root tag request a = (spot : Result Spot NoParent) × IsSpot t selector spot × PutsFrom c id usage selector t root tag spot request a
+
+-- a node of a document of which this version is held, if one is
+abbrev pub PutsNodeIn : List ℕ → Stock → DocId → Usage → Selector → Option (Tree × ℕ) → Request → Answer → Type 0
+PutsNodeIn root c id usage selector version request a =
+    MatchOption version (a ≡ puts_deeper root id.auid id.home request) (λ held. PutsNodeOf c id usage selector held.0 root held.1 request a)
+
+-- ---- DELETE
+
+abbrev pub DeletesNodeOf : Stock → DocId → Usage → Selector → Tree → ℕ → Request → Answer → Type 0
+DeletesNodeOf c id usage selector t tag request a =
+    MatchBool (is_there t selector)
+    (BehindConditions request (Some tag) true false a (CutsNode c id usage selector t request a))
+    (a ≡ unchanged (plain 404 request.closes))
+
+abbrev pub DeletesNodeIn : Stock → DocId → Usage → Selector → Option (Tree × ℕ) → Request → Answer → Type 0
+DeletesNodeIn c id usage selector version request a =
+    MatchOption version (a ≡ unchanged (plain 404 request.closes)) (λ held. DeletesNodeOf c id usage selector held.0 held.1 request a)
+
+abbrev pub DeletesDocumentIn : Stock → DocId → Option (Tree × ℕ) → Request → Answer → Type 0
+DeletesDocumentIn c id version request a =
+    MatchOption version (a ≡ unchanged (plain 404 request.closes)) (λ held.
+    BehindConditions request (Some held.1) true false a (a ≡ change_answer c id RemoveDocument request.closes (deleted_reply request.closes)))
