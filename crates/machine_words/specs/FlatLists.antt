@@ -13,7 +13,7 @@ use Rattle.store_core.specs.Held.{Stock}
 use Rattle.list_resolve.specs.Documents.{flat_document}
 use Rattle.list_resolve.specs.Flat.{IsFlatList}
 use Rattle.list_resolve.specs.declared.fault.FlatFault.{FlatFault}
-use Rattle.list_resolve.specs.declared.fault.FlatFault.TheVariants.{NoService, TooWide, TooLarge}
+use Rattle.list_resolve.specs.declared.fault.FlatFault.TheVariants.{NoService}
 use Rattle.machine_words.specs.Answers.{Answer, found, unchanged}
 
 -- the document of a flat list, or why there is none
@@ -28,8 +28,7 @@ IsFlatDocument root c id service answer = (list : Result (List (List ℕ)) FlatF
 -- there is no such service; or its references or the document's bytes are too many
 abbrev pub flat_status : FlatFault → ℕ
 flat_status NoService = 404
-flat_status TooWide = 507
-flat_status (TooLarge len) = 507
+flat_status _ = 507
 
 -- the document is sent, without a tag
 abbrev pub sends_flat : Result Tree FlatFault → Method → Request → Answer

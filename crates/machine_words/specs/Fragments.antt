@@ -64,8 +64,7 @@ plan_answer c id closes reply (Ok change) = change_answer c id change closes rep
 abbrev pub scope_for : Tree → Spot → List (List Decl)
 scope_for t (Over p) = scope_around p t
 scope_for t (Under q) = scope_at q t
-scope_for t Beside = []
-scope_for t (Value p) = []
+scope_for t _ = []
 
 -- how many levels it may have there: a document has at most `most_levels`
 abbrev pub levels_for : Spot → ℕ

@@ -14,7 +14,7 @@ use Rattle.node_select.specs.declared.selector.NameTest.TheVariants.{Any, Named}
 use Rattle.node_select.specs.declared.selector.AttrTest.{AttrTest}
 use Rattle.node_select.specs.declared.selector.Step.{Step}
 use Rattle.node_select.specs.declared.selector.End.{End}
-use Rattle.node_select.specs.declared.selector.End.TheVariants.{Element, Attribute, Namespaces}
+use Rattle.node_select.specs.declared.selector.End.TheVariants.{Attribute}
 use Rattle.node_select.specs.declared.selector.Selector.{Selector}
 use Rattle.node_select.specs.Names.{is_named_so}
 
@@ -69,9 +69,8 @@ SelectsPath steps root p = SelectsAmong [] (root ∷ []) steps (0 ∷ p)
 
 -- of an element, in its scope: whether the end is there
 abbrev pub has_end : End → List (List Decl) → Tree → Bool
-has_end Element c e = true
 has_end (Attribute uri local) c e = list_any (is_attr c uri local) e.attrs
-has_end Namespaces c e = true
+has_end _ c e = true
 
 -- the selector finds something: its steps select an element, which has the attribute where the selector ends in one
 pub record Found (root : Tree) (selector : Selector) : Type 0 where

@@ -5,7 +5,7 @@ use Rattle.xml_tree.specs.Edits.{attr_at}
 use Rattle.xml_tree.specs.Scopes.{scope_at, scope_around, bindings_in}
 use Rattle.xml_tree.specs.declared.names.Decl.{Decl}
 use Rattle.edit_ops.specs.declared.change.Change.{Change}
-use Rattle.edit_ops.specs.declared.change.Change.TheVariants.{CreateDocument, Insert, Replace, Remove, SetAttr, DropAttr, RemoveDocument}
+use Rattle.edit_ops.specs.declared.change.Change.TheVariants.{Insert, Replace, Remove, SetAttr, DropAttr}
 use Rattle.edit_ops.specs.Changes.{Fits, edited}
 
 -- a note: the tags before and after the change, all bindings in scope at its place, the change, and whether it writes an attribute that is new
@@ -18,13 +18,12 @@ pub record Note : Type 0 where
 
 -- the scope of the place of a change: of what is put or taken out its parent's, of an attribute its element's; a document has none
 abbrev pub scope_of_place : Tree → Change → List (List Decl)
-scope_of_place t (CreateDocument root) = []
 scope_of_place t (Insert parent gap element) = scope_at parent t
 scope_of_place t (Replace p element) = scope_around p t
 scope_of_place t (Remove p) = scope_around p t
 scope_of_place t (SetAttr p name value) = scope_at p t
 scope_of_place t (DropAttr p name) = scope_at p t
-scope_of_place t RemoveDocument = []
+scope_of_place t _ = []
 
 -- whether the change writes an attribute that the tree before doesn't have
 abbrev pub is_fresh : Tree → Change → Bool

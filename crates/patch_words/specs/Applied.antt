@@ -122,8 +122,7 @@ task_of Cut pos type ws = if is_some pos || is_some type then None else cutting 
 -- prefixes are bound or not
 abbrev pub is_element : PatchForm → Bool
 is_element forms.Element = true
-is_element forms.Attribute = false
-is_element forms.Chars = false
+is_element _ = false
 
 abbrev pub suits : Task → PatchForm → Bool
 suits (Put position) end = is_element end
@@ -314,10 +313,8 @@ done c (Remove before after) spot content t = remove_done before after spot cont
 
 -- the prefix of a new attribute's name is bound at the operation
 abbrev pub is_bound_type : List (List Decl) → Task → Bool
-is_bound_type c (Put position) = true
 is_bound_type c (NewAttr name) = bytes_eq name.prefix [] || is_some (prefix_uri (bindings_in c) name.prefix)
-is_bound_type c Replace = true
-is_bound_type c (Remove before after) = true
+is_bound_type c _ = true
 
 -- an operation that stands in the scope c: what it makes of the tree, or the first thing that is wrong with it. What its selector says is
 -- read so.

@@ -66,8 +66,7 @@ pub record IsValuePlan (u : Usage) (t : Tree) (steps : List Step) (uri local : L
 -- the same by how the selector ends: only one that ends in an attribute has a plan here
 abbrev pub IsAttrPlan : Usage → Tree → List Step → End → List ℕ → List ℕ → Result Change EditRefusal → Type 0
 IsAttrPlan u t steps (ends.Attribute uri local) p value result = IsValuePlan u t steps uri local p value result
-IsAttrPlan u t steps ends.Element p value result = ⊥
-IsAttrPlan u t steps ends.Namespaces p value result = ⊥
+IsAttrPlan u t steps _ p value result = ⊥
 
 -- ---- what may be written
 

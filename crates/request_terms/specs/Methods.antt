@@ -18,17 +18,12 @@ method_of name =
 abbrev pub is_reading : Method → Bool
 is_reading Get = true
 is_reading Head = true
-is_reading Put = false
-is_reading Delete = false
-is_reading Other = false
+is_reading _ = false
 
 -- it is one of the four
 abbrev pub is_known : Method → Bool
-is_known Get = true
-is_known Head = true
-is_known Put = true
-is_known Delete = true
 is_known Other = false
+is_known _ = true
 
 -- ---- what a method that reads is sent
 

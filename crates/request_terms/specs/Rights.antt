@@ -4,7 +4,7 @@
 use Rattle.std.specs.Prelude.{ℕ, Bool, true, false, not, ◌&&◌, List, [], ◌∷◌, map, codes, encode_utf8_all}
 use Rattle.std.specs.Str.{bytes_eq}
 use Rattle.doc_names.specs.declared.doc_id.Auid.{Auid}
-use Rattle.doc_names.specs.declared.doc_id.Auid.TheVariants.{ResourceLists, RlsServices, XcapCaps}
+use Rattle.doc_names.specs.declared.doc_id.Auid.TheVariants.{XcapCaps}
 use Rattle.doc_names.specs.declared.doc_id.Home.{Home}
 use Rattle.doc_names.specs.declared.doc_id.Home.TheVariants.{Global, User}
 use Rattle.http_wire.specs.Fields.{values_of}
@@ -26,9 +26,8 @@ is_user xui fields = is_only (encode_utf8_all xui) (fields_named (codes "x-xcap-
 
 -- nobody writes the capabilities
 abbrev pub is_fixed_usage : Auid → Bool
-is_fixed_usage ResourceLists = false
-is_fixed_usage RlsServices = false
 is_fixed_usage XcapCaps = true
+is_fixed_usage _ = false
 
 -- a request that writes, or only reads, is allowed in this home
 abbrev pub is_allowed : Bool → Auid → Home → List Field → Bool

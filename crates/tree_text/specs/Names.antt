@@ -10,7 +10,7 @@ use Rattle.xml_tree.specs.declared.names.Name.{Name}
 use Rattle.xml_tree.specs.declared.names.Decl.{Decl}
 use Rattle.xml_tree.specs.declared.names.Attr.{Attr}
 use Rattle.tree_text.specs.declared.kind.Kind.{Kind}
-use Rattle.tree_text.specs.declared.kind.Kind.TheVariants.{Encoded, Doctyped, Depth, Unbound, Repeated}
+use Rattle.tree_text.specs.declared.kind.Kind.TheVariants.{Unbound, Repeated}
 use Rattle.tree_text.specs.declared.said.Said.{Said}
 use Rattle.tree_text.specs.Pieces.{StartTag, written}
 
@@ -69,9 +69,7 @@ is_repeated here earlier s = list_any (says_again here s) earlier
 abbrev pub IsWrongSaid : List (List Decl) → List Said → Said → Kind → Type 0
 IsWrongSaid here earlier s Unbound = is_misnamed here s ≡ true
 IsWrongSaid here earlier s Repeated = is_repeated here earlier s ≡ true
-IsWrongSaid here earlier s Encoded = ⊥
-IsWrongSaid here earlier s Doctyped = ⊥
-IsWrongSaid here earlier s (Depth d) = ⊥
+IsWrongSaid here earlier s _ = ⊥
 
 -- ---- where it stands in the tag
 

@@ -5,7 +5,7 @@ use Rattle.std.specs.List.{list_all}
 use Rattle.std.specs.Option.{option_map_or}
 use Rattle.xml_tree.specs.declared.names.Attr.{Attr}
 use Rattle.usage_docs.specs.declared.rows.Kind.{Kind}
-use Rattle.usage_docs.specs.declared.rows.Kind.TheVariants.{ResourceLists, EntryList, Entry, EntryRef, External, DisplayName, RlsServices, Service, ResourceList, Packages, Package}
+use Rattle.usage_docs.specs.declared.rows.Kind.TheVariants.{EntryList, Entry, EntryRef, External, Service}
 use Rattle.usage_docs.specs.declared.rows.Attribute.{Attribute}
 use Rattle.usage_docs.specs.declared.rows.Attribute.TheVariants.{Nothing, May, Must}
 use Rattle.usage_docs.specs.declared.rows.Key.{Key}
@@ -22,17 +22,12 @@ word Anchor = codes "anchor"
 -- the attributes without a namespace that an element of a kind may have: none; or one, which may be there (`use="optional"`) or has to be
 -- (`use="required"`)
 unfoldable pub attribute_of : Kind → Attribute
-attribute_of ResourceLists = Nothing
 attribute_of EntryList = May Name
 attribute_of Entry = Must Uri
 attribute_of EntryRef = Must Ref
 attribute_of External = Must Anchor
-attribute_of DisplayName = Nothing
-attribute_of RlsServices = Nothing
 attribute_of Service = Must Uri
-attribute_of ResourceList = Nothing
-attribute_of Packages = Nothing
-attribute_of Package = Nothing
+attribute_of _ = Nothing
 
 abbrev pub key_in : Attribute → Option Key
 key_in Nothing = None

@@ -82,8 +82,7 @@ node_of doc (Err fault) = Err (target_fault fault)
 -- a notice is about an element, and about nothing else
 abbrev pub is_element : End → Bool
 is_element ends.Element = true
-is_element (ends.Attribute uri local) = false
-is_element ends.Namespaces = false
+is_element _ = false
 
 -- the notice about an element, or the selector's fault
 abbrev pub element_feed_of : ℕ → DocId → List ℕ → Result Selector SelectorFault → Result Target UriFault
