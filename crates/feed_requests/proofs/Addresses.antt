@@ -27,7 +27,7 @@ use Rattle.xcap_uri.specs.Escapes.{StandsFor, StandForOptional}
 use Rattle.xcap_uri.specs.Numerals.{numeral_of}
 use Rattle.xcap_uri.specs.Roots.{slash}
 use Rattle.xcap_uri.specs.Shapes.{Names, doc_of, in_home, mode_word, names_deep, names_document, names_element_feed, names_feed, names_flat, names_node, tag_spelled}
-use Rattle.xcap_uri.specs.Targets.{AreSegments, IsPath, Means, NamedAnswer, RestAnswer, TargetAnswer, element_feed_of, is_element, node_of, question, raw_text, under, under_root}
+use Rattle.xcap_uri.specs.Targets.{AreSegments, IsPath, Means, NamedAnswer, RestAnswer, TargetAnswer, element_feed_of, is_element, node_of, question, raw_text, rest_under, under_root}
 use Rattle.xcap_uri.specs.Words.{feed}
 use Rattle.xcap_uri.specs.Order.{Where}
 use Rattle.xcap_uri.specs.declared.fault.UriFault.{UriFault}
@@ -258,7 +258,7 @@ module _ (mode : Mode) (n : ℕ) (tag : List ℕ) (doc : DocId) (has : HasFeed d
 under_itself : (root rest : List ℕ) → under_root root (root ++ (slash ∷ rest)) ≡ Some rest
 under_itself root rest = rw (inside root rest) refl
   where
-    inside : (path rest : List ℕ) → under path (path ++ (slash ∷ rest)) ≡ Some rest
+    inside : (path rest : List ℕ) → rest_under path (path ++ (slash ∷ rest)) ≡ Some rest
     inside path rest = rw (after_append path (slash ∷ rest)) refl
 
 same_rest : (o : Option (List ℕ)) (a b : List ℕ) → o ≡ Some a → o ≡ Some b → a ≡ b

@@ -6,12 +6,12 @@ use Rattle.xml_tree.specs.declared.read_error.ReadError.TheVariants.{Fault, NoMe
 use Rattle.xml_tree.specs.Memory.{Answered}
 use Rattle.list_resolve.specs.Walks.{Item, address, mark}
 use Rattle.list_resolve.specs.declared.gatherer.TheConstants.{MARK_LIMIT}
-use Rattle.list_resolve.specs.Flat.{address_of, is_mark, with_address, flat_of}
+use Rattle.list_resolve.specs.Flat.{item_address, is_mark, with_address, flat_of}
 use Rattle.list_resolve.specs.inner.Gathering.{FlatError, Tally, Fails, no_items, with_item, with_items}
 
 -- the addresses of a walk, in order, and how many references it came by
 abbrev addresses : List Item → List (List ℕ)
-addresses items = filter_map address_of items
+addresses items = filter_map item_address items
 
 abbrev marks : List Item → ℕ
 marks items = count_by is_mark items

@@ -16,7 +16,7 @@ use Rattle.list_resolve.specs.References.{reference_of}
 use Rattle.list_resolve.specs.Places.{same_place, is_on}
 use Rattle.list_resolve.specs.Spots.{Spot}
 use Rattle.list_resolve.specs.Leads.{Ground}
-use Rattle.list_resolve.specs.Walks.{Item, address, mark, given, spot_items, walked}
+use Rattle.list_resolve.specs.Walks.{Item, address, mark, kind_items, spot_items, walked}
 use Rattle.list_resolve.specs.inner.Gathering.{Tally, Gathered, gathering, passing, with_item, with_items}
 use Rattle.list_resolve.specs.inner.Passing.{AreGathered, IsPassed, IsSound, own_items, spot_at}
 use Rattle.list_resolve.specs.inner.PlaceTests.{place_exact}
@@ -81,7 +81,7 @@ gathered_now (mark ∷ items) s h = let rise = marks_rise items (with_item s mar
 
 -- what a child gives, if it is of a kind
 abbrev given_if : (Reference → List Item) → List ℕ → Option Kind → List Attr → Content → List Item → List Item
-given_if behind root found ats k items = option_map_or (λ kind. given behind root kind ats k items) found []
+given_if behind root found ats k items = option_map_or (λ kind. kind_items behind root kind ats k items) found []
 
 module _ (one other : Reference → List Item) (root : List ℕ) (uris : List (List ℕ)) where
   unreferred : (r : Option Reference) → AreGathered uris (reference_items one r) → reference_items one r ≡ reference_items other r
@@ -89,7 +89,7 @@ module _ (one other : Reference → List Item) (root : List ℕ) (uris : List (L
   unreferred (Some r) h = absurd h.0
 
   given_alike : (kind : Kind) (ats : List Attr) (k : Content) (items others : List Item) → (AreGathered uris items → items ≡ others)
-      → AreGathered uris (given one root kind ats k items) → given one root kind ats k items ≡ given other root kind ats k others
+      → AreGathered uris (kind_items one root kind ats k items) → kind_items one root kind ats k items ≡ kind_items other root kind ats k others
   given_alike Entry ats k items others same h = refl
   given_alike EntryList ats k items others same h = same h
   given_alike EntryRef ats k items others same h = unreferred (reference_of root EntryRef ats k) h

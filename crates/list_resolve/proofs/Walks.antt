@@ -15,7 +15,7 @@ use Rattle.list_resolve.specs.declared.reference.Reference.{Reference}
 use Rattle.list_resolve.specs.declared.place.Place.{Place}
 use Rattle.list_resolve.specs.Leads.{Ground, Lead}
 use Rattle.list_resolve.specs.Places.{is_on}
-use Rattle.list_resolve.specs.Walks.{Item, address, mark, walked, spot_items, behind}
+use Rattle.list_resolve.specs.Walks.{Item, address, mark, walked, spot_items, walk_behind}
 use Rattle.list_resolve.specs.inner.Kids.{kid_items}
 use Rattle.list_resolve.specs.inner.Gathering.{FlatError, Tally, Gathered, Fails, with_item, with_items}
 use Rattle.list_resolve.specs.inner.Passing.{Gathers}
@@ -63,9 +63,9 @@ abbrev pub led_items : (List Place → Reference → List Item) → List ℕ →
 led_items behind root chain found = option_map_or (lead_items behind root chain) found []
 
 -- what stands behind a mark, where an element may still be added to the chain
-pub behind_left : (leads : Reference → Option Lead) (root : List ℕ) (left : ℕ) (chain : List Place) (r : Reference) → 0 < left → behind leads root left chain r ≡ led_items (behind leads root (left - 1)) root chain (leads r)
+pub behind_left : (leads : Reference → Option Lead) (root : List ℕ) (left : ℕ) (chain : List Place) (r : Reference) → 0 < left → walk_behind leads root left chain r ≡ led_items (walk_behind leads root (left - 1)) root chain (leads r)
 behind_left leads root zero chain r h = absurd (omega arith)
-behind_left leads root (suc n) chain r h = let e : n ≡ suc n - 1 = omega arith in ap (λ (m : ℕ). led_items (behind leads root m) root chain (leads r)) e
+behind_left leads root (suc n) chain r h = let e : n ≡ suc n - 1 = omega arith in ap (λ (m : ℕ). led_items (walk_behind leads root m) root chain (leads r)) e
 
 -- ---- part by part
 

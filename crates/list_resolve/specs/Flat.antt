@@ -19,9 +19,9 @@ use Rattle.list_resolve.specs.Walks.{Item, address, mark, walk}
 
 -- ---- of a walk
 
-abbrev pub address_of : Item → Option (List ℕ)
-address_of (address uri) = Some uri
-address_of mark = None
+abbrev pub item_address : Item → Option (List ℕ)
+item_address (address uri) = Some uri
+item_address mark = None
 
 abbrev pub is_mark : Item → Bool
 is_mark (address uri) = false
@@ -33,7 +33,7 @@ with_address uris uri = if list_any (bytes_eq uri) uris then uris else (uris ++ 
 
 -- the flat list of a walk: its addresses, each where it comes first; unless it is too wide, as it came by too many references
 abbrev pub flat_of : List Item → Result (List (List ℕ)) FlatFault
-flat_of items = if nat_lt MARK_LIMIT (count_by is_mark items) then Err TooWide else Ok (fold with_address [] (filter_map address_of items))
+flat_of items = if nat_lt MARK_LIMIT (count_by is_mark items) then Err TooWide else Ok (fold with_address [] (filter_map item_address items))
 
 -- ---- of a service
 

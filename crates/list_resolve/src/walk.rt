@@ -8,7 +8,7 @@ ghost use Rattle.usage_docs.specs.declared.rows.Kind.TheVariants.{EntryList};
 ghost use Rattle.usage_docs.specs.Keys.{value_of};
 ghost use Rattle.list_resolve.specs.References.{reference_of};
 ghost use Rattle.list_resolve.specs.Places.{is_on};
-ghost use Rattle.list_resolve.specs.Walks.{address, behind, given, mark, spot_items, walked};
+ghost use Rattle.list_resolve.specs.Walks.{address, walk_behind, kind_items, mark, spot_items, walked};
 ghost use Rattle.list_resolve.specs.inner.Kids.{kid_items};
 ghost use Rattle.list_resolve.specs.inner.Passing.{Gathers, IsPassed, IsSound, leads_in, spot_at};
 ghost use Rattle.list_resolve.specs.inner.Views.{ground_in, spot_in};
@@ -54,7 +54,7 @@ pub(crate) fn walk_inside(
 ) -> Result<(), FlatError>
     requires sound { IsSound (ground_in ground.now) gatherer.old }
     ensures gathers_the_walk { Gathers (ground_in ground.now)
-        (walked (behind (leads_in (ground_in ground.now)) ground.now.root.now left chain.now) ground.now.root.now row scope.now element.now.content)
+        (walked (walk_behind (leads_in (ground_in ground.now)) ground.now.root.now left chain.now) ground.now.root.now row scope.now element.now.content)
         gatherer.old gatherer.new result }
 {
     for node in element.nodes() {
@@ -78,7 +78,7 @@ fn walk_kid(
 ) -> Result<(), FlatError>
     requires sound { IsSound (ground_in ground.now) gatherer.old }
     ensures gathers_what_the_child_gives { Gathers (ground_in ground.now)
-        (kid_items (behind (leads_in (ground_in ground.now)) ground.now.root.now left chain.now) ground.now.root.now row scope.now kid.now)
+        (kid_items (walk_behind (leads_in (ground_in ground.now)) ground.now.root.now left chain.now) ground.now.root.now row scope.now kid.now)
         gatherer.old gatherer.new result }
 {
     let declared = Declared::indexed(ground.alloc, kid.decls())?;
@@ -102,8 +102,8 @@ fn walk_element(
 ) -> Result<(), FlatError>
     requires sound { IsSound (ground_in ground.now) gatherer.old }
     ensures gathers_what_the_element_gives { Gathers (ground_in ground.now)
-        (given (behind (leads_in (ground_in ground.now)) ground.now.root.now left chain.now) ground.now.root.now kind element.now.attrs element.now.content
-        (walked (behind (leads_in (ground_in ground.now)) ground.now.root.now left chain.now) ground.now.root.now EntryList scope.now element.now.content))
+        (kind_items (walk_behind (leads_in (ground_in ground.now)) ground.now.root.now left chain.now) ground.now.root.now kind element.now.attrs element.now.content
+        (walked (walk_behind (leads_in (ground_in ground.now)) ground.now.root.now left chain.now) ground.now.root.now EntryList scope.now element.now.content))
         gatherer.old gatherer.new result }
 {
     match kind {
@@ -141,7 +141,7 @@ fn walk_reference(
 ) -> Result<(), FlatError>
     requires sound { IsSound (ground_in ground.now) gatherer.old }
     ensures gathers_the_reference { Gathers (ground_in ground.now)
-        (option_map_or (λ r. mark ∷ behind (leads_in (ground_in ground.now)) ground.now.root.now left chain.now r)
+        (option_map_or (λ r. mark ∷ walk_behind (leads_in (ground_in ground.now)) ground.now.root.now left chain.now r)
         (reference_of ground.now.root.now kind element.now.attrs element.now.content) [])
         gatherer.old gatherer.new result }
 {
@@ -163,7 +163,7 @@ fn walk_behind(
 ) -> Result<(), FlatError>
     requires sound { IsSound (ground_in ground.now) gatherer.old }
     ensures gathers_what_stands_behind { Gathers (ground_in ground.now)
-        (behind (leads_in (ground_in ground.now)) ground.now.root.now left chain.now reference.now)
+        (walk_behind (leads_in (ground_in ground.now)) ground.now.root.now left chain.now reference.now)
         gatherer.old gatherer.new result }
 {
     if left == 0 {
@@ -189,7 +189,7 @@ fn walk_lead(
     requires sound { IsSound (ground_in ground.now) gatherer.old }
     ensures gathers_what_it_leads_to { Gathers (ground_in ground.now)
         (if is_on chain.now lead.entry.place then [] else
-        spot_items (behind (leads_in (ground_in ground.now)) ground.now.root.now left (lead.entry.place ∷ chain.now)) ground.now.root.now (spot_in lead.entry.spot))
+        spot_items (walk_behind (leads_in (ground_in ground.now)) ground.now.root.now left (lead.entry.place ∷ chain.now)) ground.now.root.now (spot_in lead.entry.spot))
         gatherer.old gatherer.new result }
 {
     if chain.has(&lead.place) {
@@ -211,7 +211,7 @@ fn walk_once(
     requires there { spot_at (ground_in ground.now) lead.place ≡ Some (spot_in lead.spot) }
     requires sound { IsSound (ground_in ground.now) gatherer.old }
     ensures gathers_what_the_element_gives { Gathers (ground_in ground.now)
-        (spot_items (behind (leads_in (ground_in ground.now)) ground.now.root.now left (lead.entry.place ∷ chain.now)) ground.now.root.now (spot_in lead.entry.spot))
+        (spot_items (walk_behind (leads_in (ground_in ground.now)) ground.now.root.now left (lead.entry.place ∷ chain.now)) ground.now.root.now (spot_in lead.entry.spot))
         gatherer.old gatherer.new result }
 {
     if gatherer.has_passed(&lead.place) {
@@ -235,7 +235,7 @@ fn walk_longer(
     requires low { height lead.now.spot.element.now ≤ most_levels }
     requires sound { IsSound (ground_in ground.now) gatherer.old }
     ensures gathers_what_the_element_gives { Gathers (ground_in ground.now)
-        (spot_items (behind (leads_in (ground_in ground.now)) ground.now.root.now left (lead.now.place ∷ chain.now)) ground.now.root.now (spot_in lead.now.spot))
+        (spot_items (walk_behind (leads_in (ground_in ground.now)) ground.now.root.now left (lead.now.place ∷ chain.now)) ground.now.root.now (spot_in lead.now.spot))
         gatherer.old gatherer.new result }
 {
     let longer = (&*chain).with(&lead.place);

@@ -23,10 +23,10 @@ use Rattle.xml_tree.specs.declared.names.Decl.{Decl}
 use Rattle.tree_text.specs.declared.kind.Kind.{Kind}
 use Rattle.tree_text.specs.readers.Words.{colon, ampersand, semicolon, hash, small_x, amp, lt, gt, quot, apos}
 use Rattle.tree_text.specs.Pieces.{qname_of}
-use Rattle.tree_text.specs.Grammar.{name, qname, stands_for, entity, numbered, reference, last_char, is_quote, is_raw, is_raw_in}
+use Rattle.tree_text.specs.Grammar.{name, qname, stands_for, entity, char_ref, reference, last_char, is_quote, is_raw, is_raw_in}
 use Rattle.tree_text.specs.readers.Texts.{read_qname, read_stands_for, read_entity, read_numbered, read_reference}
 use Rattle.node_select.specs.declared.selector.NameTest.TheVariants.{Any}
-use Rattle.node_select.specs.Grammar.{position_of, node_name, position, IsUnbound, names_attribute, attribute, plain_value, value, test}
+use Rattle.node_select.specs.Grammar.{position_of, node_name, position, IsUnbound, names_attribute, attribute, literal_value, value, test}
 use Rattle.node_select.specs.readers.Made.{attr_test, element_test}
 use Rattle.node_select.specs.readers.Words.{star, at_sign, open_bracket, close_bracket, equals_sign}
 use Rattle.node_select.specs.readers.Selectors.{read_position, read_inside_quotes, read_value}
@@ -119,7 +119,7 @@ module _ {faults : Faults Kind} {K : ℕ → Rest Kind} where
       (heads_starts (starts_a (λ c. c == 113) refl)) (λ c t m. clash (c == 113) t m)
       (exact_stands 34 quot) exact_a))
 
-  exact_numbered : ((n : ℕ) → Heads (Not is_hex_digit) (K n)) → Exact faults numbered K read_numbered
+  exact_numbered : ((n : ℕ) → Heads (Not is_hex_digit) (K n)) → Exact faults char_ref K read_numbered
   exact_numbered h =
       exact_behind exact_word
       (exact_either_head (λ c. c == 120) (starts_behind (number hexadecimal last_char is_char) (starts_word refl)) (λ c m. m)
@@ -138,7 +138,7 @@ module _ {faults : Faults Kind} {K : ℕ → Rest Kind} where
       (λ n. exact_word))
 
 pub starts_reference : Starts (λ c. (c == 38) ≡ true) reference
-starts_reference = starts_behind (keeping_first (either numbered entity) (word semicolon)) (starts_word refl)
+starts_reference = starts_behind (keeping_first (either char_ref entity) (word semicolon)) (starts_word refl)
 
 -- ---- values
 raw_not_ampersand : (q c : ℕ) → (c == 38) ≡ true → is_raw_in q c ≡ false
@@ -151,9 +151,9 @@ quote_not_ampersand : (q c : ℕ) → is_quote q ≡ true → (c == 38) ≡ true
 quote_not_ampersand q c is t e = let same : q ≡ 38 = sym e ∙ eqb-true c 38 t in let z : true ≡ false = sym is ∙ ap is_quote same in cc
 
 module _ {faults : Faults Kind} {K : Rest Kind} where
-  exact_inside : (q : ℕ) → is_quote q ≡ true → Exact faults (valued plain_value (between (run (is_raw_in q)) reference)) (λ _. ahead (word (q ∷ [])) (λ _. K)) (read_inside_quotes q)
+  exact_inside : (q : ℕ) → is_quote q ≡ true → Exact faults (valued literal_value (between (run (is_raw_in q)) reference)) (λ _. ahead (word (q ∷ [])) (λ _. K)) (read_inside_quotes q)
   exact_inside q is =
-      exact_valued plain_value
+      exact_valued literal_value
       (exact_between_run_head (λ c. c == 38) starts_reference (λ c m. (m, raw_not_ampersand q c m)) (heads_starts (starts_word {P = Is q} refl)) (raw_not_quote q) (λ c t e. quote_not_ampersand q c is t e)
       exact_reference)
 
@@ -177,7 +177,7 @@ lawful_reference =
     stands c w = lawful_valued (λ _. c) (lawful_word w)
 
 pub lawful_value : Lawful value
-lawful_value = lawful_quoted (λ q. lawful_valued plain_value (lawful_between lawful_run lawful_reference (inl (ampersand, refl))))
+lawful_value = lawful_quoted (λ q. lawful_valued literal_value (lawful_between lawful_run lawful_reference (inl (ampersand, refl))))
 
 pub lawful_position : Lawful position
 lawful_position = lawful_behind (lawful_word open_bracket) (lawful_before (lawful_valued position_of lawful_some_of) (lawful_word close_bracket))

@@ -6,10 +6,10 @@ use Rattle.grammar_rules.specs.Digits.{decimal_digits, hexadecimal}
 use Rattle.grammar_rules.proofs.Laws.{Lawful, lawful_valued, lawful_sequence, lawful_optional, lawful_behind, lawful_word, lawful_name_of, lawful_either, lawful_number, lawful_between, lawful_run, lawful_some_of}
 use Rattle.grammar_rules.proofs.Beginnings.{Fronted, fronted_word, fronted_run, fronted_number, fronted_sequence, fronted_either, fronted_valued, fronted_only, fronted_judged, fronted_optional, fronted_before, fronted_behind, fronted_name_of, fronted_some_of, fronted_quoted, fronted_between}
 use Rattle.tree_text.specs.readers.Words.{colon, ampersand, semicolon, hash, small_x, amp, lt, gt, quot, apos}
-use Rattle.tree_text.specs.Grammar.{qname, reference, last_char, stands_for, numbered, entity}
+use Rattle.tree_text.specs.Grammar.{qname, reference, last_char, stands_for, char_ref, entity}
 use Rattle.tree_text.specs.Pieces.{qname_of}
 use Rattle.node_select.specs.declared.selector.NameTest.TheVariants.{Any}
-use Rattle.node_select.specs.Grammar.{IsUnbound, names_attribute, plain_value, node_name, position_of, position, attribute, value, test, step}
+use Rattle.node_select.specs.Grammar.{IsUnbound, names_attribute, literal_value, node_name, position_of, position, attribute, value, test, step}
 use Rattle.node_select.specs.readers.Made.{step_of, element_test, attr_test}
 use Rattle.node_select.specs.readers.Words.{star, open_bracket, close_bracket, at_sign, equals_sign}
 use Rattle.node_select.proofs.ExactParts.{lawful_reference, lawful_value, lawful_position, lawful_attribute, lawful_node_name}
@@ -17,10 +17,10 @@ use Rattle.node_select.proofs.ExactParts.{lawful_reference, lawful_value, lawful
 fronted_qname : Fronted qname
 fronted_qname = fronted_valued qname_of (fronted_sequence lawful_name_of fronted_name_of (λ _. fronted_optional (fronted_behind (lawful_word colon) (fronted_word colon) fronted_name_of)))
 
-lawful_numbered : Lawful numbered
+lawful_numbered : Lawful char_ref
 lawful_numbered = lawful_behind (lawful_word hash) (lawful_either (lawful_behind (lawful_word small_x) (lawful_number hexadecimal last_char is_char)) (lawful_number decimal_digits last_char is_char))
 
-fronted_numbered : Fronted numbered
+fronted_numbered : Fronted char_ref
 fronted_numbered = fronted_behind (lawful_word hash) (fronted_word hash) (fronted_either (fronted_behind (lawful_word small_x) (fronted_word small_x) (fronted_number hexadecimal last_char is_char)) (fronted_number decimal_digits last_char is_char))
 
 lawful_stands : (c : ℕ) (w : List ℕ) → Lawful (stands_for c w)
@@ -40,8 +40,8 @@ fronted_reference = fronted_behind (lawful_word ampersand) (fronted_word ampersa
 
 fronted_value : Fronted value
 fronted_value =
-    fronted_quoted (λ q. lawful_valued plain_value (lawful_between lawful_run lawful_reference (inl (ampersand, refl))))
-    (λ q. fronted_valued plain_value (fronted_between lawful_run fronted_run lawful_reference fronted_reference))
+    fronted_quoted (λ q. lawful_valued literal_value (lawful_between lawful_run lawful_reference (inl (ampersand, refl))))
+    (λ q. fronted_valued literal_value (fronted_between lawful_run fronted_run lawful_reference fronted_reference))
 
 fronted_position : Fronted position
 fronted_position = fronted_behind (lawful_word open_bracket) (fronted_word open_bracket) (fronted_before (lawful_valued position_of lawful_some_of) (fronted_valued position_of fronted_some_of) (fronted_word close_bracket))

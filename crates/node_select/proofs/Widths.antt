@@ -9,7 +9,7 @@ use Rattle.tree_text.specs.Grammar.{is_quote, is_raw_in}
 use Rattle.tree_text.specs.readers.Texts.{reference_follows}
 use Rattle.tree_text.proofs.TagLemmas.{shrinks_qname, shrinks_reference}
 use Rattle.tree_text.proofs.Shrinks.{Small, Shrinks, ok_small, shrinks_one, shrinks_word, shrinks_run, shrinks_empty, shrinks_sequence, shrinks_valued, shrinks_either, shrinks_many}
-use Rattle.node_select.specs.Grammar.{position_of, names_attribute, plain_value}
+use Rattle.node_select.specs.Grammar.{position_of, names_attribute, literal_value}
 use Rattle.node_select.specs.readers.Made.{first_step_of}
 use Rattle.node_select.specs.readers.Words.{star, at_sign, open_bracket, close_bracket, equals_sign, slash}
 use Rattle.node_select.specs.readers.Raw.{RawStep, RawPatchEnd, widths, AreWhole, HasRoom, RawSelector, RawPatchSelector, raw_step_of, end_or_element, patch_end_or_element, slash_width}
@@ -57,7 +57,7 @@ shrinks_attribute : Shrinks read_attribute
 shrinks_attribute = shrinks_behind (shrinks_word at_sign) (shrinks_only names_attribute shrinks_qname)
 
 shrinks_inside : (q : ℕ) → Shrinks (read_inside_quotes q)
-shrinks_inside q = shrinks_valued plain_value (shrinks_sequence (shrinks_run (is_raw_in q)) (λ _. shrinks_many reference_follows (shrinks_sequence shrinks_reference (λ _. shrinks_run (is_raw_in q)))))
+shrinks_inside q = shrinks_valued literal_value (shrinks_sequence (shrinks_run (is_raw_in q)) (λ _. shrinks_many reference_follows (shrinks_sequence shrinks_reference (λ _. shrinks_run (is_raw_in q)))))
 
 shrinks_value : Shrinks read_value
 shrinks_value = shrinks_valued (λ x. x.1) (shrinks_sequence (shrinks_one is_quote) (λ q. shrinks_before (shrinks_inside q) (shrinks_word (q ∷ []))))

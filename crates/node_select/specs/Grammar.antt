@@ -40,11 +40,11 @@ abbrev pub more_plain : List (ℕ × List ℕ) → List ℕ
 more_plain [] = []
 more_plain ((c, cs) ∷ pieces) = c ∷ (cs ++ more_plain pieces)
 
-abbrev pub plain_value : List ℕ × List (ℕ × List ℕ) → List ℕ
-plain_value x = x.0 ++ more_plain x.1
+abbrev pub literal_value : List ℕ × List (ℕ × List ℕ) → List ℕ
+literal_value x = x.0 ++ more_plain x.1
 
 abbrev pub value : Rule Kind (List ℕ)
-value = quoted is_quote (λ quote. valued plain_value (between (run (is_raw_in quote)) reference))
+value = quoted is_quote (λ quote. valued literal_value (between (run (is_raw_in quote)) reference))
 
 -- a position above the greatest one is read as 0, which no child has
 abbrev pub greatest_position : ℕ

@@ -8,7 +8,7 @@ use Rattle.xml_tree.specs.Tree.{Content, last, more, note, Tree, tree_of, kids}
 use Rattle.xml_tree.specs.declared.names.Decl.{Decl}
 use Rattle.xml_tree.specs.declared.tree.Node.{Node}
 use Rattle.xml_tree.specs.declared.tree.Node.TheVariants.{Elem, Comment}
-use Rattle.patch_words.specs.Applied.{is_bare, is_blank, is_blank_content, means_alike, sole_element, value_in}
+use Rattle.patch_words.specs.Applied.{is_bare, is_white, is_blank_content, means_alike, sole_element, value_in}
 use Rattle.patch_apply.specs.inner.ByNodes.{element_alike, is_loose, is_remark, node_alike, text_in}
 
 -- ---- nothing but comments
@@ -55,13 +55,13 @@ both_same : {A : Type 0} (b : Bool) (o : A) → cond b o o ≡ o
 both_same true o = refl
 both_same false o = refl
 
-loose_text : (t : List ℕ) (ns : List Node) → list_all is_loose (text_node t ++ ns) ≡ (is_blank t && list_all is_loose ns)
+loose_text : (t : List ℕ) (ns : List Node) → list_all is_loose (text_node t ++ ns) ≡ (is_white t && list_all is_loose ns)
 loose_text [] ns = refl
 loose_text (x ∷ t) ns = refl
 
-loose_alone : (t : List ℕ) → list_all is_loose (text_node t) ≡ is_blank t
+loose_alone : (t : List ℕ) → list_all is_loose (text_node t) ≡ is_white t
 loose_alone [] = refl
-loose_alone (x ∷ t) = and-true (is_blank (x ∷ t))
+loose_alone (x ∷ t) = and-true (is_white (x ∷ t))
 
 inward : (b s l : Bool) → (b && cond s false l) ≡ cond s false (b && l)
 inward b true l = and_false b
@@ -71,7 +71,7 @@ blank_is : (c : Content) → is_blank_content c ≡ cond (is_some (slice_get (ki
 blank_is (last t) = sym (loose_alone t)
 blank_is (more t n ds ats c rest) = refl
 blank_is (note t x rest) =
-    ap (λ b. is_blank t && b) (blank_is rest) ∙ inward (is_blank t) (is_some (slice_get (kids rest) 0)) (list_all is_loose (nodes_of rest))
+    ap (λ b. is_white t && b) (blank_is rest) ∙ inward (is_white t) (is_some (slice_get (kids rest) 0)) (list_all is_loose (nodes_of rest))
     ∙ ap (λ b. cond (is_some (slice_get (kids rest) 0)) false b) (sym (loose_text t (Comment x ∷ nodes_of rest)))
 
 first_alone : (e : Tree) (b s l : Bool) → cond (b && cond s false l) (Some e) None ≡ cond s None (cond (b && l) (Some e) None)
@@ -86,11 +86,11 @@ pub sole_is : (c : Content) → sole_element c ≡ cond (is_some (slice_get (kid
 sole_is (last t) = sym (both_same (list_all is_loose (text_node t)) None)
 sole_is (more t n ds ats c rest) =
     let e = tree_of n ds ats c in let s = is_some (slice_get (kids rest) 0) in
-    ap (λ b. cond (is_blank t && b) (Some e) None) (blank_is rest) ∙ first_alone e (is_blank t) s (list_all is_loose (nodes_of rest))
+    ap (λ b. cond (is_white t && b) (Some e) None) (blank_is rest) ∙ first_alone e (is_white t) s (list_all is_loose (nodes_of rest))
     ∙ ap (λ b. cond s None (cond b (Some e) None)) (sym (loose_text t (Elem e ∷ nodes_of rest)))
 sole_is (note t x rest) =
     let s = is_some (slice_get (kids rest) 1) in
-    ap (λ o. cond (is_blank t) o None) (sole_is rest) ∙ behind_text (slice_get (kids rest) 0) (is_blank t) s (list_all is_loose (nodes_of rest))
+    ap (λ o. cond (is_white t) o None) (sole_is rest) ∙ behind_text (slice_get (kids rest) 0) (is_white t) s (list_all is_loose (nodes_of rest))
     ∙ ap (λ b. cond s None (cond b (slice_get (kids rest) 0) None)) (sym (loose_text t (Comment x ∷ nodes_of rest)))
 
 -- by whether there is a second element

@@ -10,7 +10,7 @@ use Rattle.xml_tree.specs.Tree.{Content, Tree, at, height}
 use Rattle.xml_tree.specs.declared.names.Decl.{Decl}
 use Rattle.xml_tree.specs.declared.names.Name.{Name}
 use Rattle.node_select.specs.declared.selector.PatchSelector.{PatchSelector}
-use Rattle.patch_words.specs.Applied.{Directive, NoSpace, Prefix, RootTouched, Unlocated, Wrong, WrongNodes, Task, Put, NewAttr, Replace, Remove, Spot, AtElement, AtAttr, AtText, attr_of, cut_element, cut_nodes, done, given, is_bare, is_below, is_bound_type, is_known, located, made, means_alike, off_root, path_of, plain_value, put_at, rewritten, scope_of_put, sole_element, space_fits, suits, task_of, tested, value_in, with_attrs, within_depth, operation_word}
+use Rattle.patch_words.specs.Applied.{Directive, NoSpace, Prefix, RootTouched, Unlocated, Wrong, WrongNodes, Task, Put, NewAttr, Replace, Remove, Spot, AtElement, AtAttr, AtText, attr_of, cut_element, cut_nodes, done, given, is_bare, is_below, is_bound_type, is_known, located, made, means_alike, off_root, spot_path, plain_value, put_at, rewritten, scope_of_put, sole_element, space_fits, suits, task_of, tested, value_in, with_attrs, within_depth, operation_word}
 use Rattle.patch_words.specs.Selectors.{Reading}
 use Rattle.patch_words.specs.readers.Applied.{applied, reading_in}
 use Rattle.patch_apply.proofs.Depths.{low_made}
@@ -47,13 +47,13 @@ module _ (c : List (List Decl)) (content : Content) (t x : Tree) where
 
   done_low : (task : Task) (spot : Spot) → done c task spot content t ≡ Ok x → Low x
   done_low (Put position) spot e =
-      let p = path_of spot in
+      let p = spot_path spot in
       let some = is_some (slice_get (nodes_of content) 0) in
       let new = put_at position p (nodes_of content) t in
       let alike = means_alike c (scope_of_put position p t) content in
       made_low new alike x (behind_test some WrongNodes (made new alike) x (behind_test (off_root position p) RootTouched (tested some WrongNodes (made new alike)) x e))
   done_low (NewAttr name) spot e =
-      let p = path_of spot in
+      let p = spot_path spot in
       behind_given (value_in content) WrongNodes (λ v. tested (is_new name p) WrongNodes (attr_made name p v)) x
       (λ v h. made_low (change_at p (with_attrs (λ ats. ats ++ attr_of name v ∷ [])) t) (same_expanded (attr_name c name) (attr_name (scope_at p t) name)) x (behind_test (is_new name p) WrongNodes (attr_made name p v) x h))
       e

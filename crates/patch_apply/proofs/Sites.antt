@@ -9,7 +9,7 @@ use Rattle.xml_tree.specs.Tree.{Content, Tree, at, kids, kids_of}
 use Rattle.xml_tree.specs.declared.tree.Node.{Node}
 use Rattle.xml_tree.proofs.PathLemmas.{at-snoc, final-snoc, front-snoc, from_there, kid_there}
 use Rattle.xml_tree.proofs.Places.{content_of-nodes_of, place_there}
-use Rattle.patch_words.specs.Applied.{is_blank, is_space_at, nodes_at, own_place, space_before}
+use Rattle.patch_words.specs.Applied.{is_white, is_space_at, nodes_at, own_place, space_before}
 
 some_before : {A : Type 0} (f : Tree → Option A) (o : Option Tree) → IsSome (option_and_then f o) → IsSome o
 some_before f None h = h
@@ -53,7 +53,7 @@ place_within path parent k t e is h there =
 
 -- ---- white space beside a place
 
-there_by_blank : (i : ℕ) (ns : List Node) (o : Option Node) → o ≡ slice_get ns i → unwrap_or (option_map is_blank (option_and_then text_of o)) false ≡ true → IsSome (slice_get ns i)
+there_by_blank : (i : ℕ) (ns : List Node) (o : Option Node) → o ≡ slice_get ns i → unwrap_or (option_map is_white (option_and_then text_of o)) false ≡ true → IsSome (slice_get ns i)
 there_by_blank i ns None is h = absurd (cc)
 there_by_blank i ns (Some n) is h = ap is_some (sym is)
 

@@ -6,7 +6,7 @@ use Rattle.xml_tree.specs.declared.read_error.ReadError.{ReadError}
 use Rattle.xml_tree.specs.Tree.{Content, Tree, at}
 use Rattle.xml_tree.specs.declared.names.Decl.{Decl}
 use Rattle.patch_words.specs.Applied as words
-use Rattle.patch_words.specs.Applied.{path_of, remove_done, replace_done}
+use Rattle.patch_words.specs.Applied.{spot_path, remove_done, replace_done}
 use Rattle.patch_apply.specs.inner.Giving.{IsGiven}
 use Rattle.patch_apply.specs.inner.Spotting.{IsSpot, IsThere, path_in}
 use Rattle.patch_apply.specs.inner.Stages.{take_done, value_done}
@@ -23,7 +23,7 @@ spot_there t (AtElement p) h = h
 spot_there t (AtAttr p i) h = some_if (at p t) _ h
 spot_there t (AtText p i) h = some_if (at p t) _ h
 
-pub path_same : (t : Tree) (s : Spot) (w : words.Spot) → IsSpot t s w → path_in s ≡ path_of w
+pub path_same : (t : Tree) (s : Spot) (w : words.Spot) → IsSpot t s w → path_in s ≡ spot_path w
 path_same t (AtElement p) (words.AtElement q) is = is
 path_same t (AtElement p) (words.AtAttr q f) is = absurd is
 path_same t (AtElement p) (words.AtText q j) is = absurd is

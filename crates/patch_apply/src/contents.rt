@@ -2,7 +2,7 @@
 ghost use Rattle.std.specs.Prelude.{◌≡◌, IfOk, chars};
 ghost use Rattle.std.specs.List.{list_all};
 ghost use Rattle.std.specs.Option.{option_copied};
-ghost use Rattle.patch_words.specs.Applied.{is_bare, is_blank, sole_element, value_in};
+ghost use Rattle.patch_words.specs.Applied.{is_bare, is_white, sole_element, value_in};
 ghost use Rattle.patch_apply.specs.inner.ByNodes.{is_loose, is_remark, text_in};
 
 use std::alloc::{AllocError, Global};
@@ -11,14 +11,14 @@ use xml_tree::{Element, Node, Text, is_space};
 
 // Whether characters are white space alone.
 fn is_white(text: &str) -> bool
-    ensures tells_whether_it_is_white { result ≡ is_blank (chars text.now) }
+    ensures tells_whether_it_is_white { result ≡ is_white (chars text.now) }
 {
     text.chars().all(|c| is_space(c))
 }
 
 // Whether a text is white space alone.
 pub(crate) fn is_blank(text: &Text) -> bool
-    ensures tells_whether_it_is_blank { result ≡ is_blank text.now }
+    ensures tells_whether_it_is_blank { result ≡ is_white text.now }
 {
     is_white(text.as_str())
 }

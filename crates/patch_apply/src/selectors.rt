@@ -5,7 +5,7 @@ ghost use Rattle.xml_tree.specs.Memory.{Answered};
 ghost use Rattle.xml_tree.specs.Scopes.{bindings_in, bound};
 ghost use Rattle.node_select.specs.Faults.{form_of as end_form};
 ghost use Rattle.node_select.specs.Names.{prefix_uri};
-ghost use Rattle.patch_words.specs.Applied.{is_element, suits};
+ghost use Rattle.patch_words.specs.Applied.{is_element_form, suits};
 ghost use Rattle.patch_words.specs.readers.Applied.{reading_in};
 ghost use Rattle.patch_apply.specs.inner.Forms.{IsRefused, IsUnbound, is_type_bound, unbound_with};
 ghost use Rattle.patch_apply.specs.inner.Giving.{IsGiven};
@@ -57,7 +57,7 @@ fn form_of(end: &PatchEnd) -> PatchForm
 
 // Whether nothing stands behind the steps.
 fn is_element(form: PatchForm) -> bool
-    ensures tells_whether_it_is_an_element { result ≡ is_element form }
+    ensures tells_whether_it_is_an_element { result ≡ is_element_form form }
 {
     match form {
         PatchForm::Element => true,

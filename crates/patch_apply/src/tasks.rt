@@ -1,7 +1,7 @@
 //! What an operation says, by its name and its attributes (RFC 5261, sections 4.3 to 4.5).
 ghost use Rattle.std.specs.Prelude.{◌≡◌, [], IfOk, option_map};
 ghost use Rattle.std.specs.Option.{option_copied};
-ghost use Rattle.patch_words.specs.Applied.{adding, cut_name, cutting, no_declaration, position_of, white_space_of, task_of, type_of, with_prefix, operation_word};
+ghost use Rattle.patch_words.specs.Applied.{adding, cut_name, cutting, no_declaration, add_position, white_space_of, task_of, type_of, with_prefix, operation_word};
 ghost use Rattle.patch_apply.specs.inner.Stages.{task_said};
 ghost use Rattle.patch_apply.specs.inner.Seen.{position_in, task_in, word_in};
 
@@ -60,7 +60,7 @@ fn word_of(local: &Text) -> Option<Word>
 
 #[tactic(auto, using(crate::proofs::Words::words))]
 fn position_of(text: &Text) -> Option<Position>
-    ensures position_of_that_word { option_map position_in result ≡ position_of text.now }
+    ensures position_of_that_word { option_map position_in result ≡ add_position text.now }
 {
     if text.is("prepend") {
         return Some(Position::Prepend);

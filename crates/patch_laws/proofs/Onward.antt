@@ -21,7 +21,7 @@ use Rattle.xml_tree.proofs.ProperEdits.{with-nodes, with-other}
 use Rattle.tree_text.proofs.PrintedValues.{both as parts}
 use Rattle.node_select.specs.Names.{prefix_uri}
 use Rattle.patch_words.specs.Applied as words
-use Rattle.patch_words.specs.Applied.{Position, Behind, Prepend, Before, After, Spot, AtElement, AtAttr, AtText, Task, Wrong, attr_done, attr_of, cut_name, done, given, is_bound_type, made, means_alike, no_declaration, off_root, path_of, put_at, put_done, remove_done, replace_done, rewritten, scope_of_put, sole_element, tested, type_of, value_in, with_attrs, with_prefix, within_depth}
+use Rattle.patch_words.specs.Applied.{Position, Behind, Prepend, Before, After, Spot, AtElement, AtAttr, AtText, Task, Wrong, attr_done, attr_of, cut_name, done, given, is_bound_type, made, means_alike, no_declaration, off_root, spot_path, put_at, put_done, remove_done, replace_done, rewritten, scope_of_put, sole_element, tested, type_of, value_in, with_attrs, with_prefix, within_depth}
 use Rattle.patch_laws.specs.Premises.{IsSound}
 use Rattle.patch_laws.proofs.Attributes.{not_xmlns, same_expanded-true}
 use Rattle.patch_laws.proofs.Prefixes.{both}
@@ -117,12 +117,12 @@ nodes_proper c k h = nodes-Everywhere IsProperPart c (nodes_of k) (subst (λ x. 
 
 sole_proper : (c : List (List Decl)) (k : Content) (e : Tree) → sole_element k ≡ Some e → Proper c k → ProperIn c e
 sole_proper c (last t) e is h = cc
-sole_proper c (more t n ds ats k rest) e is h = by (words.is_blank t && words.is_blank_content rest) is
+sole_proper c (more t n ds ats k rest) e is h = by (words.is_white t && words.is_blank_content rest) is
   where
     by : (b : Bool) → cond b (Some (tree_of n ds ats k)) None ≡ Some e → ProperIn c e
     by true s = let same : tree_of n ds ats k ≡ e = cc in subst (ProperIn c) same (h.1, h.2)
     by false s = cc
-sole_proper c (note t x rest) e is h = by (words.is_blank t) is (λ s. sole_proper c rest e s h.2)
+sole_proper c (note t x rest) e is h = by (words.is_white t) is (λ s. sole_proper c rest e s h.2)
   where
     by : (b : Bool) → cond b (sole_element rest) None ≡ Some e → (sole_element rest ≡ Some e → ProperIn c e) → ProperIn c e
     by true s f = f s
@@ -309,7 +309,7 @@ type_named (c ∷ cs) n is = by (c == 64) is (cut_name [] cs) refl
 
 added_named : (pos type : Option (List ℕ)) (n : Name) → words.adding pos type ≡ Some (words.NewAttr n) → IsTyped n
 added_named None None n is = absurd (cc)
-added_named (Some pos) None n is = by (words.position_of pos) is
+added_named (Some pos) None n is = by (words.add_position pos) is
   where
     by : (o : Option Position) → option_map words.Put o ≡ Some (words.NewAttr n) → IsTyped n
     by None e = absurd (cc)
@@ -419,7 +419,7 @@ remove_sound before after (AtText p i) k t u g is =
 
 pub done_sound : (c : List (List Decl)) (task : Task) (spot : Spot) (k : Content) (t u : Tree) → ((n : Name) → task ≡ words.NewAttr n → IsTyped n) → is_bound_type c task ≡ true → Proper c k → ProperIn [] t
     → done c task spot k t ≡ Ok u → IsSound u
-done_sound c (words.Put pos) spot k t u typed known h g is = put_sound c pos (path_of spot) k t u h g is
-done_sound c (words.NewAttr n) spot k t u typed known h g is = attr_sound c n (path_of spot) k t u (typed n refl) known h g is
+done_sound c (words.Put pos) spot k t u typed known h g is = put_sound c pos (spot_path spot) k t u h g is
+done_sound c (words.NewAttr n) spot k t u typed known h g is = attr_sound c n (spot_path spot) k t u (typed n refl) known h g is
 done_sound c words.Replace spot k t u typed known h g is = replace_sound c spot k t u h g is
 done_sound c (words.Remove before after) spot k t u typed known h g is = remove_sound before after spot k t u g is

@@ -69,8 +69,8 @@ pub data Position : Type 0 where
   Before : Position
   After : Position
 
-abbrev pub position_of : List ℕ → Option Position
-position_of text =
+abbrev pub add_position : List ℕ → Option Position
+add_position text =
     if bytes_eq text (codes "prepend") then Some Prepend else (if bytes_eq text (codes "before") then Some Before else (if bytes_eq text (codes "after") then Some After else None))
 
 -- a QName, cut at its colon (58); none where it has none of its parts or a part is no NCName
@@ -104,7 +104,7 @@ pub data Task : Type 0 where
 -- an `add`, by `pos` and `type`, of which one at most is there
 abbrev pub adding : Option (List ℕ) → Option (List ℕ) → Option Task
 adding None None = Some (Put Behind)
-adding (Some pos) None = option_map Put (position_of pos)
+adding (Some pos) None = option_map Put (add_position pos)
 adding None (Some type) = option_map NewAttr (type_of type)
 adding (Some pos) (Some type) = None
 
@@ -120,15 +120,15 @@ task_of Cut pos type ws = if is_some pos || is_some type then None else cutting 
 
 -- an `add` selects an element, and so does a `remove` that takes white space; the end of a selector is told by its text, whether its
 -- prefixes are bound or not
-abbrev pub is_element : PatchForm → Bool
-is_element forms.Element = true
-is_element _ = false
+abbrev pub is_element_form : PatchForm → Bool
+is_element_form forms.Element = true
+is_element_form _ = false
 
 abbrev pub suits : Task → PatchForm → Bool
-suits (Put position) end = is_element end
-suits (NewAttr type) end = is_element end
+suits (Put position) end = is_element_form end
+suits (NewAttr type) end = is_element_form end
 suits Replace end = true
-suits (Remove before after) end = is_element end || not (before || after)
+suits (Remove before after) end = is_element_form end || not (before || after)
 
 -- ---- what its selector selects
 
@@ -168,19 +168,19 @@ value_in (last t) = Some t
 value_in (more t n ds ats c rest) = None
 value_in (note t x rest) = option_map (λ v. t ++ v) (value_in rest)
 
-abbrev pub is_blank : List ℕ → Bool
-is_blank t = list_all is_space t
+abbrev pub is_white : List ℕ → Bool
+is_white t = list_all is_space t
 
 -- the one element of a content that has white space and comments at most beside it
 abbrev pub is_blank_content : Content → Bool
-is_blank_content (last t) = is_blank t
+is_blank_content (last t) = is_white t
 is_blank_content (more t n ds ats c rest) = false
-is_blank_content (note t x rest) = is_blank t && is_blank_content rest
+is_blank_content (note t x rest) = is_white t && is_blank_content rest
 
 abbrev pub sole_element : Content → Option Tree
 sole_element (last t) = None
-sole_element (more t n ds ats c rest) = if is_blank t && is_blank_content rest then Some (tree_of n ds ats c) else None
-sole_element (note t x rest) = if is_blank t then sole_element rest else None
+sole_element (more t n ds ats c rest) = if is_white t && is_blank_content rest then Some (tree_of n ds ats c) else None
+sole_element (note t x rest) = if is_white t then sole_element rest else None
 
 -- neither an element nor a text
 abbrev pub is_bare : Content → Bool
@@ -229,7 +229,7 @@ rewritten f v (a ∷ ats) = if f a then (with_new_value v a ∷ ats) else (a ∷
 
 -- the white space that a `remove` takes is there: the node of that number is a text of white space alone
 abbrev pub is_space_at : ℕ → List Node → Bool
-is_space_at i ns = unwrap_or (option_map is_blank (option_and_then text_of (slice_get ns i))) false
+is_space_at i ns = unwrap_or (option_map is_white (option_and_then text_of (slice_get ns i))) false
 
 abbrev pub space_before : ℕ → List Node → Bool
 space_before zero ns = false
@@ -298,14 +298,14 @@ remove_done before after (AtAttr p f) content t = tested (is_bare content) Wrong
 remove_done before after (AtText p i) content t = tested (is_bare content) WrongNodes (made (cut_nodes p i (suc i) t) true)
 
 -- the path of the element that is selected, or that has what is selected
-abbrev pub path_of : Spot → List ℕ
-path_of (AtElement p) = p
-path_of (AtAttr p f) = p
-path_of (AtText p i) = p
+abbrev pub spot_path : Spot → List ℕ
+spot_path (AtElement p) = p
+spot_path (AtAttr p f) = p
+spot_path (AtText p i) = p
 
 abbrev pub done : List (List Decl) → Task → Spot → Content → Tree → Result Tree Wrong
-done c (Put position) spot content t = put_done c position (path_of spot) content t
-done c (NewAttr name) spot content t = attr_done c name (path_of spot) content t
+done c (Put position) spot content t = put_done c position (spot_path spot) content t
+done c (NewAttr name) spot content t = attr_done c name (spot_path spot) content t
 done c Replace spot content t = replace_done c spot content t
 done c (Remove before after) spot content t = remove_done before after spot content t
 

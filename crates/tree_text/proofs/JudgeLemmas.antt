@@ -2,7 +2,7 @@
 use Rattle.std.proofs.Common.{◌≡◌, Bool, true, false, cond, List, [], ◌∷◌, ◌++◌, refl, ap}
 use Rattle.std.specs.Prelude.{◌&&◌}
 use Rattle.tree_text.specs.declared.said.Said.{Said}
-use Rattle.tree_text.specs.Names.{attr_of, decls_of, attrs_of, said_decl as decl_of, is_declaring as declares}
+use Rattle.tree_text.specs.Names.{said_attr, decls_of, attrs_of, said_decl as decl_of, is_declaring as declares}
 
 pub no_and : (a : Bool) → a && false ≡ false
 no_and true = refl
@@ -22,4 +22,4 @@ decls-append (x ∷ xs) s = cons_or (declares x.name) (decl_of x) (decls_of xs) 
 
 pub attrs-append : (front : List Said) (s : Said) → attrs_of (front ++ s ∷ []) ≡ attrs_of front ++ attrs_of (s ∷ [])
 attrs-append [] s = refl
-attrs-append (x ∷ xs) s = or_cons (declares x.name) (attr_of x) (attrs_of xs) (attrs_of (s ∷ [])) (attrs_of (xs ++ s ∷ [])) (attrs-append xs s)
+attrs-append (x ∷ xs) s = or_cons (declares x.name) (said_attr x) (attrs_of xs) (attrs_of (s ∷ [])) (attrs_of (xs ++ s ∷ [])) (attrs-append xs s)

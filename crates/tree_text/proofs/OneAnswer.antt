@@ -13,7 +13,7 @@ use Rattle.tree_text.specs.declared.kind.Kind.{Kind}
 use Rattle.tree_text.specs.declared.kind.Kind.TheVariants.{Encoded, Doctyped, Depth, Unbound, Repeated}
 use Rattle.tree_text.specs.Kinds.{faults, rank}
 use Rattle.tree_text.specs.Grammar.{document, spelling}
-use Rattle.tree_text.specs.Faults.{byte_at, fault_of, TextAnswer, spelling_of, body_told, BodyAnswer, text_told as told}
+use Rattle.tree_text.specs.Faults.{byte_at, stop_fault, TextAnswer, spelling_of, body_told, BodyAnswer, text_told as told}
 
 -- the fault of a rank
 by_rank : List ℕ → List ℕ → ℕ → TextFault
@@ -24,7 +24,7 @@ by_rank bytes left n =
     else if n == 3 then texts.NotUtf8
     else texts.Doctype (byte_at bytes left)
 
-ranked : (bytes left : List ℕ) (kind : Kind) → fault_of bytes (Faulty kind left) ≡ by_rank bytes left (rank kind)
+ranked : (bytes left : List ℕ) (kind : Kind) → stop_fault bytes (Faulty kind left) ≡ by_rank bytes left (rank kind)
 unfolding by_rank
 ranked bytes left Encoded = refl
 ranked bytes left Doctyped = refl

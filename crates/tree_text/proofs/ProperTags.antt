@@ -17,8 +17,8 @@ use Rattle.tree_text.specs.declared.kind.Kind.{Kind}
 use Rattle.tree_text.specs.declared.kind.Kind.TheVariants.{Unbound, Repeated}
 use Rattle.tree_text.specs.declared.said.Said.{Said}
 use Rattle.tree_text.specs.Pieces.{StartTag, qname_of, line_ends, blanks, raw, more_value}
-use Rattle.tree_text.specs.Names.{attr_of, decls_of, attrs_of, is_misnamed, says_again, is_repeated, widths, IsWrong, inside_tag as inside, opening_size as opening, said_decl as decl_of, is_declaring as declares, is_unbound_in as is_unbound}
-use Rattle.tree_text.specs.Grammar.{last_char, name, qname, reference, numbered, entity, is_raw, is_raw_in, value, said, tag}
+use Rattle.tree_text.specs.Names.{said_attr, decls_of, attrs_of, is_misnamed, says_again, is_repeated, widths, IsWrong, inside_tag as inside, opening_size as opening, said_decl as decl_of, is_declaring as declares, is_unbound_in as is_unbound}
+use Rattle.tree_text.specs.Grammar.{last_char, name, qname, reference, char_ref, entity, is_raw, is_raw_in, value, said, tag}
 use Rattle.tree_text.proofs.JudgeTags.{widths_parts, tag_sizes}
 
 pub join : (a b : Bool) → a ≡ true → b ≡ true → a && b ≡ true
@@ -101,7 +101,7 @@ entity_char v c (inr (inr (inl m))) = ap is_char m.2
 entity_char v c (inr (inr (inr (inl m)))) = ap is_char m.2
 entity_char v c (inr (inr (inr (inr m)))) = ap is_char m.2
 
-named_char : (v : List ℕ) (c : ℕ) → (either numbered entity).Spells v c → is_char c ≡ true
+named_char : (v : List ℕ) (c : ℕ) → (either char_ref entity).Spells v c → is_char c ≡ true
 named_char v c (inl m) = ap is_char m.2 ∙ number_char m.1.back m.0.1 m.1.back_is
 named_char v c (inr m) = entity_char v c m
 
@@ -181,7 +181,7 @@ other_name n d e f =
     absurd cc
 
 module _ (here : List (List Decl)) where
-  attr_proper : (s : Said) → IsSaid s → declares s.name ≡ false → is_unbound here s.name ≡ false → IsAttribute here (attr_of s)
+  attr_proper : (s : Said) → IsSaid s → declares s.name ≡ false → is_unbound here s.name ≡ false → IsAttribute here (said_attr s)
   attr_proper s i d h = record { named = named_in here s.name i.named h; other = other_name s.name d; value = pass_all is_char s.value i.chars }
 
   misnamed_decl : (s : Said) → declares s.name ≡ true → is_misnamed here s ≡ false → may_stand (decl_of s) ≡ true
@@ -210,7 +210,7 @@ module _ (here : List (List Decl)) where
   attrs_proper [] earlier i h = tt
   attrs_proper (s ∷ ss) earlier i h = by (declares s.name) refl (attrs_proper ss (earlier ++ s ∷ []) i.1 h.2)
     where
-      by : (b : Bool) → declares s.name ≡ b → AllByRecursion (IsAttribute here) (attrs_of ss) → AllByRecursion (IsAttribute here) (cond b (attrs_of ss) (attr_of s ∷ attrs_of ss))
+      by : (b : Bool) → declares s.name ≡ b → AllByRecursion (IsAttribute here) (attrs_of ss) → AllByRecursion (IsAttribute here) (cond b (attrs_of ss) (said_attr s ∷ attrs_of ss))
       by true e r = r
       by false e r = (attr_proper s i.0 e (misnamed_attr s e h.0), r)
 
@@ -253,7 +253,7 @@ module _ (here : List (List Decl)) where
       meets false b k g = g
 
       by : (b : Bool) → cond b (declares e.name && bytes_eq (decl_of e).prefix (decl_of s).prefix) (not (declares e.name) && same_expanded (attr_name here e.name) (attr_name here s.name)) ≡ false
-          → AllByRecursion (λ y. same_expanded (attr_name here e.name) y ≡ false) (map (λ a. attr_name here a.name) (attrs_of ss)) → AllByRecursion (λ y. same_expanded (attr_name here e.name) y ≡ false) (map (λ a. attr_name here a.name) (cond b (attrs_of ss) (attr_of s ∷ attrs_of ss)))
+          → AllByRecursion (λ y. same_expanded (attr_name here e.name) y ≡ false) (map (λ a. attr_name here a.name) (attrs_of ss)) → AllByRecursion (λ y. same_expanded (attr_name here e.name) y ≡ false) (map (λ a. attr_name here a.name) (cond b (attrs_of ss) (said_attr s ∷ attrs_of ss)))
       by true g r = r
       by false g r = (meets (declares e.name) (same_expanded (attr_name here e.name) (attr_name here s.name)) d g, r)
 
@@ -271,7 +271,7 @@ module _ (here : List (List Decl)) where
   attrs_distinct [] earlier h = tt
   attrs_distinct (s ∷ ss) earlier h = by (declares s.name) refl (attrs_distinct ss (earlier ++ s ∷ []) h.2)
     where
-      by : (b : Bool) → declares s.name ≡ b → IsDistinct same_expanded (map (λ a. attr_name here a.name) (attrs_of ss)) → IsDistinct same_expanded (map (λ a. attr_name here a.name) (cond b (attrs_of ss) (attr_of s ∷ attrs_of ss)))
+      by : (b : Bool) → declares s.name ≡ b → IsDistinct same_expanded (map (λ a. attr_name here a.name) (attrs_of ss)) → IsDistinct same_expanded (map (λ a. attr_name here a.name) (cond b (attrs_of ss) (said_attr s ∷ attrs_of ss)))
       by true e r = r
       by false e r = (attrs_apart s ss e (unsaid ss earlier s [] h.2), r)
 

@@ -23,7 +23,7 @@ use Rattle.tree_text.specs.readers.Words.{less, greater, empty_end, colon, amper
 use Rattle.tree_text.specs.declared.kind.Kind.{Kind}
 use Rattle.tree_text.specs.Pieces.{qname_of, value_spelled as value_of}
 use Rattle.tree_text.specs.readers.Made.{said_of, tag_of}
-use Rattle.tree_text.specs.Grammar.{name, qname, spaces, equals, stands_for, entity, last_char, numbered, reference, is_quote, is_raw_in, value, attribute, said, tag_end, tag}
+use Rattle.tree_text.specs.Grammar.{name, qname, spaces, equals, stands_for, entity, last_char, char_ref, reference, is_quote, is_raw_in, value, attribute, said, tag_end, tag}
 use Rattle.tree_text.specs.readers.Texts.{read_name, read_qname, read_spaces, read_equals, read_stands_for, read_entity, read_numbered, read_reference, read_value, read_attribute, read_said, read_tag_end, read_tag}
 
 -- # Classes that don't meet
@@ -118,7 +118,7 @@ module _ (faults : Faults Kind) where
       (exact_either_head (λ c. c == 113) (starts_valued _ (starts_word {P = λ c. c ≡ 113} refl)) (same 113) (heads_starts (starts_either (starts_valued _ (starts_word refl)) (starts_valued _ (starts_word refl)))) (apart 113) exact_stands_for
       (exact_either_next (97 ∷ []) 112 (led_valued _ (led_word (97 ∷ []) 112 (111 ∷ 115 ∷ []) refl)) (led_valued _ (led_word {Q = λ c. c ≡ 109} (97 ∷ []) 109 (112 ∷ []) refl)) (λ e. absurd (omega (arith, e))) exact_stands_for exact_stands_for)))
 
-  exact_numbered : {K : Rest Kind} → Heads (λ c. (is_digit c ≡ false) × (is_hex_digit c ≡ false)) K → Exact faults numbered (λ _. K) read_numbered
+  exact_numbered : {K : Rest Kind} → Heads (λ c. (is_digit c ≡ false) × (is_hex_digit c ≡ false)) K → Exact faults char_ref (λ _. K) read_numbered
   exact_numbered {K} h = exact_behind exact_word
       (exact_either_head (λ c. c == 120) (starts_behind _ (starts_word {P = λ c. c ≡ 120} refl)) (same 120)
       (heads_starts (starts_number {P = λ c. (c == 120) ≡ false} decimal_digits last_char is_char digit_no_x)) (apart 120)

@@ -21,18 +21,18 @@ byte_at bytes left = length bytes - length (encode_utf8_all left)
 -- ---- documents and fragments
 
 -- the fault that each stop is: behind the longest beginning, or at the place of the first fault
-abbrev pub fault_of : List ℕ → Stop Kind → TextFault
-fault_of bytes (Syntax left) = texts.NotWellFormed (byte_at bytes left)
-fault_of bytes (Faulty Encoded left) = texts.NotUtf8
-fault_of bytes (Faulty Doctyped left) = texts.Doctype (byte_at bytes left)
-fault_of bytes (Faulty (Depth depth) left) = texts.TooDeep (byte_at bytes left)
-fault_of bytes (Faulty Unbound left) = texts.Namespace (byte_at bytes left)
-fault_of bytes (Faulty Repeated left) = texts.RepeatedAttribute (byte_at bytes left)
+abbrev pub stop_fault : List ℕ → Stop Kind → TextFault
+stop_fault bytes (Syntax left) = texts.NotWellFormed (byte_at bytes left)
+stop_fault bytes (Faulty Encoded left) = texts.NotUtf8
+stop_fault bytes (Faulty Doctyped left) = texts.Doctype (byte_at bytes left)
+stop_fault bytes (Faulty (Depth depth) left) = texts.TooDeep (byte_at bytes left)
+stop_fault bytes (Faulty Unbound left) = texts.Namespace (byte_at bytes left)
+stop_fault bytes (Faulty Repeated left) = texts.RepeatedAttribute (byte_at bytes left)
 
 -- the tree, or the fault
 abbrev pub text_told : List ℕ → Result Tree (Stop Kind) → Result Tree TextFault
 text_told bytes (Ok tree) = Ok tree
-text_told bytes (Err stop) = Err (fault_of bytes stop)
+text_told bytes (Err stop) = Err (stop_fault bytes stop)
 
 -- The answer for bytes by the grammar: the tree that they spell and no other, or the first fault. How many more levels than the limit
 -- the grammar is given makes no difference.

@@ -51,12 +51,12 @@ abbrev pub last_char : ℕ
 last_char = 0x10FFFF
 
 -- [66] `#` and digits, or `#x` and hexadecimal digits: the number so far is at most that of the last Char, the whole one is that of a Char
-abbrev pub numbered : Rule Kind ℕ
-numbered = keeping_second (word (codes "#")) (either (keeping_second (word (codes "x")) (number hexadecimal last_char is_char)) (number decimal_digits last_char is_char))
+abbrev pub char_ref : Rule Kind ℕ
+char_ref = keeping_second (word (codes "#")) (either (keeping_second (word (codes "x")) (number hexadecimal last_char is_char)) (number decimal_digits last_char is_char))
 
 -- [67] Reference: `&`, a number or an entity, `;`
 abbrev pub reference : Rule Kind ℕ
-reference = keeping_second (word (codes "&")) (keeping_first (either numbered entity) (word (codes ";")))
+reference = keeping_second (word (codes "&")) (keeping_first (either char_ref entity) (word (codes ";")))
 
 -- either quote: `"` (34) or `'` (39)
 abbrev pub is_quote : ℕ → Bool

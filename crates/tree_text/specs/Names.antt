@@ -24,8 +24,8 @@ is_declaring n = (bytes_eq n.prefix [] && bytes_eq n.local xmlns_prefix) || byte
 abbrev pub said_decl : Said → Decl
 said_decl s = record { prefix = if bytes_eq s.name.prefix [] then [] else s.name.local; uri = s.value }
 
-abbrev pub attr_of : Said → Attr
-attr_of s = record { name = s.name; value = s.value }
+abbrev pub said_attr : Said → Attr
+said_attr s = record { name = s.name; value = s.value }
 
 -- the declarations of a tag, and its attributes, each in order
 abbrev pub decls_of : List Said → List Decl
@@ -34,7 +34,7 @@ decls_of (s ∷ ss) = if is_declaring s.name then (said_decl s ∷ decls_of ss) 
 
 abbrev pub attrs_of : List Said → List Attr
 attrs_of [] = []
-attrs_of (s ∷ ss) = if is_declaring s.name then attrs_of ss else (attr_of s ∷ attrs_of ss)
+attrs_of (s ∷ ss) = if is_declaring s.name then attrs_of ss else (said_attr s ∷ attrs_of ss)
 
 -- the scope inside a tag
 abbrev pub inside_tag : List (List Decl) → StartTag → List (List Decl)

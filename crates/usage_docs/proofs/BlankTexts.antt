@@ -4,7 +4,7 @@ use Rattle.std.specs.List.{list_all}
 use Rattle.xml_tree.specs.Characters.{is_space}
 use Rattle.usage_docs.specs.declared.rows.Kind.{Kind}
 use Rattle.usage_docs.specs.Rows.{model_of}
-use Rattle.usage_docs.specs.Validity.{is_text, text_passes}
+use Rattle.usage_docs.specs.Validity.{is_text_model, text_passes}
 
 both : (p q : Bool) → IsTrue (p && q) → IsTrue p × IsTrue q
 both true true h = (refl, refl)
@@ -31,7 +31,7 @@ passes_two false p q pq e = (λ h. both p q (sym e ∙ h), λ h. e ∙ joined p 
 
 pub passes_append : (row : Kind) (t u : List ℕ) → IsTrue (text_passes row (t ++ u)) ↔ (IsTrue (text_passes row t) × IsTrue (text_passes row u))
 unfolding text_passes
-passes_append row t u = passes_two (is_text (model_of row)) (list_all is_space t) (list_all is_space u) (list_all is_space (t ++ u)) (all_append is_space t u)
+passes_append row t u = passes_two (is_text_model (model_of row)) (list_all is_space t) (list_all is_space u) (list_all is_space (t ++ u)) (all_append is_space t u)
 
 or_true : (b : Bool) → IsTrue (b || true)
 or_true true = refl
@@ -39,4 +39,4 @@ or_true false = refl
 
 pub passes_none : (row : Kind) → IsTrue (text_passes row [])
 unfolding text_passes
-passes_none row = or_true (is_text (model_of row))
+passes_none row = or_true (is_text_model (model_of row))

@@ -13,13 +13,13 @@ use Rattle.usage_docs.specs.Keys.{attrs_pass}
 use Rattle.usage_docs.specs.Texts.{text_of}
 
 -- the model is text alone
-abbrev pub is_text : Model → Bool
-is_text text_alone = true
-is_text (sequence items) = false
+abbrev pub is_text_model : Model → Bool
+is_text_model text_alone = true
+is_text_model (sequence items) = false
 
 -- a text in an element of this row: any where the model is text, else white space alone
 unfoldable pub text_passes : Kind → List ℕ → Bool
-text_passes row t = is_text (model_of row) || list_all is_space t
+text_passes row t = is_text_model (model_of row) || list_all is_space t
 
 -- what the children of an element of this row are, in order, in the scope inside it
 abbrev pub children_of : Kind → Scope → Content → List Child

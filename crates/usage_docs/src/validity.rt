@@ -3,7 +3,7 @@ ghost use Rattle.std.specs.Prelude.{◌≡◌, chars};
 ghost use Rattle.std.specs.List.{list_all};
 ghost use Rattle.xml_tree.specs.Characters.{is_space};
 ghost use Rattle.usage_docs.specs.Rows.{model_of};
-ghost use Rattle.usage_docs.specs.Validity.{is_text, text_passes};
+ghost use Rattle.usage_docs.specs.Validity.{is_text_model, text_passes};
 
 use crate::rows::Kind;
 use xml_tree::is_space;
@@ -11,7 +11,7 @@ use xml_tree::is_space;
 // Whether the row is text alone.
 #[tactic(auto, unfolding(crate::specs::Rows::model_of))]
 fn takes_text(row: Kind) -> bool
-    ensures tells_whether_it_takes_text { result ≡ is_text (model_of row) }
+    ensures tells_whether_it_takes_text { result ≡ is_text_model (model_of row) }
 {
     matches!(row, Kind::DisplayName | Kind::ResourceList | Kind::Package)
 }

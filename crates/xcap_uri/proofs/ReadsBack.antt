@@ -27,7 +27,7 @@ use Rattle.doc_names.specs.Usages.{auid_text}
 use Rattle.xcap_uri.specs.Roots.{slash, path_in, path_of, is_root_text as is_root}
 use Rattle.xcap_uri.specs.readers.Shapes.{is_empty, shape_of}
 use Rattle.xcap_uri.specs.inner.Spelled.{IsOctet, IsSpelled, IsSpelledHome}
-use Rattle.xcap_uri.specs.Targets.{under, under_root, question}
+use Rattle.xcap_uri.specs.Targets.{rest_under, under_root, question}
 use Rattle.xcap_uri.specs.readers.Targets.{target_read, rest_read, segments_read, path_read}
 use Rattle.doc_names.specs.Ids.{separator}
 use Rattle.xcap_uri.proofs.Escaped.{read_as_text}
@@ -240,10 +240,10 @@ path_begins : (segments : List (List ℕ)) (ys : List ℕ) → (zs : List ℕ) �
 path_begins [] ys = (ys, refl)
 path_begins (s ∷ ss) ys = ((s ++ path_in ss) ++ (slash ∷ ys), refl)
 
-outside : (root target cs zs : List ℕ) → root ≡ 104 ∷ cs → target ≡ slash ∷ zs → under root target ≡ None
+outside : (root target cs zs : List ℕ) → root ≡ 104 ∷ cs → target ≡ slash ∷ zs → rest_under root target ≡ None
 outside root target cs zs e h = rw (e, h) refl
 
-inside : (path rest : List ℕ) → under path (path ++ (slash ∷ rest)) ≡ Some rest
+inside : (path rest : List ℕ) → rest_under path (path ++ (slash ∷ rest)) ≡ Some rest
 inside path rest = rw (after_append path (slash ∷ rest)) refl
 
 stands_under : (root rest : List ℕ) → is_root root ≡ true → under_root root (path_of root ++ (slash ∷ rest)) ≡ Some rest

@@ -10,7 +10,7 @@ use Rattle.tree_text.specs.Faults.{is_other}
 use Rattle.grammar_rules.specs.Reading.{after_front}
 use Rattle.grammar_rules.specs.Rules.{AllPass}
 use Rattle.xcap_uri.specs.Cuts.{rest_after_front, front_before, rest_behind, pieces}
-use Rattle.xcap_uri.specs.Roots.{slash, is_authority_char, is_segment_char, is_some_of, path_in, IsRoot, is_scheme, are_parts, third, authority_of, path_of, is_root_text as is_root}
+use Rattle.xcap_uri.specs.Roots.{slash, is_authority_char, is_segment_char, is_some_of, path_in, IsRoot, is_scheme, are_root_parts, third, authority_of, path_of, is_root_text as is_root}
 use Rattle.xcap_uri.specs.readers.Roots.{behind_scheme, are_authority_and_segments, has_form, reads_as_root}
 use Rattle.xcap_uri.proofs.Pieces.{on_test, pieces_behind, pieces_cut, pieces_one, pieces_more, after_append, front_there}
 use Rattle.xcap_uri.proofs.Separated.{joined_pieces}
@@ -36,7 +36,7 @@ scheme_of s h = ⊎_elim
     (λ e. inr ((bytes_decides s (codes "https:")).0 e))
     (either_true (bytes_eq s (codes "http:")) (bytes_eq s (codes "https:")) h)
 
-pub parts : (ps : List (List ℕ)) → are_parts ps ≡ true → Parts ps
+pub parts : (ps : List (List ℕ)) → are_root_parts ps ≡ true → Parts ps
 parts [] h = absurd cc
 parts (s ∷ []) h = absurd cc
 parts (s ∷ [] ∷ []) h = absurd cc
@@ -47,7 +47,7 @@ parts (s ∷ [] ∷ a ∷ ps) h =
     record { scheme = s; authority = a; segments = ps; parts_are = refl; scheme_is = scheme_of s front.0; authority_is = front.1; segments_are = all.1 }
 
 pub root_parts : (text : List ℕ) → is_root text ≡ true → Parts (pieces slash text)
-root_parts text is = parts (pieces slash text) (and_parts (nat_le (length text) 256) (are_parts (pieces slash text)) is).1
+root_parts text is = parts (pieces slash text) (and_parts (nat_le (length text) 256) (are_root_parts (pieces slash text)) is).1
 
 -- pieces with a slash in front of each
 slashed : (p : List ℕ) (ps : List (List ℕ)) → joined slash (p ∷ ps) ≡ p ++ path_in ps
@@ -111,13 +111,13 @@ not_behind text h none =
     h.scheme_is
 
 -- what is found behind the scheme is judged as the pieces are
-judged : (s : List ℕ) (ps : List (List ℕ)) → is_scheme s ≡ true → are_parts (s ∷ [] ∷ ps) ≡ are_authority_and_segments ps
+judged : (s : List ℕ) (ps : List (List ℕ)) → is_scheme s ≡ true → are_root_parts (s ∷ [] ∷ ps) ≡ are_authority_and_segments ps
 judged s [] h = refl
 judged s (a ∷ ps) h = rw h refl
 
-same_form : (text : List ℕ) (found : Option (List ℕ)) → behind_scheme text ≡ found → are_parts (pieces slash text) ≡ has_form found
-same_form text None e = on_test (are_parts (pieces slash text)) (λ t. absurd (not_behind text (parts (pieces slash text) t) e)) (λ f. f)
-same_form text (Some rest) e = let b = cut_behind text rest e in ap are_parts b.cut ∙ judged b.scheme (pieces slash rest) b.is
+same_form : (text : List ℕ) (found : Option (List ℕ)) → behind_scheme text ≡ found → are_root_parts (pieces slash text) ≡ has_form found
+same_form text None e = on_test (are_root_parts (pieces slash text)) (λ t. absurd (not_behind text (parts (pieces slash text) t) e)) (λ f. f)
+same_form text (Some rest) e = let b = cut_behind text rest e in ap are_root_parts b.cut ∙ judged b.scheme (pieces slash rest) b.is
 
 -- A text is a root as the code reads it.
 pub read_as_root : (text : List ℕ) → is_root text ≡ reads_as_root text
@@ -186,7 +186,7 @@ module _ (text authority path : List ℕ) where
   by_pieces r =
       let b = scheme_behind text (authority ++ path) r.scheme r.joined r.scheme_is in
       let cut : pieces slash text ≡ b.scheme ∷ [] ∷ authority ∷ r.segments = b.cut ∙ ap (λ (ps : List (List ℕ)). b.scheme ∷ [] ∷ ps) (ap (λ (l : List ℕ). pieces slash (authority ++ l)) r.path_is ∙ cut_path authority r.segments (some_apart is_authority_char refl authority r.authority_is) r.segments_are) in (
-        and_from _ _ (le-leb (length text) 256 r.short) (ap are_parts cut ∙ and_from _ _ (and_from _ _ b.is r.authority_is) r.segments_are),
+        and_from _ _ (le-leb (length text) 256 r.short) (ap are_root_parts cut ∙ and_from _ _ (and_from _ _ b.is r.authority_is) r.segments_are),
         sym (ap third cut),
         r.path_is ∙ sym (ap (λ (ps : List (List ℕ)). path_in (drop 3 ps)) cut),
       )
@@ -212,7 +212,7 @@ module _ (text authority path : List ℕ) where
         authority_is = ap (is_some_of is_authority_char) is_authority ∙ h.authority_is;
         path_is = is_path;
         segments_are = h.segments_are;
-        short = leb-true (length text) 256 (and_parts (nat_le (length text) 256) (are_parts (pieces slash text)) is).0;
+        short = leb-true (length text) 256 (and_parts (nat_le (length text) 256) (are_root_parts (pieces slash text)) is).0;
       }
 
   pub by_either : IsRoot text authority path ↔ ((is_root text ≡ true) × (authority ≡ authority_of text) × (path ≡ path_of text))

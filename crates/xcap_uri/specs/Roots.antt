@@ -51,13 +51,13 @@ abbrev pub is_scheme : List ℕ → Bool
 is_scheme piece = bytes_eq piece (codes "http:") || bytes_eq piece (codes "https:")
 
 -- the scheme, nothing between the two slashes behind it, the authority, and the segments
-abbrev pub are_parts : List (List ℕ) → Bool
-are_parts (scheme ∷ [] ∷ authority ∷ segments) = is_scheme scheme && is_some_of is_authority_char authority && list_all (is_some_of is_segment_char) segments
-are_parts _ = false
+abbrev pub are_root_parts : List (List ℕ) → Bool
+are_root_parts (scheme ∷ [] ∷ authority ∷ segments) = is_scheme scheme && is_some_of is_authority_char authority && list_all (is_some_of is_segment_char) segments
+are_root_parts _ = false
 
 -- the text is a root
 abbrev pub is_root_text : List ℕ → Bool
-is_root_text text = nat_le (length text) GREATEST_LENGTH && are_parts (pieces slash text)
+is_root_text text = nat_le (length text) GREATEST_LENGTH && are_root_parts (pieces slash text)
 
 -- the third piece
 abbrev pub third : List (List ℕ) → List ℕ

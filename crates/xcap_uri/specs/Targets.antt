@@ -34,12 +34,12 @@ question = 63
 -- ---- first: the target stands under the root
 
 -- what follows a front and a slash
-abbrev pub under : List ℕ → List ℕ → Option (List ℕ)
-under front target = option_and_then (rest_after_front (slash ∷ [])) (rest_after_front front target)
+abbrev pub rest_under : List ℕ → List ℕ → Option (List ℕ)
+rest_under front target = option_and_then (rest_after_front (slash ∷ [])) (rest_after_front front target)
 
 -- what follows the whole root or the root's path, and a slash
 abbrev pub under_root : List ℕ → List ℕ → Option (List ℕ)
-under_root root target = option_or (under root target) (under (path_of root) target)
+under_root root target = option_or (rest_under root target) (rest_under (path_of root) target)
 
 -- ---- second: its segments
 

@@ -4,7 +4,7 @@ ghost use Rattle.doc_names.specs.Escapes.{escaped, is_visible};
 ghost use Rattle.xcap_uri.specs.Roots.{path_of};
 ghost use Rattle.xcap_uri.specs.Gives.{StatedOr};
 ghost use Rattle.xml_tree.specs.Memory.{Answered};
-ghost use Rattle.xcap_uri.specs.Targets.{IsReadableTarget, TargetAnswer, raw_text, under, under_root, with_query};
+ghost use Rattle.xcap_uri.specs.Targets.{IsReadableTarget, TargetAnswer, raw_text, rest_under, under_root, with_query};
 ghost use Rattle.xcap_uri.specs.readers.Targets.{about_element, part_read, rest_read, target_of, target_read};
 
 use crate::cutting::{after, cut};
@@ -60,7 +60,7 @@ pub enum Target {
 
 // What follows a front and a slash, where the target begins with them.
 fn under<'a>(target: &'a [u8], front: &[u8]) -> Option<&'a [u8]>
-    ensures rest_behind_front_and_slash { option_map (λ x. x.now) result ≡ under front.now target.now }
+    ensures rest_behind_front_and_slash { option_map (λ x. x.now) result ≡ rest_under front.now target.now }
 {
     let rest = after(target, front)?;
     after(rest, b"/")

@@ -7,7 +7,7 @@ use Rattle.grammar_rules.specs.Reading.{Reader, head_is, starts, read_word, read
 use Rattle.tree_text.specs.declared.kind.Kind.{Kind}
 use Rattle.tree_text.specs.Grammar.{is_quote}
 use Rattle.tree_text.specs.readers.Texts.{read_qname, read_reference, read_raw, reference_follows}
-use Rattle.node_select.specs.Grammar.{position_of, names_attribute, plain_value}
+use Rattle.node_select.specs.Grammar.{position_of, names_attribute, literal_value}
 use Rattle.node_select.specs.readers.Made.{first_step_of}
 use Rattle.node_select.specs.readers.Words.{slash, star, at_sign, open_bracket, close_bracket, equals_sign, namespaces, text_test}
 use Rattle.node_select.specs.readers.Raw.{RawStep, RawEnd, AtAttribute, AtNamespaces, RawPatchEnd, PatchAttribute, PatchChars, RawSelector, RawPatchSelector, raw_step_of, end_or_element, patch_end_or_element, slash_width}
@@ -31,7 +31,7 @@ abbrev pub read_attribute : Reader Kind Name
 read_attribute = read_behind (read_word at_sign) (read_only names_attribute read_qname)
 
 abbrev pub read_inside_quotes : ℕ → Reader Kind (List ℕ)
-read_inside_quotes quote = read_valued plain_value (read_between reference_follows (read_raw quote) read_reference)
+read_inside_quotes quote = read_valued literal_value (read_between reference_follows (read_raw quote) read_reference)
 
 abbrev pub read_value : Reader Kind (List ℕ)
 read_value = read_quoted is_quote read_inside_quotes

@@ -7,7 +7,7 @@ use Rattle.xml_tree.specs.Tree.{Tree}
 use Rattle.xml_tree.specs.declared.names.Decl.{Decl}
 use Rattle.xml_tree.specs.declared.tree.Node.{Node}
 use Rattle.xml_tree.specs.declared.tree.Node.TheVariants.{Elem, Chars, Comment}
-use Rattle.patch_words.specs.Applied.{is_blank, means_alike}
+use Rattle.patch_words.specs.Applied.{is_white, means_alike}
 
 -- the texts joined, where no element is among the nodes; comments are passed over
 abbrev pub text_in : List Node → Option (List ℕ)
@@ -19,7 +19,7 @@ text_in (Comment x ∷ ns) = text_in ns
 -- an element, a comment, or white space
 abbrev pub is_loose : Node → Bool
 is_loose (Elem e) = true
-is_loose (Chars t) = is_blank t
+is_loose (Chars t) = is_white t
 is_loose (Comment x) = true
 
 -- a comment
@@ -31,7 +31,7 @@ is_remark (Comment x) = true
 -- a text of white space alone
 abbrev pub is_blank_node : Node → Bool
 is_blank_node (Elem e) = false
-is_blank_node (Chars t) = is_blank t
+is_blank_node (Chars t) = is_white t
 is_blank_node (Comment x) = false
 
 -- each name in an element, or in a node, means the same in two scopes around it

@@ -12,7 +12,7 @@ use Rattle.tree_text.specs.declared.fault.ValueFault.{ValueFault}
 use Rattle.tree_text.specs.declared.fault.ValueFault.TheVariants as bodies
 use Rattle.tree_text.specs.declared.stop.Stop.{Stop}
 use Rattle.tree_text.specs.declared.stop.Stop.TheVariants as stops
-use Rattle.tree_text.specs.Faults.{byte_at, fault_of, spelling_of, body_told, text_told}
+use Rattle.tree_text.specs.Faults.{byte_at, stop_fault, spelling_of, body_told, text_told}
 use Rattle.tree_text.specs.readers.Texts.{read_text, read_spelling}
 
 -- ---- documents and fragments
@@ -23,8 +23,8 @@ text_read limit scope bytes = if is_utf8 bytes then text_told bytes (read_whole 
 
 -- the error that the code makes of why it stopped
 abbrev pub FaultOf : List ℕ → Stop → ReadError TextFault → Type 0
-FaultOf bytes (stops.Syntax rest) error = error ≡ errors.Fault (fault_of bytes (Syntax rest.now))
-FaultOf bytes (stops.Faulty kind rest) error = error ≡ errors.Fault (fault_of bytes (Faulty kind rest.now))
+FaultOf bytes (stops.Syntax rest) error = error ≡ errors.Fault (stop_fault bytes (Syntax rest.now))
+FaultOf bytes (stops.Faulty kind rest) error = error ≡ errors.Fault (stop_fault bytes (Faulty kind rest.now))
 FaultOf bytes stops.Memory error = error ≡ errors.NoMemory
 
 -- ---- bodies that spell a value

@@ -1,6 +1,6 @@
 use Rattle.std.proofs.Common.{◌≡◌, ◌+◌, ◌-◌, [], ◌∷◌, ◌++◌, List, drop, Some, sym, ap, subst, ◌∙◌, option_map, arith}
 use Rattle.list_resolve.specs.References.{reference_of}
-use Rattle.list_resolve.specs.Walks.{Item, mark, behind, walked}
+use Rattle.list_resolve.specs.Walks.{Item, mark, walk_behind, walked}
 use Rattle.list_resolve.specs.inner.Gathering.{Fails, with_items}
 use Rattle.list_resolve.specs.inner.Kids.{kid_items}
 use Rattle.list_resolve.specs.inner.Passing.{Gathers, leads_in}
@@ -14,7 +14,7 @@ walk_inside-loop-node-init t c = record {
   gathered =
       let g = ground_in c.args.ground.now in
       ap (with_items c.args.gatherer.now.tally)
-      (all_nodes (behind (leads_in g) g.root c.args.left c.args.chain.now) g.root c.args.row c.args.scope.now c.nodes-node-items.result.now c.args.element.now.content c.nodes-node-items.ensures.content_of_the_nodes);
+      (all_nodes (walk_behind (leads_in g) g.root c.args.left c.args.chain.now) g.root c.args.row c.args.scope.now c.nodes-node-items.result.now c.args.element.now.content c.nodes-node-items.ensures.content_of_the_nodes);
   sound = c.requires.sound;
 }
 
@@ -22,7 +22,7 @@ pub walk_inside-returns-in_err-walk_kid : goal.walk_inside-returns-in_err-walk_k
 walk_inside-returns-in_err-walk_kid t c = record {
   gathers_the_walk =
       let g = ground_in c.args.ground.now in
-      let b = behind (leads_in g) g.root c.args.left c.args.chain.now in
+      let b = walk_behind (leads_in g) g.root c.args.left c.args.chain.now in
       let ns = c.nodes-node-items.result.now in
       let whole = walked b g.root c.args.row c.args.scope.now c.args.element.now.content in
       let kid = kid_items b g.root c.args.row c.args.scope.now c.in-Elem.kid in
@@ -38,8 +38,8 @@ walk_behind-returns-in-Some t c = record {
   gathers_what_stands_behind =
       let g = ground_in c.args.ground.now in
       let led : leads_in g c.args.reference.now ≡ Some (lead_in c.in-Some.lead) = sym c.in_ok-leads.ensures.leads_where_it_is_due ∙ ap (option_map lead_in) c.in-Some.is in
-      let e : behind (leads_in g) g.root c.args.left c.args.chain.now c.args.reference.now ≡ lead_items (behind (leads_in g) g.root (c.args.left - 1)) g.root c.args.chain.now (lead_in c.in-Some.lead) =
-      behind_left (leads_in g) g.root c.args.left c.args.chain.now c.args.reference.now (omega arith) ∙ ap (led_items (behind (leads_in g) g.root (c.args.left - 1)) g.root c.args.chain.now) led in
+      let e : walk_behind (leads_in g) g.root c.args.left c.args.chain.now c.args.reference.now ≡ lead_items (walk_behind (leads_in g) g.root (c.args.left - 1)) g.root c.args.chain.now (lead_in c.in-Some.lead) =
+      behind_left (leads_in g) g.root c.args.left c.args.chain.now c.args.reference.now (omega arith) ∙ ap (led_items (walk_behind (leads_in g) g.root (c.args.left - 1)) g.root c.args.chain.now) led in
       subst (λ (items : List Item). Gathers g items c.args.gatherer.now c.walk_lead.new.gatherer c.walk_lead.result) (sym e) c.walk_lead.ensures.gathers_what_it_leads_to;
 }
 
@@ -47,21 +47,21 @@ pub walk_once-returns-then-has_passed : goal.walk_once-returns-then-has_passed
 walk_once-returns-then-has_passed t c = record {
   gathers_what_the_element_gives =
       let g = ground_in c.args.ground.now in
-      once_passed (behind (leads_in g) g.root c.args.left (c.args.lead.place ∷ c.args.chain.now)) g c.args.gatherer.now c.args.lead.place (spot_in c.args.lead.spot) c.requires.there
+      once_passed (walk_behind (leads_in g) g.root c.args.left (c.args.lead.place ∷ c.args.chain.now)) g c.args.gatherer.now c.args.lead.place (spot_in c.args.lead.spot) c.requires.there
       (sym c.has_passed.ensures.tells_whether_it_is_kept ∙ c.if-has_passed.true) c.requires.sound;
 }
 
 pub walk_once-keep_passed-requires-clause-passed : goal.walk_once-keep_passed-requires-clause-passed
 walk_once-keep_passed-requires-clause-passed t c = λ same.
     let g = ground_in c.args.ground.now in
-    is_passed (behind (leads_in g) g.root c.args.left (c.args.lead.place ∷ c.args.chain.now)) g c.args.gatherer.now.tally c.walk_longer.new.gatherer.tally c.args.lead.place (spot_in c.args.lead.spot) c.requires.there
+    is_passed (walk_behind (leads_in g) g.root c.args.left (c.args.lead.place ∷ c.args.chain.now)) g c.args.gatherer.now.tally c.walk_longer.new.gatherer.tally c.args.lead.place (spot_in c.args.lead.spot) c.requires.there
     c.in_ok-walk_longer.ensures.gathers_what_the_element_gives.0 (same ∙ c.marks-marks.ensures.counts_the_references)
 
 pub walk_reference-returns-in_err-add_mark : goal.walk_reference-returns-in_err-add_mark
 walk_reference-returns-in_err-add_mark t c = record {
   gathers_the_reference =
       let g = ground_in c.args.ground.now in
-      let b = behind (leads_in g) g.root c.args.left c.args.chain.now in
+      let b = walk_behind (leads_in g) g.root c.args.left c.args.chain.now in
       let is : reference_of g.root c.args.kind c.args.element.now.attrs c.args.element.now.content ≡ Some c.in-Some.reference = sym c.in_ok-reference.ensures.reference_by_the_kind ∙ c.in-Some.is in
       let fails = fails_in_part (mark ∷ []) (b c.in-Some.reference) c.args.gatherer.now.tally c.in_err-add_mark.field-0.0 c.in_err-add_mark.ensures.fails_only_where_too_many in
       hands_on g c.from_residual-in_err-add_mark.result (reference_items b (reference_of g.root c.args.kind c.args.element.now.attrs c.args.element.now.content)) c.args.gatherer.now c.add_mark.new.self c.in_err-add_mark.field-0.0 c.from_residual-in_err-add_mark.ensures.1

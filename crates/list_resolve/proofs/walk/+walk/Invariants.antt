@@ -1,6 +1,6 @@
 use Rattle.std.proofs.Common.{◌≡◌, ◌*◌, ◌+◌, drop}
 use Rattle.xml_tree.specs.Tree.{height}
-use Rattle.list_resolve.specs.Walks.{behind, walked}
+use Rattle.list_resolve.specs.Walks.{walk_behind, walked}
 use Rattle.list_resolve.specs.inner.Gathering.{with_items}
 use Rattle.list_resolve.specs.inner.Passing.{IsSound, leads_in}
 use Rattle.list_resolve.specs.inner.Views.{ground_in}
@@ -35,7 +35,7 @@ decreases-walk_longer l = 300 * l.left + 297
 abbrev pub invariant-walk_inside-loop-node : goal.invariant-walk_inside-loop-node
 invariant-walk_inside-loop-node l =
     record {
-      gathered : with_items l.gatherer.tally (nodes_items (behind (leads_in (ground_in l.ground)) l.ground.root.now l.left l.chain) l.ground.root.now l.row l.scope (drop l.node-index l.node-items))
-          ≡ with_items l.initial.gatherer.tally (walked (behind (leads_in (ground_in l.ground)) l.ground.root.now l.left l.chain) l.ground.root.now l.row l.scope l.element.content);
+      gathered : with_items l.gatherer.tally (nodes_items (walk_behind (leads_in (ground_in l.ground)) l.ground.root.now l.left l.chain) l.ground.root.now l.row l.scope (drop l.node-index l.node-items))
+          ≡ with_items l.initial.gatherer.tally (walked (walk_behind (leads_in (ground_in l.ground)) l.ground.root.now l.left l.chain) l.ground.root.now l.row l.scope l.element.content);
       sound : IsSound (ground_in l.ground) l.gatherer;
     }

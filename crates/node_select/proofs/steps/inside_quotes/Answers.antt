@@ -3,7 +3,7 @@ use Rattle.std.proofs.lemmas.List.{append-nil}
 use Rattle.std.proofs.lemmas.Result.{err_from_is_err_and}
 use Rattle.tree_text.specs.readers.Texts.{read_reference, read_raw, reference_follows}
 use Rattle.tree_text.proofs.Loops.{start, both_ok, first_stops, goes_on, ends, is_done, is_stopped}
-use Rattle.node_select.specs.Grammar.{plain_value, more_plain}
+use Rattle.node_select.specs.Grammar.{literal_value, more_plain}
 use Rattle.node_select.specs.readers.Members.{read_piece, value_with}
 use Rattle.node_select.specs.readers.Selectors.{read_inside_quotes}
 use Rattle.node_select.proofs.steps.inside_quotes.Goals as goal
@@ -13,7 +13,7 @@ pub loop-init : goal.loop-init
 loop-init c =
     let first : c.push_all.new.value ≡ c.raw_run.result.0.now = c.in_ok-push_all.ensures.adds_all_characters ∙ ap (λ (z : List ℕ). z ++ c.raw_run.result.0.now) c.no_text-value.ensures.holds_no_characters in
     let all : length c.raw_run.result.1.now - 0 ≡ length c.raw_run.result.1.now = omega arith in
-    rw (first, all) (start reference_follows (read_raw c.args.quote) read_reference plain_value c.args.text.now c.raw_run.result.1.now c.raw_run.result.0.now c.raw_run.ensures.reads_the_raw_ones_of_a_value)
+    rw (first, all) (start reference_follows (read_raw c.args.quote) read_reference literal_value c.args.text.now c.raw_run.result.1.now c.raw_run.result.0.now c.raw_run.ensures.reads_the_raw_ones_of_a_value)
 
 pub returns-in_err-c : goal.returns-in_err-c
 returns-in_err-c c = record {
