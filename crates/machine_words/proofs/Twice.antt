@@ -1,5 +1,6 @@
 -- A PUT that was accepted, once more: its place is what was put, its plan exchanges that for itself, and every tree is left.
 use Rattle.std.specs.Prelude.{nat_le}
+use Rattle.tree_text.specs.Printing.{body_print}
 use Rattle.std.specs.Bool.{MatchBool}
 use Rattle.std.proofs.Common.{◌≡◌, ℕ, suc, ◌+◌, ◌-◌, Bool, true, false, List, [], ◌∷◌, ◌++◌, length, find, map, is_some, Option, None, Some, IsSome, option_map, option_and_then, Result, Ok, Err, refl, sym, ap, subst, ◌∙◌}
 use Rattle.std.specs.Option.{option_or as or_else}
@@ -28,7 +29,7 @@ use Rattle.node_select.specs.declared.selector.End.TheVariants as ends
 use Rattle.node_select.specs.declared.selector.Selector.{Selector}
 use Rattle.node_select.proofs.Along.{one_path, path_there}
 use Rattle.node_select.proofs.Reaching.{path_is}
-use Rattle.node_texts.specs.Nodes.{attribute_text, found_text, node_media, node_text, text_at}
+use Rattle.node_texts.specs.Nodes.{found_text, node_media, node_text, text_at}
 use Rattle.edit_ops.specs.Changes.{edited}
 use Rattle.edit_ops.specs.declared.change.Change.{Change}
 use Rattle.edit_ops.specs.declared.change.Change.TheVariants.{Insert, Replace}
@@ -190,7 +191,7 @@ value_there t selector p uri local value ends_so finds =
     there_by t selector p (text_at end p t) finds.selects (ap (λ (x : End). text_at x p t) ends_so)
     (ap (λ (o : Option Tree). is_some (option_and_then (node_text end (scope_at p t)) o)) finds.there ∙ by (find (is_attr (scope_at p t) uri local) finds.element.attrs) finds.has)
   where
-    by : (o : Option Attr) → option_map (λ (a : Attr). a.value) o ≡ Some value → is_some (attribute_text o) ≡ true
+    by : (o : Option Attr) → option_map (λ (a : Attr). a.value) o ≡ Some value → is_some (option_map (λ (attr : Attr). body_print attr.value) o) ≡ true
     by None h = cc
     by (Some a) h = refl
 

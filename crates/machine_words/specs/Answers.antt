@@ -4,7 +4,7 @@ use Rattle.conflict_docs.specs.Conflicts.{conflict_bytes}
 use Rattle.conflict_docs.specs.declared.conflicts.ErrorBody.{ErrorBody}
 use Rattle.doc_names.specs.declared.doc_id.DocId.{DocId}
 use Rattle.notes.specs.Notes.{Note}
-use Rattle.reply_text.specs.Heads.{Sent, sent, parts}
+use Rattle.reply_text.specs.Heads.{Sent, sent}
 use Rattle.reply_text.specs.declared.media_types.Media.{Media}
 use Rattle.reply_text.specs.declared.media_types.Media.TheVariants as media
 use Rattle.http_wire.specs.declared.request.Request.{Request}
@@ -36,16 +36,16 @@ BehindConditions request tag exists reading a GoesOn = (stop : Option Sent) × I
 
 -- the method isn't one of those that the resource takes (RFC 9110, section 15.5.6)
 abbrev pub not_allowed : Bool → Bool → Sent
-not_allowed read_only closes = sent (parts 405 None (Some read_only) None 0 closes) []
+not_allowed read_only closes = sent 405 None (Some read_only) None 0 closes []
 
 -- a conflict, with its document (RFC 4825, section 11)
 abbrev pub conflict : ErrorBody → Bool → Sent
-conflict body closes = sent (parts 409 None None (Some media.Error) (length (conflict_bytes body)) closes) (conflict_bytes body)
+conflict body closes = sent 409 None None (Some media.Error) (length (conflict_bytes body)) closes (conflict_bytes body)
 
 -- a status with the tag of a document (RFC 4825, section 8.5)
 abbrev pub tagged : ℕ → ℕ → Bool → Sent
-tagged status tag closes = sent (parts status (Some tag) None None 0 closes) []
+tagged status tag closes = sent status (Some tag) None None 0 closes []
 
 -- a text of this media type, with a tag where it is one of a document
 abbrev pub found : Option ℕ → Media → List ℕ → Bool → Sent
-found tag m body closes = sent (parts 200 tag None (Some m) (length body) closes) body
+found tag m body closes = sent 200 tag None (Some m) (length body) closes body

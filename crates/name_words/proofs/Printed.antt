@@ -14,7 +14,7 @@ use Rattle.doc_names.specs.declared.doc_id.Home.{Home}
 use Rattle.doc_names.specs.declared.doc_id.Home.TheVariants.{Global, User}
 use Rattle.doc_names.proofs.Printed.{auid_letters, part_letters}
 use Rattle.doc_names.proofs.Words.{word_letters}
-use Rattle.name_words.specs.Naming.{are_parts, home_parts, is_encodable, is_encodable_home, is_name_of, is_part, parts_of}
+use Rattle.name_words.specs.Naming.{are_parts, home_parts, is_encodable, is_encodable_home, is_name_of, is_part}
 use Rattle.name_words.proofs.Parts.{has_no_slash, last_part, one_more_part, printed_free, printed_stands, word_stands}
 
 -- ---- words
@@ -73,6 +73,6 @@ id_letters doc =
 pub names : (doc : DocId) → is_encodable doc ≡ true → is_name_of doc (id_text doc) ≡ true
 names doc h =
     let both = and_parts (is_encodable_home doc.home) (all_scalars doc.name) h in
-    ap (λ (l : List ℕ). are_parts (parts_of doc) (Some l)) (encodes-IsAscii (id_text doc) (id_letters doc) ∙ cut doc.auid doc.home doc.name)
+    ap (λ (l : List ℕ). are_parts (auid_text doc.auid ∷ (home_parts doc.home ++ encode_utf8_all doc.name ∷ [])) (Some l)) (encodes-IsAscii (id_text doc) (id_letters doc) ∙ cut doc.auid doc.home doc.name)
     ∙ one_more_part (auid_text doc.auid) (auid_text doc.auid) (behind_auid doc.home doc.name) (home_parts doc.home ++ encode_utf8_all doc.name ∷ [])
     (auid_free doc.auid) (auid_stands doc.auid) (home_named doc.home doc.name both.0 both.1)

@@ -20,17 +20,14 @@ are_parts [] (Some address) = false
 are_parts (octets ∷ all) None = false
 are_parts (octets ∷ all) (Some address) = is_part octets (front_before 47 address) && are_parts all (rest_behind 47 address)
 
--- what the parts of a document's name stand for: AUID, `global`, NAME, or AUID, `users`, XUI, NAME
+-- what the parts of a home's name stand for: `global`, or `users` and the user
 abbrev pub home_parts : Home → List (List ℕ)
 home_parts Global = codes "global" ∷ []
 home_parts (User xui) = codes "users" ∷ encode_utf8_all xui ∷ []
 
-abbrev pub parts_of : DocId → List (List ℕ)
-parts_of doc = auid_text doc.auid ∷ (home_parts doc.home ++ encode_utf8_all doc.name ∷ [])
-
--- a text is the name of a document, its parts decoded
+-- a text is the name of a document, its parts decoded: the usage, the home, and the document's own name
 abbrev pub is_name_of : DocId → List ℕ → Bool
-is_name_of doc name = are_parts (parts_of doc) (Some (encode_utf8_all name))
+is_name_of doc name = are_parts (auid_text doc.auid ∷ (home_parts doc.home ++ encode_utf8_all doc.name ∷ [])) (Some (encode_utf8_all name))
 
 -- ---- names that UTF-8 can write
 

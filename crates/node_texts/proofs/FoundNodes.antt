@@ -1,5 +1,6 @@
 -- What has a text is what a selector finds.
-use Rattle.std.proofs.Common.{◌≡◌, ℕ, Bool, true, false, cond, ◌||◌, List, [], ◌∷◌, Option, Some, None, IsSome, is_some, refl, sym, ap, ◌∙◌}
+use Rattle.std.proofs.Common.{◌≡◌, ℕ, Bool, true, false, cond, ◌||◌, List, [], ◌∷◌, Option, Some, None, IsSome, is_some, refl, sym, ap, ◌∙◌, option_map}
+use Rattle.tree_text.specs.Printing.{body_print}
 use Rattle.std.specs.List.{find, list_any}
 use Rattle.std.specs.Option.{option_and_then}
 use Rattle.xml_tree.specs.Tree.{Tree, at}
@@ -11,7 +12,7 @@ use Rattle.node_select.specs.declared.selector.End.{End}
 use Rattle.node_select.specs.declared.selector.End.TheVariants.{Element, Attribute, Namespaces}
 use Rattle.node_select.specs.declared.selector.Selector.{Selector}
 use Rattle.node_select.proofs.Reaching.{path_is}
-use Rattle.node_texts.specs.Nodes.{attribute_text, found_text, node_text, text_at}
+use Rattle.node_texts.specs.Nodes.{found_text, node_text, text_at}
 
 -- something is found where something passes
 some_found : {A : Type 0} (f : A → Bool) (xs : List A) → is_some (find f xs) ≡ list_any f xs
@@ -22,7 +23,7 @@ some_found f (x ∷ xs) = by (f x) (some_found f xs)
     by true e = refl
     by false e = e
 
-attribute_there : (o : Option Attr) → is_some (attribute_text o) ≡ is_some o
+attribute_there : (o : Option Attr) → is_some (option_map (λ (attr : Attr). body_print attr.value) o) ≡ is_some o
 attribute_there None = refl
 attribute_there (Some attr) = refl
 

@@ -1,9 +1,8 @@
 -- What a selector finds in a document, as it is sent. RFC 4825, sections 7.6, 7.9, 7.10 and 10.
-use Rattle.std.specs.Prelude.{ℕ, List, [], Option, None, Some, option_map, option_and_then, encode_utf8_all, find}
+use Rattle.std.specs.Prelude.{ℕ, List, [], Option, Some, option_map, option_and_then, encode_utf8_all, find}
 use Rattle.xml_tree.specs.Tree.{Tree, at, last, tree_of}
 use Rattle.xml_tree.specs.Scopes.{scope_at, bindings_in}
 use Rattle.xml_tree.specs.Print.{print}
-use Rattle.xml_tree.specs.declared.names.Attr.{Attr}
 use Rattle.xml_tree.specs.declared.names.Decl.{Decl}
 use Rattle.tree_text.specs.Printing.{body_print}
 use Rattle.node_select.specs.Selection.{selected_in, is_attr}
@@ -13,16 +12,11 @@ use Rattle.node_select.specs.declared.selector.Selector.{Selector}
 use Rattle.reply_text.specs.declared.media_types.Media.{Media}
 use Rattle.reply_text.specs.declared.media_types.Media.TheVariants as media
 
--- an attribute's value, as the body of a reply spells it
-abbrev pub attribute_text : Option Attr → Option (List ℕ)
-attribute_text None = None
-attribute_text (Some attr) = Some (body_print attr.value)
-
--- of an element in its scope: the element as it stands; the value of its attribute of this name, if it has one; or an empty element with
--- its name that declares all bindings in scope, the default first and then the prefixes by code point
+-- of an element in its scope: the element as it stands; the value of its attribute of this name, if it has one, as the body of a reply
+-- spells it; or an empty element with its name that declares all bindings in scope, the default first and then the prefixes by code point
 abbrev pub node_text : End → List (List Decl) → Tree → Option (List ℕ)
 node_text Element c e = Some (print e)
-node_text (Attribute uri local) c e = attribute_text (find (is_attr c uri local) e.attrs)
+node_text (Attribute uri local) c e = option_map (λ attr. body_print attr.value) (find (is_attr c uri local) e.attrs)
 node_text Namespaces c e = Some (print (tree_of e.name (bindings_in c) [] (last [])))
 
 -- the same of the element at a path

@@ -1,13 +1,14 @@
 //! What a selector finds in a document, as it is sent (RFC 4825, sections 7.6, 7.9, 7.10 and 10).
-ghost use Rattle.std.specs.Prelude.{◌≡◌, ◌≤◌, [], Some, IfOk, is_some};
+ghost use Rattle.std.specs.Prelude.{◌≡◌, ◌≤◌, [], Some, IfOk, is_some, option_map};
 ghost use Rattle.std.specs.List.{find};
 ghost use Rattle.std.specs.Option.{option_copied};
 ghost use Rattle.xml_tree.specs.Limits.{most_levels};
 ghost use Rattle.xml_tree.specs.Print.{print};
 ghost use Rattle.xml_tree.specs.Scopes.{bindings_in};
 ghost use Rattle.xml_tree.specs.Tree.{at, height, last, tree_of};
+ghost use Rattle.tree_text.specs.Printing.{body_print};
 ghost use Rattle.node_select.specs.Selection.{is_attr};
-ghost use Rattle.node_texts.specs.Nodes.{attribute_text, encoded, found_text, node_media, node_text, text_at};
+ghost use Rattle.node_texts.specs.Nodes.{encoded, found_text, node_media, node_text, text_at};
 
 use node_select::{End, Selector, find_attr, select};
 use reply_text::Media;
@@ -34,7 +35,7 @@ fn attribute<'a>(
 
 // The value of an attribute, if there is one, as the body of a reply.
 fn attribute_text(alloc: Global, attr: Option<&Attr>) -> Result<Option<Bytes>, NoMemory>
-    ensures sends_the_value { IfOk result (λ text. text ≡ encoded (attribute_text (option_copied attr.entry))) }
+    ensures sends_the_value { IfOk result (λ text. text ≡ encoded (option_map (λ a. body_print a.value) (option_copied attr.entry))) }
 {
     match attr {
         None => Ok(None),

@@ -42,24 +42,15 @@ length_line n = codes "Content-Length: " ++ decimal n ++ line_end
 unfoldable pub close_line : List ℕ
 close_line = codes "Connection: close" ++ line_end
 
--- what a head says
-pub record Parts : Type 0 where
-  pub status : ℕ
-  pub tag : Option ℕ
-  pub read_only : Option Bool  -- for the Allow field
-  pub media : Option Media
-  pub size : ℕ
-  pub closes : Bool
-
 -- the head, up to and with the empty line: the status line and those of the field lines that apply; a 304 has no length
-abbrev pub head_of : Parts → List ℕ
-head_of p =
-    status_line p.status
-    ++ option_map_or tag_line p.tag []
-    ++ option_map_or allow_line p.read_only []
-    ++ option_map_or media_line p.media []
-    ++ (if p.status == 304 then [] else length_line p.size)
-    ++ (if p.closes then close_line else [])
+abbrev pub head_of : ℕ → Option ℕ → Option Bool → Option Media → ℕ → Bool → List ℕ
+head_of status tag read_only media size closes =
+    status_line status
+    ++ option_map_or tag_line tag []
+    ++ option_map_or allow_line read_only []
+    ++ option_map_or media_line media []
+    ++ (if status == 304 then [] else length_line size)
+    ++ (if closes then close_line else [])
     ++ line_end
 
 -- a reply, seen as its status, whether it closes, and its bytes in two parts
@@ -73,13 +64,11 @@ pub record Sent : Type 0 where
 abbrev pub bytes_of : Sent → List ℕ
 bytes_of r = r.head ++ r.body
 
--- the reply with these parts and this body
-abbrev pub sent : Parts → List ℕ → Sent
-sent p body = record { status = p.status; closes = p.closes; head = head_of p; body = body }
-
-abbrev pub parts : ℕ → Option ℕ → Option Bool → Option Media → ℕ → Bool → Parts
-parts status tag read_only media size closes = record { status = status; tag = tag; read_only = read_only; media = media; size = size; closes = closes }
+-- the reply with this status, perhaps a tag, what a resource takes, and a media type; with this length, whether it closes, and this body
+abbrev pub sent : ℕ → Option ℕ → Option Bool → Option Media → ℕ → Bool → List ℕ → Sent
+sent status tag read_only media size closes body =
+    record { status = status; closes = closes; head = head_of status tag read_only media size closes; body = body }
 
 -- a status without tag and body
 abbrev pub plain : ℕ → Bool → Sent
-plain status closes = sent (parts status None None None 0 closes) []
+plain status closes = sent status None None None 0 closes []

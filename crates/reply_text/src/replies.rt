@@ -1,7 +1,7 @@
 //! Replies (RFC 9112).
 ghost use Rattle.std.specs.Prelude.{◌≡◌, ◌≢◌, [], length, None, Some, IsTrue};
 ghost use Rattle.reply_text.specs.Statuses.{is_status};
-ghost use Rattle.reply_text.specs.Heads.{parts, head_of, plain, sent};
+ghost use Rattle.reply_text.specs.Heads.{head_of, plain, sent};
 
 use crate::heads::HeadText;
 use crate::media_types::Media;
@@ -41,7 +41,7 @@ fn head(
     closes: bool,
 ) -> HeadText
     requires { IsTrue (is_status status) }
-    ensures head_of_its_parts { result ≡ head_of (parts status tag read_only media size closes) }
+    ensures head_of_its_parts { result ≡ head_of status tag read_only media size closes }
 {
     let mut head = HeadText::new();
     head.push_status(status);
@@ -71,7 +71,7 @@ impl Reply {
 
     /// The 405, with the methods of a resource that can only be read, or of any other. Takes no memory.
     pub fn method(read_only: bool, close: bool) -> Reply
-        ensures names_the_methods { result ≡ sent (parts 405 None (Some read_only) None 0 close) [] }
+        ensures names_the_methods { result ≡ sent 405 None (Some read_only) None 0 close [] }
     {
         Reply {
             status: 405,
@@ -92,7 +92,7 @@ impl Reply {
         requires status { IsTrue (is_status status) }
         requires plain { status ≢ 405 }
         requires no_body { status ≡ 304 → body ≡ [] }
-        ensures sends_the_body { result ≡ sent (parts status tag None media (length body) close) body }
+        ensures sends_the_body { result ≡ sent status tag None media (length body) close body }
     {
         Reply {
             status,
@@ -106,7 +106,7 @@ impl Reply {
     pub fn lent(status: u16, tag: Option<u64>, media: Media, size: usize, close: bool) -> Reply
         requires status { IsTrue (is_status status) }
         requires plain { (status ≢ 304) × (status ≢ 405) }
-        ensures sends_the_head_alone { result ≡ sent (parts status tag None (Some media) size close) [] }
+        ensures sends_the_head_alone { result ≡ sent status tag None (Some media) size close [] }
     {
         Reply {
             status,

@@ -8,7 +8,7 @@ use Rattle.preconditions.specs.Fields.{ConditionsAnswer, Preconditions}
 use Rattle.preconditions.specs.Verdicts.{verdict_of}
 use Rattle.preconditions.specs.declared.verdicts.Verdict.{Verdict}
 use Rattle.preconditions.specs.declared.verdicts.Verdict.TheVariants.{Go, Same, Failed}
-use Rattle.reply_text.specs.Heads.{Sent, sent, parts, plain}
+use Rattle.reply_text.specs.Heads.{Sent, sent, plain}
 use Rattle.request_terms.specs.declared.conditions.Outcome.{Outcome}
 use Rattle.request_terms.specs.declared.conditions.Outcome.TheVariants as outcomes
 use Rattle.request_terms.specs.Rights.{fields_named}
@@ -30,7 +30,7 @@ HasOutcome fields tag exists reading outcome =
 abbrev pub stopped_by : Outcome → Option ℕ → Bool → Option Sent
 stopped_by outcomes.Unreadable tag closes = Some (plain 400 closes)
 stopped_by outcomes.Go tag closes = None
-stopped_by outcomes.NotModified tag closes = Some (sent (parts 304 tag None None 0 closes) [])
+stopped_by outcomes.NotModified tag closes = Some (sent 304 tag None None 0 closes [])
 stopped_by outcomes.Failed tag closes = Some (plain 412 closes)
 
 -- what the conditions of a request reply in place of what it asks, if they do

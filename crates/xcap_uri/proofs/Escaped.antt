@@ -6,8 +6,8 @@ use Rattle.std.specs.Str.{IsUtf8, chars}
 use Rattle.percent_encoding.specs.Percent.{percent_decode}
 use Rattle.xml_tree.specs.declared.read_error.ReadError.TheVariants.{Fault}
 use Rattle.xcap_uri.specs.declared.fault.UriFault.TheVariants.{BadEscape}
-use Rattle.xcap_uri.specs.Escapes.{has_whole_escapes, stands_for_text}
-use Rattle.xcap_uri.specs.readers.Escapes.{text_read}
+use Rattle.xcap_uri.specs.Escapes.{has_whole_escapes}
+use Rattle.xcap_uri.specs.readers.Escapes.{text_read, stands_for_text}
 
 pub read_as_text : (part : List ℕ) → has_whole_escapes part ≡ true → IsUtf8 (percent_decode part) → text_read part ≡ Ok (chars (percent_decode part))
 read_as_text part whole utf8 = cond-true _ _ _ (and_from _ _ whole (is_utf8-from_IsUtf8 _ utf8))

@@ -7,11 +7,11 @@ use Rattle.percent_encoding.specs.Percent.{percent_decode}
 use Rattle.doc_names.specs.Ids.{separator}
 use Rattle.xml_tree.specs.declared.read_error.ReadError.TheVariants.{Fault}
 use Rattle.xcap_uri.specs.Cuts.{pieces}
-use Rattle.xcap_uri.specs.Escapes.{stands_for_text, StandsFor, StandForOptional}
+use Rattle.xcap_uri.specs.Escapes.{StandsFor, StandForOptional}
 use Rattle.xcap_uri.specs.Gives.{UriError, ◌>>=◌}
 use Rattle.xcap_uri.specs.Roots.{slash}
 use Rattle.xcap_uri.specs.Targets.{AreSegments, IsPath}
-use Rattle.xcap_uri.specs.readers.Escapes.{text_read, optional_text_read}
+use Rattle.xcap_uri.specs.readers.Escapes.{text_read, optional_text_read, stands_for_text}
 use Rattle.xcap_uri.specs.readers.Targets.{segments_read, path_read}
 use Rattle.xcap_uri.specs.declared.fault.UriFault.TheVariants.{BadEscape}
 use Rattle.xcap_uri.proofs.Ordering.{Decides}

@@ -12,13 +12,9 @@ has_whole_escapes (b ∷ c ∷ []) = not (b == 37) && not (c == 37)
 has_whole_escapes (b ∷ high ∷ low ∷ rest) =
     if b == 37 then is_ascii_hexdigit high && (is_ascii_hexdigit low && has_whole_escapes rest) else has_whole_escapes (high ∷ low ∷ rest)
 
--- the escapes are whole, and the octets that they stand for, with the others, are UTF-8
-abbrev pub stands_for_text : List ℕ → Bool
-stands_for_text part = has_whole_escapes part && is_utf8 (percent_decode part)
-
--- a part of an address stands for this text
+-- a part of an address stands for this text: its escapes are whole, and the octets that they stand for, with the others, are UTF-8
 pub record StandsFor (part text : List ℕ) : Type 0 where
-  pub stands : stands_for_text part ≡ true
+  pub stands : (has_whole_escapes part && is_utf8 (percent_decode part)) ≡ true
   pub decoded : text ≡ chars (percent_decode part)
 
 -- the same of a part that may be absent

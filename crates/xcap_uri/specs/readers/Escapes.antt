@@ -1,12 +1,17 @@
 -- The texts that parts of addresses stand for, found from left to right.
-use Rattle.std.specs.Prelude.{ℕ, List, Option, None, Some, Result, Ok, Err, if◌then◌else◌, chars}
+use Rattle.std.specs.Prelude.{ℕ, Bool, ◌&&◌, List, Option, None, Some, Result, Ok, Err, if◌then◌else◌, chars}
+use Rattle.std.specs.Str.{is_utf8}
 use Rattle.percent_encoding.specs.Percent.{percent_decode}
 use Rattle.xml_tree.specs.declared.read_error.ReadError.TheVariants.{Fault}
-use Rattle.xcap_uri.specs.Escapes.{stands_for_text}
+use Rattle.xcap_uri.specs.Escapes.{has_whole_escapes}
 use Rattle.xcap_uri.specs.Gives.{UriError, ◌>>=◌}
 use Rattle.xcap_uri.specs.declared.fault.UriFault.TheVariants.{BadEscape}
 
--- the text that a part of an address stands for
+-- whether a part of an address stands for a text
+abbrev pub stands_for_text : List ℕ → Bool
+stands_for_text part = has_whole_escapes part && is_utf8 (percent_decode part)
+
+-- the text that it stands for
 abbrev pub text_read : List ℕ → Result (List ℕ) UriError
 text_read part = if stands_for_text part then Ok (chars (percent_decode part)) else Err (Fault BadEscape)
 
