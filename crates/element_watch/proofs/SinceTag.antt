@@ -22,7 +22,8 @@ use Rattle.patch_text.specs.declared.elements.ElementState.TheVariants.{Unchange
 use Rattle.store_core.specs.Changing.{document_in, document_name, held_name}
 use Rattle.store_core.specs.Held.{Held, Stands, Stock, held_of}
 use Rattle.store_core.specs.Keeping.{IsKept, IsSound, IsSoundFor, Kept}
-use Rattle.store_core.specs.Since.{Told, held_since, notes_from, since, story_of}
+use Rattle.store_core.specs.Since.{Told, notes_from, since}
+use Rattle.store_core.specs.inner.Stories.{held_since, story_of}
 use Rattle.store_core.specs.State.{Document, State, Version, is_small, notes, retained, small_end, versions}
 use Rattle.store_core.proofs.Accepted.{find-map}
 use Rattle.store_core.proofs.Asked.{found-name}

@@ -18,7 +18,8 @@ use Rattle.patch_text.specs.declared.elements.ElementState.{ElementState}
 use Rattle.patch_text.specs.declared.elements.ElementState.TheVariants.{Unchanged, Exists, Missing}
 use Rattle.store_core.specs.Changing.{document_in, held_name}
 use Rattle.store_core.specs.Held.{Held, Stock}
-use Rattle.store_core.specs.Since.{Told, held_since, since}
+use Rattle.store_core.specs.Since.{Told, since}
+use Rattle.store_core.specs.inner.Stories.{held_since}
 use Rattle.element_watch.specs.Watching.{IsElementNotice, IsQuiet, IsStateOf, IsUntouched, IsUntouchedAt, SelectsSome}
 use Rattle.element_watch.specs.inner.Back.{back}
 use Rattle.element_watch.specs.inner.Keyed.{is_key_address}

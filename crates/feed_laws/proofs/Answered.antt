@@ -31,7 +31,8 @@ use Rattle.request_terms.specs.declared.method.Method.TheVariants.{Get}
 use Rattle.store_core.specs.Changing.{document_in, document_name, held_name}
 use Rattle.store_core.specs.Held.{Held, Stands, Stock, held_of}
 use Rattle.store_core.specs.Keeping.{IsKept, Kept}
-use Rattle.store_core.specs.Since.{Gone, Story, Told, Unknown, held_since, notes_from, since, story_of}
+use Rattle.store_core.specs.Since.{Gone, Story, Told, Unknown, notes_from, since}
+use Rattle.store_core.specs.inner.Stories.{held_since, story_of}
 use Rattle.store_core.specs.State.{Document, State, Version, versions}
 use Rattle.replay_laws.specs.Subscribers.{Brings, TellsSince, answer_between, fetch_between, subscribed}
 use Rattle.replay_laws.proofs.OneVersion.{found_all, held_there, one_version}

@@ -16,7 +16,8 @@ use Rattle.reply_text.specs.Heads.{Sent}
 use Rattle.store_core.specs.Changing.{document_in, document_name, held_name}
 use Rattle.store_core.specs.Held.{Stands, Stock, held_of, stock_of}
 use Rattle.store_core.specs.Keeping.{IsKept, Kept}
-use Rattle.store_core.specs.Since.{Gone, Unknown, held_since, since}
+use Rattle.store_core.specs.Since.{Gone, Unknown, since}
+use Rattle.store_core.specs.inner.Stories.{held_since}
 use Rattle.store_core.specs.State.{Document, State, Version, versions}
 use Rattle.machine_words.proofs.Cases.{either}
 use Rattle.machine_words.specs.Answers.{unchanged}

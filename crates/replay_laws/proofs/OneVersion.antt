@@ -10,7 +10,8 @@ use Rattle.patch_laws.specs.Replayed.{answer_for}
 use Rattle.store_core.specs.Changing.{document_in, document_name, held_name}
 use Rattle.store_core.specs.Held.{Stands, held_of, Stock as Content}
 use Rattle.store_core.specs.Keeping.{FollowFrom}
-use Rattle.store_core.specs.Since.{Told, held_since, notes_from, since, story_of}
+use Rattle.store_core.specs.Since.{Told, notes_from, since}
+use Rattle.store_core.specs.inner.Stories.{held_since, story_of}
 use Rattle.store_core.specs.State.{Document, State, Version, notes, retained}
 use Rattle.replay_laws.specs.Subscribers.{answer_between}
 

@@ -13,7 +13,8 @@ use Rattle.store_core.specs.Changing.{document_in, document_name, held_name}
 use Rattle.store_core.specs.Held.{Held, Stands, held_of, Stock as Content}
 use Rattle.doc_names.specs.Usages.{usage_of}
 use Rattle.store_core.specs.Keeping.{IsKept, Kept}
-use Rattle.store_core.specs.Since.{Told, held_since, notes_from, since, story_of}
+use Rattle.store_core.specs.Since.{Told, notes_from, since}
+use Rattle.store_core.specs.inner.Stories.{held_since, story_of}
 use Rattle.store_core.specs.State.{Document, State, Version, is_small, notes, retained, small_end, versions}
 use Rattle.store_core.specs.History.{IsSince, Leads}
 use Rattle.store_core.proofs.Chains.{Reached, notes_of, reached}

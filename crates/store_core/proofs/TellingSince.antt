@@ -9,7 +9,8 @@ use Rattle.notes.specs.Recorded.{all_notes as joined}
 use Rattle.store_core.specs.declared.entry.Entry.{Entry}
 use Rattle.store_core.specs.Changing.{document_in, held_name}
 use Rattle.store_core.specs.Held.{Held}
-use Rattle.store_core.specs.Since.{Story, Gone, Told, held_since, notes_from, since, story_of}
+use Rattle.store_core.specs.Since.{Story, Gone, Told, notes_from, since}
+use Rattle.store_core.specs.inner.Stories.{held_since, story_of}
 use Rattle.store_core.specs.inner.Storing.{held_in}
 use Rattle.store_core.proofs.Entries.{read-as}
 use Rattle.store_core.specs.Stored.{Stored}

@@ -5,3 +5,4 @@ pub mod Planning
 pub mod Prints
 pub mod Rings
 pub mod Storing
+pub mod Stories

@@ -7,7 +7,8 @@ ghost use Rattle.notes.specs.Recorded.{all_notes};
 ghost use Rattle.store_core.specs.Held.{Stands, Stock};
 ghost use Rattle.store_core.specs.History.{IsSince};
 ghost use Rattle.store_core.specs.Keeping.{Kept};
-ghost use Rattle.store_core.specs.Since.{Told, notes_from, since, story_of};
+ghost use Rattle.store_core.specs.Since.{Told, notes_from, since};
+ghost use Rattle.store_core.specs.inner.Stories.{story_of};
 ghost use Rattle.store_core.specs.State.{State};
 ghost use Rattle.store_core.specs.Stories.{story_in};
 
