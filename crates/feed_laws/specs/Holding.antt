@@ -8,7 +8,7 @@ use Rattle.doc_names.specs.declared.doc_id.DocId.{DocId}
 use Rattle.name_words.specs.Naming.{is_name_of}
 use Rattle.xcap_uri.specs.Targets.{TargetAnswer}
 use Rattle.xcap_uri.specs.declared.target.Mode.{Mode}
-use Rattle.xcap_uri.specs.declared.target.Mode.TheVariants.{NoPatching, XcapPatching, Aggregate}
+use Rattle.xcap_uri.specs.declared.target.Mode.TheVariants.{NoPatching}
 use Rattle.xcap_uri.specs.declared.target.Target.TheVariants.{Feed}
 use Rattle.notes.specs.declared.edit.Edit.{Edit}
 use Rattle.patch_words.specs.Notices.{most_notice_levels}
@@ -36,8 +36,7 @@ pub record Updates (id : DocId) (body : List ℕ) (held : CopyHeld) (answer : Co
 -- nothing changed
 abbrev pub UpdatesTo : Mode → DocId → List ℕ → Version → Version → Type 0
 UpdatesTo NoPatching id body from to = Updates id body (subscribed from) (fetch_between from to) (subscribed from)
-UpdatesTo XcapPatching id body from to = Updates id body (subscribed from) (answer_between from to) (subscribed to)
-UpdatesTo Aggregate id body from to = Updates id body (subscribed from) (answer_between from to) (subscribed to)
+UpdatesTo _ id body from to = Updates id body (subscribed from) (answer_between from to) (subscribed to)
 
 -- the document has exactly one version with this tag, and who holds it is brought by the body to the version that the document has now
 pub record UpdatesFrom (mode : Mode) (tag : ℕ) (id : DocId) (body : List ℕ) (d : Document) : Type 0 where
