@@ -10,7 +10,7 @@ use Rattle.request_terms.specs.Conditions.{IsStop}
 use Rattle.machine_words.specs.Answers.{Answer, BehindConditions, unchanged}
 use Rattle.machine_words.specs.Resources.{version_of}
 use Rattle.machine_words.specs.Writing.{DeletesDocument, change_answer, deleted_reply, version_tag as tag_of}
-use Rattle.machine_words.specs.inner.Versions.{DeletesDocumentIn}
+use Rattle.machine_words.specs.inner.Cases.{DeletesDocumentIn}
 use Rattle.machine_words.proofs.Cases.{stopped, unstopped}
 
 -- the tag is there where the document is

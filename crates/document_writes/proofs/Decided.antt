@@ -17,7 +17,7 @@ use Rattle.store_core.specs.Held.{Stock as Content}
 use Rattle.machine_words.specs.Answers.{Answer, BehindConditions, conflict, unchanged}
 use Rattle.machine_words.specs.Fragments.{CutsNode, PutsFragment, is_there}
 use Rattle.machine_words.specs.Resources.{version_of}
-use Rattle.machine_words.specs.inner.Versions.{DeletesNodeOf, PutsNodeOf}
+use Rattle.machine_words.specs.inner.Cases.{DeletesNodeOf, PutsNodeOf}
 use Rattle.machine_words.proofs.Cases.{at_false, at_true, stopped, unstopped}
 use Rattle.document_writes.specs.Deciding.{Decides}
 use Rattle.document_writes.specs.inner.Planning.{IsPlanFor, answer_by}

@@ -10,7 +10,7 @@ ghost use Rattle.machine_words.specs.Answers.{BehindConditions, unchanged};
 ghost use Rattle.machine_words.specs.Fragments.{DeletesNode, PutsFragment, PutsNode, MayBeWritten, is_there};
 ghost use Rattle.machine_words.specs.Resources.{version_of};
 ghost use Rattle.machine_words.specs.Writing.{puts_deeper};
-ghost use Rattle.machine_words.specs.inner.Versions.{DeletesNodeOf, PutsNodeOf};
+ghost use Rattle.machine_words.specs.inner.Cases.{DeletesNodeOf, PutsNodeOf};
 ghost use Rattle.document_writes.specs.Deciding.{Decides};
 ghost use Rattle.document_writes.specs.inner.Planning.{IsCut, IsPlanFor, IsPlanOf};
 

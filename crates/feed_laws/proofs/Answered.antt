@@ -39,7 +39,8 @@ use Rattle.replay_laws.proofs.OneVersion.{found_all, held_there, one_version}
 use Rattle.replay_laws.proofs.Present.{aggregate, gone, patching, some_version, tags_alone}
 use Rattle.machine_words.specs.Answers.{Answer, unchanged}
 use Rattle.machine_words.specs.Feeds.{story_answer}
-use Rattle.machine_words.specs.Requests.{ByMethod, ByTarget, ByUser, IsAnswer, IsAnswered, auid_of, home_of}
+use Rattle.machine_words.specs.Requests.{ByMethod, ByTarget, ByUser, IsAnswer, auid_of, home_of}
+use Rattle.machine_words.specs.inner.Cases.{IsAnswered}
 use Rattle.machine_words.proofs.Cases.{either}
 use Rattle.feed_laws.specs.Holding.{Updates, UpdatesFrom, UpdatesHeld, UpdatesTo, SubscriberHolds}
 

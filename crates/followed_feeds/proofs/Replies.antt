@@ -22,7 +22,8 @@ use Rattle.machine_words.proofs.Cases.{either}
 use Rattle.machine_words.specs.Answers.{Answer, Made, unchanged}
 use Rattle.machine_words.specs.Feeds.{story_answer}
 use Rattle.machine_words.specs.Machine.{KeptStep, Step, after_answer, answer_as, told_as}
-use Rattle.machine_words.specs.Requests.{ByMethod, ByTarget, ByUser, IsAnswer, IsAnswered}
+use Rattle.machine_words.specs.Requests.{ByMethod, ByTarget, ByUser, IsAnswer}
+use Rattle.machine_words.specs.inner.Cases.{IsAnswered}
 use Rattle.feed_requests.specs.Asking.{AsksForFeed}
 
 module _ (root : List ℕ) (c : Stock) (mode : Mode) (n : ℕ) (id : DocId) (request : Request) (asks : AsksForFeed root mode n id request) where

@@ -38,7 +38,7 @@ use Rattle.machine_words.specs.Machine.{Does, answer_as, told_as}
 use Rattle.machine_words.specs.Requests.{Deletes, IsAnswer, Puts}
 use Rattle.machine_words.specs.Resources.{version_of}
 use Rattle.machine_words.specs.Writing.{change_answer, deleted_reply, put_change, put_reply}
-use Rattle.machine_words.specs.inner.Versions.{PutsNodeIn, PutsNodeOf}
+use Rattle.machine_words.specs.inner.Cases.{PutsNodeIn, PutsNodeOf}
 use Rattle.machine_words.proofs.Accepted.{Accepts, DocumentPut, Enters, HeldPut, NodePut, StoreMade, accepted, by_target, delete_enters, document_deleted, document_put, no_bindings, node_deleted, node_put, of_element, of_value, put_again_enters, put_enters, stopped_never, store_made}
 use Rattle.store_core.proofs.HeldAfter.{edited_there, made_there, new_held, removed_there, same_others, same_others_more}
 use Rattle.machine_words.proofs.After.{edit_let_in, let_in_again, make_let_in, names_apart, seen_at, unseen_at}

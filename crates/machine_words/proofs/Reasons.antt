@@ -54,10 +54,10 @@ use Rattle.list_resolve.specs.declared.fault.FlatFault.TheVariants.{NoService, T
 use Rattle.machine_words.specs.Feeds.{sends_notice, story_answer}
 use Rattle.machine_words.specs.FlatLists.{sends_flat}
 use Rattle.machine_words.specs.Reading.{SendsDocument, SendsFound, SendsNode}
-use Rattle.machine_words.specs.Requests.{ByMethod, ByTarget, ByUser, Deletes, IsAnswer, IsAnswered, Puts, auid_of, fault_status, home_of, is_read_only, takes, ReadsTarget as Reads}
+use Rattle.machine_words.specs.Requests.{ByMethod, ByTarget, ByUser, Deletes, IsAnswer, Puts, auid_of, fault_status, home_of, is_read_only, takes, ReadsTarget as Reads}
 use Rattle.machine_words.specs.Resources.{Resource, absent, beyond_limit, there, version_of}
 use Rattle.machine_words.specs.Writing.{IfStored, PutsBody, PutsDocument, PutsSpelled, PutsText, by_judgement, change_answer, deleted_reply, fault_conflict, put_answer, put_change, put_reply, text_conflict, version_tag as tag_of}
-use Rattle.machine_words.specs.inner.Versions.{DeletesDocumentIn, DeletesNodeIn, PutsElementText, PutsNodeIn, PutsValueText}
+use Rattle.machine_words.specs.inner.Cases.{DeletesDocumentIn, DeletesNodeIn, PutsElementText, PutsNodeIn, PutsValueText, IsAnswered}
 use Rattle.machine_words.proofs.Cases.{either}
 use Rattle.machine_words.proofs.Changed.{as_the_store, told_by_store}
 

@@ -63,7 +63,7 @@ use Rattle.machine_words.specs.Fragments.{PutsAt, PutsFragment, PutsFrom, is_the
 use Rattle.machine_words.specs.Machine.{content_after_answer}
 use Rattle.machine_words.specs.Resources.{version_of}
 use Rattle.machine_words.specs.Writing.{PutsDocument, PutsSpelled, PutsText, by_judgement, change_answer, put_answer, put_change, put_reply, version_tag as tag_of}
-use Rattle.machine_words.specs.inner.Versions.{PutsElementText, PutsNodeOf, PutsValueText}
+use Rattle.machine_words.specs.inner.Cases.{PutsElementText, PutsNodeOf, PutsValueText}
 use Rattle.machine_words.proofs.Accepted.{match_true, unstopped_by}
 use Rattle.machine_words.proofs.After.{same_trees}
 use Rattle.machine_words.proofs.Steps.{made_change}

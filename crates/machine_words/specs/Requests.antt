@@ -1,7 +1,7 @@
 -- The answer to a request where documents are held: the first line that applies gives it. The target (RFC 4825, section 6), the method,
 -- the user, whether the resource is there (RFC 4825, section 8), the conditions (RFC 9110, section 13), and then reading or the change.
 -- The order of the lines is this server's own.
-use Rattle.std.specs.Prelude.{◌≡◌, ℕ, Bool, true, false, not, List, Result, Ok, Err}
+use Rattle.std.specs.Prelude.{◌≡◌, ℕ, Bool, true, false, not, List, Result, MatchResult}
 use Rattle.std.specs.Bool.{MatchBool}
 use Rattle.store_core.specs.Held.{Stock}
 use Rattle.node_select.specs.declared.selector.End.{End}
@@ -131,10 +131,8 @@ ByTarget root c target method request a =
     (ByUser root c target method request a)
     (a ≡ unchanged (not_allowed (is_read_only target) request.closes))
 
-abbrev pub IsAnswered : List ℕ → Stock → Result Target UriFault → Request → Answer → Type 0
-IsAnswered root c (Err fault) request a = a ≡ unchanged (plain (fault_status fault) request.closes)
-IsAnswered root c (Ok target) request a = ByTarget root c target (method_of request.method) request a
-
--- the answer to a request, under this root, where this is held, by the answer that its target has
+-- the answer to a request, under this root, where this is held, by what its target means or by the target's fault
 abbrev pub IsAnswer : List ℕ → Stock → Request → Answer → Type 0
-IsAnswer root c request a = (read : Result Target UriFault) × TargetAnswer root request.target read × IsAnswered root c read request a
+IsAnswer root c request a =
+    (read : Result Target UriFault) × TargetAnswer root request.target read
+    × MatchResult read (λ target. ByTarget root c target (method_of request.method) request a) (λ fault. a ≡ unchanged (plain (fault_status fault) request.closes))

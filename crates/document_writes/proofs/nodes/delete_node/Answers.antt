@@ -2,7 +2,7 @@ use Rattle.std.proofs.Common.{ℕ, Option, None, Some, sym, ap}
 use Rattle.xml_tree.specs.Tree.{Tree}
 use Rattle.machine_words.specs.Answers.{Answer, unchanged}
 use Rattle.machine_words.specs.Fragments.{DeletesNode}
-use Rattle.machine_words.specs.inner.Versions.{DeletesNodeIn, DeletesNodeOf}
+use Rattle.machine_words.specs.inner.Cases.{DeletesNodeIn, DeletesNodeOf}
 use Rattle.document_writes.proofs.Decided.{decides_planned}
 use Rattle.document_writes.proofs.Doing.{stays}
 use Rattle.document_writes.proofs.Held.{of_version}

@@ -2,7 +2,7 @@ use Rattle.std.proofs.Common.{ℕ, Option, None, Some, sym}
 use Rattle.xml_tree.specs.Tree.{Tree}
 use Rattle.machine_words.specs.Answers.{Answer, unchanged}
 use Rattle.machine_words.specs.Fragments.{PutsNode}
-use Rattle.machine_words.specs.inner.Versions.{PutsNodeIn, PutsNodeOf}
+use Rattle.machine_words.specs.inner.Cases.{PutsNodeIn, PutsNodeOf}
 use Rattle.document_writes.proofs.Decided.{decides_planned}
 use Rattle.document_writes.proofs.Doing.{stays}
 use Rattle.document_writes.proofs.Held.{of_version}

@@ -1,4 +1,5 @@
--- What a request that writes is answered, by the version of the document that is held, and by what a text spells.
+-- What a request is answered, case by case: by what its target means, by the version of the document that is held, and by what a text
+-- spells.
 use Rattle.std.specs.Prelude.{◌≡◌, ℕ, true, false, List, Option, Some, Result, MatchOption, MatchResult}
 use Rattle.std.specs.Bool.{MatchBool}
 use Rattle.store_core.specs.Held.{Stock}
@@ -19,9 +20,18 @@ use Rattle.plan_words.specs.Spots.{IsSpot}
 use Rattle.conflict_docs.specs.declared.conflicts.ErrorBody.TheVariants as conflicts
 use Rattle.reply_text.specs.Heads.{plain}
 use Rattle.http_wire.specs.declared.request.Request.{Request}
+use Rattle.request_terms.specs.Methods.{method_of}
+use Rattle.xcap_uri.specs.declared.fault.UriFault.{UriFault}
+use Rattle.xcap_uri.specs.declared.target.Target.{Target}
 use Rattle.machine_words.specs.Answers.{Answer, BehindConditions, unchanged, conflict}
 use Rattle.machine_words.specs.Fragments.{CutsNode, PutsFrom, is_there, put_planned, value_conflict}
+use Rattle.machine_words.specs.Requests.{ByTarget, fault_status}
 use Rattle.machine_words.specs.Writing.{change_answer, deleted_reply, puts_deeper, text_conflict}
+
+-- by the answer that its target has
+abbrev pub IsAnswered : List ℕ → Stock → Result Target UriFault → Request → Answer → Type 0
+IsAnswered root c read request a =
+    MatchResult read (λ target. ByTarget root c target (method_of request.method) request a) (λ fault. a ≡ unchanged (plain (fault_status fault) request.closes))
 
 -- ---- PUT of a node
 
