@@ -61,13 +61,5 @@ document_text t = codes "<?xml version=\"1.0\" encoding=\"UTF-8\"?>\n" ++ print 
 
 -- a URI, where there is one, is not empty
 abbrev pub IsNamed : ErrorBody → Type 0
-IsNamed NotUtf8 = Unit {0}
-IsNamed NotWellFormed = Unit {0}
-IsNamed NotXmlFrag = Unit {0}
-IsNamed NotXmlAttValue = Unit {0}
 IsNamed (NoParent uri) = uri ≢ []
-IsNamed Schema = Unit {0}
-IsNamed CannotInsert = Unit {0}
-IsNamed CannotDelete = Unit {0}
-IsNamed (Unique field) = Unit {0}
-IsNamed Constraint = Unit {0}
+IsNamed _ = Unit {0}

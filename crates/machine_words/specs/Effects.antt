@@ -16,7 +16,7 @@ use Rattle.plan_words.specs.declared.spot.Spot.{Spot}
 use Rattle.doc_names.specs.declared.doc_id.DocId.{DocId}
 use Rattle.xcap_uri.specs.Targets.{TargetAnswer}
 use Rattle.xcap_uri.specs.declared.target.Target.{Target}
-use Rattle.xcap_uri.specs.declared.target.Target.TheVariants.{Document, Node, Deep, Feed, ElementFeed, Flat}
+use Rattle.xcap_uri.specs.declared.target.Target.TheVariants.{Document, Node}
 use Rattle.http_wire.specs.declared.request.Request.{Request}
 use Rattle.request_terms.specs.Methods.{method_of}
 use Rattle.request_terms.specs.Rights.{fields_named}
@@ -74,10 +74,7 @@ NodeIsThere c next id tag selector Namespaces body = ⊥
 abbrev pub TargetIsThere : Stock → Stock → Target → ℕ → List ℕ → Type 0
 TargetIsThere c next (Document id) tag body = DocumentIsThere next id tag body
 TargetIsThere c next (Node id selector) tag body = NodeIsThere c next id tag selector selector.end body
-TargetIsThere c next (Deep auid home) tag body = ⊥
-TargetIsThere c next (Feed mode known id) tag body = ⊥
-TargetIsThere c next (ElementFeed known id selector raw) tag body = ⊥
-TargetIsThere c next (Flat id service) tag body = ⊥
+TargetIsThere c next _ tag body = ⊥
 
 -- where a PUT made a change, from what was held before to what is held next, its address means a target, which is there as the body spells it
 abbrev pub PutIsThere : List ℕ → Stock → Request → Option Edit → Stock → Type 0
@@ -97,10 +94,7 @@ pub record NodeIsGone (next : Stock) (id : DocId) (tag : ℕ) (selector : Select
 abbrev pub TargetIsGone : Stock → Target → ℕ → Type 0
 TargetIsGone next (Document id) tag = version_of next id ≡ None
 TargetIsGone next (Node id selector) tag = NodeIsGone next id tag selector
-TargetIsGone next (Deep auid home) tag = ⊥
-TargetIsGone next (Feed mode known id) tag = ⊥
-TargetIsGone next (ElementFeed known id selector raw) tag = ⊥
-TargetIsGone next (Flat id service) tag = ⊥
+TargetIsGone next _ tag = ⊥
 
 -- where a DELETE made a change, its address means a target, at which nothing is held next
 abbrev pub DeletedIsGone : List ℕ → Request → Option Edit → Stock → Type 0

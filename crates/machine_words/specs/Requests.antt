@@ -59,12 +59,8 @@ takes target Other = false
 
 -- where it is an attribute, it may be written
 abbrev pub IsWritableTarget : Target → Type 0
-IsWritableTarget (Document id) = Unit {0}
 IsWritableTarget (Node id selector) = MayBeWritten selector
-IsWritableTarget (Deep auid home) = Unit {0}
-IsWritableTarget (Feed mode tag id) = Unit {0}
-IsWritableTarget (ElementFeed tag id selector raw) = Unit {0}
-IsWritableTarget (Flat id service) = Unit {0}
+IsWritableTarget _ = Unit {0}
 
 -- ---- by method
 

@@ -2,7 +2,7 @@
 use Rattle.std.specs.Prelude.{ℕ, Bool, List, ◌++◌}
 use Rattle.xml_tree.specs.declared.names.Decl.{Decl}
 use Rattle.edit_ops.specs.declared.change.Change.{Change}
-use Rattle.edit_ops.specs.declared.change.Change.TheVariants.{CreateDocument, Insert, Replace, Remove, SetAttr, DropAttr, RemoveDocument}
+use Rattle.edit_ops.specs.declared.change.Change.TheVariants.{CreateDocument, RemoveDocument}
 use Rattle.notes.specs.Notes.{Note}
 
 abbrev pub made_note : ℕ → ℕ → List Decl → Change → Bool → Note
@@ -15,9 +15,5 @@ all_notes older newer = older ++ newer
 -- the change is one of the whole document: it makes it or removes it
 abbrev pub IsOfDocument : Change → Type 0
 IsOfDocument (CreateDocument root) = Unit {0}
-IsOfDocument (Insert parent gap element) = ⊥
-IsOfDocument (Replace p element) = ⊥
-IsOfDocument (Remove p) = ⊥
-IsOfDocument (SetAttr p name value) = ⊥
-IsOfDocument (DropAttr p name) = ⊥
 IsOfDocument RemoveDocument = Unit {0}
+IsOfDocument _ = ⊥
