@@ -7,7 +7,8 @@ use Rattle.xml_tree.specs.Proper.{ProperIn}
 use Rattle.xml_tree.specs.Tree.{Tree, height}
 use Rattle.http_wire.specs.declared.request.Request.{Request}
 use Rattle.reply_text.specs.declared.media_types.Media.{Media}
-use Rattle.machine_words.specs.Writing.{PutsBody, PutsSpelled, PutsText}
+use Rattle.machine_words.specs.Writing.{PutsBody, PutsSpelled}
+use Rattle.machine_words.specs.inner.Cases.{PutsText}
 use Rattle.document_writes.specs.inner.Bodies.{Comes}
 use Rattle.document_writes.specs.declared.bodies.Body.{Body}
 use Rattle.document_writes.specs.declared.bodies.Body.TheVariants.{Document, Refused}

@@ -9,8 +9,8 @@ use Rattle.reply_text.specs.Heads.{Sent, plain}
 use Rattle.request_terms.specs.Conditions.{IsStop}
 use Rattle.machine_words.specs.Answers.{Answer, BehindConditions, unchanged}
 use Rattle.machine_words.specs.Resources.{version_of}
-use Rattle.machine_words.specs.Writing.{DeletesDocument, change_answer, deleted_reply, version_tag as tag_of}
-use Rattle.machine_words.specs.inner.Cases.{DeletesDocumentIn}
+use Rattle.machine_words.specs.Writing.{DeletesDocument, change_answer, deleted_reply}
+use Rattle.machine_words.specs.inner.Cases.{DeletesDocumentIn, version_tag as tag_of}
 use Rattle.machine_words.proofs.Cases.{stopped, unstopped}
 
 -- the tag is there where the document is

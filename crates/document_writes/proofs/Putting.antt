@@ -11,7 +11,8 @@ use Rattle.store_core.specs.Keeping.{IsUsers}
 use Rattle.store_core.specs.Stored.{Stored}
 use Rattle.store_core.specs.Held.{Stock as Content}
 use Rattle.machine_words.specs.Resources.{version_of}
-use Rattle.machine_words.specs.Writing.{change_answer, put_answer, put_change, put_reply, version_tag as tag_of}
+use Rattle.machine_words.specs.Writing.{change_answer, put_answer, put_change, put_reply}
+use Rattle.machine_words.specs.inner.Cases.{version_tag as tag_of}
 use Rattle.machine_words.proofs.Asked.{asks_to_put}
 use Rattle.document_writes.specs.Deciding.{Decides}
 use Rattle.document_writes.specs.declared.decision.Decision.{Decision}

@@ -5,7 +5,8 @@ ghost use Rattle.xml_tree.specs.Proper.{ProperIn};
 ghost use Rattle.xml_tree.specs.Tree.{height};
 ghost use Rattle.conflict_docs.specs.declared.conflicts.ErrorBody.TheVariants as conflicts;
 ghost use Rattle.machine_words.specs.Answers.{conflict};
-ghost use Rattle.machine_words.specs.Writing.{PutsBody, PutsSpelled, PutsText, text_conflict};
+ghost use Rattle.machine_words.specs.Writing.{PutsBody, PutsSpelled, text_conflict};
+ghost use Rattle.machine_words.specs.inner.Cases.{PutsText};
 ghost use Rattle.document_writes.specs.inner.Bodies.{Comes};
 
 use crate::NoMemory;

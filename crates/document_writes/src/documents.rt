@@ -7,7 +7,8 @@ ghost use Rattle.store_core.specs.Asking.{Asks, MayBe};
 ghost use Rattle.store_core.specs.Keeping.{IsUsers};
 ghost use Rattle.request_terms.specs.MediaTypes.{document_media};
 ghost use Rattle.machine_words.specs.Resources.{version_of};
-ghost use Rattle.machine_words.specs.Writing.{DeletesDocument, PutsBody, PutsDocument, change_answer, deleted_reply, put_answer, put_change, version_tag};
+ghost use Rattle.machine_words.specs.Writing.{DeletesDocument, PutsBody, PutsDocument, change_answer, deleted_reply, put_answer, put_change};
+ghost use Rattle.machine_words.specs.inner.Cases.{version_tag};
 ghost use Rattle.document_writes.specs.Deciding.{Decides};
 
 use crate::bodies::{Body, body_of};

@@ -40,13 +40,13 @@ use Rattle.node_texts.specs.Nodes.{node_media}
 use Rattle.store_core.specs.Changing.{act_of, against, answered, changing, content_after, document_in, held_name, note_for}
 use Rattle.store_core.specs.Held.{Held, Stock as Content}
 use Rattle.store_core.specs.declared.refusal.StoreRefusal.{StoreRefusal}
-use Rattle.machine_words.specs.Answers.{Answer, Behind, BehindConditions, Made, not_allowed, unchanged}
+use Rattle.machine_words.specs.Answers.{Answer, BehindConditions, Made, not_allowed, unchanged}
 use Rattle.machine_words.specs.Fragments.{CutsNode, PutsAt, PutsElement, PutsFragment, PutsFrom, PutsValue, cut_reply, is_there, levels_for, plan_answer, put_planned, scope_for}
 use Rattle.machine_words.specs.Machine.{Does, answer_as, told_as}
 use Rattle.machine_words.specs.Requests.{ByMethod, ByTarget, ByUser, Deletes, IsAnswer, Puts, auid_of, home_of, is_read_only, takes}
 use Rattle.machine_words.specs.Resources.{version_of}
-use Rattle.machine_words.specs.Writing.{IfStored, PutsDocument, PutsSpelled, PutsText, by_judgement, change_answer, deleted_reply, put_answer, put_reply, version_tag as tag_of}
-use Rattle.machine_words.specs.inner.Cases.{DeletesDocumentIn, DeletesNodeIn, PutsNodeIn, IsAnswered}
+use Rattle.machine_words.specs.Writing.{IfStored, PutsDocument, PutsSpelled, change_answer, deleted_reply, put_answer, put_reply}
+use Rattle.machine_words.specs.inner.Cases.{DeletesDocumentIn, DeletesNodeIn, PutsNodeIn, IsAnswered, PutsText, by_judgement, version_tag as tag_of, Behind}
 use Rattle.machine_words.proofs.Steps.{made_change}
 use Rattle.machine_words.proofs.Changed.{as_the_store, told_by_store}
 

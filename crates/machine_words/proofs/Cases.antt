@@ -5,7 +5,8 @@ use Rattle.doc_names.specs.declared.usages.Usage.{Usage}
 use Rattle.http_wire.specs.declared.request.Request.{Request}
 use Rattle.reply_text.specs.Heads.{Sent, plain}
 use Rattle.request_terms.specs.Conditions.{IsStop}
-use Rattle.machine_words.specs.Answers.{Answer, Behind, BehindConditions, unchanged}
+use Rattle.machine_words.specs.Answers.{Answer, BehindConditions, unchanged}
+use Rattle.machine_words.specs.inner.Cases.{Behind}
 use Rattle.machine_words.specs.Writing.{IfStored}
 
 -- either case of a test

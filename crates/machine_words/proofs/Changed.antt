@@ -8,7 +8,8 @@ use Rattle.store_core.specs.declared.refusal.StoreRefusal.{StoreRefusal}
 use Rattle.store_core.specs.Held.{Stock}
 use Rattle.reply_text.specs.Heads.{Sent}
 use Rattle.machine_words.specs.Answers.{Answer, unchanged}
-use Rattle.machine_words.specs.Writing.{change_answer, refused, store_answer}
+use Rattle.machine_words.specs.Writing.{change_answer, refused}
+use Rattle.machine_words.specs.inner.Cases.{store_answer}
 
 -- the store refuses the change, or makes it with a note
 abbrev pub told_by_store : DocId → Bool → (Note → Sent) → Result (Note × Stock) StoreRefusal → Answer

@@ -54,7 +54,7 @@ use Rattle.element_watch.proofs.States.{one_notice, some_notice}
 use Rattle.store_core.specs.Since.{Story, Gone, Unknown, Told, since}
 use Rattle.store_core.specs.Held.{Stock as Content}
 use Rattle.list_resolve.proofs.OneList.{one_list, some_list}
-use Rattle.machine_words.specs.Answers.{Answer, Behind, BehindConditions, conflict, found, not_allowed, unchanged}
+use Rattle.machine_words.specs.Answers.{Answer, BehindConditions, conflict, found, not_allowed, unchanged}
 use Rattle.machine_words.specs.Requests.{ByMethod, ByTarget, ByUser, Deletes, IsAnswer, Puts, auid_of, fault_status, home_of, is_bindings, is_read_only, takes, ReadsTarget as Reads}
 use Rattle.machine_words.specs.ElementFeeds.{TellsElement}
 use Rattle.machine_words.specs.Feeds.{sends_notice, story_answer}
@@ -62,8 +62,8 @@ use Rattle.machine_words.specs.FlatLists.{IsFlatDocument, document_of, sends_fla
 use Rattle.machine_words.specs.Reading.{SendsDocument, SendsFound, SendsNode}
 use Rattle.machine_words.specs.Resources.{LeadsTo, Resource, absent, beyond_limit, there, version_of}
 use Rattle.machine_words.specs.Fragments.{CutsNode, PutsAt, PutsElement, PutsFragment, PutsFrom, PutsValue, cut_reply, is_there, levels_for, plan_answer, put_planned, scope_for, value_conflict}
-use Rattle.machine_words.specs.Writing.{IfStored, PutsBody, PutsDocument, PutsSpelled, PutsText, by_judgement, change_answer, deleted_reply, puts_deeper, put_answer, text_conflict, version_tag as tag_of}
-use Rattle.machine_words.specs.inner.Cases.{DeletesDocumentIn, DeletesNodeIn, PutsElementText, PutsNodeIn, PutsNodeOf, PutsValueText, IsAnswered}
+use Rattle.machine_words.specs.Writing.{IfStored, PutsBody, PutsDocument, PutsSpelled, change_answer, deleted_reply, puts_deeper, put_answer, text_conflict}
+use Rattle.machine_words.specs.inner.Cases.{DeletesDocumentIn, DeletesNodeIn, PutsElementText, PutsNodeIn, PutsNodeOf, PutsValueText, IsAnswered, PutsText, by_judgement, version_tag as tag_of, Behind}
 use Rattle.machine_words.proofs.Leading.{leads, only_leads, resource}
 
 -- there is an answer of this kind, and each one of it is that

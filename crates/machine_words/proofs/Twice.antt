@@ -62,8 +62,8 @@ use Rattle.machine_words.specs.Effects.{IsUnconditional, LeavesTrees, trees_of}
 use Rattle.machine_words.specs.Fragments.{PutsAt, PutsFragment, PutsFrom, is_there, levels_for, put_planned, scope_for}
 use Rattle.machine_words.specs.Machine.{content_after_answer}
 use Rattle.machine_words.specs.Resources.{version_of}
-use Rattle.machine_words.specs.Writing.{PutsDocument, PutsSpelled, PutsText, by_judgement, change_answer, put_answer, put_change, put_reply, version_tag as tag_of}
-use Rattle.machine_words.specs.inner.Cases.{PutsElementText, PutsNodeOf, PutsValueText}
+use Rattle.machine_words.specs.Writing.{PutsDocument, PutsSpelled, change_answer, put_answer, put_change, put_reply}
+use Rattle.machine_words.specs.inner.Cases.{PutsElementText, PutsNodeOf, PutsValueText, PutsText, by_judgement, version_tag as tag_of}
 use Rattle.machine_words.proofs.Accepted.{match_true, unstopped_by}
 use Rattle.machine_words.proofs.After.{same_trees}
 use Rattle.machine_words.proofs.Steps.{made_change}

@@ -64,7 +64,7 @@ use Rattle.store_core.specs.Keeping.{IsUsers}
 use Rattle.store_core.specs.Since.{Story, Gone, Unknown, Told, since}
 use Rattle.store_core.specs.declared.refusal.StoreRefusal.{StoreRefusal}
 use Rattle.store_core.specs.declared.refusal.StoreRefusal.TheVariants as refusals
-use Rattle.machine_words.specs.Answers.{Answer, Behind, BehindConditions, conflict, found, not_allowed, unchanged}
+use Rattle.machine_words.specs.Answers.{Answer, BehindConditions, conflict, found, not_allowed, unchanged}
 use Rattle.machine_words.specs.Laws.{tells_change}
 use Rattle.machine_words.specs.ElementFeeds.{TellsElement}
 use Rattle.list_resolve.specs.declared.fault.FlatFault.{FlatFault}
@@ -75,8 +75,8 @@ use Rattle.machine_words.specs.Reading.{SendsDocument, SendsFound, SendsNode}
 use Rattle.machine_words.specs.Requests.{ByMethod, ByTarget, ByUser, Deletes, IsAnswer, IsWritableTarget, Puts, auid_of, fault_status, home_of, is_read_only, takes, ReadsTarget as Reads}
 use Rattle.machine_words.specs.Resources.{Resource, absent, beyond_limit, there, version_of}
 use Rattle.machine_words.specs.Fragments.{CutsNode, PutsAt, PutsFragment, PutsFrom, cut_reply, is_there, levels_for, plan_answer, plan_refused, put_planned, scope_for}
-use Rattle.machine_words.specs.Writing.{IfStored, PutsBody, PutsDocument, PutsSpelled, PutsText, by_judgement, change_answer, deleted_reply, fault_conflict, put_answer, put_change, put_reply, refused, text_conflict, version_tag as tag_of}
-use Rattle.machine_words.specs.inner.Cases.{DeletesDocumentIn, DeletesNodeIn, PutsElementText, PutsNodeIn, PutsValueText, IsAnswered}
+use Rattle.machine_words.specs.Writing.{IfStored, PutsBody, PutsDocument, PutsSpelled, change_answer, deleted_reply, fault_conflict, put_answer, put_change, put_reply, refused, text_conflict}
+use Rattle.machine_words.specs.inner.Cases.{DeletesDocumentIn, DeletesNodeIn, PutsElementText, PutsNodeIn, PutsValueText, IsAnswered, PutsText, by_judgement, version_tag as tag_of, Behind}
 use Rattle.store_core.proofs.SoundHeld.{AllSound}
 use Rattle.store_core.specs.Held.{Stock as Content}
 use Rattle.machine_words.proofs.Asked.{asks_to_delete, asks_to_edit, asks_to_put, sound_at, users_write}

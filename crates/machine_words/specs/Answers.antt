@@ -1,5 +1,5 @@
 -- What a request is answered: a reply, and the change of a document that is made, if one is. RFC 4825, sections 8 and 11.
-use Rattle.std.specs.Prelude.{◌≡◌, ℕ, Bool, List, [], length, Option, None, Some}
+use Rattle.std.specs.Prelude.{◌≡◌, ℕ, Bool, List, [], length, Option, None, Some, MatchOption}
 use Rattle.conflict_docs.specs.Conflicts.{conflict_bytes}
 use Rattle.conflict_docs.specs.declared.conflicts.ErrorBody.{ErrorBody}
 use Rattle.doc_names.specs.declared.doc_id.DocId.{DocId}
@@ -22,15 +22,10 @@ pub record Answer : Type 0 where
 abbrev pub unchanged : Sent → Answer
 unchanged reply = record { reply = reply; made = None }
 
--- a reply that stops the request, or what comes behind it
-abbrev pub Behind : Option Sent → Answer → Type 0 → Type 0
-Behind None a GoesOn = GoesOn
-Behind (Some reply) a GoesOn = a ≡ unchanged reply
-
 -- what the conditions of a request reply in its place, or what comes behind them: by the document's tag, if it is held, whether the resource
 -- is there, and whether the request reads (RFC 9110, section 13.2)
 abbrev pub BehindConditions : Request → Option ℕ → Bool → Bool → Answer → Type 0 → Type 0
-BehindConditions request tag exists reading a GoesOn = (stop : Option Sent) × IsStop request tag exists reading stop × Behind stop a GoesOn
+BehindConditions request tag exists reading a GoesOn = (stop : Option Sent) × IsStop request tag exists reading stop × MatchOption stop GoesOn (λ reply. a ≡ unchanged reply)
 
 -- ---- replies
 

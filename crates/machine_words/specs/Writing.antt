@@ -1,7 +1,8 @@
 -- Requests that write documents, and what they share with those that write nodes. RFC 4825, sections 8.2 (PUT) and 8.4 (DELETE), with the
 -- conflicts of section 11 and the entity tags of section 8.5; the order of the tests is this server's own.
-use Rattle.std.specs.Prelude.{◌≡◌, ℕ, Bool, true, false, List, [], ◌++◌, codes, is_some, Option, None, Some, Result, Ok, Err, MatchOption, if◌then◌else◌}
+use Rattle.std.specs.Prelude.{◌≡◌, ℕ, Bool, true, false, List, [], ◌++◌, codes, is_some, Option, None, Some, Result, option_map, MatchOption, MatchResult, if◌then◌else◌}
 use Rattle.std.specs.Bool.{MatchBool}
+use Rattle.std.specs.Option.{option_map_or}
 use Rattle.xml_tree.specs.PathTexts.{path_text}
 use Rattle.xml_tree.specs.Tree.{Tree}
 use Rattle.xml_tree.specs.Limits.{most_levels}
@@ -36,11 +37,6 @@ use Rattle.machine_words.specs.Resources.{version_of}
 
 -- ---- what stops a request that writes
 
--- the tag of a document, if it is held
-abbrev pub version_tag : Option (Tree × ℕ) → Option ℕ
-version_tag None = None
-version_tag (Some (t, tag)) = Some tag
-
 -- in a usage that stores no documents nothing is written
 abbrev pub IfStored : Option Usage → Request → Answer → (Usage → Type 0) → Type 0
 IfStored None request a Writes = a ≡ unchanged (plain 403 request.closes)
@@ -65,11 +61,6 @@ fault_conflict Invalid = conflicts.Schema
 fault_conflict Unformed = conflicts.Constraint
 fault_conflict (Repeated clash) = conflicts.Unique (clash_field clash)
 
--- a tree with a fault is a conflict; one without is answered so
-abbrev pub by_judgement : Option Fault → Bool → Answer → Answer
-by_judgement None closes answer = answer
-by_judgement (Some fault) closes answer = unchanged (conflict (fault_conflict fault) closes)
-
 -- ---- what the store makes of a change
 
 -- a service address that another document has is a conflict; the limits leave no room (RFC 4918, section 11.5)
@@ -77,16 +68,12 @@ abbrev pub refused : StoreRefusal → Bool → Sent
 refused (ServiceTaken clash) closes = conflict (conflicts.Unique (clash_field clash)) closes
 refused _ closes = plain 507 closes
 
--- a change that is refused, and one that is made, whose note the reply goes by
-abbrev pub store_answer : DocId → Bool → (Note → Sent) → Option StoreRefusal → Note → Answer
-store_answer id closes reply (Some refusal) note = unchanged (refused refusal closes)
-store_answer id closes reply None note = record { reply = reply note; made = Some (id, note) }
-
--- the answer to a change of a document, by the first reason against it
+-- the answer to a change of a document: it is refused by the first reason against it, or made, and the reply goes by its note
 abbrev pub change_answer : Stock → DocId → Change → Bool → (Note → Sent) → Answer
 change_answer c id change closes reply =
     let held = document_in held_name c.documents id in
-    store_answer id closes reply (against c id change held (act_of change)) (note_for c id change held)
+    let note = note_for c id change held in
+    option_map_or (λ refusal. unchanged (refused refusal closes)) (against c id change held (act_of change)) (record { reply = reply note; made = Some (id, note) })
 
 -- what is put is new, or takes the place of what was there; the document's new tag is the number of the change
 abbrev pub put_reply : Bool → Bool → Note → Sent
@@ -105,16 +92,15 @@ put_answer c id closes t =
     let exists = is_some (version_of c id) in
     change_answer c id (put_change exists t) closes (put_reply exists closes)
 
--- the answer to a text, which spells a tree, with its one judgement, or has a fault
-abbrev pub PutsText : Usage → Result Tree TextFault → Bool → (Tree → Answer) → Answer → Type 0
-PutsText usage (Err fault) closes answer a = a ≡ unchanged (conflict (text_conflict conflicts.NotWellFormed fault) closes)
-PutsText usage (Ok t) closes answer a =
-    (judgement : Option Fault) × Judged usage t judgement × (a ≡ by_judgement judgement closes (answer t))
-
--- the answer to a body, by the tree of at most `most_levels` levels that its text spells, or by the text's fault
+-- the answer to a body whose text spells a tree of at most `most_levels` levels, and the tree has a fault as a document of the usage, or
+-- none; or the text has a fault
 abbrev pub PutsSpelled : Usage → Request → (Tree → Answer) → Answer → Type 0
 PutsSpelled usage request answer a =
-    (read : Result Tree TextFault) × TextAnswer most_levels [] request.body read × PutsText usage read request.closes answer a
+    (read : Result Tree TextFault) × TextAnswer most_levels [] request.body read
+    × MatchResult read
+    (λ t. (judgement : Option Fault) × Judged usage t judgement
+    × (a ≡ option_map_or (λ fault. unchanged (conflict (fault_conflict fault) request.closes)) judgement (answer t)))
+    (λ fault. a ≡ unchanged (conflict (text_conflict conflicts.NotWellFormed fault) request.closes))
 
 -- the body is of the usage's media type
 abbrev pub PutsBody : Usage → Media → Request → (Tree → Answer) → Answer → Type 0
@@ -125,7 +111,7 @@ PutsBody usage media request answer a =
 
 abbrev pub PutsDocument : Stock → DocId → Usage → Request → Answer → Type 0
 PutsDocument c id usage request a =
-    BehindConditions request (version_tag (version_of c id)) (is_some (version_of c id)) false a
+    BehindConditions request (option_map (λ held. held.1) (version_of c id)) (is_some (version_of c id)) false a
     (PutsBody usage (document_media id.auid) request (put_answer c id request.closes) a)
 
 -- no document lies deeper than a home's own (RFC 4825, section 8.2.1)

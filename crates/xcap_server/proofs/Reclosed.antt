@@ -33,12 +33,12 @@ use Rattle.xcap_uri.specs.declared.target.Target.TheVariants.{Document, Node, De
 use Rattle.store_core.specs.Changing.{changing}
 use Rattle.store_core.specs.Held.{Stock}
 use Rattle.store_core.specs.declared.refusal.StoreRefusal.{StoreRefusal}
-use Rattle.machine_words.specs.Answers.{Answer, Behind, BehindConditions, Made, unchanged}
+use Rattle.machine_words.specs.Answers.{Answer, BehindConditions, Made, unchanged}
 use Rattle.machine_words.specs.Requests.{ByMethod, ByTarget, ByUser, Deletes, IsAnswer, Puts, auid_of, home_of, takes}
 use Rattle.machine_words.specs.Resources.{version_of}
 use Rattle.machine_words.specs.Fragments.{CutsNode, PutsAt, PutsElement, PutsFragment, PutsFrom, cut_reply, is_there, plan_answer}
-use Rattle.machine_words.specs.Writing.{IfStored, PutsBody, PutsDocument, PutsSpelled, PutsText, by_judgement, change_answer, deleted_reply, put_answer, put_change, put_reply, version_tag}
-use Rattle.machine_words.specs.inner.Cases.{DeletesDocumentIn, DeletesNodeIn, PutsElementText, PutsNodeIn, PutsValueText, IsAnswered}
+use Rattle.machine_words.specs.Writing.{IfStored, PutsBody, PutsDocument, PutsSpelled, change_answer, deleted_reply, put_answer, put_change, put_reply}
+use Rattle.machine_words.specs.inner.Cases.{DeletesDocumentIn, DeletesNodeIn, PutsElementText, PutsNodeIn, PutsValueText, IsAnswered, PutsText, by_judgement, version_tag, Behind}
 use Rattle.machine_words.proofs.Accepted.{stopped_never}
 use Rattle.machine_words.proofs.Changed.{as_the_store, told_by_store}
 

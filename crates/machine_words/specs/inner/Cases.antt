@@ -1,7 +1,8 @@
 -- What a request is answered, case by case: by what its target means, by the version of the document that is held, and by what a text
 -- spells.
-use Rattle.std.specs.Prelude.{◌≡◌, ℕ, true, false, List, Option, Some, Result, MatchOption, MatchResult}
+use Rattle.std.specs.Prelude.{◌≡◌, ℕ, Bool, true, false, List, Option, Some, Result, option_map, MatchOption, MatchResult}
 use Rattle.std.specs.Bool.{MatchBool}
+use Rattle.std.specs.Option.{option_map_or}
 use Rattle.store_core.specs.Held.{Stock}
 use Rattle.xml_tree.specs.Tree.{Tree}
 use Rattle.tree_text.specs.declared.fault.TextFault.{TextFault}
@@ -17,8 +18,12 @@ use Rattle.plan_words.specs.declared.refusal.EditRefusal.{EditRefusal}
 use Rattle.plan_words.specs.Attributes.{IsAttrPlan}
 use Rattle.plan_words.specs.Puts.{IsPutPlan}
 use Rattle.plan_words.specs.Spots.{IsSpot}
+use Rattle.usage_docs.specs.Judging.{Judged}
+use Rattle.usage_docs.specs.declared.judging.Fault.{Fault}
+use Rattle.notes.specs.Notes.{Note}
+use Rattle.store_core.specs.declared.refusal.StoreRefusal.{StoreRefusal}
 use Rattle.conflict_docs.specs.declared.conflicts.ErrorBody.TheVariants as conflicts
-use Rattle.reply_text.specs.Heads.{plain}
+use Rattle.reply_text.specs.Heads.{Sent, plain}
 use Rattle.http_wire.specs.declared.request.Request.{Request}
 use Rattle.request_terms.specs.Methods.{method_of}
 use Rattle.xcap_uri.specs.declared.fault.UriFault.{UriFault}
@@ -26,12 +31,38 @@ use Rattle.xcap_uri.specs.declared.target.Target.{Target}
 use Rattle.machine_words.specs.Answers.{Answer, BehindConditions, unchanged, conflict}
 use Rattle.machine_words.specs.Fragments.{CutsNode, PutsFrom, is_there, put_planned, value_conflict}
 use Rattle.machine_words.specs.Requests.{ByTarget, fault_status}
-use Rattle.machine_words.specs.Writing.{change_answer, deleted_reply, puts_deeper, text_conflict}
+use Rattle.machine_words.specs.Writing.{change_answer, deleted_reply, fault_conflict, puts_deeper, refused, text_conflict}
 
 -- by the answer that its target has
 abbrev pub IsAnswered : List ℕ → Stock → Result Target UriFault → Request → Answer → Type 0
 IsAnswered root c read request a =
     MatchResult read (λ target. ByTarget root c target (method_of request.method) request a) (λ fault. a ≡ unchanged (plain (fault_status fault) request.closes))
+
+-- ---- what stops a request that writes
+
+-- a reply that stops the request, or what comes behind it
+abbrev pub Behind : Option Sent → Answer → Type 0 → Type 0
+Behind stop a GoesOn = MatchOption stop GoesOn (λ reply. a ≡ unchanged reply)
+
+-- the tag of a document, if it is held
+abbrev pub version_tag : Option (Tree × ℕ) → Option ℕ
+version_tag version = option_map (λ held. held.1) version
+
+-- a change that is refused, and one that is made, whose note the reply goes by
+abbrev pub store_answer : DocId → Bool → (Note → Sent) → Option StoreRefusal → Note → Answer
+store_answer id closes reply refusal note = option_map_or (λ why. unchanged (refused why closes)) refusal (record { reply = reply note; made = Some (id, note) })
+
+-- ---- PUT of a document
+
+-- a tree with a fault is a conflict; one without is answered so
+abbrev pub by_judgement : Option Fault → Bool → Answer → Answer
+by_judgement judgement closes answer = option_map_or (λ fault. unchanged (conflict (fault_conflict fault) closes)) judgement answer
+
+-- a text, which spells a tree, with its one judgement, or has a fault
+abbrev pub PutsText : Usage → Result Tree TextFault → Bool → (Tree → Answer) → Answer → Type 0
+PutsText usage read closes answer a =
+    MatchResult read (λ t. (judgement : Option Fault) × Judged usage t judgement × (a ≡ by_judgement judgement closes (answer t)))
+    (λ fault. a ≡ unchanged (conflict (text_conflict conflicts.NotWellFormed fault) closes))
 
 -- ---- PUT of a node
 
