@@ -4,7 +4,7 @@ use Rattle.std.specs.Prelude.{◌≡◌, ℕ, List, [], ◌∷◌, ◌⊎◌, Op
 use Rattle.xml_tree.specs.declared.names.Name.{Name}
 use Rattle.edit_ops.specs.Moves.{moved}
 use Rattle.edit_ops.specs.declared.change.Change.{Change}
-use Rattle.edit_ops.specs.declared.change.Change.TheVariants.{CreateDocument, Insert, Replace, Remove, SetAttr, DropAttr, RemoveDocument}
+use Rattle.edit_ops.specs.declared.change.Change.TheVariants.{Insert, Replace, Remove, SetAttr, DropAttr}
 use Rattle.notes.specs.Notes.{Note}
 use Rattle.key_laws.specs.KeyWrites.{LiesIn}
 
@@ -20,14 +20,14 @@ TouchesByAttr p q name = LiesIn p q ⊎ (LiesIn q p × (name.prefix ≡ []))
 --     it replaces or removes an element at it, above it or below it;
 --     it writes or drops an attribute at it or below it;
 --     it writes or drops an attribute without prefix above it
+-- None that makes or removes a document does.
 abbrev pub Touches : List ℕ → Change → Type 0
-Touches p (CreateDocument root) = ⊥
 Touches p (Insert parent gap element) = LiesIn p parent
 Touches p (Replace q element) = LiesIn p q ⊎ LiesIn q p
 Touches p (Remove q) = LiesIn p q ⊎ LiesIn q p
 Touches p (SetAttr q name value) = TouchesByAttr p q name
 Touches p (DropAttr q name) = TouchesByAttr p q name
-Touches p RemoveDocument = ⊥
+Touches p _ = ⊥
 
 -- the change moves the first path to the second, and doesn't touch it
 pub record Passes (p : List ℕ) (change : Change) (q : List ℕ) : Type 0 where

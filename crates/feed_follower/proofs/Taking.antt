@@ -1,6 +1,7 @@
 -- What is taken of a response, by what reading it answered.
 use Rattle.std.proofs.Common.{◌≡◌, ℕ, Bool, true, false, List, [], ◌∷◌, Option, None, Some, Result, Ok, Err, refl, sym, ap, subst}
 use Rattle.std.specs.Prelude.{if◌then◌else◌}
+use Rattle.std.specs.Result.{result_map_both}
 use Rattle.std.proofs.lemmas.Bool.{false≢true}
 use Rattle.xml_tree.specs.Tree.{Tree}
 use Rattle.tree_text.specs.Faults.{TextAnswer}
@@ -22,7 +23,7 @@ use Rattle.patch_apply.specs.declared.replica.Applied.{Applied}
 use Rattle.patch_apply.specs.declared.replica.Applied.TheVariants as answers
 use Rattle.patch_apply.specs.declared.replica.Held.{Held as Version}
 use Rattle.xcap_client.specs.declared.fault.ClientFault.{ClientFault}
-use Rattle.feed_follower.specs.Documents.{BringsVersion, TakesDocument, spells_a_document, spells_none, lacks_memory as reading_lacks_memory, version_told}
+use Rattle.feed_follower.specs.Documents.{BringsVersion, TakesDocument, spells_a_document, spells_none, lacks_memory as reading_lacks_memory}
 use Rattle.feed_follower.specs.Faults.{of_notice, of_text}
 use Rattle.feed_follower.specs.Feeds.{KeepsUnlessTold, TakesFeed, TakesNotice, applies, is_none, lacks_memory, outcome_of}
 use Rattle.feed_follower.specs.declared.fault.FollowerFault.{FollowerFault}
@@ -42,7 +43,7 @@ text_taken response tag bytes root tagged same answer =
     spells_a_document tag root tagged (subst (λ (b : List ℕ). TextAnswer 64 [] b (Ok root)) same answer) refl
 
 pub document_taken : (given : Result Response ClientFault) (response : Response) (version : Result Version FollowerFault) (result : Result (Option Version) FollowerFault)
-    → given ≡ Ok response → BringsVersion response version → result ≡ version_told version → TakesDocument given result
+    → given ≡ Ok response → BringsVersion response version → result ≡ result_map_both (λ held. Some held) (λ fault. fault) version → TakesDocument given result
 document_taken given response version result is brings told =
     subst (λ (g : Result Response ClientFault). TakesDocument g result) (sym is) (version, brings, told)
 

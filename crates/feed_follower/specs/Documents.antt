@@ -1,5 +1,6 @@
 -- What a follower makes of the answer to a GET of its document (RFC 4825, section 7.3; RFC 9110, section 15).
 use Rattle.std.specs.Prelude.{◌≡◌, ℕ, Bool, false, ◌==◌, List, [], Option, None, Some, Result, Ok, Err, if◌then◌else◌}
+use Rattle.std.specs.Result.{result_map_both}
 use Rattle.xcap_io.specs.Causes.{LineState}
 use Rattle.xml_tree.specs.Limits.{most_levels}
 use Rattle.xml_tree.specs.Tree.{Tree}
@@ -19,10 +20,8 @@ use Rattle.feed_follower.specs.declared.fault.FollowerFault.TheVariants.{BadTag,
 
 -- the response was refused with this status
 abbrev pub is_refused_with : ℕ → ClientFault → Bool
-is_refused_with status clients.PeerFault = false
 is_refused_with status (clients.Refused told name) = told == status
-is_refused_with status (clients.BadResponse fault) = false
-is_refused_with status clients.NoMemory = false
+is_refused_with status _ = false
 
 -- A response with a document has a tag, and its body spells the tree. That is told in this order; but memory may run out while the body is
 -- read.
@@ -34,14 +33,9 @@ pub data BringsVersion (response : Response) (result : Result Held FollowerFault
       → result ≡ Err (BadText fault) → BringsVersion response result
   lacks_memory : (tag : List ℕ) → response.tag ≡ Some tag → result ≡ Err NoMemory → BringsVersion response result
 
--- the version that was brought, where the document is there
-abbrev pub version_told : Result Held FollowerFault → Result (Option Held) FollowerFault
-version_told (Ok held) = Ok (Some held)
-version_told (Err fault) = Err fault
-
 -- what was answered: a response with the document; 404, by which there is none; or another fault
 abbrev pub TakesDocument : Result Response ClientFault → Result (Option Held) FollowerFault → Type 0
-TakesDocument (Ok response) result = (version : Result Held FollowerFault) × BringsVersion response version × (result ≡ version_told version)
+TakesDocument (Ok response) result = (version : Result Held FollowerFault) × BringsVersion response version × (result ≡ result_map_both (λ held. Some held) (λ fault. fault) version)
 TakesDocument (Err fault) result = result ≡ (if is_refused_with 404 fault then Ok None else Err (of_client fault))
 
 -- One call asked for the document, on a connection of its own.

@@ -11,9 +11,7 @@ use Rattle.feed_follower.specs.declared.fault.FollowerFault.TheVariants as fault
 
 abbrev pub of_client : ClientFault → FollowerFault
 of_client clients.NoMemory = faults.NoMemory
-of_client clients.PeerFault = faults.Client clients.PeerFault
-of_client (clients.Refused status name) = faults.Client (clients.Refused status name)
-of_client (clients.BadResponse fault) = faults.Client (clients.BadResponse fault)
+of_client fault = faults.Client fault
 
 abbrev pub of_text : ReadError TextFault → FollowerFault
 of_text (errors.Fault fault) = faults.BadText fault

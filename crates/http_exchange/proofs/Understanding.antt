@@ -20,7 +20,7 @@ use Rattle.http_wire.specs.Framing.{framing, lacks_host, coding_by, length_by}
 use Rattle.http_wire.specs.Items.{field_of, AsksWithLength}
 use Rattle.xcap_uri.specs.Roots.{IsRoot, path_of, authority_of, slash}
 use Rattle.http_exchange.specs.declared.request.Ask.{Ask}
-use Rattle.http_exchange.specs.Requests.{IsLawful, user_field, content_fields, fields_of, field_line, field_lines, request_line, target_of, head_bytes}
+use Rattle.http_exchange.specs.Requests.{IsLawful, user_field, content_fields, fields_of, field_line, request_line, target_of, head_bytes}
 use Rattle.http_exchange.specs.Understood.{is_plain_char, IsPlain, IsSendable, meant, IsUnderstood}
 use Rattle.http_exchange.proofs.Visible.{is_visible, passes, each_true, visible_utf8, visible_is_utf8, visible_in_target, visible_in_value, visible_trims, visible-append}
 use Rattle.http_exchange.proofs.RootLetters.{root_path_visible, root_authority_visible}
@@ -45,7 +45,7 @@ head_of method target fields = record {
 one_line : (name value : List ℕ) → print_field (tree (name, value)) ≡ field_line (name, value)
 one_line name value = simp append_assoc
 
-prints : (fields : List (List ℕ × List ℕ)) → flat_map print_field (map tree fields) ≡ field_lines fields
+prints : (fields : List (List ℕ × List ℕ)) → flat_map print_field (map tree fields) ≡ flat_map field_line fields
 prints [] = refl
 prints (f ∷ fields) =
     ap (λ (l : List ℕ). l ++ flat_map print_field (map tree fields)) (one_line f.0 f.1)
@@ -54,7 +54,7 @@ prints (f ∷ fields) =
 regroup : (m sp t http end rest : List ℕ) → (((m ++ (sp ++ t)) ++ (sp ++ http)) ++ end) ++ rest ≡ (m ++ (sp ++ (t ++ (sp ++ (http ++ end))))) ++ rest
 regroup m sp t http end rest = simp append_assoc
 
-prints_head : (method target : List ℕ) (fields : List (List ℕ × List ℕ)) → print_request (head_of method target fields) ≡ request_line method target ++ (field_lines fields ++ crlf_bytes)
+prints_head : (method target : List ℕ) (fields : List (List ℕ × List ℕ)) → print_request (head_of method target fields) ≡ request_line method target ++ (flat_map field_line fields ++ crlf_bytes)
 unfolding print_request
 prints_head method target fields =
     let lines : List ℕ = flat_map print_field (map tree fields) in

@@ -10,10 +10,6 @@ use Rattle.http_exchange.specs.declared.extents.Extent.{Extent}
 use Rattle.http_exchange.specs.declared.extents.Extent.TheVariants.{Empty, Exactly, ToEnd}
 use Rattle.http_exchange.specs.Limits.{most_response_body_bytes}
 
--- No Content and Not Modified come without a body
-abbrev pub is_bodiless : ℕ → Bool
-is_bodiless status = (status == 204) || (status == 304)
-
 -- the number that digits write, or the greatest of 64 bits where it is greater
 abbrev pub capped_value : List ℕ → ℕ
 capped_value digits = min (digits_value 10 digits) greatest_u64
@@ -24,18 +20,19 @@ within_limit n = if nat_lt most_response_body_bytes n then Err (TooLong n) else 
 
 -- By the values of `Content-Length`: without one the body goes to the end of the bytes; more than one, or one that is no
 -- number, is a fault, where a status has no body too.
-unfoldable pub length_by : Bool → List (List ℕ) → Result Extent ResponseFault
-length_by bodiless [] = if bodiless then Ok Empty else Ok ToEnd
-length_by bodiless (value ∷ []) =
+unfoldable pub extent_by_length : Bool → List (List ℕ) → Result Extent ResponseFault
+extent_by_length bodiless [] = if bodiless then Ok Empty else Ok ToEnd
+extent_by_length bodiless (value ∷ []) =
     if not (is_number value) then Err Length
     else if bodiless then Ok Empty else within_limit (capped_value value)
-length_by bodiless (value ∷ other ∷ more) = Err Length
+extent_by_length bodiless (value ∷ other ∷ more) = Err Length
 
--- By the status, and the names and values of the fields. No transfer coding is taken.
+-- By the status, and the names and values of the fields. No transfer coding is taken. No Content (204) and Not Modified (304) come without a
+-- body.
 unfoldable pub extent_by : ℕ → List (List ℕ × List ℕ) → Result Extent ResponseFault
 extent_by status fields =
     if nat_lt 0 (length (values_of (codes "transfer-encoding") fields)) then Err Coding
-    else length_by (is_bodiless status) (values_of (codes "content-length") fields)
+    else extent_by_length ((status == 204) || (status == 304)) (values_of (codes "content-length") fields)
 
 -- the body, where these are all bytes behind the head
 abbrev pub body_by : Extent → List ℕ → Result (List ℕ) ResponseFault

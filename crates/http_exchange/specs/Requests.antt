@@ -35,9 +35,6 @@ fields_of root ask =
 abbrev pub field_line : List ℕ × List ℕ → List ℕ
 field_line field = field.0 ++ (codes ": " ++ (field.1 ++ crlf_bytes))
 
-abbrev pub field_lines : List (List ℕ × List ℕ) → List ℕ
-field_lines fields = flat_map field_line fields
-
 -- request-line = method SP request-target SP "HTTP/1.1" CRLF
 abbrev pub request_line : List ℕ → List ℕ → List ℕ
 request_line method target = method ++ space ∷ (target ++ space ∷ (codes "HTTP/1.1" ++ crlf_bytes))
@@ -45,7 +42,7 @@ request_line method target = method ++ space ∷ (target ++ space ∷ (codes "HT
 -- the head of a request: the request line, the field lines and an empty line
 abbrev pub head_bytes : List ℕ → Ask → List ℕ
 head_bytes root ask =
-    request_line (encode_utf8_all ask.method) (target_of root ask) ++ (field_lines (fields_of root ask) ++ crlf_bytes)
+    request_line (encode_utf8_all ask.method) (target_of root ask) ++ (flat_map field_line (fields_of root ask) ++ crlf_bytes)
 
 -- the whole request
 abbrev pub request_bytes : List ℕ → Ask → List ℕ

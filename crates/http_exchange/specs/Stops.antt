@@ -24,21 +24,13 @@ CountsFault before now _ = now ≡ before
 
 -- What an answer says: where a read failed, that something lacks; where memory ran out, nothing; and else what it says itself.
 abbrev pub ByCause : {T : Type 0} → Result T ResponseFault → Type 0 → (Result T ResponseFault → Type 0) → Type 0
-ByCause (Ok x) Lacks Said = Said (Ok x)
 ByCause (Err faults.ReadFailed) Lacks Said = Lacks
 ByCause (Err faults.NoMemory) Lacks Said = Unit {0}
-ByCause (Err faults.Head) Lacks Said = Said (Err faults.Head)
-ByCause (Err faults.Coding) Lacks Said = Said (Err faults.Coding)
-ByCause (Err faults.Length) Lacks Said = Said (Err faults.Length)
-ByCause (Err (faults.TooLong n)) Lacks Said = Said (Err (faults.TooLong n))
-ByCause (Err (faults.Short have wanted)) Lacks Said = Said (Err (faults.Short have wanted))
+ByCause result Lacks Said = Said result
 
 -- the fault is one that the fields of a head show
 abbrev pub IsOfFields : ResponseFault → Type 0
 IsOfFields faults.Coding = Unit {0}
 IsOfFields faults.Length = Unit {0}
 IsOfFields (faults.TooLong n) = Unit {0}
-IsOfFields faults.ReadFailed = ⊥
-IsOfFields faults.NoMemory = ⊥
-IsOfFields faults.Head = ⊥
-IsOfFields (faults.Short have wanted) = ⊥
+IsOfFields _ = ⊥

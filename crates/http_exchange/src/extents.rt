@@ -4,7 +4,7 @@ ghost use Rattle.httparse.specs.Spans.{IsHeaderWithin, header_bytes};
 ghost use Rattle.http_wire.specs.Fields.{is_number};
 ghost use Rattle.http_wire.specs.Inflow.{Found};
 ghost use Rattle.http_exchange.specs.Stops.{IsOfFields};
-ghost use Rattle.http_exchange.specs.Extents.{capped_value, within_limit, length_by, extent_by};
+ghost use Rattle.http_exchange.specs.Extents.{capped_value, within_limit, extent_by_length, extent_by};
 
 use crate::ResponseFault;
 use http_wire::{Named, find};
@@ -53,9 +53,9 @@ fn within_limit(len: u64) -> Result<Extent, ResponseFault>
     Ok(Extent::Exactly(len as usize))
 }
 
-#[tactic(auto, unfolding(crate::specs::Extents::length_by))]
+#[tactic(auto, unfolding(crate::specs::Extents::extent_by_length))]
 fn length_once(bodiless: bool, value: &[u8]) -> Result<Extent, ResponseFault>
-    ensures extent_by_the_fields { result ≡ length_by bodiless (value.now ∷ []) }
+    ensures extent_by_the_fields { result ≡ extent_by_length bodiless (value.now ∷ []) }
     ensures fault_of_the_fields_alone { IfErr result IsOfFields }
 {
     match capped_number(value) {
@@ -65,10 +65,10 @@ fn length_once(bodiless: bool, value: &[u8]) -> Result<Extent, ResponseFault>
     }
 }
 
-#[tactic(auto, unfolding(crate::specs::Extents::length_by))]
+#[tactic(auto, unfolding(crate::specs::Extents::extent_by_length))]
 fn extent_by_length(bodiless: bool, lengths: Named) -> Result<Extent, ResponseFault>
     ensures fault_of_the_fields_alone { IfErr result IsOfFields }
-    ensures extent_by_the_fields { (values : List (List ℕ)) → Found lengths.entry values → result ≡ length_by bodiless values }
+    ensures extent_by_the_fields { (values : List (List ℕ)) → Found lengths.entry values → result ≡ extent_by_length bodiless values }
 {
     match lengths {
         Named::Absent if bodiless => Ok(Extent::Empty),

@@ -4,7 +4,7 @@ ghost use Rattle.std.specs.Option.{option_map_or};
 ghost use Rattle.xcap_io.specs.Adds.{Adds};
 ghost use Rattle.xcap_io.specs.Causes.{OnlyWrites};
 ghost use Rattle.xcap_io.specs.Streams.{WritesAll};
-ghost use Rattle.http_exchange.specs.Requests.{IsLawful, user_field, content_fields, field_lines, request_bytes};
+ghost use Rattle.http_exchange.specs.Requests.{IsLawful, user_field, content_fields, field_line, request_bytes};
 
 use itoa::Buffer;
 use xcap_io::{Bytes, Failed, Gatherer, Line, Sink, flush, put};
@@ -35,7 +35,7 @@ fn put_all<S: Sink>(sink: &mut S, gatherer: &mut Gatherer, pieces: &[&[u8]]) -> 
 
 // The pieces of the field that says who asks, if it is said.
 fn user_line(user: &Option<Text>) -> (&[u8], &[u8], &[u8])
-    ensures line_that_says_who_asks { result.0.now ++ (result.1.now ++ result.2.now) ≡ field_lines (option_map_or user_field user.now []) }
+    ensures line_that_says_who_asks { result.0.now ++ (result.1.now ++ result.2.now) ≡ flat_map field_line (option_map_or user_field user.now []) }
 {
     match user {
         Some(user) => (b"X-XCAP-User: ", user.as_str().as_bytes(), b"\r\n"),
@@ -50,7 +50,7 @@ fn content_lines<'a>(
 ) -> (&'a [u8], &'a [u8], &'a [u8], &'a [u8], &'a [u8])
     ensures lines_that_say_what_the_body_is { (body : List ℕ) → digits.now ≡ decimal (length body)
         → result.0.now ++ (result.1.now ++ (result.2.now ++ (result.3.now ++ result.4.now)))
-        ≡ field_lines (option_map_or (content_fields body) media.now []) }
+        ≡ flat_map field_line (option_map_or (content_fields body) media.now []) }
 {
     match media {
         Some(media) => (

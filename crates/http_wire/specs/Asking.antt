@@ -1,5 +1,5 @@
 -- What a call that asks for the next request answers, and what it leaves.
-use Rattle.std.specs.Prelude.{◌≡◌, ℕ, ◌+◌, Bool, true, false, ◌⊎◌, List, [], ◌++◌, Result, Ok, Err, MatchResult}
+use Rattle.std.specs.Prelude.{◌≡◌, ℕ, ◌+◌, Bool, true, false, ◌⊎◌, List, [], ◌++◌, Result, Ok, MatchResult}
 use Rattle.xcap_io.specs.Causes.{Inward}
 use Rattle.xcap_io.specs.Passing.{Gave, IsEnded}
 use Rattle.http_wire.specs.declared.request.Request.{Request}
@@ -44,9 +44,4 @@ pub record Asks {E : Type 0} (before : ℕ) (held : List ℕ) (source : Inward) 
 -- How the wire stands after an answer: it is spent, but after a request that doesn't close.
 abbrev pub StandsAfter : {E : Type 0} → WireState → Result Asked E → WireState → Type 0
 StandsAfter old (Ok (Requested request)) new = (new.requests ≡ old.requests + 1) × (new.spent ≡ request.closes)
-StandsAfter old (Ok Bad) new = (new.requests ≡ old.requests) × (new.spent ≡ true)
-StandsAfter old (Ok TooLong) new = (new.requests ≡ old.requests) × (new.spent ≡ true)
-StandsAfter old (Ok Coded) new = (new.requests ≡ old.requests) × (new.spent ≡ true)
-StandsAfter old (Ok End) new = (new.requests ≡ old.requests) × (new.spent ≡ true)
-StandsAfter old (Ok NoMemory) new = (new.requests ≡ old.requests) × (new.spent ≡ true)
-StandsAfter old (Err e) new = (new.requests ≡ old.requests) × (new.spent ≡ true)
+StandsAfter old _ new = (new.requests ≡ old.requests) × (new.spent ≡ true)

@@ -104,16 +104,12 @@ IsFirst before given ended item =
 -- what stands behind two first items, where it is looked at, is the same
 abbrev pub SameRest : Item → List ℕ → List ℕ → Type 0
 SameRest (asks request) rest other = rest ≡ other
-SameRest bad rest other = Unit {0}
-SameRest too_long rest other = Unit {0}
-SameRest coded rest other = Unit {0}
+SameRest _ rest other = Unit {0}
 
 -- the reply to the item ends the connection
 abbrev pub ends_connection : Item → Bool
 ends_connection (asks request) = request.closes
-ends_connection bad = true
-ends_connection too_long = true
-ends_connection coded = true
+ends_connection _ = true
 
 -- The talk of a connection's bytes, behind so many requests: the items one after the other, up to one that ends the
 -- connection, or to the end of the bytes.

@@ -98,9 +98,8 @@ HaveBytes all connections = ⊥
 -- what counts of a connection with these bytes that ended so: all of them, as if they had been given and the end been found;
 -- where a read failed, those given alone
 abbrev pub counted : Ending → List ℕ → Traffic → Traffic
-counted closed bytes passed = record passed { given = bytes; ended = true }
 counted read_failed bytes passed = passed
-counted write_failed bytes passed = record passed { given = bytes; ended = true }
+counted _ bytes passed = record passed { given = bytes; ended = true }
 
 -- the same of each of some connections
 abbrev pub counted_each : List Traffic → List (List ℕ) → List Ending → List Traffic
@@ -112,15 +111,13 @@ counted_each (passed ∷ connections) (bytes ∷ all) (ending ∷ endings) = cou
 -- how many connections ended that way
 abbrev pub read_failures : List Ending → ℕ
 read_failures [] = 0
-read_failures (closed ∷ endings) = read_failures endings
 read_failures (read_failed ∷ endings) = read_failures endings + 1
-read_failures (write_failed ∷ endings) = read_failures endings
+read_failures (_ ∷ endings) = read_failures endings
 
 abbrev pub write_failures : List Ending → ℕ
 write_failures [] = 0
-write_failures (closed ∷ endings) = write_failures endings
-write_failures (read_failed ∷ endings) = write_failures endings
 write_failures (write_failed ∷ endings) = write_failures endings + 1
+write_failures (_ ∷ endings) = write_failures endings
 
 -- All connections, where each failure is one of the reads or writes that failed.
 pub record ServesAll {M E : Type 0} (Step : M → Request → List ℕ → M → Option E → Type 0) (fixed : ℕ → List ℕ) (machine : M) (connections : List Traffic) (next : M) (edits : List E) (reads reads' writes writes' : ℕ) : Type 0 where

@@ -15,13 +15,10 @@ abbrev pub is_conflict : Tree → Bool
 is_conflict root =
     same_expanded (element_name (root.decls ∷ []) root.name) (record { uri = Some error_uri; local = codes "xcap-error" })
 
--- the local name of the first element in a conflict document
-abbrev pub error_in : Tree → Option (List ℕ)
-error_in root = if is_conflict root then option_map (λ kid. kid.name.local) (slice_get (kids_of root) 0) else None
-
--- what is named as wrong by bytes that are read so; bytes that are no document name nothing
+-- what is named as wrong by bytes that are read so: the local name of the first element in a conflict document; bytes that are no document
+-- name nothing
 abbrev pub error_told : Result Tree TextFault → Option (List ℕ)
-error_told (Ok root) = error_in root
+error_told (Ok root) = if is_conflict root then option_map (λ kid. kid.name.local) (slice_get (kids_of root) 0) else None
 error_told (Err fault) = None
 
 -- read as a document of at most `most_levels` levels, the body names this as wrong, or nothing

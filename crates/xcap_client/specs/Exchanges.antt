@@ -17,19 +17,15 @@ use Rattle.xcap_client.specs.declared.fault.ClientFault.TheVariants as faults
 use Rattle.xcap_client.specs.Addresses.{address_of}
 
 -- what the fault of a response makes of an exchange: a failed read is the peer's, and want of memory stays that
-abbrev pub fault_of : ResponseFault → ClientFault
-fault_of responses.ReadFailed = faults.PeerFault
-fault_of responses.NoMemory = faults.NoMemory
-fault_of responses.Head = faults.BadResponse responses.Head
-fault_of responses.Coding = faults.BadResponse responses.Coding
-fault_of responses.Length = faults.BadResponse responses.Length
-fault_of (responses.TooLong n) = faults.BadResponse (responses.TooLong n)
-fault_of (responses.Short have wanted) = faults.BadResponse (responses.Short have wanted)
+abbrev pub exchange_fault : ResponseFault → ClientFault
+exchange_fault responses.ReadFailed = faults.PeerFault
+exchange_fault responses.NoMemory = faults.NoMemory
+exchange_fault fault = faults.BadResponse fault
 
 -- the answer to what was read
 abbrev pub answer_to : Result Response ResponseFault → Result Response ClientFault
 answer_to (Ok response) = Ok response
-answer_to (Err fault) = Err (fault_of fault)
+answer_to (Err fault) = Err (exchange_fault fault)
 
 -- One exchange: memory ran out before it; or no connection began; or one at the root's address began, and a write failed, so
 -- that a proper prefix of the request was handed over; or the whole request was, and then the response was read.

@@ -2,7 +2,7 @@
 ghost use Rattle.std.specs.Prelude.{◌≡◌, [], ◌∷◌, chars, option_map, IfOk};
 ghost use Rattle.std.specs.Str.{bytes_eq};
 ghost use Rattle.xml_tree.specs.Scopes.{bound};
-ghost use Rattle.xcap_client.specs.Conflicts.{NamesError, error_in, error_uri, is_conflict};
+ghost use Rattle.xcap_client.specs.Conflicts.{NamesError, error_told, error_uri, is_conflict};
 
 use std::alloc::Global;
 use tree_text::read_document;
@@ -33,8 +33,9 @@ fn is_conflict(root: &Element) -> bool
     }
 }
 
+// What a document names as wrong, if it is a conflict document.
 fn error_in(alloc: Global, root: &Element) -> Result<Option<Text>, NoMemory>
-    ensures what_it_names { IfOk result (λ name. name ≡ error_in root.now) }
+    ensures what_it_names { IfOk result (λ name. name ≡ error_told (Ok root.now)) }
 {
     if !is_conflict(root) {
         return Ok(None);

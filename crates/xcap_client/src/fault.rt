@@ -1,7 +1,7 @@
 // Why a call of the client gave no response.
 ghost use Rattle.std.specs.Prelude.{◌≡◌};
 ghost use Rattle.xcap_client.specs.declared.fault.ClientFault.TheVariants as faults;
-ghost use Rattle.xcap_client.specs.Exchanges.{fault_of};
+ghost use Rattle.xcap_client.specs.Exchanges.{exchange_fault};
 
 use http_exchange::ResponseFault;
 use thiserror::Error;
@@ -42,7 +42,7 @@ impl From<Failed> for ClientFault {
 }
 
 impl From<ResponseFault> for ClientFault {
-    ghost from_gives = { λ response fault. fault ≡ fault_of response };
+    ghost from_gives = { λ response fault. fault ≡ exchange_fault response };
 
     fn from(fault: ResponseFault) -> Self {
         match fault {
