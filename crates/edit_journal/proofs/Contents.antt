@@ -1,11 +1,11 @@
 -- Records whose bytes may break off.
-use Rattle.std.proofs.Common.{◌≡◌, ℕ, ◌+◌, ◌-◌, ◌<◌, ◌≤◌, ◌⊎◌, inl, inr, false, List, [], ◌∷◌, ◌++◌, length, codes, None, Some, Result, Ok, Err, refl, sym, ap, ◌∙◌, subst, arith, append_assoc, length-append}
+use Rattle.std.proofs.Common.{◌≡◌, ℕ, ◌+◌, ◌-◌, ◌<◌, ◌≤◌, ◌⊎◌, inl, inr, false, List, [], ◌∷◌, ◌++◌, length, codes, None, Some, Result, Ok, Err, refl, sym, ap, ◌∙◌, subst, arith, append_assoc, length-append, flat_map}
 use Rattle.std.specs.Str.{chars}
 use Rattle.std.specs.Prelude.{slice_get}
 use Rattle.std.specs.Int.{w16, w32, to_be_bytes}
 use Rattle.http_wire.specs.declared.request.Field.{Field}
 use Rattle.http_wire.specs.declared.request.Request.{Request}
-use Rattle.edit_journal.specs.Records.{method_number, block, fields_text, content}
+use Rattle.edit_journal.specs.Records.{method_number, block, record_content, field_text}
 use Rattle.edit_journal.specs.declared.reading.Stop.{Stop}
 use Rattle.edit_journal.specs.declared.reading.Stop.TheVariants.{Open, Wrong, NoMemory}
 use Rattle.edit_journal.specs.inner.Reading.{Reads, Number, Block, Method, Rest, Content, Record}
@@ -44,17 +44,17 @@ request_with method target value = record { method = method; target = target; cl
 content_of : (len : ℕ) (bytes front target behind method : List ℕ) (value : List Field × List ℕ) → len ≤ 300000 → 5 + length target ≤ len → Method front method → bytes ≡ front ++ (block target ++ behind)
     → Rest (len - (5 + length target)) behind value → Content len bytes (request_with method target value)
 content_of len bytes front target behind method value fits within named split rest =
-    let is : bytes ≡ content (request_with method target value) = split ∙ ap (λ l. l ++ (block target ++ behind)) named.0 ∙ ap (λ l. method_number method ∷ (block target ++ l)) rest.is in
+    let is : bytes ≡ record_content (request_with method target value) = split ∙ ap (λ l. l ++ (block target ++ behind)) named.0 ∙ ap (λ l. method_number method ∷ (block target ++ l)) rest.is in
     let size : length bytes ≡ len = omega (arith, ap length split, length-append front (block target ++ behind), length-append (block target) behind, block_length target, ap length named.0, rest.size) in
     ((record { method = named.1; names = rest.names; few = rest.few; body = rest.body; short = omega (arith, ap length is, size) }, refl), is, size)
 
-rest_of_content : (len : ℕ) (all : List ℕ) (request : Request) → Content len all request → Rest (len - (5 + length request.target)) (to_be_bytes w16 (length request.fields) ++ (fields_text request.fields ++ block request.body)) (request.fields, request.body)
+rest_of_content : (len : ℕ) (all : List ℕ) (request : Request) → Content len all request → Rest (len - (5 + length request.target)) (to_be_bytes w16 (length request.fields) ++ (flat_map field_text request.fields ++ block request.body)) (request.fields, request.body)
 rest_of_content len all request is = record {
   is = refl;
   few = is.0.0.few;
   names = is.0.0.names;
   body = is.0.0.body;
-  size = omega (arith, content_length request, ap length is.1, is.2, length-append (fields_text request.fields) (block request.body), block_length request.body);
+  size = omega (arith, content_length request, ap length is.1, is.2, length-append (flat_map field_text request.fields) (block request.body), block_length request.body);
 }
 
 pub content_no_method : {B : Type 0} (seen : B → Request) (bytes : List ℕ) (len : ℕ) (stop : Stop) → 11 ≤ len → len ≤ 300000 → Reads (λ (l : List ℕ). l) Method bytes (Err stop) → Reads seen (Content len) bytes (Err stop)
@@ -69,7 +69,7 @@ content_no_method seen bytes len Open some fits (more, method, longer, named) =
     )
 content_no_method seen bytes len Wrong some fits wrong = λ all request more behind is e.
     wrong (method_number request.method ∷ []) request.method more
-    ((block request.target ++ (to_be_bytes w16 (length request.fields) ++ (fields_text request.fields ++ block request.body))) ++ behind) (refl, is.0.0.method) (e ∙ ap (λ l. l ++ behind) is.1)
+    ((block request.target ++ (to_be_bytes w16 (length request.fields) ++ (flat_map field_text request.fields ++ block request.body))) ++ behind) (refl, is.0.0.method) (e ∙ ap (λ l. l ++ behind) is.1)
 content_no_method seen bytes len NoMemory some fits none = tt
 
 pub content_no_target : {B C : Type 0} (seen : B → Request) (seen' : C → List ℕ) (bytes front tail method : List ℕ) (len : ℕ) (stop : Stop) → 11 ≤ len → len ≤ 300000 → bytes ≡ front ++ tail → Method front method
@@ -84,7 +84,7 @@ content_no_target seen seen' bytes front tail method len Open some fits split na
       content_of len (bytes ++ (more ++ rest.0)) front target rest.0 method rest.1 fits (omega arith) named joined rest.2,
     )
 content_no_target seen seen' bytes front tail method len Wrong some fits split named wrong = λ all request more behind is e.
-    let after = to_be_bytes w16 (length request.fields) ++ (fields_text request.fields ++ block request.body) in
+    let after = to_be_bytes w16 (length request.fields) ++ (flat_map field_text request.fields ++ block request.body) in
     let joined : front ++ (tail ++ more) ≡ (method_number request.method ∷ []) ++ ((block request.target ++ after) ++ behind) =
     sym (append_assoc front tail more) ∙ ap (λ l. l ++ more) (sym split) ∙ e ∙ ap (λ l. l ++ behind) is.1 in
     let next : tail ++ more ≡ (block request.target ++ after) ++ behind = second_part (method_number request.method ∷ []) ((block request.target ++ after) ++ behind) front (tail ++ more) (omega (arith, ap length named.0)) joined in
@@ -98,7 +98,7 @@ content_no_rest seen seen' bytes front tail method front' tail' target len Open 
     ap (λ l. l ++ more) split ∙ append_assoc front tail more ∙ ap (λ l. front ++ (l ++ more)) split' ∙ ap (λ l. front ++ l) (append_assoc front' tail' more) ∙ ap (λ l. front ++ (l ++ (tail' ++ more))) is.0 in
     (more, request_with method target value, longer, content_of len (bytes ++ more) front target (tail' ++ more) method value fits (omega (arith, is.2)) named joined rest)
 content_no_rest seen seen' bytes front tail method front' tail' target len Wrong some fits split named split' is wrong = λ all request more behind told e.
-    let after = to_be_bytes w16 (length request.fields) ++ (fields_text request.fields ++ block request.body) in
+    let after = to_be_bytes w16 (length request.fields) ++ (flat_map field_text request.fields ++ block request.body) in
     let joined : front ++ (tail ++ more) ≡ (method_number request.method ∷ []) ++ ((block request.target ++ after) ++ behind) =
     sym (append_assoc front tail more) ∙ ap (λ l. l ++ more) (sym split) ∙ e ∙ ap (λ l. l ++ behind) told.1 in
     let next : tail ++ more ≡ (block request.target ++ after) ++ behind = second_part (method_number request.method ∷ []) ((block request.target ++ after) ++ behind) front (tail ++ more) (omega (arith, ap length named.0)) joined in
@@ -137,8 +137,8 @@ record_no_number seen bytes Open (more, len, longer, (is, low, high)) =
     let rest = content_there len low high in
     (more ++ rest.0, rest.1, omega (arith, length-append more rest.0), record_with (bytes ++ (more ++ rest.0)) (bytes ++ more) rest.0 len rest.1 (sym (append_assoc bytes more rest.0)) is rest.2)
 record_no_number seen bytes Wrong wrong = λ all request more behind is e.
-    wrong (to_be_bytes w32 (length (content request))) (length (content request)) more (content request ++ behind) (refl, omega (arith, content_length request), is.0.0.short)
-    (e ∙ ap (λ l. l ++ behind) (is.1 ∙ block_is (content request)) ∙ append_assoc (to_be_bytes w32 (length (content request))) (content request) behind)
+    wrong (to_be_bytes w32 (length (record_content request))) (length (record_content request)) more (record_content request ++ behind) (refl, omega (arith, content_length request), is.0.0.short)
+    (e ∙ ap (λ l. l ++ behind) (is.1 ∙ block_is (record_content request)) ∙ append_assoc (to_be_bytes w32 (length (record_content request))) (record_content request) behind)
 record_no_number seen bytes NoMemory none = tt
 
 pub record_on : (bytes front tail : List ℕ) (len : ℕ) (result : Result Request Stop) → bytes ≡ front ++ tail → Number 11 300000 front len → Reads (λ (r : Request). r) (Content len) tail result → Reads (λ (r : Request). r) Record bytes result
@@ -147,12 +147,12 @@ record_on bytes front tail len (Ok request) split is (front', tail', split', tol
 record_on bytes front tail len (Err Open) split is (more, request, longer, told) =
     (more, request, longer, record_with (bytes ++ more) front (tail ++ more) len request (ap (λ l. l ++ more) split ∙ append_assoc front tail more) is.0 told)
 record_on bytes front tail len (Err Wrong) split is wrong = λ all request more behind told e.
-    let size = length (content request) in
-    let joined : front ++ (tail ++ more) ≡ to_be_bytes w32 size ++ (content request ++ behind) =
-    sym (append_assoc front tail more) ∙ ap (λ l. l ++ more) (sym split) ∙ e ∙ ap (λ l. l ++ behind) (told.1 ∙ block_is (content request)) ∙ append_assoc (to_be_bytes w32 size) (content request) behind in
+    let size = length (record_content request) in
+    let joined : front ++ (tail ++ more) ≡ to_be_bytes w32 size ++ (record_content request ++ behind) =
+    sym (append_assoc front tail more) ∙ ap (λ l. l ++ more) (sym split) ∙ e ∙ ap (λ l. l ++ behind) (told.1 ∙ block_is (record_content request)) ∙ append_assoc (to_be_bytes w32 size) (record_content request) behind in
     let four : length front ≡ 4 = ap length is.0 in
-    let number : len ≡ size = one_number len size (omega (arith, is.2)) (omega (arith, told.0.0.short)) (sym is.0 ∙ first_part (to_be_bytes w32 size) (content request ++ behind) front (tail ++ more) (omega arith) joined) in
-    wrong (content request) request more behind (told.0, refl, sym number) (second_part (to_be_bytes w32 size) (content request ++ behind) front (tail ++ more) (omega arith) joined)
+    let number : len ≡ size = one_number len size (omega (arith, is.2)) (omega (arith, told.0.0.short)) (sym is.0 ∙ first_part (to_be_bytes w32 size) (record_content request ++ behind) front (tail ++ more) (omega arith) joined) in
+    wrong (record_content request) request more behind (told.0, refl, sym number) (second_part (to_be_bytes w32 size) (record_content request ++ behind) front (tail ++ more) (omega arith) joined)
 record_on bytes front tail len (Err NoMemory) split is none = tt
 
 -- the first of some bytes

@@ -1,8 +1,8 @@
 -- Fields whose bytes may break off.
-use Rattle.std.proofs.Common.{◌≡◌, ℕ, zero, suc, ◌+◌, ◌*◌, ◌-◌, ◌<◌, ◌≤◌, ◌^◌, ◌==◌, if◌then◌else◌, true, List, [], ◌∷◌, ◌++◌, length, take, drop, All, OnOk, Result, Ok, Err, refl, sym, ap, ◌∙◌, subst, arith, append_assoc, length-append}
+use Rattle.std.proofs.Common.{◌≡◌, ℕ, zero, suc, ◌+◌, ◌*◌, ◌-◌, ◌<◌, ◌≤◌, ◌^◌, ◌==◌, if◌then◌else◌, true, List, [], ◌∷◌, ◌++◌, length, take, drop, All, OnOk, Result, Ok, Err, refl, sym, ap, ◌∙◌, subst, arith, append_assoc, length-append, flat_map}
 use Rattle.std.specs.Borrow.{Bor}
 use Rattle.http_wire.specs.declared.request.Field.{Field}
-use Rattle.edit_journal.specs.Records.{block, field_text, fields_text}
+use Rattle.edit_journal.specs.Records.{block, field_text}
 use Rattle.edit_journal.specs.declared.reading.Stop.{Stop}
 use Rattle.edit_journal.specs.declared.reading.Stop.TheVariants.{Open, Wrong, NoMemory}
 use Rattle.std.specs.Prelude.{replicate}
@@ -108,7 +108,7 @@ fields_there (suc count) left room =
       field_text field ++ rest.0,
       (field ∷ rest.1.0, rest.1.1),
       record {
-        is = ap (λ l. field_text field ++ l) rest.2.is ∙ sym (append_assoc (field_text field) (fields_text rest.1.0) (block rest.1.1));
+        is = ap (λ l. field_text field ++ l) rest.2.is ∙ sym (append_assoc (field_text field) (flat_map field_text rest.1.0) (block rest.1.1));
         fields = omega (arith, rest.2.fields);
         names = All-cons (λ (f : Field). IsToken f.name) field rest.1.0 token rest.2.names;
         body = rest.2.body;
@@ -117,33 +117,33 @@ fields_there (suc count) left room =
     )
 
 -- so many fields and a body have room in their bytes
-pub fields_least : (fields : List Field) → All (λ (f : Field). IsToken f.name) fields → 9 * length fields ≤ length (fields_text fields)
+pub fields_least : (fields : List Field) → All (λ (f : Field). IsToken f.name) fields → 9 * length fields ≤ length (flat_map field_text fields)
 fields_least [] names = omega arith
 fields_least (field ∷ fields) names =
     let first = All-head (λ (f : Field). IsToken f.name) field fields names in
-    omega (arith, fields_least fields (All-tail (λ (f : Field). IsToken f.name) field fields names), length-append (field_text field) (fields_text fields), field_length field, first.0)
+    omega (arith, fields_least fields (All-tail (λ (f : Field). IsToken f.name) field fields names), length-append (field_text field) (flat_map field_text fields), field_length field, first.0)
 
-body_only : (left : ℕ) (bytes : List ℕ) (fields : List Field) (body : List ℕ) → length fields ≡ 0 → bytes ≡ fields_text fields ++ block body → length bytes ≡ left → length body ≤ 262144 → left ≤ 262148
+body_only : (left : ℕ) (bytes : List ℕ) (fields : List Field) (body : List ℕ) → length fields ≡ 0 → bytes ≡ flat_map field_text fields ++ block body → length bytes ≡ left → length body ≤ 262144 → left ≤ 262148
 body_only left bytes [] body none is size short = omega (arith, ap length is, block_length body)
 body_only left bytes (f ∷ fields) body none is size short = absurd (omega arith)
 
 pub fields_room : (count left : ℕ) (bytes : List ℕ) (value : List Field × List ℕ) → FieldsAndBody count left bytes value → HasRoom count left
 fields_room count left bytes value is = (
-  omega (arith, fields_least value.0 is.names, is.fields, ap length is.is, length-append (fields_text value.0) (block value.1), block_length value.1, is.size),
+  omega (arith, fields_least value.0 is.names, is.fields, ap length is.is, length-append (flat_map field_text value.0) (block value.1), block_length value.1, is.size),
   λ none. body_only left bytes value.0 value.1 (is.fields ∙ none) is.is is.size is.body,
 )
 
-body_is : (bytes : List ℕ) (left : ℕ) (fields : List Field) (body : List ℕ) → length fields ≡ 0 → bytes ≡ fields_text fields ++ block body → bytes ≡ block body
+body_is : (bytes : List ℕ) (left : ℕ) (fields : List Field) (body : List ℕ) → length fields ≡ 0 → bytes ≡ flat_map field_text fields ++ block body → bytes ≡ block body
 body_is bytes left [] body none is = is
 body_is bytes left (f ∷ fields) body none is = absurd (omega arith)
 
 -- the first of the fields, and what stands behind it
-first_field : (others left : ℕ) (all : List ℕ) (fields : List Field) (body : List ℕ) → length fields ≡ suc others → all ≡ fields_text fields ++ block body
+first_field : (others left : ℕ) (all : List ℕ) (fields : List Field) (body : List ℕ) → length fields ≡ suc others → all ≡ flat_map field_text fields ++ block body
     → All (λ (f : Field). IsToken f.name) fields → length body ≤ 262144 → length all ≡ left → (field : Field) × (behind : List ℕ) × (all ≡ field_text field ++ behind) × FieldPart others left (field_text field) field
 first_field others left all [] body some is names short size = absurd (omega arith)
 first_field others left all (field ∷ fields) body some is names short size =
-    let behind = fields_text fields ++ block body in
-    let split : all ≡ field_text field ++ behind = is ∙ append_assoc (field_text field) (fields_text fields) (block body) in
+    let behind = flat_map field_text fields ++ block body in
+    let split : all ≡ field_text field ++ behind = is ∙ append_assoc (field_text field) (flat_map field_text fields) (block body) in
     let long = ap length split ∙ length-append (field_text field) behind in
     let count : length fields ≡ others = omega arith in
     let part : FieldsAndBody others (left - length (field_text field)) behind (fields, body) =
@@ -170,7 +170,7 @@ fields_no_field seen bytes others left Open (more, field, some, (is, token, with
       (field ∷ rest.1.0, rest.1.1),
       omega (arith, length-append more rest.0),
       record {
-        is = sym (append_assoc bytes more rest.0) ∙ ap (λ l. l ++ rest.0) is ∙ ap (λ l. field_text field ++ l) rest.2.is ∙ sym (append_assoc (field_text field) (fields_text rest.1.0) (block rest.1.1));
+        is = sym (append_assoc bytes more rest.0) ∙ ap (λ l. l ++ rest.0) is ∙ ap (λ l. field_text field ++ l) rest.2.is ∙ sym (append_assoc (field_text field) (flat_map field_text rest.1.0) (block rest.1.1));
         fields = omega (arith, rest.2.fields);
         names = All-cons (λ (f : Field). IsToken f.name) field rest.1.0 token rest.2.names;
         body = rest.2.body;
@@ -185,7 +185,7 @@ fields_no_field seen bytes others left NoMemory none = tt
 fields_both : (front front' : List ℕ) (field : Field) (value : List Field × List ℕ) (others left : ℕ) → FieldPart others left front field → FieldsAndBody others (left - length front) front' value
     → FieldsAndBody (suc others) left (front ++ front') (field ∷ value.0, value.1)
 fields_both front front' field value others left part is = record {
-  is = ap (λ l. l ++ front') part.0 ∙ ap (λ l. field_text field ++ l) is.is ∙ sym (append_assoc (field_text field) (fields_text value.0) (block value.1));
+  is = ap (λ l. l ++ front') part.0 ∙ ap (λ l. field_text field ++ l) is.is ∙ sym (append_assoc (field_text field) (flat_map field_text value.0) (block value.1));
   fields = omega (arith, is.fields);
   names = All-cons (λ (f : Field). IsToken f.name) field value.0 part.1 is.names;
   body = is.body;
@@ -202,12 +202,12 @@ one_field f g x y a b c d e =
 
 fields_apart : (front rest : List ℕ) (field : Field) (others left : ℕ) → FieldPart others left front field
     → ((all : List ℕ) (value : List Field × List ℕ) (more behind : List ℕ) → FieldsAndBody others (left - length front) all value → ¬ (rest ++ more ≡ all ++ behind))
-    → (all : List ℕ) (fields : List Field) (body more behind : List ℕ) → length fields ≡ suc others → all ≡ fields_text fields ++ block body
+    → (all : List ℕ) (fields : List Field) (body more behind : List ℕ) → length fields ≡ suc others → all ≡ flat_map field_text fields ++ block body
     → All (λ (f : Field). IsToken f.name) fields → length body ≤ 262144 → length all ≡ left → left ≤ 300000 → front ++ (rest ++ more) ≡ all ++ behind → ⊥
 fields_apart front rest field others left part wrong all [] body more behind some is names short size fits e = absurd (omega arith)
 fields_apart front rest field others left part wrong all (f ∷ fields) body more behind some is names short size fits e =
-    let tail = fields_text fields ++ block body in
-    let split : all ≡ field_text f ++ tail = is ∙ append_assoc (field_text f) (fields_text fields) (block body) in
+    let tail = flat_map field_text fields ++ block body in
+    let split : all ≡ field_text f ++ tail = is ∙ append_assoc (field_text f) (flat_map field_text fields) (block body) in
     let long = ap length split ∙ length-append (field_text f) tail in
     let mine = ap length part.0 ∙ field_length field in
     let its = field_length f in
@@ -260,7 +260,7 @@ body_whole fields count left front piece body none room is same =
     let nothing : drop (length fields) fields ≡ [] = drop_all (length fields) fields (omega arith) in
     let most = room.1 none in
     record {
-      is = is.0 ∙ ap block (sym same) ∙ ap (λ l. fields_text l ++ block body) (sym nothing);
+      is = is.0 ∙ ap block (sym same) ∙ ap (λ l. flat_map field_text l ++ block body) (sym nothing);
       fields = ap length nothing ∙ sym none;
       names = subst (All (λ (f : Field). IsToken f.name)) (sym nothing) (All-nil (λ (f : Field). IsToken f.name));
       body = omega (arith, ap length same, is.2);

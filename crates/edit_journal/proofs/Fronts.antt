@@ -1,7 +1,7 @@
 -- What was read at the front of some bytes, in the words of texts.
 use Rattle.std.proofs.Common.{◌≡◌, ℕ, ◌+◌, List, [], ◌++◌, length, Ok, Err, refl, sym, ap, ◌∙◌, arith, append-nil, append_assoc, length-append}
 use Rattle.http_wire.specs.declared.request.Request.{Request}
-use Rattle.edit_journal.specs.Records.{record_of, content}
+use Rattle.edit_journal.specs.Records.{record_of, record_content}
 use Rattle.edit_journal.specs.Texts.{BeginsWith, HasNoRecord, IsTorn, IsDamaged}
 use Rattle.edit_journal.specs.declared.reading.Stop.TheVariants.{Open, Wrong}
 use Rattle.edit_journal.specs.inner.Reading.{Reads, Record, worth}
@@ -14,8 +14,8 @@ use Rattle.edit_journal.proofs.Wholes.{no_record_in}
 -- the length of the record that stands at the front
 record_len_is : (request : Request) (bytes rest : List ℕ) → BeginsWith bytes request rest → 4 + worth bytes 0 ≡ length (record_of request)
 record_len_is request bytes rest (told, split) =
-    let number : worth bytes 0 ≡ length (content request) = number_there bytes (length (content request)) (content request ++ rest) (omega (arith, told.0.short))
-    (split ∙ ap (λ l. l ++ rest) (block_is (content request)) ∙ append_assoc (to_be_bytes w32 (length (content request))) (content request) rest) in
+    let number : worth bytes 0 ≡ length (record_content request) = number_there bytes (length (record_content request)) (record_content request ++ rest) (omega (arith, told.0.short))
+    (split ∙ ap (λ l. l ++ rest) (block_is (record_content request)) ∙ append_assoc (to_be_bytes w32 (length (record_content request))) (record_content request) rest) in
     omega (arith, record_length request)
 
 pub front_whole : (bytes : List ℕ) (request : Request) → Reads (λ (r : Request). r) Record bytes (Ok request)

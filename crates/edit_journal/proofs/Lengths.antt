@@ -1,7 +1,8 @@
 -- How long the parts of a record are.
-use Rattle.std.proofs.Common.{◌≡◌, ℕ, suc, ◌+◌, ◌<◌, ◌^◌, true, List, [], ◌∷◌, ◌++◌, length, take, get_or, All, refl, sym, ap, ◌∙◌, arith, append_assoc, append-nil, length-append}
+use Rattle.std.proofs.Common.{◌≡◌, ℕ, suc, ◌+◌, ◌<◌, ◌^◌, true, List, [], ◌∷◌, ◌++◌, length, take, get_or, flat_map, All, ap, ◌∙◌, arith, append-nil, length-append}
 use Rattle.std.proofs.Math.Seq.{take-suc}
 use Rattle.std.proofs.lemmas.Bool.Decides.{nat_tests}
+use Rattle.std.proofs.lemmas.List.Concat.{flat_map-append}
 use Rattle.std.proofs.lemmas.List.Elements.{All-head, All-tail, All-nil, All-cons}
 use Rattle.std.proofs.lemmas.Str.Ascii.{IsAscii-from_all}
 use Rattle.std.specs.Int.{w16, to_be_bytes}
@@ -9,7 +10,7 @@ use Rattle.std.specs.Str.{IsAscii}
 use Rattle.httparse.specs.Grammar.{IsToken, is_token_byte, AllPass}
 use Rattle.http_wire.specs.declared.request.Field.{Field}
 use Rattle.http_wire.specs.declared.request.Request.{Request}
-use Rattle.edit_journal.specs.Records.{block, field_text, fields_text, content, record_of}
+use Rattle.edit_journal.specs.Records.{block, field_text, record_content, record_of}
 use Rattle.edit_journal.specs.inner.Writing.{IsWritable}
 
 pub block_length : (bytes : List ℕ) → length (block bytes) ≡ 4 + length bytes
@@ -20,28 +21,24 @@ pub field_length : (field : Field) → length (field_text field) ≡ 8 + (length
 field_length field =
     omega (arith, length-append (block field.name) (block field.value), block_length field.name, block_length field.value)
 
-pub content_length : (request : Request) → length (content request) ≡ 11 + (length request.target + (length (fields_text request.fields) + length request.body))
+pub content_length : (request : Request) → length (record_content request) ≡ 11 + (length request.target + (length (flat_map field_text request.fields) + length request.body))
 content_length request =
     omega (
       arith,
-      length-append (block request.target) (to_be_bytes w16 (length request.fields) ++ (fields_text request.fields ++ block request.body)),
-      length-append (fields_text request.fields) (block request.body),
+      length-append (block request.target) (to_be_bytes w16 (length request.fields) ++ (flat_map field_text request.fields ++ block request.body)),
+      length-append (flat_map field_text request.fields) (block request.body),
       block_length request.target,
       block_length request.body,
     )
 
-pub record_length : (request : Request) → length (record_of request) ≡ 4 + length (content request)
-record_length request = block_length (content request)
-
-pub fields-append : (xs ys : List Field) → fields_text (xs ++ ys) ≡ fields_text xs ++ fields_text ys
-fields-append [] ys = refl
-fields-append (x ∷ xs) ys = ap (λ l. field_text x ++ l) (fields-append xs ys) ∙ sym (append_assoc (field_text x) (fields_text xs) (fields_text ys))
+pub record_length : (request : Request) → length (record_of request) ≡ 4 + length (record_content request)
+record_length request = block_length (record_content request)
 
 -- one field more
-pub fields_more : (fields : List Field) (i : ℕ) (d : Field) → i < length fields → fields_text (take (i + 1) fields) ≡ fields_text (take i fields) ++ field_text (get_or fields i d)
+pub fields_more : (fields : List Field) (i : ℕ) (d : Field) → i < length fields → flat_map field_text (take (i + 1) fields) ≡ flat_map field_text (take i fields) ++ field_text (get_or fields i d)
 fields_more fields i d within =
     let on : i + 1 ≡ suc i = omega arith in
-    ap (λ n. fields_text (take n fields)) on ∙ ap fields_text (take-suc fields i d within) ∙ fields-append (take i fields) (get_or fields i d ∷ []) ∙ ap (λ l. fields_text (take i fields) ++ l) (append-nil (field_text (get_or fields i d)))
+    ap (λ n. flat_map field_text (take n fields)) on ∙ ap (flat_map field_text) (take-suc fields i d within) ∙ flat_map-append field_text (take i fields) (get_or fields i d ∷ []) ∙ ap (λ l. flat_map field_text (take i fields) ++ l) (append-nil (field_text (get_or fields i d)))
 
 -- a byte of a token is ASCII
 token_ascii : (b : ℕ) → is_token_byte b ≡ true → b < 128
@@ -52,10 +49,10 @@ name_ascii : (name : List ℕ) → AllPass is_token_byte name → IsAscii name
 name_ascii name h = IsAscii-from_all name (λ k d within. token_ascii (get_or name k d) (h k d within))
 
 -- fields of a record can be written
-pub fields_writable : (fields : List Field) → All (λ (field : Field). IsToken field.name) fields → length (fields_text fields) < 2 ^ 32 → All IsWritable fields
+pub fields_writable : (fields : List Field) → All (λ (field : Field). IsToken field.name) fields → length (flat_map field_text fields) < 2 ^ 32 → All IsWritable fields
 fields_writable [] tokens short = All-nil IsWritable
 fields_writable (field ∷ fields) tokens short =
-    let here : length (fields_text (field ∷ fields)) ≡ length (field_text field) + length (fields_text fields) = length-append (field_text field) (fields_text fields) in
+    let here : length (flat_map field_text (field ∷ fields)) ≡ length (field_text field) + length (flat_map field_text fields) = length-append (field_text field) (flat_map field_text fields) in
     let size = field_length field in
     All-cons IsWritable field fields
     (record {

@@ -1,9 +1,9 @@
 -- What stands behind the target of a record, where bytes may break off.
-use Rattle.std.proofs.Common.{◌≡◌, ℕ, ◌-◌, ◌/◌, ◌<◌, ◌≤◌, ◌^◌, nat_lt, min, true, false, Bool, if◌then◌else◌, List, ◌++◌, length, Result, Err, refl, sym, ap, ◌∙◌, subst, arith, append_assoc, length-append}
+use Rattle.std.proofs.Common.{◌≡◌, ℕ, ◌-◌, ◌/◌, ◌<◌, ◌≤◌, ◌^◌, nat_lt, min, true, false, Bool, if◌then◌else◌, List, ◌++◌, length, Result, Err, refl, sym, ap, ◌∙◌, subst, arith, append_assoc, length-append, flat_map}
 use Rattle.std.specs.Int.{w16, to_be_bytes, from_be_bytes}
 use Rattle.std.proofs.lemmas.Nat.{from_be_bytes-to_be_bytes_2}
 use Rattle.http_wire.specs.declared.request.Field.{Field}
-use Rattle.edit_journal.specs.Records.{block, fields_text}
+use Rattle.edit_journal.specs.Records.{block, field_text}
 use Rattle.edit_journal.specs.declared.reading.Stop.{Stop}
 use Rattle.edit_journal.specs.declared.reading.Stop.TheVariants.{Open, Wrong, NoMemory}
 use Rattle.edit_journal.specs.inner.Reading.{Reads, Short, FieldsAndBody, HasRoom, Rest}
@@ -32,7 +32,7 @@ rest_of left bytes front tail value count some few split is fields = record {
   size = omega (arith, ap length split, length-append front tail, ap length is, fields.size);
 }
 
-fields_of : (left : ℕ) (bytes : List ℕ) (value : List Field × List ℕ) → Rest left bytes value → FieldsAndBody (length value.0) (left - 2) (fields_text value.0 ++ block value.1) value
+fields_of : (left : ℕ) (bytes : List ℕ) (value : List Field × List ℕ) → Rest left bytes value → FieldsAndBody (length value.0) (left - 2) (flat_map field_text value.0 ++ block value.1) value
 fields_of left bytes value rest = record {
   is = refl;
   fields = refl;
@@ -55,9 +55,9 @@ rest_no_count seen bytes left Open some (more, count, longer, (is, low, high)) =
     )
 rest_no_count seen bytes left Wrong some wrong = λ all value more behind is e.
     let fields = fields_of left all value is in
-    let bounds = room_count (length value.0) left some is.few (fields_room (length value.0) (left - 2) (fields_text value.0 ++ block value.1) value fields) in
-    wrong (to_be_bytes w16 (length value.0)) (length value.0) more ((fields_text value.0 ++ block value.1) ++ behind) (refl, bounds.0, bounds.1)
-    (e ∙ ap (λ l. l ++ behind) is.is ∙ append_assoc (to_be_bytes w16 (length value.0)) (fields_text value.0 ++ block value.1) behind)
+    let bounds = room_count (length value.0) left some is.few (fields_room (length value.0) (left - 2) (flat_map field_text value.0 ++ block value.1) value fields) in
+    wrong (to_be_bytes w16 (length value.0)) (length value.0) more ((flat_map field_text value.0 ++ block value.1) ++ behind) (refl, bounds.0, bounds.1)
+    (e ∙ ap (λ l. l ++ behind) is.is ∙ append_assoc (to_be_bytes w16 (length value.0)) (flat_map field_text value.0 ++ block value.1) behind)
 rest_no_count seen bytes left NoMemory some none = tt
 
 pub rest_stops : {B C : Type 0} (seen : B → List Field × List ℕ) (seen' : C → List Field × List ℕ) (bytes front tail : List ℕ) (count left : ℕ) (stop : Stop) → 6 ≤ left → bytes ≡ front ++ tail
@@ -65,14 +65,14 @@ pub rest_stops : {B C : Type 0} (seen : B → List Field × List ℕ) (seen' : C
 rest_stops seen seen' bytes front tail count left Open some split is (more, value, longer, fields) =
     (more, value, longer, rest_of left (bytes ++ more) front (tail ++ more) value count some (omega (arith, is.2)) (ap (λ l. l ++ more) split ∙ append_assoc front tail more) is.0 fields)
 rest_stops seen seen' bytes front tail count left Wrong some split is wrong = λ all value more behind rest e.
-    let joined : front ++ (tail ++ more) ≡ to_be_bytes w16 (length value.0) ++ ((fields_text value.0 ++ block value.1) ++ behind) =
-    sym (append_assoc front tail more) ∙ ap (λ l. l ++ more) (sym split) ∙ e ∙ ap (λ l. l ++ behind) rest.is ∙ append_assoc (to_be_bytes w16 (length value.0)) (fields_text value.0 ++ block value.1) behind in
+    let joined : front ++ (tail ++ more) ≡ to_be_bytes w16 (length value.0) ++ ((flat_map field_text value.0 ++ block value.1) ++ behind) =
+    sym (append_assoc front tail more) ∙ ap (λ l. l ++ more) (sym split) ∙ e ∙ ap (λ l. l ++ behind) rest.is ∙ append_assoc (to_be_bytes w16 (length value.0)) (flat_map field_text value.0 ++ block value.1) behind in
     let two : length front ≡ 2 = ap length is.0 in
     let number : count ≡ length value.0 = one_short count (length value.0) (omega (arith, is.2)) (omega (arith, rest.few))
-    (sym is.0 ∙ first_part (to_be_bytes w16 (length value.0)) ((fields_text value.0 ++ block value.1) ++ behind) front (tail ++ more) (omega arith) joined) in
-    wrong (fields_text value.0 ++ block value.1) value more behind
-    (subst (λ n. FieldsAndBody n (left - 2) (fields_text value.0 ++ block value.1) value) (sym number) (fields_of left all value rest))
-    (second_part (to_be_bytes w16 (length value.0)) ((fields_text value.0 ++ block value.1) ++ behind) front (tail ++ more) (omega arith) joined)
+    (sym is.0 ∙ first_part (to_be_bytes w16 (length value.0)) ((flat_map field_text value.0 ++ block value.1) ++ behind) front (tail ++ more) (omega arith) joined) in
+    wrong (flat_map field_text value.0 ++ block value.1) value more behind
+    (subst (λ n. FieldsAndBody n (left - 2) (flat_map field_text value.0 ++ block value.1) value) (sym number) (fields_of left all value rest))
+    (second_part (to_be_bytes w16 (length value.0)) ((flat_map field_text value.0 ++ block value.1) ++ behind) front (tail ++ more) (omega arith) joined)
 rest_stops seen seen' bytes front tail count left NoMemory some split is none = tt
 
 pub rest_whole : (bytes front tail front' tail' : List ℕ) (count left : ℕ) (value : List Field × List ℕ) → 6 ≤ left → bytes ≡ front ++ tail

@@ -1,11 +1,11 @@
 -- What is whole at the front of some bytes is one list of requests.
-use Rattle.std.proofs.Common.{◌≡◌, ℕ, ◌<◌, ◌≤◌, ◌^◌, inl, inr, false, List, [], ◌∷◌, ◌++◌, length, take, drop, All, refl, sym, ap, ◌∙◌, arith, append-nil, append_assoc, length-append}
+use Rattle.std.proofs.Common.{◌≡◌, ℕ, ◌<◌, ◌≤◌, ◌^◌, inl, inr, false, List, [], ◌∷◌, ◌++◌, length, take, drop, All, refl, sym, ap, ◌∙◌, arith, append-nil, append_assoc, length-append, flat_map}
 use Rattle.std.proofs.lemmas.List.Elements.{All-head, All-tail, All-nil, All-cons}
 use Rattle.std.proofs.lemmas.Bool.{cases_lt}
 use Rattle.std.specs.Int.{w16, to_be_bytes}
 use Rattle.http_wire.specs.declared.request.Field.{Field}
 use Rattle.http_wire.specs.declared.request.Request.{Request}
-use Rattle.edit_journal.specs.Records.{method_number, block, field_text, fields_text, content, record_of}
+use Rattle.edit_journal.specs.Records.{method_number, block, field_text, record_content, record_of}
 use Rattle.edit_journal.specs.Texts.{text, IsTold, HasNoRecord, IsTorn, OneWhole, PrefixesHoldFirstOnes}
 use Rattle.httparse.specs.Grammar.{IsToken}
 use Rattle.edit_journal.proofs.Blocks.{first_part, second_part, one_block}
@@ -31,32 +31,32 @@ one_method a b some same = elim (one_or_two a some) [
   | inr two ↦ delete_is a two ∙ sym (delete_is b (sym same ∙ two))
 ]
 
-one_fields : (fs gs : List Field) (x y : List ℕ) → length fs ≡ length gs → length (fields_text fs) < 2 ^ 32 → length (fields_text gs) < 2 ^ 32 → fields_text fs ++ x ≡ fields_text gs ++ y → (fs ≡ gs) × (x ≡ y)
+one_fields : (fs gs : List Field) (x y : List ℕ) → length fs ≡ length gs → length (flat_map field_text fs) < 2 ^ 32 → length (flat_map field_text gs) < 2 ^ 32 → flat_map field_text fs ++ x ≡ flat_map field_text gs ++ y → (fs ≡ gs) × (x ≡ y)
 one_fields [] [] x y same a b e = (refl, e)
 one_fields [] (g ∷ gs) x y same a b e = absurd (omega arith)
 one_fields (f ∷ fs) [] x y same a b e = absurd (omega arith)
 one_fields (f ∷ fs) (g ∷ gs) x y same a b e =
-    let long = length-append (field_text f) (fields_text fs) in
-    let long' = length-append (field_text g) (fields_text gs) in
+    let long = length-append (field_text f) (flat_map field_text fs) in
+    let long' = length-append (field_text g) (flat_map field_text gs) in
     let size = field_length f in
     let size' = field_length g in
-    let first = one_block f.name g.name (block f.value ++ (fields_text fs ++ x)) (block g.value ++ (fields_text gs ++ y)) (omega arith) (omega arith)
-    (sym (append_assoc (block f.name) (block f.value) (fields_text fs ++ x)) ∙ sym (append_assoc (field_text f) (fields_text fs) x) ∙ e ∙ append_assoc (field_text g) (fields_text gs) y ∙ append_assoc (block g.name) (block g.value) (fields_text gs ++ y)) in
-    let next = one_block f.value g.value (fields_text fs ++ x) (fields_text gs ++ y) (omega arith) (omega arith) first.1 in
+    let first = one_block f.name g.name (block f.value ++ (flat_map field_text fs ++ x)) (block g.value ++ (flat_map field_text gs ++ y)) (omega arith) (omega arith)
+    (sym (append_assoc (block f.name) (block f.value) (flat_map field_text fs ++ x)) ∙ sym (append_assoc (field_text f) (flat_map field_text fs) x) ∙ e ∙ append_assoc (field_text g) (flat_map field_text gs) y ∙ append_assoc (block g.name) (block g.value) (flat_map field_text gs ++ y)) in
+    let next = one_block f.value g.value (flat_map field_text fs ++ x) (flat_map field_text gs ++ y) (omega arith) (omega arith) first.1 in
     let rest = one_fields fs gs x y (omega arith) (omega arith) (omega arith) next.1 in
     ((λ i. record { name = first.0 i; value = next.0 i } ∷ rest.0 i), rest.1)
 
-one_content : (a b : Request) → IsTold a → IsTold b → content a ≡ content b → a ≡ b
+one_content : (a b : Request) → IsTold a → IsTold b → record_content a ≡ record_content b → a ≡ b
 one_content a b told told' e =
     let size = content_length a in
     let size' = content_length b in
     let number : method_number a.method ≡ method_number b.method = cc in
-    let behind : block a.target ++ (to_be_bytes w16 (length a.fields) ++ (fields_text a.fields ++ block a.body)) ≡ block b.target ++ (to_be_bytes w16 (length b.fields) ++ (fields_text b.fields ++ block b.body)) = cc in
-    let target = one_block a.target b.target (to_be_bytes w16 (length a.fields) ++ (fields_text a.fields ++ block a.body)) (to_be_bytes w16 (length b.fields) ++ (fields_text b.fields ++ block b.body))
+    let behind : block a.target ++ (to_be_bytes w16 (length a.fields) ++ (flat_map field_text a.fields ++ block a.body)) ≡ block b.target ++ (to_be_bytes w16 (length b.fields) ++ (flat_map field_text b.fields ++ block b.body)) = cc in
+    let target = one_block a.target b.target (to_be_bytes w16 (length a.fields) ++ (flat_map field_text a.fields ++ block a.body)) (to_be_bytes w16 (length b.fields) ++ (flat_map field_text b.fields ++ block b.body))
     (omega (arith, told.0.short)) (omega (arith, told'.0.short)) behind in
     let count : length a.fields ≡ length b.fields = one_short (length a.fields) (length b.fields) (omega (arith, told.0.few)) (omega (arith, told'.0.few))
-    (first_part (to_be_bytes w16 (length b.fields)) (fields_text b.fields ++ block b.body) (to_be_bytes w16 (length a.fields)) (fields_text a.fields ++ block a.body) refl target.1) in
-    let rest = second_part (to_be_bytes w16 (length b.fields)) (fields_text b.fields ++ block b.body) (to_be_bytes w16 (length a.fields)) (fields_text a.fields ++ block a.body) refl target.1 in
+    (first_part (to_be_bytes w16 (length b.fields)) (flat_map field_text b.fields ++ block b.body) (to_be_bytes w16 (length a.fields)) (flat_map field_text a.fields ++ block a.body) refl target.1) in
+    let rest = second_part (to_be_bytes w16 (length b.fields)) (flat_map field_text b.fields ++ block b.body) (to_be_bytes w16 (length a.fields)) (flat_map field_text a.fields ++ block a.body) refl target.1 in
     let fields = one_fields a.fields b.fields (block a.body) (block b.body) count (omega (arith, told.0.short)) (omega (arith, told'.0.short)) rest in
     let body = one_block a.body b.body [] [] (omega (arith, told.0.body)) (omega (arith, told'.0.body)) (ap (λ l. l ++ []) fields.1) in
     λ i. record { method = one_method a.method b.method told.0.method number i; target = target.0 i; closes = (told.1 ∙ sym told'.1) i; fields = fields.0 i; body = body.0 i }
@@ -64,7 +64,7 @@ one_content a b told told' e =
 -- the bytes of a record tell the request
 pub one_record : (a b : Request) (x y : List ℕ) → IsTold a → IsTold b → record_of a ++ x ≡ record_of b ++ y → (a ≡ b) × (x ≡ y)
 one_record a b x y told told' e =
-    let same = one_block (content a) (content b) x y (omega (arith, told.0.short)) (omega (arith, told'.0.short)) e in
+    let same = one_block (record_content a) (record_content b) x y (omega (arith, told.0.short)) (omega (arith, told'.0.short)) e in
     (one_content a b told told' same.0, same.1)
 
 one_list : (bytes : List ℕ) (requests requests' : List Request) (rest rest' : List ℕ) → All IsTold requests → All IsTold requests' → HasNoRecord rest → HasNoRecord rest'

@@ -1,5 +1,5 @@
 -- The record of a request: what a journal keeps of a PUT or DELETE, so that it can be done again. This is the project's own.
-use Rattle.std.specs.Prelude.{ℕ, ◌<◌, ◌≤◌, if◌then◌else◌, false, List, [], ◌∷◌, ◌++◌, length, All, chars, codes}
+use Rattle.std.specs.Prelude.{ℕ, ◌<◌, ◌≤◌, if◌then◌else◌, false, List, ◌∷◌, ◌++◌, flat_map, length, All, chars, codes}
 use Rattle.std.specs.Int.{w16, w32, to_be_bytes}
 use Rattle.std.specs.Str.{bytes_eq}
 use Rattle.httparse.specs.Grammar.{IsToken}
@@ -22,18 +22,14 @@ block bytes = to_be_bytes w32 (length bytes) ++ bytes
 abbrev pub field_text : Field → List ℕ
 field_text field = block field.name ++ block field.value
 
-abbrev pub fields_text : List Field → List ℕ
-fields_text [] = []
-fields_text (field ∷ fields) = field_text field ++ fields_text fields
-
 -- the method, the target, the number of fields in two bytes, the fields and the body
-abbrev pub content : Request → List ℕ
-content request =
-    method_number request.method ∷ (block request.target ++ (to_be_bytes w16 (length request.fields) ++ (fields_text request.fields ++ block request.body)))
+abbrev pub record_content : Request → List ℕ
+record_content request =
+    method_number request.method ∷ (block request.target ++ (to_be_bytes w16 (length request.fields) ++ (flat_map field_text request.fields ++ block request.body)))
 
 -- The record of a request. Whether the connection ends after it isn't recorded.
 abbrev pub record_of : Request → List ℕ
-record_of request = block (content request)
+record_of request = block (record_content request)
 
 -- The request has a record: a PUT or DELETE within the bounds.
 pub record IsRecordable (request : Request) : Type 0 where
@@ -41,7 +37,7 @@ pub record IsRecordable (request : Request) : Type 0 where
   pub names : All (λ (field : Field). IsToken field.name) request.fields
   pub few : length request.fields ≤ most_field_lines
   pub body : length request.body ≤ most_body_bytes
-  pub short : length (content request) ≤ most_content_bytes
+  pub short : length (record_content request) ≤ most_content_bytes
 
 -- the request as its record tells it
 abbrev pub recorded : Request → Request

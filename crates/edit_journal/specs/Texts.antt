@@ -1,13 +1,12 @@
 -- The text of a journal, and which requests are whole in some bytes. This is the project's own.
-use Rattle.std.specs.Prelude.{◌≡◌, ℕ, ◌<◌, false, List, [], ◌∷◌, ◌++◌, length, All}
+use Rattle.std.specs.Prelude.{◌≡◌, ℕ, ◌<◌, false, List, ◌++◌, flat_map, length, All}
 use Rattle.http_wire.specs.declared.request.Request.{Request}
 use Rattle.edit_journal.specs.Journals.{IsFirstOf}
 use Rattle.edit_journal.specs.Records.{record_of, IsRecordable}
 
 -- the records of the requests, one after the other
 abbrev pub text : List Request → List ℕ
-text [] = []
-text (request ∷ requests) = record_of request ++ text requests
+text requests = flat_map record_of requests
 
 -- a request that a record tells: whether the connection ends after it isn't recorded, and reads as false
 abbrev pub IsTold : Request → Type 0

@@ -1,7 +1,7 @@
 // Records of requests, as they are written.
-ghost use Rattle.std.specs.Prelude.{◌≡◌, ◌<◌, ◌^◌, ◌++◌, length, All, IfOk, OnOk};
+ghost use Rattle.std.specs.Prelude.{◌≡◌, ◌<◌, ◌^◌, ◌++◌, length, All, IfOk, OnOk, flat_map};
 ghost use Rattle.std.specs.Int.{to_be_bytes};
-ghost use Rattle.edit_journal.specs.Records.{method_number, block, field_text, fields_text, content, record_of, IsRecordable};
+ghost use Rattle.edit_journal.specs.Records.{method_number, block, field_text, record_content, record_of, IsRecordable};
 ghost use Rattle.edit_journal.specs.inner.Writing.{IsWritable};
 
 use http_wire::{Field, Request};
@@ -43,7 +43,7 @@ fn put_field(made: &mut Bytes, field: &Field) -> Result<(), NoMemory>
 
 fn put_fields(made: &mut Bytes, fields: &[Field]) -> Result<(), NoMemory>
     requires { All IsWritable fields.now }
-    ensures adds_the_fields_behind { OnOk result (made.new ≡ made.old ++ fields_text fields.now) }
+    ensures adds_the_fields_behind { OnOk result (made.new ≡ made.old ++ flat_map field_text fields.now) }
 {
     'fields: for field in fields {
         put_field(made, field)?;
@@ -53,7 +53,7 @@ fn put_fields(made: &mut Bytes, fields: &[Field]) -> Result<(), NoMemory>
 
 fn content_of(alloc: Global, request: &Request) -> Result<Bytes, NoMemory>
     requires { IsRecordable request.now }
-    ensures writes_the_content { IfOk result (λ bytes. bytes ≡ content request.now) }
+    ensures writes_the_content { IfOk result (λ bytes. bytes ≡ record_content request.now) }
 {
     let mut bytes = Bytes::new(alloc);
     bytes.push(method_number(&request.method))?;

@@ -17,7 +17,7 @@ use Rattle.http_wire.specs.Framing.{coding_by, framing, length_by}
 use Rattle.http_wire.specs.Heads.{BeginsWithHead}
 use Rattle.http_wire.specs.Chunked.{chunk_data}
 use Rattle.http_wire.specs.Items.{AsksFor, field_of, request_of}
-use Rattle.edit_journal.specs.Records.{IsRecordable, field_text, fields_text, method_number}
+use Rattle.edit_journal.specs.Records.{IsRecordable, field_text, method_number}
 use Rattle.edit_journal.proofs.Lengths.{content_length, field_length}
 use Rattle.http_serve.specs.Reading.{IsRead}
 use Rattle.logged_serve.specs.Logging.{IsLoggable}
@@ -45,11 +45,11 @@ sent_fields fields = map field_of (map name_and_value fields)
 line_size : (name raw end : List ℕ) (b : ℕ) → length ((name ++ b ∷ raw) ++ end) ≡ length name + (1 + (length raw + length end))
 line_size name raw end b = omega (arith, length-append (name ++ b ∷ raw) end, length-append name (b ∷ raw))
 
-fields_size : (fields : List Field) → length (fields_text (sent_fields fields)) ≤ 8 * length fields + length (flat_map print_field fields)
+fields_size : (fields : List Field) → length (flat_map field_text (sent_fields fields)) ≤ 8 * length fields + length (flat_map print_field fields)
 fields_size [] = omega arith
 fields_size (f ∷ fields) =
     let here : SentField = field_of (name_and_value f) in
-    let text : length (fields_text (sent_fields (f ∷ fields))) ≡ length (field_text here) + length (fields_text (sent_fields fields)) = length-append (field_text here) (fields_text (sent_fields fields)) in
+    let text : length (flat_map field_text (sent_fields (f ∷ fields))) ≡ length (field_text here) + length (flat_map field_text (sent_fields fields)) = length-append (field_text here) (flat_map field_text (sent_fields fields)) in
     let field : length (field_text here) ≡ 8 + (length f.name + length (trim_ows f.raw)) = field_length here in
     let sent : length (flat_map print_field (f ∷ fields)) ≡ length (print_field f) + length (flat_map print_field fields) = length-append (print_field f) (flat_map print_field fields) in
     omega (arith, text, field, sent, line_size f.name f.raw (print_end f.end) colon, trim_shorter f.raw, fields_size fields)

@@ -1,11 +1,11 @@
 -- Reading from left to right, where the bytes may break off. This is the project's own.
-use Rattle.std.specs.Prelude.{◌≡◌, ℕ, ◌+◌, ◌*◌, ◌-◌, ◌<◌, ◌≤◌, List, [], ◌∷◌, ◌++◌, length, slice_index_or, All, Result, Ok, Err}
+use Rattle.std.specs.Prelude.{◌≡◌, ℕ, ◌+◌, ◌*◌, ◌-◌, ◌<◌, ◌≤◌, List, [], ◌∷◌, ◌++◌, length, slice_index_or, All, Result, Ok, Err, flat_map}
 use Rattle.std.specs.Int.{w16, w32, to_be_bytes}
 use Rattle.httparse.specs.Grammar.{IsToken}
 use Rattle.http_wire.specs.declared.request.Field.{Field}
 use Rattle.http_wire.specs.declared.request.Request.{Request}
 use Rattle.http_wire.specs.Limits.{most_body_bytes, most_field_lines}
-use Rattle.edit_journal.specs.Records.{method_number, block, field_text, fields_text, content, record_of}
+use Rattle.edit_journal.specs.Records.{method_number, block, field_text, record_content, record_of}
 use Rattle.edit_journal.specs.Texts.{IsTold}
 use Rattle.edit_journal.specs.declared.reading.Stop.{Stop}
 use Rattle.edit_journal.specs.declared.reading.Stop.TheVariants.{Open, Wrong, NoMemory}
@@ -49,7 +49,7 @@ FieldPart others left bytes field = (bytes ≡ field_text field) × IsToken fiel
 
 -- so many fields and the body, in so many bytes
 pub record FieldsAndBody (count left : ℕ) (bytes : List ℕ) (value : List Field × List ℕ) : Type 0 where
-  pub is : bytes ≡ fields_text value.0 ++ block value.1
+  pub is : bytes ≡ flat_map field_text value.0 ++ block value.1
   pub fields : length value.0 ≡ count
   pub names : All (λ (field : Field). IsToken field.name) value.0
   pub body : length value.1 ≤ most_body_bytes
@@ -57,7 +57,7 @@ pub record FieldsAndBody (count left : ℕ) (bytes : List ℕ) (value : List Fie
 
 -- the number of fields, the fields and the body, in so many bytes
 pub record Rest (left : ℕ) (bytes : List ℕ) (value : List Field × List ℕ) : Type 0 where
-  pub is : bytes ≡ to_be_bytes w16 (length value.0) ++ (fields_text value.0 ++ block value.1)
+  pub is : bytes ≡ to_be_bytes w16 (length value.0) ++ (flat_map field_text value.0 ++ block value.1)
   pub few : length value.0 ≤ most_field_lines
   pub names : All (λ (field : Field). IsToken field.name) value.0
   pub body : length value.1 ≤ most_body_bytes
@@ -69,7 +69,7 @@ Method bytes value = (bytes ≡ method_number value ∷ []) × (0 < method_numbe
 
 -- what a record has behind its length
 abbrev pub Content : ℕ → List ℕ → Request → Type 0
-Content len bytes request = IsTold request × (bytes ≡ content request) × (length bytes ≡ len)
+Content len bytes request = IsTold request × (bytes ≡ record_content request) × (length bytes ≡ len)
 
 -- a record
 abbrev pub Record : List ℕ → Request → Type 0

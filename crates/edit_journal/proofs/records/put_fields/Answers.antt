@@ -1,6 +1,6 @@
-use Rattle.std.proofs.Common.{◌++◌, List, ℕ, take, ap, sym, ◌∙◌, append_assoc}
+use Rattle.std.proofs.Common.{◌++◌, List, ℕ, take, ap, sym, ◌∙◌, append_assoc, flat_map}
 use Rattle.http_wire.specs.declared.request.Field.{Field}
-use Rattle.edit_journal.specs.Records.{field_text, fields_text}
+use Rattle.edit_journal.specs.Records.{field_text}
 use Rattle.edit_journal.proofs.Lengths.{fields_more}
 use Rattle.edit_journal.proofs.records.put_fields.Goals as goal
 
@@ -9,7 +9,7 @@ fields-preserved c =
     let item = c.field-item.result in
     let fields = c.args.fields.now in
     let at = c.fields.field-index in
-    let before = fields_text (take at fields) in
+    let before = flat_map field_text (take at fields) in
     c.in_ok-put_field.ensures.adds_the_field_behind
     ∙ ap (λ (l : List ℕ). l ++ field_text item) c.fields.invariant
     ∙ append_assoc c.args.made.now before (field_text item)
