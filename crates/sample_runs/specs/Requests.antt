@@ -50,24 +50,13 @@ unfoldable pub delete_bytes : List ℕ → List ℕ → List ℕ
 delete_bytes user path =
     codes "DELETE " ++ (path ++ (codes " HTTP/1.1\r\nHost: xcap.example.com\r\nX-XCAP-User: " ++ (user ++ codes "\r\n\r\n")))
 
--- a user puts the document, or the entry of a round, or deletes the entry of a round
-abbrev pub puts_document : List ℕ → List ℕ
-puts_document user = put_bytes user (document_path user) (codes "application/resource-lists+xml") document_body
-
-abbrev pub puts_entry : List ℕ → ℕ → List ℕ
-puts_entry user round =
-    put_bytes user (entry_path (document_path user) (entry_uri round)) (codes "application/xcap-el+xml") (entry_body (entry_uri round))
-
-abbrev pub deletes_entry : List ℕ → ℕ → List ℕ
-deletes_entry user round = delete_bytes user (entry_path (document_path user) (entry_uri round))
-
 -- A user's request of a round. In round 0 the document is put. In each third round from there on the entry of the round before is
 -- deleted, and in each other one the entry of the round is put.
 abbrev pub bytes_in_round : List ℕ → ℕ → List ℕ
 bytes_in_round user round =
-    if round == 0 then puts_document user
-    else if round % 3 == 0 then deletes_entry user (round - 1)
-    else puts_entry user round
+    if round == 0 then put_bytes user (document_path user) (codes "application/resource-lists+xml") document_body
+    else if round % 3 == 0 then delete_bytes user (entry_path (document_path user) (entry_uri (round - 1)))
+    else put_bytes user (entry_path (document_path user) (entry_uri round)) (codes "application/xcap-el+xml") (entry_body (entry_uri round))
 
 -- The request of a number, counted from 0: a hundred users make one request each in every round.
 abbrev pub request_bytes : ℕ → List ℕ

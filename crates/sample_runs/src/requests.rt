@@ -1,6 +1,6 @@
 // The requests of a sample.
-ghost use Rattle.std.specs.Prelude.{◌≡◌, IfOk, string_bytes};
-ghost use Rattle.sample_runs.specs.Requests.{bytes_in_round, delete_bytes, deletes_entry, document_path, entry_body, entry_path, entry_uri, put_bytes, puts_document, puts_entry, request_bytes, user_name};
+ghost use Rattle.std.specs.Prelude.{◌≡◌, IfOk, codes, string_bytes};
+ghost use Rattle.sample_runs.specs.Requests.{bytes_in_round, delete_bytes, document_body, document_path, entry_body, entry_path, entry_uri, put_bytes, request_bytes, user_name};
 
 use std::alloc::{AllocError, Global};
 
@@ -68,7 +68,7 @@ fn delete(alloc: Global, user: &str, path: &str) -> Result<String, AllocError>
 // The user puts the document.
 #[tactic(auto, unfolding(crate::specs::Requests::document_body))]
 fn put_document(alloc: Global, user: &str) -> Result<String, AllocError>
-    ensures puts_the_document { IfOk result (λ text. string_bytes text ≡ puts_document user.now) }
+    ensures puts_the_document { IfOk result (λ text. string_bytes text ≡ put_bytes user.now (document_path user.now) (codes "application/resource-lists+xml") document_body) }
 {
     let path = document_path(alloc, user)?;
     put(
@@ -82,7 +82,8 @@ fn put_document(alloc: Global, user: &str) -> Result<String, AllocError>
 
 // The user puts the entry of the round.
 fn put_entry(alloc: Global, user: &str, round: u64) -> Result<String, AllocError>
-    ensures puts_the_entry { IfOk result (λ text. string_bytes text ≡ puts_entry user.now round) }
+    ensures puts_the_entry { IfOk result (λ text. string_bytes text
+        ≡ put_bytes user.now (entry_path (document_path user.now) (entry_uri round)) (codes "application/xcap-el+xml") (entry_body (entry_uri round))) }
 {
     let document = document_path(alloc, user)?;
     let uri = entry_uri(alloc, round)?;
@@ -99,7 +100,7 @@ fn put_entry(alloc: Global, user: &str, round: u64) -> Result<String, AllocError
 
 // The user deletes the entry of the round.
 fn delete_entry(alloc: Global, user: &str, round: u64) -> Result<String, AllocError>
-    ensures deletes_the_entry { IfOk result (λ text. string_bytes text ≡ deletes_entry user.now round) }
+    ensures deletes_the_entry { IfOk result (λ text. string_bytes text ≡ delete_bytes user.now (entry_path (document_path user.now) (entry_uri round))) }
 {
     let document = document_path(alloc, user)?;
     let uri = entry_uri(alloc, round)?;
