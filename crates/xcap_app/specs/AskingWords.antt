@@ -11,56 +11,52 @@ use Rattle.xcap_app.specs.declared.command.Command.{Command}
 use Rattle.xcap_app.specs.declared.command.Command.TheVariants.{Fetch, Put, Delete, Follow}
 
 -- a visible character of ASCII, from `!` (33) to `~` (126)
-abbrev pub is_visible : ℕ → Bool
-is_visible b = nat_le 33 b && nat_le b 126
+abbrev pub is_word_octet : ℕ → Bool
+is_word_octet b = nat_le 33 b && nat_le b 126
 
 -- USER, PATH, TYPE and DOCUMENT: one or more of them
 abbrev pub is_word : List ℕ → Bool
-is_word word = not (length word == 0) && list_all is_visible word
+is_word word = not (length word == 0) && list_all is_word_octet word
 
 -- such a word, as a text
-abbrev pub text_of : List ℕ → Option (List ℕ)
-text_of word = if is_word word then Some (chars word) else None
+abbrev pub word_text : List ℕ → Option (List ℕ)
+word_text word = if is_word word then Some (chars word) else None
 
 -- USER, where `-` is none
 abbrev pub user_of : List ℕ → Option (List ℕ)
 user_of word = if bytes_eq word (codes "-") then None else Some (chars word)
 
--- `http` stands before the first colon (58)
-abbrev pub begins_with_http : List ℕ → Bool
-begins_with_http text = bytes_eq (front_before 58 text) (codes "http")
-
--- it is the scheme of a root
-abbrev pub is_http : List ℕ → Bool
-is_http root = begins_with_http (encode_utf8_all root)
+-- the scheme of a root, what stands before its first colon (58), is `http`
+abbrev pub has_scheme_http : List ℕ → Bool
+has_scheme_http root = bytes_eq (front_before 58 (encode_utf8_all root)) (codes "http")
 
 -- ROOT, where its scheme is `http`
 abbrev pub http_root_of : List ℕ → Option (List ℕ)
-http_root_of word = option_and_then (λ r. if is_http r then Some r else None) (root_of word)
+http_root_of word = option_and_then (λ r. if has_scheme_http r then Some r else None) (root_of word)
 
 -- `USER ROOT`
 abbrev pub asker_of : List ℕ → List ℕ → Option Asker
 asker_of user root =
     if is_word user then option_map (λ r. record { user = user_of user; root = r }) (http_root_of root) else None
 
--- ROUNDS: a numeral of at most `GREATEST_ROUNDS`
-unfoldable pub rounds_of : List ℕ → Option ℕ
-rounds_of word = option_and_then (λ n. if nat_le n GREATEST_ROUNDS then Some n else None) (numeral_of word)
+-- a numeral of at most so much
+unfoldable pub numeral_up_to : ℕ → List ℕ → Option ℕ
+numeral_up_to most word = option_and_then (λ n. if nat_le n most then Some n else None) (numeral_of word)
 
 -- `fetch USER ROOT PATH`
 abbrev pub fetch_of : List ℕ → List ℕ → List ℕ → Option Command
-fetch_of user root path = option_and_then (λ asker. option_map (λ p. Fetch asker p) (text_of path)) (asker_of user root)
+fetch_of user root path = option_and_then (λ asker. option_map (λ p. Fetch asker p) (word_text path)) (asker_of user root)
 
 -- `delete USER ROOT PATH`
 abbrev pub delete_of : List ℕ → List ℕ → List ℕ → Option Command
-delete_of user root path = option_and_then (λ asker. option_map (λ p. Delete asker p) (text_of path)) (asker_of user root)
+delete_of user root path = option_and_then (λ asker. option_map (λ p. Delete asker p) (word_text path)) (asker_of user root)
 
 -- `put USER ROOT PATH TYPE`
 abbrev pub put_of : List ℕ → List ℕ → List ℕ → List ℕ → Option Command
 put_of user root path media =
-    option_and_then (λ asker. option_and_then (λ p. option_map (λ m. Put asker p m) (text_of media)) (text_of path)) (asker_of user root)
+    option_and_then (λ asker. option_and_then (λ p. option_map (λ m. Put asker p m) (word_text media)) (word_text path)) (asker_of user root)
 
--- `follow USER ROOT DOCUMENT ROUNDS`
+-- `follow USER ROOT DOCUMENT ROUNDS`, where ROUNDS is a numeral of at most `GREATEST_ROUNDS`
 abbrev pub follow_of : List ℕ → List ℕ → List ℕ → List ℕ → Option Command
 follow_of user root document rounds =
-    option_and_then (λ asker. option_and_then (λ d. option_map (λ n. Follow asker d n) (rounds_of rounds)) (text_of document)) (asker_of user root)
+    option_and_then (λ asker. option_and_then (λ d. option_map (λ n. Follow asker d n) (numeral_up_to GREATEST_ROUNDS rounds)) (word_text document)) (asker_of user root)

@@ -1,7 +1,9 @@
 // The words of the client's commands.
-ghost use Rattle.std.specs.Prelude.{◌≡◌, IfOk};
+ghost use Rattle.std.specs.Prelude.{◌≡◌, IfOk, codes};
 ghost use Rattle.std.specs.List.{list_all};
-ghost use Rattle.xcap_app.specs.AskingWords.{asker_of, begins_with_http, delete_of, fetch_of, follow_of, http_root_of, is_http, is_visible, is_word, put_of, rounds_of, text_of, user_of};
+ghost use Rattle.std.specs.Str.{bytes_eq};
+ghost use Rattle.xcap_uri.specs.Cuts.{front_before};
+ghost use Rattle.xcap_app.specs.AskingWords.{asker_of, delete_of, fetch_of, follow_of, has_scheme_http, http_root_of, is_word_octet, is_word, numeral_up_to, put_of, word_text, user_of};
 
 use crate::command::Command;
 use client_commands::Asker;
@@ -12,16 +14,16 @@ use xml_tree::Text;
 // The greatest ROUNDS.
 const GREATEST_ROUNDS: u64 = 1_000;
 
-fn is_visible(octet: u8) -> bool
-    ensures tells_whether_it_is_visible { result ≡ is_visible octet }
+fn is_word_octet(octet: u8) -> bool
+    ensures tells_whether_it_is_visible { result ≡ is_word_octet octet }
 {
     octet >= 0x21 && octet <= 0x7e
 }
 
 fn are_visible(octets: &[u8]) -> bool
-    ensures tells_whether_all_are { result ≡ list_all is_visible octets.now }
+    ensures tells_whether_all_are { result ≡ list_all is_word_octet octets.now }
 {
-    octets.iter().all(|octet| is_visible(*octet))
+    octets.iter().all(|octet| is_word_octet(*octet))
 }
 
 fn is_word(word: &str) -> bool
@@ -31,8 +33,8 @@ fn is_word(word: &str) -> bool
 }
 
 // A word, as a text.
-fn text_of(alloc: Global, word: &str) -> Result<Option<Text>, AllocError>
-    ensures reads_a_word { IfOk result (λ text. text ≡ text_of word.now) }
+fn word_text(alloc: Global, word: &str) -> Result<Option<Text>, AllocError>
+    ensures reads_a_word { IfOk result (λ text. text ≡ word_text word.now) }
 {
     if !is_word(word) {
         return Ok(None);
@@ -54,14 +56,14 @@ fn user_of(alloc: Global, word: &str) -> Result<Option<Text>, AllocError>
 
 // Whether `http` stands before the first colon.
 fn begins_with_http(text: &[u8]) -> bool
-    ensures tells_whether_it_does { result ≡ begins_with_http text.now }
+    ensures tells_whether_it_does { result ≡ bytes_eq (front_before 58 text.now) (codes "http") }
 {
     let (scheme, _) = cut(text, b':');
     scheme == b"http".as_slice()
 }
 
-fn is_http(root: &Root) -> bool
-    ensures tells_whether_its_scheme_is_http { result ≡ is_http root.now }
+fn has_scheme_http(root: &Root) -> bool
+    ensures tells_whether_its_scheme_is_http { result ≡ has_scheme_http root.now }
 {
     begins_with_http(root.text().as_bytes())
 }
@@ -71,7 +73,7 @@ fn http_root_of(alloc: Global, word: &str) -> Result<Option<Root>, AllocError>
     ensures reads_a_root { IfOk result (λ root. root ≡ http_root_of word.now) }
 {
     match read_root(alloc, word)? {
-        Some(root) if is_http(&root) => Ok(Some(root)),
+        Some(root) if has_scheme_http(&root) => Ok(Some(root)),
         _ => Ok(None),
     }
 }
@@ -91,9 +93,9 @@ fn asker_of(alloc: Global, user: &str, root: &str) -> Result<Option<Asker>, Allo
 }
 
 // The ROUNDS that a word is.
-#[tactic(auto, unfolding(crate::specs::AskingWords::rounds_of))]
+#[tactic(auto, unfolding(crate::specs::AskingWords::numeral_up_to))]
 fn rounds_of(word: &str) -> Option<u64>
-    ensures reads_the_rounds { result ≡ rounds_of word.now }
+    ensures reads_the_rounds { result ≡ numeral_up_to GREATEST_ROUNDS word.now }
 {
     let number = numeral(word.as_bytes())?;
     if number > GREATEST_ROUNDS {
@@ -114,7 +116,7 @@ pub(crate) fn fetch_of(
     let Some(asker) = asker_of(alloc, user, root)? else {
         return Ok(None);
     };
-    let Some(path) = text_of(alloc, path)? else {
+    let Some(path) = word_text(alloc, path)? else {
         return Ok(None);
     };
     Ok(Some(Command::Fetch { asker, path }))
@@ -132,7 +134,7 @@ pub(crate) fn delete_of(
     let Some(asker) = asker_of(alloc, user, root)? else {
         return Ok(None);
     };
-    let Some(path) = text_of(alloc, path)? else {
+    let Some(path) = word_text(alloc, path)? else {
         return Ok(None);
     };
     Ok(Some(Command::Delete { asker, path }))
@@ -151,10 +153,10 @@ pub(crate) fn put_of(
     let Some(asker) = asker_of(alloc, user, root)? else {
         return Ok(None);
     };
-    let Some(path) = text_of(alloc, path)? else {
+    let Some(path) = word_text(alloc, path)? else {
         return Ok(None);
     };
-    let Some(media) = text_of(alloc, media)? else {
+    let Some(media) = word_text(alloc, media)? else {
         return Ok(None);
     };
     Ok(Some(Command::Put { asker, path, media }))
@@ -173,7 +175,7 @@ pub(crate) fn follow_of(
     let Some(asker) = asker_of(alloc, user, root)? else {
         return Ok(None);
     };
-    let Some(document) = text_of(alloc, document)? else {
+    let Some(document) = word_text(alloc, document)? else {
         return Ok(None);
     };
     let Some(rounds) = rounds_of(rounds) else {

@@ -1,6 +1,8 @@
 // The words of the command line.
-ghost use Rattle.std.specs.Prelude.{◌≡◌, IfOk, map, string_bytes};
-ghost use Rattle.xcap_app.specs.Commands.{check_of, command_of, count_of, keep_of, of_five, of_four, of_two, replay_of, requests_of, sample_of, serve_of, service_of, usage_named};
+ghost use Rattle.std.specs.Prelude.{◌≡◌, IfOk, map, option_map, string_bytes};
+ghost use Rattle.xcap_uri.specs.Roots.{root_of};
+ghost use Rattle.xcap_app.specs.AskingWords.{numeral_up_to};
+ghost use Rattle.xcap_app.specs.Commands.{command_of, of_five, of_four, of_two, service_of, usage_named};
 
 use crate::asking_words::{delete_of, fetch_of, follow_of, put_of};
 use crate::command::Command;
@@ -13,9 +15,9 @@ use xml_tree::Text;
 const GREATEST_COUNT: u64 = 1_000_000;
 
 // The COUNT that a word is.
-#[tactic(auto, unfolding(crate::specs::Commands::count_of))]
+#[tactic(auto, unfolding(crate::specs::AskingWords::numeral_up_to))]
 fn count_of(word: &str) -> Option<u32>
-    ensures reads_the_count { result ≡ count_of word.now }
+    ensures reads_the_count { result ≡ numeral_up_to GREATEST_COUNT word.now }
 {
     let number = numeral(word.as_bytes())?;
     if number > GREATEST_COUNT {
@@ -28,9 +30,9 @@ fn count_of(word: &str) -> Option<u32>
 const GREATEST_SAMPLE: u64 = 100_000;
 
 // The N that a word is.
-#[tactic(auto, unfolding(crate::specs::Commands::requests_of))]
+#[tactic(auto, unfolding(crate::specs::AskingWords::numeral_up_to))]
 fn requests_of(word: &str) -> Option<u32>
-    ensures reads_the_number { result ≡ requests_of word.now }
+    ensures reads_the_number { result ≡ numeral_up_to GREATEST_SAMPLE word.now }
 {
     let number = numeral(word.as_bytes())?;
     if number > GREATEST_SAMPLE {
@@ -40,7 +42,7 @@ fn requests_of(word: &str) -> Option<u32>
 }
 
 // The usage that a word names.
-#[tactic(auto, unfolding(crate::specs::Commands::lists_word, crate::specs::Commands::services_word))]
+#[tactic(auto, unfolding(crate::specs::Commands::usage_named))]
 fn usage_of(word: &str) -> Option<Usage>
     ensures names_the_usage { result ≡ usage_named word.now }
 {
@@ -55,7 +57,7 @@ fn usage_of(word: &str) -> Option<Usage>
 
 // What `replay` and a word spell.
 fn replay_of(alloc: Global, root: &str) -> Result<Option<Command>, AllocError>
-    ensures reads_a_replay { IfOk result (λ command. command ≡ replay_of root.now) }
+    ensures reads_a_replay { IfOk result (λ command. command ≡ option_map (λ r. Command.Replay r) (root_of root.now)) }
 {
     match read_root(alloc, root)? {
         Some(root) => Ok(Some(Command::Replay { root })),
@@ -65,7 +67,7 @@ fn replay_of(alloc: Global, root: &str) -> Result<Option<Command>, AllocError>
 
 // What `check` and a word spell.
 fn check_of(word: &str) -> Option<Command>
-    ensures reads_a_check { result ≡ check_of word.now }
+    ensures reads_a_check { result ≡ option_map (λ usage. Command.Check usage) (usage_named word.now) }
 {
     let usage = usage_of(word)?;
     Some(Command::Check { usage })
@@ -73,7 +75,7 @@ fn check_of(word: &str) -> Option<Command>
 
 // What `sample` and a word spell.
 fn sample_of(word: &str) -> Option<Command>
-    ensures reads_a_sample { result ≡ sample_of word.now }
+    ensures reads_a_sample { result ≡ option_map (λ n. Command.Sample n) (numeral_up_to GREATEST_SAMPLE word.now) }
 {
     let requests = requests_of(word)?;
     Some(Command::Sample { requests })
@@ -120,7 +122,7 @@ fn serve_of(
     root: &str,
     count: &str,
 ) -> Result<Option<Command>, AllocError>
-    ensures reads_a_serve { IfOk result (λ command. command ≡ serve_of address.now root.now count.now) }
+    ensures reads_a_serve { IfOk result (λ command. command ≡ option_map (λ s. Command.Serve s.address s.root s.count) (service_of address.now root.now count.now)) }
 {
     match service_of(alloc, address, root, count)? {
         Some(
@@ -145,7 +147,7 @@ fn keep_of(
     root: &str,
     count: &str,
 ) -> Result<Option<Command>, AllocError>
-    ensures reads_a_keep { IfOk result (λ command. command ≡ keep_of address.now root.now count.now) }
+    ensures reads_a_keep { IfOk result (λ command. command ≡ option_map (λ s. Command.Keep s.address s.root s.count) (service_of address.now root.now count.now)) }
 {
     match service_of(alloc, address, root, count)? {
         Some(

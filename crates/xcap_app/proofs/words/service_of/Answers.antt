@@ -1,15 +1,21 @@
 use Rattle.std.proofs.Common.{◌≡◌, ℕ, false, List, [], ◌∷◌, length, Option, Some, ap, ◌∙◌}
-use Rattle.std.specs.Prelude.{chars, ◌==◌}
+use Rattle.std.specs.Prelude.{chars, option_and_then, option_map, ◌==◌}
 use Rattle.xcap_uri.specs.Roots.{root_of}
-use Rattle.xcap_app.specs.Commands.{count_of, served_at, service_of}
+use Rattle.xcap_app.specs.AskingWords.{numeral_up_to}
+use Rattle.xcap_app.specs.Commands.{service_of}
 use Rattle.xcap_app.specs.declared.words.Service.{Service}
+use Rattle.xcap_app.specs.declared.words.TheConstants.{GREATEST_COUNT}
 use Rattle.xcap_app.proofs.words.service_of.Goals as goal
 
 abbrev some_service : List ℕ → List ℕ → ℕ → Option Service
 some_service address root count = Some (record { address = address; root = root; count = count })
 
+-- the same of what may be there
+abbrev served_at : List ℕ → Option (List ℕ) → Option ℕ → Option Service
+served_at address root count = option_and_then (λ r. option_map (λ n. record { address = chars address; root = r; count = n }) count) root
+
 -- an address, where a root and a number are there
-service_there : (address root count a r : List ℕ) (n : ℕ) → false ≡ (length address == 0) → Some r ≡ root_of root → Some n ≡ count_of count → a ≡ chars address
+service_there : (address root count a r : List ℕ) (n : ℕ) → false ≡ (length address == 0) → Some r ≡ root_of root → Some n ≡ numeral_up_to GREATEST_COUNT count → a ≡ chars address
     → some_service a r n ≡ service_of address root count
 service_there [] root count a r n some is_root is_count is = absurd cc
 service_there (b ∷ bs) root count a r n some is_root is_count is =
@@ -22,6 +28,6 @@ returns c = record {
   reads_a_service =
       let some : false ≡ (length c.args.address.now == 0) = cc (c.is_empty.ensures, c.if-is_empty.false) in
       let is_root : Some c.in-Some-2.root ≡ root_of c.args.root.now = cc (c.in-Some-2.is, c.in_ok-root.ensures.reads_the_root) in
-      let is_count : Some c.in-Some.count ≡ count_of c.args.count.now = cc (c.in-Some.ensures.reads_the_count) in
+      let is_count : Some c.in-Some.count ≡ numeral_up_to GREATEST_COUNT c.args.count.now = cc (c.in-Some.ensures.reads_the_count) in
       service_there c.args.address.now c.args.root.now c.args.count.now c.in_ok-address.address c.in-Some-2.root c.in-Some.count some is_root is_count c.in_ok-address.ensures.copies_the_text;
 }
