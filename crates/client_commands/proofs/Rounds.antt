@@ -8,17 +8,17 @@ use Rattle.feed_follower.specs.States.{Following}
 use Rattle.feed_follower.specs.declared.feeds.Round.{Round}
 use Rattle.client_commands.specs.Endings.{Writes}
 use Rattle.client_commands.specs.Follows.{FollowsOn, RoundEnds, RoundMade, RoundsMade, WritesCopy, follows_to_the_end}
-use Rattle.client_commands.specs.Lines.{tag_line}
+use Rattle.client_commands.specs.Lines.{round_line}
 use Rattle.client_commands.specs.declared.ended.Ended.{Ended}
 use Rattle.client_commands.specs.declared.ended.Ended.TheVariants.{Done, InputFailed, OutputFailed, TooLarge, Failed, OutOfMemory}
 
 -- a round that went well, and its line
-pub line_written : (f f' : Following) (round : Round) (bytes : List ℕ) (peer peer' output output' : LineState) → Rounds f f' peer peer' (Ok round) → bytes ≡ tag_line f'.held
+pub line_written : (f f' : Following) (round : Round) (bytes : List ℕ) (peer peer' output output' : LineState) → Rounds f f' peer peer' (Ok round) → bytes ≡ round_line f'.held
     → TakesAll bytes output output' → RoundMade f f' peer peer' output output'
 line_written f f' round bytes peer peer' output output' rounds is takes =
     record { round = round; rounds = rounds; written = subst (λ (b : List ℕ). TakesAll b output output') is takes }
 
-pub line_ends : (f f' : Following) (round : Round) (bytes : List ℕ) (ended : Ended) (peer peer' output output' : LineState) → Rounds f f' peer peer' (Ok round) → bytes ≡ tag_line f'.held
+pub line_ends : (f f' : Following) (round : Round) (bytes : List ℕ) (ended : Ended) (peer peer' output output' : LineState) → Rounds f f' peer peer' (Ok round) → bytes ≡ round_line f'.held
     → Writes bytes ended output output' → (ended ≡ Done → ⊥) → RoundEnds f f' ended peer peer' output output'
 line_ends f f' round bytes Done peer peer' output output' rounds is writes other = other refl
 line_ends f f' round bytes InputFailed peer peer' output output' rounds is writes other = writes

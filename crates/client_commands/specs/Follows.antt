@@ -9,7 +9,7 @@ use Rattle.feed_follower.specs.Starts.{Starts}
 use Rattle.feed_follower.specs.States.{Following}
 use Rattle.feed_follower.specs.declared.fault.FollowerFault.{FollowerFault}
 use Rattle.feed_follower.specs.declared.feeds.Round.{Round}
-use Rattle.client_commands.specs.Lines.{copy_text, tag_line}
+use Rattle.client_commands.specs.Lines.{copy_text, round_line}
 use Rattle.client_commands.specs.declared.ended.Ended.{Ended}
 use Rattle.client_commands.specs.declared.ended.Ended.TheVariants.{Done, OutputFailed, Failed, OutOfMemory}
 
@@ -17,7 +17,7 @@ use Rattle.client_commands.specs.declared.ended.Ended.TheVariants.{Done, OutputF
 pub record RoundMade (f f' : Following) (peer peer' output output' : LineState) : Type 0 where
   pub round : Round
   pub rounds : Rounds f f' peer peer' (Ok round)
-  pub written : TakesAll (tag_line f'.held) output output'
+  pub written : TakesAll (round_line f'.held) output output'
 
 -- So many rounds were made, one after the other, and the output took their lines.
 abbrev pub RoundsMade : ℕ → Following → Following → LineState → LineState → LineState → LineState → Type 0
@@ -30,7 +30,7 @@ RoundsMade (suc n) f f' peer peer' output output' =
 -- line.
 abbrev pub RoundEnds : Following → Following → Ended → LineState → LineState → LineState → LineState → Type 0
 RoundEnds f f' OutputFailed peer peer' output output' =
-    (round : Round) × Rounds f f' peer peer' (Ok round) × TakesSome (tag_line f'.held) output output'
+    (round : Round) × Rounds f f' peer peer' (Ok round) × TakesSome (round_line f'.held) output output'
 RoundEnds f f' (Failed fault) peer peer' output output' = Rounds f f' peer peer' (Err fault) × (output' ≡ output)
 RoundEnds f f' OutOfMemory peer peer' output output' = (round : Round) × Rounds f f' peer peer' (Ok round) × (output' ≡ output)
 RoundEnds f f' _ peer peer' output output' = ⊥

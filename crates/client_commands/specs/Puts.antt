@@ -10,9 +10,9 @@ use Rattle.client_commands.specs.declared.ended.Ended.{Ended}
 use Rattle.client_commands.specs.declared.ended.Ended.TheVariants.{InputFailed, TooLarge, OutOfMemory}
 
 -- the input gave a text, which was put
-abbrev pub PutsText : List ℕ → Option (List ℕ) → List ℕ → List ℕ → Ended → LineState → LineState → LineState → LineState → LineState → LineState → Type 0
-PutsText root user path media ended peer peer' input input' output output' =
-    (text : List ℕ) × GaveText most_body_bytes text input input' × MakesOneCall root (putting user path media text) put_line ended peer peer' output output'
+abbrev pub PutsInput : List ℕ → Option (List ℕ) → List ℕ → List ℕ → Ended → LineState → LineState → LineState → LineState → LineState → LineState → Type 0
+PutsInput root user path media ended peer peer' input input' output output' =
+    (text : List ℕ) × GaveText most_body_bytes text input input' × MakesOneCall root (putting user path media text) (λ response. put_line response.status response.tag) ended peer peer' output output'
 
 -- nothing was asked, and nothing written
 abbrev pub AsksNothing : LineState → LineState → LineState → LineState → Type 0
@@ -25,5 +25,5 @@ Puts root user path media InputFailed peer peer' input input' output output' =
 Puts root user path media TooLarge peer peer' input input' output output' =
     ((front : List ℕ) × JustGave front input input' × (length front ≡ most_body_bytes + 1)) × AsksNothing peer peer' output output'
 Puts root user path media OutOfMemory peer peer' input input' output output' =
-    ((input' ≡ input) × AsksNothing peer peer' output output') ⊎ PutsText root user path media OutOfMemory peer peer' input input' output output'
-Puts root user path media ended peer peer' input input' output output' = PutsText root user path media ended peer peer' input input' output output'
+    ((input' ≡ input) × AsksNothing peer peer' output output') ⊎ PutsInput root user path media OutOfMemory peer peer' input input' output output'
+Puts root user path media ended peer peer' input input' output output' = PutsInput root user path media ended peer peer' input input' output output'

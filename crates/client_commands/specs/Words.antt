@@ -5,25 +5,21 @@ use Rattle.http_exchange.specs.declared.fault.ResponseFault.{ResponseFault}
 use Rattle.http_exchange.specs.declared.fault.ResponseFault.TheVariants as responses
 use Rattle.patch_apply.specs.declared.fault.ApplyFault.{ApplyFault}
 use Rattle.patch_apply.specs.declared.fault.ApplyFault.TheVariants as notices
-use Rattle.xcap_client.specs.declared.fault.ClientFault.{ClientFault}
 use Rattle.xcap_client.specs.declared.fault.ClientFault.TheVariants as clients
 use Rattle.feed_follower.specs.declared.fault.FollowerFault.{FollowerFault}
 use Rattle.feed_follower.specs.declared.fault.FollowerFault.TheVariants as faults
 
-abbrev pub client_status : ClientFault → ℕ
-client_status clients.PeerFault = 5
-client_status (clients.Refused status name) = 6
-client_status clients.NoMemory = 7
-client_status (clients.BadResponse fault) = 8
-
 -- the status
-abbrev pub status_of : FollowerFault → ℕ
-status_of (faults.Client fault) = client_status fault
-status_of (faults.BadNotice fault) = 6
-status_of (faults.Apply fault) = 6
-status_of faults.NoMemory = 7
-status_of faults.BadTag = 8
-status_of (faults.BadText fault) = 8
+abbrev pub status_of_fault : FollowerFault → ℕ
+status_of_fault (faults.Client clients.PeerFault) = 5
+status_of_fault (faults.Client (clients.Refused status name)) = 6
+status_of_fault (faults.Client clients.NoMemory) = 7
+status_of_fault (faults.Client (clients.BadResponse fault)) = 8
+status_of_fault (faults.BadNotice fault) = 6
+status_of_fault (faults.Apply fault) = 6
+status_of_fault faults.NoMemory = 7
+status_of_fault faults.BadTag = 8
+status_of_fault (faults.BadText fault) = 8
 
 -- why there is no response
 abbrev pub response_words : ResponseFault → List ℕ
@@ -35,40 +31,33 @@ response_words responses.Length = codes "bad response: length\n"
 response_words (responses.TooLong n) = codes "bad response: too-long " ++ (decimal n ++ codes "\n")
 response_words (responses.Short n m) = codes "bad response: short " ++ (decimal n ++ (codes " " ++ (decimal m ++ codes "\n")))
 
--- a status that is refused, and what a conflict document names
-abbrev pub refusal_words : ℕ → Option (List ℕ) → List ℕ
-refusal_words status None = codes "refused " ++ (decimal status ++ codes "\n")
-refusal_words status (Some name) = codes "refused " ++ (decimal status ++ (codes " " ++ (encode_utf8_all name ++ codes "\n")))
-
-abbrev pub client_words : ClientFault → List ℕ
-client_words clients.PeerFault = codes "network failed\n"
-client_words clients.NoMemory = codes "out of memory\n"
-client_words (clients.Refused status name) = refusal_words status name
-client_words (clients.BadResponse fault) = response_words fault
-
 -- a tag that is held, or a dash
 abbrev pub tag_words : Option (List ℕ) → List ℕ
 tag_words None = codes "-"
 tag_words (Some tag) = encode_utf8_all tag
 
 -- the number of an operation behind what is wrong with it
-abbrev pub numbered : List ℕ → ℕ → List ℕ
-numbered words n = words ++ (decimal n ++ codes "\n")
+abbrev pub with_number : List ℕ → ℕ → List ℕ
+with_number words n = words ++ (decimal n ++ codes "\n")
 
 -- why a notice can't be applied
 abbrev pub apply_words : ApplyFault → List ℕ
 apply_words notices.WrongDocument = codes "notice: wrong-document\n"
 apply_words (notices.WrongTag held wanted) = codes "notice: wrong-tag " ++ (tag_words held ++ (codes " " ++ (encode_utf8_all wanted ++ codes "\n")))
-apply_words (notices.Unlocated n) = numbered (codes "notice: unlocated-node ") n
-apply_words (notices.NamespacePrefix n) = numbered (codes "notice: invalid-namespace-prefix ") n
-apply_words (notices.Directive n) = numbered (codes "notice: invalid-patch-directive ") n
-apply_words (notices.RootOperation n) = numbered (codes "notice: invalid-root-element-operation ") n
-apply_words (notices.NodeTypes n) = numbered (codes "notice: invalid-node-types ") n
-apply_words (notices.Whitespace n) = numbered (codes "notice: invalid-whitespace-directive ") n
+apply_words (notices.Unlocated n) = with_number (codes "notice: unlocated-node ") n
+apply_words (notices.NamespacePrefix n) = with_number (codes "notice: invalid-namespace-prefix ") n
+apply_words (notices.Directive n) = with_number (codes "notice: invalid-patch-directive ") n
+apply_words (notices.RootOperation n) = with_number (codes "notice: invalid-root-element-operation ") n
+apply_words (notices.NodeTypes n) = with_number (codes "notice: invalid-node-types ") n
+apply_words (notices.Whitespace n) = with_number (codes "notice: invalid-whitespace-directive ") n
 
--- the words, on one line
+-- the words, on one line; of a status that refuses, with what a conflict document names
 abbrev pub fault_words : FollowerFault → List ℕ
-fault_words (faults.Client fault) = client_words fault
+fault_words (faults.Client clients.PeerFault) = codes "network failed\n"
+fault_words (faults.Client clients.NoMemory) = codes "out of memory\n"
+fault_words (faults.Client (clients.Refused status None)) = codes "refused " ++ (decimal status ++ codes "\n")
+fault_words (faults.Client (clients.Refused status (Some name))) = codes "refused " ++ (decimal status ++ (codes " " ++ (encode_utf8_all name ++ codes "\n")))
+fault_words (faults.Client (clients.BadResponse fault)) = response_words fault
 fault_words faults.BadTag = codes "bad response: tag\n"
 fault_words (faults.BadText fault) = codes "bad response: text\n"
 fault_words (faults.BadNotice fault) = codes "notice: not-a-diff\n"

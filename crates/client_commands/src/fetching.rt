@@ -1,7 +1,7 @@
 // The commands that make one call and have no input.
 ghost use Rattle.xcap_client.specs.Asks.{getting, removing};
 ghost use Rattle.client_commands.specs.Endings.{MakesOneCall};
-ghost use Rattle.client_commands.specs.Lines.{body_of, line_of_status};
+ghost use Rattle.client_commands.specs.Lines.{line_of_status};
 
 use crate::asker::Asker;
 use crate::ended::{Ended, write_out};
@@ -20,7 +20,7 @@ pub fn fetch_from<C: Peer, O: Sink>(
     peer: &mut C,
     output: &mut O,
 ) -> Ended
-    ensures writes_what_came { MakesOneCall asker.now.root (getting asker.now.user path.now) body_of result
+    ensures writes_what_came { MakesOneCall asker.now.root (getting asker.now.user path.now) (λ response. response.body) result
         (C.state peer.old) (C.state peer.new) (O.state output.old) (O.state output.new) }
 {
     match fetch(alloc, peer, &asker.root, asker.user(), path.as_str()) {
@@ -37,7 +37,7 @@ pub fn delete_at<C: Peer, O: Sink>(
     peer: &mut C,
     output: &mut O,
 ) -> Ended
-    ensures writes_the_status { MakesOneCall asker.now.root (removing asker.now.user path.now) line_of_status result
+    ensures writes_the_status { MakesOneCall asker.now.root (removing asker.now.user path.now) (λ response. line_of_status response.status) result
         (C.state peer.old) (C.state peer.new) (O.state output.old) (O.state output.new) }
 {
     let response = match remove(alloc, peer, &asker.root, asker.user(), path.as_str()) {

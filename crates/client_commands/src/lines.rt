@@ -1,6 +1,6 @@
 // The lines that commands write of responses.
 ghost use Rattle.std.specs.Prelude.{◌≡◌, IfOk, string_bytes};
-ghost use Rattle.client_commands.specs.Lines.{put_line, status_line, tag_line};
+ghost use Rattle.client_commands.specs.Lines.{line_of_status, put_line, round_line};
 ghost use Rattle.patch_apply.specs.Views.{held_in};
 
 use http_exchange::Response;
@@ -10,14 +10,14 @@ use xcap_io::NoMemory;
 
 // The status alone.
 pub(crate) fn status_line(alloc: Global, status: u16) -> Result<String, NoMemory>
-    ensures tells_the_status { IfOk result (λ line. string_bytes line ≡ status_line status) }
+    ensures tells_the_status { IfOk result (λ line. string_bytes line ≡ line_of_status status) }
 {
     format!(in alloc; "{status}\n")
 }
 
 // The status, and the tag in quotes where there is one.
 pub(crate) fn put_line(alloc: Global, response: &Response) -> Result<String, NoMemory>
-    ensures tells_status_and_tag { IfOk result (λ line. string_bytes line ≡ put_line response.now) }
+    ensures tells_status_and_tag { IfOk result (λ line. string_bytes line ≡ put_line response.now.status response.now.tag) }
 {
     let status = response.status;
     match &response.tag {
@@ -28,7 +28,7 @@ pub(crate) fn put_line(alloc: Global, response: &Response) -> Result<String, NoM
 
 // The tag that is held, or a dash.
 pub(crate) fn tag_line(alloc: Global, replica: &Replica) -> Result<String, NoMemory>
-    ensures tells_the_tag { IfOk result (λ line. string_bytes line ≡ tag_line (held_in replica.now.held)) }
+    ensures tells_the_tag { IfOk result (λ line. string_bytes line ≡ round_line (held_in replica.now.held)) }
 {
     match &replica.held {
         Some(held) => format!(in alloc; "{}\n", held.tag.as_str()),

@@ -25,7 +25,7 @@ fn put_text<C: Peer, O: Sink>(
     peer: &mut C,
     output: &mut O,
 ) -> Ended
-    ensures writes_status_and_tag { MakesOneCall asker.now.root (putting asker.now.user path.now media.now text.now) put_line result
+    ensures writes_status_and_tag { MakesOneCall asker.now.root (putting asker.now.user path.now media.now text.now) (λ response. put_line response.status response.tag) result
         (C.state peer.old) (C.state peer.new) (O.state output.old) (O.state output.new) }
 {
     let response = match put(

@@ -1,6 +1,6 @@
 // The status that a program ends with where a call of the client failed, and what it tells of it.
 ghost use Rattle.std.specs.Prelude.{◌≡◌, IfOk, string_bytes};
-ghost use Rattle.client_commands.specs.Words.{apply_words, client_status, client_words, fault_words, response_words, status_of, tag_words};
+ghost use Rattle.client_commands.specs.Words.{apply_words, fault_words, response_words, status_of_fault, tag_words};
 
 use feed_follower::FollowerFault;
 use http_exchange::ResponseFault;
@@ -11,7 +11,7 @@ use xml_tree::Text;
 
 // The status for the fault of a call.
 fn client_status(fault: &ClientFault) -> u8
-    ensures status_of_the_fault { result ≡ client_status fault.now }
+    ensures status_of_the_fault { result ≡ status_of_fault (FollowerFault.Client fault.now) }
 {
     match fault {
         ClientFault::PeerFault => 5,
@@ -24,7 +24,7 @@ fn client_status(fault: &ClientFault) -> u8
 /// The status that a program ends with: 5 where the peer failed, 6 where it refused or a notice was refused, 7 for want of memory,
 /// and 8 where its bytes are no response, or no document or tag where one is due.
 pub fn status_of(fault: &FollowerFault) -> u8
-    ensures status_of_the_fault { result ≡ status_of fault.now }
+    ensures status_of_the_fault { result ≡ status_of_fault fault.now }
 {
     match fault {
         FollowerFault::Client(fault) => client_status(fault),
@@ -51,7 +51,7 @@ fn response_words(alloc: Global, fault: &ResponseFault) -> Result<String, AllocE
 
 // Why a call gave no response that is taken.
 fn client_words(alloc: Global, fault: &ClientFault) -> Result<String, AllocError>
-    ensures words_about_the_call { IfOk result (λ words. string_bytes words ≡ client_words fault.now) }
+    ensures words_about_the_call { IfOk result (λ words. string_bytes words ≡ fault_words (FollowerFault.Client fault.now)) }
 {
     match fault {
         ClientFault::PeerFault => String::from_str(alloc, "network failed\n"),

@@ -47,12 +47,12 @@ bound_stays n k before mid now e same b = omega (arith, e, same, b)
 bound_rises : (n k before mid now : ℕ) → k ≡ n + 1 → Rose mid now → RoseBy n before mid → RoseBy k before now
 bound_rises n k before mid now e rose b = omega (arith, e, rose, b)
 
-reads_bound : (ended : Ended) (endings : List Ending) (first : ℕ) (mid new : LineState) → FaultsBy ended mid new → RoseBy (read_failures endings) first mid.read_faults → RoseBy (read_failures (endings ++ ending_of ended ∷ [])) first new.read_faults
+reads_bound : (ended : Ended) (endings : List Ending) (first : ℕ) (mid new : LineState) → FaultsBy ended mid.read_faults new.read_faults mid.write_faults new.write_faults → RoseBy (read_failures endings) first mid.read_faults → RoseBy (read_failures (endings ++ ending_of ended ∷ [])) first new.read_faults
 reads_bound Closed endings first mid new f b = bound_stays (read_failures endings) _ first mid.read_faults new.read_faults (reads_added endings closed) f.0 b
 reads_bound ReadFailed endings first mid new f b = bound_rises (read_failures endings) _ first mid.read_faults new.read_faults (reads_added endings read_failed) f.0 b
 reads_bound WriteFailed endings first mid new f b = bound_stays (read_failures endings) _ first mid.read_faults new.read_faults (reads_added endings write_failed) f.0 b
 
-writes_bound : (ended : Ended) (endings : List Ending) (first : ℕ) (mid new : LineState) → FaultsBy ended mid new → RoseBy (write_failures endings) first mid.write_faults → RoseBy (write_failures (endings ++ ending_of ended ∷ [])) first new.write_faults
+writes_bound : (ended : Ended) (endings : List Ending) (first : ℕ) (mid new : LineState) → FaultsBy ended mid.read_faults new.read_faults mid.write_faults new.write_faults → RoseBy (write_failures endings) first mid.write_faults → RoseBy (write_failures (endings ++ ending_of ended ∷ [])) first new.write_faults
 writes_bound Closed endings first mid new f b = bound_stays (write_failures endings) _ first mid.write_faults new.write_faults (writes_added endings closed) f.1 b
 writes_bound ReadFailed endings first mid new f b = bound_stays (write_failures endings) _ first mid.write_faults new.write_faults (writes_added endings read_failed) f.1 b
 writes_bound WriteFailed endings first mid new f b = bound_rises (write_failures endings) _ first mid.write_faults new.write_faults (writes_added endings write_failed) f.1 b
@@ -193,7 +193,7 @@ module _ {M W E : Type 0} (Step : M → Request → List ℕ → M → Option E 
   one_connection more count last ended machine now next old mid begun new a b c s n v =
       let x = v.exchanges in
       let same_port = x.same_port in
-      let faults : FaultsBy ended mid new = faults_on ended mid begun new n.same_read_faults n.same_write_faults v.faults in
+      let faults : FaultsBy ended mid.read_faults new.read_faults mid.write_faults new.write_faults = faults_on ended mid begun new n.same_read_faults n.same_write_faults v.faults in
       let truthful = begins_truthful mid begun n in
       record {
         connections = s.connections ++ v.passed ∷ [];

@@ -108,7 +108,7 @@ module _ {M W E : Type 0} (Step : M → Request → List ℕ → M → Option E 
         (one_more one goes.requests (subst (λ (r : Option Ended). FaultsSoFar r mid new) is faults) exchanges, (goes.open_still, omega (arith, goes.requests, few)))
 
     -- the last turn
-    pub at_end : (ended : Ended) → Turn Step Keeps (Some ended) wire wire' now next mid new b c → FaultsBy ended mid new → KeepsTheRest mid new → ServesLine Step Keeps ended machine next old new a c
+    pub at_end : (ended : Ended) → Turn Step Keeps (Some ended) wire wire' now next mid new b c → FaultsBy ended mid.read_faults new.read_faults mid.write_faults new.write_faults → KeepsTheRest mid new → ServesLine Step Keeps ended machine next old new a c
     at_end ended t faults exchanges =
         let bytes = wire.held ++ t.read in
         record {

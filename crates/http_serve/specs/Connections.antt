@@ -20,5 +20,5 @@ pub record ServesLine {M W E : Type 0} (Step : M → Request → List ℕ → M 
   pub took : Took old.taken new.taken passed.taken
   pub serves : Serves Step fixed (ending_of ended) machine passed next edits
   pub kept : Keeps edits watchers watchers'
-  pub faults : FaultsBy ended old new
+  pub faults : FaultsBy ended old.read_faults new.read_faults old.write_faults new.write_faults
   pub exchanges : KeepsTheRest old new

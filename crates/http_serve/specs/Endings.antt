@@ -1,5 +1,5 @@
 -- How a connection ended, and what that says of the counts of faults. This is the project's own.
-use Rattle.std.specs.Prelude.{◌≡◌, Option, None, Some}
+use Rattle.std.specs.Prelude.{◌≡◌, ℕ, Option, None, Some}
 use Rattle.xcap_io.specs.Causes.{LineState, Rose}
 use Rattle.http_wire.specs.Serving.{Ending, closed, read_failed, write_failed}
 use Rattle.http_serve.specs.declared.connection.Ended.{Ended}
@@ -11,15 +11,15 @@ ending_of ReadFailed = read_failed
 ending_of WriteFailed = write_failed
 
 -- The count of the reads or writes that failed rose where the connection ended so, and else both counts are as before.
-abbrev pub FaultsBy : Ended → LineState → LineState → Type 0
-FaultsBy Closed old new = (new.read_faults ≡ old.read_faults) × (new.write_faults ≡ old.write_faults)
-FaultsBy ReadFailed old new = Rose old.read_faults new.read_faults × (new.write_faults ≡ old.write_faults)
-FaultsBy WriteFailed old new = (new.read_faults ≡ old.read_faults) × Rose old.write_faults new.write_faults
+abbrev pub FaultsBy : Ended → ℕ → ℕ → ℕ → ℕ → Type 0
+FaultsBy Closed reads reads' writes writes' = (reads' ≡ reads) × (writes' ≡ writes)
+FaultsBy ReadFailed reads reads' writes writes' = Rose reads reads' × (writes' ≡ writes)
+FaultsBy WriteFailed reads reads' writes writes' = (reads' ≡ reads) × Rose writes writes'
 
 -- the same of a connection that may go on
 abbrev pub FaultsSoFar : Option Ended → LineState → LineState → Type 0
 FaultsSoFar None old new = (new.read_faults ≡ old.read_faults) × (new.write_faults ≡ old.write_faults)
-FaultsSoFar (Some ended) old new = FaultsBy ended old new
+FaultsSoFar (Some ended) old new = FaultsBy ended old.read_faults new.read_faults old.write_faults new.write_faults
 
 -- Between the two there were reads and writes of one connection alone, if any.
 pub record KeepsTheRest (old new : LineState) : Type 0 where

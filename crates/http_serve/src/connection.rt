@@ -1,10 +1,10 @@
 //! One connection, served to its end.
-ghost use Rattle.std.specs.Prelude.{◌≡◌, ◌≢◌, ℕ, suc, ◌+◌, false, None, IsTrue, MatchOption, option_to_list};
+ghost use Rattle.std.specs.Prelude.{◌≡◌, ◌≢◌, ℕ, suc, ◌+◌, true, false, None, IsTrue, MatchOption, option_to_list};
+ghost use Rattle.reply_text.specs.Heads.{plain};
 ghost use Rattle.reply_text.specs.Statuses.{is_status};
 ghost use Rattle.http_wire.specs.Asking.{fresh_wire};
 ghost use Rattle.http_serve.specs.Connections.{ServesLine};
 ghost use Rattle.http_serve.specs.Endings.{KeepsTheRest, FaultsSoFar};
-ghost use Rattle.http_serve.specs.Fixed.{fixed_reply};
 ghost use Rattle.http_serve.specs.Reading.{IsRead};
 ghost use Rattle.http_serve.specs.inner.Turns.{AnswersAsked, AsksRead, GivesOn, Turn};
 ghost use Rattle.http_serve.specs.Written.{InBytes};
@@ -32,7 +32,7 @@ pub enum Ended {
 fn fixed<E>(status: u16) -> Answered<E>
     requires status { IsTrue (is_status status) }
     requires plain { (status ≢ 304) × (status ≢ 405) × (status ≢ 409) }
-    ensures is_the_fixed_reply { result.reply ≡ fixed_reply status }
+    ensures is_the_fixed_reply { result.reply ≡ plain status true }
     ensures tells_no_change { result.edit ≡ None }
 {
     Answered {

@@ -20,7 +20,9 @@ use Rattle.machine_words.specs.Laws.{tells_change}
 use Rattle.machine_words.specs.Machine.{KeptStep, answer_as, told_as}
 use Rattle.machine_words.specs.Requests.{IsAnswer}
 use Rattle.machine_words.proofs.Ways.{Way, changes, stays, way_of}
-use Rattle.xcap_server.specs.Logged.{AcceptedAt, Logs}
+use Rattle.logged_serve.specs.Logging.{Accepts}
+use Rattle.feed_laws.specs.Holding.{FollowedStep}
+use Rattle.xcap_server.specs.Logged.{Logs}
 use Rattle.xcap_server.specs.Redoing.{Redoing}
 use Rattle.xcap_server.specs.Servers.{ServerState}
 use Rattle.xcap_server.proofs.Logged.{redoing_more}
@@ -61,7 +63,7 @@ Comes root is_torn requests bytes =
     × Redoing root (first_state 1) (requests ++ torn) last × IsFirstOf bytes (text (requests ++ torn))
 
 comes_by : (root : List ℕ) (is_torn : Bool) (requests : List Request) (state : State) (rest : List ℕ) → All IsTold requests → Redoing root (first_state 1) requests state
-    → MatchBool is_torn ((request : Request) × IsRecordable request × AcceptedAt root state request × IsFirstOf rest (record_of request)) (rest ≡ []) → Comes root is_torn requests (text requests ++ rest)
+    → MatchBool is_torn ((request : Request) × IsRecordable request × Accepts (FollowedStep root) state request × IsFirstOf rest (record_of request)) (rest ≡ []) → Comes root is_torn requests (text requests ++ rest)
 comes_by root true requests state rest told way (request, can, accepted, (more, is)) =
     let step = recorded_step root state accepted.1 request accepted.0 accepted.2 accepted.3.0 in (
       recorded request ∷ [],

@@ -27,7 +27,7 @@ never : (before now : ℕ) → before ≡ 0 → now ≡ 0 → Rose before now �
 never before now b n h = omega (arith, b, n, h)
 
 -- where neither count rose the connection was closed
-closes : (root : List ℕ) (ended : Ended) (m next : State) (old new : LineState) (asked : List ℕ) (passed : Traffic) (edits : List Edit) → old.read_faults ≡ 0 → new.read_faults ≡ 0 → old.write_faults ≡ 0 → new.write_faults ≡ 0 → FaultsBy ended old new
+closes : (root : List ℕ) (ended : Ended) (m next : State) (old new : LineState) (asked : List ℕ) (passed : Traffic) (edits : List Edit) → old.read_faults ≡ 0 → new.read_faults ≡ 0 → old.write_faults ≡ 0 → new.write_faults ≡ 0 → FaultsBy ended old.read_faults new.read_faults old.write_faults new.write_faults
     → Serves (InBytes (FollowedStep root)) fixed (ending_of ended) m (counted (ending_of ended) asked passed) next edits → Serves (InBytes (FollowedStep root)) fixed closed m (whole asked passed.taken) next edits
 closes root Closed m next old new asked passed edits r r' w w' faults s = s
 closes root ReadFailed m next old new asked passed edits r r' w w' faults s = absurd (never old.read_faults new.read_faults r r' faults.0)

@@ -21,20 +21,20 @@ use Rattle.std.specs.Prelude.{encode_utf8_all}
 use Rattle.xcap_client.specs.Asks.{getting, removing}
 use Rattle.client_commands.specs.Endings.{MakesOneCall}
 use Rattle.client_commands.specs.Follows.{Follows}
-use Rattle.client_commands.specs.Lines.{body_of, line_of_status}
+use Rattle.client_commands.specs.Lines.{line_of_status}
 use Rattle.client_commands.specs.Puts.{AsksNothing, Puts}
 use Rattle.client_commands.specs.declared.asker.Asker.{Asker}
 use Rattle.client_commands.specs.declared.ended.Ended.{Ended}
-use Rattle.xcap_app.specs.Asking.{RunsAs, RunsFollow, ended_so, follows, knows_nothing, lacks_memory, lacks_words, names_none}
+use Rattle.xcap_app.specs.Asking.{RunsAs, RunsFollow, ended_so, exit_of_client, follows, knows_nothing, lacks_memory, means_none}
 use Rattle.xcap_app.specs.Checks.{Checks, Examines}
-use Rattle.xcap_app.specs.Replays.{Replays}
+use Rattle.xcap_app.specs.Replays.{ReplaysCommand}
 use Rattle.xcap_app.specs.Serves.{ServesCommand}
 use Rattle.xcap_app.specs.Exits.{IsRefused}
-use Rattle.xcap_app.specs.Keeping.{KeepsCommand, KeepsOn, Wrote, exit_of as fault_exit, keeps_on, no_journal, no_server}
-use Rattle.xcap_app.specs.Runs.{EndsUnspelled, Runs}
+use Rattle.xcap_app.specs.Keeping.{KeepsCommand, KeepsOn, Wrote, exit_of_restart, keeps_on, no_journal, no_server}
+use Rattle.xcap_app.specs.Runs.{Runs}
 use Rattle.xcap_app.specs.Samples.{RunsSample}
-use Rattle.xcap_app.specs.Telling.{IsTold}
-use Rattle.xcap_app.specs.Verdicts.{AnswerVerdict, FaultVerdict, TextVerdict, TreeVerdict, exit_of}
+use Rattle.xcap_app.specs.Telling.{IsToldAs}
+use Rattle.xcap_app.specs.Verdicts.{AnswerVerdict, TextVerdict, exit_of_judgement, refusal_of_text}
 use Rattle.xcap_app.specs.declared.command.Command.{Command}
 use Rattle.xcap_app.specs.declared.command.Command.TheVariants.{Replay, Serve, Keep, Check, Sample, Fetch, Put, Delete, Follow}
 use Rattle.xcap_app.specs.declared.exit.Exit.{Exit}
@@ -46,7 +46,7 @@ use Rattle.xcap_app.specs.declared.refusal.Refusal.TheVariants.{TooLarge, NotUtf
 
 -- the verdict on a fault of a text is that on the text
 pub fault_judged : (usage : TheUsage) (text : List ℕ) (read : Result Tree (ReadError TextFault)) (error : ReadError TextFault) (fault : TextFault) (exit : Exit) → read ≡ Err error → error ≡ errors.Fault fault → Answered (TextAnswer 64 [] text) read
-    → FaultVerdict fault exit → TextVerdict usage text exit ⊎ (exit ≡ OutOfMemory)
+    → exit ≡ Refused (refusal_of_text fault) → TextVerdict usage text exit ⊎ (exit ≡ OutOfMemory)
 fault_judged usage text read error fault exit is told_so answers verdict =
     let of_error : Answered (TextAnswer 64 [] text) (Err error) = subst (λ (r : Result Tree (ReadError TextFault)). Answered (TextAnswer 64 [] text) r) is answers in
     let of_fault : TextAnswer 64 [] text (Err fault) = subst (λ (e : ReadError TextFault). Answered (TextAnswer 64 [] text) (Err e)) told_so of_error in
@@ -54,8 +54,8 @@ fault_judged usage text read error fault exit is told_so answers verdict =
 
 -- and that on a tree that it spells, unless memory is wanted for that
 pub tree_judged : {E : Type 0} → (usage : TheUsage) (text : List ℕ) (t : Tree) (r : Result Exit E) (exit : Exit) → TextAnswer 64 [] text (Ok t)
-    → IfOk r (λ e. TreeVerdict usage t e) → exit ≡ result_unwrap_or r OutOfMemory → TextVerdict usage text exit ⊎ (exit ≡ OutOfMemory)
-tree_judged usage text t (Ok e) exit read verdict is = inl (record { answer = Ok t; by_grammar = read; verdict = subst (TreeVerdict usage t) (sym is) verdict })
+    → IfOk r (λ e. AnswerVerdict usage (Ok t) e) → exit ≡ result_unwrap_or r OutOfMemory → TextVerdict usage text exit ⊎ (exit ≡ OutOfMemory)
+tree_judged usage text t (Ok e) exit read verdict is = inl (record { answer = Ok t; by_grammar = read; verdict = subst (AnswerVerdict usage (Ok t)) (sym is) verdict })
 tree_judged usage text t (Err e) exit read verdict is = inr is
 
 -- how a command may end whose text was judged
@@ -73,24 +73,21 @@ IsVerdict (Refused (Faulty fault)) = Unit {0}
 IsVerdict (BadJournal refusal) = ⊥
 IsVerdict OutOfMemory = Unit {0}
 
-fault_verdict : (fault : TextFault) (exit : Exit) → FaultVerdict fault exit → IsVerdict exit
-fault_verdict faults.NotUtf8 exit e = subst IsVerdict (sym e) tt
-fault_verdict (faults.NotWellFormed place) exit e = subst IsVerdict (sym e) tt
-fault_verdict (faults.Namespace place) exit e = subst IsVerdict (sym e) tt
-fault_verdict (faults.RepeatedAttribute place) exit e = subst IsVerdict (sym e) tt
-fault_verdict (faults.TooDeep place) exit e = subst IsVerdict (sym e) tt
-fault_verdict (faults.Doctype place) exit e = subst IsVerdict (sym e) tt
+refused_verdict : (fault : TextFault) → IsVerdict (Refused (refusal_of_text fault))
+refused_verdict faults.NotUtf8 = tt
+refused_verdict (faults.NotWellFormed place) = tt
+refused_verdict (faults.Namespace place) = tt
+refused_verdict (faults.RepeatedAttribute place) = tt
+refused_verdict (faults.TooDeep place) = tt
+refused_verdict (faults.Doctype place) = tt
 
-judged_verdict : (fault : Option Fault) → IsVerdict (exit_of fault)
+judged_verdict : (fault : Option Fault) → IsVerdict (exit_of_judgement fault)
 judged_verdict None = tt
 judged_verdict (Some fault) = tt
 
-tree_verdict : (usage : TheUsage) (t : Tree) (exit : Exit) → TreeVerdict usage t exit → IsVerdict exit
-tree_verdict usage t exit (fault, judged, is) = subst IsVerdict (sym is) (judged_verdict fault)
-
 answer_verdict : (usage : TheUsage) (answer : Result Tree TextFault) (exit : Exit) → AnswerVerdict usage answer exit → IsVerdict exit
-answer_verdict usage (Ok t) exit v = tree_verdict usage t exit v
-answer_verdict usage (Err fault) exit v = fault_verdict fault exit v
+answer_verdict usage (Ok t) exit v = subst IsVerdict (sym v.2) (judged_verdict v.0)
+answer_verdict usage (Err fault) exit v = subst IsVerdict (sym v) (refused_verdict fault)
 
 is_verdict : (usage : TheUsage) (text : List ℕ) (exit : Exit) → TextVerdict usage text exit ⊎ (exit ≡ OutOfMemory) → IsVerdict exit
 is_verdict usage text exit judged = ⊎_elim (λ v. answer_verdict usage v.answer exit v.verdict) (λ (e : exit ≡ OutOfMemory). subst IsVerdict (sym e) tt) judged
@@ -121,23 +118,27 @@ examined_text usage text exit input input' g j = examined usage text exit input 
 
 -- ---- commands of the client
 
+-- what was told, where memory was wanted for the words about it
+told_out : (exit told : Exit) → IsRefused told → IsToldAs exit told → IsToldAs exit OutOfMemory
+told_out exit told is (inl same) = inr (subst IsRefused same is, refl)
+told_out exit told is (inr out) = absurd (subst IsRefused out.1 is)
+
 -- a command whose words wanted memory
 words_lacking : (Did : Ended → Type 0) (Nothing : Type 0) (exit : Exit) → IsRefused exit → RunsAs Did Nothing exit → RunsAs Did Nothing OutOfMemory
-words_lacking Did Nothing exit is (ended_so ended did ends) = lacks_words ended did (subst IsRefused ends is) refl
-words_lacking Did Nothing exit is (lacks_words ended did takes ends) = lacks_words ended did takes refl
+words_lacking Did Nothing exit is (ended_so ended did told) = ended_so ended did (told_out (exit_of_client ended) exit is told)
 words_lacking Did Nothing exit is (lacks_memory nothing ends) = lacks_memory nothing refl
 
 follow_lacking : (asker : Asker) (document : List ℕ) (rounds : ℕ) (exit : Exit) (peer peer' output output' : LineState) → IsRefused exit → RunsFollow asker document rounds exit peer peer' output output'
     → RunsFollow asker document rounds OutOfMemory peer peer' output output'
-follow_lacking asker document rounds exit peer peer' output output' is (follows doc names runs) =
-    follows doc names (words_lacking (λ ended. Follows asker.root asker.user doc rounds ended peer peer' output output') (AsksNothing peer peer' output output') exit is runs)
-follow_lacking asker document rounds exit peer peer' output output' is (names_none names usage nothing) = absurd (subst IsRefused usage is)
+follow_lacking asker document rounds exit peer peer' output output' is (follows doc means runs) =
+    follows doc means (words_lacking (λ ended. Follows asker.root asker.user doc rounds ended peer peer' output output') (AsksNothing peer peer' output output') exit is runs)
+follow_lacking asker document rounds exit peer peer' output output' is (means_none none usage nothing) = absurd (subst IsRefused usage is)
 follow_lacking asker document rounds exit peer peer' output output' is (knows_nothing ends nothing) = knows_nothing refl nothing
 
 module _ {W : Type 0} (Keeps : List Edit → W → W → Type 0) where
   -- memory was wanted before anything was done
   pub ran_out : (command : Option Command) (port peer input output : LineState) (w : W) → Runs Keeps command OutOfMemory port port peer peer input input output output w w
-  ran_out None port peer input output w = (tt, refl, refl, refl, refl, refl)
+  ran_out None port peer input output w = (inr refl, refl, refl, refl, refl, refl)
   ran_out (Some (Replay root)) port peer input output w = ((refl, refl, refl), refl, refl)
   ran_out (Some (Serve address root count)) port peer input output w = ((refl, refl, refl), refl, refl)
   ran_out (Some (Keep address root count)) port peer input output w = (no_server refl refl refl refl refl, refl)
@@ -156,11 +157,6 @@ module _ {W : Type 0} (Keeps : List Edit → W → W → Type 0) where
   refused_out usage (NotWellFormed place) input input' e = (e.0, e.1.gave, omega (arith, e.1.fits))
   refused_out usage (Faulty fault) input input' e = (e.0, e.1.gave, omega (arith, e.1.fits))
 
-  -- a journal that was refused, where memory was wanted for the words about that
-  told_out : (exit told : Exit) → IsRefused told → IsTold exit told → IsTold exit OutOfMemory
-  told_out exit told is (inl same) = inr (subst IsRefused same is, refl)
-  told_out exit told is (inr out) = absurd (subst IsRefused out.1 is)
-
   never_on : (address root : List ℕ) (count : ℕ) (exit : Exit) (requests : List Request) (state : State) (port port' output output' : LineState) (w w' : W) {X : Type 0} → IsRefused exit
       → KeepsOn Keeps (Wrote output output') (Rose output.write_faults output'.write_faults) address root count exit requests state port port' w w' → X
   never_on address root count Done requests state port port' output output' w w' is k = absurd is
@@ -176,7 +172,7 @@ module _ {W : Type 0} (Keeps : List Edit → W → W → Type 0) where
   unkept : (address root : List ℕ) (count : ℕ) (exit : Exit) (port port' input input' output output' : LineState) (w w' : W) → IsRefused exit
       → KeepsCommand Keeps address root count exit port port' input input' output output' w w' → KeepsCommand Keeps address root count OutOfMemory port port' input input' output output' w w'
   unkept address root count exit port port' input input' output output' w w' is (no_server out p i o same) = no_server refl p i o same
-  unkept address root count exit port port' input input' output output' w w' is (no_journal fault told breaks p same) = no_journal fault (told_out (fault_exit fault) exit is told) breaks p same
+  unkept address root count exit port port' input input' output output' w w' is (no_journal fault told breaks p same) = no_journal fault (told_out (exit_of_restart fault) exit is told) breaks p same
   unkept address root count exit port port' input input' output output' w w' is (keeps_on requests state reads k) = never_on address root count exit requests state port port' output output' w w' is k
 
   check_refused : (usage : TheUsage) (exit : Exit) (input input' output output' : LineState) → IsRefused exit → Checks usage exit input input' output output' → Checks usage OutOfMemory input input' output output'
@@ -201,7 +197,7 @@ module _ {W : Type 0} (Keeps : List Edit → W → W → Type 0) where
   sample_refused requests (BadJournal refusal) output output' is r = r
   sample_refused requests OutOfMemory output output' is r = is
 
-  replay_refused : (root : List ℕ) (exit : Exit) (input input' output output' : LineState) (w w' : W) → IsRefused exit → Replays Keeps root exit input input' output output' w w' → ⊥
+  replay_refused : (root : List ℕ) (exit : Exit) (input input' output output' : LineState) (w w' : W) → IsRefused exit → ReplaysCommand Keeps root exit input input' output output' w w' → ⊥
   replay_refused root Done input input' output output' w w' is r = is
   replay_refused root Usage input input' output output' w w' is r = is
   replay_refused root InputFailed input input' output output' w w' is r = is
@@ -223,16 +219,9 @@ module _ {W : Type 0} (Keeps : List Edit → W → W → Type 0) where
   serve_refused address root count (BadJournal refusal) port port' output output' w w' is r = r
   serve_refused address root count OutOfMemory port port' output output' w w' is r = is
 
-  unspelled_refused : (exit : Exit) → IsRefused exit → EndsUnspelled exit → ⊥
-  unspelled_refused Done is r = is
-  unspelled_refused Usage is r = is
-  unspelled_refused InputFailed is r = is
-  unspelled_refused OutputFailed is r = is
-  unspelled_refused NetworkFailed is r = is
-  unspelled_refused (Refused refusal) is r = r
-  unspelled_refused (Client fault) is r = r
-  unspelled_refused (BadJournal refusal) is r = r
-  unspelled_refused OutOfMemory is r = is
+  unspelled_refused : (exit : Exit) → IsRefused exit → (exit ≡ Usage) ⊎ (exit ≡ OutOfMemory) → ⊥
+  unspelled_refused exit is (inl usage) = subst IsRefused usage is
+  unspelled_refused exit is (inr out) = subst IsRefused out is
 
   ran_refused : (command : Option Command) (exit : Exit) (port port' peer peer' input input' output output' : LineState) (w w' : W) → IsRefused exit
       → Runs Keeps command exit port port' peer peer' input input' output output' w w' → Runs Keeps command OutOfMemory port port' peer peer' input input' output output' w w'
@@ -245,15 +234,15 @@ module _ {W : Type 0} (Keeps : List Edit → W → W → Type 0) where
       (check_refused usage exit input input' output output' is r.0, r.1, r.2, r.3)
   ran_refused (Some (Sample requests)) exit port port' peer peer' input input' output output' w w' is r = absurd (sample_refused requests exit output output' is r.0)
   ran_refused (Some (Fetch asker path)) exit port port' peer peer' input input' output output' w w' is r =
-      (words_lacking (λ ended. MakesOneCall asker.root (getting asker.user path) body_of ended peer peer' output output') (AsksNothing peer peer' output output') exit is r.0, r.1, r.2, r.3)
+      (words_lacking (λ ended. MakesOneCall asker.root (getting asker.user path) (λ response. response.body) ended peer peer' output output') (AsksNothing peer peer' output output') exit is r.0, r.1, r.2, r.3)
   ran_refused (Some (Put asker path media)) exit port port' peer peer' input input' output output' w w' is r =
       (words_lacking (λ ended. Puts asker.root asker.user path media ended peer peer' input input' output output') ((input' ≡ input) × AsksNothing peer peer' output output') exit is r.0, r.1, r.2)
   ran_refused (Some (Delete asker path)) exit port port' peer peer' input input' output output' w w' is r =
-      (words_lacking (λ ended. MakesOneCall asker.root (removing asker.user path) line_of_status ended peer peer' output output') (AsksNothing peer peer' output output') exit is r.0, r.1, r.2, r.3)
+      (words_lacking (λ ended. MakesOneCall asker.root (removing asker.user path) (λ response. line_of_status response.status) ended peer peer' output output') (AsksNothing peer peer' output output') exit is r.0, r.1, r.2, r.3)
   ran_refused (Some (Follow asker document rounds)) exit port port' peer peer' input input' output output' w w' is r =
       (follow_lacking asker document rounds exit peer peer' output output' is r.0, r.1, r.2, r.3)
 
-  pub ran_told : (command : Option Command) (exit told : Exit) (port port' peer peer' input input' output output' : LineState) (w w' : W) → IsTold exit told
+  pub ran_told : (command : Option Command) (exit told : Exit) (port port' peer peer' input input' output output' : LineState) (w w' : W) → IsToldAs exit told
       → Runs Keeps command exit port port' peer peer' input input' output output' w w' → Runs Keeps command told port port' peer peer' input input' output output' w w'
   ran_told command exit told port port' peer peer' input input' output output' w w' is r = ⊎_elim
       (λ (e : told ≡ exit). subst (λ x. Runs Keeps command x port port' peer peer' input input' output output' w w') (sym e) r)

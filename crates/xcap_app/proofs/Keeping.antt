@@ -20,16 +20,17 @@ use Rattle.http_serve.specs.Written.{InBytes}
 use Rattle.http_serve.specs.declared.port.Served.{Served}
 use Rattle.http_serve.specs.declared.port.Stop.TheVariants.{PortFailed}
 use Rattle.logged_serve.specs.Books.{Booked, HoldsLog, LoggedStep}
+use Rattle.logged_serve.specs.Logging.{Accepts}
 use Rattle.store_core.specs.Held.{Stock, stock_of}
 use Rattle.store_core.specs.State.{State, first_state}
 use Rattle.store_core.proofs.KeptAfter.{kept-first}
 use Rattle.machine_words.specs.Answers.{unchanged}
 use Rattle.machine_words.specs.Requests.{IsAnswer}
 use Rattle.feed_laws.specs.Holding.{FollowedStep}
-use Rattle.xcap_server.specs.Logged.{AcceptedAt, ServesPortLogged}
+use Rattle.xcap_server.specs.Logged.{ServesPortLogged}
 use Rattle.xcap_server.specs.Redoing.{Redoing, Refuses, StandsFor}
 use Rattle.xcap_server.specs.Servers.{ServerState}
-use Rattle.xcap_app.specs.Keeping.{BreaksOff, KeepsOn, ReadsJournal, ReadsRecords, ServesKept, StopsReading}
+use Rattle.xcap_app.specs.Keeping.{DoesntReadJournal, KeepsOn, ReadsJournal, ReadsRecords, ServesKept, StopsReading}
 use Rattle.xcap_app.specs.Serves.{IsComplete}
 use Rattle.xcap_app.specs.declared.exit.Exit.{Exit}
 use Rattle.xcap_app.specs.declared.exit.Exit.TheVariants.{Done, Usage, InputFailed, OutputFailed, NetworkFailed, Refused, Client, BadJournal, OutOfMemory}
@@ -99,7 +100,7 @@ module _ (input input' : LineState) (journal journal' : JournalState) (s s' : Se
     stops_so faults.NoMemory r stood = let e = r.ending in (e.0, e.1, e.2, (wrote output output' journal' (text e.0) streams e.3).took)
 
     -- it wasn't read to its end
-    pub breaks_off : (fault : RestartFault) → Restarted (Err fault) → BreaksOff s.root fault input input' output output'
+    pub breaks_off : (fault : RestartFault) → Restarted (Err fault) → DoesntReadJournal s.root fault input input' output output'
     breaks_off fault r =
         let records = records_read (Err fault) r in
         record {
@@ -157,8 +158,8 @@ module _ {W : Type 0} (Keeps : List Edit → W → W → Type 0) (address : List
     told = v.serves.holds.told;
     written = v.serves.holds.split ∙ ap (λ (l : List ℕ). text v.serves.accepted ++ l) behind;
     behind =
-        subst (λ (l : List ℕ). (l ≡ []) ⊎ ((request : Request) × IsRecordable request × AcceptedAt s.root v.next request × IsFirstOf l (record_of request))) behind
-        (behind_by ((request : Request) × IsRecordable request × AcceptedAt s.root v.next request × IsFirstOf v.serves.holds.rest (record_of request)) v.serves.holds.rest log'.is_torn v.serves.holds.behind);
+        subst (λ (l : List ℕ). (l ≡ []) ⊎ ((request : Request) × IsRecordable request × Accepts (FollowedStep s.root) v.next request × IsFirstOf l (record_of request))) behind
+        (behind_by ((request : Request) × IsRecordable request × Accepts (FollowedStep s.root) v.next request × IsFirstOf v.serves.holds.rest (record_of request)) v.serves.holds.rest log'.is_torn v.serves.holds.behind);
   }
 
   -- writing failed
@@ -170,7 +171,7 @@ module _ {W : Type 0} (Keeps : List Edit → W → W → Type 0) (address : List
   kept_whole well =
       let now : journal'.faults ≡ 0 = not_failed journal'.faults well in
       served_kept [] 0 (no_failures v.serves.failures journal'.faults now (subst (λ (n : ℕ). RoseBy v.serves.failures n journal'.faults) none v.serves.bound))
-      (nothing_behind ((request : Request) × IsRecordable request × AcceptedAt s.root v.next request × IsFirstOf v.serves.holds.rest (record_of request)) v.serves.holds.rest log'.len (length journal'.held) journal'.faults log'.is_torn now fits v.serves.holds.behind)
+      (nothing_behind ((request : Request) × IsRecordable request × Accepts (FollowedStep s.root) v.next request × IsFirstOf v.serves.holds.rest (record_of request)) v.serves.holds.rest log'.len (length journal'.held) journal'.faults log'.is_torn now fits v.serves.holds.behind)
 
   pub kept_done : nat_lt 0 journal'.faults ≡ false → IsComplete served.stop → KeepsOn Keeps IsWritten HasFailed address s.root count Done requests m port port' watchers watchers'
   kept_done well complete = (served, kept_whole well, complete)
@@ -201,7 +202,7 @@ module _ {W : Type 0} (Keeps : List Edit → W → W → Type 0) (P Q : List ℕ
   keeps_so Usage k = k
   keeps_so InputFailed k = k
   keeps_so OutputFailed k = (k.0, k.1, k.2, kept_so k.0 k.1 k.2 k.3, cause k.4)
-  keeps_so NetworkFailed (inl d) = inl (record { port_failed = d.port_failed; rose = d.rose; written = so (text requests) d.written; told_none = d.told_none })
+  keeps_so NetworkFailed (inl d) = inl (d.0, so (text requests) d.1, d.2)
   keeps_so NetworkFailed (inr k) = inr (k.0, kept_so k.0 [] 0 k.1, k.2)
   keeps_so (Refused refusal) k = k
   keeps_so (Client fault) k = k

@@ -1,5 +1,5 @@
 -- What was served on a pair was served from its input to its output.
-use Rattle.std.proofs.Common.{◌≡◌, ℕ, List, [], ◌∷◌, refl, ap, subst}
+use Rattle.std.proofs.Common.{◌≡◌, List, [], ◌∷◌, ap, subst}
 use Rattle.std.specs.Borrow.{GName}
 use Rattle.store_core.specs.Keeping.{Kept}
 use Rattle.store_core.specs.State.{State}
@@ -10,10 +10,8 @@ use Rattle.xcap_io.specs.Pairs.{pair_state}
 use Rattle.xcap_io.proofs.Pairing.{Through, through}
 use Rattle.http_serve.specs.Connections.{ServesLine}
 use Rattle.http_serve.specs.Written.{InBytes}
-use Rattle.http_serve.specs.Endings.{FaultsBy}
 use Rattle.http_serve.specs.declared.connection.Ended.{Ended}
-use Rattle.http_serve.specs.declared.connection.Ended.TheVariants.{Closed, ReadFailed, WriteFailed}
-use Rattle.xcap_app.specs.Frames.{JustRead, JustWritten, both_lines as joined}
+use Rattle.xcap_app.specs.Frames.{JustRead, JustWritten}
 use Rattle.xcap_app.specs.Replays.{ServesInput}
 
 just_read : (input output input' output' : LineState) → Through input output input' output' → JustRead input input'
@@ -37,26 +35,6 @@ just_written input output input' output' t = record {
 }
 
 module _ {W : Type 0} (Keeps : List Edit → W → W → Type 0) where
-  served : (root : List ℕ) (ended : Ended) (m m' : State) (input output input' output' : LineState) (names names' : List GName) (w w' : W)
-      → ServesLine (InBytes (FollowedStep root)) Keeps ended m m' (pair_state input output names) (pair_state input' output' names') w w'
-      → ServesLine (InBytes (FollowedStep root)) Keeps ended m m' (joined input output) (joined input' output') w w'
-  served root ended m m' input output input' output' names names' w w' s = record {
-    passed = s.passed;
-    edits = s.edits;
-    gave = s.gave;
-    found_end = s.found_end;
-    took = s.took;
-    serves = s.serves;
-    kept = s.kept;
-    faults = same_faults ended s.faults;
-    exchanges = record { same_holds = refl; same_aside = refl; same_port = refl; same_peer = refl };
-  }
-    where
-      same_faults : (e : Ended) → FaultsBy e (pair_state input output names) (pair_state input' output' names') → FaultsBy e (joined input output) (joined input' output')
-      same_faults Closed f = f
-      same_faults ReadFailed f = f
-      same_faults WriteFailed f = f
-
   pub by_pair : (root : List ℕ) (ended : Ended) (m m' : State) (input output input' output' made : LineState) (a o a' o' : GName) (w w' : W)
       → made ≡ pair_state input output (a ∷ o ∷ []) → Kept m'
       → ServesLine (InBytes (FollowedStep root)) Keeps ended m m' made (pair_state input' output' (a' ∷ o' ∷ [])) w w'
@@ -68,7 +46,14 @@ module _ {W : Type 0} (Keeps : List Edit → W → W → Type 0) where
       record {
         state = m';
         kept = kept;
-        serves = served root ended m m' input output input' output' (a ∷ o ∷ []) (a' ∷ o' ∷ []) w w' on;
+        passed = on.passed;
+        edits = on.edits;
+        gave = on.gave;
+        found_end = on.found_end;
+        took = on.took;
+        serves = on.serves;
+        told = on.kept;
+        faults = on.faults;
         just_read = just_read input output input' output' t;
         just_written = just_written input output input' output' t;
       }

@@ -1,5 +1,5 @@
 -- What a run that ended with 0 did, where nothing had passed before.
-use Rattle.std.proofs.Common.{◌≡◌, ℕ, List, [], ◌++◌, inl, inr, Option, None, Some, refl, sym, ap, subst, ◌∙◌, arith, append-nil}
+use Rattle.std.proofs.Common.{◌≡◌, ℕ, List, [], ◌++◌, inl, inr, ⊎_elim, Option, None, Some, refl, sym, ap, subst, ◌∙◌, arith, append-nil}
 use Rattle.std.specs.Prelude.{codes, encode_utf8_all, length}
 use Rattle.notes.specs.declared.edit.Edit.{Edit}
 use Rattle.store_core.specs.State.{first_state}
@@ -12,23 +12,22 @@ use Rattle.xcap_io.specs.Connections.{carried, traffic}
 use Rattle.xcap_io.specs.Histories.{Traffic, carried_by}
 use Rattle.xcap_io.specs.Passing.{Took}
 use Rattle.xcap_client.specs.Asks.{getting, removing}
-use Rattle.xcap_client.specs.declared.fault.ClientFault.{ClientFault}
 use Rattle.xcap_client.specs.declared.fault.ClientFault.TheVariants as clients
 use Rattle.feed_follower.specs.declared.fault.FollowerFault.{FollowerFault}
 use Rattle.feed_follower.specs.declared.fault.FollowerFault.TheVariants as faults
 use Rattle.client_commands.specs.Endings.{MakesOneCall}
 use Rattle.client_commands.specs.Follows.{Follows}
-use Rattle.client_commands.specs.Lines.{body_of, line_of_status}
+use Rattle.client_commands.specs.Lines.{line_of_status}
 use Rattle.client_commands.specs.Puts.{AsksNothing, Puts}
-use Rattle.client_commands.specs.Words.{client_status, status_of as status_of_fault}
+use Rattle.client_commands.specs.Words.{status_of_fault}
 use Rattle.client_commands.specs.declared.asker.Asker.{Asker}
 use Rattle.client_commands.specs.declared.ended.Ended.{Ended}
 use Rattle.client_commands.specs.declared.ended.Ended.TheVariants as ends
-use Rattle.xcap_app.specs.Asking.{RunsAs, RunsFollow, ended_so, exit_of, follows, knows_nothing, lacks_memory, lacks_words, names_none}
+use Rattle.xcap_app.specs.Asking.{RunsAs, RunsFollow, ended_so, exit_of_client, follows, knows_nothing, lacks_memory, means_none}
 use Rattle.xcap_app.specs.Exits.{status_of}
-use Rattle.xcap_app.specs.Keeping.{KeepsCommand, exit_of as fault_exit, keeps_on, no_journal, no_server}
-use Rattle.xcap_app.specs.Replays.{Replays}
-use Rattle.xcap_app.specs.Telling.{IsTold as IsToldAs}
+use Rattle.xcap_app.specs.Keeping.{KeepsCommand, exit_of_restart, keeps_on, no_journal, no_server}
+use Rattle.xcap_app.specs.Replays.{ReplaysCommand}
+use Rattle.xcap_app.specs.Telling.{IsToldAs}
 use Rattle.edit_journal.specs.Texts.{Whole, text}
 use Rattle.edit_journal.specs.declared.restarting.RestartFault.{RestartFault}
 use Rattle.edit_journal.specs.declared.restarting.RestartFault.TheVariants as restart_faults
@@ -44,14 +43,11 @@ use Rattle.xcap_app.specs.declared.exit.Exit.{Exit}
 use Rattle.xcap_app.specs.declared.exit.Exit.TheVariants.{Done, Usage, InputFailed, OutputFailed, NetworkFailed, Refused, Client, BadJournal, OutOfMemory}
 
 -- no fault of a call has the status 0
-never_zero_of_client : (fault : ClientFault) → client_status fault ≡ 0 → ⊥
-never_zero_of_client clients.PeerFault zero = omega arith
-never_zero_of_client (clients.Refused status name) zero = omega arith
-never_zero_of_client clients.NoMemory zero = omega arith
-never_zero_of_client (clients.BadResponse fault) zero = omega arith
-
 never_zero : (fault : FollowerFault) → status_of_fault fault ≡ 0 → ⊥
-never_zero (faults.Client fault) zero = never_zero_of_client fault zero
+never_zero (faults.Client clients.PeerFault) zero = omega arith
+never_zero (faults.Client (clients.Refused status name)) zero = omega arith
+never_zero (faults.Client clients.NoMemory) zero = omega arith
+never_zero (faults.Client (clients.BadResponse fault)) zero = omega arith
 never_zero faults.BadTag zero = omega arith
 never_zero (faults.BadText fault) zero = omega arith
 never_zero (faults.BadNotice fault) zero = omega arith
@@ -74,7 +70,7 @@ took_all : (old new bytes : List ℕ) → old ≡ [] → Took old new bytes → 
 took_all old new bytes none took = took ∙ ap (λ (l : List ℕ). l ++ bytes) none
 
 -- a command of the client that ended well
-ended_well : (ended : Ended) → Done ≡ exit_of ended → ended ≡ ends.Done
+ended_well : (ended : Ended) → Done ≡ exit_of_client ended → ended ≡ ends.Done
 ended_well ends.Done is = refl
 ended_well ends.InputFailed is = absurd cc
 ended_well ends.OutputFailed is = absurd cc
@@ -86,8 +82,8 @@ never_out : Done ≡ OutOfMemory → ⊥
 never_out is = cc
 
 command_done : (Did : Ended → Type 0) (Nothing : Type 0) (exit : Exit) → exit ≡ Done → RunsAs Did Nothing exit → Did ends.Done
-command_done Did Nothing exit done (ended_so ended did is) = subst Did (ended_well ended (sym done ∙ is)) did
-command_done Did Nothing exit done (lacks_words ended did takes is) = absurd (never_out (sym done ∙ is))
+command_done Did Nothing exit done (ended_so ended did (inl is)) = subst Did (ended_well ended (sym done ∙ is)) did
+command_done Did Nothing exit done (ended_so ended did (inr out)) = absurd (never_out (sym done ∙ out.1))
 command_done Did Nothing exit done (lacks_memory nothing is) = absurd (never_out (sym done ∙ is))
 
 never_usage : Done ≡ Usage → ⊥
@@ -95,28 +91,27 @@ never_usage is = cc
 
 follow_done : (asker : Asker) (document : List ℕ) (rounds : ℕ) (exit : Exit) (peer peer' output output' : LineState) → exit ≡ Done → RunsFollow asker document rounds exit peer peer' output output'
     → FollowsNamed asker document rounds peer peer' output output'
-follow_done asker document rounds exit peer peer' output output' done (follows doc names runs) = record {
+follow_done asker document rounds exit peer peer' output output' done (follows doc means runs) = record {
   doc = doc;
-  named = names;
+  meant = means;
   follows = command_done (λ ended. Follows asker.root asker.user doc rounds ended peer peer' output output') (AsksNothing peer peer' output output') exit done runs;
 }
-follow_done asker document rounds exit peer peer' output output' done (names_none names usage nothing) = absurd (never_usage (sym done ∙ usage))
+follow_done asker document rounds exit peer peer' output output' done (means_none none usage nothing) = absurd (never_usage (sym done ∙ usage))
 follow_done asker document rounds exit peer peer' output output' done (knows_nothing is nothing) = absurd (never_out (sym done ∙ is))
 
 module _ {W : Type 0} (Keeps : List Edit → W → W → Type 0) where
   input_done : (root : List ℕ) (input input' output output' : LineState) (w w' : W) → input.inward.given ≡ [] → output.taken ≡ []
-      → Replays Keeps root Done input input' output output' w w' → AnswersInput Keeps root input' output' w w'
+      → ReplaysCommand Keeps root Done input input' output output' w w' → AnswersInput Keeps root input' output' w w'
   input_done root input input' output output' w w' none_given none_taken r =
-      let s = r.serves in
-      let given : s.passed.given ≡ input'.inward.given = sym (took_all input.inward.given input'.inward.given s.passed.given none_given s.gave.behind) in
-      let taken : s.passed.taken ≡ output'.taken = sym (took_all output.taken output'.taken s.passed.taken none_taken s.took) in
-      let is : s.passed ≡ record { given = input'.inward.given; ended = input'.inward.ended; taken = output'.taken } =
-      λ i. record { given = given i; ended = s.found_end i; taken = taken i } in
+      let given : r.passed.given ≡ input'.inward.given = sym (took_all input.inward.given input'.inward.given r.passed.given none_given r.gave.behind) in
+      let taken : r.passed.taken ≡ output'.taken = sym (took_all output.taken output'.taken r.passed.taken none_taken r.took) in
+      let is : r.passed ≡ record { given = input'.inward.given; ended = input'.inward.ended; taken = output'.taken } =
+      λ i. record { given = given i; ended = r.found_end i; taken = taken i } in
       record {
         state = r.state;
-        edits = s.edits;
-        serves = subst (λ (t : Traffic). ServesOne (InBytes (FollowedStep root)) fixed closed (first_state 1) t r.state s.edits) is s.serves;
-        told = s.kept;
+        edits = r.edits;
+        serves = subst (λ (t : Traffic). ServesOne (InBytes (FollowedStep root)) fixed closed (first_state 1) t r.state r.edits) is r.serves;
+        told = r.told;
       }
 
   port_done : (address root : List ℕ) (count : ℕ) (port port' output output' : LineState) (w w' : W) → port.port.begun ≡ none_begun → output.taken ≡ []
@@ -135,10 +130,10 @@ module _ {W : Type 0} (Keeps : List Edit → W → W → Type 0) where
             ∙ ap (λ (l : List Traffic). served_line (length l)) (sym all),
       )
 
-  never_done : (fault : RestartFault) {X : Type 0} → IsToldAs (fault_exit fault) Done → X
+  never_done : (fault : RestartFault) {X : Type 0} → IsToldAs (exit_of_restart fault) Done → X
   never_done fault (inl same) = not_done fault (sym same)
     where
-      not_done : (fault : RestartFault) {X : Type 0} → fault_exit fault ≡ Done → X
+      not_done : (fault : RestartFault) {X : Type 0} → exit_of_restart fault ≡ Done → X
       not_done restart_faults.ReadFailed is = let no : ⊥ = cc in absurd no
       not_done restart_faults.AppendFailed is = let no : ⊥ = cc in absurd no
       not_done (restart_faults.Damaged place) is = let no : ⊥ = cc in absurd no
@@ -174,7 +169,7 @@ module _ {W : Type 0} (Keeps : List Edit → W → W → Type 0) where
 
   by_command : (command : Option Command) (port port' peer peer' input input' output output' : LineState) (w w' : W) → port.port.begun ≡ none_begun → input.inward.given ≡ [] → output.taken ≡ []
       → Runs Keeps command Done port port' peer peer' input input' output output' w w' → IsDone Keeps command port port' peer peer' input input' output output' w w'
-  by_command None port port' peer peer' input input' output output' w w' none_yet none_given none_taken r = r.0
+  by_command None port port' peer peer' input input' output output' w w' none_yet none_given none_taken r = ⊎_elim never_usage never_out r.0
   by_command (Some (Replay root)) port port' peer peer' input input' output output' w w' none_yet none_given none_taken r = input_done root input input' output output' w w' none_given none_taken r.0
   by_command (Some (Serve address root count)) port port' peer peer' input input' output output' w w' none_yet none_given none_taken r =
       port_done (encode_utf8_all address) root count port port' output output' w w' none_yet none_taken r.0
@@ -188,11 +183,11 @@ module _ {W : Type 0} (Keeps : List Edit → W → W → Type 0) where
   by_command (Some (Sample requests)) port port' peer peer' input input' output output' w w' none_yet none_given none_taken r =
       (r.0.0, r.0.1, took_all output.taken output'.taken (summary_text r.0.0) none_taken r.0.2.taken, r.4)
   by_command (Some (Fetch asker path)) port port' peer peer' input input' output output' w w' none_yet none_given none_taken r =
-      (command_done (λ ended. MakesOneCall asker.root (getting asker.user path) body_of ended peer peer' output output') (AsksNothing peer peer' output output') Done refl r.0, r.3)
+      (command_done (λ ended. MakesOneCall asker.root (getting asker.user path) (λ response. response.body) ended peer peer' output output') (AsksNothing peer peer' output output') Done refl r.0, r.3)
   by_command (Some (Put asker path media)) port port' peer peer' input input' output output' w w' none_yet none_given none_taken r =
       (command_done (λ ended. Puts asker.root asker.user path media ended peer peer' input input' output output') ((input' ≡ input) × AsksNothing peer peer' output output') Done refl r.0, r.2)
   by_command (Some (Delete asker path)) port port' peer peer' input input' output output' w w' none_yet none_given none_taken r =
-      (command_done (λ ended. MakesOneCall asker.root (removing asker.user path) line_of_status ended peer peer' output output') (AsksNothing peer peer' output output') Done refl r.0, r.3)
+      (command_done (λ ended. MakesOneCall asker.root (removing asker.user path) (λ response. line_of_status response.status) ended peer peer' output output') (AsksNothing peer peer' output output') Done refl r.0, r.3)
   by_command (Some (Follow asker document rounds)) port port' peer peer' input input' output output' w w' none_yet none_given none_taken r =
       (follow_done asker document rounds Done peer peer' output output' refl r.0, r.3)
 

@@ -14,7 +14,7 @@ use Rattle.http_serve.specs.declared.connection.Ended.{Ended}
 use Rattle.http_serve.specs.declared.connection.Ended.TheVariants.{Closed, ReadFailed, WriteFailed}
 use Rattle.http_serve.specs.declared.port.Served.{Served}
 use Rattle.http_serve.specs.declared.port.Stop.TheVariants.{PortFailed}
-use Rattle.xcap_app.specs.Replays.{Replays, ServesInput, exit_of}
+use Rattle.xcap_app.specs.Replays.{ReplaysCommand, ServesInput, exit_of_connection}
 use Rattle.xcap_app.specs.Serves.{IsComplete, ServesAddress, served_line, ServesCommand as Serves}
 use Rattle.xcap_app.specs.Telling.{Prints}
 use Rattle.xcap_app.specs.declared.exit.Exit.{Exit}
@@ -53,15 +53,15 @@ module _ {W : Type 0} (Keeps : List Edit → W → W → Type 0) where
 
   -- an input that was served from the first state on
   by_ending : (root : List ℕ) (ended : Ended) (input input' output output' : LineState) (watchers watchers' : W) → ServesInput Keeps root (first_state 1) ended input input' output output' watchers watchers'
-      → Replays Keeps root (exit_of ended) input input' output output' watchers watchers'
+      → ReplaysCommand Keeps root (exit_of_connection ended) input input' output output' watchers watchers'
   by_ending root Closed input input' output output' watchers watchers' s = s
   by_ending root ReadFailed input input' output output' watchers watchers' s = s
   by_ending root WriteFailed input input' output output' watchers watchers' s = s
 
   -- what a server that is new did with an input
   pub replayed : (root : List ℕ) (ended : Ended) (exit : Exit) (old : Content) (input input' output output' : LineState) (watchers watchers' : W) → old ≡ record { documents = []; next = 1 }
-      → ((m : State) → Kept m → Stands old m → ServesInput Keeps root m ended input input' output output' watchers watchers') → exit ≡ exit_of ended
-      → Replays Keeps root exit input input' output output' watchers watchers'
+      → ((m : State) → Kept m → Stands old m → ServesInput Keeps root m ended input input' output output' watchers watchers') → exit ≡ exit_of_connection ended
+      → ReplaysCommand Keeps root exit input input' output output' watchers watchers'
   replayed root ended exit old input input' output output' watchers watchers' new serves ends =
-      subst (λ (x : Exit). Replays Keeps root x input input' output output' watchers watchers') (sym ends)
+      subst (λ (x : Exit). ReplaysCommand Keeps root x input input' output output' watchers watchers') (sym ends)
       (by_ending root ended input input' output output' watchers watchers' (serves (first_state 1) (kept-first 1 (omega arith)) (begun old new)))

@@ -3,8 +3,7 @@ use Rattle.std.specs.Prelude.{ℕ, List, [], ◌++◌, codes, decimal, encode_ut
 use Rattle.xml_tree.specs.PathTexts.{path_text}
 use Rattle.usage_docs.specs.Keys.{word}
 use Rattle.usage_docs.specs.declared.judging.Fault.TheVariants.{Invalid, Unformed, Repeated}
-use Rattle.usage_docs.specs.declared.keys.Clash.{Clash}
-use Rattle.client_commands.specs.Words.{fault_words, status_of as status_of_fault}
+use Rattle.client_commands.specs.Words.{fault_words, status_of_fault}
 use Rattle.xcap_app.specs.declared.exit.Exit.{Exit}
 use Rattle.xcap_app.specs.declared.exit.Exit.TheVariants.{Done, Usage, InputFailed, OutputFailed, NetworkFailed, Refused, Client, BadJournal, OutOfMemory}
 use Rattle.xcap_app.specs.declared.exit.Words.{Words}
@@ -30,18 +29,14 @@ status_of (Client fault) = status_of_fault fault
 status_of (BadJournal refusal) = 6
 status_of OutOfMemory = 7
 
--- of an element that repeats a sibling's key: its place as a positional selector, and the key
-abbrev pub clash_words : Clash → List ℕ
-clash_words clash = codes "uniqueness-failure " ++ (encode_utf8_all (path_text clash.path) ++ (codes "/@" ++ (word clash.key ++ codes "\n")))
-
--- why the input is no valid document, on one line
+-- why the input is no valid document, on one line; of an element that repeats a sibling's key its place as a positional selector, and the key
 abbrev pub refusal_words : Refusal → List ℕ
 refusal_words TooLarge = codes "too-large\n"
 refusal_words NotUtf8 = codes "not-utf-8\n"
 refusal_words (NotWellFormed place) = codes "not-well-formed " ++ (decimal place ++ codes "\n")
 refusal_words (Faulty Invalid) = codes "schema-validation-error\n"
 refusal_words (Faulty Unformed) = codes "constraint-failure\n"
-refusal_words (Faulty (Repeated clash)) = clash_words clash
+refusal_words (Faulty (Repeated clash)) = codes "uniqueness-failure " ++ (encode_utf8_all (path_text clash.path) ++ (codes "/@" ++ (word clash.key ++ codes "\n")))
 
 -- why the input is no journal, on one line
 abbrev pub journal_words : JournalRefusal → List ℕ

@@ -1,6 +1,6 @@
 -- What a command leaves of its input and its output. This is the project's own.
-use Rattle.std.specs.Prelude.{◌≡◌, []}
-use Rattle.xcap_io.specs.Causes.{LineState, no_peer, no_port}
+use Rattle.std.specs.Prelude.{◌≡◌}
+use Rattle.xcap_io.specs.Causes.{LineState}
 
 -- Of the input nothing changed but what has come in over it and its count of failed reads.
 pub record JustRead (old new : LineState) : Type 0 where
@@ -19,16 +19,3 @@ pub record JustWritten (old new : LineState) : Type 0 where
   pub same_aside : new.aside ≡ old.aside
   pub same_port : new.port ≡ old.port
   pub same_peer : new.peer ≡ old.peer
-
--- an input and an output as one line: it gives what the one gives, and takes what the other takes
-abbrev pub both_lines : LineState → LineState → LineState
-both_lines input output = record {
-  inward = input.inward;
-  taken = output.taken;
-  read_faults = input.read_faults;
-  write_faults = output.write_faults;
-  holds = [];
-  aside = [];
-  port = no_port;
-  peer = no_peer;
-}

@@ -4,7 +4,7 @@ use Rattle.notes.specs.declared.edit.Edit.{Edit}
 use Rattle.reply_text.specs.Heads.{Sent}
 use Rattle.http_wire.specs.declared.request.Request.{Request}
 use Rattle.xcap_io.specs.Causes.{LineState, Reads, Rose}
-use Rattle.xcap_io.specs.Connections.{listening_at, with_port_faults}
+use Rattle.xcap_io.specs.Connections.{ListenFailed, listening_at}
 use Rattle.xcap_io.specs.Passing.{Gave, IsEnded, Took}
 use Rattle.edit_journal.specs.Journals.{AddsSome, IsFirstOf}
 use Rattle.edit_journal.specs.Records.{IsRecordable, record_of}
@@ -17,29 +17,29 @@ use Rattle.http_serve.specs.Written.{InBytes}
 use Rattle.http_serve.specs.declared.port.Served.{Served}
 use Rattle.http_serve.specs.declared.port.Stop.TheVariants.{PortFailed}
 use Rattle.logged_serve.specs.Books.{LoggedStep}
+use Rattle.logged_serve.specs.Logging.{Accepts}
 use Rattle.store_core.specs.Held.{stock_of}
 use Rattle.store_core.specs.Keeping.{Kept}
 use Rattle.store_core.specs.State.{State, first_state}
 use Rattle.machine_words.specs.Answers.{unchanged}
 use Rattle.machine_words.specs.Requests.{IsAnswer}
 use Rattle.feed_laws.specs.Holding.{FollowedStep}
-use Rattle.xcap_server.specs.Logged.{AcceptedAt}
 use Rattle.xcap_server.specs.Redoing.{Redoing}
 use Rattle.xcap_app.specs.Frames.{JustWritten}
 use Rattle.xcap_app.specs.Serves.{IsComplete}
-use Rattle.xcap_app.specs.Telling.{IsTold as IsToldAs}
+use Rattle.xcap_app.specs.Telling.{IsToldAs}
 use Rattle.xcap_app.specs.declared.exit.Exit.{Exit}
 use Rattle.xcap_app.specs.declared.exit.Exit.TheVariants.{Done, InputFailed, OutputFailed, NetworkFailed, BadJournal, OutOfMemory}
 use Rattle.xcap_app.specs.declared.journal_refusal.JournalRefusal.TheVariants as refusals
 
 -- how the command ends that couldn't read its old journal
-abbrev pub exit_of : RestartFault → Exit
-exit_of faults.ReadFailed = InputFailed
-exit_of faults.AppendFailed = OutputFailed
-exit_of (faults.Damaged place) = BadJournal (refusals.Damaged place)
-exit_of (faults.Refused number) = BadJournal (refusals.Refused number)
-exit_of faults.TooLong = BadJournal refusals.TooLong
-exit_of faults.NoMemory = OutOfMemory
+abbrev pub exit_of_restart : RestartFault → Exit
+exit_of_restart faults.ReadFailed = InputFailed
+exit_of_restart faults.AppendFailed = OutputFailed
+exit_of_restart (faults.Damaged place) = BadJournal (refusals.Damaged place)
+exit_of_restart (faults.Refused number) = BadJournal (refusals.Refused number)
+exit_of_restart faults.TooLong = BadJournal refusals.TooLong
+exit_of_restart faults.NoMemory = OutOfMemory
 
 -- The input gave these bytes, of which the first ones are taken: the records of the requests, and a rest. From the state without
 -- documents whose next number is 1 on, the machine of this root makes a change at each of the requests, which lead to the state.
@@ -81,7 +81,7 @@ StopsReading root faults.NoMemory input input' output output' bytes requests res
     (before more : List Request) × (requests ≡ before ++ more) × Took output.taken output'.taken (text before)
 
 -- the old journal wasn't read to its end
-pub record BreaksOff (root : List ℕ) (fault : RestartFault) (input input' output output' : LineState) : Type 0 where
+pub record DoesntReadJournal (root : List ℕ) (fault : RestartFault) (input input' output output' : LineState) : Type 0 where
   pub bytes : List ℕ
   pub requests : List Request
   pub rest : List ℕ
@@ -111,23 +111,17 @@ module _ {W : Type 0} (Keeps : List Edit → W → W → Type 0) (IsWritten : Li
     pub redone : Redoing root (first_state 1) accepted next
     pub told : All IsTold accepted
     pub written : IsWritten (text accepted ++ rest)
-    pub behind : (rest ≡ []) ⊎ ((request : Request) × IsRecordable request × AcceptedAt root next request × IsFirstOf rest (record_of request))
+    pub behind : (rest ≡ []) ⊎ ((request : Request) × IsRecordable request × Accepts (FollowedStep root) next request × IsFirstOf rest (record_of request))
 
-  -- the port didn't listen
-  pub record DoesntListen (requests : List Request) (port port' : LineState) (watchers watchers' : W) : Type 0 where
-    pub port_failed : port' ≡ with_port_faults port port'.port.faults
-    pub rose : Rose port.port.faults port'.port.faults
-    pub written : IsWritten (text requests)
-    pub told_none : watchers' ≡ watchers
-
-  -- Behind the old journal: all connections were served, and all records written; or writing failed; or the port did.
+  -- Behind the old journal: all connections were served, and all records written; or writing failed; or the port didn't listen, or failed
+  -- to begin a connection.
   abbrev pub KeepsOn : List ℕ → List ℕ → ℕ → Exit → List Request → State → LineState → LineState → W → W → Type 0
   KeepsOn address root count Done requests state port port' watchers watchers' =
       (served : Served) × ServesKept address root count served requests state port port' watchers watchers' [] 0 × IsComplete served.stop
   KeepsOn address root count OutputFailed requests state port port' watchers watchers' =
       (served : Served) × (rest : List ℕ) × (failures : ℕ) × ServesKept address root count served requests state port port' watchers watchers' rest failures × HasFailed
   KeepsOn address root count NetworkFailed requests state port port' watchers watchers' =
-      DoesntListen requests port port' watchers watchers'
+      (ListenFailed port port' × IsWritten (text requests) × (watchers' ≡ watchers))
       ⊎ ((served : Served) × ServesKept address root count served requests state port port' watchers watchers' [] 0 × (served.stop ≡ PortFailed))
   KeepsOn address root count _ requests state port port' watchers watchers' = ⊥
 
@@ -136,7 +130,7 @@ module _ {W : Type 0} (Keeps : List Edit → W → W → Type 0) (IsWritten : Li
 pub data KeepsCommand {W : Type 0} (Keeps : List Edit → W → W → Type 0) (address root : List ℕ) (count : ℕ) (exit : Exit) (port port' input input' output output' : LineState) (watchers watchers' : W) : Type 0 where
   no_server : exit ≡ OutOfMemory → port' ≡ port → input' ≡ input → output' ≡ output → watchers' ≡ watchers
       → KeepsCommand Keeps address root count exit port port' input input' output output' watchers watchers'
-  no_journal : (fault : RestartFault) → IsToldAs (exit_of fault) exit → BreaksOff root fault input input' output output' → port' ≡ port → watchers' ≡ watchers
+  no_journal : (fault : RestartFault) → IsToldAs (exit_of_restart fault) exit → DoesntReadJournal root fault input input' output output' → port' ≡ port → watchers' ≡ watchers
       → KeepsCommand Keeps address root count exit port port' input input' output output' watchers watchers'
   keeps_on : (requests : List Request) → (state : State) → ReadsJournal root input input' requests state
       → KeepsOn Keeps (Wrote output output') (Rose output.write_faults output'.write_faults) address root count exit requests state port port' watchers watchers'

@@ -5,37 +5,49 @@ use Rattle.store_core.specs.State.{State, first_state}
 use Rattle.feed_laws.specs.Holding.{FollowedStep}
 use Rattle.notes.specs.declared.edit.Edit.{Edit}
 use Rattle.xcap_io.specs.Causes.{LineState}
-use Rattle.http_serve.specs.Connections.{ServesLine}
+use Rattle.xcap_io.specs.Histories.{Traffic}
+use Rattle.xcap_io.specs.Passing.{Gave, Took}
+use Rattle.http_wire.specs.Serving.{Serves}
+use Rattle.http_serve.specs.Endings.{FaultsBy, ending_of}
+use Rattle.http_serve.specs.Fixed.{fixed}
 use Rattle.http_serve.specs.Written.{InBytes}
 use Rattle.http_serve.specs.declared.connection.Ended.{Ended}
 use Rattle.http_serve.specs.declared.connection.Ended.TheVariants.{Closed, ReadFailed, WriteFailed}
-use Rattle.xcap_app.specs.Frames.{JustRead, JustWritten, both_lines}
+use Rattle.xcap_app.specs.Frames.{JustRead, JustWritten}
 use Rattle.xcap_app.specs.declared.exit.Exit.{Exit}
 use Rattle.xcap_app.specs.declared.exit.Exit.TheVariants.{Done, InputFailed, OutputFailed, OutOfMemory}
 
 -- how the command ends with its connection
-abbrev pub exit_of : Ended → Exit
-exit_of Closed = Done
-exit_of ReadFailed = InputFailed
-exit_of WriteFailed = OutputFailed
+abbrev pub exit_of_connection : Ended → Exit
+exit_of_connection Closed = Done
+exit_of_connection ReadFailed = InputFailed
+exit_of_connection WriteFailed = OutputFailed
 
 -- W is the type of the watchers, and `Keeps` says what they are after such changes.
 module _ {W : Type 0} (Keeps : List Edit → W → W → Type 0) where
   -- The input was served as one connection by the machine of this root from this state on, each state on the way kept and
-  -- subscribers kept up to date by the replies to feeds; the replies went to the output, the watchers were told the changes, and the
-  -- connection ended so.
+  -- subscribers kept up to date by the replies to feeds: this passed over it, the bytes that the input gave, whether its last read
+  -- found the end, and the bytes that the output took, which are the replies. The connection ended so, the watchers were told the
+  -- changes, in order, and nothing else was done with the input and the output.
   pub record ServesInput (root : List ℕ) (before : State) (ended : Ended) (input input' output output' : LineState) (watchers watchers' : W) : Type 0 where
     pub state : State
     pub kept : Kept state
-    pub serves : ServesLine (InBytes (FollowedStep root)) Keeps ended before state (both_lines input output) (both_lines input' output') watchers watchers'
+    pub passed : Traffic
+    pub edits : List Edit
+    pub gave : Gave input.inward input'.inward passed.given
+    pub found_end : passed.ended ≡ input'.inward.ended
+    pub took : Took output.taken output'.taken passed.taken
+    pub serves : Serves (InBytes (FollowedStep root)) fixed (ending_of ended) before passed state edits
+    pub told : Keeps edits watchers watchers'
+    pub faults : FaultsBy ended input.read_faults input'.read_faults output.write_faults output'.write_faults
     pub just_read : JustRead input input'
     pub just_written : JustWritten output output'
 
   -- The connection was served, from the state without documents whose next number is 1, and the command ends as the connection
   -- did; or memory was wanted, and nothing was done.
-  abbrev pub Replays : List ℕ → Exit → LineState → LineState → LineState → LineState → W → W → Type 0
-  Replays root Done input input' output output' watchers watchers' = ServesInput root (first_state 1) Closed input input' output output' watchers watchers'
-  Replays root InputFailed input input' output output' watchers watchers' = ServesInput root (first_state 1) ReadFailed input input' output output' watchers watchers'
-  Replays root OutputFailed input input' output output' watchers watchers' = ServesInput root (first_state 1) WriteFailed input input' output output' watchers watchers'
-  Replays root OutOfMemory input input' output output' watchers watchers' = (input' ≡ input) × (output' ≡ output) × (watchers' ≡ watchers)
-  Replays root _ input input' output output' watchers watchers' = ⊥
+  abbrev pub ReplaysCommand : List ℕ → Exit → LineState → LineState → LineState → LineState → W → W → Type 0
+  ReplaysCommand root Done input input' output output' watchers watchers' = ServesInput root (first_state 1) Closed input input' output output' watchers watchers'
+  ReplaysCommand root InputFailed input input' output output' watchers watchers' = ServesInput root (first_state 1) ReadFailed input input' output output' watchers watchers'
+  ReplaysCommand root OutputFailed input input' output output' watchers watchers' = ServesInput root (first_state 1) WriteFailed input input' output output' watchers watchers'
+  ReplaysCommand root OutOfMemory input input' output output' watchers watchers' = (input' ≡ input) × (output' ≡ output) × (watchers' ≡ watchers)
+  ReplaysCommand root _ input input' output output' watchers watchers' = ⊥

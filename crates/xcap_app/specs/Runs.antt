@@ -1,11 +1,15 @@
 -- What a run of the program did, by the command that its words spell and by how it ended. This is the project's own.
-use Rattle.std.specs.Prelude.{◌≡◌, List, encode_utf8_all, Option, None, Some}
+use Rattle.std.specs.Prelude.{◌≡◌, List, encode_utf8_all, Option, None, Some, ◌⊎◌}
 use Rattle.notes.specs.declared.edit.Edit.{Edit}
 use Rattle.xcap_io.specs.Causes.{LineState}
-use Rattle.xcap_app.specs.Asking.{RunsDelete, RunsFetch, RunsFollow, RunsPut}
+use Rattle.xcap_client.specs.Asks.{getting, removing}
+use Rattle.client_commands.specs.Endings.{MakesOneCall}
+use Rattle.client_commands.specs.Lines.{line_of_status}
+use Rattle.client_commands.specs.Puts.{AsksNothing, Puts}
+use Rattle.xcap_app.specs.Asking.{RunsAs, RunsFollow}
 use Rattle.xcap_app.specs.Checks.{Checks}
 use Rattle.xcap_app.specs.Keeping.{KeepsCommand}
-use Rattle.xcap_app.specs.Replays.{Replays}
+use Rattle.xcap_app.specs.Replays.{ReplaysCommand}
 use Rattle.xcap_app.specs.Samples.{RunsSample}
 use Rattle.xcap_app.specs.declared.command.Command.{Command}
 use Rattle.xcap_app.specs.declared.command.Command.TheVariants.{Replay, Serve, Keep, Check, Sample, Fetch, Put, Delete, Follow}
@@ -13,20 +17,14 @@ use Rattle.xcap_app.specs.declared.exit.Exit.{Exit}
 use Rattle.xcap_app.specs.declared.exit.Exit.TheVariants.{Usage, OutOfMemory}
 use Rattle.xcap_app.specs.Serves.{ServesCommand}
 
--- how a run ends whose words spell no command; want of memory may come before that is known
-abbrev pub EndsUnspelled : Exit → Type 0
-EndsUnspelled Usage = Unit {0}
-EndsUnspelled OutOfMemory = Unit {0}
-EndsUnspelled _ = ⊥
-
 -- W is the type of the watchers, and `Keeps` says what they are after such changes.
 module _ {W : Type 0} (Keeps : List Edit → W → W → Type 0) where
-  -- what was done, and that all else is as before
+  -- What was done, and that all else is as before. Where the words spell no command, want of memory may come before that is known.
   abbrev pub Runs : Option Command → Exit → LineState → LineState → LineState → LineState → LineState → LineState → LineState → LineState → W → W → Type 0
   Runs None exit port port' peer peer' input input' output output' watchers watchers' =
-      EndsUnspelled exit × (port' ≡ port) × (peer' ≡ peer) × (input' ≡ input) × (output' ≡ output) × (watchers' ≡ watchers)
+      ((exit ≡ Usage) ⊎ (exit ≡ OutOfMemory)) × (port' ≡ port) × (peer' ≡ peer) × (input' ≡ input) × (output' ≡ output) × (watchers' ≡ watchers)
   Runs (Some (Replay root)) exit port port' peer peer' input input' output output' watchers watchers' =
-      Replays Keeps root exit input input' output output' watchers watchers' × (port' ≡ port) × (peer' ≡ peer)
+      ReplaysCommand Keeps root exit input input' output output' watchers watchers' × (port' ≡ port) × (peer' ≡ peer)
   Runs (Some (Serve address root count)) exit port port' peer peer' input input' output output' watchers watchers' =
       ServesCommand Keeps (encode_utf8_all address) root count exit port port' output output' watchers watchers' × (input' ≡ input) × (peer' ≡ peer)
   Runs (Some (Keep address root count)) exit port port' peer peer' input input' output output' watchers watchers' =
@@ -36,10 +34,10 @@ module _ {W : Type 0} (Keeps : List Edit → W → W → Type 0) where
   Runs (Some (Sample requests)) exit port port' peer peer' input input' output output' watchers watchers' =
       RunsSample requests exit output output' × (port' ≡ port) × (peer' ≡ peer) × (input' ≡ input) × (watchers' ≡ watchers)
   Runs (Some (Fetch asker path)) exit port port' peer peer' input input' output output' watchers watchers' =
-      RunsFetch asker path exit peer peer' output output' × (port' ≡ port) × (input' ≡ input) × (watchers' ≡ watchers)
+      RunsAs (λ ended. MakesOneCall asker.root (getting asker.user path) (λ response. response.body) ended peer peer' output output') (AsksNothing peer peer' output output') exit × (port' ≡ port) × (input' ≡ input) × (watchers' ≡ watchers)
   Runs (Some (Put asker path media)) exit port port' peer peer' input input' output output' watchers watchers' =
-      RunsPut asker path media exit peer peer' input input' output output' × (port' ≡ port) × (watchers' ≡ watchers)
+      RunsAs (λ ended. Puts asker.root asker.user path media ended peer peer' input input' output output') ((input' ≡ input) × AsksNothing peer peer' output output') exit × (port' ≡ port) × (watchers' ≡ watchers)
   Runs (Some (Delete asker path)) exit port port' peer peer' input input' output output' watchers watchers' =
-      RunsDelete asker path exit peer peer' output output' × (port' ≡ port) × (input' ≡ input) × (watchers' ≡ watchers)
+      RunsAs (λ ended. MakesOneCall asker.root (removing asker.user path) (λ response. line_of_status response.status) ended peer peer' output output') (AsksNothing peer peer' output output') exit × (port' ≡ port) × (input' ≡ input) × (watchers' ≡ watchers)
   Runs (Some (Follow asker document rounds)) exit port port' peer peer' input input' output output' watchers watchers' =
       RunsFollow asker document rounds exit peer peer' output output' × (port' ≡ port) × (input' ≡ input) × (watchers' ≡ watchers)

@@ -4,8 +4,8 @@ use Rattle.store_core.specs.Keeping.{Kept}
 use Rattle.store_core.specs.State.{State, first_state}
 use Rattle.feed_laws.specs.Holding.{FollowedStep}
 use Rattle.notes.specs.declared.edit.Edit.{Edit}
-use Rattle.xcap_io.specs.Causes.{LineState, Rose}
-use Rattle.xcap_io.specs.Connections.{listening_at, with_port_faults}
+use Rattle.xcap_io.specs.Causes.{LineState}
+use Rattle.xcap_io.specs.Connections.{ListenFailed, listening_at}
 use Rattle.http_serve.specs.Ports.{ServesPort}
 use Rattle.http_serve.specs.Written.{InBytes}
 use Rattle.http_serve.specs.declared.port.Served.{Served}
@@ -45,7 +45,7 @@ module _ {W : Type 0} (Keeps : List Edit → W → W → Type 0) where
       (served : Served) × ServesAddress address root count served port port' watchers watchers' × IsComplete served.stop
       × TakesSome (served_line served.connections) output output'
   ServesCommand address root count NetworkFailed port port' output output' watchers watchers' =
-      ((((port' ≡ with_port_faults port port'.port.faults) × Rose port.port.faults port'.port.faults) × (watchers' ≡ watchers))
+      ((ListenFailed port port' × (watchers' ≡ watchers))
       ⊎ ((served : Served) × ServesAddress address root count served port port' watchers watchers' × (served.stop ≡ PortFailed)))
       × (output' ≡ output)
   ServesCommand address root count OutOfMemory port port' output output' watchers watchers' = (port' ≡ port) × (output' ≡ output) × (watchers' ≡ watchers)

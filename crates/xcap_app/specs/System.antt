@@ -1,6 +1,6 @@
 -- What a run of the program that ends with 0 did, over sockets and streams over which nothing had passed. The machine is that of
 -- RFC 4825; the program is the project's own.
-use Rattle.std.specs.Prelude.{◌≡◌, ℕ, List, codes, length, Option, None, Some}
+use Rattle.std.specs.Prelude.{◌≡◌, ℕ, List, ◌∷◌, ◌++◌, codes, length, Option, None, Some}
 use Rattle.notes.specs.declared.edit.Edit.{Edit}
 use Rattle.store_core.specs.State.{State, first_state}
 use Rattle.http_wire.specs.declared.request.Request.{Request}
@@ -14,14 +14,15 @@ use Rattle.http_serve.specs.Written.{InBytes}
 use Rattle.xcap_io.specs.Causes.{LineState}
 use Rattle.xcap_io.specs.Connections.{carried}
 use Rattle.doc_names.specs.declared.doc_id.DocId.{DocId}
+use Rattle.xcap_uri.specs.Roots.{slash}
 use Rattle.xcap_client.specs.Asks.{getting, removing}
 use Rattle.client_commands.specs.Endings.{MakesOneCall}
 use Rattle.client_commands.specs.Follows.{Follows}
-use Rattle.client_commands.specs.Lines.{body_of, line_of_status}
+use Rattle.client_commands.specs.Lines.{line_of_status}
 use Rattle.client_commands.specs.Puts.{Puts}
 use Rattle.client_commands.specs.declared.asker.Asker.{Asker}
 use Rattle.client_commands.specs.declared.ended.Ended.TheVariants as ends
-use Rattle.xcap_app.specs.Asking.{Names}
+use Rattle.xcap_app.specs.Asking.{MeansDocument}
 use Rattle.xcap_app.specs.Serves.{served_line}
 use Rattle.xcap_app.specs.Verdicts.{TextVerdict}
 use Rattle.sample_runs.specs.Samples.{Samples, summary_text}
@@ -30,10 +31,10 @@ use Rattle.xcap_app.specs.declared.command.Command.{Command}
 use Rattle.xcap_app.specs.declared.command.Command.TheVariants.{Replay, Serve, Keep, Check, Sample, Fetch, Put, Delete, Follow}
 use Rattle.xcap_app.specs.declared.exit.Exit.TheVariants.{Done}
 
--- the text names a document, which was followed to the end
+-- behind the root and a slash the text is a target that means a document, which was followed to the end
 pub record FollowsNamed (asker : Asker) (document : List ℕ) (rounds : ℕ) (peer peer' output output' : LineState) : Type 0 where
   pub doc : DocId
-  pub named : Names asker.root document (Some doc)
+  pub meant : MeansDocument asker.root (asker.root ++ slash ∷ document) (Some doc)
   pub follows : Follows asker.root asker.user doc rounds ends.Done peer peer' output output'
 
 -- W is the type of the watchers, and `Keeps` says what they are after such changes.
@@ -84,10 +85,10 @@ module _ {W : Type 0} (Keeps : List Edit → W → W → Type 0) where
   IsDone (Some (Sample requests)) port port' peer peer' input input' output output' watchers watchers' =
       (summary : Summary) × Samples requests summary × (output'.taken ≡ summary_text summary) × (watchers' ≡ watchers)
   IsDone (Some (Fetch asker path)) port port' peer peer' input input' output output' watchers watchers' =
-      MakesOneCall asker.root (getting asker.user path) body_of ends.Done peer peer' output output' × (watchers' ≡ watchers)
+      MakesOneCall asker.root (getting asker.user path) (λ response. response.body) ends.Done peer peer' output output' × (watchers' ≡ watchers)
   IsDone (Some (Put asker path media)) port port' peer peer' input input' output output' watchers watchers' =
       Puts asker.root asker.user path media ends.Done peer peer' input input' output output' × (watchers' ≡ watchers)
   IsDone (Some (Delete asker path)) port port' peer peer' input input' output output' watchers watchers' =
-      MakesOneCall asker.root (removing asker.user path) line_of_status ends.Done peer peer' output output' × (watchers' ≡ watchers)
+      MakesOneCall asker.root (removing asker.user path) (λ response. line_of_status response.status) ends.Done peer peer' output output' × (watchers' ≡ watchers)
   IsDone (Some (Follow asker document rounds)) port port' peer peer' input input' output output' watchers watchers' =
       FollowsNamed asker document rounds peer peer' output output' × (watchers' ≡ watchers)

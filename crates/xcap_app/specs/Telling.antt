@@ -4,7 +4,7 @@ use Rattle.xcap_io.specs.Causes.{LineState}
 use Rattle.stream_texts.specs.Outputs.{TakesAll, TakesSome}
 use Rattle.xcap_app.specs.Exits.{IsRefused}
 use Rattle.xcap_app.specs.declared.exit.Exit.{Exit}
-use Rattle.xcap_app.specs.declared.exit.Exit.TheVariants.{Done, Usage, InputFailed, OutputFailed, NetworkFailed, Refused, Client, BadJournal, OutOfMemory}
+use Rattle.xcap_app.specs.declared.exit.Exit.TheVariants.{Done, OutputFailed, OutOfMemory}
 
 -- the words were written, or some of them where the stream failed
 abbrev pub Tells : List ℕ → LineState → LineState → Type 0
@@ -13,15 +13,9 @@ Tells words old new = TakesAll words old new ⊎ TakesSome words old new
 -- how a command ends that has written its output: with 0 where the output took it all, and where it failed with that
 abbrev pub Prints : List ℕ → Exit → LineState → LineState → Type 0
 Prints bytes Done old new = TakesAll bytes old new
-Prints bytes Usage old new = ⊥
-Prints bytes InputFailed old new = ⊥
 Prints bytes OutputFailed old new = TakesSome bytes old new
-Prints bytes NetworkFailed old new = ⊥
-Prints bytes (Refused refusal) old new = ⊥
-Prints bytes (Client fault) old new = ⊥
-Prints bytes (BadJournal refusal) old new = ⊥
-Prints bytes OutOfMemory old new = ⊥
+Prints bytes _ old new = ⊥
 
 -- how a run ends is told as it is, or where the words of a refusal found no memory, as that
-abbrev pub IsTold : Exit → Exit → Type 0
-IsTold exit told = (told ≡ exit) ⊎ (IsRefused exit × (told ≡ OutOfMemory))
+abbrev pub IsToldAs : Exit → Exit → Type 0
+IsToldAs exit told = (told ≡ exit) ⊎ (IsRefused exit × (told ≡ OutOfMemory))

@@ -11,29 +11,27 @@ use Rattle.xml_tree.specs.Tree.{Tree}
 use Rattle.xml_tree.specs.Limits.{most_levels}
 use Rattle.xcap_app.specs.declared.exit.Exit.{Exit}
 use Rattle.xcap_app.specs.declared.exit.Exit.TheVariants as exits
+use Rattle.xcap_app.specs.declared.refusal.Refusal.{Refusal}
 use Rattle.xcap_app.specs.declared.refusal.Refusal.TheVariants as refusals
 
 -- how `check` ends by the first fault of a tree, or none
-abbrev pub exit_of : Option Fault → Exit
-exit_of None = exits.Done
-exit_of (Some fault) = exits.Refused (refusals.Faulty fault)
+abbrev pub exit_of_judgement : Option Fault → Exit
+exit_of_judgement None = exits.Done
+exit_of_judgement (Some fault) = exits.Refused (refusals.Faulty fault)
 
--- what is said of a tree
-abbrev pub TreeVerdict : Usage → Tree → Exit → Type 0
-TreeVerdict usage t exit = (fault : Option Fault) × Judged usage t fault × (exit ≡ exit_of fault)
+-- why a text is refused that spells no tree
+abbrev pub refusal_of_text : TextFault → Refusal
+refusal_of_text faults.NotUtf8 = refusals.NotUtf8
+refusal_of_text (faults.NotWellFormed place) = refusals.NotWellFormed place
+refusal_of_text (faults.Namespace place) = refusals.NotWellFormed place
+refusal_of_text (faults.RepeatedAttribute place) = refusals.NotWellFormed place
+refusal_of_text (faults.TooDeep place) = refusals.NotWellFormed place
+refusal_of_text (faults.Doctype place) = refusals.NotWellFormed place
 
--- what is said of a text that spells no tree
-abbrev pub FaultVerdict : TextFault → Exit → Type 0
-FaultVerdict faults.NotUtf8 exit = exit ≡ exits.Refused refusals.NotUtf8
-FaultVerdict (faults.NotWellFormed place) exit = exit ≡ exits.Refused (refusals.NotWellFormed place)
-FaultVerdict (faults.Namespace place) exit = exit ≡ exits.Refused (refusals.NotWellFormed place)
-FaultVerdict (faults.RepeatedAttribute place) exit = exit ≡ exits.Refused (refusals.NotWellFormed place)
-FaultVerdict (faults.TooDeep place) exit = exit ≡ exits.Refused (refusals.NotWellFormed place)
-FaultVerdict (faults.Doctype place) exit = exit ≡ exits.Refused (refusals.NotWellFormed place)
-
+-- what is said of a tree, and of a text that spells none
 abbrev pub AnswerVerdict : Usage → Result Tree TextFault → Exit → Type 0
-AnswerVerdict usage (Ok t) exit = TreeVerdict usage t exit
-AnswerVerdict usage (Err fault) exit = FaultVerdict fault exit
+AnswerVerdict usage (Ok t) exit = (fault : Option Fault) × Judged usage t fault × (exit ≡ exit_of_judgement fault)
+AnswerVerdict usage (Err fault) exit = exit ≡ exits.Refused (refusal_of_text fault)
 
 -- What is said of a text, by the one answer of the grammar: the tree of at most `most_levels` levels that it spells, or its first fault.
 pub record TextVerdict (usage : Usage) (text : List ℕ) (exit : Exit) : Type 0 where

@@ -1,7 +1,12 @@
 // The commands of the client, run.
-ghost use Rattle.std.specs.Prelude.{◌≡◌, ◌∷◌, ◌++◌, IfOk, option_map};
+ghost use Rattle.std.specs.Prelude.{◌≡◌, ◌∷◌, ◌++◌, ◌&&◌, IfOk, is_some, option_map};
+ghost use Rattle.doc_names.specs.Usages.{usage_of};
 ghost use Rattle.xcap_uri.specs.Roots.{slash};
-ghost use Rattle.xcap_app.specs.Asking.{Means, Names, RunsDelete, RunsFetch, RunsFollow, RunsPut, document_in, exit_of, is_stored, is_users};
+ghost use Rattle.xcap_client.specs.Asks.{getting, removing};
+ghost use Rattle.client_commands.specs.Endings.{MakesOneCall};
+ghost use Rattle.client_commands.specs.Lines.{line_of_status};
+ghost use Rattle.client_commands.specs.Puts.{AsksNothing, Puts};
+ghost use Rattle.xcap_app.specs.Asking.{MeansDocument, RunsAs, RunsFollow, document_to_follow, exit_of_client, is_users};
 
 use crate::exit::Exit;
 use crate::refusal::Refusal;
@@ -14,7 +19,7 @@ use xml_tree::{ReadError, Text};
 
 // How the run ends with a command.
 fn exit_of(ended: Ended) -> Exit
-    ensures exit_of_the_command { result ≡ exit_of ended }
+    ensures exit_of_the_command { result ≡ exit_of_client ended }
 {
     match ended {
         Ended::Done => Exit::Done,
@@ -34,7 +39,9 @@ pub(crate) fn run_fetch<C: Peer, O: Sink>(
     peer: &mut C,
     output: &mut O,
 ) -> Exit
-    ensures runs_the_command { RunsFetch asker.now path.now result (C.state peer.old) (C.state peer.new) (O.state output.old) (O.state output.new) }
+    ensures runs_the_command { RunsAs (λ ended. MakesOneCall asker.now.root (getting asker.now.user path.now) (λ response. response.body) ended
+        (C.state peer.old) (C.state peer.new) (O.state output.old) (O.state output.new))
+        (AsksNothing (C.state peer.old) (C.state peer.new) (O.state output.old) (O.state output.new)) result }
 {
     exit_of(fetch_from(alloc, asker, path, peer, output))
 }
@@ -47,7 +54,9 @@ pub(crate) fn run_delete<C: Peer, O: Sink>(
     peer: &mut C,
     output: &mut O,
 ) -> Exit
-    ensures runs_the_command { RunsDelete asker.now path.now result (C.state peer.old) (C.state peer.new) (O.state output.old) (O.state output.new) }
+    ensures runs_the_command { RunsAs (λ ended. MakesOneCall asker.now.root (removing asker.now.user path.now) (λ response. line_of_status response.status) ended
+        (C.state peer.old) (C.state peer.new) (O.state output.old) (O.state output.new))
+        (AsksNothing (C.state peer.old) (C.state peer.new) (O.state output.old) (O.state output.new)) result }
 {
     exit_of(delete_at(alloc, asker, path, peer, output))
 }
@@ -62,8 +71,9 @@ pub(crate) fn run_put<C: Peer, I: Source, O: Sink>(
     input: &mut I,
     output: &mut O,
 ) -> Exit
-    ensures runs_the_command { RunsPut asker.now path.now media.now result (C.state peer.old) (C.state peer.new)
-        (I.state input.old) (I.state input.new) (O.state output.old) (O.state output.new) }
+    ensures runs_the_command { RunsAs (λ ended. Puts asker.now.root asker.now.user path.now media.now ended (C.state peer.old) (C.state peer.new)
+        (I.state input.old) (I.state input.new) (O.state output.old) (O.state output.new))
+        ((I.state input.new ≡ I.state input.old) × AsksNothing (C.state peer.old) (C.state peer.new) (O.state output.old) (O.state output.new)) result }
 {
     exit_of(put_at(alloc, asker, path, media, peer, input, output))
 }
@@ -80,14 +90,14 @@ fn is_users(home: &Home) -> bool
 
 // Whether a document lies under `users` of a usage whose documents are stored.
 fn is_stored(doc: &DocId) -> bool
-    ensures tells_whether_it_does { result ≡ is_stored doc.now }
+    ensures tells_whether_it_does { result ≡ (is_some (usage_of doc.now.auid) && is_users doc.now.home) }
 {
     doc.auid.stored().is_some() && is_users(&doc.home)
 }
 
 // The document that a target means, where it can be followed.
-fn document_in(target: &Target) -> Option<&DocId>
-    ensures document_that_is_meant { option_map (λ doc. doc.now) result ≡ document_in target.now }
+fn document_to_follow(target: &Target) -> Option<&DocId>
+    ensures document_that_is_meant { option_map (λ doc. doc.now) result ≡ document_to_follow target.now }
 {
     match target {
         Target::Document(doc) if is_stored(doc) => Some(doc),
@@ -117,18 +127,18 @@ fn target_under(alloc: Global, root: &Root, document: &Text) -> Result<Text, All
 
 // The document that a target means under a root, where it can be followed.
 fn meant(alloc: Global, root: &Root, target: &Text) -> Result<Option<DocId>, AllocError>
-    ensures document_by_the_rules { IfOk result (λ doc. Means root.now target.now doc) }
+    ensures document_by_the_rules { IfOk result (λ doc. MeansDocument root.now target.now doc) }
 {
     match read_target(alloc, root, target.as_str().as_bytes()) {
-        Ok(target) => copied(alloc, document_in(&target)),
+        Ok(target) => copied(alloc, document_to_follow(&target)),
         Err(ReadError::Fault(_)) => Ok(None),
         Err(ReadError::NoMemory) => Err(AllocError),
     }
 }
 
-// The document that a text names under a root, where it can be followed.
+// The document that a text means behind a root and a slash, where it can be followed.
 fn document_of(alloc: Global, root: &Root, document: &Text) -> Result<Option<DocId>, AllocError>
-    ensures names_the_document { IfOk result (λ doc. Names root.now document.now doc) }
+    ensures means_the_document { IfOk result (λ doc. MeansDocument root.now (root.now ++ slash ∷ document.now) doc) }
 {
     let target = target_under(alloc, root, document)?;
     meant(alloc, root, &target)

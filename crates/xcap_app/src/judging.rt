@@ -1,8 +1,8 @@
 // Whether a text is a document of a usage, and why it isn't.
-ghost use Rattle.std.specs.Prelude.{◌≡◌, ◌≤◌, ◌⊎◌, IfOk};
+ghost use Rattle.std.specs.Prelude.{◌≡◌, ◌≤◌, ◌⊎◌, IfOk, Ok};
 ghost use Rattle.xml_tree.specs.Limits.{most_levels};
 ghost use Rattle.xml_tree.specs.Tree.{height};
-ghost use Rattle.xcap_app.specs.Verdicts.{FaultVerdict, TextVerdict, TreeVerdict, exit_of};
+ghost use Rattle.xcap_app.specs.Verdicts.{AnswerVerdict, TextVerdict, exit_of_judgement, refusal_of_text};
 
 use crate::exit::Exit;
 use crate::refusal::Refusal;
@@ -14,7 +14,7 @@ use xml_tree::{Element, MAX_LEVELS, ReadError};
 
 // How the command ends by the first fault of a tree, or none.
 fn exit_of(judged: Option<Fault>) -> Exit
-    ensures by_the_judgement { result ≡ exit_of judged }
+    ensures by_the_judgement { result ≡ exit_of_judgement judged }
 {
     match judged {
         None => Exit::Done,
@@ -25,7 +25,7 @@ fn exit_of(judged: Option<Fault>) -> Exit
 // How it ends where a text spells this tree.
 fn judge_tree(alloc: Global, usage: Usage, root: &Element) -> Result<Exit, AllocError>
     requires { height root.now ≤ most_levels }
-    ensures judges_the_tree { IfOk result (λ exit. TreeVerdict usage root.now exit) }
+    ensures judges_the_tree { IfOk result (λ exit. AnswerVerdict usage (Ok root.now) exit) }
 {
     let fault = usage_docs::judge(alloc, usage, root)?;
     Ok(exit_of(fault))
@@ -33,7 +33,7 @@ fn judge_tree(alloc: Global, usage: Usage, root: &Element) -> Result<Exit, Alloc
 
 // How the command ends where a text spells no tree.
 fn judge_fault(fault: TextFault) -> Exit
-    ensures judges_the_fault { FaultVerdict fault result }
+    ensures judges_the_fault { result ≡ Exit.Refused (refusal_of_text fault) }
 {
     match fault {
         TextFault::NotUtf8 => Exit::Refused(Refusal::NotUtf8),

@@ -10,7 +10,7 @@ ghost use Rattle.store_core.specs.Keeping.{Kept};
 ghost use Rattle.store_core.specs.State.{State, first_state};
 ghost use Rattle.xcap_server.specs.Redoing.{Redoing};
 ghost use Rattle.xcap_io.specs.Causes.{LineState};
-ghost use Rattle.xcap_app.specs.Keeping.{KeepsCommand, KeepsOn, exit_of};
+ghost use Rattle.xcap_app.specs.Keeping.{KeepsCommand, KeepsOn, exit_of_restart};
 ghost use Rattle.xcap_app.specs.inner.Streams.{Streams};
 
 use crate::exit::Exit;
@@ -26,7 +26,7 @@ use xcap_uri::Root;
 
 // How the command ends that couldn't read its old journal.
 fn exit_of(fault: RestartFault) -> Exit
-    ensures exit_of_the_fault { result ≡ exit_of fault }
+    ensures exit_of_the_fault { result ≡ exit_of_restart fault }
 {
     match fault {
         RestartFault::ReadFailed => Exit::InputFailed,

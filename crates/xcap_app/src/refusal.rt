@@ -1,7 +1,6 @@
 // Why a text is refused.
 ghost use Rattle.std.specs.Prelude.{◌≡◌, IfOk, string_bytes};
-ghost use Rattle.xcap_app.specs.Exits.{clash_words, refusal_words};
-ghost use Rattle.xcap_app.specs.declared.refusal.Refusal.TheVariants as refusals;
+ghost use Rattle.xcap_app.specs.Exits.{refusal_words};
 
 use std::alloc::{AllocError, Global};
 use usage_docs::{Clash, Fault};
@@ -22,7 +21,7 @@ pub enum Refusal {
 
 // The words about an element whose key repeats that of a sibling.
 fn clash_words(alloc: Global, clash: &Clash) -> Result<String, AllocError>
-    ensures words_about_the_clash { IfOk result (λ words. string_bytes words ≡ clash_words clash.now) }
+    ensures words_about_the_clash { IfOk result (λ words. string_bytes words ≡ refusal_words (Refusal.Faulty (Fault.Repeated clash.now))) }
 {
     let place = print_path(alloc, &clash.path)?;
     let mut words = String::from_str(alloc, "uniqueness-failure ")?;
@@ -35,7 +34,7 @@ fn clash_words(alloc: Global, clash: &Clash) -> Result<String, AllocError>
 
 // The words about what keeps a tree from being a document of its usage.
 fn fault_words(alloc: Global, fault: &Fault) -> Result<String, AllocError>
-    ensures words_about_the_fault { IfOk result (λ words. string_bytes words ≡ refusal_words (refusals.Faulty fault.now)) }
+    ensures words_about_the_fault { IfOk result (λ words. string_bytes words ≡ refusal_words (Refusal.Faulty fault.now)) }
 {
     match fault {
         Fault::Invalid => String::from_str(alloc, "schema-validation-error\n"),

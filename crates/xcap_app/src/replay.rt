@@ -3,7 +3,7 @@ ghost use Rattle.std.specs.Prelude.{◌≡◌, []};
 ghost use Rattle.store_core.specs.Held.{Stands};
 ghost use Rattle.store_core.specs.Keeping.{Kept};
 ghost use Rattle.store_core.specs.State.{State};
-ghost use Rattle.xcap_app.specs.Replays.{Replays, ServesInput, exit_of};
+ghost use Rattle.xcap_app.specs.Replays.{ReplaysCommand, ServesInput, exit_of_connection};
 
 use crate::exit::Exit;
 use http_serve::Ended;
@@ -16,7 +16,7 @@ use xcap_uri::Root;
 
 // How the command ends with its connection.
 fn exit_of(ended: Ended) -> Exit
-    ensures exit_of_the_connection { result ≡ exit_of ended }
+    ensures exit_of_the_connection { result ≡ exit_of_connection ended }
 {
     match ended {
         Ended::Closed => Exit::Done,
@@ -47,7 +47,7 @@ fn replay_by<I: Source, O: Sink, W: Watchers<Edit>>(
     watchers: &mut W,
 ) -> Exit
     requires { server.old.content ≡ record { documents = []; next = 1 } }
-    ensures replays_by_the_server { Replays W.keeps server.old.root result
+    ensures replays_by_the_server { ReplaysCommand W.keeps server.old.root result
         (I.state input.old) (I.state input.new) (O.state output.old) (O.state output.new) watchers.old watchers.new }
 {
     exit_of(serve_pair(server, input, output, watchers))
@@ -62,7 +62,7 @@ pub(crate) fn replay<I: Source, O: Sink, W: Watchers<Edit>>(
     output: &mut O,
     watchers: &mut W,
 ) -> Exit
-    ensures replays_the_input { Replays W.keeps root.now result
+    ensures replays_the_input { ReplaysCommand W.keeps root.now result
         (I.state input.old) (I.state input.new) (O.state output.old) (O.state output.new) watchers.old watchers.new }
 {
     let Ok(mut server) = Server::new(alloc, root, 1) else {

@@ -1,6 +1,6 @@
 // What is written on the output, and told on the stream for errors.
 ghost use Rattle.xcap_app.specs.Exits.{words_of};
-ghost use Rattle.xcap_app.specs.Telling.{IsTold, Prints, Tells};
+ghost use Rattle.xcap_app.specs.Telling.{IsToldAs, Prints, Tells};
 
 use crate::exit::Exit;
 use std::alloc::{AllocError, Global};
@@ -25,7 +25,7 @@ fn tell<E: Sink>(errors: &mut E, words: &[u8])
 
 /// Tells how a run ends, and answers it. Where the words of a refusal find no memory, the run ends with that.
 pub(crate) fn tell_exit<E: Sink>(alloc: Global, errors: &mut E, exit: Exit) -> Exit
-    ensures told_or_without_its_words { IsTold exit result }
+    ensures told_or_without_its_words { IsToldAs exit result }
     ensures tells_the_words { Tells (words_of result) (E.state errors.old) (E.state errors.new) }
 {
     match exit.words(alloc) {

@@ -3,19 +3,19 @@ use Rattle.std.specs.Prelude.{◌≡◌, ℕ, List, [], ◌∷◌, Bool, true, f
 use Rattle.xcap_io.specs.Causes.{LineState, Rose}
 use Rattle.xcap_io.specs.Histories.{Traffic, carried_by, no_traffic}
 
--- the line, but for the count of its port's faults
-abbrev pub with_port_faults : LineState → ℕ → LineState
-with_port_faults line faults = record line { port = record line.port { faults = faults } }
-
 -- the line, listening at this address where it tells that
 abbrev pub listening_at : LineState → List ℕ → LineState
 listening_at line address = record line { port = record line.port { listening = option_map (λ _. Some address) line.port.listening } }
 
--- On `Ok` the port listens at the address, and on a failure its count of faults rose. Nothing else changes.
+-- the port's count of faults rose, and nothing else changed
+abbrev pub ListenFailed : LineState → LineState → Type 0
+ListenFailed old new = (new ≡ record old { port = record old.port { faults = new.port.faults } }) × Rose old.port.faults new.port.faults
+
+-- On `Ok` the port listens at the address, and at a failure its count of faults rose. Nothing else changes.
 abbrev pub Listens : {E : Type 0} → LineState → LineState → Result (Unit {0}) E → List ℕ → Type 0
 Listens old new result address = MatchResult result
     (λ _. new ≡ listening_at old address)
-    (λ _. (new ≡ with_port_faults old new.port.faults) × Rose old.port.faults new.port.faults)
+    (λ _. ListenFailed old new)
 
 -- what has passed over the line, or over its present connection
 abbrev pub traffic : LineState → Traffic

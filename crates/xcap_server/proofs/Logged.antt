@@ -34,7 +34,7 @@ use Rattle.logged_serve.specs.Books.{Booked, HoldsLog, LoggedStep, accepted, ans
 use Rattle.logged_serve.specs.Logging.{Accepts, Answers, IsLoggable, entered, not_entered, stays}
 use Rattle.logged_serve.specs.Ports.{ServesLogged}
 use Rattle.logged_serve.proofs.Balancing.{holds_after, holds_so}
-use Rattle.xcap_server.specs.Logged.{AcceptedAt, AnswersLogged, Logs, ServesPortLogged, with_answer}
+use Rattle.xcap_server.specs.Logged.{AnswersLogged, Logs, ServesPortLogged, with_answer}
 use Rattle.xcap_server.specs.Redoing.{Redoing}
 use Rattle.xcap_server.specs.Servers.{AnswersRequest, ServerState}
 use Rattle.xcap_server.proofs.Answering.{answered_so}
@@ -161,10 +161,10 @@ redoing_more root (r ∷ requests) m n n' request reply e (reply', mid, e', firs
 
 module _ (root : List ℕ) (rooted : IsRoot root (authority_of root) (path_of root)) where
   -- what would be accepted on either side
-  forth : (s : ServerState) (m : State) → StandsAt root s m → (request : Request) → Accepts AnswersRequest s request → AcceptedAt root m request
+  forth : (s : ServerState) (m : State) → StandsAt root s m → (request : Request) → Accepts AnswersRequest s request → Accepts (FollowedStep root) m request
   forth s m here request a = let f = follows_at root rooted s a.1 m request a.0 (Some a.2) here a.3 in (a.0, f.0, a.2, f.2)
 
-  back : (s : ServerState) (m : State) → StandsAt root s m → (request : Request) → AcceptedAt root m request → Accepts AnswersRequest s request
+  back : (s : ServerState) (m : State) → StandsAt root s m → (request : Request) → Accepts (FollowedStep root) m request → Accepts AnswersRequest s request
   back s m here request a =
       let made = told_as a.2 in (
         a.0,
@@ -265,7 +265,7 @@ module _ (s now s' : ServerState) (is : s ≡ now) (rooted : IsRooted s) (log lo
   records_logged (Ok a) h same requests logs =
       let m = logs.stands.state in
       let o = logged_at m logs.stands.kept logs.stands.stands a h in
-      let holds : HoldsLog (AcceptedAt now.root o.0) log' (requests ++ accepted request a.edit) journal'.held =
+      let holds : HoldsLog (Accepts (FollowedStep now.root) o.0) log' (requests ++ accepted request a.edit) journal'.held =
       holds_after (FollowedStep now.root) m o.0 log log' journal journal' request a.reply a.edit requests o.2 logs.holds in
       let redone : Redoing now.root (first_state 1) (requests ++ accepted request a.edit) o.0 =
       redoing_answers now.root (subst IsRooted is rooted) (first_state 1) m o.0 log log' journal journal' requests request a.reply a.edit logs.stands.redone o.2 in
@@ -273,10 +273,10 @@ module _ (s now s' : ServerState) (is : s ≡ now) (rooted : IsRooted s) (log lo
       by_root root o.0 o.1.kept o.1.stands redone holds
     where
       by_root : s'.root ≡ now.root → (m' : State) → Kept m' → Stands s'.content m' → Redoing now.root (first_state 1) (requests ++ accepted request a.edit) m'
-          → HoldsLog (AcceptedAt now.root m') log' (requests ++ accepted request a.edit) journal'.held → Logs s' log' journal' (requests ++ accepted request a.edit)
+          → HoldsLog (Accepts (FollowedStep now.root) m') log' (requests ++ accepted request a.edit) journal'.held → Logs s' log' journal' (requests ++ accepted request a.edit)
       by_root root m' kept stands redone holds = record {
         stands = record { state = m'; kept = kept; redone = subst (λ (r : List ℕ). Redoing r (first_state 1) (requests ++ accepted request a.edit) m') (sym root) redone; stands = stands };
-        holds = subst (λ (r : List ℕ). HoldsLog (AcceptedAt r m') log' (requests ++ accepted request a.edit) journal'.held) (sym root) holds;
+        holds = subst (λ (r : List ℕ). HoldsLog (Accepts (FollowedStep r) m') log' (requests ++ accepted request a.edit) journal'.held) (sym root) holds;
       }
 
 -- ---- connections
@@ -323,12 +323,12 @@ module _ {W : Type 0} (Keeps : List Edit → W → W → Type 0) (s now s' : Ser
   -- what was served
   pub port_logged : ((requests : List Request) → HoldsLog (Accepts AnswersRequest s) log requests journal.held
       → ServesLogged AnswersRequest Keeps most served requests s s' log' journal journal' port port' watchers watchers')
-      → (m : State) (requests : List Request) → Kept m → Stands now.content m → HoldsLog (AcceptedAt now.root m) log requests journal.held
+      → (m : State) (requests : List Request) → Kept m → Stands now.content m → HoldsLog (Accepts (FollowedStep now.root) m) log requests journal.held
       → ServesPortLogged Keeps most served requests now s' m log' journal journal' port port' watchers watchers'
   port_logged all m requests kept stands holds =
       let on_root : IsRooted now = subst IsRooted is rooted in
       let here : StandsAt now.root s m = record { same_root = ap (λ (x : ServerState). x.root) is; kept = kept; stands = subst (λ (x : ServerState). Stands x.content m) (sym is) stands } in
-      let v = all requests (holds_so (AcceptedAt now.root m) (Accepts AnswersRequest s) log requests journal.held (back now.root on_root s m here) holds) in
+      let v = all requests (holds_so (Accepts (FollowedStep now.root) m) (Accepts AnswersRequest s) log requests journal.held (back now.root on_root s m here) holds) in
       let o = port_by (InBytes (LoggedStep AnswersRequest)) (InBytes (LoggedStep (FollowedStep now.root))) (Beside now.root on_root m requests) (beside_step now.root on_root m requests) Keeps most served
       (record { machine = s; requests = requests; failures = 0 }) (record { machine = s'; requests = v.accepted; failures = v.failures }) (record { machine = m; requests = requests; failures = 0 }) port port' watchers watchers'
       (record { here = here; same_requests = refl; same_failures = refl; redone = λ origin redone. redone }) v.serves in
@@ -341,8 +341,8 @@ module _ {W : Type 0} (Keeps : List Edit → W → W → Type 0) (s now s' : Ser
           accepted = o.0.requests;
           failures = o.0.failures;
           serves = o.2;
-          holds = subst (λ (rs : List Request). HoldsLog (AcceptedAt now.root o.0.machine) log' rs journal'.held) o.1.same_requests
-              (holds_so (Accepts AnswersRequest s') (AcceptedAt now.root o.0.machine) log' v.accepted journal'.held (forth now.root on_root s' o.0.machine o.1.here) v.holds);
+          holds = subst (λ (rs : List Request). HoldsLog (Accepts (FollowedStep now.root) o.0.machine) log' rs journal'.held) o.1.same_requests
+              (holds_so (Accepts AnswersRequest s') (Accepts (FollowedStep now.root) o.0.machine) log' v.accepted journal'.held (forth now.root on_root s' o.0.machine o.1.here) v.holds);
           bound = subst (λ (n : ℕ). RoseBy n journal.faults journal'.faults) o.1.same_failures v.bound;
         };
         redone = o.1.redone;

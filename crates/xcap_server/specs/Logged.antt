@@ -17,10 +17,6 @@ use Rattle.feed_laws.specs.Holding.{FollowedStep}
 use Rattle.xcap_server.specs.Redoing.{Redoing, StandsFor}
 use Rattle.xcap_server.specs.Servers.{ServerState}
 
--- a request that the machine of this root accepts in this state
-abbrev pub AcceptedAt : List ℕ → State → Request → Type 0
-AcceptedAt root m request = Accepts (FollowedStep root) m request
-
 -- A request was answered as the machine of the root answers it from this state on, but for one that couldn't be entered in the
 -- log; and the server stands for the state that it leads to.
 pub record AnswersLogged (old new : ServerState) (m : State) (log log' : LogState) (journal journal' : JournalState) (request : Request) (a : Answered Edit) : Type 0 where
@@ -32,7 +28,7 @@ pub record AnswersLogged (old new : ServerState) (m : State) (log log' : LogStat
 -- The journal holds the records of these requests, for which the server stands, as what they come to.
 pub record Logs (server : ServerState) (log : LogState) (journal : JournalState) (requests : List Request) : Type 0 where
   pub stands : StandsFor server requests
-  pub holds : HoldsLog (AcceptedAt server.root stands.state) log requests journal.held
+  pub holds : HoldsLog (Accepts (FollowedStep server.root) stands.state) log requests journal.held
 
 -- the requests accepted, with this one where it made a change
 abbrev pub with_answer : {E : Type 0} → Result (Answered Edit) E → List Request → Request → List Request

@@ -6,12 +6,13 @@ ghost use Rattle.edit_journal.specs.Journals.{Goes};
 ghost use Rattle.edit_journal.specs.Limits.{most_record_bytes};
 ghost use Rattle.edit_journal.specs.Logs.{Fits};
 ghost use Rattle.logged_serve.specs.Books.{HoldsLog};
-ghost use Rattle.logged_serve.specs.Logging.{IsLoggable};
+ghost use Rattle.logged_serve.specs.Logging.{Accepts, IsLoggable};
 ghost use Rattle.logged_serve.specs.Ports.{HasRoom};
 ghost use Rattle.store_core.specs.Held.{Stands};
 ghost use Rattle.store_core.specs.Keeping.{Kept};
 ghost use Rattle.store_core.specs.State.{State};
-ghost use Rattle.xcap_server.specs.Logged.{AcceptedAt, AnswersLogged, Logs, ServesPortLogged, with_answer};
+ghost use Rattle.feed_laws.specs.Holding.{FollowedStep};
+ghost use Rattle.xcap_server.specs.Logged.{AnswersLogged, Logs, ServesPortLogged, with_answer};
 
 use crate::server::Server;
 use edit_journal::{Journal, Log};
@@ -66,7 +67,7 @@ pub fn serve_port_logged<J: Journal, P: Port, W: Watchers<Edit>>(
     requires fits { Fits log.old (J.state journal.old) }
     requires room { HasRoom log.old (count * 1000) }
     ensures serves_as_the_machine { (m : State) (requests : List TheRequest) → Kept m → Stands server.old.content m
-        → HoldsLog (AcceptedAt server.old.root m) log.old requests (J.state journal.old).held
+        → HoldsLog (Accepts (FollowedStep server.old.root) m) log.old requests (J.state journal.old).held
         → ServesPortLogged W.keeps count result requests server.old server.new m log.new (J.state journal.old) (J.state journal.new)
         (P.state port.old) (P.state port.new) watchers.old watchers.new }
     ensures still_fits { Fits log.new (J.state journal.new) }

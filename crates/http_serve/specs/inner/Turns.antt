@@ -1,6 +1,6 @@
 -- One turn of a connection: what is asked next is answered, told and replied to. RFC 9112, sections 9.3 and 9.6.
-use Rattle.std.specs.Prelude.{◌≡◌, ℕ, ◌+◌, ◌⊎◌, Bool, false, List, ◌++◌, Option, None, Some, option_to_list}
-use Rattle.reply_text.specs.Heads.{Sent, bytes_of}
+use Rattle.std.specs.Prelude.{◌≡◌, ℕ, ◌+◌, ◌⊎◌, Bool, true, false, List, ◌++◌, Option, None, Some, option_to_list}
+use Rattle.reply_text.specs.Heads.{Sent, bytes_of, plain}
 use Rattle.http_wire.specs.declared.request.Request.{Request}
 use Rattle.http_wire.specs.declared.request.Asked.{Asked}
 use Rattle.http_wire.specs.declared.request.Asked.TheVariants.{Request as Requested, Bad, TooLong, Coded, End, NoMemory}
@@ -10,7 +10,7 @@ use Rattle.xcap_io.specs.Causes.{LineState}
 use Rattle.xcap_io.specs.Passing.{Gave, Took}
 use Rattle.http_serve.specs.declared.connection.Ended.{Ended}
 use Rattle.http_serve.specs.Endings.{ending_of}
-use Rattle.http_serve.specs.Fixed.{fixed, fixed_reply}
+use Rattle.http_serve.specs.Fixed.{fixed}
 use Rattle.http_serve.specs.Reading.{IsRead}
 
 -- what was asked is no request, or one that was read
@@ -24,7 +24,7 @@ AsksRead NoMemory = Unit {0}
 
 -- the fixed reply of this status, which changes nothing
 abbrev pub IsFixed : {M E : Type 0} → ℕ → M → Sent → Option E → M → Type 0
-IsFixed status machine reply edit next = (reply ≡ fixed_reply status) × (edit ≡ None) × (next ≡ machine)
+IsFixed status machine reply edit next = (reply ≡ plain status true) × (edit ≡ None) × (next ≡ machine)
 
 module _ {M E : Type 0} (Step : M → Request → List ℕ → M → Option E → Type 0) where
   -- How what was asked is answered: a request by the machine, or for want of memory by the fixed 503; nothing is answered

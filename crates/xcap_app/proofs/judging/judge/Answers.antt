@@ -1,6 +1,7 @@
-use Rattle.std.proofs.Common.{subst}
+use Rattle.std.proofs.Common.{◌≡◌, subst}
 use Rattle.tree_text.specs.declared.fault.TextFault.{TextFault}
-use Rattle.xcap_app.specs.Verdicts.{FaultVerdict}
+use Rattle.xcap_app.specs.Verdicts.{refusal_of_text}
+use Rattle.xcap_app.specs.declared.exit.Exit.TheVariants.{Refused}
 use Rattle.xcap_app.proofs.Ends.{fault_judged, tree_judged}
 use Rattle.xcap_app.proofs.judging.judge.Goals as goal
 
@@ -11,5 +12,5 @@ pub returns-in-Err-Fault : goal.returns-in-Err-Fault
 returns-in-Err-Fault c = record {
   judges_the_text =
       fault_judged c.args.usage c.args.text.now c.read_document.result c.in-Err-Fault.field-0 c.in-Err-Fault.fault c.judge_fault.result c.in-Err-Fault.is c.in-Err-Fault.field-0-is c.read_document.ensures.answer_by_the_grammar
-      (subst (λ (fault : TextFault). FaultVerdict fault c.judge_fault.result) c.in-Err-Fault.fault-is c.judge_fault.ensures.judges_the_fault);
+      (subst (λ (fault : TextFault). c.judge_fault.result ≡ Refused (refusal_of_text fault)) c.in-Err-Fault.fault-is c.judge_fault.ensures.judges_the_fault);
 }

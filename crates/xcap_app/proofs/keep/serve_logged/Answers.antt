@@ -1,6 +1,7 @@
 use Rattle.std.proofs.Common.{rules, inl, refl, sym, ◌∙◌, arith}
 use Rattle.edit_journal.specs.Streams.{stream_state}
-use Rattle.xcap_server.specs.Logged.{AcceptedAt}
+use Rattle.logged_serve.specs.Logging.{Accepts}
+use Rattle.feed_laws.specs.Holding.{FollowedStep}
 use Rattle.xcap_app.proofs.Keeping.{fits_whole, holds_whole, kept_done, kept_failed, kept_port_failed}
 use Rattle.xcap_app.proofs.keep.serve_logged.Goals as goal
 
@@ -14,13 +15,13 @@ serve_port_logged-served-requires-clause-room g c = omega (arith, c.requires.sho
 
 pub returns-in-Err-clause-keeps_on : goal.returns-in-Err-clause-keeps_on
 returns-in-Err-clause-keeps_on g c = λ requests m kept stands redone told held.
-    inl (record { port_failed = c.in-Err.ensures.listens_or_fails_with_a_cause.0; rose = c.in-Err.ensures.listens_or_fails_with_a_cause.1; written = held; told_none = refl })
+    inl (c.in-Err.ensures.listens_or_fails_with_a_cause, held, refl)
 
 pub returns-then-has_failed-clause-keeps_on : goal.returns-then-has_failed-clause-keeps_on
 returns-then-has_failed-clause-keeps_on g c = λ requests m kept stands redone told held.
     let p = g.P.Line.state in
     let s = c.args.server.now in
-    let holds = holds_whole (AcceptedAt s.root m) c.args.log.now requests _ c.requires.whole c.requires.fits told held in
+    let holds = holds_whole (Accepts (FollowedStep s.root) m) c.args.log.now requests _ c.requires.whole c.requires.fits told held in
     kept_failed g.W.Watchers.keeps c.args.address.now c.args.count c.serve_port_logged-served.result requests s c.serve_port_logged-served.new.server m c.serve_port_logged-served.new.log _ _
     (p c.args.port.now) (p c.listen.new.self) (p c.serve_port_logged-served.new.port) c.args.watchers.now c.serve_port_logged-served.new.watchers
     c.requires.no_fault c.serve_port_logged-served.ensures.still_fits redone c.in_default.ensures.listens_or_fails_with_a_cause (c.serve_port_logged-served.ensures.serves_as_the_machine m requests kept stands holds)
@@ -30,7 +31,7 @@ pub returns-in-PortFailed-clause-keeps_on : goal.returns-in-PortFailed-clause-ke
 returns-in-PortFailed-clause-keeps_on g c = λ requests m kept stands redone told held.
     let p = g.P.Line.state in
     let s = c.args.server.now in
-    let holds = holds_whole (AcceptedAt s.root m) c.args.log.now requests _ c.requires.whole c.requires.fits told held in
+    let holds = holds_whole (Accepts (FollowedStep s.root) m) c.args.log.now requests _ c.requires.whole c.requires.fits told held in
     kept_port_failed g.W.Watchers.keeps c.args.address.now c.args.count c.serve_port_logged-served.result requests s c.serve_port_logged-served.new.server m c.serve_port_logged-served.new.log _ _
     (p c.args.port.now) (p c.listen.new.self) (p c.serve_port_logged-served.new.port) c.args.watchers.now c.serve_port_logged-served.new.watchers
     c.requires.no_fault c.serve_port_logged-served.ensures.still_fits redone c.in_default.ensures.listens_or_fails_with_a_cause (c.serve_port_logged-served.ensures.serves_as_the_machine m requests kept stands holds)
@@ -40,7 +41,7 @@ pub returns-in-Count-clause-keeps_on : goal.returns-in-Count-clause-keeps_on
 returns-in-Count-clause-keeps_on g c = λ requests m kept stands redone told held.
     let p = g.P.Line.state in
     let s = c.args.server.now in
-    let holds = holds_whole (AcceptedAt s.root m) c.args.log.now requests _ c.requires.whole c.requires.fits told held in
+    let holds = holds_whole (Accepts (FollowedStep s.root) m) c.args.log.now requests _ c.requires.whole c.requires.fits told held in
     kept_done g.W.Watchers.keeps c.args.address.now c.args.count c.serve_port_logged-served.result requests s c.serve_port_logged-served.new.server m c.serve_port_logged-served.new.log _ _
     (p c.args.port.now) (p c.listen.new.self) (p c.serve_port_logged-served.new.port) c.args.watchers.now c.serve_port_logged-served.new.watchers
     c.requires.no_fault c.serve_port_logged-served.ensures.still_fits redone c.in_default.ensures.listens_or_fails_with_a_cause (c.serve_port_logged-served.ensures.serves_as_the_machine m requests kept stands holds)
