@@ -13,7 +13,7 @@ use Rattle.http_wire.specs.Asking.{WireState, IsNext, IsAsked, Asks, StandsAfter
 use Rattle.http_wire.specs.Items.{Item, asks, bad, too_long, coded, IsFirst}
 use Rattle.http_wire.specs.Serving.{Closes, no_more, last_item, no_memory, GoesOn}
 use Rattle.http_wire.proofs.WholeItems.{asks-append}
-use Rattle.http_serve.specs.declared.connection.Ended.TheVariants.{Closed, ReadFailed, WriteFailed}
+use Rattle.http_wire.specs.declared.ended.Ended.TheVariants.{Closed, ReadFailed, WriteFailed}
 use Rattle.http_serve.specs.Fixed.{fixed}
 use Rattle.http_serve.specs.inner.Turns.{AnswersAsked, AsksRead, Did, GivesOn, IsFixed, Turn}
 

@@ -1,8 +1,8 @@
 -- Counts of faults over a connection.
 use Rattle.std.proofs.Common.{◌≡◌, ℕ, subst, ◌∙◌}
 use Rattle.xcap_io.specs.Causes.{LineState, Rose}
-use Rattle.http_serve.specs.declared.connection.Ended.{Ended}
-use Rattle.http_serve.specs.declared.connection.Ended.TheVariants.{Closed, ReadFailed, WriteFailed}
+use Rattle.http_wire.specs.declared.ended.Ended.{Ended}
+use Rattle.http_wire.specs.declared.ended.Ended.TheVariants.{Closed, ReadFailed, WriteFailed}
 use Rattle.http_serve.specs.Endings.{FaultsBy}
 
 -- counts that stayed, and then those of how it ended

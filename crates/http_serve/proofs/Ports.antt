@@ -7,13 +7,13 @@ use Rattle.xcap_io.specs.Connections.{Comes, Next, NextFailed, OnlyNext, carried
 use Rattle.xcap_io.specs.Histories.{Traffic, carried_by}
 use Rattle.xcap_io.specs.Passing.{Gave, IsTruthful, Took}
 use Rattle.http_wire.specs.declared.request.Request.{Request}
-use Rattle.http_wire.specs.Serving.{Ending, closed, read_failed, write_failed, HasBytes, HaveBytes, Serves, ServesEach, read_failures, write_failures}
-use Rattle.http_serve.specs.declared.connection.Ended.{Ended}
-use Rattle.http_serve.specs.declared.connection.Ended.TheVariants.{Closed, ReadFailed, WriteFailed}
+use Rattle.http_wire.specs.Serving.{HasBytes, HaveBytes, Serves, ServesEach, read_failures, write_failures}
+use Rattle.http_wire.specs.declared.ended.Ended.{Ended}
+use Rattle.http_wire.specs.declared.ended.Ended.TheVariants.{Closed, ReadFailed, WriteFailed}
 use Rattle.http_serve.specs.declared.port.Served.{Served}
 use Rattle.http_serve.specs.declared.port.Stop.{Stop}
 use Rattle.http_serve.specs.declared.port.Stop.TheVariants.{Count, NoMore, PortFailed}
-use Rattle.http_serve.specs.Endings.{ending_of, FaultsBy}
+use Rattle.http_serve.specs.Endings.{FaultsBy}
 use Rattle.http_serve.specs.Fixed.{fixed}
 use Rattle.http_serve.specs.Connections.{ServesLine}
 use Rattle.http_serve.proofs.Faults.{faults_on}
@@ -22,23 +22,23 @@ use Rattle.http_serve.specs.Ports.{Came, ServesPort, Stops, last_of}
 -- ---- one connection behind others
 
 -- how the last one ended
-last_added : (endings : List Ending) (ending : Ending) → ending ≡ last_of (endings ++ ending ∷ [])
+last_added : (endings : List Ended) (ending : Ended) → ending ≡ last_of (endings ++ ending ∷ [])
 last_added [] ending = refl
 last_added (e ∷ []) ending = refl
 last_added (e ∷ f ∷ endings) ending = last_added (f ∷ endings) ending
 
 -- how many failed
-reads_added : (endings : List Ending) (ending : Ending) → read_failures (endings ++ ending ∷ []) ≡ read_failures endings + read_failures (ending ∷ [])
+reads_added : (endings : List Ended) (ending : Ended) → read_failures (endings ++ ending ∷ []) ≡ read_failures endings + read_failures (ending ∷ [])
 reads_added [] ending = omega arith
-reads_added (closed ∷ endings) ending = reads_added endings ending
-reads_added (read_failed ∷ endings) ending = omega (arith, reads_added endings ending)
-reads_added (write_failed ∷ endings) ending = reads_added endings ending
+reads_added (Closed ∷ endings) ending = reads_added endings ending
+reads_added (ReadFailed ∷ endings) ending = omega (arith, reads_added endings ending)
+reads_added (WriteFailed ∷ endings) ending = reads_added endings ending
 
-writes_added : (endings : List Ending) (ending : Ending) → write_failures (endings ++ ending ∷ []) ≡ write_failures endings + write_failures (ending ∷ [])
+writes_added : (endings : List Ended) (ending : Ended) → write_failures (endings ++ ending ∷ []) ≡ write_failures endings + write_failures (ending ∷ [])
 writes_added [] ending = omega arith
-writes_added (closed ∷ endings) ending = writes_added endings ending
-writes_added (read_failed ∷ endings) ending = writes_added endings ending
-writes_added (write_failed ∷ endings) ending = omega (arith, writes_added endings ending)
+writes_added (Closed ∷ endings) ending = writes_added endings ending
+writes_added (ReadFailed ∷ endings) ending = writes_added endings ending
+writes_added (WriteFailed ∷ endings) ending = omega (arith, writes_added endings ending)
 
 -- a bound where the count stayed, and where it rose
 bound_stays : (n k before mid now : ℕ) → k ≡ n + 0 → now ≡ mid → RoseBy n before mid → RoseBy k before now
@@ -47,18 +47,18 @@ bound_stays n k before mid now e same b = omega (arith, e, same, b)
 bound_rises : (n k before mid now : ℕ) → k ≡ n + 1 → Rose mid now → RoseBy n before mid → RoseBy k before now
 bound_rises n k before mid now e rose b = omega (arith, e, rose, b)
 
-reads_bound : (ended : Ended) (endings : List Ending) (first : ℕ) (mid new : LineState) → FaultsBy ended mid.read_faults new.read_faults mid.write_faults new.write_faults → RoseBy (read_failures endings) first mid.read_faults → RoseBy (read_failures (endings ++ ending_of ended ∷ [])) first new.read_faults
-reads_bound Closed endings first mid new f b = bound_stays (read_failures endings) _ first mid.read_faults new.read_faults (reads_added endings closed) f.0 b
-reads_bound ReadFailed endings first mid new f b = bound_rises (read_failures endings) _ first mid.read_faults new.read_faults (reads_added endings read_failed) f.0 b
-reads_bound WriteFailed endings first mid new f b = bound_stays (read_failures endings) _ first mid.read_faults new.read_faults (reads_added endings write_failed) f.0 b
+reads_bound : (ended : Ended) (endings : List Ended) (first : ℕ) (mid new : LineState) → FaultsBy ended mid.read_faults new.read_faults mid.write_faults new.write_faults → RoseBy (read_failures endings) first mid.read_faults → RoseBy (read_failures (endings ++ ended ∷ [])) first new.read_faults
+reads_bound Closed endings first mid new f b = bound_stays (read_failures endings) _ first mid.read_faults new.read_faults (reads_added endings Closed) f.0 b
+reads_bound ReadFailed endings first mid new f b = bound_rises (read_failures endings) _ first mid.read_faults new.read_faults (reads_added endings ReadFailed) f.0 b
+reads_bound WriteFailed endings first mid new f b = bound_stays (read_failures endings) _ first mid.read_faults new.read_faults (reads_added endings WriteFailed) f.0 b
 
-writes_bound : (ended : Ended) (endings : List Ending) (first : ℕ) (mid new : LineState) → FaultsBy ended mid.read_faults new.read_faults mid.write_faults new.write_faults → RoseBy (write_failures endings) first mid.write_faults → RoseBy (write_failures (endings ++ ending_of ended ∷ [])) first new.write_faults
-writes_bound Closed endings first mid new f b = bound_stays (write_failures endings) _ first mid.write_faults new.write_faults (writes_added endings closed) f.1 b
-writes_bound ReadFailed endings first mid new f b = bound_stays (write_failures endings) _ first mid.write_faults new.write_faults (writes_added endings read_failed) f.1 b
-writes_bound WriteFailed endings first mid new f b = bound_rises (write_failures endings) _ first mid.write_faults new.write_faults (writes_added endings write_failed) f.1 b
+writes_bound : (ended : Ended) (endings : List Ended) (first : ℕ) (mid new : LineState) → FaultsBy ended mid.read_faults new.read_faults mid.write_faults new.write_faults → RoseBy (write_failures endings) first mid.write_faults → RoseBy (write_failures (endings ++ ended ∷ [])) first new.write_faults
+writes_bound Closed endings first mid new f b = bound_stays (write_failures endings) _ first mid.write_faults new.write_faults (writes_added endings Closed) f.1 b
+writes_bound ReadFailed endings first mid new f b = bound_stays (write_failures endings) _ first mid.write_faults new.write_faults (writes_added endings ReadFailed) f.1 b
+writes_bound WriteFailed endings first mid new f b = bound_rises (write_failures endings) _ first mid.write_faults new.write_faults (writes_added endings WriteFailed) f.1 b
 
 module _ {M E : Type 0} (Step : M → Request → List ℕ → M → Option E → Type 0) where
-  each_more : (connections : List Traffic) (machine mid next : M) (endings : List Ending) (edits : List E) (ending : Ending) (passed : Traffic) (later : List E)
+  each_more : (connections : List Traffic) (machine mid next : M) (endings : List Ended) (edits : List E) (ending : Ended) (passed : Traffic) (later : List E)
       → ServesEach Step fixed machine connections endings mid edits → Serves Step fixed ending mid passed next later
       → ServesEach Step fixed machine (connections ++ passed ∷ []) (endings ++ ending ∷ []) next (edits ++ later)
   each_more [] machine mid next endings edits ending passed later h one = (
@@ -67,7 +67,7 @@ module _ {M E : Type 0} (Step : M → Request → List ℕ → M → Option E �
     next,
     later,
     [],
-    ap (λ (l : List Ending). l ++ ending ∷ []) h.0,
+    ap (λ (l : List Ended). l ++ ending ∷ []) h.0,
     ap (λ (l : List E). l ++ later) h.2 ∙ sym (append-nil later),
     subst (λ (m : M). Serves Step fixed ending m passed next later) h.1 one,
     (refl, refl, refl),
@@ -78,7 +78,7 @@ module _ {M E : Type 0} (Step : M → Request → List ℕ → M → Option E �
     m,
     first,
     rest ++ later,
-    ap (λ (l : List Ending). l ++ ending ∷ []) all_endings,
+    ap (λ (l : List Ended). l ++ ending ∷ []) all_endings,
     ap (λ (l : List E). l ++ later) all_told ∙ append_assoc first rest later,
     served,
     each_more connections m mid next others rest ending passed later each one,
@@ -152,14 +152,14 @@ module _ {M W E : Type 0} (Step : M → Request → List ℕ → M → Option E 
   pub record PortSoFar (count : ℕ) (last : Ended) (machine now : M) (old mid : LineState) (watchers watchers' : W) : Type 0 where
     pub connections : List Traffic
     pub edits : List E
-    pub endings : List Ending
+    pub endings : List Ended
     pub many : length connections ≡ count
     pub came : Came old.port.to_come mid.port.to_come connections
     pub all_carried : carried mid ≡ carried old ++ connections
     pub each : ServesEach Step fixed machine connections endings now edits
     pub read_bound : RoseBy (read_failures endings) old.read_faults mid.read_faults
     pub write_bound : RoseBy (write_failures endings) old.write_faults mid.write_faults
-    pub ended : ending_of last ≡ last_of endings
+    pub ended : last ≡ last_of endings
     pub same_faults : mid.port.faults ≡ old.port.faults
     pub kept : Keeps edits watchers watchers'
     pub same_listening : mid.port.listening ≡ old.port.listening
@@ -198,15 +198,15 @@ module _ {M W E : Type 0} (Step : M → Request → List ℕ → M → Option E 
       record {
         connections = s.connections ++ v.passed ∷ [];
         edits = s.edits ++ v.edits;
-        endings = s.endings ++ ending_of ended ∷ [];
+        endings = s.endings ++ ended ∷ [];
         many = omega (arith, s.many, length_push s.connections v.passed);
         came = subst (λ (t : Option (List (List ℕ))). Came old.port.to_come t (s.connections ++ v.passed ∷ [])) (sym (ap (λ (p : PortState). p.to_come) same_port))
             (came_more old.port.to_come mid.port.to_come begun.port.to_come begun.inward new.inward s.connections v.passed s.came n.comes truthful v.gave v.found_end);
         all_carried = carried_more old mid begun new s.connections v.passed s.all_carried n same_port v.gave v.found_end v.took;
-        each = each_more Step s.connections machine now next s.endings s.edits (ending_of ended) v.passed v.edits s.each v.serves;
+        each = each_more Step s.connections machine now next s.endings s.edits ended v.passed v.edits s.each v.serves;
         read_bound = reads_bound ended s.endings old.read_faults mid new faults s.read_bound;
         write_bound = writes_bound ended s.endings old.write_faults mid new faults s.write_bound;
-        ended = last_added s.endings (ending_of ended);
+        ended = last_added s.endings ended;
         same_faults = ap (λ (p : PortState). p.faults) same_port ∙ n.same_faults ∙ s.same_faults;
         kept = more s.edits v.edits a b c s.kept v.kept;
         same_listening = ap (λ (p : PortState). p.listening) same_port ∙ n.same_listening ∙ s.same_listening;

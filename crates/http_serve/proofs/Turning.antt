@@ -11,8 +11,8 @@ use Rattle.http_wire.specs.Asking.{WireState, fresh_wire}
 use Rattle.http_wire.specs.Items.{AsksFor}
 use Rattle.http_wire.specs.Serving.{EndsBy, GoesOn, Run}
 use Rattle.http_wire.proofs.Connections.{run_none, run_more, run-append}
-use Rattle.http_serve.specs.declared.connection.Ended.{Ended}
-use Rattle.http_serve.specs.Endings.{ending_of, KeepsTheRest, FaultsBy, FaultsSoFar}
+use Rattle.http_wire.specs.declared.ended.Ended.{Ended}
+use Rattle.http_serve.specs.Endings.{KeepsTheRest, FaultsBy, FaultsSoFar}
 use Rattle.http_serve.specs.Fixed.{fixed}
 use Rattle.http_serve.proofs.Faults.{faults_on}
 use Rattle.http_serve.specs.inner.Turns.{GivesOn, Turn}
@@ -126,7 +126,7 @@ module _ {M W E : Type 0} (Step : M → Request → List ℕ → M → Option E 
             last = t.written;
             edit = t.edit;
             run = run_on t.read;
-            ends = subst (λ (n : ℕ). EndsBy Step fixed (ending_of ended) n now bytes new.inward.ended t.written next t.edit) (sym so_far.count) t.did;
+            ends = subst (λ (n : ℕ). EndsBy Step fixed ended n now bytes new.inward.ended t.written next t.edit) (sym so_far.count) t.did;
             wrote = refl;
             all_told = refl;
           };

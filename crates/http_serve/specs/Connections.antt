@@ -5,8 +5,8 @@ use Rattle.http_wire.specs.Serving.{Serves}
 use Rattle.xcap_io.specs.Causes.{LineState}
 use Rattle.xcap_io.specs.Histories.{Traffic}
 use Rattle.xcap_io.specs.Passing.{Gave, Took}
-use Rattle.http_serve.specs.declared.connection.Ended.{Ended}
-use Rattle.http_serve.specs.Endings.{ending_of, KeepsTheRest, FaultsBy}
+use Rattle.http_wire.specs.declared.ended.Ended.{Ended}
+use Rattle.http_serve.specs.Endings.{KeepsTheRest, FaultsBy}
 use Rattle.http_serve.specs.Fixed.{fixed}
 
 -- A connection was served: this passed over the line, the bytes that its reads gave, whether the last of them found the end, and
@@ -18,7 +18,7 @@ pub record ServesLine {M W E : Type 0} (Step : M → Request → List ℕ → M 
   pub gave : Gave old.inward new.inward passed.given
   pub found_end : passed.ended ≡ new.inward.ended
   pub took : Took old.taken new.taken passed.taken
-  pub serves : Serves Step fixed (ending_of ended) machine passed next edits
+  pub serves : Serves Step fixed ended machine passed next edits
   pub kept : Keeps edits watchers watchers'
   pub faults : FaultsBy ended old.read_faults new.read_faults old.write_faults new.write_faults
   pub exchanges : KeepsTheRest old new

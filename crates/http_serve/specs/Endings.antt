@@ -1,14 +1,8 @@
--- How a connection ended, and what that says of the counts of faults. This is the project's own.
+-- What it says of the counts of faults how a connection ended. This is the project's own.
 use Rattle.std.specs.Prelude.{◌≡◌, ℕ, Option, None, Some}
 use Rattle.xcap_io.specs.Causes.{LineState, Rose}
-use Rattle.http_wire.specs.Serving.{Ending, closed, read_failed, write_failed}
-use Rattle.http_serve.specs.declared.connection.Ended.{Ended}
-use Rattle.http_serve.specs.declared.connection.Ended.TheVariants.{Closed, ReadFailed, WriteFailed}
-
-abbrev pub ending_of : Ended → Ending
-ending_of Closed = closed
-ending_of ReadFailed = read_failed
-ending_of WriteFailed = write_failed
+use Rattle.http_wire.specs.declared.ended.Ended.{Ended}
+use Rattle.http_wire.specs.declared.ended.Ended.TheVariants.{Closed, ReadFailed, WriteFailed}
 
 -- The count of the reads or writes that failed rose where the connection ended so, and else both counts are as before.
 abbrev pub FaultsBy : Ended → ℕ → ℕ → ℕ → ℕ → Type 0

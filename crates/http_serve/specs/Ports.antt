@@ -1,19 +1,20 @@
 -- The connections of a port, served one after the other. RFC 9112, section 9.
 use Rattle.std.specs.Prelude.{◌≡◌, ℕ, ◌<◌, List, [], ◌∷◌, ◌++◌, length, Option, Some, IfSome}
 use Rattle.http_wire.specs.declared.request.Request.{Request}
-use Rattle.http_wire.specs.Serving.{Ending, closed, HaveBytes, ServesAll}
+use Rattle.http_wire.specs.Serving.{HaveBytes, ServesAll}
+use Rattle.http_wire.specs.declared.ended.Ended.{Ended}
+use Rattle.http_wire.specs.declared.ended.Ended.TheVariants.{Closed}
 use Rattle.xcap_io.specs.Causes.{LineState, Rose}
 use Rattle.xcap_io.specs.Connections.{carried}
 use Rattle.xcap_io.specs.Histories.{Traffic}
 use Rattle.http_serve.specs.declared.port.Served.{Served}
 use Rattle.http_serve.specs.declared.port.Stop.{Stop}
 use Rattle.http_serve.specs.declared.port.Stop.TheVariants.{Count, NoMore, PortFailed}
-use Rattle.http_serve.specs.Endings.{ending_of}
 use Rattle.http_serve.specs.Fixed.{fixed}
 
 -- how the last of some connections ended; closed, where there is none
-abbrev pub last_of : List Ending → Ending
-last_of [] = closed
+abbrev pub last_of : List Ended → Ended
+last_of [] = Closed
 last_of (ending ∷ []) = ending
 last_of (ending ∷ next ∷ endings) = last_of (next ∷ endings)
 
@@ -39,7 +40,7 @@ pub record ServesPort {M W E : Type 0} (Step : M → Request → List ℕ → M 
   pub came : Came old.port.to_come new.port.to_come connections
   pub all_carried : carried new ≡ carried old ++ connections
   pub serves : ServesAll Step fixed machine connections next edits old.read_faults new.read_faults old.write_faults new.write_faults
-  pub last : ending_of served.last ≡ last_of serves.endings
+  pub last : served.last ≡ last_of serves.endings
   pub stop : Stops served.stop most served.connections old new
   pub kept : Keeps edits watchers watchers'
   pub same_listening : new.port.listening ≡ old.port.listening

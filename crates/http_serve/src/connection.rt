@@ -11,22 +11,11 @@ ghost use Rattle.http_serve.specs.Written.{InBytes};
 
 use crate::buffers::Buffers;
 use crate::machine::{Answered, Machine};
-use http_wire::{Asked, ReadFault, Request, next_request, write_reply_through};
+use http_wire::{Asked, Ended, ReadFault, Request, next_request, write_reply_through};
 use reply_text::Reply;
 use std::alloc::AllocError;
 use watchers::Watchers;
 use xcap_io::{Failed, Line, Sink, Source};
-
-/// How a connection ended.
-#[derive(Clone, Copy, Debug, PartialEq, Eq)]
-pub enum Ended {
-    /// Behind a reply that closes it, or with its bytes.
-    Closed,
-    /// A read failed, and the line's count of such faults rose.
-    ReadFailed,
-    /// A write failed, and the line's count of such faults rose.
-    WriteFailed,
-}
 
 // The fixed reply of a status.
 fn fixed<E>(status: u16) -> Answered<E>

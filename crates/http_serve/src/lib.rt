@@ -10,7 +10,8 @@ mod machine;
 mod port;
 
 pub use buffers::Buffers;
-pub use connection::{Ended, serve_line};
+pub use connection::serve_line;
+pub use http_wire::Ended;
 pub use machine::{Answered, Machine};
 pub use port::{Served, Stop, serve_lines};
 pub use std::alloc::AllocError as NoMemory;

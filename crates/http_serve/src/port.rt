@@ -4,8 +4,9 @@ ghost use Rattle.http_serve.specs.Ports.{ServesPort};
 ghost use Rattle.http_serve.specs.Written.{InBytes};
 
 use crate::buffers::Buffers;
-use crate::connection::{Ended, serve_line};
+use crate::connection::serve_line;
 use crate::machine::Machine;
+use http_wire::Ended;
 use watchers::Watchers;
 use xcap_io::{Failed, Line, Port};
 

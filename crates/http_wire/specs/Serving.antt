@@ -5,12 +5,10 @@
 use Rattle.std.specs.Prelude.{◌≡◌, ℕ, ◌+◌, ◌<◌, ◌⊎◌, Bool, true, false, List, [], ◌∷◌, ◌++◌, length, take, Option, None, option_to_list}
 use Rattle.xcap_io.specs.Causes.{RoseBy}
 use Rattle.xcap_io.specs.Histories.{Traffic}
+use Rattle.http_wire.specs.declared.ended.Ended.{Ended}
+use Rattle.http_wire.specs.declared.ended.Ended.TheVariants.{Closed, ReadFailed, WriteFailed}
 use Rattle.http_wire.specs.declared.request.Request.{Request}
 use Rattle.http_wire.specs.Items.{Item, asks, bad, too_long, coded, IsFirst, AsksFor, ends_connection, IsUnfinished}
-
--- How a connection ended: after a reply that closes it or with its bytes, by a read that failed, or by a write.
-pub data Ending : Type 0 where
-  closed read_failed write_failed : Ending
 
 module _ {M E : Type 0} (Step : M → Request → List ℕ → M → Option E → Type 0) (fixed : ℕ → List ℕ) where
   -- How an item is answered. What is no request has a fixed reply and changes nothing.
@@ -51,17 +49,17 @@ module _ {M E : Type 0} (Step : M → Request → List ℕ → M → Option E �
 
   -- How a connection ends behind so many requests, by the bytes given behind them, and what is written then. Where a read
   -- failed, no item lies whole in these. A failed write leaves a proper prefix of a reply, and the item has had its effect.
-  abbrev pub EndsBy : Ending → ℕ → M → List ℕ → Bool → List ℕ → M → Option E → Type 0
-  EndsBy closed before machine given ended written next edit = Closes before machine given ended written next edit
-  EndsBy read_failed before machine given ended written next edit =
+  abbrev pub EndsBy : Ended → ℕ → M → List ℕ → Bool → List ℕ → M → Option E → Type 0
+  EndsBy Closed before machine given ended written next edit = Closes before machine given ended written next edit
+  EndsBy ReadFailed before machine given ended written next edit =
       IsUnfinished given × (written ≡ []) × (next ≡ machine) × (edit ≡ None)
-  EndsBy write_failed before machine given ended written next edit =
+  EndsBy WriteFailed before machine given ended written next edit =
       (reply : List ℕ) × (n : ℕ) × (n < length reply) × (written ≡ take n reply)
       × (Closes before machine given ended reply next edit ⊎ ((rest : List ℕ) × GoesOn before machine given reply next edit rest))
 
   -- One connection, over which this passed: requests at the front of the bytes given, after which it went on, and then what
   -- ended it. The replies to these items, one after the other, are the bytes taken, and their changes all that was told.
-  pub record Serves (ending : Ending) (machine : M) (passed : Traffic) (next : M) (edits : List E) : Type 0 where
+  pub record Serves (ending : Ended) (machine : M) (passed : Traffic) (next : M) (edits : List E) : Type 0 where
     pub requests : List Request
     pub replies : List ℕ
     pub early : List E
@@ -76,10 +74,10 @@ module _ {M E : Type 0} (Step : M → Request → List ℕ → M → Option E �
 
   -- Connections over which this passed, served one after the other, each from the state that the one before left: how each
   -- ended, and all changes told.
-  abbrev pub ServesEach : M → List Traffic → List Ending → M → List E → Type 0
+  abbrev pub ServesEach : M → List Traffic → List Ended → M → List E → Type 0
   ServesEach machine [] endings next edits = (endings ≡ []) × (next ≡ machine) × (edits ≡ [])
   ServesEach machine (passed ∷ connections) endings next edits =
-      (ending : Ending) × (others : List Ending) × (mid : M) × (first : List E) × (later : List E)
+      (ending : Ended) × (others : List Ended) × (mid : M) × (first : List E) × (later : List E)
       × (endings ≡ ending ∷ others) × (edits ≡ first ++ later)
       × Serves ending machine passed mid first
       × ServesEach mid connections others next later
@@ -97,31 +95,31 @@ HaveBytes all connections = ⊥
 
 -- what counts of a connection with these bytes that ended so: all of them, as if they had been given and the end been found;
 -- where a read failed, those given alone
-abbrev pub counted : Ending → List ℕ → Traffic → Traffic
-counted read_failed bytes passed = passed
+abbrev pub counted : Ended → List ℕ → Traffic → Traffic
+counted ReadFailed bytes passed = passed
 counted _ bytes passed = record passed { given = bytes; ended = true }
 
 -- the same of each of some connections
-abbrev pub counted_each : List Traffic → List (List ℕ) → List Ending → List Traffic
+abbrev pub counted_each : List Traffic → List (List ℕ) → List Ended → List Traffic
 counted_each [] all endings = []
 counted_each (passed ∷ connections) [] endings = passed ∷ connections
 counted_each (passed ∷ connections) (bytes ∷ all) [] = passed ∷ connections
 counted_each (passed ∷ connections) (bytes ∷ all) (ending ∷ endings) = counted ending bytes passed ∷ counted_each connections all endings
 
 -- how many connections ended that way
-abbrev pub read_failures : List Ending → ℕ
+abbrev pub read_failures : List Ended → ℕ
 read_failures [] = 0
-read_failures (read_failed ∷ endings) = read_failures endings + 1
+read_failures (ReadFailed ∷ endings) = read_failures endings + 1
 read_failures (_ ∷ endings) = read_failures endings
 
-abbrev pub write_failures : List Ending → ℕ
+abbrev pub write_failures : List Ended → ℕ
 write_failures [] = 0
-write_failures (write_failed ∷ endings) = write_failures endings + 1
+write_failures (WriteFailed ∷ endings) = write_failures endings + 1
 write_failures (_ ∷ endings) = write_failures endings
 
 -- All connections, where each failure is one of the reads or writes that failed.
 pub record ServesAll {M E : Type 0} (Step : M → Request → List ℕ → M → Option E → Type 0) (fixed : ℕ → List ℕ) (machine : M) (connections : List Traffic) (next : M) (edits : List E) (reads reads' writes writes' : ℕ) : Type 0 where
-  pub endings : List Ending
+  pub endings : List Ended
   pub each : ServesEach Step fixed machine connections endings next edits
   pub read_bound : RoseBy (read_failures endings) reads reads'
   pub write_bound : RoseBy (write_failures endings) writes writes'

@@ -5,6 +5,7 @@
 
 mod chunks;
 mod decoding;
+mod ended;
 mod framing;
 mod heads;
 mod laws;
@@ -14,6 +15,7 @@ mod request;
 mod requests;
 mod wire;
 
+pub use ended::Ended;
 // Fields found by their names, and words and blanks, by which the values of other fields are told too.
 pub use framing::{Named, find, is_same_word, trim_end, trim_start};
 pub use laws::{bytes_have_one_talk, given_bytes_decide, whole_items_stay};

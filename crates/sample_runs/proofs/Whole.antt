@@ -3,7 +3,9 @@ use Rattle.std.proofs.Common.{◌≡◌, ℕ, suc, Bool, true, List, [], ◌∷�
 use Rattle.xcap_io.specs.Causes.{LineState, RoseBy}
 use Rattle.xcap_io.specs.Histories.{Traffic}
 use Rattle.http_wire.specs.declared.request.Request.{Request}
-use Rattle.http_wire.specs.Serving.{Ending, closed, read_failed, write_failed, HaveBytes, ServesAll, ServesEach, counted_each, read_failures, write_failures}
+use Rattle.http_wire.specs.Serving.{HaveBytes, ServesAll, ServesEach, counted_each, read_failures, write_failures}
+use Rattle.http_wire.specs.declared.ended.Ended.{Ended}
+use Rattle.http_wire.specs.declared.ended.Ended.TheVariants.{Closed, ReadFailed, WriteFailed}
 use Rattle.http_wire.proofs.Counting.{counts_each}
 use Rattle.http_serve.specs.Fixed.{fixed}
 use Rattle.http_serve.specs.Ports.{Came, ServesPort, Stops}
@@ -35,29 +37,29 @@ no_failure : (n : ℕ) → RoseBy n 0 0 → n ≡ 0
 no_failure n few = omega (arith, few)
 
 -- of all connections all bytes count, and their end was found
-abbrev AllGiven : List Traffic → List (List ℕ) → List Ending → Type 0
+abbrev AllGiven : List Traffic → List (List ℕ) → List Ended → Type 0
 AllGiven connections all endings =
     (map (λ c. c.given) (counted_each connections all endings) ≡ all)
     × (map (λ c. c.ended) (counted_each connections all endings) ≡ map (λ c. true) (counted_each connections all endings))
 
-one_more : (passed : Traffic) (connections : List Traffic) (bytes : List ℕ) (all : List (List ℕ)) (ending : Ending) (others : List Ending)
+one_more : (passed : Traffic) (connections : List Traffic) (bytes : List ℕ) (all : List (List ℕ)) (ending : Ended) (others : List Ended)
     → (read_failures others ≡ 0 → AllGiven connections all others) → read_failures (ending ∷ others) ≡ 0 → AllGiven (passed ∷ connections) (bytes ∷ all) (ending ∷ others)
-one_more passed connections bytes all closed others rest none =
+one_more passed connections bytes all Closed others rest none =
     let t = rest none in (ap (λ (l : List (List ℕ)). bytes ∷ l) t.0, ap (λ (l : List Bool). true ∷ l) t.1)
-one_more passed connections bytes all read_failed others rest none = absurd (omega (arith, none))
-one_more passed connections bytes all write_failed others rest none =
+one_more passed connections bytes all ReadFailed others rest none = absurd (omega (arith, none))
+one_more passed connections bytes all WriteFailed others rest none =
     let t = rest none in (ap (λ (l : List (List ℕ)). bytes ∷ l) t.0, ap (λ (l : List Bool). true ∷ l) t.1)
 
 module _ {M E : Type 0} (Step : M → Request → List ℕ → M → Option E → Type 0) where
   -- where no read failed
-  all_given : (machine next : M) (edits : List E) (all : List (List ℕ)) (connections : List Traffic) (endings : List Ending) → HaveBytes all connections → ServesEach Step fixed machine connections endings next edits → read_failures endings ≡ 0
+  all_given : (machine next : M) (edits : List E) (all : List (List ℕ)) (connections : List Traffic) (endings : List Ended) → HaveBytes all connections → ServesEach Step fixed machine connections endings next edits → read_failures endings ≡ 0
       → AllGiven connections all endings
   all_given machine next edits [] [] endings have each none = (refl, refl)
   all_given machine next edits (bytes ∷ all) [] endings have each none = absurd have
   all_given machine next edits [] (passed ∷ connections) endings have each none = absurd have
   all_given machine next edits (bytes ∷ all) (passed ∷ connections) endings have (ending, others, mid, first, later, are, told, serves, rest) none =
-      subst (λ (l : List Ending). AllGiven (passed ∷ connections) (bytes ∷ all) l) (sym are)
-      (one_more passed connections bytes all ending others (all_given mid next later all connections others have.1 rest) (subst (λ (l : List Ending). read_failures l ≡ 0) are none))
+      subst (λ (l : List Ended). AllGiven (passed ∷ connections) (bytes ∷ all) l) (sym are)
+      (one_more passed connections bytes all ending others (all_given mid next later all connections others have.1 rest) (subst (λ (l : List Ended). read_failures l ≡ 0) are none))
 
   -- What a port served that never fails, of which these connections were to come, and as many were wanted.
   pub all_served : {W : Type 0} (Keeps : List E → W → W → Type 0) (served : Served) (machine next : M) (all : List (List ℕ)) (old new : LineState) (w w' : W)

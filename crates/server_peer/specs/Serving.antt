@@ -1,7 +1,8 @@
 -- Bytes that a server replies to, as those of one connection. RFC 9112, section 9; the room for its replies is the project's own.
 use Rattle.std.specs.Prelude.{◌≡◌, ℕ, Bool, true, List, length}
 use Rattle.xcap_io.specs.Histories.{Traffic}
-use Rattle.http_wire.specs.Serving.{Serves, closed}
+use Rattle.http_wire.specs.Serving.{Serves}
+use Rattle.http_wire.specs.declared.ended.Ended.TheVariants.{Closed}
 use Rattle.http_serve.specs.Fixed.{fixed}
 use Rattle.http_serve.specs.Written.{InBytes}
 use Rattle.notes.specs.declared.edit.Edit.{Edit}
@@ -24,7 +25,7 @@ pub record Replies (old new : ServerState) (asked replies : List ℕ) (m : State
   pub kept : Kept next
   pub stands : Stands new.content next
   pub edits : List Edit
-  pub serves : Serves (InBytes (FollowedStep old.root)) fixed closed m (whole asked replies) next edits
+  pub serves : Serves (InBytes (FollowedStep old.root)) fixed Closed m (whole asked replies) next edits
 
 -- The server replied to these bytes so, by the machine of its root, from each kept state for which it stands.
 pub record RepliesTo (old new : ServerState) (asked replies : List ℕ) : Type 0 where

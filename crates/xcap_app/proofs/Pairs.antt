@@ -1,5 +1,5 @@
 -- What was served on a pair was served from its input to its output.
-use Rattle.std.proofs.Common.{◌≡◌, List, [], ◌∷◌, ap, subst}
+use Rattle.std.proofs.Common.{◌≡◌, ℕ, List, [], ◌∷◌, ap, subst}
 use Rattle.std.specs.Borrow.{GName}
 use Rattle.store_core.specs.Keeping.{Kept}
 use Rattle.store_core.specs.State.{State}
@@ -10,7 +10,7 @@ use Rattle.xcap_io.specs.Pairs.{pair_state}
 use Rattle.xcap_io.proofs.Pairing.{Through, through}
 use Rattle.http_serve.specs.Connections.{ServesLine}
 use Rattle.http_serve.specs.Written.{InBytes}
-use Rattle.http_serve.specs.declared.connection.Ended.{Ended}
+use Rattle.http_wire.specs.declared.ended.Ended.{Ended}
 use Rattle.xcap_app.specs.Frames.{JustRead, JustWritten}
 use Rattle.xcap_app.specs.Replays.{ServesInput}
 

@@ -3,7 +3,8 @@ use Rattle.std.proofs.Common.{◌≡◌, ℕ, List, [], ◌++◌, inl, inr, ⊎_
 use Rattle.std.specs.Prelude.{codes, encode_utf8_all, length}
 use Rattle.notes.specs.declared.edit.Edit.{Edit}
 use Rattle.store_core.specs.State.{first_state}
-use Rattle.http_wire.specs.Serving.{closed, Serves as ServesOne, ServesAll}
+use Rattle.http_wire.specs.Serving.{Serves as ServesOne, ServesAll}
+use Rattle.http_wire.specs.declared.ended.Ended.TheVariants.{Closed}
 use Rattle.http_serve.specs.Fixed.{fixed}
 use Rattle.feed_laws.specs.Holding.{FollowedStep}
 use Rattle.http_serve.specs.Written.{InBytes}
@@ -110,7 +111,7 @@ module _ {W : Type 0} (Keeps : List Edit → W → W → Type 0) where
       record {
         state = r.state;
         edits = r.edits;
-        serves = subst (λ (t : Traffic). ServesOne (InBytes (FollowedStep root)) fixed closed (first_state 1) t r.state r.edits) is r.serves;
+        serves = subst (λ (t : Traffic). ServesOne (InBytes (FollowedStep root)) fixed Closed (first_state 1) t r.state r.edits) is r.serves;
         told = r.told;
       }
 

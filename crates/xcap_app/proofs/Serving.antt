@@ -10,8 +10,8 @@ use Rattle.xcap_io.specs.Causes.{LineState}
 use Rattle.xcap_io.specs.Connections.{listening_at}
 use Rattle.http_serve.specs.Ports.{ServesPort}
 use Rattle.http_serve.specs.Written.{InBytes}
-use Rattle.http_serve.specs.declared.connection.Ended.{Ended}
-use Rattle.http_serve.specs.declared.connection.Ended.TheVariants.{Closed, ReadFailed, WriteFailed}
+use Rattle.http_wire.specs.declared.ended.Ended.{Ended}
+use Rattle.http_wire.specs.declared.ended.Ended.TheVariants.{Closed, ReadFailed, WriteFailed}
 use Rattle.http_serve.specs.declared.port.Served.{Served}
 use Rattle.http_serve.specs.declared.port.Stop.TheVariants.{PortFailed}
 use Rattle.xcap_app.specs.Replays.{ReplaysCommand, ServesInput, exit_of_connection}

@@ -8,11 +8,11 @@ use Rattle.xcap_io.specs.Causes.{LineState}
 use Rattle.xcap_io.specs.Histories.{Traffic}
 use Rattle.xcap_io.specs.Passing.{Gave, Took}
 use Rattle.http_wire.specs.Serving.{Serves}
-use Rattle.http_serve.specs.Endings.{FaultsBy, ending_of}
+use Rattle.http_serve.specs.Endings.{FaultsBy}
 use Rattle.http_serve.specs.Fixed.{fixed}
 use Rattle.http_serve.specs.Written.{InBytes}
-use Rattle.http_serve.specs.declared.connection.Ended.{Ended}
-use Rattle.http_serve.specs.declared.connection.Ended.TheVariants.{Closed, ReadFailed, WriteFailed}
+use Rattle.http_wire.specs.declared.ended.Ended.{Ended}
+use Rattle.http_wire.specs.declared.ended.Ended.TheVariants.{Closed, ReadFailed, WriteFailed}
 use Rattle.xcap_app.specs.Frames.{JustRead, JustWritten}
 use Rattle.xcap_app.specs.declared.exit.Exit.{Exit}
 use Rattle.xcap_app.specs.declared.exit.Exit.TheVariants.{Done, InputFailed, OutputFailed, OutOfMemory}
@@ -37,7 +37,7 @@ module _ {W : Type 0} (Keeps : List Edit → W → W → Type 0) where
     pub gave : Gave input.inward input'.inward passed.given
     pub found_end : passed.ended ≡ input'.inward.ended
     pub took : Took output.taken output'.taken passed.taken
-    pub serves : Serves (InBytes (FollowedStep root)) fixed (ending_of ended) before passed state edits
+    pub serves : Serves (InBytes (FollowedStep root)) fixed ended before passed state edits
     pub told : Keeps edits watchers watchers'
     pub faults : FaultsBy ended input.read_faults input'.read_faults output.write_faults output'.write_faults
     pub just_read : JustRead input input'

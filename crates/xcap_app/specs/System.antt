@@ -7,7 +7,8 @@ use Rattle.http_wire.specs.declared.request.Request.{Request}
 use Rattle.edit_journal.specs.Texts.{IsTorn, Whole, text}
 use Rattle.logged_serve.specs.Books.{LoggedStep}
 use Rattle.xcap_server.specs.Redoing.{Redoing}
-use Rattle.http_wire.specs.Serving.{closed, Serves, ServesAll}
+use Rattle.http_wire.specs.Serving.{Serves, ServesAll}
+use Rattle.http_wire.specs.declared.ended.Ended.TheVariants.{Closed}
 use Rattle.http_serve.specs.Fixed.{fixed}
 use Rattle.feed_laws.specs.Holding.{FollowedStep}
 use Rattle.http_serve.specs.Written.{InBytes}
@@ -52,7 +53,7 @@ module _ {W : Type 0} (Keeps : List Edit → W → W → Type 0) where
   pub record AnswersInput (root : List ℕ) (input' output' : LineState) (watchers watchers' : W) : Type 0 where
     pub state : State
     pub edits : List Edit
-    pub serves : Serves (InBytes (FollowedStep root)) fixed closed (first_state 1) (record { given = input'.inward.given; ended = input'.inward.ended; taken = output'.taken }) state edits
+    pub serves : Serves (InBytes (FollowedStep root)) fixed Closed (first_state 1) (record { given = input'.inward.given; ended = input'.inward.ended; taken = output'.taken }) state edits
     pub told : Keeps edits watchers watchers'
 
   -- What came in over the input is the records of some requests, and a torn rest, in which none lies whole; from what they come to on,

@@ -7,10 +7,9 @@ use Rattle.xcap_io.specs.Passing.{IsTruthful}
 use Rattle.http_wire.specs.Serving.{HaveBytes, Serves, ServesEach, counted, counted_each}
 use Rattle.http_wire.proofs.Counting.{counts, counts_each}
 use Rattle.http_serve.specs.Connections.{ServesLine}
-use Rattle.http_serve.specs.Endings.{ending_of}
 use Rattle.http_serve.specs.Fixed.{fixed}
 use Rattle.http_serve.specs.Ports.{Came, ServesPort}
-use Rattle.http_serve.specs.declared.connection.Ended.{Ended}
+use Rattle.http_wire.specs.declared.ended.Ended.{Ended}
 use Rattle.http_serve.specs.declared.port.Served.{Served}
 use Rattle.http_serve.proofs.Ports.{has_bytes}
 use Rattle.feed_laws.specs.Holding.{FollowedStep}
@@ -19,9 +18,9 @@ use Rattle.http_serve.specs.Written.{InBytes}
 module _ {W : Type 0} (Keeps : List Edit → W → W → Type 0) where
   pub line_counts : (root : List ℕ) (ended : Ended) (m n : State) (old new : LineState) (a b : W) (bytes : List ℕ) → old.inward.left ≡ Some bytes → IsTruthful old.inward
       → (served : ServesLine (InBytes (FollowedStep root)) Keeps ended m n old new a b)
-      → Serves (InBytes (FollowedStep root)) fixed (ending_of ended) m (counted (ending_of ended) bytes served.passed) n served.edits
+      → Serves (InBytes (FollowedStep root)) fixed ended m (counted ended bytes served.passed) n served.edits
   line_counts root ended m n old new a b bytes told truthful served =
-      counts (InBytes (FollowedStep root)) fixed (ending_of ended) m n served.edits bytes served.passed
+      counts (InBytes (FollowedStep root)) fixed ended m n served.edits bytes served.passed
       (has_bytes old.inward new.inward bytes served.passed told truthful served.gave served.found_end) served.serves
 
   pub port_counts : (root : List ℕ) (most : ℕ) (by : Served) (m n : State) (old new : LineState) (a b : W) (all : List (List ℕ)) → old.port.to_come ≡ Some all

@@ -14,7 +14,7 @@ use Rattle.feed_laws.proofs.Answered.{holds}
 use Rattle.machine_words.proofs.Addresses.{addresses_stay}
 use Rattle.machine_words.proofs.Effects.{deleted_is_gone, put_is_there, second_put_leaves}
 use Rattle.machine_words.proofs.Steps.{answer_closes, step_of}
-use Rattle.http_serve.specs.declared.connection.Ended.{Ended}
+use Rattle.http_wire.specs.declared.ended.Ended.{Ended}
 use Rattle.http_serve.specs.declared.machine.Answered.{Answered}
 use Rattle.http_serve.specs.declared.port.Served.{Served}
 use Rattle.http_serve.specs.Connections.{ServesLine}

@@ -8,8 +8,7 @@ use Rattle.http_wire.specs.Asking.{WireState}
 use Rattle.http_wire.specs.Serving.{EndsBy, GoesOn}
 use Rattle.xcap_io.specs.Causes.{LineState}
 use Rattle.xcap_io.specs.Passing.{Gave, Took}
-use Rattle.http_serve.specs.declared.connection.Ended.{Ended}
-use Rattle.http_serve.specs.Endings.{ending_of}
+use Rattle.http_wire.specs.declared.ended.Ended.{Ended}
 use Rattle.http_serve.specs.Fixed.{fixed}
 use Rattle.http_serve.specs.Reading.{IsRead}
 
@@ -43,7 +42,7 @@ module _ {M E : Type 0} (Step : M → Request → List ℕ → M → Option E �
   abbrev pub Did : Option Ended → ℕ → M → List ℕ → Bool → List ℕ → M → Option E → List ℕ → Type 0
   Did None before machine given end written next edit held = GoesOn Step fixed before machine given written next edit held
   Did (Some ended) before machine given end written next edit held =
-      EndsBy Step fixed (ending_of ended) before machine given end written next edit
+      EndsBy Step fixed ended before machine given end written next edit
 
   -- Some bytes were read and some written, and the watchers were told the change, if there was one.
   pub record Turn {W : Type 0} (Keeps : List E → W → W → Type 0) (result : Option Ended) (wire wire' : WireState) (machine next : M) (old new : LineState) (watchers watchers' : W) : Type 0 where
