@@ -23,16 +23,13 @@ pub data Item : Type 0 where
 abbrev pub field_of : List ℕ × List ℕ → Field
 field_of f = record { name = f.0; value = f.1 }
 
--- the reply to a request ends the connection: it is the last that a connection may have, or of HTTP/1.0, or it asks for that
-abbrev pub ends_after : ℕ → RequestHead → Bool
-ends_after before head = (before == most_requests - 1) || ((head.minor == 0) || asks_to_close (map name_and_value head.fields))
-
--- the request of that head and body, behind so many requests of the connection
+-- The request of that head and body, behind so many requests of the connection. The reply to it ends the connection where it is the last
+-- that a connection may have, or of HTTP/1.0, or asks for that.
 abbrev pub request_of : ℕ → RequestHead → List ℕ → Request
 request_of before head body = record {
   method = head.method;
   target = head.target;
-  closes = ends_after before head;
+  closes = (before == most_requests - 1) || ((head.minor == 0) || asks_to_close (map name_and_value head.fields));
   fields = map field_of (map name_and_value head.fields);
   body = body;
 }
