@@ -17,7 +17,7 @@ use Rattle.http_exchange.specs.Heads.{BeginsWithHead, HasNoHead, NeverHasHead}
 use Rattle.http_exchange.specs.Tags.{TagIs}
 use Rattle.http_exchange.specs.Extents.{extent_by, body_by, body_to, LacksMore}
 use Rattle.http_exchange.specs.Inflow.{IsHeadAt, HeadOrNone, Settles}
-use Rattle.http_exchange.specs.Responses.{extent_of, response_of, no_head, refused, responds, IsDecided, IsUnfinished, lacks_head, lacks_body, Answers, GivesBody}
+use Rattle.http_exchange.specs.Responses.{extent_of, response_of, no_head, refused, responds, IsDecided, DecidesNothing, lacks_head, lacks_body, AnswersRead, GivesBody}
 use Rattle.http_exchange.proofs.Fronts.{begins-append}
 
 -- what holds by the cause of a fault, of another answer with that fault
@@ -56,7 +56,7 @@ given_is : (held : List ℕ) (left left' : Inward) → Gains [] held left left' 
 given_is held left left' gains = subst (Gave left left') (sym gains.added) gains.given
 
 -- there is no head
-pub answers_none : (held : List ℕ) (headers : List HeaderSpan) (left left' : Inward) → Gains [] held left left' → HeadOrNone held left' headers None → Answers left left' (Err faults.Head)
+pub answers_none : (held : List ℕ) (headers : List HeaderSpan) (left left' : Inward) → Gains [] held left left' → HeadOrNone held left' headers None → AnswersRead left left' (Err faults.Head)
 answers_none held headers left left' gains none = record { read = held; given = given_is held left left' gains; answer = by_end none }
   where
     by_end : NeverHasHead held ⊎ (HasNoHead held × IsEnded left') → IsDecided held left'.ended (Err faults.Head)
@@ -64,11 +64,11 @@ answers_none held headers left left' gains none = record { read = held; given = 
     by_end (inr (lacks, ends)) = inr (ends.0, no_head lacks refl)
 
 -- a read failed before there was a head
-pub answers_no_head : (held : List ℕ) (left left' : Inward) → Gains [] held left left' → HasNoHead held → Answers left left' (Err faults.ReadFailed)
+pub answers_no_head : (held : List ℕ) (left left' : Inward) → Gains [] held left left' → HasNoHead held → AnswersRead left left' (Err faults.ReadFailed)
 answers_no_head held left left' gains lacks = record { read = held; given = given_is held left left' gains; answer = lacks_head lacks }
 
 -- memory ran out
-pub answers_no_memory : (held : List ℕ) (left left' : Inward) → Gains [] held left left' → Answers left left' (Err faults.NoMemory)
+pub answers_no_memory : (held : List ℕ) (left left' : Inward) → Gains [] held left left' → AnswersRead left left' (Err faults.NoMemory)
 answers_no_memory held left left' gains = record { read = held; given = given_is held left left' gains; answer = tt }
 
 -- what the fields of the head say is what the spans cover
@@ -76,27 +76,27 @@ pub extent_at : (held : List ℕ) (headers : List HeaderSpan) (spans : ResponseS
 extent_at held headers spans head at = ap (λ (n : ℕ). extent_by n (map (header_bytes held) (take spans.headers headers))) at.parts.code ∙ ap (extent_by (status_code head)) at.parts.fields
 
 -- the head has a fault
-pub answers_refused : (held : List ℕ) (headers : List HeaderSpan) (spans : ResponseSpans) (head : ResponseHead) (fault : ResponseFault) (left left' : Inward) → Gains [] held left left' → IsHeadAt held headers spans head → IsOfFields fault → extent_of head ≡ Err fault → Answers left left' (Err fault)
+pub answers_refused : (held : List ℕ) (headers : List HeaderSpan) (spans : ResponseSpans) (head : ResponseHead) (fault : ResponseFault) (left left' : Inward) → Gains [] held left left' → IsHeadAt held headers spans head → IsOfFields fault → extent_of head ≡ Err fault → AnswersRead left left' (Err fault)
 answers_refused held headers spans head fault left left' gains at of is = record {
   read = held;
   given = given_is held left left' gains;
-  answer = of_fields fault (IsUnfinished held) (IsDecided held left'.ended) of (said_refused held left' head (drop spans.len held) fault at.begins (inl (λ more. ap (λ (e : Result Extent ResponseFault). body_to e (drop spans.len held ++ more)) is)));
+  answer = of_fields fault (DecidesNothing held) (IsDecided held left'.ended) of (said_refused held left' head (drop spans.len held) fault at.begins (inl (λ more. ap (λ (e : Result Extent ResponseFault). body_to e (drop spans.len held ++ more)) is)));
 }
 
 -- the body has one, or reading it stopped
-pub answers_body_fault : (held : List ℕ) (headers : List HeaderSpan) (spans : ResponseSpans) (head : ResponseHead) (extent : Extent) (fault : ResponseFault) (left mid left' : Inward) → Gains [] held left mid → IsHeadAt held headers spans head → extent_of head ≡ Ok extent → GivesBody extent (drop spans.len held) mid left' (Err fault) → Answers left left' (Err fault)
+pub answers_body_fault : (held : List ℕ) (headers : List HeaderSpan) (spans : ResponseSpans) (head : ResponseHead) (extent : Extent) (fault : ResponseFault) (left mid left' : Inward) → Gains [] held left mid → IsHeadAt held headers spans head → extent_of head ≡ Ok extent → GivesBody extent (drop spans.len held) mid left' (Err fault) → AnswersRead left left' (Err fault)
 answers_body_fault held headers spans head extent fault left mid left' gains at is gives =
     let rest : List ℕ = drop spans.len held ++ gives.read in
     let begins : BeginsWithHead (held ++ gives.read) head rest = begins-append held gives.read head (drop spans.len held) at.begins in
     record {
       read = held ++ gives.read;
       given = gave_on left mid left' held gives.read (given_is held left mid gains) gives.given;
-      answer = by_cause fault (LacksMore extent rest) (IsUnfinished (held ++ gives.read)) (Settles (body_by extent) rest left') (IsDecided (held ++ gives.read) left'.ended) (lacks_body head rest extent begins is) (λ e settled. said_refused (held ++ gives.read) left' head rest e begins (subst (λ (x : Result Extent ResponseFault). Settles (body_to x) rest left' (Err e)) (sym is) settled)) gives.body;
+      answer = by_cause fault (LacksMore extent rest) (DecidesNothing (held ++ gives.read)) (Settles (body_by extent) rest left') (IsDecided (held ++ gives.read) left'.ended) (lacks_body head rest extent begins is) (λ e settled. said_refused (held ++ gives.read) left' head rest e begins (subst (λ (x : Result Extent ResponseFault). Settles (body_to x) rest left' (Err e)) (sym is) settled)) gives.body;
     }
 
 -- the body is there
 pub answers_response : (held : List ℕ) (headers : List HeaderSpan) (spans : ResponseSpans) (head : ResponseHead) (extent : Extent) (tag : Option (List ℕ)) (body : List ℕ) (left mid left' : Inward) → Gains [] held left mid → IsHeadAt held headers spans head → extent_of head ≡ Ok extent
-    → TagIs (map (header_bytes held) (take spans.headers headers)) tag → GivesBody extent (drop spans.len held) mid left' (Ok body) → Answers left left' (Ok (record { status = spans.code; tag = tag; body = body }))
+    → TagIs (map (header_bytes held) (take spans.headers headers)) tag → GivesBody extent (drop spans.len held) mid left' (Ok body) → AnswersRead left left' (Ok (record { status = spans.code; tag = tag; body = body }))
 answers_response held headers spans head extent tag body left mid left' gains at is tagged gives =
     let rest : List ℕ = drop spans.len held ++ gives.read in
     let given : List ℕ = held ++ gives.read in

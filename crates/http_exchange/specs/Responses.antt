@@ -26,29 +26,29 @@ response_of head tag body = record { status = status_code head; tag = tag; body 
 
 -- All bytes of a connection say this: there is no head; or the head, or what stands behind it, has a fault; or they are a
 -- response, with what may stand behind its body.
-pub data Says (bytes : List ℕ) (answer : Result Response ResponseFault) : Type 0 where
-  no_head : HasNoHead bytes → answer ≡ Err Head → Says bytes answer
+pub data SaysResponse (bytes : List ℕ) (answer : Result Response ResponseFault) : Type 0 where
+  no_head : HasNoHead bytes → answer ≡ Err Head → SaysResponse bytes answer
   refused : (head : ResponseHead) (rest : List ℕ) (fault : ResponseFault) → BeginsWithHead bytes head rest
-      → body_to (extent_of head) rest ≡ Err fault → answer ≡ Err fault → Says bytes answer
+      → body_to (extent_of head) rest ≡ Err fault → answer ≡ Err fault → SaysResponse bytes answer
   responds : (head : ResponseHead) (rest : List ℕ) (tag : Option (List ℕ)) (body : List ℕ) → BeginsWithHead bytes head rest
       → TagIs (map name_and_value head.fields) tag → body_to (extent_of head) rest ≡ Ok body
-      → answer ≡ Ok (response_of head tag body) → Says bytes answer
+      → answer ≡ Ok (response_of head tag body) → SaysResponse bytes answer
 
 -- These bytes were given, and this is what the bytes of the connection say: however they go on, or as a read found their end.
 abbrev pub IsDecided : List ℕ → Bool → Result Response ResponseFault → Type 0
-IsDecided given ended answer = ((more : List ℕ) → Says (given ++ more) answer) ⊎ ((ended ≡ true) × Says given answer)
+IsDecided given ended answer = ((more : List ℕ) → SaysResponse (given ++ more) answer) ⊎ ((ended ≡ true) × SaysResponse given answer)
 
 -- These bytes don't decide what is said: there is no head in them, or more of the body is due.
-pub data IsUnfinished (bytes : List ℕ) : Type 0 where
-  lacks_head : HasNoHead bytes → IsUnfinished bytes
+pub data DecidesNothing (bytes : List ℕ) : Type 0 where
+  lacks_head : HasNoHead bytes → DecidesNothing bytes
   lacks_body : (head : ResponseHead) (rest : List ℕ) (extent : Extent) → BeginsWithHead bytes head rest
-      → extent_of head ≡ Ok extent → LacksMore extent rest → IsUnfinished bytes
+      → extent_of head ≡ Ok extent → LacksMore extent rest → DecidesNothing bytes
 
 -- Bytes were read from the source, and the answer is what they say; where a read failed, they don't decide.
-pub record Answers (source source' : Inward) (result : Result Response ResponseFault) : Type 0 where
+pub record AnswersRead (source source' : Inward) (result : Result Response ResponseFault) : Type 0 where
   pub read : List ℕ
   pub given : Gave source source' read
-  pub answer : ByCause result (IsUnfinished read) (IsDecided read source'.ended)
+  pub answer : ByCause result (DecidesNothing read) (IsDecided read source'.ended)
 
 -- Bytes were read behind those that were held, and the body is by them all; where a read failed, they don't decide.
 pub record GivesBody (extent : Extent) (held : List ℕ) (source source' : Inward) (result : Result (List ℕ) ResponseFault) : Type 0 where

@@ -2,7 +2,7 @@
 ghost use Rattle.std.specs.Prelude.{◌+◌, Option, Ok};
 ghost use Rattle.xcap_io.specs.Causes.{Reads};
 ghost use Rattle.http_exchange.specs.Stops.{CountsFault};
-ghost use Rattle.http_exchange.specs.Responses.{Answers, GivesBody};
+ghost use Rattle.http_exchange.specs.Responses.{AnswersRead, GivesBody};
 
 use crate::ResponseFault;
 use crate::extents::{Extent, MAX_RESPONSE_BODY, read_extent};
@@ -61,7 +61,7 @@ fn read_body<S: Source>(
 /// of memory. Else the first of these that applies: `Head` where there is no head of at most `MAX_HEAD` bytes and `MAX_FIELDS` field
 /// lines, `Coding`, `Length`, `TooLong` for a body of more than `MAX_RESPONSE_BODY` bytes, `Short`.
 pub fn read_response<S: Source>(alloc: Global, source: &mut S) -> Result<Response, ResponseFault>
-    ensures answers_what_was_given { Answers (S.state source.old).inward (S.state source.new).inward result }
+    ensures answers_what_was_given { AnswersRead (S.state source.old).inward (S.state source.new).inward result }
     ensures only_reads_of_the_source { Reads (S.state source.old) (S.state source.new) }
     ensures counts_each_failure { CountsFault (S.state source.old).read_faults (S.state source.new).read_faults result }
 {

@@ -6,7 +6,7 @@ use Rattle.http_wire.specs.declared.ended.Ended.TheVariants.{Closed, ReadFailed,
 use Rattle.http_serve.specs.Endings.{FaultsBy}
 
 -- counts that stayed, and then those of how it ended
-pub faults_on : (ended : Ended) (old mid new : LineState) → mid.read_faults ≡ old.read_faults → mid.write_faults ≡ old.write_faults 
+pub faults_on : (ended : Ended) (old mid new : LineState) → mid.read_faults ≡ old.read_faults → mid.write_faults ≡ old.write_faults
     → FaultsBy ended mid.read_faults new.read_faults mid.write_faults new.write_faults → FaultsBy ended old.read_faults new.read_faults old.write_faults new.write_faults
 faults_on Closed old mid new reads writes f = (f.0 ∙ reads, f.1 ∙ writes)
 faults_on ReadFailed old mid new reads writes f = (subst (λ (n : ℕ). Rose n new.read_faults) reads f.0, f.1 ∙ writes)

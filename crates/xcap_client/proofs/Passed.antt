@@ -7,7 +7,7 @@ use Rattle.xcap_io.specs.Streams.{TookProperPrefix}
 use Rattle.http_exchange.specs.declared.request.Ask.{Ask}
 use Rattle.http_exchange.specs.declared.response.Response.{Response}
 use Rattle.http_exchange.specs.Requests.{request_bytes}
-use Rattle.http_exchange.specs.Responses.{IsDecided, IsUnfinished}
+use Rattle.http_exchange.specs.Responses.{IsDecided, DecidesNothing}
 use Rattle.http_exchange.specs.Stops.{ByCause}
 use Rattle.xcap_client.specs.declared.fault.ClientFault.{ClientFault}
 use Rattle.xcap_client.specs.declared.fault.ClientFault.TheVariants.{NoMemory, PeerFault}
@@ -43,7 +43,7 @@ by_exchange root ask old new given result (answered begun sent answer connects w
     let whole : answers.read ≡ new.inward.given = sym (answers.given.behind ∙ ap (λ (l : List ℕ). l ++ answers.read) none) in
     responded (traffic new) answer (one_began root old begun new connects (reads.same_peer ∙ writes.same_peer))
     (reads.same_taken ∙ took ∙ ap (λ (l : List ℕ). l ++ request_bytes root ask) nothing)
-    (subst (λ (read : List ℕ). ByCause answer (IsUnfinished read) (IsDecided read new.inward.ended)) whole answers.answer)
+    (subst (λ (read : List ℕ). ByCause answer (DecidesNothing read) (IsDecided read new.inward.ended)) whole answers.answer)
     (subst (λ (g : Result Response ClientFault). JudgesAll g result) is judged)
 
 pub connects_once : (root : List ℕ) (ask : Ask) (old new : LineState) (result : Result Response ClientFault) → Calls root ask old new result → ConnectsOnce root ask old new result

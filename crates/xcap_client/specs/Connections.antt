@@ -8,7 +8,7 @@ use Rattle.http_exchange.specs.declared.fault.ResponseFault.{ResponseFault}
 use Rattle.http_exchange.specs.declared.request.Ask.{Ask}
 use Rattle.http_exchange.specs.declared.response.Response.{Response}
 use Rattle.http_exchange.specs.Requests.{request_bytes}
-use Rattle.http_exchange.specs.Responses.{IsDecided, IsUnfinished}
+use Rattle.http_exchange.specs.Responses.{IsDecided, DecidesNothing}
 use Rattle.http_exchange.specs.Stops.{ByCause}
 use Rattle.xcap_client.specs.declared.fault.ClientFault.{ClientFault}
 use Rattle.xcap_client.specs.declared.fault.ClientFault.TheVariants.{NoMemory, PeerFault}
@@ -34,7 +34,7 @@ pub data ConnectsOnce (root : List ℕ) (ask : Ask) (old new : LineState) (resul
       → result ≡ Err PeerFault → ConnectsOnce root ask old new result
   responded : (passed : Traffic) (answer : Result Response ResponseFault) → OneBegan root old new passed
       → passed.taken ≡ request_bytes root ask
-      → ByCause answer (IsUnfinished passed.given) (IsDecided passed.given passed.ended) → JudgesAll (answer_to answer) result
+      → ByCause answer (DecidesNothing passed.given) (IsDecided passed.given passed.ended) → JudgesAll (answer_to answer) result
       → ConnectsOnce root ask old new result
 
 -- a count of the peer rose: that of connections, of writes or of reads that failed

@@ -10,7 +10,7 @@ use Rattle.http_exchange.specs.declared.fault.ResponseFault.TheVariants as respo
 use Rattle.http_exchange.specs.declared.request.Ask.{Ask}
 use Rattle.http_exchange.specs.declared.response.Response.{Response}
 use Rattle.http_exchange.specs.Requests.{request_bytes}
-use Rattle.http_exchange.specs.Responses.{Answers}
+use Rattle.http_exchange.specs.Responses.{AnswersRead}
 use Rattle.http_exchange.specs.Stops.{CountsFault}
 use Rattle.xcap_client.specs.declared.fault.ClientFault.{ClientFault}
 use Rattle.xcap_client.specs.declared.fault.ClientFault.TheVariants as faults
@@ -37,6 +37,6 @@ pub data Exchanges (root : List ℕ) (ask : Ask) (old new : LineState) (result :
       → result ≡ Err faults.PeerFault → Exchanges root ask old new result
   answered : (begun sent : LineState) (answer : Result Response ResponseFault)
       → Connects old begun (encode_utf8_all (address_of root)) → Writes begun sent → sent.write_faults ≡ begun.write_faults
-      → Took begun.taken sent.taken (request_bytes root ask) → Reads sent new → Answers sent.inward new.inward answer
+      → Took begun.taken sent.taken (request_bytes root ask) → Reads sent new → AnswersRead sent.inward new.inward answer
       → CountsFault sent.read_faults new.read_faults answer → result ≡ answer_to answer
       → Exchanges root ask old new result

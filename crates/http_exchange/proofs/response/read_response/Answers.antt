@@ -1,7 +1,7 @@
 use Rattle.std.proofs.Common.{ℕ, List, sym, ap, subst, ◌∙◌}
 use Rattle.std.specs.Prelude.{Err}
 use Rattle.std.proofs.lemmas.Result.{err_from_is_err_and}
-use Rattle.http_exchange.specs.Responses.{Answers}
+use Rattle.http_exchange.specs.Responses.{AnswersRead}
 use Rattle.http_exchange.proofs.Answering.{extent_at, answers_refused, answers_body_fault, answers_response}
 use Rattle.http_exchange.proofs.response.read_response.Goals as goal
 
@@ -12,7 +12,7 @@ returns-in_err-extent-clause-answers_what_was_given g c =
     let gains = rw c.new-inflow.ensures.holds_no_bytes at c.in_ok-spans.ensures.gains_what_the_source_gave in
     let found = rw c.in-Some.is at c.in_ok-spans.ensures.finds_a_head_or_none in
     let value = rw c.bytes.ensures.lends_the_bytes at c.in_err-extent.ensures.extent_by_the_fields in
-    subst (Answers (g.S.Line.state c.args.source.now).inward (g.S.Line.state c.next_head.new.source).inward) (sym (p.1 ∙ ap Err p.2))
+    subst (AnswersRead (g.S.Line.state c.args.source.now).inward (g.S.Line.state c.next_head.new.source).inward) (sym (p.1 ∙ ap Err p.2))
     (answers_refused held c.next_head.new.headers c.in-Some.spans found.0 c.in_err-extent.field-0.0 _ _ gains found.1 c.in_err-extent.ensures.fault_of_the_fields_alone (sym (extent_at held c.next_head.new.headers c.in-Some.spans found.0 found.1) ∙ sym value))
 
 pub returns-in_err-body-clause-answers_what_was_given : goal.returns-in_err-body-clause-answers_what_was_given
@@ -23,7 +23,7 @@ returns-in_err-body-clause-answers_what_was_given g c =
     let found = rw c.in-Some.is at c.in_ok-spans.ensures.finds_a_head_or_none in
     let value = rw c.bytes.ensures.lends_the_bytes at c.in_ok-extent.ensures.extent_by_the_fields in
     let gives = rw c.pass.ensures.lets_the_first_bytes_go at c.in_err-body.ensures.gives_the_body in
-    subst (Answers (g.S.Line.state c.args.source.now).inward (g.S.Line.state c.read_body.new.source).inward) (sym (p.1 ∙ ap Err p.2))
+    subst (AnswersRead (g.S.Line.state c.args.source.now).inward (g.S.Line.state c.read_body.new.source).inward) (sym (p.1 ∙ ap Err p.2))
     (answers_body_fault held c.next_head.new.headers c.in-Some.spans found.0 c.in_ok-extent.extent c.in_err-body.field-0.0 _ _ _ gains found.1 (sym (extent_at held c.next_head.new.headers c.in-Some.spans found.0 found.1) ∙ sym value) gives)
 
 pub returns-clause-answers_what_was_given : goal.returns-clause-answers_what_was_given
