@@ -17,7 +17,7 @@ use Rattle.http_wire.specs.declared.framing.Framing.TheVariants.{Length}
 use Rattle.http_wire.specs.declared.request.Request.{Request}
 use Rattle.http_wire.specs.Fields.{is_number, has_close, asks_to_close}
 use Rattle.http_wire.specs.Framing.{framing, lacks_host, coding_by, length_by}
-use Rattle.http_wire.specs.Items.{field_of, AsksWithLength}
+use Rattle.http_wire.specs.Items.{AsksFor, Opens, field_of, request_of, with_length}
 use Rattle.xcap_uri.specs.Roots.{IsRoot, path_of, authority_of, slash}
 use Rattle.http_exchange.specs.declared.request.Ask.{Ask}
 use Rattle.http_exchange.specs.Requests.{IsLawful, user_field, content_fields, fields_of, field_line, request_line, target_of, head_bytes}
@@ -211,26 +211,24 @@ understood root ask is lawful sendable =
     let all = are_sent host ask.body ask.user ask.media (in_utf8 (authority_of root) (root_authority_visible root _ _ is)) sendable.user sendable.media sendable.short_body in
     let back : map name_and_value head.fields ≡ fields = come_back fields all in
     let printed : print_request head ≡ head_bytes root ask = prints_head (encode_utf8_all ask.method) target fields in
-    let first : AsksWithLength 0 (head_bytes root ask ++ ask.body) (meant root ask) [] = record {
-      head = head;
-      body = ask.body;
-      opens = record {
-        begins = record {
-          reads = (
-            record {
-              method = method.1;
-              target = (some_target (encode_utf8_all (path_of root)) (encode_utf8_all ask.path), visible_in_target target seen);
-              target_text = visible_is_utf8 target seen;
-              minor = omega arith;
-              fields = All-from_recursion IsField head.fields (are_fields fields all);
-            },
-            ap (λ (l : List ℕ). l ++ ask.body) (sym printed) ∙ ap (λ (l : List ℕ). print_request head ++ l) (sym (append-nil ask.body)),
-          );
-          short = subst (λ (l : List ℕ). length l ≤ 16_384) (sym printed) sendable.short_head;
-          few = omega (arith, length-map fields tree, few_fields host ask.body ask.user ask.media);
-        };
-        framed = ap (framing 1) back ∙ framed host ask.body ask.user ask.media (no_body ask lawful) sendable.short_body;
+    let opens : Opens (head_bytes root ask ++ ask.body) head (Length (length ask.body)) (ask.body ++ []) = record {
+      begins = record {
+        reads = (
+          record {
+            method = method.1;
+            target = (some_target (encode_utf8_all (path_of root)) (encode_utf8_all ask.path), visible_in_target target seen);
+            target_text = visible_is_utf8 target seen;
+            minor = omega arith;
+            fields = All-from_recursion IsField head.fields (are_fields fields all);
+          },
+          ap (λ (l : List ℕ). l ++ ask.body) (sym printed) ∙ ap (λ (l : List ℕ). print_request head ++ l) (sym (append-nil ask.body)),
+        );
+        short = subst (λ (l : List ℕ). length l ≤ 16_384) (sym printed) sendable.short_head;
+        few = omega (arith, length-map fields tree, few_fields host ask.body ask.user ask.media);
       };
-      is = same_request ask.method (encode_utf8_all ask.method) target ask.body (asks_to_close (map name_and_value head.fields)) fields (map name_and_value head.fields) method.0 (ap asks_to_close back ∙ closes host ask.body ask.user ask.media) back;
+      framed = ap (framing 1) back ∙ framed host ask.body ask.user ask.media (no_body ask lawful) sendable.short_body;
     } in
-    ([], inl first, refl)
+    let asked : meant root ask ≡ request_of 0 head ask.body =
+    same_request ask.method (encode_utf8_all ask.method) target ask.body (asks_to_close (map name_and_value head.fields)) fields (map name_and_value head.fields) method.0 (ap asks_to_close back ∙ closes host ask.body ask.user ask.media) back in
+    let first : AsksFor 0 (head_bytes root ask ++ ask.body) (meant root ask) [] = with_length head ask.body opens asked in
+    ([], first, refl)

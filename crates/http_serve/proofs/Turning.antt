@@ -1,5 +1,5 @@
 -- Turns of a connection, one after the other.
-use Rattle.std.proofs.Common.{◌≡◌, ℕ, ◌+◌, ◌<◌, ◌==◌, inl, inr, false, List, [], ◌∷◌, ◌++◌, length, Option, None, Some, refl, sym, ap, subst, ◌∙◌, arith}
+use Rattle.std.proofs.Common.{◌≡◌, ℕ, ◌+◌, ◌<◌, ◌==◌, false, List, [], ◌∷◌, ◌++◌, length, Option, None, Some, refl, sym, ap, subst, ◌∙◌, arith}
 use Rattle.std.proofs.lemmas.Bool.Decides.{nat_tests}
 use Rattle.std.proofs.lemmas.List.{length_push}
 use Rattle.std.specs.Prelude.{option_to_list as told}
@@ -8,7 +8,7 @@ use Rattle.xcap_io.specs.Passing.{Gave, Took}
 use Rattle.xcap_io.proofs.Passing.{gave_none, gave_on, took_none, took_on}
 use Rattle.http_wire.specs.declared.request.Request.{Request}
 use Rattle.http_wire.specs.Asking.{WireState, fresh_wire}
-use Rattle.http_wire.specs.Items.{AsksFor}
+use Rattle.http_wire.specs.Items.{AsksFor, in_chunks, with_length}
 use Rattle.http_wire.specs.Serving.{EndsBy, GoesOn, Run}
 use Rattle.http_wire.proofs.Connections.{run_none, run_more, run-append}
 use Rattle.http_wire.specs.declared.ended.Ended.{Ended}
@@ -20,8 +20,8 @@ use Rattle.http_serve.specs.Connections.{ServesLine}
 
 -- a request that keeps the connection isn't the 1,000th
 open_below : (before : ℕ) (bytes : List ℕ) (request : Request) (rest : List ℕ) → AsksFor before bytes request rest → request.closes ≡ false → (before == 999) ≡ false
-open_below before bytes request rest (inl a) stays = let e = ap (λ (r : Request). r.closes) a.is in grind (arith, nat_tests)
-open_below before bytes request rest (inr a) stays = let e = ap (λ (r : Request). r.closes) a.is in grind (arith, nat_tests)
+open_below before bytes request rest (with_length head body opens is) stays = let e = ap (λ (r : Request). r.closes) is in grind (arith, nat_tests)
+open_below before bytes request rest (in_chunks head behind body opens reads short is) stays = let e = ap (λ (r : Request). r.closes) is in grind (arith, nat_tests)
 
 pub few_requests : {M E : Type 0} (Step : M → Request → List ℕ → M → Option E → Type 0) (before : ℕ) (machine next : M) (bytes written rest : List ℕ) (edit : Option E)
     → before < 1000 → GoesOn Step fixed before machine bytes written next edit rest → before + 1 < 1000

@@ -19,7 +19,7 @@ use Rattle.http_wire.specs.Fields.{asks_to_close}
 use Rattle.http_wire.specs.Framing.{framing}
 use Rattle.http_wire.specs.Heads.{HasNoHead, NeverHasHead}
 use Rattle.http_wire.specs.Chunked.{print_line, print_chunks, HasNoBody, MayBecomeBody, PassesLimit}
-use Rattle.http_wire.specs.Items.{bad, too_long, coded, field_of, request_of, Opens, Follows, IsFramed, AsksFor, IsBad, bad_fields, body_cut, no_head, no_body, IsTooLong, long_body, long_chunks, IsUnfinished, lacks_body, lacks_chunks}
+use Rattle.http_wire.specs.Items.{bad, too_long, coded, field_of, request_of, Opens, Follows, IsFramed, AsksFor, with_length, in_chunks, IsBad, bad_fields, body_cut, no_head, no_body, IsTooLong, long_body, long_chunks, IsUnfinished, lacks_body, lacks_chunks}
 use Rattle.http_wire.specs.Asking.{IsNext, IsAsked, Asks}
 use Rattle.http_wire.specs.Inflow.{Gains, IsHeadAt, IsOpenAt, HasBody, HasNoBodyYet, Decodes}
 use Rattle.http_wire.proofs.Fronts.{begins-append, head_at-append}
@@ -137,24 +137,17 @@ body_at held headers spans len o enough =
 
 pub asks_plain : (before : ℕ) (held : List ℕ) (headers : List HeaderSpan) (spans : RequestSpans) (len : ℕ) (request : Request) (o : IsOpenAt held headers spans (Length len)) → spans.len + len ≤ length held
     → request ≡ request_of before o.head (slice_range held spans.len (spans.len + len)) → AsksFor before held request (drop (spans.len + len) held)
-asks_plain before held headers spans len request o enough is = inl (record {
-  head = o.head;
-  body = slice_range held spans.len (spans.len + len);
-  opens = body_at held headers spans len o enough;
-  is = is;
-})
+asks_plain before held headers spans len request o enough is =
+    with_length o.head (slice_range held spans.len (spans.len + len)) (body_at held headers spans len o enough) is
 
 pub asks_in_chunks : (before : ℕ) (held read : List ℕ) (headers : List HeaderSpan) (spans : RequestSpans) (request : Request) (body rest : List ℕ) (o : IsOpenAt held headers spans Chunked) → HasBody (drop spans.len held ++ read) body rest
     → request ≡ request_of before o.head body → AsksFor before (held ++ read) request rest
-asks_in_chunks before held read headers spans request body rest o has is = inr (record {
-  head = o.head;
-  behind = drop spans.len held ++ read;
-  body = has.whole;
-  opens = opens-append held read o.head Chunked (drop spans.len held) (opens_at held headers spans Chunked o);
-  reads = has.reads;
-  short = omega (arith, has.short, ap length has.gives);
-  is = is ∙ ap (request_of before o.head) (sym has.gives);
-})
+asks_in_chunks before held read headers spans request body rest o has is =
+    in_chunks o.head (drop spans.len held ++ read) has.whole
+    (opens-append held read o.head Chunked (drop spans.len held) (opens_at held headers spans Chunked o))
+    has.reads
+    (omega (arith, has.short, ap length has.gives))
+    (is ∙ ap (request_of before o.head) (sym has.gives))
 
 -- with fewer bytes than the body has, the request isn't whole
 pub lacks : (held : List ℕ) (headers : List HeaderSpan) (spans : RequestSpans) (len : ℕ) → IsOpenAt held headers spans (Length len) → length held < spans.len + len → Follows (Length len) held (λ rest. length rest < len)

@@ -15,7 +15,7 @@ use Rattle.http_wire.specs.Heads.{HasNoHead}
 use Rattle.http_wire.specs.Chunked.{ChunkedBody, print_body, ReadsBody, HasNoBody, PassesLimit, chunk_data as joined}
 use Rattle.http_wire.specs.Decoding.{Decoding, decoding, start}
 use Rattle.http_wire.specs.declared.chunks.Stage.TheVariants.{Done, TooLong}
-use Rattle.http_wire.specs.Items.{Item, asks, bad, too_long, coded, request_of, Opens, Follows, IsFramed, AsksFor, IsBad, no_head, bad_fields, body_cut, no_body, IsTooLong, long_body, long_chunks, FirstItem, SameRest, ends_connection, Talk}
+use Rattle.http_wire.specs.Items.{Item, asks, bad, too_long, coded, request_of, Opens, Follows, IsFramed, AsksFor, with_length, in_chunks, IsBad, no_head, bad_fields, body_cut, no_body, IsTooLong, long_body, long_chunks, FirstItem, SameRest, ends_connection, Talk}
 use Rattle.http_wire.specs.Inflow.{HasNoBodyYet}
 use Rattle.http_wire.proofs.Fronts.{head_feeds}
 use Rattle.http_wire.proofs.BodyRuns.{settles_once, reads_body}
@@ -76,8 +76,8 @@ long_kind bytes (long_body f) = framed_kind bytes LongBody 2 f (λ rest. refl)
 long_kind bytes (long_chunks f) = follows_kind bytes Chunked PassesLimit 2 f (λ rest passes. inr (inl (passes, refl)))
 
 asks_kind : (before : ℕ) (bytes : List ℕ) (request : Request) (rest : List ℕ) → AsksFor before bytes request rest → HasKind bytes 0
-asks_kind before bytes request rest (inl a) = inr (a.head, Length (length a.body), a.body ++ rest, a.opens, inl (omega (arith, length-append a.body rest), refl))
-asks_kind before bytes request rest (inr a) = inr (a.head, Chunked, a.behind, a.opens, inl ((a.body, rest, a.reads, a.short), refl))
+asks_kind before bytes request rest (with_length head body opens is) = inr (head, Length (length body), body ++ rest, opens, inl (omega (arith, length-append body rest), refl))
+asks_kind before bytes request rest (in_chunks head behind body opens reads short is) = inr (head, Chunked, behind, opens, inl ((body, rest, reads, short), refl))
 
 has_kind : (before : ℕ) (bytes rest : List ℕ) (item : Item) → FirstItem before bytes item rest → HasKind bytes (kind item)
 has_kind before bytes rest (asks request) first = asks_kind before bytes request rest first
@@ -132,34 +132,34 @@ length_of (Length len) = len
 length_of Chunked = 0
 
 one_request : (before : ℕ) (bytes rest other : List ℕ) (a b : Request) → AsksFor before bytes a rest → AsksFor before bytes b other → (a ≡ b) × (rest ≡ other)
-one_request before bytes rest other a b (inl p) (inl q) =
-    let same = same_head bytes p.head q.head (Length (length p.body)) (Length (length q.body)) (p.body ++ rest) (q.body ++ other) p.opens q.opens in
-    let heads : p.head ≡ q.head = same.0 in
-    let size : length p.body ≡ length q.body = ap length_of same.1 in
-    let whole : p.body ++ rest ≡ q.body ++ other = same.2 in
-    let bodies : p.body ≡ q.body = sym (take_at p.body rest (length q.body) size) ∙ ap (take (length q.body)) whole ∙ take_at q.body other (length q.body) refl in (
-      p.is ∙ ap (λ (h : RequestHead). request_of before h p.body) heads ∙ ap (request_of before q.head) bodies ∙ sym q.is,
-      append_cancel_left q.body rest other (subst (λ (l : List ℕ). l ++ rest ≡ q.body ++ other) bodies whole),
+one_request before bytes rest other a b (with_length p body opens is) (with_length q body' opens' is') =
+    let same = same_head bytes p q (Length (length body)) (Length (length body')) (body ++ rest) (body' ++ other) opens opens' in
+    let heads : p ≡ q = same.0 in
+    let size : length body ≡ length body' = ap length_of same.1 in
+    let whole : body ++ rest ≡ body' ++ other = same.2 in
+    let bodies : body ≡ body' = sym (take_at body rest (length body') size) ∙ ap (take (length body')) whole ∙ take_at body' other (length body') refl in (
+      is ∙ ap (λ (h : RequestHead). request_of before h body) heads ∙ ap (request_of before q) bodies ∙ sym is',
+      append_cancel_left body' rest other (subst (λ (l : List ℕ). l ++ rest ≡ body' ++ other) bodies whole),
     )
-one_request before bytes rest other a b (inl p) (inr q) =
-    let same = same_head bytes p.head q.head (Length (length p.body)) Chunked (p.body ++ rest) q.behind p.opens q.opens in
-    absurd (apart (length p.body) same.1)
+one_request before bytes rest other a b (with_length p body opens is) (in_chunks q behind body' opens' reads' short' is') =
+    let same = same_head bytes p q (Length (length body)) Chunked (body ++ rest) behind opens opens' in
+    absurd (apart (length body) same.1)
   where
     apart : (n : ℕ) → Length n ≡ Chunked → ⊥
     apart n e = cc
-one_request before bytes rest other a b (inr p) (inl q) =
-    let same = same_head bytes p.head q.head Chunked (Length (length q.body)) p.behind (q.body ++ other) p.opens q.opens in
-    absurd (apart (length q.body) same.1)
+one_request before bytes rest other a b (in_chunks p behind body opens reads short is) (with_length q body' opens' is') =
+    let same = same_head bytes p q Chunked (Length (length body')) behind (body' ++ other) opens opens' in
+    absurd (apart (length body') same.1)
   where
     apart : (n : ℕ) → Chunked ≡ Length n → ⊥
     apart n e = cc
-one_request before bytes rest other a b (inr p) (inr q) =
-    let same = same_head bytes p.head q.head Chunked Chunked p.behind q.behind p.opens q.opens in
-    let heads : p.head ≡ q.head = same.0 in
-    let behind : p.behind ≡ q.behind = same.2 in
-    let one = settles_once start (print_body p.body) (print_body q.body) rest other (decoding Done (joined p.body.chunks)) (decoding Done (joined q.body.chunks)) (reads_body p.body p.reads.0 p.short) (reads_body q.body q.reads.0 q.short) (sym p.reads.1 ∙ behind ∙ q.reads.1) refl refl in
-    let bodies : joined p.body.chunks ≡ joined q.body.chunks = ap (λ (d : Decoding). d.body) one.0 in (
-      p.is ∙ ap (λ (h : RequestHead). request_of before h (joined p.body.chunks)) heads ∙ ap (request_of before q.head) bodies ∙ sym q.is,
+one_request before bytes rest other a b (in_chunks p behind body opens reads short is) (in_chunks q behind' body' opens' reads' short' is') =
+    let same = same_head bytes p q Chunked Chunked behind behind' opens opens' in
+    let heads : p ≡ q = same.0 in
+    let one_behind : behind ≡ behind' = same.2 in
+    let one = settles_once start (print_body body) (print_body body') rest other (decoding Done (joined body.chunks)) (decoding Done (joined body'.chunks)) (reads_body body reads.0 short) (reads_body body' reads'.0 short') (sym reads.1 ∙ one_behind ∙ reads'.1) refl refl in
+    let bodies : joined body.chunks ≡ joined body'.chunks = ap (λ (d : Decoding). d.body) one.0 in (
+      is ∙ ap (λ (h : RequestHead). request_of before h (joined body.chunks)) heads ∙ ap (request_of before q) bodies ∙ sym is',
       one.2,
     )
 

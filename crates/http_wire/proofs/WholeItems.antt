@@ -6,7 +6,7 @@ use Rattle.http_wire.specs.declared.framing.Framing.{Framing}
 use Rattle.http_wire.specs.declared.framing.Framing.TheVariants.{Bad as BadFields, Coded as OtherCoding, TooLong as LongBody, Length, Chunked}
 use Rattle.http_wire.specs.declared.request.Request.{Request}
 use Rattle.http_wire.specs.Chunked.{print_line, print_chunks, print_body, ReadsBody, HasNoBody, MayBecomeBody, PassesLimit}
-use Rattle.http_wire.specs.Items.{Item, asks, bad, too_long, coded, Opens, Follows, IsFramed, AsksFor, bad_fields, no_body, long_body, long_chunks, FirstItem, LiesWhole, IsUnfinished, lacks_head, lacks_body, lacks_chunks}
+use Rattle.http_wire.specs.Items.{Item, asks, bad, too_long, coded, Opens, Follows, IsFramed, AsksFor, with_length, in_chunks, bad_fields, no_body, long_body, long_chunks, FirstItem, LiesWhole, IsUnfinished, lacks_head, lacks_body, lacks_chunks}
 use Rattle.http_wire.specs.Inflow.{HasNoBodyYet}
 use Rattle.http_wire.proofs.Fronts.{lies_in_front}
 use Rattle.http_wire.proofs.BodyReached.{becomes_body, becomes_line}
@@ -59,21 +59,12 @@ never_body bytes more never none not_long = (
 )
 
 pub asks-append : (before : ℕ) (bytes more : List ℕ) (request : Request) (rest : List ℕ) → AsksFor before bytes request rest → AsksFor before (bytes ++ more) request (rest ++ more)
-asks-append before bytes more request rest (inl a) = inl (record {
-  head = a.head;
-  body = a.body;
-  opens = subst (Opens (bytes ++ more) a.head (Length (length a.body))) (append_assoc a.body rest more) (opens-append bytes more a.head (Length (length a.body)) (a.body ++ rest) a.opens);
-  is = a.is;
-})
-asks-append before bytes more request rest (inr a) = inr (record {
-  head = a.head;
-  behind = a.behind ++ more;
-  body = a.body;
-  opens = opens-append bytes more a.head Chunked a.behind a.opens;
-  reads = (a.reads.0, ap (λ (l : List ℕ). l ++ more) a.reads.1 ∙ append_assoc (print_body a.body) rest more);
-  short = a.short;
-  is = a.is;
-})
+asks-append before bytes more request rest (with_length head body opens is) =
+    with_length head body (subst (Opens (bytes ++ more) head (Length (length body))) (append_assoc body rest more) (opens-append bytes more head (Length (length body)) (body ++ rest) opens)) is
+asks-append before bytes more request rest (in_chunks head behind body opens reads short is) =
+    in_chunks head (behind ++ more) body (opens-append bytes more head Chunked behind opens)
+    (reads.0, ap (λ (l : List ℕ). l ++ more) reads.1 ∙ append_assoc (print_body body) rest more)
+    short is
 
 pub whole_stays : (before : ℕ) (bytes more : List ℕ) (item : Item) → LiesWhole before bytes item → (rest : List ℕ) × FirstItem before (bytes ++ more) item rest
 whole_stays before bytes more (asks request) whole = (whole.0 ++ more, asks-append before bytes more request whole.0 whole.1)
@@ -111,10 +102,10 @@ chunks_and_long : Chunked ≡ LongBody → ⊥
 chunks_and_long e = cc
 
 body_lacks : (before len : ℕ) (bytes : List ℕ) (item : Item) → Follows (Length len) bytes (λ rest. length rest < len) → LiesWhole before bytes item → ⊥
-body_lacks before len bytes (asks request) f (rest, inl a) =
-    let same = same_head bytes f.head a.head (Length len) (Length (length a.body)) f.rest (a.body ++ rest) f.opens a.opens in
-    absurd (omega (arith, ap length_of same.1, ap length same.2, length-append a.body rest, f.behind))
-body_lacks before len bytes (asks request) f (rest, inr a) = other_framing bytes f.head a.head (Length len) Chunked f.rest a.behind f.opens a.opens (length_and_chunks len)
+body_lacks before len bytes (asks request) f (rest, with_length head body opens is) =
+    let same = same_head bytes f.head head (Length len) (Length (length body)) f.rest (body ++ rest) f.opens opens in
+    absurd (omega (arith, ap length_of same.1, ap length same.2, length-append body rest, f.behind))
+body_lacks before len bytes (asks request) f (rest, in_chunks head behind body opens reads short is) = other_framing bytes f.head head (Length len) Chunked f.rest behind f.opens opens (length_and_chunks len)
 body_lacks before len bytes bad f (inl w) = other_framing bytes f.head w.0 (Length len) BadFields f.rest w.1 f.opens w.2 (length_and_bad len)
 body_lacks before len bytes bad f (inr w) = other_framing bytes f.head w.head (Length len) Chunked f.rest w.rest f.opens w.opens (length_and_chunks len)
 body_lacks before len bytes too_long f (long_body w) = other_framing bytes f.head w.0 (Length len) LongBody f.rest w.1 f.opens w.2 (length_and_long len)
@@ -122,10 +113,10 @@ body_lacks before len bytes too_long f (long_chunks w) = other_framing bytes f.h
 body_lacks before len bytes coded f w = other_framing bytes f.head w.0 (Length len) OtherCoding f.rest w.1 f.opens w.2 (length_and_coded len)
 
 chunks_lack : (before : ℕ) (bytes : List ℕ) (item : Item) → Follows Chunked bytes (λ rest. MayBecomeBody rest × HasNoBody rest × ¬ (PassesLimit rest)) → LiesWhole before bytes item → ⊥
-chunks_lack before bytes (asks request) f (rest, inl a) = other_framing bytes a.head f.head (Length (length a.body)) Chunked (a.body ++ rest) f.rest a.opens f.opens (length_and_chunks (length a.body))
-chunks_lack before bytes (asks request) f (rest, inr a) =
-    let same = same_head bytes f.head a.head Chunked Chunked f.rest a.behind f.opens a.opens in
-    f.behind.1 a.body rest (subst (λ (l : List ℕ). ReadsBody l a.body rest) (sym same.2) a.reads)
+chunks_lack before bytes (asks request) f (rest, with_length head body opens is) = other_framing bytes head f.head (Length (length body)) Chunked (body ++ rest) f.rest opens f.opens (length_and_chunks (length body))
+chunks_lack before bytes (asks request) f (rest, in_chunks head behind body opens reads short is) =
+    let same = same_head bytes f.head head Chunked Chunked f.rest behind f.opens opens in
+    f.behind.1 body rest (subst (λ (l : List ℕ). ReadsBody l body rest) (sym same.2) reads)
 chunks_lack before bytes bad f (inl w) = other_framing bytes f.head w.0 Chunked BadFields f.rest w.1 f.opens w.2 chunks_and_bad
 chunks_lack before bytes bad f (inr w) =
     let same = same_head bytes f.head w.head Chunked Chunked f.rest w.rest f.opens w.opens in
@@ -138,8 +129,8 @@ chunks_lack before bytes coded f w = other_framing bytes f.head w.0 Chunked Othe
 
 -- every item that lies whole has a head
 head_lacks : (before : ℕ) (bytes : List ℕ) (item : Item) → ((head : RequestHead) (what : Framing) (rest : List ℕ) → Opens bytes head what rest → ⊥) → LiesWhole before bytes item → ⊥
-head_lacks before bytes (asks request) none (rest, inl a) = none a.head (Length (length a.body)) (a.body ++ rest) a.opens
-head_lacks before bytes (asks request) none (rest, inr a) = none a.head Chunked a.behind a.opens
+head_lacks before bytes (asks request) none (rest, with_length head body opens is) = none head (Length (length body)) (body ++ rest) opens
+head_lacks before bytes (asks request) none (rest, in_chunks head behind body opens reads short is) = none head Chunked behind opens
 head_lacks before bytes bad none (inl w) = none w.0 BadFields w.1 w.2
 head_lacks before bytes bad none (inr w) = none w.head Chunked w.rest w.opens
 head_lacks before bytes too_long none (long_body w) = none w.0 LongBody w.1 w.2

@@ -50,26 +50,13 @@ pub record Follows (what : Framing) (bytes : List ℕ) (Behind : List ℕ → Ty
 abbrev pub IsFramed : Framing → List ℕ → Type 0
 IsFramed what bytes = (head : RequestHead) × (rest : List ℕ) × Opens bytes head what rest
 
--- the bytes begin with the request, whose body has the length that its head says, and then rest
-pub record AsksWithLength (before : ℕ) (bytes : List ℕ) (request : Request) (rest : List ℕ) : Type 0 where
-  pub head : RequestHead
-  pub body : List ℕ
-  pub opens : Opens bytes head (Length (length body)) (body ++ rest)
-  pub is : request ≡ request_of before head body
-
--- the bytes begin with the request, whose body is chunked and within the limit, and then rest
-pub record AsksInChunks (before : ℕ) (bytes : List ℕ) (request : Request) (rest : List ℕ) : Type 0 where
-  pub head : RequestHead
-  pub behind : List ℕ
-  pub body : ChunkedBody
-  pub opens : Opens bytes head Chunked behind
-  pub reads : ReadsBody behind body rest
-  pub short : length (chunk_data body.chunks) ≤ most_body_bytes
-  pub is : request ≡ request_of before head (chunk_data body.chunks)
-
--- The bytes begin with a whole request, and then rest.
-abbrev pub AsksFor : ℕ → List ℕ → Request → List ℕ → Type 0
-AsksFor before bytes request rest = AsksWithLength before bytes request rest ⊎ AsksInChunks before bytes request rest
+-- The bytes begin with a whole request, whose body has the length that its head says, or is chunked and within the limit; and then rest.
+pub data AsksFor (before : ℕ) (bytes : List ℕ) (request : Request) (rest : List ℕ) : Type 0 where
+  with_length : (head : RequestHead) (body : List ℕ) → Opens bytes head (Length (length body)) (body ++ rest)
+      → request ≡ request_of before head body → AsksFor before bytes request rest
+  in_chunks : (head : RequestHead) (behind : List ℕ) (body : ChunkedBody) → Opens bytes head Chunked behind → ReadsBody behind body rest
+      → length (chunk_data body.chunks) ≤ most_body_bytes → request ≡ request_of before head (chunk_data body.chunks)
+      → AsksFor before bytes request rest
 
 -- The bytes, of which there are some, are no request: there is no head, or its fields can't be taken, or its body is cut
 -- short by their end, or no chunked body stands where one is due.

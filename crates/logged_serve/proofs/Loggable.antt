@@ -1,5 +1,5 @@
 -- A request that was read on a connection is within the bounds of a record.
-use Rattle.std.proofs.Common.{◌≡◌, ℕ, ◌+◌, ◌*◌, ◌<◌, ◌≤◌, inl, inr, Bool, true, false, not, nat_le, List, [], ◌∷◌, ◌++◌, length, map, reverse, All, if◌then◌else◌, refl, sym, subst, ◌∙◌, arith, length-append}
+use Rattle.std.proofs.Common.{◌≡◌, ℕ, ◌+◌, ◌*◌, ◌<◌, ◌≤◌, Bool, true, false, not, nat_le, List, [], ◌∷◌, ◌++◌, length, map, reverse, All, if◌then◌else◌, refl, sym, subst, ◌∙◌, arith, length-append}
 use Rattle.std.proofs.lemmas.Bool.Decides.{nat_tests}
 use Rattle.std.proofs.lemmas.List.{length-map, length-reverse}
 use Rattle.std.proofs.lemmas.List.Elements.{All-cons, All-head, All-nil, All-tail}
@@ -16,7 +16,7 @@ use Rattle.http_wire.specs.Fields.{is_number}
 use Rattle.http_wire.specs.Framing.{coding_by, framing, length_by}
 use Rattle.http_wire.specs.Heads.{BeginsWithHead}
 use Rattle.http_wire.specs.Chunked.{chunk_data}
-use Rattle.http_wire.specs.Items.{AsksFor, field_of, request_of}
+use Rattle.http_wire.specs.Items.{AsksFor, field_of, in_chunks, request_of, with_length}
 use Rattle.edit_journal.specs.Records.{IsRecordable, field_text, method_number}
 use Rattle.edit_journal.proofs.Lengths.{content_length, field_length}
 use Rattle.http_serve.specs.Reading.{IsRead}
@@ -126,9 +126,9 @@ recordable before bytes rest head body begins short method =
     }
 
 by_kind : (before : ℕ) (bytes : List ℕ) (request : Request) (rest : List ℕ) → AsksFor before bytes request rest → IsLoggable request
-by_kind before bytes request rest (inl a) =
-    subst IsLoggable (sym a.is) (recordable before bytes (a.body ++ rest) a.head a.body a.opens.begins (framed_bounded a.head.minor (map name_and_value a.head.fields) (length a.body) a.opens.framed))
-by_kind before bytes request rest (inr a) = subst IsLoggable (sym a.is) (recordable before bytes a.behind a.head (chunk_data a.body.chunks) a.opens.begins a.short)
+by_kind before bytes request rest (with_length head body opens is) =
+    subst IsLoggable (sym is) (recordable before bytes (body ++ rest) head body opens.begins (framed_bounded head.minor (map name_and_value head.fields) (length body) opens.framed))
+by_kind before bytes request rest (in_chunks head behind body opens reads short is) = subst IsLoggable (sym is) (recordable before bytes behind head (chunk_data body.chunks) opens.begins short)
 
 pub loggable : (request : Request) → IsRead request → IsLoggable request
 loggable request read = by_kind read.before read.bytes request read.rest read.asked
