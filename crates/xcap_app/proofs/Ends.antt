@@ -13,6 +13,7 @@ use Rattle.usage_docs.specs.declared.judging.Fault.{Fault}
 use Rattle.notes.specs.declared.edit.Edit.{Edit}
 use Rattle.xml_tree.specs.Tree.{Tree}
 use Rattle.xcap_io.specs.Causes.{LineState, Rose}
+use Rattle.xcap_io.specs.Passing.{Took}
 use Rattle.http_wire.specs.declared.request.Request.{Request}
 use Rattle.store_core.specs.State.{State}
 use Rattle.xcap_io.proofs.Lines.{reads_none}
@@ -30,7 +31,7 @@ use Rattle.xcap_app.specs.Checks.{Checks, Examines}
 use Rattle.xcap_app.specs.Replays.{ReplaysCommand}
 use Rattle.xcap_app.specs.Serves.{ServesCommand}
 use Rattle.xcap_app.specs.Exits.{IsRefused}
-use Rattle.xcap_app.specs.Keeping.{KeepsCommand, KeepsOn, Wrote, exit_of_restart, keeps_on, no_journal, no_server}
+use Rattle.xcap_app.specs.Keeping.{KeepsCommand, KeepsOn, exit_of_restart, keeps_on, no_journal, no_server}
 use Rattle.xcap_app.specs.Runs.{Runs}
 use Rattle.xcap_app.specs.Samples.{RunsSample}
 use Rattle.xcap_app.specs.Telling.{IsToldAs}
@@ -158,7 +159,7 @@ module _ {W : Type 0} (Keeps : List Edit → W → W → Type 0) where
   refused_out usage (Faulty fault) input input' e = (e.0, e.1.gave, omega (arith, e.1.fits))
 
   never_on : (address root : List ℕ) (count : ℕ) (exit : Exit) (requests : List Request) (state : State) (port port' output output' : LineState) (w w' : W) {X : Type 0} → IsRefused exit
-      → KeepsOn Keeps (Wrote output output') (Rose output.write_faults output'.write_faults) address root count exit requests state port port' w w' → X
+      → KeepsOn Keeps (Took output.taken output'.taken) (Rose output.write_faults output'.write_faults) address root count exit requests state port port' w w' → X
   never_on address root count Done requests state port port' output output' w w' is k = absurd is
   never_on address root count Usage requests state port port' output output' w w' is k = absurd is
   never_on address root count InputFailed requests state port port' output output' w w' is k = absurd is
@@ -173,7 +174,7 @@ module _ {W : Type 0} (Keeps : List Edit → W → W → Type 0) where
       → KeepsCommand Keeps address root count exit port port' input input' output output' w w' → KeepsCommand Keeps address root count OutOfMemory port port' input input' output output' w w'
   unkept address root count exit port port' input input' output output' w w' is (no_server out p i o same) = no_server refl p i o same
   unkept address root count exit port port' input input' output output' w w' is (no_journal fault told breaks p same) = no_journal fault (told_out (exit_of_restart fault) exit is told) breaks p same
-  unkept address root count exit port port' input input' output output' w w' is (keeps_on requests state reads k) = never_on address root count exit requests state port port' output output' w w' is k
+  unkept address root count exit port port' input input' output output' w w' is (keeps_on requests state reads just k) = never_on address root count exit requests state port port' output output' w w' is k
 
   check_refused : (usage : TheUsage) (exit : Exit) (input input' output output' : LineState) → IsRefused exit → Checks usage exit input input' output output' → Checks usage OutOfMemory input input' output output'
   check_refused usage Done input input' output output' is r = absurd is

@@ -85,19 +85,19 @@ module _ (input input' : LineState) (journal journal' : JournalState) (s s' : Se
     failed rose = streams.cause (omega (arith, rose, none))
 
     stops_so : (fault : RestartFault) (r : Restarted (Err fault)) (stood : StandsFor s' r.requests) → StopsReading s.root fault input input' output output' r.bytes r.requests r.rest stood.state
-    stops_so faults.ReadFailed r stood = ((wrote output output' journal' (text r.requests) streams r.ending.0).took, r.ending.1, r.ending.2, r.faults.0)
+    stops_so faults.ReadFailed r stood = (wrote output output' journal' (text r.requests) streams r.ending.0, r.ending.1, r.ending.2, r.faults.0)
     stops_so faults.AppendFailed r stood =
         let e = r.ending in
         ((e.0, e.1, e.2, adds_some output output' journal' (text e.0) (record_of e.1) streams e.3), failed r.faults.1)
-    stops_so (faults.Damaged place) r stood = ((wrote output output' journal' (text r.requests) streams r.ending.0).took, r.ending.1, r.ending.2)
+    stops_so (faults.Damaged place) r stood = (wrote output output' journal' (text r.requests) streams r.ending.0, r.ending.1, r.ending.2)
     stops_so (faults.Refused number) r stood =
         let e = r.ending in
         let refused = e.1.3 in
         let answer : IsAnswer s.root (stock_of stood.state) e.1.0 (unchanged refused.0) =
         subst (λ (c : Stock). IsAnswer s.root c e.1.0 (unchanged refused.0)) stood.stands (subst (λ (root : List ℕ). IsAnswer root s'.content e.1.0 (unchanged refused.0)) about refused.1) in
-        ((wrote output output' journal' (text r.requests) streams e.0).took, e.2, (e.1.0, e.1.1, refused.0, e.1.2, answer))
-    stops_so faults.TooLong r stood = ((wrote output output' journal' (text r.requests) streams r.ending.0).took, r.ending.1, r.ending.2, r.ending.3)
-    stops_so faults.NoMemory r stood = let e = r.ending in (e.0, e.1, e.2, (wrote output output' journal' (text e.0) streams e.3).took)
+        (wrote output output' journal' (text r.requests) streams e.0, e.2, (e.1.0, e.1.1, refused.0, e.1.2, answer))
+    stops_so faults.TooLong r stood = (wrote output output' journal' (text r.requests) streams r.ending.0, r.ending.1, r.ending.2, r.ending.3)
+    stops_so faults.NoMemory r stood = let e = r.ending in (e.0, e.1, e.2, wrote output output' journal' (text e.0) streams e.3)
 
     -- it wasn't read to its end
     pub breaks_off : (fault : RestartFault) → Restarted (Err fault) → DoesntReadJournal s.root fault input input' output output'

@@ -147,7 +147,7 @@ module _ {W : Type 0} (Keeps : List Edit → W → W → Type 0) where
       → KeepsCommand Keeps address root count Done port port' input input' output output' w w' → AnswersKept Keeps root port port' input' output' w w'
   kept_done address root count port port' input input' output output' w w' none_yet none_given none_taken (no_server out p i o same) = let no : ⊥ = cc in absurd no
   kept_done address root count port port' input input' output output' w w' none_yet none_given none_taken (no_journal fault told breaks p same) = never_done fault told
-  kept_done address root count port port' input input' output output' w w' none_yet none_given none_taken (keeps_on requests state reads (served, kept, complete)) =
+  kept_done address root count port port' input input' output output' w w' none_yet none_given none_taken (keeps_on requests state reads just (served, kept, complete)) =
       let v = kept.serves in
       let all : carried port' ≡ v.connections = v.all_carried ∙ ap (λ (b : Begun). carried_by b.earlier b.is_present (traffic port) ++ v.connections) none_yet in
       let given : input'.inward.given ≡ reads.bytes = took_all input.inward.given input'.inward.given reads.bytes none_given reads.records.given.behind in
@@ -164,7 +164,7 @@ module _ {W : Type 0} (Keeps : List Edit → W → W → Type 0) where
         serves = subst (λ (l : List Traffic). ServesAll (InBytes (LoggedStep (FollowedStep root))) fixed (record { machine = state; requests = requests; failures = 0 }) l (record { machine = kept.next; requests = kept.accepted; failures = 0 }) v.edits
             port.read_faults port'.read_faults port.write_faults port'.write_faults) (sym all) v.serves;
         all_redone = kept.redone;
-        took = took_all output.taken output'.taken (text kept.accepted ++ []) none_taken kept.written.took ∙ append-nil (text kept.accepted);
+        took = took_all output.taken output'.taken (text kept.accepted ++ []) none_taken kept.written ∙ append-nil (text kept.accepted);
         told = v.kept;
       }
 

@@ -5,7 +5,7 @@ use Rattle.xcap_io.specs.Causes.{Aside, LineState, Rose}
 use Rattle.xcap_io.specs.Pairs.{unwritten}
 use Rattle.edit_journal.specs.Journals.{AddsSome, Goes, JournalState}
 use Rattle.edit_journal.specs.Streams.{stream_state}
-use Rattle.xcap_app.specs.Keeping.{Wrote}
+use Rattle.xcap_io.specs.Passing.{Took}
 use Rattle.xcap_app.specs.inner.Streams.{Streams}
 
 rose_by : (old new : JournalState) → old.faults ≡ 0 → Goes old new → 0 < new.faults → Rose old.beneath new.beneath
@@ -33,8 +33,8 @@ streams output output' name name' made len' faults' is behind goes =
     }
 
 -- what it holds was written
-pub wrote : (output output' : LineState) (journal' : JournalState) (bytes : List ℕ) → Streams output output' journal' → journal'.held ≡ bytes → Wrote output output' bytes
-wrote output output' journal' bytes s held = record { took = s.taken ∙ ap (λ (l : List ℕ). output.taken ++ l) held; just_written = s.just_written }
+pub wrote : (output output' : LineState) (journal' : JournalState) (bytes : List ℕ) → Streams output output' journal' → journal'.held ≡ bytes → Took output.taken output'.taken bytes
+wrote output output' journal' bytes s held = s.taken ∙ ap (λ (l : List ℕ). output.taken ++ l) held
 
 -- some of a record behind others
 pub adds_some : (output output' : LineState) (journal' : JournalState) (before record_bytes : List ℕ) → Streams output output' journal' → AddsSome before journal'.held record_bytes → AddsSome (output.taken ++ before) output'.taken record_bytes

@@ -90,11 +90,6 @@ pub record DoesntReadJournal (root : List ℕ) (fault : RestartFault) (input inp
   pub stops : StopsReading root fault input input' output output' bytes requests rest state
   pub just_written : JustWritten output output'
 
--- The output took these bytes, and nothing else changed of it but its count of failed writes.
-pub record Wrote (output output' : LineState) (bytes : List ℕ) : Type 0 where
-  pub took : Took output.taken output'.taken bytes
-  pub just_written : JustWritten output output'
-
 -- W is the type of the watchers, and `Keeps` says what they are after such changes. `IsWritten` says that these bytes were written to
 -- the new journal, and `HasFailed` that writing failed.
 module _ {W : Type 0} (Keeps : List Edit → W → W → Type 0) (IsWritten : List ℕ → Type 0) (HasFailed : Type 0) where
@@ -126,12 +121,12 @@ module _ {W : Type 0} (Keeps : List Edit → W → W → Type 0) (IsWritten : Li
   KeepsOn address root count _ requests state port port' watchers watchers' = ⊥
 
 -- Memory was wanted before anything was done; or the old journal wasn't read to its end, and no more was done; or it was, and the
--- connections that came were served.
+-- connections that came were served. The new journal is what the output took.
 pub data KeepsCommand {W : Type 0} (Keeps : List Edit → W → W → Type 0) (address root : List ℕ) (count : ℕ) (exit : Exit) (port port' input input' output output' : LineState) (watchers watchers' : W) : Type 0 where
   no_server : exit ≡ OutOfMemory → port' ≡ port → input' ≡ input → output' ≡ output → watchers' ≡ watchers
       → KeepsCommand Keeps address root count exit port port' input input' output output' watchers watchers'
   no_journal : (fault : RestartFault) → IsToldAs (exit_of_restart fault) exit → DoesntReadJournal root fault input input' output output' → port' ≡ port → watchers' ≡ watchers
       → KeepsCommand Keeps address root count exit port port' input input' output output' watchers watchers'
-  keeps_on : (requests : List Request) → (state : State) → ReadsJournal root input input' requests state
-      → KeepsOn Keeps (Wrote output output') (Rose output.write_faults output'.write_faults) address root count exit requests state port port' watchers watchers'
+  keeps_on : (requests : List Request) → (state : State) → ReadsJournal root input input' requests state → JustWritten output output'
+      → KeepsOn Keeps (Took output.taken output'.taken) (Rose output.write_faults output'.write_faults) address root count exit requests state port port' watchers watchers'
       → KeepsCommand Keeps address root count exit port port' input input' output output' watchers watchers'

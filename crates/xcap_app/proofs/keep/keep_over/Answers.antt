@@ -1,4 +1,6 @@
 use Rattle.std.proofs.Common.{◌≡◌, ◌<◌, ℕ, List, length, inl, refl, sym, ap, subst, ◌∙◌, arith}
+use Rattle.xcap_io.specs.Causes.{Rose}
+use Rattle.xcap_io.specs.Passing.{Took}
 use Rattle.edit_journal.specs.Logs.{LogState}
 use Rattle.edit_journal.specs.Texts.{text}
 use Rattle.edit_journal.specs.Journals.{JournalState}
@@ -34,8 +36,8 @@ returns-clause-keeps_by_the_server g c = λ output output' s.
     let state = read.0.state in
     let root : c.restart.new.replayer.root ≡ c.args.server.now.root = c.restart.ensures.stays_about_the_same in
     let kept = c.serve_logged.ensures.keeps_on restarts.requests state read.0.kept read.0.stands read.0.redone restarts.told restarts.ending.4 in
-    keeps_on restarts.requests state read.1
-    (keeps_so g.W.Watchers.keeps (λ bytes. later.held ≡ bytes) _ (0 < later.faults) _ (λ bytes held. wrote output output' later bytes s held) s.cause c.args.address.now c.args.server.now.root c.args.count restarts.requests state
+    keeps_on restarts.requests state read.1 s.just_written
+    (keeps_so g.W.Watchers.keeps (λ bytes. later.held ≡ bytes) (Took output.taken output'.taken) (0 < later.faults) (Rose output.write_faults output'.write_faults) (λ bytes held. wrote output output' later bytes s held) s.cause c.args.address.now c.args.server.now.root c.args.count restarts.requests state
     (p c.args.port.now) (p c.serve_logged.new.port) c.args.watchers.now c.serve_logged.new.watchers c.serve_logged.result
     (subst (λ (root : List ℕ). KeepsOn g.W.Watchers.keeps (λ bytes. later.held ≡ bytes) (0 < later.faults) c.args.address.now root c.args.count c.serve_logged.result restarts.requests state (p c.args.port.now) (p c.serve_logged.new.port) c.args.watchers.now c.serve_logged.new.watchers) root kept))
 
