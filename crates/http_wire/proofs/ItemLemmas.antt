@@ -19,7 +19,7 @@ use Rattle.http_wire.specs.Fields.{asks_to_close}
 use Rattle.http_wire.specs.Framing.{framing}
 use Rattle.http_wire.specs.Heads.{HasNoHead, NeverHasHead}
 use Rattle.http_wire.specs.Chunked.{print_line, print_chunks, HasNoBody, MayBecomeBody, PassesLimit}
-use Rattle.http_wire.specs.Items.{bad, too_long, coded, field_of, request_of, Opens, Follows, IsFramed, AsksFor, with_length, in_chunks, IsBad, bad_fields, body_cut, no_head, no_body, IsTooLong, long_body, long_chunks, IsUnfinished, lacks_body, lacks_chunks}
+use Rattle.http_wire.specs.Items.{bad, too_long, coded, field_of, request_of, Opens, BehindHead, IsFramed, AsksFor, with_length, in_chunks, IsBad, bad_fields, body_cut, no_head, no_body, IsTooLong, long_body, long_chunks, IsUnfinished, lacks_body, lacks_chunks}
 use Rattle.http_wire.specs.Asking.{IsNext, IsAsked, Asks}
 use Rattle.http_wire.specs.Inflow.{Gains, IsHeadAt, IsOpenAt, HasBody, HasNoBodyYet, Decodes}
 use Rattle.http_wire.proofs.Fronts.{begins-append, head_at-append}
@@ -90,7 +90,7 @@ pub framed_on : (held more : List ℕ) (headers : List HeaderSpan) (spans : Requ
 framed_on held more headers spans what o = (o.head, drop spans.len held ++ more, opens-append held more o.head what (drop spans.len held) (opens_at held headers spans what o))
 
 -- behind the head stand bytes of that kind
-pub follows_at : (held more : List ℕ) (headers : List HeaderSpan) (spans : RequestSpans) (what : Framing) (P : List ℕ → Type 0) → IsOpenAt held headers spans what → P (drop spans.len held ++ more) → Follows what (held ++ more) P
+pub follows_at : (held more : List ℕ) (headers : List HeaderSpan) (spans : RequestSpans) (what : Framing) (P : List ℕ → Type 0) → IsOpenAt held headers spans what → P (drop spans.len held ++ more) → BehindHead what (held ++ more) P
 follows_at held more headers spans what P o behind = record {
   head = o.head;
   rest = drop spans.len held ++ more;
@@ -150,7 +150,7 @@ asks_in_chunks before held read headers spans request body rest o has is =
     (is ∙ ap (request_of before o.head) (sym has.gives))
 
 -- with fewer bytes than the body has, the request isn't whole
-pub lacks : (held : List ℕ) (headers : List HeaderSpan) (spans : RequestSpans) (len : ℕ) → IsOpenAt held headers spans (Length len) → length held < spans.len + len → Follows (Length len) held (λ rest. length rest < len)
+pub lacks : (held : List ℕ) (headers : List HeaderSpan) (spans : RequestSpans) (len : ℕ) → IsOpenAt held headers spans (Length len) → length held < spans.len + len → BehindHead (Length len) held (λ rest. length rest < len)
 lacks held headers spans len o fewer = record {
   head = o.head;
   rest = drop spans.len held;

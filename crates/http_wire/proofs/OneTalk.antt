@@ -15,7 +15,7 @@ use Rattle.http_wire.specs.Heads.{HasNoHead}
 use Rattle.http_wire.specs.Chunked.{ChunkedBody, print_body, ReadsBody, HasNoBody, PassesLimit, chunk_data as joined}
 use Rattle.http_wire.specs.Decoding.{Decoding, decoding, start}
 use Rattle.http_wire.specs.declared.chunks.Stage.TheVariants.{Done, TooLong}
-use Rattle.http_wire.specs.Items.{Item, asks, bad, too_long, coded, request_of, Opens, Follows, IsFramed, AsksFor, with_length, in_chunks, IsBad, no_head, bad_fields, body_cut, no_body, IsTooLong, long_body, long_chunks, FirstItem, SameRest, ends_connection, Talk}
+use Rattle.http_wire.specs.Items.{Item, asks, bad, too_long, coded, request_of, Opens, BehindHead, IsFramed, AsksFor, with_length, in_chunks, IsBad, no_head, bad_fields, body_cut, no_body, IsTooLong, long_body, long_chunks, FirstItem, SameRest, ends_connection, Talk}
 use Rattle.http_wire.specs.Inflow.{HasNoBodyYet}
 use Rattle.http_wire.proofs.Fronts.{head_feeds}
 use Rattle.http_wire.proofs.BodyRuns.{settles_once, reads_body}
@@ -59,7 +59,7 @@ kind bad = 1
 kind too_long = 2
 kind coded = 3
 
-follows_kind : (bytes : List ℕ) (what : Framing) (P : List ℕ → Type 0) (k : ℕ) → Follows what bytes P → ((rest : List ℕ) → P rest → KindIs what rest k) → HasKind bytes k
+follows_kind : (bytes : List ℕ) (what : Framing) (P : List ℕ → Type 0) (k : ℕ) → BehindHead what bytes P → ((rest : List ℕ) → P rest → KindIs what rest k) → HasKind bytes k
 follows_kind bytes what P k f each = inr (f.head, what, f.rest, f.opens, each f.rest f.behind)
 
 framed_kind : (bytes : List ℕ) (what : Framing) (k : ℕ) → IsFramed what bytes → ((rest : List ℕ) → KindIs what rest k) → HasKind bytes k

@@ -6,7 +6,7 @@ use Rattle.http_wire.specs.declared.framing.Framing.{Framing}
 use Rattle.http_wire.specs.declared.framing.Framing.TheVariants.{Bad as BadFields, Coded as OtherCoding, TooLong as LongBody, Length, Chunked}
 use Rattle.http_wire.specs.declared.request.Request.{Request}
 use Rattle.http_wire.specs.Chunked.{print_line, print_chunks, print_body, ReadsBody, HasNoBody, MayBecomeBody, PassesLimit}
-use Rattle.http_wire.specs.Items.{Item, asks, bad, too_long, coded, Opens, Follows, IsFramed, AsksFor, with_length, in_chunks, bad_fields, no_body, long_body, long_chunks, FirstItem, LiesWhole, IsUnfinished, lacks_head, lacks_body, lacks_chunks}
+use Rattle.http_wire.specs.Items.{Item, asks, bad, too_long, coded, Opens, BehindHead, IsFramed, AsksFor, with_length, in_chunks, bad_fields, no_body, long_body, long_chunks, FirstItem, LiesWhole, IsUnfinished, lacks_head, lacks_body, lacks_chunks}
 use Rattle.http_wire.specs.Inflow.{HasNoBodyYet}
 use Rattle.http_wire.proofs.Fronts.{lies_in_front}
 use Rattle.http_wire.proofs.BodyReached.{becomes_body, becomes_line}
@@ -16,7 +16,7 @@ use Rattle.http_wire.proofs.OneTalk.{same_head, length_of}
 framed-append : (what : Framing) (bytes more : List ℕ) → IsFramed what bytes → IsFramed what (bytes ++ more)
 framed-append what bytes more f = (f.0, f.1 ++ more, opens-append bytes more f.0 what f.1 f.2)
 
-follows-append : (what : Framing) (bytes more : List ℕ) (P Q : List ℕ → Type 0) → ((rest : List ℕ) → P rest → Q (rest ++ more)) → Follows what bytes P → Follows what (bytes ++ more) Q
+follows-append : (what : Framing) (bytes more : List ℕ) (P Q : List ℕ → Type 0) → ((rest : List ℕ) → P rest → Q (rest ++ more)) → BehindHead what bytes P → BehindHead what (bytes ++ more) Q
 follows-append what bytes more P Q each f = record {
   head = f.head;
   rest = f.rest ++ more;
@@ -101,7 +101,7 @@ chunks_and_coded e = cc
 chunks_and_long : Chunked ≡ LongBody → ⊥
 chunks_and_long e = cc
 
-body_lacks : (before len : ℕ) (bytes : List ℕ) (item : Item) → Follows (Length len) bytes (λ rest. length rest < len) → LiesWhole before bytes item → ⊥
+body_lacks : (before len : ℕ) (bytes : List ℕ) (item : Item) → BehindHead (Length len) bytes (λ rest. length rest < len) → LiesWhole before bytes item → ⊥
 body_lacks before len bytes (asks request) f (rest, with_length head body opens is) =
     let same = same_head bytes f.head head (Length len) (Length (length body)) f.rest (body ++ rest) f.opens opens in
     absurd (omega (arith, ap length_of same.1, ap length same.2, length-append body rest, f.behind))
@@ -112,7 +112,7 @@ body_lacks before len bytes too_long f (long_body w) = other_framing bytes f.hea
 body_lacks before len bytes too_long f (long_chunks w) = other_framing bytes f.head w.head (Length len) Chunked f.rest w.rest f.opens w.opens (length_and_chunks len)
 body_lacks before len bytes coded f w = other_framing bytes f.head w.0 (Length len) OtherCoding f.rest w.1 f.opens w.2 (length_and_coded len)
 
-chunks_lack : (before : ℕ) (bytes : List ℕ) (item : Item) → Follows Chunked bytes (λ rest. MayBecomeBody rest × HasNoBody rest × ¬ (PassesLimit rest)) → LiesWhole before bytes item → ⊥
+chunks_lack : (before : ℕ) (bytes : List ℕ) (item : Item) → BehindHead Chunked bytes (λ rest. MayBecomeBody rest × HasNoBody rest × ¬ (PassesLimit rest)) → LiesWhole before bytes item → ⊥
 chunks_lack before bytes (asks request) f (rest, with_length head body opens is) = other_framing bytes head f.head (Length (length body)) Chunked (body ++ rest) f.rest opens f.opens (length_and_chunks (length body))
 chunks_lack before bytes (asks request) f (rest, in_chunks head behind body opens reads short is) =
     let same = same_head bytes f.head head Chunked Chunked f.rest behind f.opens opens in

@@ -40,7 +40,7 @@ pub record Opens (bytes : List ℕ) (head : RequestHead) (what : Framing) (rest 
   pub framed : framing head.minor (map name_and_value head.fields) ≡ what
 
 -- behind a head of that framing stand bytes with the property
-pub record Follows (what : Framing) (bytes : List ℕ) (Behind : List ℕ → Type 0) : Type 0 where
+pub record BehindHead (what : Framing) (bytes : List ℕ) (Behind : List ℕ → Type 0) : Type 0 where
   pub head : RequestHead
   pub rest : List ℕ
   pub opens : Opens bytes head what rest
@@ -63,13 +63,13 @@ pub data AsksFor (before : ℕ) (bytes : List ℕ) (request : Request) (rest : L
 pub data IsBad (bytes : List ℕ) : Type 0 where
   no_head : 0 < length bytes → HasNoHead bytes → IsBad bytes
   bad_fields : IsFramed Bad bytes → IsBad bytes
-  body_cut : (len : ℕ) → Follows (Length len) bytes (λ rest. length rest < len) → IsBad bytes
-  no_body : Follows Chunked bytes (λ rest. HasNoBody rest × ¬ (PassesLimit rest)) → IsBad bytes
+  body_cut : (len : ℕ) → BehindHead (Length len) bytes (λ rest. length rest < len) → IsBad bytes
+  no_body : BehindHead Chunked bytes (λ rest. HasNoBody rest × ¬ (PassesLimit rest)) → IsBad bytes
 
 -- The body is beyond the limit, by its length or by the numbers of its chunks.
 pub data IsTooLong (bytes : List ℕ) : Type 0 where
   long_body : IsFramed TooLong bytes → IsTooLong bytes
-  long_chunks : Follows Chunked bytes PassesLimit → IsTooLong bytes
+  long_chunks : BehindHead Chunked bytes PassesLimit → IsTooLong bytes
 
 -- The first item of all the bytes of a connection, behind so many requests, and what stands behind it; behind an item
 -- that is no request nothing is looked at.
@@ -108,13 +108,13 @@ Talk before bytes (item ∷ items) =
 abbrev pub LiesWhole : ℕ → List ℕ → Item → Type 0
 LiesWhole before bytes (asks request) = (rest : List ℕ) × AsksFor before bytes request rest
 LiesWhole before bytes bad =
-    IsFramed Bad bytes ⊎ Follows Chunked bytes (λ rest. ¬ (MayBecomeBody rest) × HasNoBody rest × ¬ (PassesLimit rest))
+    IsFramed Bad bytes ⊎ BehindHead Chunked bytes (λ rest. ¬ (MayBecomeBody rest) × HasNoBody rest × ¬ (PassesLimit rest))
 LiesWhole before bytes too_long = IsTooLong bytes
 LiesWhole before bytes coded = IsFramed Coded bytes
 
 -- No item lies whole in these bytes: there is no head, or its body isn't whole yet.
 pub data IsUnfinished (bytes : List ℕ) : Type 0 where
   lacks_head : HasNoHead bytes → IsUnfinished bytes
-  lacks_body : (len : ℕ) → Follows (Length len) bytes (λ rest. length rest < len) → IsUnfinished bytes
-  lacks_chunks : Follows Chunked bytes (λ rest. MayBecomeBody rest × HasNoBody rest × ¬ (PassesLimit rest))
+  lacks_body : (len : ℕ) → BehindHead (Length len) bytes (λ rest. length rest < len) → IsUnfinished bytes
+  lacks_chunks : BehindHead Chunked bytes (λ rest. MayBecomeBody rest × HasNoBody rest × ¬ (PassesLimit rest))
       → IsUnfinished bytes

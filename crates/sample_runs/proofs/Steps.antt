@@ -1,6 +1,6 @@
 -- Requests and connections, made one after the other.
 use Rattle.std.proofs.Common.{◌≡◌, ℕ, suc, ◌+◌, ◌-◌, ◌<◌, List, [], ◌∷◌, ◌++◌, sym, ap, ◌∙◌, arith, append_assoc}
-use Rattle.sample_runs.specs.Requests.{connection_bytes, connections_from, request_bytes, requests_from}
+use Rattle.sample_runs.specs.Requests.{connection_bytes, connections_from, numbered_request, requests_from}
 
 -- none is left
 pub no_request : (first left : ℕ) → left ≡ 0 → requests_from first left ≡ []
@@ -11,12 +11,12 @@ no_connection requests number left none = ap (λ (n : ℕ). connections_from req
 
 -- the next one is made
 pub next_request : (bytes : List ℕ) (first made count : ℕ) → made < count
-    → (bytes ++ request_bytes (first + made)) ++ requests_from (first + (made + 1)) (count - (made + 1)) ≡ bytes ++ requests_from (first + made) (count - made)
+    → (bytes ++ numbered_request (first + made)) ++ requests_from (first + (made + 1)) (count - (made + 1)) ≡ bytes ++ requests_from (first + made) (count - made)
 next_request bytes first made count more =
     let left : count - made ≡ suc (count - (made + 1)) = omega (arith, more) in
     let at : first + (made + 1) ≡ (first + made) + 1 = omega arith in
-    append_assoc bytes (request_bytes (first + made)) (requests_from (first + (made + 1)) (count - (made + 1)))
-    ∙ ap (λ (n : ℕ). bytes ++ (request_bytes (first + made) ++ requests_from n (count - (made + 1)))) at
+    append_assoc bytes (numbered_request (first + made)) (requests_from (first + (made + 1)) (count - (made + 1)))
+    ∙ ap (λ (n : ℕ). bytes ++ (numbered_request (first + made) ++ requests_from n (count - (made + 1)))) at
     ∙ sym (ap (λ (n : ℕ). bytes ++ requests_from (first + made) n) left)
 
 pub next_connection : (all : List (List ℕ)) (requests number count : ℕ) → number < count

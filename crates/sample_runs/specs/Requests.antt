@@ -59,15 +59,15 @@ bytes_in_round user round =
     else put_bytes user (entry_path (document_path user) (entry_uri round)) (codes "application/xcap-el+xml") (entry_body (entry_uri round))
 
 -- The request of a number, counted from 0: a hundred users make one request each in every round.
-abbrev pub request_bytes : ℕ → List ℕ
-request_bytes number = bytes_in_round (user_name (number % 100)) (number / 100)
+abbrev pub numbered_request : ℕ → List ℕ
+numbered_request number = bytes_in_round (user_name (number % 100)) (number / 100)
 
 -- ---- connections
 
 -- so many requests from this one on
 abbrev pub requests_from : ℕ → ℕ → List ℕ
 requests_from first zero = []
-requests_from first (suc more) = request_bytes first ++ requests_from (first + 1) more
+requests_from first (suc more) = numbered_request first ++ requests_from (first + 1) more
 
 -- the bytes of a connection, of so many requests in all: it has as many as it may have, and the last one what is left
 abbrev pub connection_bytes : ℕ → ℕ → List ℕ

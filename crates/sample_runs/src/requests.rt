@@ -1,6 +1,6 @@
 // The requests of a sample.
 ghost use Rattle.std.specs.Prelude.{◌≡◌, IfOk, codes, string_bytes};
-ghost use Rattle.sample_runs.specs.Requests.{bytes_in_round, delete_bytes, document_body, document_path, entry_body, entry_path, entry_uri, put_bytes, request_bytes, user_name};
+ghost use Rattle.sample_runs.specs.Requests.{bytes_in_round, delete_bytes, document_body, document_path, entry_body, entry_path, entry_uri, put_bytes, numbered_request, user_name};
 
 use std::alloc::{AllocError, Global};
 
@@ -123,7 +123,7 @@ fn request_in_round(alloc: Global, user: &str, round: u64) -> Result<String, All
 
 // The request of that number.
 pub(crate) fn request(alloc: Global, number: u64) -> Result<String, AllocError>
-    ensures request_of_that_number { IfOk result (λ text. string_bytes text ≡ request_bytes number) }
+    ensures request_of_that_number { IfOk result (λ text. string_bytes text ≡ numbered_request number) }
 {
     let user = user_name(alloc, number % 100)?;
     request_in_round(alloc, user.as_str(), number / 100)

@@ -18,9 +18,9 @@ usage_named word =
     else None
 
 -- `ADDR ROOT COUNT`: ADDR is any word of one or more octets, ROOT a root, and COUNT a numeral of at most `GREATEST_COUNT`
-abbrev pub service_of : List ℕ → List ℕ → List ℕ → Option Service
-service_of [] root count = None
-service_of (c ∷ cs) root count =
+abbrev pub service_spelled : List ℕ → List ℕ → List ℕ → Option Service
+service_spelled [] root count = None
+service_spelled (c ∷ cs) root count =
     option_and_then (λ r. option_map (λ n. record { address = chars (c ∷ cs); root = r; count = n }) (numeral_up_to GREATEST_COUNT count)) (root_of root)
 
 -- `replay ROOT`, `check AUID`, or `sample N`, where N is a numeral of at most `GREATEST_SAMPLE`
@@ -34,8 +34,8 @@ of_two name word =
 -- `serve ADDR ROOT COUNT`, `keep ADDR ROOT COUNT`, `fetch USER ROOT PATH` or `delete USER ROOT PATH`
 unfoldable pub of_four : List ℕ → List ℕ → List ℕ → List ℕ → Option Command
 of_four name first root last =
-    if bytes_eq name (codes "serve") then option_map (λ s. Serve s.address s.root s.count) (service_of first root last)
-    else if bytes_eq name (codes "keep") then option_map (λ s. Keep s.address s.root s.count) (service_of first root last)
+    if bytes_eq name (codes "serve") then option_map (λ s. Serve s.address s.root s.count) (service_spelled first root last)
+    else if bytes_eq name (codes "keep") then option_map (λ s. Keep s.address s.root s.count) (service_spelled first root last)
     else if bytes_eq name (codes "fetch") then fetch_of first root last
     else if bytes_eq name (codes "delete") then delete_of first root last
     else None

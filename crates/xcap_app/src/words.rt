@@ -2,7 +2,7 @@
 ghost use Rattle.std.specs.Prelude.{◌≡◌, IfOk, map, option_map, string_bytes};
 ghost use Rattle.xcap_uri.specs.Roots.{root_of};
 ghost use Rattle.xcap_app.specs.AskingWords.{numeral_up_to};
-ghost use Rattle.xcap_app.specs.Commands.{command_of, of_five, of_four, of_two, service_of, usage_named};
+ghost use Rattle.xcap_app.specs.Commands.{command_of, of_five, of_four, of_two, service_spelled, usage_named};
 
 use crate::asking_words::{delete_of, fetch_of, follow_of, put_of};
 use crate::command::Command;
@@ -96,7 +96,7 @@ fn service_of(
     root: &str,
     count: &str,
 ) -> Result<Option<Service>, AllocError>
-    ensures reads_a_service { IfOk result (λ service. service ≡ service_of address.now root.now count.now) }
+    ensures reads_a_service { IfOk result (λ service. service ≡ service_spelled address.now root.now count.now) }
 {
     if address.is_empty() {
         return Ok(None);
@@ -122,7 +122,7 @@ fn serve_of(
     root: &str,
     count: &str,
 ) -> Result<Option<Command>, AllocError>
-    ensures reads_a_serve { IfOk result (λ command. command ≡ option_map (λ s. Command.Serve s.address s.root s.count) (service_of address.now root.now count.now)) }
+    ensures reads_a_serve { IfOk result (λ command. command ≡ option_map (λ s. Command.Serve s.address s.root s.count) (service_spelled address.now root.now count.now)) }
 {
     match service_of(alloc, address, root, count)? {
         Some(
@@ -147,7 +147,7 @@ fn keep_of(
     root: &str,
     count: &str,
 ) -> Result<Option<Command>, AllocError>
-    ensures reads_a_keep { IfOk result (λ command. command ≡ option_map (λ s. Command.Keep s.address s.root s.count) (service_of address.now root.now count.now)) }
+    ensures reads_a_keep { IfOk result (λ command. command ≡ option_map (λ s. Command.Keep s.address s.root s.count) (service_spelled address.now root.now count.now)) }
 {
     match service_of(alloc, address, root, count)? {
         Some(

@@ -2,7 +2,7 @@ use Rattle.std.proofs.Common.{◌≡◌, ℕ, false, List, [], ◌∷◌, length
 use Rattle.std.specs.Prelude.{chars, option_and_then, option_map, ◌==◌}
 use Rattle.xcap_uri.specs.Roots.{root_of}
 use Rattle.xcap_app.specs.AskingWords.{numeral_up_to}
-use Rattle.xcap_app.specs.Commands.{service_of}
+use Rattle.xcap_app.specs.Commands.{service_spelled}
 use Rattle.xcap_app.specs.declared.words.Service.{Service}
 use Rattle.xcap_app.specs.declared.words.TheConstants.{GREATEST_COUNT}
 use Rattle.xcap_app.proofs.words.service_of.Goals as goal
@@ -16,7 +16,7 @@ served_at address root count = option_and_then (λ r. option_map (λ n. record {
 
 -- an address, where a root and a number are there
 service_there : (address root count a r : List ℕ) (n : ℕ) → false ≡ (length address == 0) → Some r ≡ root_of root → Some n ≡ numeral_up_to GREATEST_COUNT count → a ≡ chars address
-    → some_service a r n ≡ service_of address root count
+    → some_service a r n ≡ service_spelled address root count
 service_there [] root count a r n some is_root is_count is = absurd cc
 service_there (b ∷ bs) root count a r n some is_root is_count is =
     ap (λ (x : List ℕ). some_service x r n) is
