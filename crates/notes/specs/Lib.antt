@@ -1,3 +1,4 @@
+pub mod Brought
 pub mod Notes
 pub mod Operations
 pub mod Recorded

@@ -1,5 +1,5 @@
 //! The note of a change.
-ghost use Rattle.std.specs.Prelude.{◌≡◌, [], IfOk, min};
+ghost use Rattle.std.specs.Prelude.{◌≡◌, [], IfErr, IfOk, min};
 ghost use Rattle.xml_tree.specs.Tree.{Tree};
 ghost use Rattle.edit_ops.specs.Changes.{Fits};
 ghost use Rattle.edit_ops.specs.Lengths.{element_len};
@@ -17,8 +17,8 @@ use std::marker::Model;
 use std::rc::Rc;
 use xml_tree::{Decl, Element, List};
 
-/// What is kept of a change of a document. A copy shares it, so a document that was put stands in memory once for the notes that are
-/// retained and for those that are told. Contracts see the note.
+/// What is kept of a change of a document. A copy shares it, so what was put stands in memory once for the notes that are retained and
+/// for those that are told, and a whole document for its tree, too (`NotedTree`). Contracts see the note.
 #[derive(Debug, Drop)]
 pub struct EditNote {
     kept: Rc<KeptNote>,
@@ -152,6 +152,21 @@ impl EditNote {
     {
         let kept = self.kept.clone()?;
         Ok(EditNote { kept })
+    }
+
+    /// Its change, where nobody else shares the note; and else the note again. Takes no memory.
+    pub fn into_change(self) -> Result<Change, EditNote>
+        ensures hands_out_the_change { IfOk result (λ change. change ≡ self.change) }
+        ensures or_stays { IfErr result (λ note. note ≡ self) }
+    {
+        let EditNote { kept } = self;
+        match Rc::try_unwrap(kept) {
+            Ok(note) => {
+                let KeptNote { change, .. } = note;
+                Ok(change)
+            }
+            Err(kept) => Err(EditNote { kept }),
+        }
     }
 
     /// The tag before the change; 0 where it made the document.

@@ -8,9 +8,11 @@ mod edit_note;
 mod lengths;
 mod lent_notes;
 mod making;
+mod noted_tree;
 mod weighing;
 
 pub use edit::Edit;
 pub use edit_note::EditNote;
 pub use lent_notes::Notes;
+pub use noted_tree::NotedTree;
 pub use std::alloc::AllocError as NoMemory;
