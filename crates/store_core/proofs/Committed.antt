@@ -1,14 +1,16 @@
 -- What a store keeps after a change that was ready for it.
-use Rattle.std.proofs.Common.{◌≡◌, ℕ, List, Option, None, Some, cond, sym, ap, subst, ◌∙◌}
+use Rattle.std.proofs.Common.{◌≡◌, ℕ, Bool, List, Option, None, Some, cond, sym, ap, subst, ◌∙◌}
+use Rattle.std.specs.Map.{lookup}
 use Rattle.std.specs.Set.{is_member}
 use Rattle.std.specs.Str.{bytes_eq}
+use Rattle.doc_names.specs.Same.{same_id}
 use Rattle.doc_names.specs.declared.doc_id.DocId.{DocId}
 use Rattle.store_core.specs.declared.entry.Entry.{Entry}
 use Rattle.store_core.specs.Changing.{content_after}
 use Rattle.store_core.specs.Held.{Stands, Stock as Content}
 use Rattle.store_core.specs.KeyAddresses.{KeepsAddressesOf}
-use Rattle.store_core.specs.inner.Storing.{IsStoring, content_in, exchanged, registered}
-use Rattle.store_core.specs.Preparing.{IsReady, Readied}
+use Rattle.store_core.specs.inner.Storing.{IsStoring, content_in, exchanged, registered, trees_in}
+use Rattle.store_core.specs.Preparing.{HasTree, IsReady, Readied}
 use Rattle.store_core.proofs.KeyAddresses.{change_stays}
 use Rattle.store_core.proofs.Stored.{steppable, stored}
 use Rattle.store_core.specs.Stored.{Room, Stored}
@@ -22,8 +24,9 @@ module _ (es : List (DocId × Entry)) (rs : List (List ℕ × ℕ)) (last total 
   pub ready-here : IsReady Here p
   ready-here = subst (λ (x : Stored). IsReady x p) (sym seen) (subst (λ (x : Readied). IsReady s x) (sym same) ready)
 
-  pub may-step : Steppable es p.doc p.step
-  may-step = steppable es rs last total p p.step storing ready-here.planned ready-here.planned.step
+  pub may-step : room.trees ≡ trees_in es → Steppable es p.doc p.step
+  may-step shown =
+      steppable es rs last total p p.step storing ready-here.planned ready-here.planned.step (subst (λ (trees : List (DocId × Bool)). HasTree p.step (lookup (same_id p.doc) trees)) shown ready-here.tree)
 
   module _ (left rows : List (List ℕ × ℕ)) (next : List (DocId × Entry)) (created number : ℕ) (leaves enters : List (List ℕ)) (numbered : number ≡ p.note.next) (stepped : Stepped es p.doc number p.step created next)
       (leaving : leaves ≡ p.leaves) (entering : enters ≡ p.enters)

@@ -78,8 +78,8 @@ module _ {K V H X : Type 0} (test : K → Bool) (held : K × V → H) (name : H 
   read-as (x ∷ xs) =
       ap (λ k. option_map read (cond (test k) (Some (held x)) (find (λ h. test (name h)) (map held xs)))) (same x) ∙ read-step x xs (test x.0) (read-as xs)
 
-pub tree-and-tag : (es : List (DocId × Entry)) (doc : DocId) → option_map {U = Tree × ℕ} (λ (h : Held). (h.tree, h.tag)) (document_in held_name (map held_in es) doc) ≡ option_map {U = Tree × ℕ} (λ (v : Entry). (v.tree, v.tag)) (lookup (same_id doc) es)
-tree-and-tag es doc = read-as (same_id doc) held_in held_name (λ e. refl) (λ (h : Held). (h.tree, h.tag)) (λ (v : Entry). (v.tree, v.tag)) (λ e. refl) es
+pub tree-and-tag : (es : List (DocId × Entry)) (doc : DocId) → option_map {U = Tree × ℕ} (λ (h : Held). (h.tree, h.tag)) (document_in held_name (map held_in es) doc) ≡ option_map {U = Tree × ℕ} (λ (v : Entry). (v.tree.root, v.tag)) (lookup (same_id doc) es)
+tree-and-tag es doc = read-as (same_id doc) held_in held_name (λ e. refl) (λ (h : Held). (h.tree, h.tag)) (λ (v : Entry). (v.tree.root, v.tag)) (λ e. refl) es
 
 -- ---- the entry of a name, among entries of different names
 
@@ -115,7 +115,7 @@ around es doc v apart h =
 pub record Known (es : List (DocId × Entry)) : Type 0 where
   pub names : AreApart (map name_in es)
   pub services : AreApart (flat_map uris_in es)
-  pub low : AllByRecursion (λ e. height e.1.tree ≤ 64) es
+  pub low : AllByRecursion (λ e. height e.1.tree.root ≤ 64) es
   pub few : length es ≤ 1000
   pub room : sum_by len_in es ≤ 33554432
 
@@ -124,7 +124,7 @@ low-of None t h = absurd h
 low-of (Some usage) t h = h.low
 
 -- what holds of the present tree of each document holds of each entry's tree
-each-tree : (P : Tree → Type 0) (m : State) (es : List (DocId × Entry)) → map held_in es ≡ map held_of m.documents → ((d : Document) → IsKept m.next d → P d.now.tree) → AllByRecursion (IsKept m.next) m.documents → AllByRecursion (λ e. P e.1.tree) es
+each-tree : (P : Tree → Type 0) (m : State) (es : List (DocId × Entry)) → map held_in es ≡ map held_of m.documents → ((d : Document) → IsKept m.next d → P d.now.tree) → AllByRecursion (IsKept m.next) m.documents → AllByRecursion (λ e. P e.1.tree.root) es
 each-tree P m es same by k =
     let Q : Held → Type 0 = λ h. P h.tree in
     let kept : Document → Type 0 = λ d. IsKept m.next d in

@@ -20,6 +20,7 @@ pub mod KeyAddresses
 pub mod Keyed
 pub mod Listing
 pub mod PlanAnswers
+pub mod Owning
 pub mod Places
 pub mod Planning
 pub mod Registering
@@ -31,3 +32,4 @@ pub mod Standing
 pub mod Stored
 pub mod TellingSince
 pub mod Uris
+pub mod Wholes

@@ -49,7 +49,7 @@ listed-id RlsServices (User xui) name t x true e h =
 listed-id XcapCaps home name t x b e h = cc
 
 row-id : (e : Row) (x : Pair) → indexed (held_in e) ≡ Some x → e.0 ≡ of-user x.0
-row-id e x h = listed-id e.0.auid e.0.home e.0.name e.1.tree x (bytes_eq e.0.name index) refl h
+row-id e x h = listed-id e.0.auid e.0.home e.0.name e.1.tree.root x (bytes_eq e.0.name index) refl h
 
 others-step : (id : DocId) (x : Pair) (e : Row) (ys : List Pair) (o : Option Pair) → id ≡ of-user x.0 → id ≢ e.0 → indexed (held_in e) ≡ o → AllByRecursion (Other x) ys → AllByRecursion (Other x) (cons_option o ys)
 others-step id x e ys None same apart h by = by
@@ -73,7 +73,7 @@ abbrev IsLow : Pair → Type 0
 IsLow x = height x.1 ≤ 64
 
 abbrev IsLowRow : Row → Type 0
-IsLowRow e = height e.1.tree ≤ 64
+IsLowRow e = height e.1.tree.root ≤ 64
 
 listed-tree : (auid : Auid) (home : Home) (b : Bool) (t : Tree) (x : Pair) → indexed_by auid b home t ≡ Some x → t ≡ x.1
 listed-tree ResourceLists home b t x h = cc
@@ -84,7 +84,7 @@ listed-tree XcapCaps home b t x h = cc
 
 low-step : (e : Row) (ds : List Pair) (o : Option Pair) → indexed (held_in e) ≡ o → IsLowRow e → AllByRecursion IsLow ds → AllByRecursion IsLow (cons_option o ds)
 low-step e ds None h low by = by
-low-step e ds (Some x) h low by = (subst (λ (t : Tree). height t ≤ 64) (listed-tree e.0.auid e.0.home (bytes_eq e.0.name index) e.1.tree x h) low, by)
+low-step e ds (Some x) h low by = (subst (λ (t : Tree). height t ≤ 64) (listed-tree e.0.auid e.0.home (bytes_eq e.0.name index) e.1.tree.root x h) low, by)
 
 low-listed : (es : List Row) → AllByRecursion IsLowRow es → AllByRecursion IsLow (listed es)
 low-listed [] a = tt

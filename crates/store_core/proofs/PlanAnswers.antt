@@ -1,25 +1,29 @@
 -- What planning a change answers, from the reasons against it and its parts.
 use Rattle.std.proofs.Common.{◌≡◌, ℕ, ◌+◌, ◌≤◌, Bool, true, false, List, [], length, sum_by, Option, None, Some, IsSome, option_map, Result, Ok, Err, refl, sym, ap, subst, ◌∙◌, arith}
 use Rattle.std.proofs.lemmas.Option.{same_Some}
+use Rattle.std.specs.Map.{lookup}
 use Rattle.std.specs.Option.{option_or as or_else}
 use Rattle.xml_tree.specs.Tree.{Tree}
 use Rattle.usage_docs.specs.Services.{document_len}
 use Rattle.doc_names.specs.Same.{same_id}
+use Rattle.doc_names.specs.Same.{same_id}
 use Rattle.doc_names.specs.Usages.{usage_of}
 use Rattle.doc_names.specs.declared.doc_id.DocId.{DocId}
 use Rattle.edit_ops.specs.Changes.{Fits, edited}
-use Rattle.edit_ops.specs.Staging.{IsStaged}
 use Rattle.edit_ops.specs.declared.change.Change.{Change}
 use Rattle.edit_ops.specs.declared.change.Change.TheVariants.{CreateDocument, Insert, Replace, Remove, SetAttr, DropAttr, RemoveDocument}
 use Rattle.notes.specs.Notes.{Note, note_of}
 use Rattle.store_core.specs.declared.refusal.StoreRefusal.{StoreRefusal}
 use Rattle.store_core.specs.declared.entry.Entry.{Entry}
+use Rattle.store_core.specs.declared.staged_tree.StagedTree.TheVariants.{Whole, InPlace}
+use Rattle.store_core.specs.declared.step.Step.{Step}
 use Rattle.store_core.specs.declared.step.Step.TheVariants.{Make, Edit, End}
 use Rattle.store_core.specs.Held.{Held, Stock as Content}
 use Rattle.store_core.specs.Keeping.{IsSoundFor, addresses_in}
 use Rattle.store_core.specs.Asking.{Asks, MayBeFor}
 use Rattle.store_core.specs.Changing.{Act, Edits, act_of, against, against_number, against_tree, answered, changing, content_after, document_in, held_name, note_for, other_lengths}
-use Rattle.store_core.specs.Preparing.{IsPlanned, IsReady, Readied, total_of}
+use Rattle.store_core.specs.Making.{IsOwn, IsStagedIn, is_within}
+use Rattle.store_core.specs.Preparing.{HasTree, IsPlanned, IsReady, IsStepOf, Readied, total_of}
 use Rattle.store_core.proofs.Accepted.{passes, unfound}
 use Rattle.store_core.proofs.Apart.{none-filtered}
 use Rattle.store_core.proofs.Asked.{asked, found-name}
@@ -148,25 +152,25 @@ edit-exchanged c doc change h t first leaves enters asks edits found tree sound 
 
 -- with its memory and its note
 pub edit-planned : (c : Content) (doc : DocId) (change : Change) (v : Entry) (number len total : ℕ) (leaves enters : List (List ℕ)) (p : Readied) → Asks c doc change → act_of change ≡ Edits → (held : IsHeldAs c doc v)
-    → against_tree c doc false (edited v.tree change) ≡ None → against_number c ≡ None → number ≡ c.next → len ≡ document_len (edited v.tree change)
-    → (first : ℕ) → AreExchanged first (addresses_in doc.auid held.0.tree) leaves enters (addresses_in doc.auid (edited v.tree change))
-    → total + document_len v.tree ≡ total_of c + len → IsNoted doc v number change len leaves enters total p → Plans c doc change (Ok p)
+    → against_tree c doc false (edited v.tree.root change) ≡ None → against_number c ≡ None → number ≡ c.next → len ≡ document_len (edited v.tree.root change)
+    → (first : ℕ) → AreExchanged first (addresses_in doc.auid held.0.tree) leaves enters (addresses_in doc.auid (edited v.tree.root change))
+    → total + document_len v.tree.root ≡ total_of c + len → IsNoted doc v number change len leaves enters total p → Plans c doc change (Ok p)
 edit-planned c doc change v number len total leaves enters p asks edits held free free_number numbered long first exchanged sum noted =
     let h = held.0 in
     let note = noted.0 in
     let staged = noted.1 in
     let q : Readied = record { doc = doc; note = note; step = Edit staged note len; leaves = leaves; enters = enters; total = total } in
-    let tree : v.tree ≡ h.tree = sym held.2 in
+    let tree : v.tree.root ≡ h.tree = sym held.2 in
     let full : note ≡ note_of h.tag c.next h.tree change =
-    noted.2 ∙ ap (λ (t : ℕ). note_of t number v.tree change) (sym held.3) ∙ ap (λ (t : Tree). note_of h.tag number t change) tree ∙ ap (λ (n : ℕ). note_of h.tag n h.tree change) numbered in
+    noted.2 ∙ ap (λ (t : ℕ). note_of t number v.tree.root change) (sym held.3) ∙ ap (λ (t : Tree). note_of h.tag number t change) tree ∙ ap (λ (n : ℕ). note_of h.tag n h.tree change) numbered in
     let same : change ≡ note.change = sym (ap (λ (n : Note). n.change) full) in
-    let after : edited v.tree change ≡ edited h.tree note.change = ap (λ (t : Tree). edited t change) tree ∙ ap (λ (x : Change). edited h.tree x) same in
+    let after : edited v.tree.root change ≡ edited h.tree note.change = ap (λ (t : Tree). edited t change) tree ∙ ap (λ (x : Change). edited h.tree x) same in
     let made : changing c doc change ≡ Ok (note, content_after c doc change) =
     edit-changing c doc change h edits held.1
     ∙ not-refused-at-all (against_tree c doc false (edited h.tree change)) (against_number c) (note_of h.tag c.next h.tree change) (content_after c doc change)
     (ap (λ (t : Tree). against_tree c doc false (edited t change)) (sym tree) ∙ free) free_number
     ∙ ap (λ (n : Note). let x : Note × Content = (n, content_after c doc change) in let r : Result (Note × Content) StoreRefusal = Ok x in r) (sym full) in
-    let memory : IsStaged h.tree note.change staged = subst (λ (x : Change). IsStaged h.tree x staged) same (subst (λ (t : Tree). IsStaged t change staged) tree noted.3) in
+    let memory : IsStagedIn h.tree note.change staged = subst (λ (x : Change). IsStagedIn h.tree x staged) same (subst (λ (t : Tree). IsStagedIn t change staged) tree noted.3) in
     subst (λ (x : Readied). Plans c doc change (Ok x)) (sym noted.4)
     (plans-made c doc change q refl (sym same) (record {
       asks = subst (λ (x : Change). Asks c doc x) same asks;
@@ -229,10 +233,20 @@ prepared-ok c doc change p h =
     let made : changing c p.doc change ≡ Ok (p.note, content_after c p.doc change) = subst (λ (x : Change). changing c p.doc x ≡ Ok (p.note, content_after c p.doc x)) r.1 r.2.made in
     (r.0, subst (λ (d : DocId). changing c d change ≡ Ok (p.note, content_after c d change)) r.0 made, r.1)
 
-pub prepared-ready : (s t : Stored) (doc : DocId) (change : Change) (p : Readied) (n : ℕ) → Plans s.content doc change (Ok p) → t.content ≡ s.content → 1 ≤ t.room.documents → n ≤ t.room.services → n ≡ length p.enters → IsReady t p
-prepared-ready s t doc change p n h same document services count =
+-- only an edit within the root is made in place
+has-tree : (c : Content) (p : Readied) (step : Step) (trees : List (DocId × Bool)) → IsStepOf c p step → (is_within p.note.change ≡ true → IsOwn trees p.doc) → HasTree step (lookup (same_id p.doc) trees)
+has-tree c p (Make entry) trees h own = tt
+has-tree c p (Edit (Whole root) kept len) trees h own = λ b is. tt
+has-tree c p (Edit (InPlace staged) kept len) trees h own = own h.3.1
+has-tree c p End trees h own = tt
+
+pub prepared-ready : (s t : Stored) (doc : DocId) (change : Change) (p : Readied) (n : ℕ) → Plans s.content doc change (Ok p) → t.content ≡ s.content → 1 ≤ t.room.documents → n ≤ t.room.services → n ≡ length p.enters
+    → (is_within change ≡ true → IsOwn t.room.trees doc) → IsReady t p
+prepared-ready s t doc change p n h same document services count own =
+    let plan = plan-of s.content doc change p h in
     record {
-      planned = subst (λ (c : Content). IsPlanned c p) (sym same) (plan-of s.content doc change p h).2;
+      planned = subst (λ (c : Content). IsPlanned c p) (sym same) plan.2;
       document = document;
       services = omega (arith, services, count);
+      tree = has-tree s.content p p.step t.room.trees plan.2.step (λ within. subst (λ (d : DocId). IsOwn t.room.trees d) (sym plan.0) (own (ap is_within (sym plan.1) ∙ within)));
     }

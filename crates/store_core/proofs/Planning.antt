@@ -129,7 +129,7 @@ others-round : (es : List Row) (id : DocId) (v : Entry) (r : Around es id v) →
 others-round es id v r = ap (λ (ds : List Row). others-of ds id) r.parts ∙ one-filtered (λ (e : Row). same_id id e.0) r.before r.behind (id, v) r.none-before r.passes r.none-behind
 
 -- the total without it
-pub total-without : (es : List Row) (rs : List (List ℕ × ℕ)) (last total : ℕ) (id : DocId) (v : Entry) → IsStoring es rs last total → lookup (same_id id) es ≡ Some v → total ≡ sum_by len_in (others-of es id) + document_len v.tree
+pub total-without : (es : List Row) (rs : List (List ℕ × ℕ)) (last total : ℕ) (id : DocId) (v : Entry) → IsStoring es rs last total → lookup (same_id id) es ≡ Some v → total ≡ sum_by len_in (others-of es id) + document_len v.tree.root
 total-without es rs last total id v s found =
     let r = around-of es rs last total id v s found in
     omega (arith, s.sum, ap (sum_by len_in) r.parts, sum-put len_in r.before (id, v) r.behind, ap (sum_by len_in) (others-round es id v r))
@@ -151,9 +151,9 @@ module _ (es : List Row) (rs : List (List ℕ × ℕ)) (last total : ℕ) (id : 
   held-round uri = ap (λ (ds : List Row). holder ds uri) (sym round.parts) ∙ sym (s.addresses uri)
 
   pub against-held : (t : Tree)
-      → refused_for (position is-taken (addresses_in id.auid t)) (min (document_len t) 18446744073709551615) false (total - document_len v.tree) ≡ against_tree (content_in es last) id false t
+      → refused_for (position is-taken (addresses_in id.auid t)) (min (document_len t) 18446744073709551615) false (total - document_len v.tree.root) ≡ against_tree (content_in es last) id false t
   against-held t =
-      found-so (content_in es last) id false t is-taken false (total - document_len v.tree)
+      found-so (content_in es last) id false t is-taken false (total - document_len v.tree.root)
       (λ uri.
       ap (λ (us : List (List ℕ)). is_member bytes_eq us uri) (other-uris es last id ∙ ap (flat_map uris_in) (others-round es id v round))
       ∙ sym (others-hold-beside uris_in number_in round.before round.behind (id, v) uri apart-round others-numbered)
@@ -162,14 +162,14 @@ module _ (es : List Row) (rs : List (List ℕ × ℕ)) (last total : ℕ) (id : 
       (omega (arith, total-without es rs last total id v s found, other-lens es last id))
 
   -- no address that it has is another document's
-  own-untaken : AllByRecursion (λ uri. is-taken uri ≡ false) (addresses_in id.auid v.tree)
+  own-untaken : AllByRecursion (λ uri. is-taken uri ≡ false) (addresses_in id.auid v.tree.root)
   own-untaken =
       each-weaker (λ (uri : List ℕ). is_others (Some v.created) (holder (round.before ++ (id, v) ∷ round.behind) uri) ≡ false) (λ (uri : List ℕ). is-taken uri ≡ false)
       (λ uri h. ap (λ (o : Option ℕ). is_others (Some v.created) o) (sym (held-round uri)) ∙ h)
-      (addresses_in id.auid v.tree) (own-free uris_in number_in round.before round.behind (id, v) apart-round others-numbered)
+      (addresses_in id.auid v.tree.root) (own-free uris_in number_in round.before round.behind (id, v) apart-round others-numbered)
 
   -- so where it exchanges some, the first that is taken is one of those that come
-  pub first-taken : (t : Tree) (place : ℕ) (leaves enters : List (List ℕ)) → AreExchanged place (addresses_in id.auid v.tree) leaves enters (addresses_in id.auid t)
+  pub first-taken : (t : Tree) (place : ℕ) (leaves enters : List (List ℕ)) → AreExchanged place (addresses_in id.auid v.tree.root) leaves enters (addresses_in id.auid t)
       → option_map (λ i. max place i) (position is-taken enters) ≡ position is-taken (addresses_in id.auid t)
   first-taken t place leaves enters x =
       let none = subst (λ (us : List (List ℕ)). AllByRecursion (λ uri. is-taken uri ≡ false) us) x.was own-untaken in
@@ -194,10 +194,10 @@ module _ (es : List Row) (rs : List (List ℕ × ℕ)) (last total : ℕ) (room 
       ∙ ap (λ (x : Stored). against_tree x.content doc true t) seen
 
   module _ (v : Entry) (found : Some v ≡ lookup (same_id doc) es) where
-    len-here : v.len ≡ document_len v.tree
+    len-here : v.len ≡ document_len v.tree.root
     len-here = len-of es rs last total doc v storing (sym found)
 
-    held-tree : (h : Held) → document_in held_name s.content.documents doc ≡ Some h → h.tree ≡ v.tree
+    held-tree : (h : Held) → document_in held_name s.content.documents doc ≡ Some h → h.tree ≡ v.tree.root
     held-tree h is =
         let r = around-of es rs last total doc v storing (sym found) in
         ap (λ (x : Held). x.tree) (one-held es doc v h r (subst (λ (x : Stored). document_in held_name x.content.documents doc ≡ Some h) (sym seen) is))
@@ -231,7 +231,7 @@ module _ (es : List Row) (rs : List (List ℕ × ℕ)) (last total : ℕ) (room 
     pub whole-is : IsSomeAnd (document_in held_name s.content.documents doc) (λ h. (total - v.len) + document_len h.tree ≡ total_of s.content)
     whole-is =
         let r = around-of es rs last total doc v storing (sym found) in
-        let n : (total - v.len) + document_len v.tree ≡ total_of (content_in es last) =
+        let n : (total - v.len) + document_len v.tree.root ≡ total_of (content_in es last) =
         omega (arith, len-here, total-without es rs last total doc v storing (sym found), storing.sum, total-is es last) in
         subst (λ (x : Stored). IsSomeAnd (document_in held_name x.content.documents doc) (λ h. (total - v.len) + document_len h.tree ≡ total_of x.content)) seen
         (subst (λ (o : Option Held). IsSomeAnd o (λ h. (total - v.len) + document_len h.tree ≡ total_of (content_in es last))) (sym (held-found es doc v r)) n)

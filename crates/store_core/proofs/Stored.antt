@@ -13,19 +13,19 @@ use Rattle.doc_names.specs.Same.{same_id}
 use Rattle.doc_names.specs.Usages.{usage_of}
 use Rattle.doc_names.specs.declared.doc_id.DocId.{DocId}
 use Rattle.edit_ops.specs.Changes.{Fits, edited}
-use Rattle.edit_ops.specs.Staging.{IsStaged}
 use Rattle.edit_ops.specs.declared.change.Change.{Change}
-use Rattle.edit_ops.specs.declared.staged.Staged.{Staged}
 use Rattle.notes.specs.Notes.{Note, note_of}
 use Rattle.store_core.specs.declared.entry.Entry.{Entry}
+use Rattle.store_core.specs.declared.staged_tree.StagedTree.{StagedTree}
 use Rattle.store_core.specs.declared.step.Step.{Step}
 use Rattle.store_core.specs.declared.step.Step.TheVariants.{Make, Edit, End}
 use Rattle.store_core.specs.State.{State, first_state, retained}
 use Rattle.store_core.specs.Held.{Held, Stands, Stock as Content}
-use Rattle.store_core.specs.Keeping.{AreApart, IsSoundFor, Kept}
+use Rattle.store_core.specs.Keeping.{AreApart, IsSoundFor, Kept, addresses_in}
+use Rattle.store_core.specs.Making.{IsStagedIn}
 use Rattle.store_core.specs.Changing.{Act, Edits, after, act_of, content_after, content_after_act, document_in, held_after, held_name, with_document}
-use Rattle.store_core.specs.inner.Storing.{IsRenewed, IsStoring, content_in, exchanged, held_in, holder, len_in, number_in, registered, uris_in}
-use Rattle.store_core.specs.Preparing.{IsPlanned, IsStepOf, Readied, total_of}
+use Rattle.store_core.specs.inner.Storing.{IsRenewed, IsStoring, content_in, exchanged, held_in, holder, len_in, number_in, registered, trees_in, uris_in}
+use Rattle.store_core.specs.Preparing.{HasTree, IsPlanned, IsStepOf, Readied, total_of}
 use Rattle.store_core.proofs.Accepted.{find-map, sum-first, sum-mapped, sum-put}
 use Rattle.store_core.proofs.Apart.{apart-cut, apart-put, each-append, each-cut, each-left, each-right, each-weaker, one-exchanged, one-filtered}
 use Rattle.store_core.proofs.Asked.{asked}
@@ -35,6 +35,7 @@ use Rattle.store_core.proofs.SoundHeld.{all_sound, sound_held}
 use Rattle.store_core.proofs.Standing.{map-filtered}
 use Rattle.store_core.proofs.Entries.{Around, Known, around, each-mapped, known, none-found}
 use Rattle.store_core.proofs.Holders.{held-apart, held-exchanged, held-less}
+use Rattle.store_core.proofs.Owning.{found-tree}
 use Rattle.store_core.specs.Stored.{Room, Stored}
 use Rattle.store_core.specs.inner.Planning.{Stepped, Steppable}
 
@@ -96,7 +97,7 @@ made-content : (es : List Row) (last : ℕ) (p : Readied) (entry : Entry) → p.
     → content_in (es ++ (p.doc, entry) ∷ []) p.note.next ≡ content_after (content_in es last) p.doc p.note.change
 made-content es last p entry number step =
     let c = content_in es last in
-    let root = entry.tree in
+    let root = entry.tree.root in
     let new : Held = record { id = p.doc; tag = c.next; tree = root; notes = [] } in
     let held : held_in (p.doc, entry) ≡ new = ap (λ (x : Entry). held_in (p.doc, x)) step.2 in
     ap (λ (n : ℕ). content (map held_in (es ++ (p.doc, entry) ∷ [])) (n + 1)) number
@@ -140,13 +141,13 @@ renewed-rows es doc v w r =
     let q : Row → Bool = λ e. same_id doc e.0 in
     ap (λ (rows : List Row). map (λ (e : Row). cond (q e) (f e) e) rows) r.parts ∙ one-exchanged q f r.before r.behind (doc, v) r.none-before r.passes r.none-behind
 
-renewed-held : (doc : DocId) (v w : Entry) (number len : ℕ) (kept : Note) (change : Change) → IsRenewed v number kept len w → kept.change ≡ change → kept ≡ note_of v.tag number v.tree change
+renewed-held : (doc : DocId) (v w : Entry) (number len : ℕ) (kept : Note) (change : Change) → IsRenewed v number kept len w → kept.change ≡ change → kept ≡ note_of v.tag number v.tree.root change
     → held_in (doc, w) ≡ held_after number change (held_in (doc, v))
 renewed-held doc v w number len kept change new same note =
     let held : ℕ → Tree → List Note → Held = λ n x ns. record { id = doc; tag = n; tree = x; notes = ns } in
-    ap (λ (n : ℕ). held n w.tree w.notes) new.tag
-    ∙ ap (λ (x : Tree). held number x w.notes) (new.tree ∙ ap (λ (x : Change). edited v.tree x) same)
-    ∙ ap (λ (ns : List Note). held number (edited v.tree change) ns) (new.notes ∙ ap (λ (n : Note). retained (v.notes ++ n ∷ [])) note)
+    ap (λ (n : ℕ). held n w.tree.root w.notes) new.tag
+    ∙ ap (λ (x : Tree). held number x w.notes) (new.tree ∙ ap (λ (x : Change). edited v.tree.root x) same)
+    ∙ ap (λ (ns : List Note). held number (edited v.tree.root change) ns) (new.notes ∙ ap (λ (n : Note). retained (v.notes ++ n ∷ [])) note)
 
 renewed-content : (es : List Row) (last : ℕ) (p : Readied) (v w : Entry) (len : ℕ) (kept : Note) (h : Held) (r : Around es p.doc v)
     → p.note.next ≡ last + 1 → act_of p.note.change ≡ Edits → h ≡ held_in (p.doc, v) → kept.change ≡ p.note.change → kept ≡ note_of h.tag (last + 1) h.tree p.note.change → IsRenewed v p.note.next kept len w
@@ -170,7 +171,7 @@ renewed-content es last p v w len kept h r number edits same changed note new =
     ∙ ap (λ (hs : List Held). content hs (c.next + 1)) (map-append held_in r.before ((p.doc, w) ∷ r.behind) ∙ ap (λ (x : Held). before ++ x ∷ behind) held ∙ sym all)
     ∙ sym (ap (λ (act : Act). content_after_act c p.doc change act) edits)
 
-renewed-stored : (es : List Row) (rs : List (List ℕ × ℕ)) (last total : ℕ) (p : Readied) (staged : Staged) (kept : Note) (len : ℕ) (v w : Entry) (rows : List (List ℕ × ℕ))
+renewed-stored : (es : List Row) (rs : List (List ℕ × ℕ)) (last total : ℕ) (p : Readied) (staged : StagedTree) (kept : Note) (len : ℕ) (v w : Entry) (rows : List (List ℕ × ℕ))
     → IsStoring es rs last total → IsPlanned (content_in es last) p → IsStepOf (content_in es last) p (Edit staged kept len) → lookup (same_id p.doc) es ≡ Some v → IsRenewed v p.note.next kept len w
     → ((uri : List ℕ) → registered rows uri ≡ exchanged p.leaves p.enters w.created (registered rs uri) uri)
     → (content_in (map (λ e. cond (same_id p.doc e.0) (e.0, w) e) es) p.note.next ≡ content_after (content_in es last) p.doc p.note.change)
@@ -182,11 +183,11 @@ renewed-stored es rs last total p staged kept len v w rows s planned step found 
     let row : Row = (p.doc, w) in
     let h = step.0 in
     let same : h ≡ held_in old = one-held es p.doc v h r step.1 in
-    let tree : h.tree ≡ v.tree = ap (λ (x : Held). x.tree) same in
+    let tree : h.tree ≡ v.tree.root = ap (λ (x : Held). x.tree) same in
     let all = renewed-rows es p.doc v w r in
     let changed : kept.change ≡ p.note.change = ap (λ (n : Note). n.change) step.5 in
-    let now : w.tree ≡ edited h.tree p.note.change = new.tree ∙ ap (λ (x : Change). edited v.tree x) changed ∙ ap (λ (x : Tree). edited x p.note.change) (sym tree) in
-    let long : len ≡ document_len w.tree = step.4 ∙ ap document_len (sym now) in
+    let now : w.tree.root ≡ edited h.tree p.note.change = new.tree ∙ ap (λ (x : Change). edited v.tree.root x) changed ∙ ap (λ (x : Tree). edited x p.note.change) (sym tree) in
+    let long : len ≡ document_len w.tree.root = step.4 ∙ ap document_len (sym now) in
     let stands = renewed-content es last p v w len kept h r planned.number step.2 same changed (step.5 ∙ step.6) new in
     let next = kept-next es (r.before ++ row ∷ r.behind) last p s.kept planned stands in
     let apart = (known (r.before ++ row ∷ r.behind) p.note.next next.0 next.1 next.2).services in
@@ -195,8 +196,8 @@ renewed-stored es rs last total p staged kept len v w rows s planned step found 
     let given-behind = each-right (λ (e : Row). number_in e ≤ p.note.next) r.before (old ∷ r.behind) given in
     let lens = subst (λ (ds : List Row). AllByRecursion HasLen ds) r.parts s.lens in
     let exchange = step.7 in
-    let was : uris_in old ≡ exchange.0 ++ (p.leaves ++ exchange.1) = ap (λ (x : Tree). uris_in (p.doc, record v { tree = x })) (sym tree) ∙ exchange.2 in
-    let is : uris_in row ≡ exchange.0 ++ (p.enters ++ exchange.1) = ap (λ (x : Tree). uris_in (p.doc, record w { tree = x })) now ∙ exchange.3 in
+    let was : uris_in old ≡ exchange.0 ++ (p.leaves ++ exchange.1) = ap (λ (x : Tree). addresses_in p.doc.auid x) (sym tree) ∙ exchange.2 in
+    let is : uris_in row ≡ exchange.0 ++ (p.enters ++ exchange.1) = ap (λ (x : Tree). addresses_in p.doc.auid x) now ∙ exchange.3 in
     let stored : IsStoring (r.before ++ row ∷ r.behind) rows p.note.next p.total = record {
       kept = next;
       addresses = λ uri.
@@ -236,12 +237,12 @@ ended-stored es rs last total p v created rows s planned step found reg =
     let old : Row = (p.doc, v) in
     let h = step.0 in
     let same : h ≡ held_in old = one-held es p.doc v h r step.1 in
-    let tree : h.tree ≡ v.tree = ap (λ (x : Held). x.tree) same in
+    let tree : h.tree ≡ v.tree.root = ap (λ (x : Held). x.tree) same in
     let all : filter (λ (e : Row). not (same_id p.doc e.0)) es ≡ r.before ++ r.behind =
     ap (λ (ds : List Row). filter (λ (e : Row). not (same_id p.doc e.0)) ds) r.parts ∙ one-filtered (λ (e : Row). same_id p.doc e.0) r.before r.behind old r.none-before r.passes r.none-behind in
     let next = kept-next es (filter (λ (e : Row). not (same_id p.doc e.0)) es) last p s.kept planned (ended-content es last p planned.number step) in
     let before-apart : AreApart (flat_map uris_in (r.before ++ old ∷ r.behind)) = subst (λ (ds : List Row). AreApart (flat_map uris_in ds)) r.parts (known-of es rs last total s).services in
-    let leaves : p.leaves ≡ uris_in old = step.3 ∙ ap (λ (x : Tree). uris_in (p.doc, record v { tree = x })) tree in
+    let leaves : p.leaves ≡ uris_in old = step.3 ∙ ap (λ (x : Tree). addresses_in p.doc.auid x) tree in
     let numbers : AreApart (map number_in r.before ++ (number_in old ∷ [] ++ map number_in r.behind)) =
     subst (λ (ns : List ℕ). AreApart ns) (ap (map number_in) r.parts ∙ map-append number_in r.before (old ∷ r.behind)) s.numbers in
     let given = subst (λ (ds : List Row). AllByRecursion (λ e. number_in e ≤ p.note.next) ds) r.parts (later last p.note.next es planned.number s.given) in
@@ -330,18 +331,18 @@ same-storing es ds rs us last total e g s =
 
 -- ---- what a look-up finds
 
-pub low-entry : (es : List Row) (rs : List (List ℕ × ℕ)) (last total : ℕ) (doc : DocId) (v : Entry) → IsStoring es rs last total → lookup (same_id doc) es ≡ Some v → height v.tree ≤ 64
+pub low-entry : (es : List Row) (rs : List (List ℕ × ℕ)) (last total : ℕ) (doc : DocId) (v : Entry) → IsStoring es rs last total → lookup (same_id doc) es ≡ Some v → height v.tree.root ≤ 64
 low-entry es rs last total doc v s found =
     let r = around-of es rs last total doc v s found in
-    let P : Row → Type 0 = λ e. height e.1.tree ≤ 64 in
+    let P : Row → Type 0 = λ e. height e.1.tree.root ≤ 64 in
     (each-right P r.before ((doc, v) ∷ r.behind) (subst (λ (ds : List Row). AllByRecursion P ds) r.parts (known-of es rs last total s).low)).0
 
-pub sound-entry : (es : List Row) (rs : List (List ℕ × ℕ)) (last total : ℕ) (doc : DocId) (v : Entry) → IsStoring es rs last total → lookup (same_id doc) es ≡ Some v → IsSoundFor (usage_of doc.auid) v.tree
+pub sound-entry : (es : List Row) (rs : List (List ℕ × ℕ)) (last total : ℕ) (doc : DocId) (v : Entry) → IsStoring es rs last total → lookup (same_id doc) es ≡ Some v → IsSoundFor (usage_of doc.auid) v.tree.root
 sound-entry es rs last total doc v s found =
     let r = around-of es rs last total doc v s found in
     sound_held (content_in es last) doc (held_in (doc, v)) (held-found es doc v r) (all_sound (content_in es last) s.kept.0 s.kept.1 s.kept.2)
 
-pub len-of : (es : List Row) (rs : List (List ℕ × ℕ)) (last total : ℕ) (doc : DocId) (v : Entry) → IsStoring es rs last total → lookup (same_id doc) es ≡ Some v → v.len ≡ document_len v.tree
+pub len-of : (es : List Row) (rs : List (List ℕ × ℕ)) (last total : ℕ) (doc : DocId) (v : Entry) → IsStoring es rs last total → lookup (same_id doc) es ≡ Some v → v.len ≡ document_len v.tree.root
 len-of es rs last total doc v s found =
     let r = around-of es rs last total doc v s found in
     (each-right HasLen r.before ((doc, v) ∷ r.behind) (subst (λ (ds : List Row). AllByRecursion HasLen ds) r.parts s.lens)).0
@@ -355,27 +356,27 @@ not-there es rs last total doc (Some v) s e missing =
     cc
 
 -- the edit of a note that is kept fits the entry of its document, and its memory is the one for that entry's tree
-may-edit : (es : List Row) (rs : List (List ℕ × ℕ)) (last total : ℕ) (p : Readied) (staged : Staged) (kept : Note) (len : ℕ) (v : Entry)
+may-edit : (es : List Row) (rs : List (List ℕ × ℕ)) (last total : ℕ) (p : Readied) (staged : StagedTree) (kept : Note) (len : ℕ) (v : Entry)
     → IsStoring es rs last total → IsPlanned (content_in es last) p → IsStepOf (content_in es last) p (Edit staged kept len) → lookup (same_id p.doc) es ≡ Some v
-    → Fits v.tree kept.change × IsStaged v.tree kept.change staged
+    → Fits v.tree.root kept.change × IsStagedIn v.tree.root kept.change staged
 may-edit es rs last total p staged kept len v s planned step found =
     let h = step.0 in
     let r = around-of es rs last total p.doc v s found in
-    let tree : h.tree ≡ v.tree = ap (λ (x : Held). x.tree) (one-held es p.doc v h r step.1) in
+    let tree : h.tree ≡ v.tree.root = ap (λ (x : Held). x.tree) (one-held es p.doc v h r step.1) in
     let changed : p.note.change ≡ kept.change = sym (ap (λ (n : Note). n.change) step.5) in
     let fits : Fits h.tree p.note.change = (asked (content_in es last) p.doc p.note.change h step.2 step.1 planned.asks).0 in (
-      subst (λ (x : Change). Fits v.tree x) changed (subst (λ (x : Tree). Fits x p.note.change) tree fits),
-      subst (λ (x : Change). IsStaged v.tree x staged) changed (subst (λ (x : Tree). IsStaged x p.note.change staged) tree step.3),
+      subst (λ (x : Change). Fits v.tree.root x) changed (subst (λ (x : Tree). Fits x p.note.change) tree fits),
+      subst (λ (x : Change). IsStagedIn v.tree.root x staged) changed (subst (λ (x : Tree). IsStagedIn x p.note.change staged) tree step.3),
     )
 
 pub steppable : (es : List Row) (rs : List (List ℕ × ℕ)) (last total : ℕ) (p : Readied) (step : Step) → IsStoring es rs last total → IsPlanned (content_in es last) p → IsStepOf (content_in es last) p step
-    → Steppable es p.doc step
-steppable es rs last total p (Make entry) s planned step = not-there es rs last total p.doc (lookup (same_id p.doc) es) s refl step.0
-steppable es rs last total p (Edit staged kept len) s planned step =
+    → HasTree step (lookup (same_id p.doc) (trees_in es)) → Steppable es p.doc step
+steppable es rs last total p (Make entry) s planned step has = not-there es rs last total p.doc (lookup (same_id p.doc) es) s refl step.0
+steppable es rs last total p (Edit staged kept len) s planned step has =
     let found = found-entry es p.doc step.0 (lookup (same_id p.doc) es) refl step.1 in
     let may = may-edit es rs last total p staged kept len found.0 s planned step found.1 in
-    (found.0, found.1, may.0, may.1)
-steppable es rs last total p End s planned step = tt
+    (found.0, found.1, may.0, may.1, has found.0.tree.own (found-tree es p.doc found.0 found.1))
+steppable es rs last total p End s planned step has = tt
 
 pub absent-entry : (es : List Row) (rs : List (List ℕ × ℕ)) (last total : ℕ) (doc : DocId) → IsStoring es rs last total → document_in held_name (map held_in es) doc ≡ None → lookup (same_id doc) es ≡ None
 absent-entry es rs last total doc s missing = not-there es rs last total doc (lookup (same_id doc) es) s refl missing

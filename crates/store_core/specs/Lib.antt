@@ -6,10 +6,12 @@ pub mod Indexes
 pub mod KeyAddresses
 pub mod Keeping
 pub mod Limits
+pub mod Making
 pub mod Preparing
 pub mod Since
 pub mod State
 pub mod Stories
 pub mod Stored
 pub mod Suiting
+pub mod Trees
 pub mod inner

@@ -1,9 +1,10 @@
 -- A change that has all its memory, and what makes it ready for a store.
-use Rattle.std.specs.Prelude.{◌≡◌, ℕ, ◌+◌, ◌≤◌, List, [], ◌++◌, length, sum_by, None, Some, Result, Ok, Err, MatchResult}
+use Rattle.std.specs.Prelude.{◌≡◌, ℕ, ◌+◌, ◌≤◌, Bool, List, [], ◌++◌, length, sum_by, Option, None, Some, Result, Ok, Err, MatchResult}
+use Rattle.std.specs.Map.{lookup}
 use Rattle.usage_docs.specs.Services.{document_len}
+use Rattle.doc_names.specs.Same.{same_id}
 use Rattle.doc_names.specs.declared.doc_id.DocId.{DocId}
 use Rattle.edit_ops.specs.Changes.{edited}
-use Rattle.edit_ops.specs.Staging.{IsStaged}
 use Rattle.edit_ops.specs.declared.change.Change.TheVariants.{CreateDocument, RemoveDocument}
 use Rattle.notes.specs.Notes.{Note, note_of}
 use Rattle.store_core.specs.declared.step.Step.{Step}
@@ -11,6 +12,7 @@ use Rattle.store_core.specs.declared.step.Step.TheVariants.{Make, Edit, End}
 use Rattle.store_core.specs.Held.{Held, Stock}
 use Rattle.store_core.specs.Keeping.{addresses_in}
 use Rattle.store_core.specs.Asking.{Asks}
+use Rattle.store_core.specs.Making.{IsOwnWhere, IsStagedIn}
 use Rattle.store_core.specs.Changing.{Edits, act_of, changing, content_after, document_in, held_name}
 use Rattle.store_core.specs.Stored.{Stored, entry_of}
 
@@ -36,10 +38,10 @@ total_of c = sum_by (λ h. document_len h.tree) c.documents
 -- the step is that of the change
 abbrev pub IsStepOf : Stock → Readied → Step → Type 0
 IsStepOf c p (Make entry) =
-    (document_in held_name c.documents p.doc ≡ None) × (p.note.change ≡ CreateDocument entry.tree) × (entry ≡ entry_of c.next entry.tree) × (p.leaves ≡ [])
-    × (p.enters ≡ addresses_in p.doc.auid entry.tree) × (p.total ≡ total_of c + document_len entry.tree)
+    (document_in held_name c.documents p.doc ≡ None) × (p.note.change ≡ CreateDocument entry.tree.root) × (entry ≡ entry_of c.next entry.tree.root) × (p.leaves ≡ [])
+    × (p.enters ≡ addresses_in p.doc.auid entry.tree.root) × (p.total ≡ total_of c + document_len entry.tree.root)
 IsStepOf c p (Edit staged kept len) =
-    (h : Held) × (document_in held_name c.documents p.doc ≡ Some h) × (act_of p.note.change ≡ Edits) × IsStaged h.tree p.note.change staged
+    (h : Held) × (document_in held_name c.documents p.doc ≡ Some h) × (act_of p.note.change ≡ Edits) × IsStagedIn h.tree p.note.change staged
     × (len ≡ document_len (edited h.tree p.note.change)) × (kept ≡ p.note) × (p.note ≡ note_of h.tag c.next h.tree p.note.change)
     × Exchanges (addresses_in p.doc.auid h.tree) p.leaves p.enters (addresses_in p.doc.auid (edited h.tree p.note.change))
     × (p.total + document_len h.tree ≡ total_of c + len)
@@ -54,11 +56,18 @@ pub record IsPlanned (c : Stock) (p : Readied) : Type 0 where
   pub number : p.note.next ≡ c.next
   pub step : IsStepOf c p p.step
 
+-- where the step changes the tree of its document in place, nobody shares that tree, if this is what is told of it
+abbrev pub HasTree : Step → Option Bool → Type 0
+HasTree (Make entry) found = Unit {0}
+HasTree (Edit staged kept len) found = (own : Bool) → found ≡ Some own → IsOwnWhere staged own
+HasTree End found = Unit {0}
+
 -- and the store has the room for it
 pub record IsReady (s : Stored) (p : Readied) : Type 0 where
   pub planned : IsPlanned s.content p
   pub document : 1 ≤ s.room.documents
   pub services : length p.enters ≤ s.room.services
+  pub tree : HasTree p.step (lookup (same_id p.doc) s.room.trees)
 
 -- ---- a change that is made at once
 

@@ -4,5 +4,6 @@ pub mod Listed
 pub mod Planning
 pub mod Prints
 pub mod Rings
+pub mod Roots
 pub mod Storing
 pub mod Stories

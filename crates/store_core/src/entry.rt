@@ -1,17 +1,16 @@
 //! One document as the store keeps it, with the notes that are retained of its changes (RFC 5874, section 3).
-ghost use Rattle.std.specs.Prelude.{◌≡◌, IfOk};
+ghost use Rattle.std.specs.Prelude.{◌≡◌, IfOk, OnOk, true};
 ghost use Rattle.store_core.specs.Stored.{entry_of};
 ghost use Rattle.edit_ops.specs.Changes.{Fits};
-ghost use Rattle.edit_ops.specs.Staging.{IsStaged};
 ghost use Rattle.usage_docs.specs.Services.{document_len};
-ghost use Rattle.store_core.specs.inner.Storing.{IsRenewed};
+ghost use Rattle.store_core.specs.Making.{IsOwnWhere, IsStagedIn};
+ghost use Rattle.store_core.specs.inner.Storing.{IsRenewed, as_own};
 
 use crate::kept_tree::KeptTree;
 use crate::retained::Retained;
-use edit_ops::Staged;
-use notes::EditNote;
+use crate::staged_tree::StagedTree;
+use notes::{EditNote, NotedTree};
 use std::alloc::{AllocError, Global};
-use xml_tree::Element;
 
 /// A document: the number that its creation took, its tag, its tree and the bytes of its print, and the notes that are retained.
 #[derive(Drop)]
@@ -24,11 +23,11 @@ pub struct Entry {
 }
 
 impl Entry {
-    /// A document that is made with this number, of so many bytes, with the memory for its notes.
+    /// A document that is made with this number, of so many bytes, with the memory for its notes. Its note shares the tree.
     pub(crate) fn new(
         alloc: Global,
         number: u64,
-        tree: Element,
+        tree: NotedTree,
         len: usize,
     ) -> Result<Entry, AllocError>
         requires { len ≡ document_len tree }
@@ -38,7 +37,7 @@ impl Entry {
         Ok(Entry {
             created: number,
             tag: number,
-            tree: KeptTree::new(tree),
+            tree: KeptTree::noted(tree),
             len,
             notes,
         })
@@ -46,13 +45,22 @@ impl Entry {
 }
 
 /// Makes the edit of a note in a document, which then has so many bytes and the edit's number as its tag, and keeps the note.
-pub(crate) fn renew(entry: &mut Entry, number: u64, staged: Staged, note: EditNote, len: usize)
-    requires fits { Fits entry.old.tree note.change }
-    requires staged { IsStaged entry.old.tree note.change staged }
+pub(crate) fn renew(entry: &mut Entry, number: u64, staged: StagedTree, note: EditNote, len: usize)
+    requires fits { Fits entry.old.tree.root note.change }
+    requires staged { IsStagedIn entry.old.tree.root note.change staged }
+    requires own { IsOwnWhere staged entry.old.tree.own }
     ensures renewed_by_the_edit { IsRenewed entry.old number note len entry.new }
 {
     entry.tree.make(note.change(), staged);
     entry.len = len;
     entry.tag = number;
     entry.notes.keep(note);
+}
+
+/// Sees to it that nobody shares the tree of a document, which stays as it is.
+pub(crate) fn unshare_tree(alloc: Global, entry: &mut Entry) -> Result<(), AllocError>
+    ensures holds_the_same { as_own entry.new ≡ as_own entry.old }
+    ensures nobody_shares_its_tree { OnOk result (entry.new.tree.own ≡ true) }
+{
+    entry.tree.unshare(alloc)
 }

@@ -16,9 +16,12 @@ mod prints;
 mod refusal;
 mod registry;
 mod retained;
+mod root;
 mod since;
+mod staged_tree;
 mod step;
 mod store;
+mod within;
 
 pub use laws::{
     changes_that_are_made_keep_store_and_state, changes_that_are_made_leave_key_addresses,

@@ -13,6 +13,7 @@ ghost use Rattle.store_core.specs.Held.{Held};
 ghost use Rattle.store_core.specs.Keeping.{IsSoundFor, addresses_in};
 ghost use Rattle.store_core.specs.inner.Addresses.{AreExchanged};
 ghost use Rattle.store_core.specs.KeyAddresses.{KeepsAddressesOf};
+ghost use Rattle.store_core.specs.Making.{IsOwn, IsStagedIn, is_within};
 ghost use Rattle.edit_ops.specs.Changes.{Fits, edited};
 ghost use Rattle.edit_ops.specs.Lengths.{element_len};
 ghost use Rattle.store_core.specs.Preparing.{IsReady, total_of};
@@ -26,14 +27,16 @@ use crate::limits::{MOST_BYTES, MOST_BYTES_TOGETHER, MOST_DOCUMENTS};
 use crate::prepared::Prepared;
 use crate::refusal::StoreRefusal;
 use crate::registry::first_taken;
-use crate::step::{Step, find};
+use crate::staged_tree::StagedTree;
+use crate::step::{Step, find, unshare};
 use crate::store::Store;
+use crate::within::is_within;
 use doc_names::DocId;
-use edit_ops::{Change, Staged, element_len, printed_len_after, stage};
-use notes::EditNote;
+use edit_ops::{Change, element_len, printed_len_after, stage};
+use notes::{EditNote, NotedTree};
 use std::alloc::Global;
 use usage_docs::{Clash, Key};
-use xml_tree::{Element, List, Path, Text, copy_tree, printed_len};
+use xml_tree::{Element, List, Path, Text, printed_len};
 
 // The length of what a printed document has before its root.
 const HEAD_LEN: usize = 39;
@@ -103,7 +106,7 @@ fn refused_for(place: Option<usize>, len: usize, is_full: bool, others: u64) -> 
 
 // ---- a change with all its memory
 
-// A document that is made, whose addresses and total are known.
+// A document that is made, whose addresses and total are known. It shares its tree with the note.
 fn creation(
     alloc: Global,
     doc: &DocId,
@@ -124,10 +127,10 @@ fn creation(
     }) }
 {
     let doc = doc.copy(alloc)?;
-    let tree = copy_tree(alloc, &root)?;
-    let entry = Entry::new(alloc, number, tree, len)?;
     let change = Change::CreateDocument { root };
     let note = EditNote::of_document(alloc, 0, number, change)?;
+    let tree = NotedTree::of(&note)?;
+    let entry = Entry::new(alloc, number, tree, len)?;
     Ok(Prepared {
         doc,
         note,
@@ -142,7 +145,7 @@ fn creation(
 fn edit(
     alloc: Global,
     doc: &DocId,
-    staged: Staged,
+    staged: StagedTree,
     note: EditNote,
     len: usize,
     leaves: List<Text>,
@@ -200,6 +203,20 @@ fn removal(
     })
 }
 
+// What the change of a note brings into the tree that it is one of. Where it exchanges the root, the tree is shared with the note.
+fn staged(alloc: Global, root: &Element, note: &EditNote) -> Result<StagedTree, NoMemory>
+    requires { Fits root.now note.now.change }
+    ensures stages_the_change { IfOk result (λ made. IsStagedIn root.now note.now.change made) }
+{
+    let change = note.change();
+    if is_within(change) {
+        let staged = stage(alloc, root, change)?;
+        return Ok(StagedTree::InPlace(staged));
+    }
+    let tree = NotedTree::of(note)?;
+    Ok(StagedTree::Whole(tree))
+}
+
 // A document that is edited, whose addresses, lengths and total are known.
 fn noted(
     alloc: Global,
@@ -213,13 +230,13 @@ fn noted(
     enters: List<Text>,
     total: u64,
 ) -> Result<Prepared, NoMemory>
-    requires fits { Fits entry.now.tree change }
+    requires fits { Fits entry.now.tree.root change }
     requires put { put ≡ min (element_len change) usize.MAX }
     ensures notes_the_edit { IfOk result (λ p. IsNoted doc.now entry.now number change len leaves enters total p) }
 {
     let tree = entry.tree.root();
-    let staged = stage(alloc, tree, &change)?;
     let note = EditNote::of(alloc, entry.tag, number, tree, change, put)?;
+    let staged = staged(alloc, tree, &note)?;
     edit(alloc, doc, staged, note, len, leaves, enters, total)
 }
 
@@ -246,7 +263,7 @@ impl Store {
     fn held(&self, doc: &DocId) -> &Entry
         requires { IsSome (document_in held_name self.now.content.documents doc.now) }
         ensures entry_that_is_held { IsHeldAs self.now.content doc.now result.now }
-        ensures tree_is_sound { IsSoundFor (usage_of doc.now.auid) result.now.tree }
+        ensures tree_is_sound { IsSoundFor (usage_of doc.now.auid) result.now.tree.root }
     {
         match find(&self.documents, doc) {
             Some(entry) => entry,
@@ -372,6 +389,17 @@ impl Store {
         }
     }
 
+    // Sees to it that nobody shares the tree of a document, where a change is one within its root: so it can be made in place.
+    fn unshare_for(&mut self, doc: &DocId, change: &Change) -> Result<(), NoMemory>
+        ensures holds_the_same { self.new.content ≡ self.old.content }
+        ensures nobody_shares_its_tree { OnOk result (is_within change.now ≡ true → IsOwn self.new.room.trees doc.now) }
+    {
+        if is_within(change) {
+            return unshare(self.alloc, &mut self.documents, doc);
+        }
+        Ok(())
+    }
+
     /// Takes all memory of a change of a document, which isn't made yet: `commit` makes it; or answers
     /// the first reason against it, in the order of `StoreRefusal`. A document that is made isn't held yet, and
     /// another change is one of a document that is held; what is left may be a document, if it isn't too long.
@@ -391,6 +419,7 @@ impl Store {
         ensures refused_with_the_first_reason { IfOk result (λ r. IfErr r (λ e. changing self.old.content doc.now change ≡ Err e)) }
     {
         self.stands();
+        self.unshare_for(doc, &change)?;
         match self.plan(doc, change)? {
             Ok(prepared) => {
                 self.reserve(prepared.addresses_more())?;

@@ -17,7 +17,7 @@ use xcap_io::Bytes;
 
 // The print of an entry's document.
 fn print_of(alloc: Global, entry: &mut Entry) -> Result<Option<Bytes>, NoMemory>
-    ensures prints_the_document { IfOk result (λ print. print ≡ Some (encode_utf8_all (document_print entry.old.tree))) }
+    ensures prints_the_document { IfOk result (λ print. print ≡ Some (encode_utf8_all (document_print entry.old.tree.root))) }
     ensures holds_the_same { entry.new ≡ entry.old }
 {
     let print = entry.tree.print(alloc)?;
@@ -30,7 +30,7 @@ fn print_in(
     documents: &mut Documents,
     doc: &DocId,
 ) -> Result<Option<Bytes>, NoMemory>
-    ensures prints_the_document { IfOk result (λ print. print ≡ option_map (λ v. encode_utf8_all (document_print v.tree)) (lookup (same_id doc.now) documents.old.entries)) }
+    ensures prints_the_document { IfOk result (λ print. print ≡ option_map (λ v. encode_utf8_all (document_print v.tree.root)) (lookup (same_id doc.now) documents.old.entries)) }
     ensures holds_the_same { documents.new.entries ≡ documents.old.entries }
     ensures room_stays { spare documents.new ≡ spare documents.old }
 {

@@ -1,19 +1,20 @@
 //! What a change does to the entries of the documents.
-ghost use Rattle.std.specs.Prelude.{◌≡◌, ◌<◌, ◌++◌, ◌∷◌, [], map, filter, not, None, Some, if◌then◌else◌};
+ghost use Rattle.std.specs.Prelude.{◌≡◌, ◌<◌, ◌++◌, ◌∷◌, [], map, filter, not, None, OnOk, Some, if◌then◌else◌};
 ghost use Rattle.std.specs.Map.{lookup};
 ghost use Rattle.std.specs.Option.{option_copied};
 ghost use Rattle.indexmap.specs.IndexMap.{spare};
 ghost use Rattle.doc_names.specs.Same.{same_id};
 ghost use Rattle.edit_ops.specs.Changes.{Fits};
-ghost use Rattle.edit_ops.specs.Staging.{IsStaged};
 ghost use Rattle.store_core.specs.declared.entry.Entry.{Entry as Held};
-ghost use Rattle.store_core.specs.inner.Storing.{IsRenewed};
+ghost use Rattle.store_core.specs.Making.{IsOwn, IsOwnWhere, IsStagedIn};
+ghost use Rattle.store_core.specs.inner.Storing.{IsRenewed, all_as_own, trees_in};
 
-use crate::entry::{Entry, renew};
+use crate::entry::{Entry, renew, unshare_tree};
+use crate::staged_tree::StagedTree;
 use doc_names::DocId;
-use edit_ops::Staged;
 use indexmap::IndexMap;
 use notes::EditNote;
+use std::alloc::{AllocError, Global};
 
 pub(crate) type Documents = IndexMap<DocId, Entry>;
 
@@ -24,7 +25,7 @@ pub enum Step {
     Make(Entry),
     /// The edit of a note is made in it, which leaves so many bytes, and the note is kept.
     Edit {
-        staged: Staged,
+        staged: StagedTree,
         kept: EditNote,
         len: usize,
     },
@@ -37,6 +38,24 @@ pub(crate) fn find<'a>(documents: &'a Documents, doc: &DocId) -> Option<&'a Entr
     ensures entry_of_the_document { option_copied result ≡ lookup (same_id doc.now) documents.now.entries }
 {
     documents.get(doc)
+}
+
+/// Sees to it that nobody shares the tree of a document, if it is there. All documents stay as they are.
+///
+/// # Errors
+/// `NoMemory` for want of memory.
+pub(crate) fn unshare(
+    alloc: Global,
+    documents: &mut Documents,
+    doc: &DocId,
+) -> Result<(), AllocError>
+    ensures holds_the_same { all_as_own documents.new.entries ≡ all_as_own documents.old.entries }
+    ensures nobody_shares_its_tree { OnOk result (IsOwn (trees_in documents.new.entries) doc.now) }
+{
+    match documents.get_mut(doc) {
+        Some(entry) => unshare_tree(alloc, entry),
+        None => Ok(()),
+    }
 }
 
 // Puts a document that isn't there behind the others.
@@ -53,11 +72,11 @@ fn exchange(
     documents: &mut Documents,
     doc: &DocId,
     number: u64,
-    staged: Staged,
+    staged: StagedTree,
     note: EditNote,
     len: usize,
 ) -> u64
-    requires { (v : Held) × (lookup (same_id doc.now) documents.old.entries ≡ Some v) × Fits v.tree note.change × IsStaged v.tree note.change staged }
+    requires { (v : Held) × (lookup (same_id doc.now) documents.old.entries ≡ Some v) × Fits v.tree.root note.change × IsStagedIn v.tree.root note.change staged × IsOwnWhere staged v.tree.own }
     ensures renews_the_one_entry { (v : Held) × (w : Held) × (lookup (same_id doc.now) documents.old.entries ≡ Some v) × IsRenewed v number note len w
         × (documents.new.entries ≡ map (λ e. if same_id doc.now e.0 then (e.0, w) else e) documents.old.entries) × (result ≡ w.created) }
 {

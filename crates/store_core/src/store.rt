@@ -34,7 +34,7 @@ impl Model for Store {
     ghost use Rattle.std.specs.Prelude.{◌+◌};
     ghost use Rattle.store_core.specs.Stored.{Stored};
     ghost use Rattle.indexmap.specs.IndexMap.{spare};
-    ghost use Rattle.store_core.specs.inner.Storing.{IsStoring, content_in};
+    ghost use Rattle.store_core.specs.inner.Storing.{IsStoring, content_in, trees_in};
     ghost use Rattle.std.specs.Coded.{codes};
     ghost use Rattle.xml_tree.specs.inner.Codes.{tree_code};
     ghost use Rattle.doc_names.specs.contracts.doc_id.DocId as d;
@@ -44,7 +44,7 @@ impl Model for Store {
 
     ghost coded = { Prim.hlevel (codes, tree_code, d.the_row.coded, c.the_row.coded) };
 
-    ghost view = { λ s. record { content = content_in s.documents.entries s.last; room = record { documents = spare s.documents; services = spare s.services } } };
+    ghost view = { λ s. record { content = content_in s.documents.entries s.last; room = record { documents = spare s.documents; services = spare s.services; trees = trees_in s.documents.entries } } };
 
     ghost invariant = { λ s. IsStoring s.documents.entries s.services.entries s.last s.total };
 }
@@ -111,6 +111,7 @@ impl Store {
     pub(crate) fn reserve(&mut self, addresses: usize) -> Result<(), AllocError>
         ensures holds_the_same { self.new.content ≡ self.old.content }
         ensures there_is_room { OnOk result ((1 ≤ self.new.room.documents) × (addresses ≤ self.new.room.services)) }
+        ensures trees_stay { self.new.room.trees ≡ self.old.room.trees }
     {
         self.documents.reserve(1)?;
         self.services.reserve(addresses)

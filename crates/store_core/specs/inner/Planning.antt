@@ -8,18 +8,18 @@ use Rattle.usage_docs.specs.declared.rows.Key.TheVariants.{Uri}
 use Rattle.doc_names.specs.Same.{same_id}
 use Rattle.doc_names.specs.declared.doc_id.DocId.{DocId}
 use Rattle.edit_ops.specs.Changes.{Fits}
-use Rattle.edit_ops.specs.Staging.{IsStaged}
 use Rattle.edit_ops.specs.declared.change.Change.{Change}
-use Rattle.edit_ops.specs.declared.staged.Staged.{Staged}
 use Rattle.notes.specs.Notes.{Note, note_of}
 use Rattle.store_core.specs.Limits.{most_bytes, most_bytes_together}
 use Rattle.store_core.specs.declared.entry.Entry.{Entry}
+use Rattle.store_core.specs.declared.staged_tree.StagedTree.{StagedTree}
 use Rattle.store_core.specs.declared.step.Step.{Step}
 use Rattle.store_core.specs.declared.step.Step.TheVariants.{Make, Edit, End}
 use Rattle.store_core.specs.declared.refusal.StoreRefusal.{StoreRefusal}
 use Rattle.store_core.specs.declared.refusal.StoreRefusal.TheVariants.{ServiceTaken, TooLarge, TooMany, StoreFull}
 use Rattle.store_core.specs.Held.{Held, Stock}
 use Rattle.store_core.specs.Changing.{changing, document_in, held_name, only_if}
+use Rattle.store_core.specs.Making.{IsOwnWhere, IsStagedIn}
 use Rattle.store_core.specs.inner.Storing.{IsRenewed}
 use Rattle.store_core.specs.Preparing.{Readied, IsPlanned}
 
@@ -34,12 +34,12 @@ refused_for place len is_full others =
 
 -- a document is held with the tree, the tag and the length of this entry
 abbrev pub IsHeldAs : Stock → DocId → Entry → Type 0
-IsHeldAs c doc v = (h : Held) × (document_in held_name c.documents doc ≡ Some h) × (h.tree ≡ v.tree) × (h.tag ≡ v.tag) × (v.len ≡ document_len v.tree)
+IsHeldAs c doc v = (h : Held) × (document_in held_name c.documents doc ≡ Some h) × (h.tree ≡ v.tree.root) × (h.tag ≡ v.tag) × (v.len ≡ document_len v.tree.root)
 
 -- an edit of what this entry holds, with its note and its memory, before the store has the room for it
 abbrev pub IsNoted : DocId → Entry → ℕ → Change → ℕ → List (List ℕ) → List (List ℕ) → ℕ → Readied → Type 0
 IsNoted doc v number change len leaves enters total p =
-    (note : Note) × (staged : Staged) × (note ≡ note_of v.tag number v.tree change) × IsStaged v.tree change staged
+    (note : Note) × (staged : StagedTree) × (note ≡ note_of v.tag number v.tree.root change) × IsStagedIn v.tree.root change staged
     × (p ≡ record { doc = doc; note = note; step = Edit staged note len; leaves = leaves; enters = enters; total = total })
 
 -- what planning a change answers: the change with its memory, as it was asked for; or the reason against it
@@ -59,5 +59,5 @@ Stepped old doc number End created new = new ≡ filter (λ e. not (same_id doc 
 abbrev pub Steppable : List (DocId × Entry) → DocId → Step → Type 0
 Steppable old doc (Make entry) = lookup (same_id doc) old ≡ None
 Steppable old doc (Edit staged kept len) =
-    (v : Entry) × (lookup (same_id doc) old ≡ Some v) × Fits v.tree kept.change × IsStaged v.tree kept.change staged
+    (v : Entry) × (lookup (same_id doc) old ≡ Some v) × Fits v.tree.root kept.change × IsStagedIn v.tree.root kept.change staged × IsOwnWhere staged v.tree.own
 Steppable old doc End = Unit {0}

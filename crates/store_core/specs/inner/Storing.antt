@@ -18,7 +18,7 @@ use Rattle.store_core.specs.Keeping.{AreApart, Kept, addresses_in}
 
 -- a document by its entry
 abbrev pub held_in : DocId × Entry → Held
-held_in e = record { id = e.0; tag = e.1.tag; tree = e.1.tree; notes = e.1.notes }
+held_in e = record { id = e.0; tag = e.1.tag; tree = e.1.tree.root; notes = e.1.notes }
 
 -- all documents, and the number behind the last one given
 abbrev pub content_in : List (DocId × Entry) → ℕ → Stock
@@ -28,10 +28,10 @@ abbrev pub name_in : DocId × Entry → DocId
 name_in e = e.0
 
 abbrev pub uris_in : DocId × Entry → List (List ℕ)
-uris_in e = addresses_in e.0.auid e.1.tree
+uris_in e = addresses_in e.0.auid e.1.tree.root
 
 abbrev pub len_in : DocId × Entry → ℕ
-len_in e = document_len e.1.tree
+len_in e = document_len e.1.tree.root
 
 -- the number that its creation took
 abbrev pub number_in : DocId × Entry → ℕ
@@ -41,9 +41,22 @@ number_in e = e.1.created
 pub record IsRenewed (old : Entry) (number : ℕ) (note : Note) (bytes : ℕ) (new : Entry) : Type 0 where
   pub created : new.created ≡ old.created
   pub tag : new.tag ≡ number
-  pub tree : new.tree ≡ edited old.tree note.change
+  pub tree : new.tree.root ≡ edited old.tree.root note.change
   pub len : new.len ≡ bytes
   pub notes : new.notes ≡ retained (old.notes ++ note ∷ [])
+
+-- ---- whose the trees are
+
+-- of each document, whether nobody shares its tree
+abbrev pub trees_in : List (DocId × Entry) → List (DocId × Bool)
+trees_in es = map (λ e. (e.0, e.1.tree.own)) es
+
+-- an entry, whoever shares its tree: as if nobody did
+abbrev pub as_own : Entry → Entry
+as_own v = record { created = v.created; tag = v.tag; tree = record { root = v.tree.root; own = true }; len = v.len; notes = v.notes }
+
+abbrev pub all_as_own : List (DocId × Entry) → List (DocId × Entry)
+all_as_own es = map (λ e. (e.0, as_own e.1)) es
 
 -- ---- who holds an address
 

@@ -13,7 +13,7 @@ returns-in-Some-clause-prints_the_document c =
     let es = c.args.documents.now.entries in
     let doc = c.args.doc.now in
     let there : Some c.in-Some.entry.now ≡ lookup (same_id doc) es = c.in-Some.ensures.value ∙ looked-up doc es in
-    subst (λ (o : Option Entry). IfOk c.print_of.result (λ print. print ≡ option_map {T = Entry} {U = List ℕ} (λ v. encode_utf8_all (document_print v.tree)) o)) there c.print_of.ensures.prints_the_document
+    subst (λ (o : Option Entry). IfOk c.print_of.result (λ print. print ≡ option_map {T = Entry} {U = List ℕ} (λ v. encode_utf8_all (document_print v.tree.root)) o)) there c.print_of.ensures.prints_the_document
 
 pub returns-in-Some-clause-holds_the_same : goal.returns-in-Some-clause-holds_the_same
 returns-in-Some-clause-holds_the_same c =

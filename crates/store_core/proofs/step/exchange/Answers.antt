@@ -2,20 +2,25 @@ use Rattle.std.proofs.Common.{◌≡◌, Some, refl, sym, subst, ◌∙◌}
 use Rattle.std.specs.Map.{lookup}
 use Rattle.doc_names.specs.Same.{same_id}
 use Rattle.edit_ops.specs.Changes.{Fits}
-use Rattle.edit_ops.specs.Staging.{IsStaged}
 use Rattle.store_core.specs.declared.entry.Entry.{Entry}
+use Rattle.store_core.specs.Making.{IsOwnWhere, IsStagedIn}
 use Rattle.store_core.proofs.Keyed.{exchanged-in, looked-up, one-value}
 use Rattle.store_core.proofs.step.exchange.Goals as goal
 
 pub renew-requires-clause-fits : goal.renew-requires-clause-fits
 renew-requires-clause-fits c =
     let r = c.requires in
-    subst (λ (v : Entry). Fits v.tree c.args.note.change) (one-value c.args.doc.now c.args.documents.now.entries r.0 c.in-Some.entry.now r.1 c.in-Some.ensures.value) r.2
+    subst (λ (v : Entry). Fits v.tree.root c.args.note.change) (one-value c.args.doc.now c.args.documents.now.entries r.0 c.in-Some.entry.now r.1 c.in-Some.ensures.value) r.2
 
 pub renew-requires-clause-staged : goal.renew-requires-clause-staged
 renew-requires-clause-staged c =
     let r = c.requires in
-    subst (λ (v : Entry). IsStaged v.tree c.args.note.change c.args.staged) (one-value c.args.doc.now c.args.documents.now.entries r.0 c.in-Some.entry.now r.1 c.in-Some.ensures.value) r.3
+    subst (λ (v : Entry). IsStagedIn v.tree.root c.args.note.change c.args.staged) (one-value c.args.doc.now c.args.documents.now.entries r.0 c.in-Some.entry.now r.1 c.in-Some.ensures.value) r.3
+
+pub renew-requires-clause-own : goal.renew-requires-clause-own
+renew-requires-clause-own c =
+    let r = c.requires in
+    subst (λ (v : Entry). IsOwnWhere c.args.staged v.tree.own) (one-value c.args.doc.now c.args.documents.now.entries r.0 c.in-Some.entry.now r.1 c.in-Some.ensures.value) r.4
 
 pub returns : goal.returns
 returns c = record {

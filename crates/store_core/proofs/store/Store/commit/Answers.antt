@@ -1,6 +1,8 @@
+use Rattle.std.proofs.Common.{refl}
 use Rattle.indexmap.specs.IndexMap.{spare}
 use Rattle.store_core.specs.Preparing.{Readied}
 use Rattle.store_core.specs.Stored.{Room}
+use Rattle.store_core.specs.inner.Storing.{trees_in}
 use Rattle.store_core.proofs.Committed.{holds-next, keeps-addresses, may-step, still-storing}
 use Rattle.store_core.proofs.store.Store.commit.Goals as goal
 
@@ -8,15 +10,15 @@ pub take-created-requires-clause-fits : goal.take-created-requires-clause-fits
 take-created-requires-clause-fits c =
     let s = c.self.inside in
     let p = c.prepared.inside in
-    let room : Room = record { documents = spare s.documents; services = spare s.services } in
+    let room : Room = record { documents = spare s.documents; services = spare s.services; trees = trees_in s.documents.entries } in
     let seen : Readied = record { doc = p.doc; note = p.note; step = p.step; leaves = p.leaves; enters = p.enters; total = p.total } in
-    may-step s.documents.entries s.services.entries s.last s.total room c.args.self.now seen c.args.prepared c.self.view_is c.prepared.view_is c.self.invariant c.requires
+    may-step s.documents.entries s.services.entries s.last s.total room c.args.self.now seen c.args.prepared c.self.view_is c.prepared.view_is c.self.invariant c.requires refl
 
 pub invariant_of-self : goal.invariant_of-self
 invariant_of-self c =
     let s = c.self.inside in
     let p = c.prepared.inside in
-    let room : Room = record { documents = spare s.documents; services = spare s.services } in
+    let room : Room = record { documents = spare s.documents; services = spare s.services; trees = trees_in s.documents.entries } in
     let seen : Readied = record { doc = p.doc; note = p.note; step = p.step; leaves = p.leaves; enters = p.enters; total = p.total } in
     still-storing s.documents.entries s.services.entries s.last s.total room c.args.self.now seen c.args.prepared c.self.view_is c.prepared.view_is c.self.invariant c.requires
     c.leave.new.registry.entries c.enter.new.registry.entries c.take-created.new.documents.entries c.take-created.result c.next-number.result c.as_slice.result.now c.into_vec.result.items c.next-number.ensures.tag_after c.take-created.ensures.takes_the_step c.as_slice.ensures.lends_the_items c.into_vec.ensures.hands_out_the_items
@@ -26,7 +28,7 @@ pub returns-clause-holds_the_prepared_change : goal.returns-clause-holds_the_pre
 returns-clause-holds_the_prepared_change c =
     let s = c.self.inside in
     let p = c.prepared.inside in
-    let room : Room = record { documents = spare s.documents; services = spare s.services } in
+    let room : Room = record { documents = spare s.documents; services = spare s.services; trees = trees_in s.documents.entries } in
     let seen : Readied = record { doc = p.doc; note = p.note; step = p.step; leaves = p.leaves; enters = p.enters; total = p.total } in
     holds-next s.documents.entries s.services.entries s.last s.total room c.args.self.now seen c.args.prepared c.self.view_is c.prepared.view_is c.self.invariant c.requires
     c.leave.new.registry.entries c.enter.new.registry.entries c.take-created.new.documents.entries c.take-created.result c.next-number.result c.as_slice.result.now c.into_vec.result.items c.next-number.ensures.tag_after c.take-created.ensures.takes_the_step c.as_slice.ensures.lends_the_items c.into_vec.ensures.hands_out_the_items
@@ -36,7 +38,7 @@ pub returns-clause-keeps_key_addresses : goal.returns-clause-keeps_key_addresses
 returns-clause-keeps_key_addresses c =
     let s = c.self.inside in
     let p = c.prepared.inside in
-    let room : Room = record { documents = spare s.documents; services = spare s.services } in
+    let room : Room = record { documents = spare s.documents; services = spare s.services; trees = trees_in s.documents.entries } in
     let seen : Readied = record { doc = p.doc; note = p.note; step = p.step; leaves = p.leaves; enters = p.enters; total = p.total } in
     keeps-addresses s.documents.entries s.services.entries s.last s.total room c.args.self.now seen c.args.prepared c.self.view_is c.prepared.view_is c.self.invariant c.requires
     c.leave.new.registry.entries c.enter.new.registry.entries c.take-created.new.documents.entries c.take-created.result c.next-number.result c.as_slice.result.now c.into_vec.result.items c.next-number.ensures.tag_after c.take-created.ensures.takes_the_step c.as_slice.ensures.lends_the_items c.into_vec.ensures.hands_out_the_items

@@ -20,7 +20,7 @@ returns-in_err-entry-clause-version_that_is_held c =
     let none : None ≡ lookup (same_id doc) es = rw c.in_err-entry.was at c.find.ensures.entry_of_the_document in
     let same = ap (λ (s : Stored). option_map {U = Tree × ℕ} (λ (h : Held). (h.tree, h.tag)) (document_in held_name s.content.documents doc)) c.self.view_is in
     let told : c.from_residual.result ≡ None = search rules in
-    rw told (ap (λ (o : Option Entry). option_map {U = Tree × ℕ} (λ (v : Entry). (v.tree, v.tag)) o) none ∙ sym (tree-and-tag es doc) ∙ same)
+    rw told (ap (λ (o : Option Entry). option_map {U = Tree × ℕ} (λ (v : Entry). (v.tree.root, v.tag)) o) none ∙ sym (tree-and-tag es doc) ∙ same)
 
 pub returns-clause-version_that_is_held : goal.returns-clause-version_that_is_held
 returns-clause-version_that_is_held c =
@@ -29,7 +29,7 @@ returns-clause-version_that_is_held c =
     let there : Some c.in_ok-entry.entry.now ≡ lookup (same_id doc) es = rw c.in_ok-entry.was at c.find.ensures.entry_of_the_document in
     let same = ap (λ (s : Stored). option_map {U = Tree × ℕ} (λ (h : Held). (h.tree, h.tag)) (document_in held_name s.content.documents doc)) c.self.view_is in
     ap (λ (t : Tree). let x : Option (Tree × ℕ) = Some (t, c.in_ok-entry.entry.now.tag) in x) c.root.ensures.lends_the_root
-    ∙ ap (λ (o : Option Entry). option_map {U = Tree × ℕ} (λ (v : Entry). (v.tree, v.tag)) o) there ∙ sym (tree-and-tag es doc) ∙ same
+    ∙ ap (λ (o : Option Entry). option_map {U = Tree × ℕ} (λ (v : Entry). (v.tree.root, v.tag)) o) there ∙ sym (tree-and-tag es doc) ∙ same
 
 pub returns-clause-is_low_enough : goal.returns-clause-is_low_enough
 returns-clause-is_low_enough c =

@@ -19,11 +19,11 @@ pub returns-in-Some : goal.returns-in-Some
 returns-in-Some c = record {
   plans_the_edit =
       let h = c.held-entry.ensures.entry_that_is_held in
-      let tree = edited c.held-entry.result.now.tree c.args.change in
+      let tree = edited c.held-entry.result.now.tree.root c.args.change in
       let counts = c.len_after-len.ensures.counts_the_changed_document
       ∙ ap (λ (t : Tree). min (document_len (edited t c.args.change)) 18446744073709551615) c.root-tree.ensures.lends_the_root in
       let exchanged =
-      edit-exchanged c.args.self.now.content c.args.doc.now c.args.change h.0 c.held-entry.result.now.tree c.first_number-first.result c.in_ok-leaves.leaves c.as_slice.result.now c.requires.asks c.requires.edits h.1 h.2
+      edit-exchanged c.args.self.now.content c.args.doc.now c.args.change h.0 c.held-entry.result.now.tree.root c.first_number-first.result c.in_ok-leaves.leaves c.as_slice.result.now c.requires.asks c.requires.edits h.1 h.2
       c.held-entry.ensures.tree_is_sound c.first_number-first.ensures.first_that_comes (rw c.root-tree.ensures.lends_the_root at c.in_ok-leaves.ensures.addresses_of_the_usage_that_leave)
       (c.as_slice.ensures.lends_the_items ∙ c.in_ok-enters.ensures.addresses_of_the_usage_that_enter) in
       edit-refused c.args.self.now.content c.args.doc.now c.args.change h.0 tree c.in-Some.refusal c.requires.edits h.1 (ap (λ (t : Tree). edited t c.args.change) (sym h.2))
@@ -45,11 +45,11 @@ pub returns-in_default-next_number : goal.returns-in_default-next_number
 returns-in_default-next_number c = record {
   plans_the_edit =
       let h = c.held-entry.ensures.entry_that_is_held in
-      let tree = edited c.held-entry.result.now.tree c.args.change in
+      let tree = edited c.held-entry.result.now.tree.root c.args.change in
       let counts = c.len_after-len.ensures.counts_the_changed_document
       ∙ ap (λ (t : Tree). min (document_len (edited t c.args.change)) 18446744073709551615) c.root-tree.ensures.lends_the_root in
       let exchanged =
-      edit-exchanged c.args.self.now.content c.args.doc.now c.args.change h.0 c.held-entry.result.now.tree c.first_number-first.result c.in_ok-leaves.leaves c.as_slice.result.now c.requires.asks c.requires.edits h.1 h.2
+      edit-exchanged c.args.self.now.content c.args.doc.now c.args.change h.0 c.held-entry.result.now.tree.root c.first_number-first.result c.in_ok-leaves.leaves c.as_slice.result.now c.requires.asks c.requires.edits h.1 h.2
       c.held-entry.ensures.tree_is_sound c.first_number-first.ensures.first_that_comes (rw c.root-tree.ensures.lends_the_root at c.in_ok-leaves.ensures.addresses_of_the_usage_that_leave)
       (c.as_slice.ensures.lends_the_items ∙ c.in_ok-enters.ensures.addresses_of_the_usage_that_enter) in
       edit-unnumbered c.args.self.now.content c.args.doc.now c.args.change h.0 tree NoNumber c.requires.edits h.1 (ap (λ (t : Tree). edited t c.args.change) (sym h.2))
@@ -72,11 +72,11 @@ returns c = record {
       let change = c.args.change in
       let h = c.held-entry.ensures.entry_that_is_held in
       let v = c.held-entry.result.now in
-      let tree = edited v.tree change in
+      let tree = edited v.tree.root change in
       let counts = c.len_after-len.ensures.counts_the_changed_document
       ∙ ap (λ (t : Tree). min (document_len (edited t c.args.change)) 18446744073709551615) c.root-tree.ensures.lends_the_root in
       let exchanged =
-      edit-exchanged c.args.self.now.content c.args.doc.now c.args.change h.0 c.held-entry.result.now.tree c.first_number-first.result c.in_ok-leaves.leaves c.as_slice.result.now c.requires.asks c.requires.edits h.1 h.2
+      edit-exchanged c.args.self.now.content c.args.doc.now c.args.change h.0 c.held-entry.result.now.tree.root c.first_number-first.result c.in_ok-leaves.leaves c.as_slice.result.now c.requires.asks c.requires.edits h.1 h.2
       c.held-entry.ensures.tree_is_sound c.first_number-first.ensures.first_that_comes (rw c.root-tree.ensures.lends_the_root at c.in_ok-leaves.ensures.addresses_of_the_usage_that_leave)
       (c.as_slice.ensures.lends_the_items ∙ c.in_ok-enters.ensures.addresses_of_the_usage_that_enter) in
       let free = sym (c.refusal_of_edit.ensures.first_reason_against_an_edited_one h.0 tree c.in_ok-leaves.leaves h.1 counts exchanged) ∙ c.in_default.is in

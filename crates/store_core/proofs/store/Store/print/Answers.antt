@@ -16,7 +16,7 @@ returns-clause-prints_the_document c =
     let es = c.self.inside.documents.entries in
     let doc = c.args.doc.now in
     let of_held : Held → List ℕ = λ h. encode_utf8_all (document_print h.tree) in
-    let of_entry : Entry → List ℕ = λ v. encode_utf8_all (document_print v.tree) in
+    let of_entry : Entry → List ℕ = λ v. encode_utf8_all (document_print v.tree.root) in
     let same : option_map of_entry (lookup (same_id doc) es) ≡ option_map of_held (document_in held_name c.args.self.now.content.documents doc) =
     sym (read-as (same_id doc) held_in held_name (λ e. refl) of_held of_entry (λ e. refl) es) ∙ ap (λ (s : Stored). option_map of_held (document_in held_name s.content.documents doc)) c.self.view_is in
     subst (λ (o : Option (List ℕ)). IfOk c.print_in.result (λ print. print ≡ o)) same c.print_in.ensures.prints_the_document

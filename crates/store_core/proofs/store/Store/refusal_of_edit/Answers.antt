@@ -2,6 +2,7 @@ use Rattle.std.proofs.Common.{option_map, ap, ◌∙◌, arith}
 use Rattle.std.specs.Prelude.{max}
 use Rattle.indexmap.specs.IndexMap.{spare}
 use Rattle.store_core.specs.Stored.{Room}
+use Rattle.store_core.specs.inner.Storing.{trees_in}
 use Rattle.store_core.proofs.Planning.{edit-answer, no-longer, total-small}
 use Rattle.store_core.proofs.Stored.{no-entry}
 use Rattle.store_core.proofs.store.Store.refusal_of_edit.Goals as goal
@@ -9,13 +10,13 @@ use Rattle.store_core.proofs.store.Store.refusal_of_edit.Goals as goal
 pub unreachable-requires : goal.unreachable-requires
 unreachable-requires c =
     let s = c.self.inside in
-    let room : Room = record { documents = spare s.documents; services = spare s.services } in
+    let room : Room = record { documents = spare s.documents; services = spare s.services; trees = trees_in s.documents.entries } in
     no-entry s.documents.entries s.last room c.args.self.now c.args.doc.now c.self.view_is (rw c.in_default.is at c.find.ensures.entry_of_the_document) c.requires
 
 pub overflow_sub-others : goal.overflow_sub-others
 overflow_sub-others c =
     let s = c.self.inside in
-    let room : Room = record { documents = spare s.documents; services = spare s.services } in
+    let room : Room = record { documents = spare s.documents; services = spare s.services; trees = trees_in s.documents.entries } in
     no-longer s.documents.entries s.services.entries s.last s.total room c.args.self.now c.args.doc.now c.self.view_is c.self.invariant c.in-Some.entry.now c.in-Some.ensures.entry_of_the_document
 
 pub refused_for-requires : goal.refused_for-requires
@@ -25,7 +26,7 @@ pub returns : goal.returns
 returns c = record {
   first_reason_against_an_edited_one = λ h t leaves is counted exchanged.
       let s = c.self.inside in
-      let room : Room = record { documents = spare s.documents; services = spare s.services } in
+      let room : Room = record { documents = spare s.documents; services = spare s.services; trees = trees_in s.documents.entries } in
       c.refused_for.ensures.first_reason_against_it
       ∙ edit-answer s.documents.entries s.services.entries s.last s.total room c.args.self.now c.args.doc.now c.self.view_is c.self.invariant c.in-Some.entry.now c.in-Some.ensures.entry_of_the_document
       h t leaves c.args.uris.now c.args.first c.args.len c.number_at.result is exchanged

@@ -2,6 +2,7 @@ use Rattle.std.proofs.Common.{ℕ, nat_le, ap, ◌∙◌}
 use Rattle.indexmap.specs.IndexMap.{spare}
 use Rattle.store_core.specs.inner.Planning.{refused_for}
 use Rattle.store_core.specs.Stored.{Room}
+use Rattle.store_core.specs.inner.Storing.{trees_in}
 use Rattle.store_core.proofs.Planning.{new-answer, total-small}
 use Rattle.store_core.proofs.store.Store.refusal_of_new.Goals as goal
 
@@ -12,7 +13,7 @@ pub returns : goal.returns
 returns c = record {
   first_reason_against_a_new_one = λ t counted own.
       let s = c.self.inside in
-      let room : Room = record { documents = spare s.documents; services = spare s.services } in
+      let room : Room = record { documents = spare s.documents; services = spare s.services; trees = trees_in s.documents.entries } in
       c.refused_for.ensures.first_reason_against_it
       ∙ ap (λ (n : ℕ). refused_for c.first_taken-place.result c.args.len (nat_le 1000 n) s.total) c.len-is_full.ensures.len
       ∙ new-answer s.documents.entries s.services.entries s.last s.total room c.args.self.now c.args.doc.now c.self.view_is c.self.invariant t c.args.uris.now

@@ -1,6 +1,7 @@
 use Rattle.std.proofs.Common.{arith}
 use Rattle.indexmap.specs.IndexMap.{spare}
 use Rattle.store_core.specs.Stored.{Room}
+use Rattle.store_core.specs.inner.Storing.{trees_in}
 use Rattle.store_core.proofs.Planning.{no-longer, others-are, total-small, whole-is}
 use Rattle.store_core.proofs.Stored.{no-entry}
 use Rattle.store_core.proofs.store.Store.total_without.Goals as goal
@@ -8,19 +9,19 @@ use Rattle.store_core.proofs.store.Store.total_without.Goals as goal
 pub unreachable-requires : goal.unreachable-requires
 unreachable-requires c =
     let s = c.self.inside in
-    let room : Room = record { documents = spare s.documents; services = spare s.services } in
+    let room : Room = record { documents = spare s.documents; services = spare s.services; trees = trees_in s.documents.entries } in
     no-entry s.documents.entries s.last room c.args.self.now c.args.doc.now c.self.view_is (rw c.in_default.is at c.find.ensures.entry_of_the_document) c.requires
 
 pub overflow_sub-result : goal.overflow_sub-result
 overflow_sub-result c =
     let s = c.self.inside in
-    let room : Room = record { documents = spare s.documents; services = spare s.services } in
+    let room : Room = record { documents = spare s.documents; services = spare s.services; trees = trees_in s.documents.entries } in
     no-longer s.documents.entries s.services.entries s.last s.total room c.args.self.now c.args.doc.now c.self.view_is c.self.invariant c.in-Some.entry.now c.in-Some.ensures.entry_of_the_document
 
 pub returns-clause-sums_the_others : goal.returns-clause-sums_the_others
 returns-clause-sums_the_others c =
     let s = c.self.inside in
-    let room : Room = record { documents = spare s.documents; services = spare s.services } in
+    let room : Room = record { documents = spare s.documents; services = spare s.services; trees = trees_in s.documents.entries } in
     others-are s.documents.entries s.services.entries s.last s.total room c.args.self.now c.args.doc.now c.self.view_is c.self.invariant c.in-Some.entry.now c.in-Some.ensures.entry_of_the_document
 
 pub returns-clause-is_small : goal.returns-clause-is_small
@@ -29,5 +30,5 @@ returns-clause-is_small c = let s = c.self.inside in omega (arith, total-small s
 pub returns-clause-own_length_completes_the_total : goal.returns-clause-own_length_completes_the_total
 returns-clause-own_length_completes_the_total c =
     let s = c.self.inside in
-    let room : Room = record { documents = spare s.documents; services = spare s.services } in
+    let room : Room = record { documents = spare s.documents; services = spare s.services; trees = trees_in s.documents.entries } in
     whole-is s.documents.entries s.services.entries s.last s.total room c.args.self.now c.args.doc.now c.self.view_is c.self.invariant c.in-Some.entry.now c.in-Some.ensures.entry_of_the_document
