@@ -3,40 +3,38 @@ ghost use Rattle.std.specs.Prelude.{◌≡◌, ◌++◌, ◌≤◌, ◌+◌, ◌
 
 use std::marker::Model;
 
-/// How many bytes a short text has at most: most names, values, addresses and white space of a contact list are no longer.
-pub(crate) const MOST: usize = 30;
-
-/// A text of a few bytes, which takes no memory of its own. Contracts see its bytes.
+/// A text of at most `N` bytes, which takes no memory of its own. Contracts see its bytes.
 #[derive(Debug, Drop)]
-pub(crate) struct ShortText {
+pub(crate) struct ShortText<const N: usize> {
     // The text, and what fills it up.
-    bytes: [u8; 30],
+    bytes: [u8; N],
     len: u8,
 }
 
-impl Model for ShortText {
+impl<const N: usize> Model for ShortText<N> {
     ghost use Rattle.std.specs.Prelude.{ℕ, List, ◌≤◌, take, IsUtf8};
 
     ghost Value = { List ℕ };
 
     ghost view = { λ s. take s.len s.bytes };
 
-    ghost invariant = { λ s. (s.len ≤ 30) × ∥ IsUtf8 (take s.len s.bytes) ∥₁ };
+    ghost invariant = { λ s. (s.len ≤ N) × (N ≤ 64) × ∥ IsUtf8 (take s.len s.bytes) ∥₁ };
 }
 
-impl ShortText {
+impl<const N: usize> ShortText<N> {
     /// The text without bytes.
-    pub(crate) fn new() -> ShortText
+    pub(crate) fn new() -> ShortText<N>
+        requires few { N ≤ 64 }
         ensures has_no_bytes { result ≡ [] }
     {
         ShortText {
-            bytes: [0; 30],
+            bytes: [0; N],
             len: 0,
         }
     }
 
     /// An equal text.
-    pub(crate) fn copy(&self) -> ShortText
+    pub(crate) fn copy(&self) -> ShortText<N>
         ensures makes_an_equal_text { result ≡ self.now }
     {
         ShortText {
@@ -46,13 +44,14 @@ impl ShortText {
     }
 
     /// A copy of a text of a few bytes that stands in front of these. As many as there is room for are copied at once.
-    pub(crate) fn of_front(text: &str, bytes: &[u8; 64]) -> ShortText
-        requires fits { length text.now ≤ 30 }
+    pub(crate) fn of_front(text: &str, bytes: &[u8; 64]) -> ShortText<N>
+        requires few { N ≤ 64 }
+        requires fits { length text.now ≤ N }
         requires front { text.now ≡ take (length text.now) bytes.now }
         ensures copies_the_bytes { result ≡ text.now }
     {
-        let mut copied = [0u8; 30];
-        copied.copy_from_slice(&bytes[..30]);
+        let mut copied = [0u8; N];
+        copied.copy_from_slice(&bytes[..N]);
         ShortText {
             bytes: copied,
             len: text.len() as u8,
@@ -72,10 +71,10 @@ impl ShortText {
     pub(crate) fn takes(&mut self, text: &str) -> bool
         ensures adds_the_bytes { IsTrue result → self.new ≡ self.old ++ text.now }
         ensures changes_nothing_else { IsFalse result → self.new ≡ self.old }
-        ensures whether_they_fit { IsTrue result ↔ (length self.old + length text.now ≤ 30) }
+        ensures whether_they_fit { IsTrue result ↔ (length self.old + length text.now ≤ N) }
     {
         let len = self.len as usize;
-        if text.len() > MOST - len {
+        if text.len() > N - len {
             return false;
         }
         let end = len + text.len();

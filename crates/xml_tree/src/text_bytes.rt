@@ -2,13 +2,16 @@
 ghost use Rattle.std.specs.Prelude.{◌≡◌, ◌++◌, length, take, encode_utf8, string_bytes, [], IfOk, OnOk, OnErr};
 ghost use Rattle.xml_tree.specs.inner.Spelled.{bytes_of};
 
-use crate::short_text::{MOST, ShortText};
+use crate::short_text::ShortText;
 use std::alloc::{AllocError, Global};
+
+// How many bytes of a text stand in place at most: most values, addresses and white space of a contact list are no longer.
+const MOST: usize = 30;
 
 /// The bytes of a text, which spell characters.
 #[derive(Debug, Drop)]
 pub(crate) enum TextBytes {
-    Short(Global, ShortText),
+    Short(Global, ShortText<MOST>),
     Long(String),
 }
 

@@ -3,13 +3,15 @@ use Rattle.std.proofs.lemmas.List.{take-take}
 use Rattle.xml_tree.proofs.short_text.ShortText.of_front.Goals as goal
 
 -- what is copied begins with the text
-begins : (copied bytes text : List ℕ) → copied ≡ take 30 bytes → length text ≤ 30 → text ≡ take (length text) bytes → take (length text) copied ≡ text
-begins copied bytes text is fits front = ap (take (length text)) is ∙ take-take (length text) 30 bytes fits ∙ sym front
+begins : (n : ℕ) (copied bytes text : List ℕ) → copied ≡ take n bytes → length text ≤ n → text ≡ take (length text) bytes → take (length text) copied ≡ text
+begins n copied bytes text is fits front = ap (take (length text)) is ∙ take-take (length text) n bytes fits ∙ sym front
 
 pub invariant_of-result : goal.invariant_of-result
-invariant_of-result c =
-    let whole = begins c.copy_from_slice.new.self c.args.bytes.now c.args.text.now c.copy_from_slice.ensures.after c.requires.fits c.requires.front in
-    (c.requires.fits, ∣ subst IsUtf8 (sym whole) c.utf8.text ∣₁)
+invariant_of-result g c =
+    let whole = begins g.row.N c.copy_from_slice.new.self c.args.bytes.now c.args.text.now c.copy_from_slice.ensures.after c.requires.fits c.requires.front in
+    (c.requires.fits, c.requires.few, ∣ subst IsUtf8 (sym whole) c.utf8.text ∣₁)
 
 pub returns : goal.returns
-returns c = record { copies_the_bytes = begins c.copy_from_slice.new.self c.args.bytes.now c.args.text.now c.copy_from_slice.ensures.after c.requires.fits c.requires.front }
+returns g c = record {
+  copies_the_bytes = begins g.row.N c.copy_from_slice.new.self c.args.bytes.now c.args.text.now c.copy_from_slice.ensures.after c.requires.fits c.requires.front;
+}
