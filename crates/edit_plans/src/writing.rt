@@ -25,7 +25,7 @@ use edit_ops::{Change, tag_of};
 use node_select::{End, Selector, find_attr};
 use plan_words::EditRefusal;
 use std::alloc::Global;
-use xml_tree::{Decl, Element, Name, NoMemory, Path, Scope, Text, element_at};
+use xml_tree::{Decl, Element, LocalName, Name, NoMemory, Path, Prefix, Scope, Text, element_at};
 
 // Whether it is a binding of the namespace to a prefix, which isn't the empty one.
 fn is_binding(uri: &Text, decl: &Decl) -> bool
@@ -35,7 +35,7 @@ fn is_binding(uri: &Text, decl: &Decl) -> bool
 }
 
 // The prefix of the first binding of a namespace.
-fn bound_prefix(alloc: Global, bindings: &[Decl], uri: &Text) -> Result<Option<Text>, NoMemory>
+fn bound_prefix(alloc: Global, bindings: &[Decl], uri: &Text) -> Result<Option<Prefix>, NoMemory>
     ensures prefix_of_the_first_binding { IfOk result (λ prefix. prefix ≡ option_map (λ d. d.prefix) (find (is_binding uri.now) bindings.now)) }
 {
     for decl in bindings {
@@ -58,15 +58,15 @@ fn is_xml_space(scope: &Scope<'_>, uri: &Text) -> bool
 }
 
 // The prefix of a new attribute of this namespace, if there is one.
-fn new_prefix(alloc: Global, scope: &Scope<'_>, uri: &Text) -> Result<Option<Text>, NoMemory>
+fn new_prefix(alloc: Global, scope: &Scope<'_>, uri: &Text) -> Result<Option<Prefix>, NoMemory>
     ensures finds_a_prefix { IfOk result (λ prefix. prefix ≡ new_prefix scope.now uri.now) }
 {
     if uri.is("") {
-        let none = Text::from(alloc, "")?;
+        let none = Prefix::from(alloc, "")?;
         return Ok(Some(none));
     }
     if is_xml_space(scope, uri) {
-        let xml = Text::from(alloc, "xml")?;
+        let xml = Prefix::from(alloc, "xml")?;
         return Ok(Some(xml));
     }
     let bindings = scope.bindings(alloc)?;
@@ -85,7 +85,7 @@ fn new_name(
     match new_prefix(alloc, scope, uri)? {
         None => Ok(None),
         Some(prefix) => {
-            let local = local.copy(alloc)?;
+            let local = LocalName::from(alloc, local.as_str())?;
             Ok(Some(Name { prefix, local }))
         }
     }

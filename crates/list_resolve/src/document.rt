@@ -8,8 +8,9 @@ ghost use Rattle.list_resolve.specs.Documents.{entry_tree, flat_document, flat_t
 
 use crate::fault::FlatFault;
 use std::alloc::Global;
-use tree_text::no_text;
-use xml_tree::{Attr, Decl, Element, Name, NoMemory, ReadError, Text, printed_len};
+use xml_tree::{
+    Attr, Decl, Element, LocalName, Name, NoMemory, Prefix, ReadError, Text, printed_len,
+};
 
 /// The greatest length of the document, printed, in bytes.
 const DOCUMENT_LIMIT: usize = 16_777_216;
@@ -28,16 +29,23 @@ fn word(alloc: Global, word: &str) -> Result<Text, NoMemory>
     Text::from(alloc, word)
 }
 
+// A local name of these letters.
+#[tactic(auto, using(usage_docs::proofs::Words::chars_ascii))]
+fn local_name(alloc: Global, word: &str) -> Result<LocalName, NoMemory>
+    requires { IsTrue (is_ascii word.now) }
+    ensures local_name_of_these_letters { IfOk result (λ made. made ≡ word.now) }
+{
+    LocalName::from(alloc, word)
+}
+
 // A name without prefix.
 fn plain(alloc: Global, local: &str) -> Result<Name, NoMemory>
     requires { IsTrue (is_ascii local.now) }
     ensures name_without_prefix { IfOk result (λ made. made ≡ name_of [] local.now) }
 {
-    let local = word(alloc, local)?;
-    Ok(Name {
-        prefix: no_text(alloc),
-        local,
-    })
+    let prefix = Prefix::empty();
+    let local = local_name(alloc, local)?;
+    Ok(Name { prefix, local })
 }
 
 // The entry of an address.
@@ -70,7 +78,7 @@ fn tree(alloc: Global, uris: &[Text]) -> Result<Element, NoMemory>
     let uri = word(alloc, LISTS)?;
     let mut root = Element::new(alloc, plain(alloc, "resource-lists")?);
     root.push_decl(Decl {
-        prefix: no_text(alloc),
+        prefix: Prefix::empty(),
         uri,
     })?;
     root.push_elem(list(alloc, uris)?)?;

@@ -5,7 +5,7 @@ ghost use Rattle.node_select.specs.Names.{prefix_uri};
 use crate::choice::declared_in;
 use std::alloc::{AllocError, Global};
 use std::marker::Model;
-use xml_tree::{Decl, Declared, Scope, Text, is_xmlns};
+use xml_tree::{Decl, Declared, Prefix, Scope, Text, is_xmlns};
 
 /// Prefixes with their URIs, as declarations: the last one of a prefix counts, and an empty URI binds nothing. `xml` is always bound to
 /// its own namespace, and `xmlns` never.
@@ -46,7 +46,7 @@ impl Bindings {
         ensures adds_the_binding { OnOk result (self.new ≡ self.old ++ record { prefix = chars prefix.now; uri = chars uri.now } ∷ []) }
         ensures failure_changes_nothing { OnErr result (self.new ≡ self.old) }
     {
-        let prefix = Text::from(self.alloc, prefix)?;
+        let prefix = Prefix::from(self.alloc, prefix)?;
         let uri = Text::from(self.alloc, uri)?;
         self.decls.push(Decl { prefix, uri })?;
         Ok(())

@@ -11,8 +11,8 @@ use crate::choice::no_uri;
 use crate::raw::{RawEnd, RawPatchEnd, RawStep, RawTest};
 use crate::selector::{AttrTest, End, NameTest, PatchEnd, Step};
 use std::alloc::{AllocError, AllocFailed, Global};
-use tree_text::{Written, text_of};
-use xml_tree::{Around, Declared, List, Text, is_xmlns};
+use tree_text::{Written, name_part, text_of};
+use xml_tree::{Around, Declared, List, Prefix, Text, is_xmlns};
 
 /// Why names can't be resolved.
 #[derive(Debug, Drop)]
@@ -47,7 +47,7 @@ fn uri_of(
 ) -> Result<Option<Text>, AllocError>
     ensures uri_of_the_prefix { IfOk result (λ uri. uri ≡ prefix_uri bindings.now prefix.now) }
 {
-    let prefix = text_of(alloc, prefix)?;
+    let prefix: Prefix = name_part(alloc, prefix)?;
     if is_xmlns(prefix.as_str()) {
         return Ok(None);
     }

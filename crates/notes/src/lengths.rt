@@ -5,7 +5,7 @@ ghost use Rattle.xml_tree.specs.Print.{byte_len, print_name, print_text};
 ghost use Rattle.xml_tree.specs.PathTexts.{path_text, steps_text};
 ghost use Rattle.notes.specs.inner.Lengths.{written_len};
 
-use xml_tree::{Name, Path, Text};
+use xml_tree::{Name, Path, Text, Word};
 
 // ---- texts and values
 
@@ -25,16 +25,24 @@ pub(crate) fn value_len(value: &Text) -> usize
     xml_tree::value_len(value.as_str().as_bytes())
 }
 
+// A part of a name, within a value.
+#[tactic(auto, using(crate::proofs::Values::written))]
+fn part_len<const N: usize>(part: &Word<N>) -> usize
+    ensures counts_the_written_part { result ≡ min (written_len part.now) usize.MAX }
+{
+    xml_tree::value_len(part.as_str().as_bytes())
+}
+
 // A name within a value.
 #[tactic(auto, using(crate::proofs::Values::written))]
 pub(crate) fn name_len(name: &Name) -> usize
     ensures counts_the_written_name { result ≡ min (written_len (print_name name.now)) usize.MAX }
 {
-    let local = value_len(&name.local);
+    let local = part_len(&name.local);
     if name.prefix.is_empty() {
         return local;
     }
-    value_len(&name.prefix)
+    part_len(&name.prefix)
         .saturating_add(local)
         .saturating_add(1)
 }

@@ -8,7 +8,7 @@ ghost use Rattle.patch_apply.specs.inner.ByNodes.{element_alike, node_alike};
 use crate::names::{has_no_prefix, resolved};
 use node_select::{declared_in, same_text};
 use std::alloc::Global;
-use xml_tree::{Around, Attr, Element, Name, Node, Scope, Text};
+use xml_tree::{Around, Attr, Element, LocalName, Name, Node, Scope};
 
 // The same where there may be none.
 fn same_uri(a: Option<&str>, b: Option<&str>) -> bool
@@ -125,7 +125,7 @@ pub(crate) fn attr_alike(here: &Scope<'_>, there: &Scope<'_>, name: &Name) -> bo
 }
 
 // Whether an attribute has this URI and this local name, in the scope at it.
-fn is_of(scope: &Scope<'_>, attr: &Attr, uri: Option<&str>, local: &Text) -> bool
+fn is_of(scope: &Scope<'_>, attr: &Attr, uri: Option<&str>, local: &LocalName) -> bool
     ensures tells_whether_it_is_that_one { result ≡ same_expanded (attr_name scope.now attr.now.name) (record { uri = option_map (λ x. chars x.now) uri.entry; local = local.now }) }
 {
     same_uri(attr_uri(scope, &attr.name), uri) && attr.name.local == *local

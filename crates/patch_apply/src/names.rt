@@ -11,7 +11,7 @@ ghost use Rattle.patch_words.specs.Notices.{diff_uri};
 ghost use Rattle.patch_words.specs.Replay.{is_called, is_ours};
 ghost use Rattle.patch_apply.specs.inner.Stages.{is_diff_name};
 
-use xml_tree::{Attr, Element, Name, Scope, Text};
+use xml_tree::{Attr, Element, Name, Prefix, Scope, Text};
 
 // ---- attributes without prefix
 
@@ -61,7 +61,7 @@ pub(crate) fn are_known(attrs: &[Attr]) -> bool
 // ---- elements of notices
 
 // The URI that a prefix is bound to in a scope.
-pub(crate) fn resolved<'a>(scope: &Scope<'a>, prefix: &Text) -> Option<&'a str>
+pub(crate) fn resolved<'a>(scope: &Scope<'a>, prefix: &Prefix) -> Option<&'a str>
     ensures as_it_is_bound { option_map (λ x. chars x.now) result ≡ bound scope.now prefix.now }
 {
     scope.resolve(prefix.as_str())

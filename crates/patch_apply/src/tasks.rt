@@ -7,8 +7,8 @@ ghost use Rattle.patch_apply.specs.inner.Seen.{position_in, task_in, word_in};
 
 use crate::names::{has_no_prefix, plain_value};
 use std::alloc::{AllocError, Global};
-use tree_text::{decoded, no_text, text_of};
-use xml_tree::{Attr, Name, Text, is_name};
+use tree_text::{decoded, name_part};
+use xml_tree::{Attr, LocalName, Name, Prefix, Text, is_name};
 
 /// Where an addition puts its content.
 #[derive(Clone, Copy, Debug, PartialEq, Eq, Drop)]
@@ -43,7 +43,7 @@ pub enum Task {
 // ---- the values of attributes
 
 #[tactic(auto, using(crate::proofs::Words::words))]
-fn word_of(local: &Text) -> Option<Word>
+fn word_of(local: &LocalName) -> Option<Word>
     ensures word_of_that_name { option_map word_in result ≡ operation_word local.now }
 {
     if local.is("add") {
@@ -96,8 +96,8 @@ fn space_of(text: &Text) -> Option<(bool, bool)>
 fn with_prefix(alloc: Global, prefix: &[char], local: &[char]) -> Result<Option<Name>, AllocError>
     ensures name_of_both_parts { IfOk result (λ name. name ≡ with_prefix prefix.now local.now) }
 {
-    let prefix = text_of(alloc, prefix)?;
-    let local = text_of(alloc, local)?;
+    let prefix: Prefix = name_part(alloc, prefix)?;
+    let local: LocalName = name_part(alloc, local)?;
     if is_name(prefix.as_str()) && is_name(local.as_str()) {
         return Ok(Some(Name { prefix, local }));
     }
@@ -108,11 +108,11 @@ fn with_prefix(alloc: Global, prefix: &[char], local: &[char]) -> Result<Option<
 fn without_prefix(alloc: Global, local: &[char]) -> Result<Option<Name>, AllocError>
     ensures name_of_the_one_part { IfOk result (λ name. name ≡ cut_name local.now []) }
 {
-    let local = text_of(alloc, local)?;
+    let local: LocalName = name_part(alloc, local)?;
     if !is_name(local.as_str()) {
         return Ok(None);
     }
-    let prefix = no_text(alloc);
+    let prefix = Prefix::empty();
     Ok(Some(Name { prefix, local }))
 }
 

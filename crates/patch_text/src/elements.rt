@@ -12,7 +12,7 @@ use std::alloc::{AllocError, Global};
 use tree_text::print_document;
 use xcap_io::Bytes;
 use xcap_uri::Root;
-use xml_tree::{Element, Text};
+use xml_tree::{Element, Prefix, Text};
 
 /// What is told of an element since a version of its document that is known.
 #[derive(Clone, Copy, Debug, PartialEq, Eq)]
@@ -43,7 +43,7 @@ fn address(alloc: Global, doc: &DocId, raw: &Text) -> Result<Text, AllocError>
 }
 
 // What tells that the element with an address may have changed.
-fn told(alloc: Global, prefix: &Text, sel: Text, exists: bool) -> Result<Element, AllocError>
+fn told(alloc: Global, prefix: &Prefix, sel: Text, exists: bool) -> Result<Element, AllocError>
     ensures tells_of_the_element { IfOk result (λ made. made ≡ element_told prefix.now sel exists) }
 {
     let mut made = element_of(alloc, prefix, "element")?;
@@ -61,7 +61,7 @@ fn told(alloc: Global, prefix: &Text, sel: Text, exists: bool) -> Result<Element
 fn push_told(
     alloc: Global,
     notice: &mut Element,
-    prefix: &Text,
+    prefix: &Prefix,
     sel: Text,
     exists: bool,
 ) -> Result<(), AllocError>
@@ -76,7 +76,7 @@ fn push_told(
 fn push_state(
     alloc: Global,
     notice: &mut Element,
-    prefix: &Text,
+    prefix: &Prefix,
     sel: Text,
     state: ElementState,
 ) -> Result<(), AllocError>
@@ -103,7 +103,7 @@ pub fn notice_of_element(
 ) -> Result<Bytes, AllocError>
     ensures prints_the_notice { IfOk result (λ bytes. bytes ≡ encode_utf8_all (document_print (element_notice root.now (id_text doc.now) raw.now state))) }
 {
-    let prefix = Text::from(alloc, "d")?;
+    let prefix = Prefix::from(alloc, "d")?;
     let sel = address(alloc, doc, raw)?;
     let mut notice = empty_notice(alloc, &prefix, root.text())?;
     push_state(alloc, &mut notice, &prefix, sel, state)?;

@@ -18,7 +18,7 @@ use std::alloc::{AllocError, Global};
 use tree_text::print_document;
 use xcap_io::Bytes;
 use xcap_uri::{Mode, Root};
-use xml_tree::{Decl, Element, Text};
+use xml_tree::{Decl, Element, Prefix, Text};
 
 // The namespace of notices (RFC 5874, section 7.2).
 const DIFF_URI: &str = "urn:ietf:params:xml:ns:xcap-diff";
@@ -26,7 +26,7 @@ const DIFF_URI: &str = "urn:ietf:params:xml:ns:xcap-diff";
 // How a notice names things: the prefix of its namespace, and the document's printed name.
 #[derive(Drop)]
 struct Names {
-    prefix: Text,
+    prefix: Prefix,
     sel: Text,
 }
 
@@ -46,7 +46,7 @@ fn last_tag(from: u64, notes: &[EditNote]) -> u64
 fn push_operations(
     alloc: Global,
     document: &mut Element,
-    prefix: &Text,
+    prefix: &Prefix,
     notes: &[EditNote],
 ) -> Result<(), AllocError>
     ensures adds_the_operations { OnOk result (document.new ≡ with_all (operations prefix.now notes.now) document.old) }
@@ -138,7 +138,11 @@ fn push_each(
 
 // A notice without documents, under the server's root.
 #[tactic(auto, using(crate::proofs::Words::words))]
-pub(crate) fn empty_notice(alloc: Global, prefix: &Text, root: &str) -> Result<Element, AllocError>
+pub(crate) fn empty_notice(
+    alloc: Global,
+    prefix: &Prefix,
+    root: &str,
+) -> Result<Element, AllocError>
     ensures notice_without_documents { IfOk result (λ made. made ≡ diff prefix.now (chars root.now) []) }
 {
     let mut made = element_of(alloc, prefix, "xcap-diff")?;
@@ -284,7 +288,7 @@ pub fn gone_notice(alloc: Global, root: &Root, doc: &DocId, from: u64) -> Result
     ensures prints_that_it_is_gone { IfOk result (λ bytes. bytes ≡ encode_utf8_all (document_print (gone_notice root.now (id_text doc.now) from))) }
 {
     let names = Names {
-        prefix: Text::from(alloc, "d")?,
+        prefix: Prefix::from(alloc, "d")?,
         sel: print_doc_id(alloc, doc)?,
     };
     let mut notice = empty_notice(alloc, &names.prefix, root.text())?;

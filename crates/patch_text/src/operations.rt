@@ -10,7 +10,7 @@ use crate::parts::{element_of, push_plain};
 use edit_ops::Change;
 use notes::EditNote;
 use std::alloc::{AllocError, Global};
-use xml_tree::{Decl, Element, Name, Path, Text, copy_tree, print_path};
+use xml_tree::{Decl, Element, Name, Path, Prefix, Text, copy_tree, print_path};
 
 // ---- where an operation is made
 
@@ -62,7 +62,12 @@ fn attribute_text(alloc: Global, at: &Path, name: &Name) -> Result<Text, AllocEr
 // ---- each operation
 
 // Its word, and the note's bindings as declarations.
-fn bare(alloc: Global, prefix: &Text, bindings: &[Decl], word: &str) -> Result<Element, AllocError>
+fn bare(
+    alloc: Global,
+    prefix: &Prefix,
+    bindings: &[Decl],
+    word: &str,
+) -> Result<Element, AllocError>
     ensures declares_the_bindings { IfOk result (λ made. made ≡ operation_of prefix.now bindings.now (chars word.now) [] (last [])) }
 {
     let mut made = element_of(alloc, prefix, word)?;
@@ -76,7 +81,7 @@ fn bare(alloc: Global, prefix: &Text, bindings: &[Decl], word: &str) -> Result<E
 #[tactic(auto, using(crate::proofs::Words::words))]
 fn beginning(
     alloc: Global,
-    prefix: &Text,
+    prefix: &Prefix,
     bindings: &[Decl],
     word: &str,
     sel: Text,
@@ -91,7 +96,7 @@ fn beginning(
 // An element is put before all nodes of its parent, or directly behind the child before it.
 fn insertion(
     alloc: Global,
-    prefix: &Text,
+    prefix: &Prefix,
     bindings: &[Decl],
     parent: &Path,
     gap: usize,
@@ -108,7 +113,7 @@ fn insertion(
 #[tactic(auto, using(crate::proofs::Words::words))]
 fn placed(
     alloc: Global,
-    prefix: &Text,
+    prefix: &Prefix,
     bindings: &[Decl],
     parent: &Path,
     gap: usize,
@@ -131,7 +136,7 @@ fn placed(
 #[tactic(auto, using(crate::proofs::Words::words))]
 fn replacement(
     alloc: Global,
-    prefix: &Text,
+    prefix: &Prefix,
     bindings: &[Decl],
     at: &Path,
     element: &Element,
@@ -148,7 +153,7 @@ fn replacement(
 #[tactic(auto, using(crate::proofs::Words::words))]
 fn removal(
     alloc: Global,
-    prefix: &Text,
+    prefix: &Prefix,
     bindings: &[Decl],
     at: &Path,
 ) -> Result<Element, AllocError>
@@ -161,7 +166,7 @@ fn removal(
 // An attribute is written: added where it is fresh, else exchanged.
 fn writing(
     alloc: Global,
-    prefix: &Text,
+    prefix: &Prefix,
     bindings: &[Decl],
     fresh: bool,
     at: &Path,
@@ -179,7 +184,7 @@ fn writing(
 #[tactic(auto, using(crate::proofs::Words::words))]
 fn written_at(
     alloc: Global,
-    prefix: &Text,
+    prefix: &Prefix,
     bindings: &[Decl],
     fresh: bool,
     at: &Path,
@@ -201,7 +206,7 @@ fn written_at(
 #[tactic(auto, using(crate::proofs::Words::words))]
 fn dropped(
     alloc: Global,
-    prefix: &Text,
+    prefix: &Prefix,
     bindings: &[Decl],
     at: &Path,
     name: &Name,
@@ -217,7 +222,7 @@ fn dropped(
 #[tactic(auto, using(crate::proofs::Words::words))]
 fn change_told(
     alloc: Global,
-    prefix: &Text,
+    prefix: &Prefix,
     bindings: &[Decl],
     fresh: bool,
     change: &Change,
@@ -244,7 +249,7 @@ fn change_told(
 /// The operation of a note.
 pub(crate) fn operation(
     alloc: Global,
-    prefix: &Text,
+    prefix: &Prefix,
     note: &EditNote,
 ) -> Result<Element, AllocError>
     ensures operation_of_the_note { IfOk result (λ made. made ≡ operation prefix.now note.now) }

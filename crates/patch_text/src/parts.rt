@@ -5,14 +5,14 @@ ghost use Rattle.xml_tree.specs.Expanded.{name_of};
 ghost use Rattle.xml_tree.specs.Tree.{last, tree_of};
 
 use std::alloc::{AllocError, Global};
-use xml_tree::{Attr, Element, Name, Text};
+use xml_tree::{Attr, Element, LocalName, Name, Prefix, Text};
 
 // An element in the namespace of notices, which has this prefix, and nothing in it.
-pub(crate) fn element_of(alloc: Global, prefix: &Text, word: &str) -> Result<Element, AllocError>
+pub(crate) fn element_of(alloc: Global, prefix: &Prefix, word: &str) -> Result<Element, AllocError>
     ensures has_the_word_alone { IfOk result (λ made. made ≡ tree_of (name_of prefix.now (chars word.now)) [] [] (last [])) }
 {
     let prefix = prefix.copy(alloc)?;
-    let local = Text::from(alloc, word)?;
+    let local = LocalName::from(alloc, word)?;
     Ok(Element::new(alloc, Name { prefix, local }))
 }
 
@@ -26,8 +26,8 @@ pub(crate) fn push_plain(
 ) -> Result<(), AllocError>
     ensures adds_the_plain_attribute { OnOk result (element.new ≡ record element.old { attrs = element.old.attrs ++ plain_attr (chars word.now) value ∷ [] }) }
 {
-    let prefix = Text::from(alloc, "")?;
-    let local = Text::from(alloc, word)?;
+    let prefix = Prefix::from(alloc, "")?;
+    let local = LocalName::from(alloc, word)?;
     let name = Name { prefix, local };
     element.push_attr(Attr { name, value })
 }

@@ -12,12 +12,12 @@ use edit_ops::Change;
 use notes::{EditNote, Notes};
 use std::alloc::{AllocError, Global};
 use std::collections::BTreeSet;
-use xml_tree::{Decl, Element, Node, Text};
+use xml_tree::{Decl, Element, Node, Prefix};
 
 // ---- what is declared
 
 // Adds the prefixes of declarations.
-fn add_decls(alloc: Global, seen: &mut BTreeSet<Text>, decls: &[Decl]) -> Result<(), AllocError>
+fn add_decls(alloc: Global, seen: &mut BTreeSet<Prefix>, decls: &[Decl]) -> Result<(), AllocError>
     ensures gains_their_prefixes { OnOk result (Gains (prefixes decls.now) seen.old seen.new) }
 {
     for decl in decls {
@@ -30,7 +30,7 @@ fn add_decls(alloc: Global, seen: &mut BTreeSet<Text>, decls: &[Decl]) -> Result
 #[cycle(declared)]
 fn add_element(
     alloc: Global,
-    seen: &mut BTreeSet<Text>,
+    seen: &mut BTreeSet<Prefix>,
     element: &Element,
 ) -> Result<(), AllocError>
     ensures gains_the_prefixes_inside { OnOk result (Gains (prefixes element.now.decls ++ prefixes_in element.now.content) seen.old seen.new) }
@@ -45,7 +45,7 @@ fn add_element(
 
 // Adds those of a node.
 #[cycle(declared)]
-fn add_node(alloc: Global, seen: &mut BTreeSet<Text>, node: &Node) -> Result<(), AllocError>
+fn add_node(alloc: Global, seen: &mut BTreeSet<Prefix>, node: &Node) -> Result<(), AllocError>
     ensures gains_the_prefixes_of_the_node { OnOk result (Gains (prefixes_at node.now) seen.old seen.new) }
 {
     match node {
@@ -56,7 +56,7 @@ fn add_node(alloc: Global, seen: &mut BTreeSet<Text>, node: &Node) -> Result<(),
 }
 
 // Adds those of the element that a change puts into its document.
-fn add_change(alloc: Global, seen: &mut BTreeSet<Text>, change: &Change) -> Result<(), AllocError>
+fn add_change(alloc: Global, seen: &mut BTreeSet<Prefix>, change: &Change) -> Result<(), AllocError>
     ensures gains_the_prefixes_put { OnOk result (Gains (prefixes_put change.now) seen.old seen.new) }
 {
     match change {
@@ -71,7 +71,11 @@ fn add_change(alloc: Global, seen: &mut BTreeSet<Text>, change: &Change) -> Resu
 }
 
 // Adds those of the operations of notes.
-fn add_notes(alloc: Global, seen: &mut BTreeSet<Text>, notes: &[EditNote]) -> Result<(), AllocError>
+fn add_notes(
+    alloc: Global,
+    seen: &mut BTreeSet<Prefix>,
+    notes: &[EditNote],
+) -> Result<(), AllocError>
     ensures gains_the_prefixes_told { OnOk result (Gains (flat_map prefixes_told notes.now) seen.old seen.new) }
 {
     for note in notes {
@@ -85,17 +89,18 @@ fn add_notes(alloc: Global, seen: &mut BTreeSet<Text>, notes: &[EditNote]) -> Re
 
 // `d`, or `d` and a number from 1 on.
 #[tactic(auto, using(crate::proofs::Words::words))]
-fn candidate(alloc: Global, number: u64) -> Result<Text, AllocError>
+fn candidate(alloc: Global, number: u64) -> Result<Prefix, AllocError>
     ensures candidate_of_the_number { IfOk result (λ prefix. prefix ≡ candidate number) }
 {
     if number == 0 {
-        return Text::from(alloc, "d");
+        return Prefix::from(alloc, "d");
     }
-    Ok(Text::own(format!(in alloc; "d{}", number)?))
+    let numbered = format!(in alloc; "d{}", number)?;
+    Prefix::from(alloc, &numbered)
 }
 
 // The first candidate that isn't among these. More than there are numbers don't fit into a memory.
-fn first_free(alloc: Global, seen: &BTreeSet<Text>) -> Result<Text, AllocError>
+fn first_free(alloc: Global, seen: &BTreeSet<Prefix>) -> Result<Prefix, AllocError>
     ensures first_that_is_free { (ps : List (List ℕ)) → Holds ps seen.now → IfOk result (λ prefix. prefix ≡ candidate (first_free (is_member bytes_eq ps) (length ps) 0)) }
 {
     for number in 0..u64::MAX {
@@ -108,7 +113,7 @@ fn first_free(alloc: Global, seen: &BTreeSet<Text>) -> Result<Text, AllocError>
 }
 
 // The prefix of a notice with the operations of these notes.
-pub(crate) fn prefix_for(alloc: Global, notes: Notes<'_>) -> Result<Text, AllocError>
+pub(crate) fn prefix_for(alloc: Global, notes: Notes<'_>) -> Result<Prefix, AllocError>
     ensures prefix_of_the_notes { IfOk result (λ prefix. prefix ≡ prefix_for (all_notes notes.entry.older.now notes.entry.newer.now)) }
 {
     let mut seen = BTreeSet::new(alloc);

@@ -11,7 +11,7 @@ use doc_names::Auid;
 use edit_ops::Change;
 use std::alloc::{AllocError, Global};
 use usage_docs::{Key, services, value_of};
-use xml_tree::{Element, List, Name, Path, Text};
+use xml_tree::{Element, List, LocalName, Name, Path, Text};
 
 // ---- all of a document
 
@@ -114,7 +114,7 @@ fn written_at(alloc: Global, way: &[usize], value: &Text) -> Result<List<Text>, 
 }
 
 // Whether it is the local name of the attribute that holds a service's address.
-fn is_uri_word(local: &Text) -> bool
+fn is_uri_word(local: &LocalName) -> bool
     ensures tells_whether_it_is_the_word { result ≡ bytes_eq local.now (word keys.Uri) }
 {
     local.is(Key::Uri.word())

@@ -11,7 +11,7 @@ use edit_ops::{Change, Staged, make_staged};
 use notes::NotedTree;
 use std::alloc::Global;
 use std::mem;
-use xml_tree::{Element, Name, Text, copy_tree};
+use xml_tree::{Element, LocalName, Name, Prefix, copy_tree};
 
 /// The root of a tree.
 #[derive(Drop)]
@@ -27,8 +27,8 @@ fn nameless(alloc: Global) -> Root
     ensures nobody_else_has_it { is_own result ≡ true }
 {
     let name = Name {
-        prefix: Text::own(String::new(alloc)),
-        local: Text::own(String::new(alloc)),
+        prefix: Prefix::empty(),
+        local: LocalName::empty(),
     };
     Root::Own(Element::new(alloc, name))
 }

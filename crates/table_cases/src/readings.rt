@@ -10,7 +10,7 @@ use anyhow::{Context, Result, bail};
 use node_select::Bindings;
 use std::alloc::Global;
 use tree_text::{print_element, read_document};
-use xml_tree::{Decl, Element, MAX_LEVELS, Name, Path, Text, printed_len};
+use xml_tree::{Decl, Element, LocalName, MAX_LEVELS, Name, Path, Prefix, Text, printed_len};
 
 /// The root element of the document that a field spells.
 pub fn document(alloc: Global, field: &Field) -> Result<Element>
@@ -69,8 +69,8 @@ pub fn bindings(alloc: Global, field: &Field) -> Result<Bindings> {
 pub fn name(alloc: Global, written: &str) -> Result<Name> {
     let (prefix, local) = written.split_once(':').unwrap_or(("", written));
     Ok(Name {
-        prefix: Text::from(alloc, prefix)?,
-        local: Text::from(alloc, local)?,
+        prefix: Prefix::from(alloc, prefix)?,
+        local: LocalName::from(alloc, local)?,
     })
 }
 
@@ -82,7 +82,7 @@ pub fn decls(alloc: Global, field: &Field) -> Result<Vec<Decl>> {
             .split_once('=')
             .context("a binding without its URI")?;
         decls.push(Decl {
-            prefix: Text::from(alloc, prefix)?,
+            prefix: Prefix::from(alloc, prefix)?,
             uri: Text::from(alloc, uri)?,
         })?;
     }

@@ -8,10 +8,10 @@ use anyhow::Result;
 use std::alloc::Global;
 use table_cases::name;
 use tree_text::read_document;
-use xml_tree::{Around, Attr, Declared, Element, Name, Node, SCOPE_LIMIT, Text};
+use xml_tree::{Around, Attr, Declared, Element, LocalName, Name, Node, SCOPE_LIMIT};
 
 // Adds a name with the URI of its namespace, which is empty where it has none.
-fn push_expanded(view: &mut String, uri: Option<&str>, local: &Text) -> Result<()> {
+fn push_expanded(view: &mut String, uri: Option<&str>, local: &LocalName) -> Result<()> {
     let uri = uri.unwrap_or("");
     let local = local.as_str();
     view.push('{')?;

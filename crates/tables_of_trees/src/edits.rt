@@ -4,7 +4,9 @@
 use anyhow::{Context, Result, bail};
 use std::alloc::Global;
 use table_cases::{Field, document, name, path, print};
-use xml_tree::{Attr, Decl, Element, Name, NoMemory, Node, Path, Text, copy_nodes, element_at};
+use xml_tree::{
+    Attr, Decl, Element, Name, NoMemory, Node, Path, Prefix, Text, copy_nodes, element_at,
+};
 
 /// The answers of the tables of edits.
 pub fn answer(alloc: Global, table: &str, inputs: &[Field]) -> Result<String> {
@@ -96,7 +98,7 @@ impl Edit<'_> {
     }
 
     fn decl(&self) -> Result<Decl> {
-        let prefix = self.text(self.first)?;
+        let prefix = Prefix::from(self.alloc, self.first.text()?)?;
         let uri = self.text(self.second)?;
         Ok(Decl { prefix, uri })
     }

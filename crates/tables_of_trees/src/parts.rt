@@ -5,7 +5,9 @@ use anyhow::{Context, Result, bail};
 use std::alloc::Global;
 use std::cmp::Ordering;
 use table_cases::{Field, decls, document, path, print};
-use xml_tree::{Around, Decl, Declared, Element, Scope, Text, copy_tree, depth, equal, is_name};
+use xml_tree::{
+    Around, Decl, Declared, Element, Prefix, Scope, Text, copy_tree, depth, equal, is_name,
+};
 
 /// The answers of the tables of trees, texts and scopes.
 pub fn answer(alloc: Global, table: &str, inputs: &[Field]) -> Result<String> {
@@ -183,11 +185,11 @@ fn push_decl(shown: &mut String, decl: &Decl) -> Result<()> {
 
 // What a prefix is bound to by declarations within others, or within nothing.
 fn nearest(alloc: Global, outer: &Field, inner: &Field, prefix: &Field) -> Result<String> {
-    let prefix = Text::from(alloc, prefix.text()?)?;
+    let prefix = Prefix::from(alloc, prefix.text()?)?;
     nearest_to(alloc, outer, inner, &prefix)
 }
 
-fn nearest_to(alloc: Global, outer: &Field, inner: &Field, prefix: &Text) -> Result<String> {
+fn nearest_to(alloc: Global, outer: &Field, inner: &Field, prefix: &Prefix) -> Result<String> {
     let inner = decls(alloc, inner)?;
     if outer.is_none() {
         return resolved(alloc, &Around::empty(), &inner, prefix);
@@ -195,13 +197,13 @@ fn nearest_to(alloc: Global, outer: &Field, inner: &Field, prefix: &Text) -> Res
     within(alloc, outer, &inner, prefix)
 }
 
-fn within(alloc: Global, outer: &Field, inner: &[Decl], prefix: &Text) -> Result<String> {
+fn within(alloc: Global, outer: &Field, inner: &[Decl], prefix: &Prefix) -> Result<String> {
     let outer = decls(alloc, outer)?;
     let scope = Scope::empty().with(&outer);
     resolved(alloc, &Around::given(&scope), inner, prefix)
 }
 
-fn resolved(alloc: Global, outer: &Around<'_>, inner: &[Decl], prefix: &Text) -> Result<String> {
+fn resolved(alloc: Global, outer: &Around<'_>, inner: &[Decl], prefix: &Prefix) -> Result<String> {
     let declared = Declared::indexed(alloc, inner)?;
     let here = outer.inside(&declared);
     word(alloc, here.resolve(prefix).unwrap_or("-"))

@@ -1,5 +1,5 @@
 -- The set of what the names of a tag say tells whether one of them is said again.
-use Rattle.std.proofs.Common.{◌≡◌, ℕ, Bool, true, false, cond, List, [], ◌∷◌, ◌++◌, Option, None, Some, refl, sym, ap, ap₂, ◌∙◌}
+use Rattle.std.proofs.Common.{◌≡◌, ℕ, Bool, true, false, cond, List, [], ◌∷◌, ◌++◌, Option, None, Some, encode_utf8_all, refl, sym, ap, ap₂, ◌∙◌}
 use Rattle.std.specs.Prelude.{◌&&◌, ◌||◌, not}
 use Rattle.std.specs.List.{list_any}
 use Rattle.std.specs.Str.{bytes_eq}
@@ -10,6 +10,7 @@ use Rattle.std.specs.Cmp.{tied_then, unsigned_tied}
 use Rattle.std.specs.Cmp.Lexicographic.{slice_cmp, texts_ties}
 use Rattle.std.proofs.lemmas.List.Folds.{list_any-append}
 use Rattle.xml_tree.specs.Expanded.{attr_name}
+use Rattle.xml_tree.proofs.ByteOrder.{order-encodes}
 use Rattle.tree_text.specs.contracts.meanings.MeaningOrd.TheImpl.{cmp-value}
 use Rattle.tree_text.specs.declared.bindings.Bindings.{Bindings}
 use Rattle.tree_text.specs.declared.meanings.Meaning.{Meaning}
@@ -38,6 +39,10 @@ numbers_tie None (Some m) = refl
 numbers_tie (Some n) None = refl
 numbers_tie (Some n) (Some m) = unsigned_tied n m
 
+-- texts are equal exactly where their bytes are
+bytes_eq-encodes : (a b : List ℕ) → bytes_eq (encode_utf8_all a) (encode_utf8_all b) ≡ bytes_eq a b
+bytes_eq-encodes a b = texts_ties (encode_utf8_all a) (encode_utf8_all b) ∙ ap is_eq (order-encodes a b) ∙ sym (texts_ties a b)
+
 module _ (here : Bindings) where
   -- another meaning compares as equal exactly where the same is said
   ties : (s : Said) (m q : Meaning) → Means here s m → is_eq (cmp-value.it m q) ≡ says here q s
@@ -63,7 +68,10 @@ module _ (here : Bindings) where
 module _ (here : Bindings) (kept : AreKept here) where
   -- one says what is meant exactly where it says the same
   same_is : (e s : Said) (m : Meaning) → Means here s m → says here m e ≡ says_again (lists here) s e
-  same_is e s (Declared p) h = rw (h.0) (ap (λ t. declares e.name && bytes_eq (decl_of e).prefix t) h.1)
+  same_is e s (Declared p) h =
+      rw (h.0)
+      (ap (λ t. declares e.name && bytes_eq (encode_utf8_all (decl_of e).prefix) t) h.1
+      ∙ ap (λ (b : Bool). declares e.name && b) (bytes_eq-encodes (decl_of e).prefix (decl_of s).prefix))
   same_is e s (Named l u) h =
       let numbers = ap (same_number (attr_number here e.name)) (number_of (number here.namespaces) u (attr_name (lists here) s.name).uri h.2) ∙ attrs_same here kept e.name s.name in
       rw (h.0) (ap₂ (λ (a b : Bool). not (declares e.name) && (a && b)) numbers (ap (bytes_eq e.name.local) h.1))

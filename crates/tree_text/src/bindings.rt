@@ -6,7 +6,7 @@ ghost use Rattle.tree_text.specs.readers.Bindings.{AreKept, lists, number};
 
 use crate::namespaces::Namespaces;
 use std::alloc::{AllocError, Global};
-use xml_tree::{Decl, Scope, Text, copy_decls};
+use xml_tree::{Decl, Prefix, Scope, copy_decls};
 
 /// What is declared at a place.
 #[derive(Drop)]
@@ -65,7 +65,7 @@ impl Bindings {
     }
 
     /// The number of the namespace that a prefix is bound to, the empty prefix being the default namespace.
-    pub fn namespace(&self, prefix: &Text) -> Option<usize>
+    pub fn namespace(&self, prefix: &Prefix) -> Option<usize>
         requires { AreKept self.now }
         ensures number_of_the_bound_namespace { option_map Some result ≡ option_map (number self.now.namespaces) (bound (lists self.now) prefix.now) }
     {

@@ -46,6 +46,6 @@ pub use kind::Kind;
 pub use parts::word;
 pub use runs::starts;
 pub use stop::Stop;
-pub use texts::{no_text, text_of};
+pub use texts::{name_part, no_text, text_of};
 pub use values::{quote, raw_run, reference, reference_follows};
 pub use written::{Written, owned, qname};

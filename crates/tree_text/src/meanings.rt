@@ -7,15 +7,15 @@ ghost use Rattle.tree_text.specs.readers.Meanings.{Means};
 use crate::bindings::Bindings;
 use crate::names::{declared_prefix, declares, is_nothing};
 use crate::said::Said;
-use xml_tree::{Name, Text};
+use xml_tree::{LocalName, Name};
 
 /// What a name in a tag says.
 #[derive(Debug, Drop, PartialEq, Eq, PartialOrd, Ord)]
 pub enum Meaning<'a> {
     /// Of a declaration: the prefix that it declares.
-    Declared(&'a Text),
+    Declared(&'a str),
     /// Of an attribute: its local name, and the number of its namespace.
-    Named(&'a Text, Option<usize>),
+    Named(&'a LocalName, Option<usize>),
 }
 
 /// The number of the namespace of an attribute of this name.

@@ -1,5 +1,5 @@
 //! Names in tags: declarations and attributes, and the first of a tag's names that is wrong.
-ghost use Rattle.std.specs.Prelude.{◌≡◌, ◌+◌, ◌<◌, ◌^◌, List, [], ◌++◌, ◌∷◌, None, IfOk, OnOk, not, if◌then◌else◌};
+ghost use Rattle.std.specs.Prelude.{◌≡◌, ◌+◌, ◌<◌, ◌^◌, List, [], ◌++◌, ◌∷◌, None, IfOk, OnOk, chars, encode_utf8_all, not, if◌then◌else◌};
 ghost use Rattle.std.specs.Str.{bytes_eq};
 ghost use Rattle.xml_tree.specs.Scopes.{xml_prefix, xml_uri, xmlns_uri};
 ghost use Rattle.xml_tree.specs.Proper.{may_stand};
@@ -17,13 +17,27 @@ use crate::said::Said;
 use crate::tags::Tag;
 use std::alloc::{AllocError, Global};
 use std::collections::BTreeSet;
-use xml_tree::{Decl, Name, Text, is_xml, is_xmlns};
+use xml_tree::{Decl, Name, Prefix, Text, is_xml, is_xmlns};
 
-/// Whether a text is empty.
-pub fn is_nothing(text: &Text) -> bool
-    ensures tells_whether_it_is_empty { result ≡ bytes_eq text.now [] }
+/// Whether a prefix is empty.
+pub fn is_nothing(prefix: &Prefix) -> bool
+    ensures tells_whether_it_is_empty { result ≡ bytes_eq prefix.now [] }
 {
-    text.is("")
+    prefix.is("")
+}
+
+/// Whether a declared prefix is empty: the default namespace is declared.
+fn is_default(prefix: &str) -> bool
+    ensures tells_whether_it_is_empty { result ≡ bytes_eq (chars prefix.now) [] }
+{
+    prefix.is_empty()
+}
+
+/// Whether a URI is empty.
+fn is_no_uri(uri: &Text) -> bool
+    ensures tells_whether_it_is_empty { result ≡ bytes_eq uri.now [] }
+{
+    uri.is("")
 }
 
 fn is_xml_uri(text: &Text) -> bool
@@ -52,13 +66,14 @@ pub fn declares(name: &Name) -> bool
 }
 
 /// The prefix that a declaration declares.
-pub fn declared_prefix(said: &Said) -> &Text
-    ensures lends_the_prefix { result.now ≡ (said_decl said.now).prefix }
+pub fn declared_prefix(said: &Said) -> &str
+    ensures characters_of_the_prefix { chars result.now ≡ (said_decl said.now).prefix }
+    ensures bytes_of_the_prefix { result.now ≡ encode_utf8_all (said_decl said.now).prefix }
 {
     if is_nothing(&said.name.prefix) {
-        &said.name.prefix
+        said.name.prefix.as_str()
     } else {
-        &said.name.local
+        said.name.local.as_str()
     }
 }
 
@@ -66,7 +81,7 @@ pub fn declared_prefix(said: &Said) -> &Text
 fn decl_of(alloc: Global, said: &Said) -> Result<Decl, AllocError>
     ensures declaration_that_it_is { IfOk result (λ decl. decl ≡ said_decl said.now) }
 {
-    let prefix = declared_prefix(said).copy(alloc)?;
+    let prefix = Prefix::from(alloc, declared_prefix(said))?;
     let uri = said.value.copy(alloc)?;
     Ok(Decl { prefix, uri })
 }
@@ -95,18 +110,18 @@ pub fn decls_of(alloc: Global, all: &[Said]) -> Result<Vec<Decl>, AllocError>
 }
 
 /// Whether `xml` is bound to its own namespace, and nothing else to that.
-fn fits_xml(prefix: &Text, uri: &Text) -> bool
-    ensures tells_whether_xml_fits { result ≡ (if bytes_eq prefix.now xml_prefix then bytes_eq uri.now xml_uri else not (bytes_eq uri.now xml_uri)) }
+fn fits_xml(prefix: &str, uri: &Text) -> bool
+    ensures tells_whether_xml_fits { result ≡ (if bytes_eq (chars prefix.now) xml_prefix then bytes_eq uri.now xml_uri else not (bytes_eq uri.now xml_uri)) }
 {
     let own = is_xml_uri(uri);
-    if is_xml(prefix.as_str()) { own } else { !own }
+    if is_xml(prefix) { own } else { !own }
 }
 
 /// Whether a declaration may stand.
-fn may_stand(prefix: &Text, uri: &Text) -> bool
-    ensures tells_whether_it_may_stand { result ≡ may_stand (record { prefix = prefix.now; uri = uri.now }) }
+fn may_stand(prefix: &str, uri: &Text) -> bool
+    ensures tells_whether_it_may_stand { result ≡ may_stand (record { prefix = chars prefix.now; uri = uri.now }) }
 {
-    if is_xmlns(prefix.as_str()) {
+    if is_xmlns(prefix) {
         return false;
     }
     if is_xmlns_uri(uri) {
@@ -115,10 +130,10 @@ fn may_stand(prefix: &Text, uri: &Text) -> bool
     if !fits_xml(prefix, uri) {
         return false;
     }
-    if is_nothing(prefix) {
+    if is_default(prefix) {
         return true;
     }
-    !is_nothing(uri)
+    !is_no_uri(uri)
 }
 
 /// Whether a name has a prefix that isn't bound.

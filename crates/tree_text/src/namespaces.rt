@@ -7,7 +7,7 @@ ghost use Rattle.tree_text.specs.readers.Bindings.{AreNumbers, AreOf, at_text, n
 
 use std::alloc::{AllocError, Global};
 use std::collections::BTreeMap;
-use xml_tree::{Decl, Text};
+use xml_tree::{Decl, Prefix, Text};
 
 /// A number for each namespace that was declared, and what is declared of each prefix.
 #[derive(Drop)]
@@ -15,7 +15,7 @@ pub struct Namespaces {
     /// Equal namespaces have equal numbers.
     pub numbers: BTreeMap<Text, usize>,
     /// The numbers of the namespaces that a prefix is declared for, the nearest last.
-    pub declared: BTreeMap<Text, Vec<usize>>,
+    pub declared: BTreeMap<Prefix, Vec<usize>>,
     /// The number of the empty text, which is no namespace.
     pub none: usize,
     /// The number of the namespace of `xml`.
@@ -43,8 +43,8 @@ fn numbered(
 /// Puts a number behind those of a prefix.
 fn push_number(
     alloc: Global,
-    declared: &mut BTreeMap<Text, Vec<usize>>,
-    prefix: &Text,
+    declared: &mut BTreeMap<Prefix, Vec<usize>>,
+    prefix: &Prefix,
     number: usize,
 ) -> Result<(), AllocError>
     ensures puts_the_number_behind { OnOk result ((p : List ℕ) → numbers_at declared.new p ≡ numbers_at declared.old p ++ (if bytes_eq prefix.now p then number ∷ [] else [])) }
@@ -61,7 +61,7 @@ fn push_number(
 }
 
 /// Takes the last number of a prefix away.
-fn pop_number(declared: &mut BTreeMap<Text, Vec<usize>>, prefix: &Text)
+fn pop_number(declared: &mut BTreeMap<Prefix, Vec<usize>>, prefix: &Prefix)
     ensures takes_the_last_number { (p : List ℕ) → numbers_at declared.new p ≡ (if bytes_eq prefix.now p then take (length (numbers_at declared.old p) - 1) (numbers_at declared.old p) else numbers_at declared.old p) }
 {
     if let Some(numbers) = declared.get_mut(prefix) {
@@ -124,7 +124,7 @@ impl Namespaces {
     }
 
     /// The number of the namespace that a prefix is bound to, the empty prefix being the default namespace.
-    pub fn of_prefix(&self, prefix: &Text) -> Option<usize>
+    pub fn of_prefix(&self, prefix: &Prefix) -> Option<usize>
         ensures number_of_the_bound_prefix { (here : List (List Decl)) → AreOf self.now (joined here) → option_map Some result ≡ option_map (number self.now) (bound here prefix.now) }
     {
         if prefix.is("xml") {

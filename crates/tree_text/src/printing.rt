@@ -8,7 +8,7 @@ use crate::names::is_nothing;
 use crate::output::Output;
 use std::alloc::{AllocError, Global};
 use xcap_io::Bytes;
-use xml_tree::{Attr, Decl, Element, Name, Node, Text, value_reference};
+use xml_tree::{Attr, Decl, Element, Name, Node, Prefix, Text, value_reference};
 
 /// Adds a character of a value in quotes.
 fn push_value_char(out: &mut Output, c: char) -> Result<(), AllocError>
@@ -76,7 +76,7 @@ fn push_name(out: &mut Output, name: &Name) -> Result<(), AllocError>
 
 /// Adds the name that declares a prefix.
 #[tactic(auto, using(crate::proofs::PrintLemmas::literals))]
-fn push_declaring(out: &mut Output, prefix: &Text) -> Result<(), AllocError>
+fn push_declaring(out: &mut Output, prefix: &Prefix) -> Result<(), AllocError>
     ensures adds_the_declaring_name { OnOk result (out.new ≡ out.old ++ declaring prefix.now) }
 {
     if is_nothing(prefix) {

@@ -5,7 +5,7 @@ ghost use Rattle.std.specs.Str.{IsAscii};
 ghost use Rattle.tree_text.specs.readers.Runs.{is_ascii, Spells};
 
 use std::alloc::{AllocError, Global};
-use xml_tree::Text;
+use xml_tree::{LocalName, Text, Word};
 
 // How many characters are made bytes at a time.
 const CHUNK: usize = 64;
@@ -42,6 +42,15 @@ pub fn ascii_text(alloc: Global, bytes: &[u8; 64], len: usize) -> Result<Text, A
     ensures holds_the_bytes_in_front { IfOk result (λ text. text ≡ take len bytes.now) }
 {
     Text::from_front(alloc, ascii(bytes, len), bytes)
+}
+
+/// A local name of the bytes in front, which are ASCII.
+pub fn ascii_name(alloc: Global, bytes: &[u8; 64], len: usize) -> Result<LocalName, AllocError>
+    requires size { len ≤ 64 }
+    requires ascii { IsAscii (take len bytes.now) }
+    ensures holds_the_bytes_in_front { IfOk result (λ name. name ≡ take len bytes.now) }
+{
+    LocalName::from_front(alloc, ascii(bytes, len), bytes)
 }
 
 // Writes characters as bytes, and answers whether all are ASCII, so that they are.
@@ -124,4 +133,25 @@ fn gathered(alloc: Global, chars: &[char]) -> Result<Text, AllocError>
     let mut text = Text::with_capacity(alloc, chars.len())?;
     push_all(&mut text, chars)?;
     Ok(text)
+}
+
+/// A part of a name of these characters.
+pub fn name_part<const N: usize>(alloc: Global, chars: &[char]) -> Result<Word<N>, AllocError>
+    requires few { N ≤ 64 }
+    ensures holds_these_characters { IfOk result (λ part. part ≡ chars.now) }
+{
+    let mut bytes = [0; 64];
+    match plain(chars, &mut bytes) {
+        Some(plain) => Word::from(alloc, plain),
+        None => gathered_part(alloc, chars),
+    }
+}
+
+// The same, of a text that is made bit by bit.
+fn gathered_part<const N: usize>(alloc: Global, chars: &[char]) -> Result<Word<N>, AllocError>
+    requires few { N ≤ 64 }
+    ensures gathers_these_characters { IfOk result (λ part. part ≡ chars.now) }
+{
+    let text = gathered(alloc, chars)?;
+    Word::from(alloc, text.as_str())
 }

@@ -12,9 +12,9 @@ ghost use Rattle.tree_text.specs.readers.Words.{end_start};
 use crate::fronts::plain_in_name;
 use crate::parts::{letter, name, spaces, starts_with_name, word};
 use crate::stop::Stop;
-use crate::texts::{ascii_text, no_text, text_of};
+use crate::texts::{ascii_name, name_part};
 use std::alloc::{AllocError, Global};
-use xml_tree::{Name, Text};
+use xml_tree::{LocalName, Name, Prefix};
 
 /// A name in a text: its prefix, empty where it has none, and its local part.
 #[derive(Clone, Copy, Debug)]
@@ -93,12 +93,12 @@ pub fn end_tag<'a>(text: &'a [char], name: &Written<'_>) -> Result<&'a [char], S
 }
 
 /// A prefix that owns its characters. Most names have none.
-fn prefix_of(alloc: Global, name: &Written<'_>) -> Result<Text, AllocError>
+fn prefix_of(alloc: Global, name: &Written<'_>) -> Result<Prefix, AllocError>
     ensures copies_the_prefix { IfOk result (λ prefix. prefix ≡ name.now.prefix.now) }
 {
     match name.prefix {
-        [] => Ok(no_text(alloc)),
-        prefix => text_of(alloc, prefix),
+        [] => Ok(Prefix::empty()),
+        prefix => name_part(alloc, prefix),
     }
 }
 
@@ -107,7 +107,7 @@ pub fn owned(alloc: Global, name: &Written<'_>) -> Result<Name, AllocError>
     ensures owns_its_parts { IfOk result (λ owned. owned ≡ name_in name.now) }
 {
     let prefix = prefix_of(alloc, name)?;
-    let local = text_of(alloc, name.local)?;
+    let local: LocalName = name_part(alloc, name.local)?;
     Ok(Name { prefix, local })
 }
 
@@ -147,8 +147,8 @@ pub fn own_qname(alloc: Global, text: &[char]) -> Result<(Name, Written<'_>, &[c
     let (len, rest) = plain_in_name(text, &mut bytes);
     if is_name_up_to(text, rest) {
         let name = Name {
-            prefix: no_text(alloc),
-            local: ascii_text(alloc, &bytes, len)?,
+            prefix: Prefix::empty(),
+            local: ascii_name(alloc, &bytes, len)?,
         };
         return Ok((name, unprefixed(text, rest), rest));
     }

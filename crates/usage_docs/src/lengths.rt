@@ -11,7 +11,8 @@ use crate::listing::{is_service, listed_as};
 use std::alloc::Global;
 use std::collections::BTreeSet;
 use xml_tree::{
-    Around, Decl, Declared, Element, NoMemory, Node, Scope, Text, decl_len, decls_len, printed_len,
+    Around, Decl, Declared, Element, NoMemory, Node, Prefix, Scope, decl_len, decls_len,
+    printed_len,
 };
 
 /// The root of a document whose services are counted.
@@ -42,7 +43,7 @@ impl<'a> Outer<'a> {
 }
 
 // The printed length of the binding of a prefix, if there is one; else 0.
-fn binding_len(bindings: &[Decl], prefix: &Text) -> usize
+fn binding_len(bindings: &[Decl], prefix: &Prefix) -> usize
     requires { AreInOrder bindings.now }
     ensures counts_the_binding { result ≡ min (decls_len (binding_of prefix.now bindings.now)) usize.MAX }
 {

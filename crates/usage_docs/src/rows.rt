@@ -6,7 +6,7 @@ ghost use Rattle.usage_docs.specs.declared.rows.Kind.TheVariants as Kind;
 ghost use Rattle.usage_docs.specs.Rows.{lists_space, services_space, root_kind, word_of, space_of_children, child_named, space_of, kind_by, is_foreign, kind_of, is_root};
 
 use doc_names::Usage;
-use xml_tree::{Around, Name, Text};
+use xml_tree::{Around, LocalName, Name};
 
 /// A kind of element: a row of the table.
 #[derive(Debug, Clone, Copy, PartialEq, Eq, PartialOrd, Ord)]
@@ -111,7 +111,7 @@ fn own_space(row: Kind) -> &'static str
 
 // What a child of the row's namespace is, by its local name.
 #[tactic(auto, unfolding(crate::specs::Rows::child_named, crate::specs::Rows::model_of, crate::specs::Rows::word_of))]
-fn child_named(row: Kind, local: &Text) -> Option<Kind>
+fn child_named(row: Kind, local: &LocalName) -> Option<Kind>
     ensures kind_of_the_local_name { result ≡ child_named row local.now }
 {
     match row {
@@ -128,7 +128,7 @@ fn child_named(row: Kind, local: &Text) -> Option<Kind>
 }
 
 // This kind, where the name is this word.
-fn only(local: &Text, word: &str, kind: Kind) -> Option<Kind>
+fn only(local: &LocalName, word: &str, kind: Kind) -> Option<Kind>
     requires { IsTrue (is_ascii word.now) }
     ensures kind_if_it_is_the_word { result ≡ (if bytes_eq local.now word.now then Some kind else None) }
 {
@@ -141,7 +141,7 @@ fn only(local: &Text, word: &str, kind: Kind) -> Option<Kind>
 
 // A child of a list.
 #[tactic(auto, unfolding(crate::specs::Rows::child_named, crate::specs::Rows::model_of, crate::specs::Rows::word_of))]
-fn child_of_list(local: &Text) -> Option<Kind>
+fn child_of_list(local: &LocalName) -> Option<Kind>
     ensures kind_in_a_list { result ≡ child_named Kind.EntryList local.now }
 {
     if is_word(local.as_str(), "display-name") {
@@ -161,7 +161,7 @@ fn child_of_list(local: &Text) -> Option<Kind>
 
 // A child of a service.
 #[tactic(auto, unfolding(crate::specs::Rows::child_named, crate::specs::Rows::model_of, crate::specs::Rows::word_of))]
-fn child_of_service(local: &Text) -> Option<Kind>
+fn child_of_service(local: &LocalName) -> Option<Kind>
     ensures kind_in_a_service { result ≡ child_named Kind.Service local.now }
 {
     if is_word(local.as_str(), "resource-list") {
@@ -192,7 +192,7 @@ pub(crate) fn is_word(text: &str, word: &str) -> bool
 }
 
 // A child's kind by its expanded name.
-pub(crate) fn kind_by(row: Kind, space: &str, local: &Text) -> Option<Kind>
+pub(crate) fn kind_by(row: Kind, space: &str, local: &LocalName) -> Option<Kind>
     ensures kind_of_the_expanded_name { result ≡ kind_by row (chars space.now) local.now }
 {
     if is_word(space, own_space(row)) {

@@ -41,7 +41,10 @@ fn error_in(alloc: Global, root: &Element) -> Result<Option<Text>, NoMemory>
         return Ok(None);
     }
     match root.kid(0) {
-        Some(kid) => Ok(Some(kid.name().local.copy(alloc)?)),
+        Some(kid) => {
+            let local = kid.name().local.as_str();
+            Ok(Some(Text::from(alloc, local)?))
+        }
         None => Ok(None),
     }
 }

@@ -5,3 +5,4 @@ pub mod Falls
 pub mod Gathering
 pub mod Lending
 pub mod Spelled
+pub mod Words

@@ -4,6 +4,7 @@ ghost use Rattle.std.specs.Option.{option_copied};
 ghost use Rattle.xml_tree.specs.Scopes.{bound, declared, joined};
 
 use crate::declared::Declared;
+use crate::names::Prefix;
 use crate::scope::{Scope, is_xml, some_text, xml_uri};
 use crate::text::Text;
 use std::marker::Model;
@@ -76,7 +77,7 @@ impl<'a> Around<'a> {
     }
 
     /// The URI that a prefix is bound to, the empty prefix being the default namespace. Takes no memory.
-    pub fn resolve(&self, prefix: &Text) -> Option<&'a str>
+    pub fn resolve(&self, prefix: &Prefix) -> Option<&'a str>
         ensures resolves_as_it_is_bound { option_map (λ uri. chars uri.now) result ≡ bound self.now prefix.now }
     {
         if is_xml(prefix.as_str()) {
@@ -86,7 +87,7 @@ impl<'a> Around<'a> {
     }
 
     // What the nearest declaration of a prefix says. Most elements declare nothing.
-    fn nearest(&self, prefix: &Text) -> Option<&'a Text>
+    fn nearest(&self, prefix: &Prefix) -> Option<&'a Text>
         ensures finds_what_is_declared { option_copied result ≡ declared (joined self.now) prefix.now }
     {
         match self.place {

@@ -5,7 +5,7 @@ ghost use Rattle.xml_tree.specs.inner.Gathering.{gathered};
 ghost use Rattle.xml_tree.specs.Scopes.{AreInOrder, declared};
 
 use crate::bindings::gather;
-use crate::names::Decl;
+use crate::names::{Decl, Prefix};
 use crate::scope;
 use crate::text::Text;
 use std::alloc::{AllocError, Global};
@@ -72,7 +72,7 @@ impl<'a> Declared<'a> {
 
     /// What the last declaration of a prefix says, if there is one: its URI, which is empty where the prefix is undeclared. Takes no memory.
     #[inline(never)]
-    pub fn uri_of(&self, prefix: &Text) -> Option<&'a Text>
+    pub fn uri_of(&self, prefix: &Prefix) -> Option<&'a Text>
         ensures last_of_the_prefix { option_copied result ≡ declared self.now prefix.now }
     {
         if self.index.is_empty() {
@@ -96,7 +96,7 @@ fn index_of<'a>(alloc: Global, decls: &'a [Decl]) -> Result<Vec<&'a Decl>, Alloc
 }
 
 // The URI of a prefix in an index.
-fn look_up<'a>(index: &[&'a Decl], prefix: &Text) -> Option<&'a Text>
+fn look_up<'a>(index: &[&'a Decl], prefix: &Prefix) -> Option<&'a Text>
     requires { AreInOrder (map (λ x. x.now) index.now) }
     ensures finds_the_prefix { option_copied result ≡ declared (map (λ x. x.now) index.now) prefix.now }
 {

@@ -31,6 +31,8 @@ mod text;
 mod text_bytes;
 mod tree;
 mod whole;
+mod word;
+mod word_bytes;
 
 pub use around::Around;
 pub use characters::{is_char, is_name, is_name_char, is_name_start, is_space};
@@ -41,7 +43,7 @@ pub use laws::{
 };
 pub use limits::MAX_LEVELS;
 pub use list::List;
-pub use names::{Attr, Decl, Name, copy_decls};
+pub use names::{Attr, Decl, LocalName, Name, Prefix, copy_decls};
 pub use nodes::{place_of, place_of_gap};
 pub use path::{PATH_LIMIT, Path, element_at};
 pub use path_texts::print_path;
@@ -60,3 +62,4 @@ pub use std::alloc::AllocError as NoMemory;
 pub use text::Text;
 pub use tree::{Element, Node};
 pub use whole::{copy_nodes, copy_tree, depth, equal};
+pub use word::Word;

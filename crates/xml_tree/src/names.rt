@@ -5,19 +5,26 @@ ghost use Rattle.std.specs.Option.{option_copied};
 ghost use Rattle.xml_tree.specs.Attributes.{first_place, same_name, is_written_so};
 
 use crate::text::Text;
+use crate::word::Word;
 use std::alloc::{AllocError, Global};
+
+/// A prefix. One of at most 14 bytes, as nearly all are, takes no memory.
+pub type Prefix = Word<14>;
+
+/// A local name. One of at most 22 bytes, as nearly all are, takes no memory.
+pub type LocalName = Word<22>;
 
 /// A name as it is written: a prefix, which is empty where there is none, and a local name.
 #[derive(Debug, Drop)]
 pub struct Name {
-    pub prefix: Text,
-    pub local: Text,
+    pub prefix: Prefix,
+    pub local: LocalName,
 }
 
 /// A declaration of a prefix. The empty prefix is the default namespace, and an empty URI undeclares it.
 #[derive(Debug, Drop)]
 pub struct Decl {
-    pub prefix: Text,
+    pub prefix: Prefix,
     pub uri: Text,
 }
 

@@ -2,7 +2,7 @@
 ghost use Rattle.std.specs.Prelude.{◌≡◌, flat_map, length, min, IsTrue};
 ghost use Rattle.xml_tree.specs.Print.{byte_len, declaring, opening, print, print_attr, print_comment, print_decl, print_name, print_node, text_escape, value_escape, quoted_text};
 
-use crate::names::{Attr, Decl, Name};
+use crate::names::{Attr, Decl, Name, Prefix};
 use crate::references::{text_reference, value_reference};
 use crate::text::Text;
 use crate::tree::{Element, Node};
@@ -127,7 +127,7 @@ pub fn name_len(name: &Name) -> usize
 
 // The length of the name that declares a prefix.
 #[tactic(auto, using(crate::proofs::PrintLengths::lengths))]
-fn declaring_len(prefix: &Text) -> usize
+fn declaring_len(prefix: &Prefix) -> usize
     ensures counts_the_declaring_name { result ≡ min (byte_len (declaring prefix.now)) usize.MAX }
 {
     if prefix.is_empty() {

@@ -78,7 +78,8 @@ impl<const N: usize> ShortText<N> {
             return false;
         }
         let end = len + text.len();
-        self.bytes[len..end].copy_from_slice(text.as_bytes());
+        let all = &mut self.bytes[..];
+        all[len..end].copy_from_slice(text.as_bytes());
         self.len = end as u8;
         true
     }

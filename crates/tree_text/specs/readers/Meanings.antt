@@ -1,5 +1,5 @@
--- What the code keeps of the names of a tag: the prefix that a declaration declares, the expanded name of an attribute. Namespaces in XML 1.0, section 6.3.
-use Rattle.std.specs.Prelude.{◌≡◌, ℕ, Bool, true, false, ◌&&◌, ◌==◌, not, List, Option, Some, None, option_map, option_and_then}
+-- What the code keeps of the names of a tag: the bytes of the prefix that a declaration declares, the expanded name of an attribute. Namespaces in XML 1.0, section 6.3.
+use Rattle.std.specs.Prelude.{◌≡◌, ℕ, Bool, true, false, ◌&&◌, ◌==◌, not, List, Option, Some, None, option_map, option_and_then, encode_utf8_all}
 use Rattle.std.specs.Str.{bytes_eq}
 use Rattle.std.specs.List.{list_any}
 use Rattle.std.specs.BTreeSet.{BTreeSet, contains}
@@ -26,12 +26,12 @@ same_number (Some n) (Some m) = n == m
 
 -- this is what one says
 abbrev pub Means : Bindings → Said → Meaning → Type 0
-Means here s (Declared prefix) = (is_declaring s.name ≡ true) × (prefix.now ≡ (said_decl s).prefix)
+Means here s (Declared prefix) = (is_declaring s.name ≡ true) × (prefix.now ≡ encode_utf8_all (said_decl s).prefix)
 Means here s (Named local n) = (is_declaring s.name ≡ false) × (local.now ≡ s.name.local) × (option_map Some n ≡ option_map (number here.namespaces) (attr_name (lists here) s.name).uri)
 
 -- whether one says this
 abbrev pub says : Bindings → Meaning → Said → Bool
-says here (Declared prefix) s = is_declaring s.name && bytes_eq (said_decl s).prefix prefix.now
+says here (Declared prefix) s = is_declaring s.name && bytes_eq (encode_utf8_all (said_decl s).prefix) prefix.now
 says here (Named local n) s = not (is_declaring s.name) && (same_number (attr_number here s.name) n && bytes_eq s.name.local local.now)
 
 -- a set holds exactly what these say

@@ -1,6 +1,14 @@
-use Rattle.std.proofs.Common.{string_bytes}
+use Rattle.std.proofs.Common.{◌≡◌, chars, string_bytes, ap, ◌∙◌}
+use Rattle.std.proofs.lemmas.Result.{IfOk-weaker}
+use Rattle.patch_words.specs.Notices.{candidate}
 use Rattle.patch_text.proofs.Numbers.{lettered}
 use Rattle.patch_text.proofs.prefixes.candidate.Goals as goal
 
 pub returns : goal.returns
-returns c = record { candidate_of_the_number = lettered c.args.number (string_bytes c.in_ok-format.field-0) c.own.result c.if-number-eq0.false c.ranges.number.fits c.in_ok-format.ensures.ok c.own.ensures.holds_the_string }
+returns c = record {
+  candidate_of_the_number =
+      let text = c.deref.result.now in
+      IfOk-weaker c.from-2.result (λ made. made ≡ chars text) (λ made. made ≡ candidate c.args.number)
+      (λ made is. lettered c.args.number (string_bytes c.in_ok-numbered.numbered) made c.if-number-eq0.false c.ranges.number.fits c.in_ok-numbered.ensures.ok (is ∙ ap chars c.deref.ensures))
+      c.from-2.ensures.copies_the_text;
+}
