@@ -1,5 +1,6 @@
 -- Repetitions are read exactly where a test tells whether one more member follows.
-use Rattle.std.proofs.Common.{◌≡◌, ℕ, zero, suc, ◌<◌, ◌≤◌, Bool, true, false, cond, List, [], ◌∷◌, ◌++◌, length, Result, Ok, Err, ◌⊎◌, inl, inr, ⊎_elim, refl, sym, ap, subst, ◌∙◌, append_assoc, arith}
+use Rattle.std.proofs.Common.{◌≡◌, ℕ, zero, suc, ◌<◌, ◌≤◌, Bool, true, false, cond, List, [], ◌∷◌, ◌++◌, length, Result, Ok, Err, ◌⊎◌, inl, inr, ⊎_elim, encode_utf8_all, refl, sym, ap, subst, ◌∙◌, append_assoc, arith}
+use Rattle.std.proofs.lemmas.Str.{length-le-encodes}
 use Rattle.std.proofs.lemmas.List.{length-append, nil_from_length}
 use Rattle.grammar_rules.specs.Rules.{Event, Mark, Rule, sequence, valued, Each, many}
 use Rattle.grammar_rules.specs.Reading.{Stop, Reader, ◌>>=◌, read_at_most, read_many}
@@ -162,7 +163,7 @@ module _ {Kind : Type 0} where
 
 module _ {Kind : Type 0} {faults : Faults Kind} where
   pub exact_many : {A : Type 0} {r : Rule Kind A} {K : Rest Kind} {test : List ℕ → Bool} {p : Reader Kind A} → Repeats faults r K test → Exact faults r (more r K) p → Exact faults (many r) (λ _. K) (read_many test p)
-  exact_many {A} {r} {K} {test} {p} h exact = record { by = λ text. many_outcome faults r K test p h exact (length text) text (omega arith) }
+  exact_many {A} {r} {K} {test} {p} h exact = record { by = λ text. many_outcome faults r K test p h exact (length (encode_utf8_all text)) text (length-le-encodes text) }
 
   -- A repetition is covered where a member with what follows it is, and what follows all.
   pub covers_many : {A : Type 0} {text : List ℕ} {r : Rule Kind A} {K X : Rest Kind} → Covers faults text (ahead r (more r K)) X → Covers faults text K X → Covers faults text (ahead (many r) (λ _. K)) X

@@ -1,6 +1,6 @@
 -- Reading functions: they read a text from left to right by a rule, and answer a value and what is left, or a stop and what was left there.
 -- There is one for each way to make a rule, and code that reads equals one of them.
-use Rattle.std.specs.Prelude.{ℕ, zero, suc, ◌+◌, ◌-◌, ◌*◌, Bool, true, false, ◌&&◌, List, [], ◌∷◌, ◌++◌, Result, Ok, Err, if◌then◌else◌, nat_eq, nat_le, length, drop, Option, Some, None}
+use Rattle.std.specs.Prelude.{ℕ, zero, suc, ◌+◌, ◌-◌, ◌*◌, Bool, true, false, ◌&&◌, List, [], ◌∷◌, ◌++◌, Result, Ok, Err, if◌then◌else◌, nat_eq, nat_le, length, drop, encode_utf8_all, Option, Some, None}
 use Rattle.grammar_rules.specs.Digits.{Digits}
 
 -- Why reading stops, with what was left of the text there.
@@ -126,8 +126,9 @@ read_at_most test p (suc n) text =
     then (p text >>= λ x. read_at_most test p n x.1 >>= λ y. Ok (x.0 ∷ y.0, y.1))
     else Ok ([], text)
 
+-- all of them: no more than the text has bytes in UTF-8, since each takes one or more
 abbrev pub read_many : {Kind A : Type 0} → (List ℕ → Bool) → Reader Kind A → Reader Kind (List A)
-read_many test p text = read_at_most test p (length text) text
+read_many test p text = read_at_most test p (length (encode_utf8_all text)) text
 
 abbrev pub read_valued : {Kind A B : Type 0} → (A → B) → Reader Kind A → Reader Kind B
 read_valued f p text = p text >>= λ x. Ok (f x.0, x.1)

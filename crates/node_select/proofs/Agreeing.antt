@@ -1,5 +1,5 @@
 -- What is read with widths, and then resolved, is what is read where each name is resolved at its place.
-use Rattle.std.proofs.Common.{◌≡◌, ℕ, zero, suc, ◌+◌, ◌-◌, Bool, true, false, cond, List, [], ◌∷◌, ◌++◌, length, drop, Result, Ok, Err, refl, sym, ap, ◌∙◌, subst, arith}
+use Rattle.std.proofs.Common.{◌≡◌, ℕ, zero, suc, ◌+◌, ◌-◌, Bool, true, false, cond, List, [], ◌∷◌, ◌++◌, length, encode_utf8_all, drop, Result, Ok, Err, refl, sym, ap, ◌∙◌, subst, arith}
 use Rattle.std.specs.Prelude.{◌&&◌, Option, None, Some, option_map, map}
 use Rattle.std.proofs.lemmas.List.{length-append}
 use Rattle.grammar_rules.specs.Rules.{Rule}
@@ -289,4 +289,4 @@ module _ (on : Bool) (whole : List ℕ) where
         }
 
     pub many : Follows (read_many test p) (read_many test q) (map f) v
-    many = record { by = λ n text at. (at_most (length text)).by n text at }
+    many = record { by = λ n text at. (at_most (length (encode_utf8_all text))).by n text at }

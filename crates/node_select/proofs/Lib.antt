@@ -1,5 +1,4 @@
 pub mod Along
-pub mod Bytes
 pub mod Judging
 pub mod JudgedNames
 pub mod ExactParts

@@ -1,14 +1,10 @@
 -- Places of unbound prefixes in steps and then in an end, and what errors tell of them.
-use Rattle.std.proofs.Common.{◌≡◌, ℕ, ◌+◌, ◌-◌, ◌≤◌, List, [], ◌∷◌, length, take, drop, Option, Some, None, refl, sym, ap, ◌∙◌, arith, add-zero, encode_utf8_all}
-use Rattle.std.proofs.Math.Seq.{take-length}
-use Rattle.std.proofs.lemmas.List.{length-drop}
-use Rattle.std.specs.Str.{chars, IsUtf8}
+use Rattle.std.proofs.Common.{◌≡◌, ℕ, ◌+◌, List, [], ◌∷◌, Option, Some, None, refl, sym, ap, ◌∙◌, arith, add-zero}
 use Rattle.xml_tree.specs.declared.names.Decl.{Decl}
 use Rattle.node_select.specs.declared.meaning.Unresolved.{Unresolved}
 use Rattle.node_select.specs.declared.meaning.Unresolved.TheVariants.{Prefix, Memory}
 use Rattle.node_select.specs.readers.Resolving.{Fails}
 use Rattle.node_select.specs.readers.Raw.{RawStep, widths, first_of, unbound_in, unbound_from, no_end}
-use Rattle.node_select.proofs.Bytes.{behind_fits}
 
 first_of-assoc : (a b c : Option ℕ) → first_of a (first_of b c) ≡ first_of (first_of a b) c
 first_of-assoc None b c = refl
@@ -30,10 +26,3 @@ steps_fail bindings n steps end Memory h = tt
 pub end_fails : (bindings : List Decl) (n at : ℕ) (steps : List RawStep) (end : ℕ → Option ℕ) (why : Unresolved) → unbound_from bindings n steps no_end ≡ None → at ≡ n + widths steps → Fails (end at) why → Fails (unbound_from bindings n steps end) why
 end_fails bindings n at steps end (Prefix k) none same h = steps_then_end bindings n steps end ∙ ap (λ o. first_of o (end (n + widths steps))) none ∙ ap end (sym same) ∙ h
 end_fails bindings n at steps end Memory none same h = tt
-
--- the characters behind so many take no more bytes than the text
-pub rest_fits : (text all : List ℕ) (n : ℕ) → all ≡ chars text → IsUtf8 text → length (encode_utf8_all (take (length all - n) (drop n all))) ≤ length text
-rest_fits text all n same u =
-    let cut : take (length all - n) (drop n all) ≡ drop n all = ap (λ k. take k (drop n all)) (sym (length-drop n all)) ∙ take-length (drop n all) in
-    let here : length (encode_utf8_all (take (length all - n) (drop n all))) ≡ length (encode_utf8_all (drop n (chars text))) = ap (λ (z : List ℕ). length (encode_utf8_all z)) (cut ∙ ap (drop n) same) in
-    omega (arith, behind_fits text n u)

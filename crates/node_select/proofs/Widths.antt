@@ -1,5 +1,5 @@
 -- How wide what is read is: steps, and what is left behind them, fill the text.
-use Rattle.std.proofs.Common.{◌≡◌, ℕ, zero, suc, ◌+◌, ◌-◌, ◌≤◌, ◌<◌, ◌^◌, Bool, true, false, cond, List, [], ◌∷◌, length, Option, Some, None, Result, Ok, Err, refl, ap, ◌∙◌, subst, arith, eqb-true}
+use Rattle.std.proofs.Common.{◌≡◌, ℕ, zero, suc, ◌+◌, ◌-◌, ◌≤◌, ◌<◌, ◌^◌, Bool, true, false, cond, List, [], ◌∷◌, length, encode_utf8_all, Option, Some, None, Result, Ok, Err, refl, ap, ◌∙◌, subst, arith, eqb-true}
 use Rattle.std.specs.Prelude.{nat_eq}
 use Rattle.xml_tree.specs.declared.names.Name.{Name}
 use Rattle.std.specs.Char.{is_ascii_digit as is_digit}
@@ -8,7 +8,8 @@ use Rattle.tree_text.specs.declared.kind.Kind.{Kind}
 use Rattle.tree_text.specs.Grammar.{is_quote, is_raw_in}
 use Rattle.tree_text.specs.readers.Texts.{reference_follows}
 use Rattle.tree_text.proofs.TagLemmas.{shrinks_qname, shrinks_reference}
-use Rattle.tree_text.proofs.Shrinks.{Small, Shrinks, ok_small, shrinks_one, shrinks_word, shrinks_run, shrinks_empty, shrinks_sequence, shrinks_valued, shrinks_either, shrinks_many}
+use Rattle.tree_text.specs.readers.Ends.{EndsWith}
+use Rattle.tree_text.proofs.Shrinks.{Left, Shrinks, ok_left, ok_small, shrinks_one, shrinks_word, shrinks_run, shrinks_empty, shrinks_sequence, shrinks_valued, shrinks_either, shrinks_many}
 use Rattle.node_select.specs.Grammar.{position_of, names_attribute, literal_value}
 use Rattle.node_select.specs.readers.Made.{first_step_of}
 use Rattle.node_select.specs.readers.Words.{star, at_sign, open_bracket, close_bracket, equals_sign, slash}
@@ -28,23 +29,23 @@ shrinks_optional test h = shrinks_either test (shrinks_valued Some h) (shrinks_e
 shrinks_name_of : (p q : ℕ → Bool) → Shrinks (read_name_of p q)
 shrinks_name_of p q = shrinks_valued (λ x. x.0 ∷ x.1) (shrinks_sequence (shrinks_one p) (λ _. shrinks_run q))
 
-sized_small : {A : Type 0} (n m : ℕ) (out : Result (A × List ℕ) (Stop Kind)) → Small n out → Small n (out >>= λ x. let z : (A × ℕ) × List ℕ = ((x.0, m - length x.1), x.1) in Ok z)
-sized_small n m (Ok x) h = h
-sized_small n m (Err e) h = h
+sized_left : {A : Type 0} (text : List ℕ) (m : ℕ) (out : Result (A × List ℕ) (Stop Kind)) → Left text out → Left text (out >>= λ x. let z : (A × ℕ) × List ℕ = ((x.0, m - length x.1), x.1) in Ok z)
+sized_left text m (Ok x) h = h
+sized_left text m (Err e) h = h
 
 shrinks_sized : {A : Type 0} {p : Reader Kind A} → Shrinks p → Shrinks (read_sized p)
-shrinks_sized {A} {p} h = record { by = λ text. sized_small (length text) (length text) (p text) (h.by text) }
+shrinks_sized {A} {p} h = record { by = λ text. sized_left text (length text) (p text) (h.by text) }
 
-only_by : {A : Type 0} (n : ℕ) (b : Bool) (x : A × List ℕ) → length x.1 ≤ n → Small n (cond b (Ok x) (Err (Syntax x.1)))
-only_by n true x h = h
-only_by n false x h = tt
+only_by : {A : Type 0} (text : List ℕ) (b : Bool) (x : A × List ℕ) → EndsWith text x.1 → Left text (cond b (Ok x) (Err (Syntax x.1)))
+only_by text true x h = h
+only_by text false x h = tt
 
-only_small : {A : Type 0} (n : ℕ) (t : A → Bool) (out : Result (A × List ℕ) (Stop Kind)) → Small n out → Small n (out >>= λ x. cond (t x.0) (Ok x) (Err (Syntax x.1)))
-only_small n t (Ok x) h = only_by n (t x.0) x h
-only_small n t (Err e) h = tt
+only_left : {A : Type 0} (text : List ℕ) (t : A → Bool) (out : Result (A × List ℕ) (Stop Kind)) → Left text out → Left text (out >>= λ x. cond (t x.0) (Ok x) (Err (Syntax x.1)))
+only_left text t (Ok x) h = only_by text (t x.0) x h
+only_left text t (Err e) h = tt
 
 shrinks_only : {A : Type 0} {p : Reader Kind A} (t : A → Bool) → Shrinks p → Shrinks (read_only t p)
-shrinks_only {A} {p} t h = record { by = λ text. only_small (length text) t (p text) (h.by text) }
+shrinks_only {A} {p} t h = record { by = λ text. only_left text t (p text) (h.by text) }
 
 -- ---- the parts of steps
 shrinks_node_name : Shrinks read_node_name
@@ -105,6 +106,13 @@ sized_ok : {A : Type 0} (p : Reader Kind A) (text : List ℕ) (z : (A × ℕ) ×
 sized_ok {A} p text z h =
     let x = bind_ok (p text) (λ x. let w : (A × ℕ) × List ℕ = ((x.0, length text - length x.1), x.1) in Ok w) z h in
     (x.0, x.1, ok_is ((x.0.0, length text - length x.0.1), x.0.1) z x.2)
+
+-- ---- what is left behind a step, and behind its front, is an end of the text
+pub front_ends : (text rest : List ℕ) (front : Option Name × Option ℕ) → front_reader text ≡ Ok (front, rest) → EndsWith text rest
+front_ends text rest front h = ok_left shrinks_front text (front, rest) h
+
+pub test_ends : (text rest : List ℕ) (test : Option (Name × List ℕ)) → read_optional test_follows read_test text ≡ Ok (test, rest) → EndsWith text rest
+test_ends text rest test h = ok_left shrinks_optional_test text (test, rest) h
 
 -- ---- a step and what is left fill the text, and its front is no wider than it
 pub record Fills (text : List ℕ) (s : RawStep) (rest : List ℕ) : Type 0 where
@@ -187,7 +195,7 @@ steps_fill test text z h =
     let v = valued_ok first_step_of (read_sequence read_step (λ _. many)) text z h in
     let q = sequence_ok read_step (λ _. many) text v.0 v.1 in
     let f = step_fills text q.first.0 q.first.1 q.first_is in
-    let g = at_most_fills test (length q.first.1) q.first.1 q.second q.second_is in
+    let g = at_most_fills test (length (encode_utf8_all q.first.1)) q.first.1 q.second q.second_is in
     let P : List RawStep → Type 0 = λ ss. (widths ss ≤ length text + 1) × AreWhole ss in
     let made : (q.first.0 ∷ q.second.0) ≡ z.0 = ap (λ (w : (RawStep × List RawStep) × List ℕ). first_step_of w.0) q.made ∙ ap (λ (w : List RawStep × List ℕ). w.0) v.2 in
     subst P made (omega (arith, f.sizes, g.sizes), (f.front, g.whole))
@@ -199,7 +207,7 @@ steps_wide test text z h =
     let v = valued_ok first_step_of (read_sequence read_step (λ _. many)) text z h in
     let q = sequence_ok read_step (λ _. many) text v.0 v.1 in
     let f = step_fills text q.first.0 q.first.1 q.first_is in
-    let g = at_most_fills test (length q.first.1) q.first.1 q.second q.second_is in
+    let g = at_most_fills test (length (encode_utf8_all q.first.1)) q.first.1 q.second q.second_is in
     let made : (q.first.0 ∷ q.second.0) ≡ z.0 = ap (λ (w : (RawStep × List RawStep) × List ℕ). first_step_of w.0) q.made ∙ ap (λ (w : List RawStep × List ℕ). w.0) v.2 in
     let left : length q.second.1 ≡ length z.1 = ap (λ (w : (RawStep × List RawStep) × List ℕ). length w.1) q.made ∙ ap (λ (w : List RawStep × List ℕ). length w.1) v.2 in
     let wide : widths (q.first.0 ∷ q.second.0) ≡ widths z.0 = ap widths made in
@@ -218,7 +226,7 @@ whole_read {A} p text a [] h e = ap (λ (r : Result (A × List ℕ) (Stop Kind))
 whole_read {A} p text a (c ∷ cs) h e = absurd (omega (arith, eqb-true (length (c ∷ cs)) 0 e))
 
 -- there is room for the places of all names of a selector
-pub selector_room : (text : List ℕ) (raw : RawSelector) → length text < 2 ^ 62 → read_whole read_selector text ≡ Ok raw → HasRoom 0 raw.0
+pub selector_room : (text : List ℕ) (raw : RawSelector) → length text < 2 ^ 63 → read_whole read_selector text ≡ Ok raw → HasRoom 0 raw.0
 selector_room text raw lt h =
     let w = whole_ok (read_selector text) raw h in
     let q = sequence_ok (read_steps step_follows) (λ _. read_valued end_or_element (read_optional slash_follows (read_behind (read_word slash) read_end))) text w.0 w.1 in
@@ -237,7 +245,7 @@ slash_small (Err e) x h = cc
 shrinks_slash : Shrinks (read_valued slash_width (read_optional slash_follows (read_word slash)))
 shrinks_slash = shrinks_valued slash_width (shrinks_optional slash_follows (shrinks_word slash))
 
-pub patch_selector_room : (text : List ℕ) (raw : RawPatchSelector) → length text < 2 ^ 62 → read_whole read_patch_selector text ≡ Ok raw → HasRoom raw.0 raw.1.0
+pub patch_selector_room : (text : List ℕ) (raw : RawPatchSelector) → length text < 2 ^ 63 → read_whole read_patch_selector text ≡ Ok raw → HasRoom raw.0 raw.1.0
 patch_selector_room text raw lt h =
     let w = whole_ok (read_patch_selector text) raw h in
     let behind = λ (_ : List RawStep). read_valued patch_end_or_element (read_optional slash_follows (read_behind (read_word slash) read_patch_end)) in

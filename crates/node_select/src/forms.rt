@@ -1,5 +1,5 @@
 //! The form of selectors, read from left to right.
-ghost use Rattle.std.specs.Prelude.{◌<◌, ◌^◌, length, map, IfOk, Ok};
+ghost use Rattle.std.specs.Prelude.{chars, map, IfOk, Ok};
 ghost use Rattle.grammar_rules.specs.Reading.{read_behind, read_optional, read_valued, read_whole, read_word};
 ghost use Rattle.tree_text.specs.readers.Gives.{Gives};
 ghost use Rattle.node_select.specs.readers.Words.{slash};
@@ -10,30 +10,26 @@ ghost use Rattle.node_select.specs.readers.Views.{end_in, patch_end_in, patch_se
 use crate::raw::{Form, RawEnd, RawPatchEnd, RawPatchSelector, RawSelector};
 use crate::steps::{attribute, position, slash_follows, steps, test_follows};
 use std::alloc::Global;
-use tree_text::{Stop, word};
+use tree_text::{Stop, is_first, is_over, word};
 
 // An attribute or all namespaces, and what follows them.
-fn end(text: &[char]) -> Result<(RawEnd<'_>, &[char]), Stop<'_>>
-    ensures reads_an_end { Gives (λ x. (end_in x.0, x.1.now)) result (read_end text.now) }
+fn end(text: &str) -> Result<(RawEnd<'_>, &str), Stop<'_>>
+    ensures reads_an_end { Gives (λ x. (end_in x.0, chars x.1.now)) result (read_end (chars text.now)) }
 {
-    match text {
-        ['@', ..] => {
-            let (name, rest) = attribute(text)?;
-            Ok((RawEnd::Attribute(name), rest))
-        }
-        _ => {
-            let rest = word(
-                text,
-                &['n', 'a', 'm', 'e', 's', 'p', 'a', 'c', 'e', ':', ':', '*'],
-            )?;
-            Ok((RawEnd::Namespaces, rest))
-        }
+    if is_first(text, '@') {
+        let (name, rest) = attribute(text)?;
+        return Ok((RawEnd::Attribute(name), rest));
     }
+    let rest = word(
+        text,
+        &['n', 'a', 'm', 'e', 's', 'p', 'a', 'c', 'e', ':', ':', '*'],
+    )?;
+    Ok((RawEnd::Namespaces, rest))
 }
 
 // A slash and an end, if a slash follows, and what follows them.
-fn optional_end(text: &[char]) -> Result<(RawEnd<'_>, &[char]), Stop<'_>>
-    ensures reads_an_end_if_it_follows { Gives (λ x. (end_in x.0, x.1.now)) result (read_valued end_or_element (read_optional slash_follows (read_behind (read_word slash) read_end)) text.now) }
+fn optional_end(text: &str) -> Result<(RawEnd<'_>, &str), Stop<'_>>
+    ensures reads_an_end_if_it_follows { Gives (λ x. (end_in x.0, chars x.1.now)) result (read_valued end_or_element (read_optional slash_follows (read_behind (read_word slash) read_end)) (chars text.now)) }
 {
     if !slash_follows(text) {
         return Ok((RawEnd::Element, text));
@@ -43,8 +39,8 @@ fn optional_end(text: &[char]) -> Result<(RawEnd<'_>, &[char]), Stop<'_>>
 }
 
 // A selector, and what follows it.
-fn selector(alloc: Global, text: &[char]) -> Result<(RawSelector<'_>, &[char]), Stop<'_>>
-    ensures reads_a_selector { Gives (λ x. (selector_in x.0, x.1.now)) result (read_selector text.now) }
+fn selector(alloc: Global, text: &str) -> Result<(RawSelector<'_>, &str), Stop<'_>>
+    ensures reads_a_selector { Gives (λ x. (selector_in x.0, chars x.1.now)) result (read_selector (chars text.now)) }
 {
     let (steps, rest) = steps(alloc, text, Form::Node)?;
     let (end, rest) = optional_end(rest)?;
@@ -52,21 +48,20 @@ fn selector(alloc: Global, text: &[char]) -> Result<(RawSelector<'_>, &[char]), 
 }
 
 /// A whole selector.
-pub fn raw_selector(alloc: Global, text: &[char]) -> Result<RawSelector<'_>, Stop<'_>>
-    requires { length text.now < 2 ^ 62 }
-    ensures reads_as_the_rule_does { Gives selector_in result (read_whole read_selector text.now) }
+pub fn raw_selector(alloc: Global, text: &str) -> Result<RawSelector<'_>, Stop<'_>>
+    ensures reads_as_the_rule_does { Gives selector_in result (read_whole read_selector (chars text.now)) }
     ensures places_fit_in_64_bits { IfOk result (λ raw. HasRoom 0 (map step_in raw.steps.items)) }
 {
     let (selector, rest) = selector(alloc, text)?;
-    if !rest.is_empty() {
+    if !is_over(rest) {
         return Err(Stop::Syntax(rest));
     }
     Ok(selector)
 }
 
 // The position of a text, if a bracket follows, and what follows it.
-fn text_position(text: &[char]) -> Result<(Option<u64>, &[char]), Stop<'_>>
-    ensures reads_a_position_if_it_follows { Gives (λ x. (x.0, x.1.now)) result (read_optional test_follows read_position text.now) }
+fn text_position(text: &str) -> Result<(Option<u64>, &str), Stop<'_>>
+    ensures reads_a_position_if_it_follows { Gives (λ x. (x.0, chars x.1.now)) result (read_optional test_follows read_position (chars text.now)) }
 {
     if !test_follows(text) {
         return Ok((None, text));
@@ -76,25 +71,21 @@ fn text_position(text: &[char]) -> Result<(Option<u64>, &[char]), Stop<'_>>
 }
 
 // An attribute or a text, and what follows them.
-fn patch_end(text: &[char]) -> Result<(RawPatchEnd<'_>, &[char]), Stop<'_>>
-    ensures reads_an_end_of_a_patch { Gives (λ x. (patch_end_in x.0, x.1.now)) result (read_patch_end text.now) }
+fn patch_end(text: &str) -> Result<(RawPatchEnd<'_>, &str), Stop<'_>>
+    ensures reads_an_end_of_a_patch { Gives (λ x. (patch_end_in x.0, chars x.1.now)) result (read_patch_end (chars text.now)) }
 {
-    match text {
-        ['@', ..] => {
-            let (name, rest) = attribute(text)?;
-            Ok((RawPatchEnd::Attribute(name), rest))
-        }
-        _ => {
-            let rest = word(text, &['t', 'e', 'x', 't', '(', ')'])?;
-            let (position, rest) = text_position(rest)?;
-            Ok((RawPatchEnd::Chars(position), rest))
-        }
+    if is_first(text, '@') {
+        let (name, rest) = attribute(text)?;
+        return Ok((RawPatchEnd::Attribute(name), rest));
     }
+    let rest = word(text, &['t', 'e', 'x', 't', '(', ')'])?;
+    let (position, rest) = text_position(rest)?;
+    Ok((RawPatchEnd::Chars(position), rest))
 }
 
 // A slash and an end, if a slash follows, and what follows them.
-fn optional_patch_end(text: &[char]) -> Result<(RawPatchEnd<'_>, &[char]), Stop<'_>>
-    ensures reads_an_end_of_a_patch_if_it_follows { Gives (λ x. (patch_end_in x.0, x.1.now)) result (read_valued patch_end_or_element (read_optional slash_follows (read_behind (read_word slash) read_patch_end)) text.now) }
+fn optional_patch_end(text: &str) -> Result<(RawPatchEnd<'_>, &str), Stop<'_>>
+    ensures reads_an_end_of_a_patch_if_it_follows { Gives (λ x. (patch_end_in x.0, chars x.1.now)) result (read_valued patch_end_or_element (read_optional slash_follows (read_behind (read_word slash) read_patch_end)) (chars text.now)) }
 {
     if !slash_follows(text) {
         return Ok((RawPatchEnd::Element, text));
@@ -104,8 +95,8 @@ fn optional_patch_end(text: &[char]) -> Result<(RawPatchEnd<'_>, &[char]), Stop<
 }
 
 // How many characters a slash in front has, and what follows it.
-fn optional_slash(text: &[char]) -> Result<(usize, &[char]), Stop<'_>>
-    ensures reads_a_slash_if_it_follows { Gives (λ x. (x.0, x.1.now)) result (read_valued slash_width (read_optional slash_follows (read_word slash)) text.now) }
+fn optional_slash(text: &str) -> Result<(usize, &str), Stop<'_>>
+    ensures reads_a_slash_if_it_follows { Gives (λ x. (x.0, chars x.1.now)) result (read_valued slash_width (read_optional slash_follows (read_word slash)) (chars text.now)) }
 {
     if !slash_follows(text) {
         return Ok((0, text));
@@ -115,8 +106,8 @@ fn optional_slash(text: &[char]) -> Result<(usize, &[char]), Stop<'_>>
 }
 
 // A selector of a patch, and what follows it.
-fn patch_selector(alloc: Global, text: &[char]) -> Result<(RawPatchSelector<'_>, &[char]), Stop<'_>>
-    ensures reads_a_selector_of_a_patch { Gives (λ x. (patch_selector_in x.0, x.1.now)) result (read_patch_selector text.now) }
+fn patch_selector(alloc: Global, text: &str) -> Result<(RawPatchSelector<'_>, &str), Stop<'_>>
+    ensures reads_a_selector_of_a_patch { Gives (λ x. (patch_selector_in x.0, chars x.1.now)) result (read_patch_selector (chars text.now)) }
 {
     let (slash, rest) = optional_slash(text)?;
     let (steps, rest) = steps(alloc, rest, Form::Patch)?;
@@ -125,13 +116,12 @@ fn patch_selector(alloc: Global, text: &[char]) -> Result<(RawPatchSelector<'_>,
 }
 
 /// A whole selector of a patch.
-pub fn raw_patch_selector(alloc: Global, text: &[char]) -> Result<RawPatchSelector<'_>, Stop<'_>>
-    requires { length text.now < 2 ^ 62 }
-    ensures reads_as_the_rule_does { Gives patch_selector_in result (read_whole read_patch_selector text.now) }
+pub fn raw_patch_selector(alloc: Global, text: &str) -> Result<RawPatchSelector<'_>, Stop<'_>>
+    ensures reads_as_the_rule_does { Gives patch_selector_in result (read_whole read_patch_selector (chars text.now)) }
     ensures places_fit_in_64_bits { IfOk result (λ raw. HasRoom raw.slash (map step_in raw.steps.items)) }
 {
     let (selector, rest) = patch_selector(alloc, text)?;
-    if !rest.is_empty() {
+    if !is_over(rest) {
         return Err(Stop::Syntax(rest));
     }
     Ok(selector)

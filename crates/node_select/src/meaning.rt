@@ -11,7 +11,7 @@ use crate::choice::no_uri;
 use crate::raw::{RawEnd, RawPatchEnd, RawStep, RawTest};
 use crate::selector::{AttrTest, End, NameTest, PatchEnd, Step};
 use std::alloc::{AllocError, AllocFailed, Global};
-use tree_text::{Written, name_part, text_of};
+use tree_text::{Written, split_first};
 use xml_tree::{Around, Declared, List, Prefix, Text, is_xmlns};
 
 /// Why names can't be resolved.
@@ -40,14 +40,10 @@ impl<T: Drop> From<AllocFailed<T>> for Unresolved {
 }
 
 // The URI of a prefix, if it is bound.
-fn uri_of(
-    alloc: Global,
-    bindings: &Declared<'_>,
-    prefix: &[char],
-) -> Result<Option<Text>, AllocError>
-    ensures uri_of_the_prefix { IfOk result (λ uri. uri ≡ prefix_uri bindings.now prefix.now) }
+fn uri_of(alloc: Global, bindings: &Declared<'_>, prefix: &str) -> Result<Option<Text>, AllocError>
+    ensures uri_of_the_prefix { IfOk result (λ uri. uri ≡ prefix_uri bindings.now (chars prefix.now)) }
 {
-    let prefix: Prefix = name_part(alloc, prefix)?;
+    let prefix = Prefix::from(alloc, prefix)?;
     if is_xmlns(prefix.as_str()) {
         return Ok(None);
     }
@@ -70,13 +66,15 @@ fn name_uri(
 ) -> Result<Text, Unresolved>
     ensures means_the_name { Means (unbound_at bindings.now at (name_in name.now)) (name_uri bindings.now (chars none.now) (name_in name.now)) result }
 {
-    if name.prefix.is_empty() {
-        let uri = Text::from(alloc, none)?;
-        return Ok(uri);
-    }
-    match uri_of(alloc, bindings, name.prefix)? {
-        None => Err(Unresolved::Prefix(at)),
-        Some(uri) => Ok(uri),
+    match split_first(name.prefix) {
+        None => {
+            let uri = Text::from(alloc, none)?;
+            Ok(uri)
+        }
+        Some(_) => match uri_of(alloc, bindings, name.prefix)? {
+            None => Err(Unresolved::Prefix(at)),
+            Some(uri) => Ok(uri),
+        },
     }
 }
 
@@ -106,7 +104,7 @@ fn name_test(
         None => Ok(NameTest::Any),
         Some(name) => {
             let uri = name_uri(alloc, bindings, default, name, at)?;
-            let local = text_of(alloc, name.local)?;
+            let local = Text::from(alloc, name.local)?;
             Ok(NameTest::Named { uri, local })
         }
     }
@@ -122,7 +120,7 @@ fn attr_test(
     ensures means_the_attribute_test { Means (unbound_at bindings.now at (test_in test.now).0) (attr_test bindings.now (test_in test.now)) result }
 {
     let uri = attr_uri(alloc, bindings, &test.name, at)?;
-    let local = text_of(alloc, test.name.local)?;
+    let local = Text::from(alloc, test.name.local)?;
     let value = test.value.copy(alloc)?;
     Ok(AttrTest { uri, local, value })
 }
@@ -200,7 +198,7 @@ pub fn end(
         RawEnd::Element => Ok(End::Element),
         RawEnd::Attribute(name) => {
             let uri = attr_uri(alloc, bindings, name, at + 1)?;
-            let local = text_of(alloc, name.local)?;
+            let local = Text::from(alloc, name.local)?;
             Ok(End::Attribute { uri, local })
         }
         RawEnd::Namespaces => Ok(End::Namespaces),
@@ -221,7 +219,7 @@ pub fn patch_end(
         RawPatchEnd::Element => Ok(PatchEnd::Element),
         RawPatchEnd::Attribute(name) => {
             let uri = attr_uri(alloc, bindings, name, at + 1)?;
-            let local = text_of(alloc, name.local)?;
+            let local = Text::from(alloc, name.local)?;
             Ok(PatchEnd::Attribute { uri, local })
         }
         RawPatchEnd::Chars(position) => Ok(PatchEnd::Chars(*position)),

@@ -1,5 +1,5 @@
 //! Reading selectors.
-ghost use Rattle.std.specs.Prelude.{◌≡◌, ◌-◌, ◌<◌, ◌^◌, length, map, IfOk, chars, encode_utf8_all};
+ghost use Rattle.std.specs.Prelude.{◌≡◌, ◌-◌, length, map, IfOk, chars};
 ghost use Rattle.xml_tree.specs.Memory.{Answered};
 ghost use Rattle.node_select.specs.Faults.{IsPatchFormAnswer, IsPatchSelectorAnswer, IsSelectorAnswer, byte_of};
 ghost use Rattle.node_select.specs.readers.Raw.{HasRoom, first_unbound, first_unbound_in_patch, patch_selector_of, selector_of};
@@ -15,60 +15,40 @@ use crate::meaning::{Unresolved, end, patch_end, steps};
 use crate::raw::{RawPatchEnd, RawPatchSelector, RawSelector};
 use crate::selector::{PatchForm, PatchSelector, Selector};
 use std::alloc::{AllocError, Global};
-use tree_text::{Stop, decoded};
+use tree_text::{Stop, count, skip};
 use xml_tree::ReadError;
 
-// How many bytes characters take.
-#[tactic(auto, using(crate::proofs::Bytes::bytes_more))]
-fn byte_len(text: &[char]) -> usize
-    requires { length (encode_utf8_all text.now) < 2 ^ 64 }
-    ensures counts_the_bytes { result ≡ length (encode_utf8_all text.now) }
-{
-    let mut len = 0;
-    for &c in text {
-        len += c.len_utf8();
-    }
-    len
-}
-
 // The byte behind so many characters of a text.
-fn byte_of(text: &str, all: &[char], n: usize) -> usize
-    requires { all.now ≡ chars text.now }
+fn byte_of(text: &str, n: usize) -> usize
     ensures byte_behind_the_characters { result ≡ byte_of text.now n }
 {
-    let n = n.min(all.len());
-    text.len() - byte_len(&all[n..])
+    text.len().saturating_sub(skip(text, n).len())
+}
+
+// The byte of a text at which this rest of it begins.
+fn place(text: &str, rest: &str) -> usize
+    ensures byte_where_the_rest_begins { result ≡ byte_of text.now (length (chars text.now) - length (chars rest.now)) }
+{
+    byte_of(text, count(text).saturating_sub(count(rest)))
 }
 
 // Why a text hasn't the form of a selector.
-fn stopped(text: &str, all: &[char], stop: &Stop<'_>) -> ReadError<SelectorFault>
-    requires { all.now ≡ chars text.now }
+fn stopped(text: &str, stop: &Stop<'_>) -> ReadError<SelectorFault>
     ensures tells_of_the_stop { Tells text.now stop.now result }
 {
     match stop {
-        Stop::Syntax(rest) => ReadError::Fault(SelectorFault::BadSelector(byte_of(
-            text,
-            all,
-            all.len().saturating_sub(rest.len()),
-        ))),
-        Stop::Faulty(_, rest) => ReadError::Fault(SelectorFault::BadSelector(byte_of(
-            text,
-            all,
-            all.len().saturating_sub(rest.len()),
-        ))),
+        Stop::Syntax(rest) => ReadError::Fault(SelectorFault::BadSelector(place(text, rest))),
+        Stop::Faulty(_, rest) => ReadError::Fault(SelectorFault::BadSelector(place(text, rest))),
         Stop::Memory => ReadError::NoMemory,
     }
 }
 
 // Why the names of a selector can't be resolved.
-fn unresolved(text: &str, all: &[char], why: &Unresolved) -> ReadError<SelectorFault>
-    requires { all.now ≡ chars text.now }
+fn unresolved(text: &str, why: &Unresolved) -> ReadError<SelectorFault>
     ensures tells_of_the_name { TellsUnresolved text.now why.now result }
 {
     match why {
-        Unresolved::Prefix(n) => {
-            ReadError::Fault(SelectorFault::UnboundPrefix(byte_of(text, all, *n)))
-        }
+        Unresolved::Prefix(n) => ReadError::Fault(SelectorFault::UnboundPrefix(byte_of(text, *n))),
         Unresolved::Memory => ReadError::NoMemory,
     }
 }
@@ -114,11 +94,10 @@ fn selector_of_text(
 ) -> Result<Selector, ReadError<SelectorFault>>
     ensures selector_as_it_is_read { Answered (λ answer. answer ≡ selector_read bindings.now (chars default_uri.now) text.now) result }
 {
-    let all = decoded(alloc, text)?;
-    match raw_selector(alloc, &all) {
-        Err(stop) => Err(stopped(text, &all, &stop)),
+    match raw_selector(alloc, text) {
+        Err(stop) => Err(stopped(text, &stop)),
         Ok(raw) => match resolved(alloc, &raw, bindings, default_uri) {
-            Err(why) => Err(unresolved(text, &all, &why)),
+            Err(why) => Err(unresolved(text, &why)),
             Ok(selector) => Ok(selector),
         },
     }
@@ -133,11 +112,10 @@ fn patch_selector_of_text(
 ) -> Result<PatchSelector, ReadError<SelectorFault>>
     ensures patch_selector_as_it_is_read { Answered (λ answer. answer ≡ patch_selector_read bindings.now (chars default_uri.now) text.now) result }
 {
-    let all = decoded(alloc, text)?;
-    match raw_patch_selector(alloc, &all) {
-        Err(stop) => Err(stopped(text, &all, &stop)),
+    match raw_patch_selector(alloc, text) {
+        Err(stop) => Err(stopped(text, &stop)),
         Ok(raw) => match patch_resolved(alloc, &raw, bindings, default_uri) {
-            Err(why) => Err(unresolved(text, &all, &why)),
+            Err(why) => Err(unresolved(text, &why)),
             Ok(selector) => Ok(selector),
         },
     }
@@ -158,8 +136,7 @@ fn form_of(end: &RawPatchEnd<'_>) -> PatchForm
 fn form_of_text(alloc: Global, text: &str) -> Result<Option<PatchForm>, AllocError>
     ensures form_as_it_is_read { IfOk result (λ form. form ≡ patch_form_read text.now) }
 {
-    let all = decoded(alloc, text)?;
-    match raw_patch_selector(alloc, &all) {
+    match raw_patch_selector(alloc, text) {
         Ok(raw) => Ok(Some(form_of(&raw.end))),
         Err(Stop::Syntax(_)) => Ok(None),
         Err(Stop::Faulty(_, _)) => Ok(None),

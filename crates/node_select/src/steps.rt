@@ -1,5 +1,5 @@
 //! Steps of selectors, read from left to right.
-ghost use Rattle.std.specs.Prelude.{◌≡◌, ◌+◌, ◌<◌, ◌^◌, ◌++◌, ◌∷◌, map, Some, option_map, OnOk, Ok};
+ghost use Rattle.std.specs.Prelude.{◌≡◌, ◌<◌, ◌^◌, ◌++◌, [], ◌∷◌, chars, map, Some, option_map, OnOk, Ok};
 ghost use Rattle.grammar_rules.specs.Digits.{decimal_digits};
 ghost use Rattle.std.specs.Str.{bytes_eq};
 ghost use Rattle.grammar_rules.specs.Reading.{read_optional, read_sequence};
@@ -12,28 +12,24 @@ ghost use Rattle.node_select.specs.readers.Views.{follows_in, step_in, test_in};
 use crate::raw::{Form, RawStep, RawTest};
 use std::alloc::{AllocError, Global};
 use tree_text::{
-    Stop, Written, digits, no_text, qname, quote, raw_run, reference, reference_follows, starts,
-    word,
+    Stop, Written, count_before, digits, is_first, no_text, qname, quote, raw_run, reference,
+    reference_follows, split_first, starts, word,
 };
-use xml_tree::Text;
+use xml_tree::{Text, is_xmlns};
 
 /// The greatest position; a greater one is read as 0.
 const GREATEST_POSITION: u64 = 4_294_967_295;
 
 // A name, or none for `*`, and what follows it.
-fn node_name(text: &[char]) -> Result<(Option<Written<'_>>, &[char]), Stop<'_>>
-    ensures reads_a_name_or_a_star { Gives (λ x. (option_map name_in x.0, x.1.now)) result (read_node_name text.now) }
+fn node_name(text: &str) -> Result<(Option<Written<'_>>, &str), Stop<'_>>
+    ensures reads_a_name_or_a_star { Gives (λ x. (option_map name_in x.0, chars x.1.now)) result (read_node_name (chars text.now)) }
 {
-    match text {
-        ['*', ..] => {
-            let rest = word(text, &['*'])?;
-            Ok((None, rest))
-        }
-        _ => {
-            let (name, rest) = qname(text)?;
-            Ok((Some(name), rest))
-        }
+    if is_first(text, '*') {
+        let rest = word(text, &['*'])?;
+        return Ok((None, rest));
     }
+    let (name, rest) = qname(text)?;
+    Ok((Some(name), rest))
 }
 
 // What a digit is worth.
@@ -45,22 +41,24 @@ fn digit_value(c: char) -> u64
 }
 
 // The position that digits say.
-fn position_value(digits: &[char]) -> u64
-    ensures position_of_the_digits { result ≡ position_of digits.now }
+fn position_value(digits: &str) -> u64
+    ensures position_of_the_digits { result ≡ position_of (chars digits.now) }
 {
     let mut value = 0;
-    for &c in digits {
+    let mut rest = digits;
+    'each: while let Some((c, after)) = split_first(rest) {
         value = value * 10 + digit_value(c);
         if value > GREATEST_POSITION {
             return 0;
         }
+        rest = after;
     }
     value
 }
 
 /// A position in brackets, and what follows it.
-pub fn position(text: &[char]) -> Result<(u64, &[char]), Stop<'_>>
-    ensures reads_a_position { Gives (λ x. (x.0, x.1.now)) result (read_position text.now) }
+pub fn position(text: &str) -> Result<(u64, &str), Stop<'_>>
+    ensures reads_a_position { Gives (λ x. (x.0, chars x.1.now)) result (read_position (chars text.now)) }
 {
     let rest = word(text, &['['])?;
     let (digits, rest) = digits(rest)?;
@@ -69,19 +67,15 @@ pub fn position(text: &[char]) -> Result<(u64, &[char]), Stop<'_>>
 }
 
 // Whether a position follows.
-fn position_follows(text: &[char]) -> bool
-    ensures tells_whether_a_position_follows { result ≡ position_follows text.now }
+fn position_follows(text: &str) -> bool
+    ensures tells_whether_a_position_follows { result ≡ position_follows (chars text.now) }
 {
-    match text {
-        ['[', '@', ..] => false,
-        ['[', ..] => true,
-        _ => false,
-    }
+    is_first(text, '[') && !starts(text, &['[', '@'])
 }
 
 // A position, if one follows, and what follows it.
-fn optional_position(text: &[char]) -> Result<(Option<u64>, &[char]), Stop<'_>>
-    ensures reads_a_position_if_one_follows { Gives (λ x. (x.0, x.1.now)) result (read_optional position_follows read_position text.now) }
+fn optional_position(text: &str) -> Result<(Option<u64>, &str), Stop<'_>>
+    ensures reads_a_position_if_one_follows { Gives (λ x. (x.0, chars x.1.now)) result (read_optional position_follows read_position (chars text.now)) }
 {
     if !position_follows(text) {
         return Ok((None, text));
@@ -90,23 +84,26 @@ fn optional_position(text: &[char]) -> Result<(Option<u64>, &[char]), Stop<'_>>
     Ok((Some(position), rest))
 }
 
+// Whether a text has no characters.
+fn is_nothing(text: &str) -> bool
+    ensures tells_whether_it_has_none { result ≡ bytes_eq (chars text.now) [] }
+{
+    match split_first(text) {
+        Some(_) => false,
+        None => true,
+    }
+}
+
 // Whether it is a name that an attribute may have, and no declaration.
 fn names_attribute(name: &Written<'_>) -> bool
     ensures tells_whether_it_names_an_attribute { result ≡ names_attribute (name_in name.now) }
 {
-    !(same_chars(name.prefix, &[]) && same_chars(name.local, &['x', 'm', 'l', 'n', 's']))
-}
-
-// Whether two texts have the same characters.
-fn same_chars(a: &[char], b: &[char]) -> bool
-    ensures tells_equal_characters { result ≡ bytes_eq a.now b.now }
-{
-    a == b
+    !(is_nothing(name.prefix) && is_xmlns(name.local))
 }
 
 /// `@` and the name of an attribute, and what follows them.
-pub fn attribute(text: &[char]) -> Result<(Written<'_>, &[char]), Stop<'_>>
-    ensures reads_an_attribute { Gives (λ x. (name_in x.0, x.1.now)) result (read_attribute text.now) }
+pub fn attribute(text: &str) -> Result<(Written<'_>, &str), Stop<'_>>
+    ensures reads_an_attribute { Gives (λ x. (name_in x.0, chars x.1.now)) result (read_attribute (chars text.now)) }
 {
     let rest = word(text, &['@'])?;
     let (name, rest) = qname(rest)?;
@@ -116,31 +113,21 @@ pub fn attribute(text: &[char]) -> Result<(Written<'_>, &[char]), Stop<'_>>
     Ok((name, rest))
 }
 
-// Adds characters as they stand.
-fn push_all(value: &mut Text, chars: &[char]) -> Result<(), AllocError>
-    ensures adds_all_characters { OnOk result (value.new ≡ value.old ++ chars.now) }
-{
-    for &c in chars {
-        value.push(c)?;
-    }
-    Ok(())
-}
-
 // Adds a character from a reference, and the raw characters behind it.
-fn push_piece(value: &mut Text, c: char, run: &[char]) -> Result<(), AllocError>
-    ensures adds_the_piece { OnOk result (value.new ≡ value.old ++ (c ∷ run.now)) }
+fn push_piece(value: &mut Text, c: char, run: &str) -> Result<(), AllocError>
+    ensures adds_the_piece { OnOk result (value.new ≡ value.old ++ (c ∷ chars run.now)) }
 {
     value.push(c)?;
-    push_all(value, run)
+    value.push_str(run)
 }
 
 // A value up to its quote, and what follows it.
-fn inside_quotes(alloc: Global, text: &[char], quote: char) -> Result<(Text, &[char]), Stop<'_>>
-    ensures reads_up_to_the_quote { Gives (λ x. (x.0, x.1.now)) result (read_inside_quotes quote text.now) }
+fn inside_quotes(alloc: Global, text: &str, quote: char) -> Result<(Text, &str), Stop<'_>>
+    ensures reads_up_to_the_quote { Gives (λ x. (x.0, chars x.1.now)) result (read_inside_quotes quote (chars text.now)) }
 {
     let mut value = no_text(alloc);
     let (first, start) = raw_run(text, quote);
-    push_all(&mut value, first)?;
+    value.push_str(first)?;
     let mut rest = start;
     for _ in 0..start.len() {
         if !reference_follows(rest) {
@@ -155,8 +142,8 @@ fn inside_quotes(alloc: Global, text: &[char], quote: char) -> Result<(Text, &[c
 }
 
 // A value in quotes, and what follows it.
-fn value(alloc: Global, text: &[char]) -> Result<(Text, &[char]), Stop<'_>>
-    ensures reads_a_value { Gives (λ x. (x.0, x.1.now)) result (read_value text.now) }
+fn value(alloc: Global, text: &str) -> Result<(Text, &str), Stop<'_>>
+    ensures reads_a_value { Gives (λ x. (x.0, chars x.1.now)) result (read_value (chars text.now)) }
 {
     let (quote, rest) = quote(text)?;
     let (value, rest) = inside_quotes(alloc, rest, quote)?;
@@ -165,8 +152,8 @@ fn value(alloc: Global, text: &[char]) -> Result<(Text, &[char]), Stop<'_>>
 }
 
 // A test in brackets, and what follows it.
-fn test(alloc: Global, text: &[char]) -> Result<(RawTest<'_>, &[char]), Stop<'_>>
-    ensures reads_a_test { Gives (λ x. (test_in x.0, x.1.now)) result (read_test text.now) }
+fn test(alloc: Global, text: &str) -> Result<(RawTest<'_>, &str), Stop<'_>>
+    ensures reads_a_test { Gives (λ x. (test_in x.0, chars x.1.now)) result (read_test (chars text.now)) }
 {
     let rest = word(text, &['['])?;
     let (name, rest) = attribute(rest)?;
@@ -177,15 +164,15 @@ fn test(alloc: Global, text: &[char]) -> Result<(RawTest<'_>, &[char]), Stop<'_>
 }
 
 /// Whether a bracket follows.
-pub fn test_follows(text: &[char]) -> bool
-    ensures tells_whether_a_test_follows { result ≡ test_follows text.now }
+pub fn test_follows(text: &str) -> bool
+    ensures tells_whether_a_test_follows { result ≡ test_follows (chars text.now) }
 {
-    matches!(text, ['[', ..])
+    is_first(text, '[')
 }
 
 // A test, if one follows, and what follows it.
-fn optional_test(alloc: Global, text: &[char]) -> Result<(Option<RawTest<'_>>, &[char]), Stop<'_>>
-    ensures reads_a_test_if_it_follows { Gives (λ x. (option_map test_in x.0, x.1.now)) result (read_optional test_follows read_test text.now) }
+fn optional_test(alloc: Global, text: &str) -> Result<(Option<RawTest<'_>>, &str), Stop<'_>>
+    ensures reads_a_test_if_it_follows { Gives (λ x. (option_map test_in x.0, chars x.1.now)) result (read_optional test_follows read_test (chars text.now)) }
 {
     if !test_follows(text) {
         return Ok((None, text));
@@ -195,8 +182,8 @@ fn optional_test(alloc: Global, text: &[char]) -> Result<(Option<RawTest<'_>>, &
 }
 
 // The name and the position of a step, and what follows them.
-fn front(text: &[char]) -> Result<(Option<Written<'_>>, Option<u64>, &[char]), Stop<'_>>
-    ensures reads_the_front_of_a_step { Gives (λ x. ((option_map name_in x.0, x.1), x.2.now)) result (read_sequence read_node_name (λ _. read_optional position_follows read_position) text.now) }
+fn front(text: &str) -> Result<(Option<Written<'_>>, Option<u64>, &str), Stop<'_>>
+    ensures reads_the_front_of_a_step { Gives (λ x. ((option_map name_in x.0, x.1), chars x.2.now)) result (read_sequence read_node_name (λ _. read_optional position_follows read_position) (chars text.now)) }
 {
     let (name, rest) = node_name(text)?;
     let (position, rest) = optional_position(rest)?;
@@ -204,32 +191,34 @@ fn front(text: &[char]) -> Result<(Option<Written<'_>>, Option<u64>, &[char]), S
 }
 
 // A step, and what follows it.
-fn step(alloc: Global, text: &[char]) -> Result<(RawStep<'_>, &[char]), Stop<'_>>
-    ensures reads_a_step { Gives (λ x. (step_in x.0, x.1.now)) result (read_step text.now) }
+fn step(alloc: Global, text: &str) -> Result<(RawStep<'_>, &str), Stop<'_>>
+    ensures reads_a_step { Gives (λ x. (step_in x.0, chars x.1.now)) result (read_step (chars text.now)) }
 {
     let (name, position, behind) = front(text)?;
     let (test, rest) = optional_test(alloc, behind)?;
+    let front = count_before(text, behind);
+    let size = count_before(text, rest);
     let step = RawStep {
         name,
         position,
-        front: text.len().saturating_sub(behind.len()),
+        front,
         test,
-        size: text.len().saturating_sub(rest.len()),
+        size,
     };
     Ok((step, rest))
 }
 
 // A step behind a slash, and what follows it.
-fn next_step(alloc: Global, text: &[char]) -> Result<(RawStep<'_>, &[char]), Stop<'_>>
-    ensures reads_the_next_step { Gives (λ x. (step_in x.0, x.1.now)) result (read_next_step text.now) }
+fn next_step(alloc: Global, text: &str) -> Result<(RawStep<'_>, &str), Stop<'_>>
+    ensures reads_the_next_step { Gives (λ x. (step_in x.0, chars x.1.now)) result (read_next_step (chars text.now)) }
 {
     let rest = word(text, &['/'])?;
     step(alloc, rest)
 }
 
 // Whether another step follows.
-fn step_follows(text: &[char], form: Form) -> bool
-    ensures tells_whether_a_step_follows { result ≡ follows_in form text.now }
+fn step_follows(text: &str, form: Form) -> bool
+    ensures tells_whether_a_step_follows { result ≡ follows_in form (chars text.now) }
 {
     match form {
         Form::Node => node_step_follows(text),
@@ -238,15 +227,15 @@ fn step_follows(text: &[char], form: Form) -> bool
 }
 
 /// Whether a slash follows.
-pub fn slash_follows(text: &[char]) -> bool
-    ensures tells_whether_a_slash_follows { result ≡ slash_follows text.now }
+pub fn slash_follows(text: &str) -> bool
+    ensures tells_whether_a_slash_follows { result ≡ slash_follows (chars text.now) }
 {
-    matches!(text, ['/', ..])
+    is_first(text, '/')
 }
 
 // Whether a slash and another step follow, and no end of a selector.
-fn node_step_follows(text: &[char]) -> bool
-    ensures tells_whether_a_node_step_follows { result ≡ follows_in Form.Node text.now }
+fn node_step_follows(text: &str) -> bool
+    ensures tells_whether_a_node_step_follows { result ≡ follows_in Form.Node (chars text.now) }
 {
     slash_follows(text)
         && !(starts(text, &['/', '@'])
@@ -257,20 +246,16 @@ fn node_step_follows(text: &[char]) -> bool
 }
 
 // Whether a slash and another step follow, and no end of a patch's selector.
-fn patch_step_follows(text: &[char]) -> bool
-    ensures tells_whether_a_patch_step_follows { result ≡ follows_in Form.Patch text.now }
+fn patch_step_follows(text: &str) -> bool
+    ensures tells_whether_a_patch_step_follows { result ≡ follows_in Form.Patch (chars text.now) }
 {
     slash_follows(text)
         && !(starts(text, &['/', '@']) || starts(text, &['/', 't', 'e', 'x', 't', '(']))
 }
 
 /// Steps, and what follows them.
-pub fn steps(
-    alloc: Global,
-    text: &[char],
-    form: Form,
-) -> Result<(Vec<RawStep<'_>>, &[char]), Stop<'_>>
-    ensures reads_the_steps { Gives (λ x. (map step_in x.0.items, x.1.now)) result (read_steps (follows_in form) text.now) }
+pub fn steps(alloc: Global, text: &str, form: Form) -> Result<(Vec<RawStep<'_>>, &str), Stop<'_>>
+    ensures reads_the_steps { Gives (λ x. (map step_in x.0.items, chars x.1.now)) result (read_steps (follows_in form) (chars text.now)) }
 {
     let mut steps = Vec::new(alloc);
     let (first, start) = step(alloc, text)?;

@@ -1,5 +1,5 @@
 -- An element is read: its tag, and what stands behind it.
-use Rattle.std.proofs.Common.{◌≡◌, ℕ, suc, ◌+◌, Bool, true, false, cond, ◌||◌, List, [], ◌∷◌, ◌++◌, length, Result, Ok, Err, refl, sym, subst, ap, ◌∙◌, arith}
+use Rattle.std.proofs.Common.{◌≡◌, ℕ, suc, ◌+◌, Bool, true, false, cond, ◌||◌, List, [], ◌∷◌, ◌++◌, length, chars, encode_utf8_all, Result, Ok, Err, refl, sym, subst, ap, ◌∙◌, arith}
 use Rattle.std.proofs.lemmas.List.{same_from_push}
 use Rattle.std.specs.Prelude.{nat_eq, ◌==◌}
 use Rattle.grammar_rules.specs.Reading.{Reader, Stop, Syntax, Faulty, ◌>>=◌, head_is, starts, judgement, read_judged, read_at_most, read_many, read_valued}
@@ -31,7 +31,7 @@ module _ (inner : Reader Kind Tree) (e : Tree) (empty : e.content ≡ last []) w
   pieces_onto cs (Err s) = refl
 
   -- behind the first characters, with as many pieces at most as there are characters
-  pub begins : (text left : List ℕ) (made : Tree) (most : ℕ) → most ≡ length left → read_chars_onto e text ≡ Ok (made, left) → read_filled e inner text ≡ finish tree_with made (read_at_most markup_follows (read_member inner) most left)
+  pub begins : (text left : List ℕ) (made : Tree) (most : ℕ) → most ≡ length (encode_utf8_all left) → read_chars_onto e text ≡ Ok (made, left) → read_filled e inner text ≡ finish tree_with made (read_at_most markup_follows (read_member inner) most left)
   begins text left made most all h =
       let v = valued_ok (with_chars e) (read_chars text) made left h in
       ap (λ (r : Result (Content × List ℕ) (Stop Kind)). r >>= λ x. let z : Tree × List ℕ = (filled e x.0, x.1) in Ok z) (start markup_follows read_chars (read_markup inner) (λ x. with_pieces (last x.0) x.1) text left v.value v.read)
@@ -115,24 +115,24 @@ module _ (levels i depth : ℕ) (scope here : List (List Decl)) (decls : List De
 
   pub element_err : (e0 : Tree) (s : CodeStop) → Fails s (read_filled_behind e0 (read_element i here (depth + 1)) t.name t.is_empty left) → Fails s (read_element levels scope depth text)
   element_err e0 stops.Memory h = tt
-  element_err e0 (stops.Syntax rest) h = step (Err (Syntax rest.now)) (valued_err (filled e0) behind (Syntax rest.now) h)
-  element_err e0 (stops.Faulty kind rest) h = step (Err (Faulty kind rest.now)) (valued_err (filled e0) behind (Faulty kind rest.now) h)
+  element_err e0 (stops.Syntax rest) h = step (Err (Syntax (chars rest.now))) (valued_err (filled e0) behind (Syntax (chars rest.now)) h)
+  element_err e0 (stops.Faulty kind rest) h = step (Err (Faulty kind (chars rest.now))) (valued_err (filled e0) behind (Faulty kind (chars rest.now)) h)
 
 tag_by : (levels i depth : ℕ) (scope : List (List Decl)) (text : List ℕ) (s : Stop Kind) → levels ≡ i + 1 → read_judged (tag_fault scope) read_tag text ≡ Err s → read_element levels scope depth text ≡ Err s
 tag_by levels i depth scope text s level h = let up : levels ≡ suc i = omega arith in rw up (rw h refl)
 
 pub tag_err : (levels i depth : ℕ) (scope : List (List Decl)) (text : List ℕ) (s : CodeStop) → levels ≡ i + 1 → Fails s (read_judged (tag_fault scope) read_tag text) → Fails s (read_element levels scope depth text)
 tag_err levels i depth scope text stops.Memory level h = tt
-tag_err levels i depth scope text (stops.Syntax rest) level h = tag_by levels i depth scope text (Syntax rest.now) level h
-tag_err levels i depth scope text (stops.Faulty kind rest) level h = tag_by levels i depth scope text (Faulty kind rest.now) level h
+tag_err levels i depth scope text (stops.Syntax rest) level h = tag_by levels i depth scope text (Syntax (chars rest.now)) level h
+tag_err levels i depth scope text (stops.Faulty kind rest) level h = tag_by levels i depth scope text (Faulty kind (chars rest.now)) level h
 
 untagged_by : (levels i depth : ℕ) (scope : List (List Decl)) (text : List ℕ) (s : Stop Kind) → levels ≡ i + 1 → read_tag text ≡ Err s → read_element levels scope depth text ≡ Err s
 untagged_by levels i depth scope text s level h = tag_by levels i depth scope text s level (ap (λ (r : Result (StartTag × List ℕ) (Stop Kind)). r >>= λ x. judgement text x (tag_fault scope x.0)) h)
 
 pub untagged : (levels i depth : ℕ) (scope : List (List Decl)) (text : List ℕ) (s : CodeStop) → levels ≡ i + 1 → Fails s (read_tag text) → Fails s (read_element levels scope depth text)
 untagged levels i depth scope text stops.Memory level h = tt
-untagged levels i depth scope text (stops.Syntax rest) level h = untagged_by levels i depth scope text (Syntax rest.now) level h
-untagged levels i depth scope text (stops.Faulty kind rest) level h = untagged_by levels i depth scope text (Faulty kind rest.now) level h
+untagged levels i depth scope text (stops.Syntax rest) level h = untagged_by levels i depth scope text (Syntax (chars rest.now)) level h
+untagged levels i depth scope text (stops.Faulty kind rest) level h = untagged_by levels i depth scope text (Faulty kind (chars rest.now)) level h
 
 -- where a level is left
 pub level_ok : (levels i depth : ℕ) (scope : List (List Decl)) (text rest : List ℕ) (e : Tree) → levels ≡ i + 1 → read_element (i + 1) scope depth text ≡ Ok (e, rest) → read_element levels scope depth text ≡ Ok (e, rest)

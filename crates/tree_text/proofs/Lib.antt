@@ -1,4 +1,7 @@
 pub mod RunLemmas
+pub mod TextBytes
+pub mod FirstRuns
+pub mod WordLoops
 pub mod Loops
 pub mod Shrinks
 pub mod NameLemmas
@@ -15,11 +18,11 @@ pub mod Answering
 pub mod RawLetters
 pub mod PlainRuns
 pub mod PlainFronts
-pub mod PlainNames
 pub mod EscapeLemmas
 pub mod PrintLemmas
 pub mod JudgeTags
 pub mod ReadParts
+pub mod TagSizes
 pub mod ReadTexts
 pub mod ReadElements
 pub mod ReadDocuments

@@ -1,5 +1,5 @@
 -- A loop over members reads them all: what it has made of those that it has read, and the members that are left to read.
-use Rattle.std.proofs.Common.{◌≡◌, ℕ, zero, suc, ◌+◌, ◌-◌, ◌<◌, ◌≤◌, Bool, true, false, List, [], ◌∷◌, Result, Ok, Err, refl, ap, ◌∙◌, arith}
+use Rattle.std.proofs.Common.{◌≡◌, ℕ, zero, suc, ◌+◌, ◌-◌, ◌<◌, ◌≤◌, Bool, true, false, List, [], ◌∷◌, Result, Ok, Err, chars, refl, ap, ◌∙◌, arith}
 use Rattle.grammar_rules.specs.Reading.{Stop, Syntax, Faulty, Reader, ◌>>=◌, read_sequence, read_valued, read_at_most, read_many, read_between}
 use Rattle.tree_text.specs.declared.kind.Kind.{Kind}
 use Rattle.tree_text.specs.declared.stop.Stop.{Stop as CodeStop}
@@ -57,8 +57,8 @@ module _ {A S B : Type 0} (test : List ℕ → Bool) (p : Reader Kind A) (F : S 
   -- a member that isn't read
   pub ends : (e : CodeStop) (s : S) (count i : ℕ) (rest : List ℕ) (total : Result (B × List ℕ) (Stop Kind)) → i < count → test rest ≡ true → Fails e (p rest) → total ≡ finish F s (read_at_most test p (count - i) rest) → Fails e total
   ends stops.Memory s count i rest total lt b h so_far = tt
-  ends (stops.Syntax left) s count i rest total lt b h so_far = so_far ∙ stopped s rest (count - i) (count - (i + 1)) (Syntax left.now) (omega arith) b h
-  ends (stops.Faulty kind left) s count i rest total lt b h so_far = so_far ∙ stopped s rest (count - i) (count - (i + 1)) (Faulty kind left.now) (omega arith) b h
+  ends (stops.Syntax left) s count i rest total lt b h so_far = so_far ∙ stopped s rest (count - i) (count - (i + 1)) (Syntax (chars left.now)) (omega arith) b h
+  ends (stops.Faulty kind left) s count i rest total lt b h so_far = so_far ∙ stopped s rest (count - i) (count - (i + 1)) (Faulty kind (chars left.now)) (omega arith) b h
 
   -- no member more
   pub is_done : (s : S) (count i : ℕ) (rest : List ℕ) (total : Result (B × List ℕ) (Stop Kind)) → count ≤ i → total ≡ finish F s (read_at_most test p (count - i) rest) → total ≡ Ok (F s [], rest)
@@ -70,8 +70,8 @@ module _ {A S B : Type 0} (test : List ℕ → Bool) (p : Reader Kind A) (F : S 
 -- a sequence whose first part isn't read
 pub first_stops : {A B : Type 0} (p : Reader Kind A) (q : A → Reader Kind B) (text : List ℕ) (e : CodeStop) → Fails e (p text) → Fails e (read_sequence p q text)
 first_stops p q text stops.Memory h = tt
-first_stops p q text (stops.Syntax left) h = first_fails p q text (Syntax left.now) h
-first_stops p q text (stops.Faulty kind left) h = first_fails p q text (Faulty kind left.now) h
+first_stops p q text (stops.Syntax left) h = first_fails p q text (Syntax (chars left.now)) h
+first_stops p q text (stops.Faulty kind left) h = first_fails p q text (Faulty kind (chars left.now)) h
 
 -- what is read and dropped
 pub dropped_ok : {A : Type 0} (p : Reader Kind A) (text rest : List ℕ) (a : A) → p text ≡ Ok (a, rest) → read_dropped p text ≡ Ok (tt, rest)
@@ -105,5 +105,5 @@ valued_stops {A} {B} f p text (stops.Faulty kind left) h = ap (λ (r : Result (A
 
 pub valued_fails : {A B : Type 0} (f : A → B) (p : Reader Kind A) (text : List ℕ) (e : CodeStop) → Fails e (read_valued f p text) → Fails e (p text)
 valued_fails f p text stops.Memory h = tt
-valued_fails f p text (stops.Syntax left) h = valued_err f (p text) (Syntax left.now) h
-valued_fails f p text (stops.Faulty kind left) h = valued_err f (p text) (Faulty kind left.now) h
+valued_fails f p text (stops.Syntax left) h = valued_err f (p text) (Syntax (chars left.now)) h
+valued_fails f p text (stops.Faulty kind left) h = valued_err f (p text) (Faulty kind (chars left.now)) h

@@ -1,5 +1,5 @@
 -- Names as they are written, with a prefix or without.
-use Rattle.std.proofs.Common.{◌≡◌, ℕ, ◌+◌, ◌<◌, Bool, true, false, cond, List, [], ◌∷◌, ◌++◌, length, Result, Err, refl, ap, ◌∙◌, arith}
+use Rattle.std.proofs.Common.{◌≡◌, ℕ, ◌+◌, ◌<◌, ◌≤◌, Bool, true, false, cond, List, [], ◌∷◌, ◌++◌, length, Result, Err, refl, ap, ◌∙◌, arith}
 use Rattle.std.specs.Prelude.{nat_eq}
 use Rattle.std.proofs.lemmas.List.{length-append}
 use Rattle.grammar_rules.specs.Reading.{Stop, Syntax, ◌>>=◌, read_word}
@@ -14,6 +14,15 @@ prefixed (c ∷ cs) l h = refl
 pub prefixed_size : (p l : List ℕ) → 0 < length p → length (written_by p l) ≡ length p + 1 + length l
 prefixed_size [] l h = absurd (omega arith)
 prefixed_size (c ∷ cs) l h = omega (arith, length-append cs (58 ∷ l))
+
+pub bare_size : (p l : List ℕ) → length p ≡ 0 → length (written_by p l) ≡ length l
+bare_size [] l h = refl
+bare_size (c ∷ cs) l h = absurd (omega (arith, h))
+
+-- its parts are no longer than it
+pub parts_size : (p l : List ℕ) → length p + length l ≤ length (written_by p l)
+parts_size [] l = omega arith
+parts_size (c ∷ cs) l = omega (arith, prefixed_size (c ∷ cs) l (omega arith))
 
 -- a word in two parts
 cond_then : (b : Bool) (p : Result (Unit {0} × List ℕ) (Stop Kind)) (e : Stop Kind) (f : Unit {0} × List ℕ → Result (Unit {0} × List ℕ) (Stop Kind)) → cond b (p >>= f) (Err e) ≡ cond b p (Err e) >>= f

@@ -310,7 +310,7 @@ module _ (limit : ℕ) where
 
     -- and an instruction of that name stops behind it
     stops_at : (c : ℕ) (x : List ℕ) → (c ≡ 32) ⊎ ((c ≡ 9) ⊎ ((c ≡ 10) ⊎ (c ≡ 13))) → read_rooted (60 ∷ 63 ∷ 120 ∷ 109 ∷ 108 ∷ c ∷ x) ≡ Err (Syntax (c ∷ x))
-    unfolding read_rooted
+    unfolding read_rooted lib.Utf8.encode
     stops_at c x (inl e) = subst (λ (z : ℕ). read_rooted (60 ∷ 63 ∷ 120 ∷ 109 ∷ 108 ∷ z ∷ x) ≡ Err (Syntax (z ∷ x))) (sym e) refl
     stops_at c x (inr (inl e)) = subst (λ (z : ℕ). read_rooted (60 ∷ 63 ∷ 120 ∷ 109 ∷ 108 ∷ z ∷ x) ≡ Err (Syntax (z ∷ x))) (sym e) refl
     stops_at c x (inr (inr (inl e))) = subst (λ (z : ℕ). read_rooted (60 ∷ 63 ∷ 120 ∷ 109 ∷ 108 ∷ z ∷ x) ≡ Err (Syntax (z ∷ x))) (sym e) refl

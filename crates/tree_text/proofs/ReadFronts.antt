@@ -1,5 +1,6 @@
 -- What reading functions give on texts that begin with what their rules spell.
-use Rattle.std.proofs.Common.{◌≡◌, ℕ, zero, suc, ◌-◌, ◌<◌, ◌≤◌, Bool, true, false, List, [], ◌∷◌, ◌++◌, drop, length, Result, Ok, refl, sym, ap, subst, ◌∙◌, eq-eqb, length-append, arith}
+use Rattle.std.proofs.Common.{◌≡◌, ℕ, zero, suc, ◌-◌, ◌<◌, ◌≤◌, Bool, true, false, List, [], ◌∷◌, ◌++◌, length, Result, Ok, refl, sym, ap, subst, ◌∙◌, eq-eqb, length-append, encode_utf8_all, arith}
+use Rattle.std.proofs.lemmas.Str.{length-le-encodes}
 use Rattle.std.specs.Prelude.{nat_eq, Option, None}
 use Rattle.grammar_rules.specs.Rules.{AllPass}
 use Rattle.grammar_rules.specs.Reading.{Stop, Reader, ◌>>=◌, head_is, read_one, read_word, read_run, read_sequence, read_either, read_at_most, read_many, read_valued, read_sized, read_atomic, read_judged, read_between, read_name_of, read_before, read_behind, read_quoted}
@@ -47,8 +48,8 @@ word_read : (w rest : List ℕ) → read_word {Kind = Kind} w (w ++ rest) ≡ Ok
 word_read [] rest = refl
 word_read (c ∷ cs) rest = let e : nat_eq c c ≡ true = eq-eqb c c refl in rw e (word_read cs rest)
 
-pub word_found : (w text : List ℕ) → text ≡ w ++ drop (length w) text → read_word {Kind = Kind} w text ≡ Ok (tt, drop (length w) text)
-word_found w text whole = ap (read_word w) whole ∙ word_read w (drop (length w) text)
+pub word_before : (w text rest : List ℕ) → text ≡ w ++ rest → read_word {Kind = Kind} w text ≡ Ok (tt, rest)
+word_before w text rest whole = ap (read_word w) whole ∙ word_read w rest
 
 pub reads_word : (w rest : List ℕ) → Reads (read_word w) (w ++ rest) tt rest
 reads_word w rest = record { read = word_read w rest }
@@ -90,7 +91,7 @@ all_read {A} test p (x ∷ xs) (suc n) text tail le h =
     rw h.1 (rw h.2.read (rw more refl))
 
 pub reads_many : {A : Type 0} (test : List ℕ → Bool) (p : Reader Kind A) (xs : List A) (text tail : List ℕ) → AllRead test p xs text tail → Reads (read_many test p) text xs tail
-reads_many test p xs text tail h = record { read = all_read test p xs (length text) text tail (omega arith) h }
+reads_many test p xs text tail h = record { read = all_read test p xs (length (encode_utf8_all text)) text tail (length-le-encodes text) h }
 
 -- members between gaps
 pub record AreBetween {A B : Type 0} (test : List ℕ → Bool) (gap : Reader Kind A) (member : Reader Kind B) (text : List ℕ) (x : A) (xs : List (B × A)) (tail : List ℕ) : Type 0 where

@@ -1,26 +1,20 @@
--- Attributes and tags: what is left behind them, and how many characters they take.
-use Rattle.std.proofs.Common.{◌≡◌, ℕ, ◌+◌, ◌≤◌, List, [], ◌∷◌, ◌++◌, length, Ok, arith}
+-- Names and references: what is left behind them.
+use Rattle.std.proofs.Common.{ℕ, List, [], ◌∷◌}
 use Rattle.std.specs.Prelude.{◌==◌}
 use Rattle.grammar_rules.specs.Reading.{head_is, starts}
 use Rattle.tree_text.specs.readers.Words.{ampersand, semicolon, hash, small_x, amp, lt, gt, quot, apos}
 use Rattle.grammar_rules.specs.Digits.{decimal_digits, hexadecimal}
-use Rattle.xml_tree.specs.Characters.{is_char, is_space, is_name_start, is_name_char}
-use Rattle.xml_tree.specs.declared.names.Name.{Name}
-use Rattle.tree_text.specs.declared.said.Said.{Said}
-use Rattle.tree_text.specs.Grammar.{last_char, is_quote, is_raw_in}
-use Rattle.tree_text.specs.Names.{widths}
-use Rattle.tree_text.specs.Pieces.{qname_of, value_spelled as value_of}
-use Rattle.tree_text.specs.readers.Texts.{colon_follows, reference_follows, read_name, read_qname, read_equals, read_stands_for, read_entity, read_numbered, read_reference, read_value, read_attribute}
-use Rattle.tree_text.proofs.Shrinks.{Shrinks, ok_small, shrinks_one, shrinks_word, shrinks_run, shrinks_number, shrinks_empty, shrinks_sequence, shrinks_valued, shrinks_either, shrinks_many}
+use Rattle.xml_tree.specs.Characters.{is_char, is_name_start, is_name_char}
+use Rattle.tree_text.specs.Grammar.{last_char}
+use Rattle.tree_text.specs.Pieces.{qname_of}
+use Rattle.tree_text.specs.readers.Texts.{colon_follows, read_name, read_qname, read_stands_for, read_entity, read_numbered, read_reference}
+use Rattle.tree_text.proofs.Shrinks.{Shrinks, shrinks_one, shrinks_word, shrinks_run, shrinks_number, shrinks_empty, shrinks_sequence, shrinks_valued, shrinks_either}
 
 shrinks_name : Shrinks read_name
 shrinks_name = shrinks_valued (λ x. x.0 ∷ x.1) (shrinks_sequence (shrinks_one is_name_start) (λ _. shrinks_run is_name_char))
 
 pub shrinks_qname : Shrinks read_qname
 shrinks_qname = shrinks_valued qname_of (shrinks_sequence shrinks_name (λ _. shrinks_either colon_follows (shrinks_valued _ (shrinks_valued (λ x. x.1) (shrinks_sequence (shrinks_word (58 ∷ [])) (λ _. shrinks_name)))) (shrinks_empty _)))
-
-shrinks_equals : Shrinks read_equals
-shrinks_equals = shrinks_valued (λ x. x.1) (shrinks_sequence (shrinks_run is_space) (λ _. shrinks_valued (λ x. x.1) (shrinks_sequence (shrinks_word (61 ∷ [])) (λ _. shrinks_run is_space))))
 
 shrinks_stands : (c : ℕ) (w : List ℕ) → Shrinks (read_stands_for c w)
 shrinks_stands c w = shrinks_valued (λ _. c) (shrinks_word w)
@@ -39,16 +33,3 @@ shrinks_numbered = shrinks_valued (λ x. x.1) (shrinks_sequence (shrinks_word ha
 pub shrinks_reference : Shrinks read_reference
 shrinks_reference = shrinks_valued (λ x. x.1) (shrinks_sequence (shrinks_word ampersand) (λ _.
     shrinks_valued (λ x. x.0) (shrinks_sequence (shrinks_either (head_is (λ c. c == 35)) shrinks_numbered shrinks_entity) (λ _. shrinks_word semicolon))))
-
-shrinks_value : (q : ℕ) → Shrinks (read_value q)
-shrinks_value q = shrinks_valued value_of (shrinks_sequence (shrinks_run (is_raw_in q)) (λ _. shrinks_many reference_follows (shrinks_sequence shrinks_reference (λ _. shrinks_run (is_raw_in q)))))
-
-shrinks_attribute : Shrinks read_attribute
-shrinks_attribute = shrinks_sequence shrinks_qname (λ _. shrinks_valued (λ x. x.1) (shrinks_sequence shrinks_equals (λ _. shrinks_valued (λ x. x.1) (shrinks_sequence (shrinks_one is_quote) (λ q. shrinks_valued (λ x. x.0) (shrinks_sequence (shrinks_value q) (λ _. shrinks_word (q ∷ []))))))))
-
-pub attribute_small : (text left : List ℕ) (a : Name × List ℕ) → read_attribute text ≡ Ok (a, left) → length left ≤ length text
-attribute_small text left a h = ok_small shrinks_attribute text (a, left) h
-
-pub widths-append : (front : List Said) (s : Said) → widths (front ++ s ∷ []) ≡ widths front + (s.gap + s.size)
-widths-append [] s = omega arith
-widths-append (x ∷ xs) s = omega (arith, widths-append xs s)

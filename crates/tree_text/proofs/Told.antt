@@ -43,8 +43,8 @@ module _ (limit : ℕ) (scope : List (List Decl)) (bytes text all : List ℕ) (s
   Tells error = let answer : Result Tree (ReadError TextFault) = Err error in Answered (λ answer. answer ≡ text_read limit scope bytes) answer
 
   pub fault_told : (stop : CodeStop) (error : ReadError TextFault) → Fails stop (read_whole (read_text limit scope) all) → FaultOf bytes stop error → Tells error
-  fault_told (stops.Syntax rest) error h f = subst Tells (sym f) (sym (is_read (Err (Syntax rest.now)) h))
-  fault_told (stops.Faulty kind rest) error h f = subst Tells (sym f) (sym (is_read (Err (Faulty kind rest.now)) h))
+  fault_told (stops.Syntax rest) error h f = subst Tells (sym f) (sym (is_read (Err (Syntax (chars rest.now))) h))
+  fault_told (stops.Faulty kind rest) error h f = subst Tells (sym f) (sym (is_read (Err (Faulty kind (chars rest.now))) h))
   fault_told stops.Memory error h f = subst Tells (sym f) tt
 
 -- ---- bodies
@@ -75,6 +75,6 @@ module _ (bytes text all part : List ℕ) (behind : ℕ) (same : text ≡ bytes)
   no_value left error f = f ∙ ap (λ (n : ℕ). let z : ReadError ValueFault = errors.Fault (bodies.NotValue n) in z) (at_place left)
 
   pub body_fault_told : (stop : CodeStop) (error : ReadError ValueFault) → Fails stop (read_whole read_spelling part) → BodyFaultOf bytes behind stop error → BodyTells error
-  body_fault_told (stops.Syntax left) error h f = subst BodyTells (sym (no_value left.now error f)) (sym (body_is_read (Err (Syntax left.now)) h))
-  body_fault_told (stops.Faulty kind left) error h f = subst BodyTells (sym (no_value left.now error f)) (sym (body_is_read (Err (Faulty kind left.now)) h))
+  body_fault_told (stops.Syntax left) error h f = subst BodyTells (sym (no_value (chars left.now) error f)) (sym (body_is_read (Err (Syntax (chars left.now))) h))
+  body_fault_told (stops.Faulty kind left) error h f = subst BodyTells (sym (no_value (chars left.now) error f)) (sym (body_is_read (Err (Faulty kind (chars left.now))) h))
   body_fault_told stops.Memory error h f = subst BodyTells (sym f) tt

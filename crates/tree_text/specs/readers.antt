@@ -1,6 +1,7 @@
 -- How texts are read from left to right: what the code and the proofs speak of. No clause of a public call needs it: what reading answers is
 -- what the grammar says of the bytes (`TextAnswer`, `BodyAnswer`).
 pub mod Bindings
+pub mod Ends
 pub mod Gives
 pub mod Judging
 pub mod Made

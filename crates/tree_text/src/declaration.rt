@@ -1,16 +1,18 @@
 //! The XML declaration and the byte order mark, which may stand before everything else.
-ghost use Rattle.std.specs.Prelude.{◌≡◌, true, false, option_map, Ok};
+ghost use Rattle.std.specs.Prelude.{◌≡◌, true, false, chars, option_map, Ok};
 ghost use Rattle.std.specs.Char.{is_ascii_alphabetic};
 ghost use Rattle.tree_text.specs.readers.Gives.{Gives};
 ghost use Rattle.tree_text.specs.Grammar.{is_encoding_char, is_our_encoding};
 ghost use Rattle.tree_text.specs.readers.Texts.{letter_follows, read_version_number, read_encoding_name, read_yes_or_no, read_version, read_encoding, read_standalone, read_encoding_if, read_standalone_if, read_xml_declaration, declaration_follows, read_declaration, read_declaration_if, read_mark_if};
-ghost use Rattle.tree_text.specs.readers.Runs.{run_len};
+ghost use Rattle.grammar_rules.specs.Reading.{head_is};
 
+use crate::classes::{Class, run};
 use crate::digit_runs::{digits, is_digit};
 use crate::kind::Kind;
-use crate::parts::{equals, some_spaces, spaces, starts_with_space, word};
+use crate::parts::{equals, letter, some_spaces, spaces, starts_with_space, word};
 use crate::places::before;
-use crate::runs::{same_letters, starts};
+use crate::runs::{after_word, same_letters};
+use crate::stepping::{is_first, split_first};
 use crate::stop::Stop;
 use crate::values::quote;
 
@@ -21,106 +23,101 @@ fn is_letter(c: char) -> bool
 }
 
 /// Whether a character may stand in the name of an encoding, behind its first letter.
-fn is_encoding_char(c: char) -> bool
+pub fn is_encoding_char(c: char) -> bool
     ensures tells_whether_encodings_have_it { result ≡ is_encoding_char c }
 {
     is_letter(c) || is_digit(c) || matches!(c, '.' | '_' | '-')
 }
 
-#[tactic(auto, using(crate::proofs::RunLemmas::run_more, crate::proofs::RunLemmas::run_done))]
-fn encoding_len(text: &[char]) -> usize
-    ensures counts_the_letters_of_an_encoding { result ≡ run_len is_encoding_char text.now }
-{
-    let mut len = 0;
-    for &c in text {
-        if !is_encoding_char(c) {
-            return len;
-        }
-        len += 1;
-    }
-    len
-}
-
 /// What follows a version number.
-fn version_number(text: &[char]) -> Result<&[char], Stop<'_>>
-    ensures reads_a_version_number { Gives (λ rest. (tt, rest.now)) result (read_version_number text.now) }
+fn version_number(text: &str) -> Result<&str, Stop<'_>>
+    ensures reads_a_version_number { Gives (λ rest. (tt, chars rest.now)) result (read_version_number (chars text.now)) }
 {
     let rest = word(text, &['1', '.'])?;
     let (_, rest) = digits(rest)?;
     Ok(rest)
 }
 
-/// The name of an encoding, and what follows it.
-#[tactic(auto, using(crate::proofs::RunLemmas::run_len_le))]
-fn encoding_name(text: &[char]) -> Result<(&[char], &[char]), Stop<'_>>
-    ensures reads_the_name_of_an_encoding { Gives (λ x. (x.0.now, x.1.now)) result (read_encoding_name text.now) }
+/// Whether a letter stands in front.
+fn starts_with_letter(text: &str) -> bool
+    ensures tells_whether_a_letter_is_first { result ≡ head_is is_ascii_alphabetic (chars text.now) }
 {
-    match text {
-        [first, rest @ ..] if is_letter(*first) => Ok(text.split_at(1 + encoding_len(rest))),
-        _ => Err(Stop::Syntax(text)),
+    match split_first(text) {
+        Some((first, _)) => is_letter(first),
+        None => false,
     }
+}
+
+/// The name of an encoding, and what follows it.
+fn encoding_name(text: &str) -> Result<(&str, &str), Stop<'_>>
+    ensures reads_the_name_of_an_encoding { Gives (λ x. (chars x.0.now, chars x.1.now)) result (read_encoding_name (chars text.now)) }
+{
+    if !starts_with_letter(text) {
+        return Err(Stop::Syntax(text));
+    }
+    Ok(run(text, Class::Encoding))
 }
 
 /// What follows `yes` or `no`.
-fn yes_or_no(text: &[char]) -> Result<&[char], Stop<'_>>
-    ensures reads_yes_or_no { Gives (λ rest. (tt, rest.now)) result (read_yes_or_no text.now) }
+fn yes_or_no(text: &str) -> Result<&str, Stop<'_>>
+    ensures reads_yes_or_no { Gives (λ rest. (tt, chars rest.now)) result (read_yes_or_no (chars text.now)) }
 {
-    match text {
-        ['y', ..] => word(text, &['y', 'e', 's']),
-        _ => word(text, &['n', 'o']),
+    if is_first(text, 'y') {
+        return word(text, &['y', 'e', 's']);
     }
+    word(text, &['n', 'o'])
 }
 
 /// What follows the version.
-fn version(text: &[char]) -> Result<&[char], Stop<'_>>
-    ensures reads_a_version { Gives (λ rest. (tt, rest.now)) result (read_version text.now) }
+fn version(text: &str) -> Result<&str, Stop<'_>>
+    ensures reads_a_version { Gives (λ rest. (tt, chars rest.now)) result (read_version (chars text.now)) }
 {
     let (_, rest) = some_spaces(text)?;
     let rest = word(rest, &['v', 'e', 'r', 's', 'i', 'o', 'n'])?;
     let (_, rest) = equals(rest)?;
     let (quote, rest) = quote(rest)?;
     let rest = version_number(rest)?;
-    word(rest, &[quote])
+    letter(rest, quote)
 }
 
 /// The declared encoding, and what follows it.
-fn encoding(text: &[char]) -> Result<(&[char], &[char]), Stop<'_>>
-    ensures reads_an_encoding { Gives (λ x. (x.0.now, x.1.now)) result (read_encoding text.now) }
+fn encoding(text: &str) -> Result<(&str, &str), Stop<'_>>
+    ensures reads_an_encoding { Gives (λ x. (chars x.0.now, chars x.1.now)) result (read_encoding (chars text.now)) }
 {
     let (_, rest) = some_spaces(text)?;
     let rest = word(rest, &['e', 'n', 'c', 'o', 'd', 'i', 'n', 'g'])?;
     let (_, rest) = equals(rest)?;
     let (quote, rest) = quote(rest)?;
     let (name, rest) = encoding_name(rest)?;
-    Ok((name, word(rest, &[quote])?))
+    Ok((name, letter(rest, quote)?))
 }
 
 /// What follows the word on whether the document stands alone.
-fn standalone(text: &[char]) -> Result<&[char], Stop<'_>>
-    ensures reads_whether_it_stands_alone { Gives (λ rest. (tt, rest.now)) result (read_standalone text.now) }
+fn standalone(text: &str) -> Result<&str, Stop<'_>>
+    ensures reads_whether_it_stands_alone { Gives (λ rest. (tt, chars rest.now)) result (read_standalone (chars text.now)) }
 {
     let (_, rest) = some_spaces(text)?;
     let rest = word(rest, &['s', 't', 'a', 'n', 'd', 'a', 'l', 'o', 'n', 'e'])?;
     let (_, rest) = equals(rest)?;
     let (quote, rest) = quote(rest)?;
     let rest = yes_or_no(rest)?;
-    word(rest, &[quote])
+    letter(rest, quote)
 }
 
 /// Whether white space and this letter follow.
-fn letter_follows(text: &[char], letter: char) -> bool
-    ensures tells_whether_the_letter_follows { result ≡ letter_follows letter text.now }
+fn letter_follows(text: &str, letter: char) -> bool
+    ensures tells_whether_the_letter_follows { result ≡ letter_follows letter (chars text.now) }
 {
     if !starts_with_space(text) {
         return false;
     }
     let (_, rest) = spaces(text);
-    matches!(rest, [c, ..] if *c == letter)
+    is_first(rest, letter)
 }
 
 /// The declared encoding, if there is one, and what follows it.
-fn encoding_if(text: &[char]) -> Result<(Option<&[char]>, &[char]), Stop<'_>>
-    ensures reads_an_encoding_if_it_follows { Gives (λ x. (option_map (λ name. name.now) x.0, x.1.now)) result (read_encoding_if text.now) }
+fn encoding_if(text: &str) -> Result<(Option<&str>, &str), Stop<'_>>
+    ensures reads_an_encoding_if_it_follows { Gives (λ x. (option_map (λ name. chars name.now) x.0, chars x.1.now)) result (read_encoding_if (chars text.now)) }
 {
     if !letter_follows(text, 'e') {
         return Ok((None, text));
@@ -130,8 +127,8 @@ fn encoding_if(text: &[char]) -> Result<(Option<&[char]>, &[char]), Stop<'_>>
 }
 
 /// Whether it is said that the document stands alone or not, and what follows.
-fn standalone_if(text: &[char]) -> Result<(Option<()>, &[char]), Stop<'_>>
-    ensures reads_standalone_if_it_follows { Gives (λ x. (x.0, x.1.now)) result (read_standalone_if text.now) }
+fn standalone_if(text: &str) -> Result<(Option<()>, &str), Stop<'_>>
+    ensures reads_standalone_if_it_follows { Gives (λ x. (x.0, chars x.1.now)) result (read_standalone_if (chars text.now)) }
 {
     if !letter_follows(text, 's') {
         return Ok((None, text));
@@ -141,8 +138,8 @@ fn standalone_if(text: &[char]) -> Result<(Option<()>, &[char]), Stop<'_>>
 }
 
 /// An XML declaration: the encoding that it names, if it does, and what follows it.
-fn xml_declaration(text: &[char]) -> Result<(Option<&[char]>, &[char]), Stop<'_>>
-    ensures reads_an_xml_declaration { Gives (λ x. (option_map (λ name. name.now) x.0, x.1.now)) result (read_xml_declaration text.now) }
+fn xml_declaration(text: &str) -> Result<(Option<&str>, &str), Stop<'_>>
+    ensures reads_an_xml_declaration { Gives (λ x. (option_map (λ name. chars name.now) x.0, chars x.1.now)) result (read_xml_declaration (chars text.now)) }
 {
     let rest = word(text, &['<', '?', 'x', 'm', 'l'])?;
     let rest = version(rest)?;
@@ -153,8 +150,8 @@ fn xml_declaration(text: &[char]) -> Result<(Option<&[char]>, &[char]), Stop<'_>
 }
 
 /// Whether an encoding is read.
-fn is_our_encoding(name: &[char]) -> bool
-    ensures tells_whether_it_is_read { result ≡ is_our_encoding name.now }
+fn is_our_encoding(name: &str) -> bool
+    ensures tells_whether_it_is_read { result ≡ is_our_encoding (chars name.now) }
 {
     if same_letters(name, &['u', 't', 'f', '-', '8']) {
         return true;
@@ -163,8 +160,8 @@ fn is_our_encoding(name: &[char]) -> bool
 }
 
 /// An XML declaration whose encoding is read, and what follows it.
-fn declaration(text: &[char]) -> Result<(Option<&[char]>, &[char]), Stop<'_>>
-    ensures reads_a_declaration { Gives (λ x. (option_map (λ name. name.now) x.0, x.1.now)) result (read_declaration text.now) }
+fn declaration(text: &str) -> Result<(Option<&str>, &str), Stop<'_>>
+    ensures reads_a_declaration { Gives (λ x. (option_map (λ name. chars name.now) x.0, chars x.1.now)) result (read_declaration (chars text.now)) }
 {
     let (name, rest) = xml_declaration(text)?;
     match name {
@@ -179,19 +176,18 @@ fn declaration(text: &[char]) -> Result<(Option<&[char]>, &[char]), Stop<'_>>
 }
 
 /// Whether `<?xml` and white space follow.
-#[tactic(auto, using(crate::proofs::RunLemmas::rest_of_drop))]
-fn declaration_follows(text: &[char]) -> bool
-    ensures tells_whether_a_declaration_follows { result ≡ declaration_follows text.now }
+fn declaration_follows(text: &str) -> bool
+    ensures tells_whether_a_declaration_follows { result ≡ declaration_follows (chars text.now) }
 {
-    if !starts(text, &['<', '?', 'x', 'm', 'l']) {
-        return false;
+    match after_word(text, &['<', '?', 'x', 'm', 'l']) {
+        Some(rest) => starts_with_space(rest),
+        None => false,
     }
-    starts_with_space(&text[5..])
 }
 
 /// What follows an XML declaration, which may be absent.
-pub fn declaration_if(text: &[char]) -> Result<&[char], Stop<'_>>
-    ensures reads_a_declaration_if_it_follows { Gives (λ rest. (tt, rest.now)) result (read_declaration_if text.now) }
+pub fn declaration_if(text: &str) -> Result<&str, Stop<'_>>
+    ensures reads_a_declaration_if_it_follows { Gives (λ rest. (tt, chars rest.now)) result (read_declaration_if (chars text.now)) }
 {
     if !declaration_follows(text) {
         return Ok(text);
@@ -201,11 +197,16 @@ pub fn declaration_if(text: &[char]) -> Result<&[char], Stop<'_>>
 }
 
 /// What follows a byte order mark, which may be absent.
-pub fn mark_if(text: &[char]) -> &[char]
-    ensures passes_a_mark_if_it_follows { read_mark_if text.now ≡ Ok (tt, result.now) }
+pub fn mark_if(text: &str) -> &str
+    ensures passes_a_mark_if_it_follows { read_mark_if (chars text.now) ≡ Ok (tt, chars result.now) }
 {
-    match text {
-        ['\u{FEFF}', rest @ ..] => rest,
-        _ => text,
+    match split_first(text) {
+        Some((first, rest)) => {
+            if first != '\u{FEFF}' {
+                return text;
+            }
+            rest
+        }
+        None => text,
     }
 }

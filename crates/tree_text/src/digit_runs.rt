@@ -1,10 +1,11 @@
 //! Runs of digits.
-ghost use Rattle.std.specs.Prelude.{◌≡◌};
+ghost use Rattle.std.specs.Prelude.{◌≡◌, chars};
 ghost use Rattle.std.specs.Char.{is_ascii_digit};
-ghost use Rattle.grammar_rules.specs.Reading.{read_some_of};
+ghost use Rattle.grammar_rules.specs.Reading.{head_is, read_some_of};
 ghost use Rattle.tree_text.specs.readers.Gives.{Gives};
-ghost use Rattle.tree_text.specs.readers.Runs.{run_len};
 
+use crate::classes::{Class, run};
+use crate::stepping::split_first;
 use crate::stop::Stop;
 
 /// Whether a character is a digit.
@@ -14,27 +15,22 @@ pub fn is_digit(c: char) -> bool
     matches!(c, '0'..='9')
 }
 
-#[tactic(auto, using(crate::proofs::RunLemmas::run_more, crate::proofs::RunLemmas::run_done))]
-fn digits_len(text: &[char]) -> usize
-    ensures counts_the_digits { result ≡ run_len is_ascii_digit text.now }
+/// Whether a digit stands in front.
+fn starts_with_digit(text: &str) -> bool
+    ensures tells_whether_a_digit_is_first { result ≡ head_is is_ascii_digit (chars text.now) }
 {
-    let mut len = 0;
-    for &c in text {
-        if !is_digit(c) {
-            return len;
-        }
-        len += 1;
+    match split_first(text) {
+        Some((first, _)) => is_digit(first),
+        None => false,
     }
-    len
 }
 
 /// One or more digits, and what follows them.
-pub fn digits(text: &[char]) -> Result<(&[char], &[char]), Stop<'_>>
-    ensures reads_some_digits { Gives (λ x. (x.0.now, x.1.now)) result (read_some_of is_ascii_digit text.now) }
+pub fn digits(text: &str) -> Result<(&str, &str), Stop<'_>>
+    ensures reads_some_digits { Gives (λ x. (chars x.0.now, chars x.1.now)) result (read_some_of is_ascii_digit (chars text.now)) }
 {
-    let len = digits_len(text);
-    if len == 0 {
+    if !starts_with_digit(text) {
         return Err(Stop::Syntax(text));
     }
-    Ok(text.split_at(len))
+    Ok(run(text, Class::Digit))
 }

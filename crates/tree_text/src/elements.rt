@@ -1,19 +1,19 @@
 //! Elements: their tags, their content, and the elements in it, no deeper than a limit.
-ghost use Rattle.std.specs.Prelude.{◌≡◌, ◌+◌, ◌-◌, ◌≤◌, ◌<◌, ◌++◌, true, [], ◌∷◌, length, IfOk, OnOk, Ok, Err};
-ghost use Rattle.grammar_rules.specs.Reading.{Reader, judgement};
+ghost use Rattle.std.specs.Prelude.{◌≡◌, ◌==◌, ◌||◌, ◌+◌, ◌≤◌, ◌<◌, ◌++◌, true, [], ◌∷◌, chars, IfOk, OnOk, Ok, Err};
+ghost use Rattle.grammar_rules.specs.Reading.{Reader, head_is, judgement};
 ghost use Rattle.xml_tree.specs.Edits.{with_elem, with_text};
 ghost use Rattle.xml_tree.specs.Tree.{Tree, last, tree_of};
 ghost use Rattle.tree_text.specs.declared.kind.Kind.{Kind};
 ghost use Rattle.tree_text.specs.readers.Bindings.{AreBack, AreKept, lists};
 ghost use Rattle.tree_text.specs.readers.Gives.{Gives, Fails};
 ghost use Rattle.tree_text.specs.readers.Members.{read_chars_onto, read_onto, read_child, read_filled, read_filled_behind};
-ghost use Rattle.tree_text.specs.Names.{attrs_of, widths, opening_size};
+ghost use Rattle.tree_text.specs.Names.{attrs_of};
 ghost use Rattle.tree_text.specs.readers.Judging.{counted_back, first_of_tag};
 ghost use Rattle.tree_text.specs.readers.Texts.{markup_follows, other_follows, read_tag, read_element};
 ghost use Rattle.tree_text.specs.readers.Views.{name_in, tag_in};
 
 use crate::bindings::Bindings;
-use crate::fronts::plain_in_content;
+use crate::classes::{Class, run};
 use crate::kind::Kind;
 use crate::names::{declares, decls_of, first_of_tag};
 use crate::parts::starts_with_name;
@@ -21,9 +21,10 @@ use crate::pieces::{comment, instruction, section};
 use crate::places::before;
 use crate::runs::{lines, raw_run, starts};
 use crate::said::Said;
+use crate::stepping::{count, is_first, split_first};
 use crate::stop::Stop;
 use crate::tags::{Tag, whole_tag};
-use crate::texts::{ascii_text, text_of};
+use crate::texts::text_of;
 use crate::values::{ends_run, reference};
 use crate::written::end_tag;
 use std::alloc::{AllocError, Global};
@@ -32,7 +33,7 @@ use xml_tree::{Attr, Decl, Element, Name, Text};
 /// Stops at the first wrong name of a tag, which this follows, inside its element.
 fn judged<'a>(
     alloc: Global,
-    text: &'a [char],
+    text: &'a str,
     here: &Bindings,
     name: &Name,
     said: &[Said],
@@ -40,29 +41,29 @@ fn judged<'a>(
 ) -> Result<(), Stop<'a>>
     requires kept { AreKept here.now }
     requires named { name.now ≡ name_in tag.now.written }
-    requires opening { tag.now.opening ≡ opening_size (tag_in tag.now said.now) }
-    requires sizes { tag.now.opening + widths said.now ≤ length text.now }
-    ensures judges_the_names_of_the_tag { Gives (λ _. (tag_in tag.now said.now, tag.now.behind.now)) result (judgement text.now (tag_in tag.now said.now, tag.now.behind.now) (counted_back tag.now.size (first_of_tag (lists here.now) (tag_in tag.now said.now)))) }
+    requires tagged { read_tag (chars text.now) ≡ Ok (tag_in (chars text.now) tag.now said.now, chars tag.now.behind.now) }
+    ensures judges_the_names_of_the_tag { Gives (λ _. (tag_in (chars text.now) tag.now said.now, chars tag.now.behind.now)) result (judgement (chars text.now) (tag_in (chars text.now) tag.now said.now, chars tag.now.behind.now) (counted_back (tag_in (chars text.now) tag.now said.now).size (first_of_tag (lists here.now) (tag_in (chars text.now) tag.now said.now)))) }
 {
     if let Some((kind, at)) = first_of_tag(alloc, here, name, said, tag)? {
-        let place = before(text, tag.behind, tag.size.saturating_sub(at));
+        let size = count(text).saturating_sub(count(tag.behind));
+        let place = before(text, tag.behind, size.saturating_sub(at));
         return Err(Stop::Faulty(kind, place));
     }
     Ok(())
 }
 
 /// Takes room for one node alone where the content ends before this rest of the text: most elements have one node or none.
-fn room_before(element: &mut Element, rest: &[char]) -> Result<(), AllocError>
+fn room_before(element: &mut Element, rest: &str) -> Result<(), AllocError>
     ensures changes_nothing { element.new ≡ element.old }
 {
-    match rest {
-        ['<', '/', ..] => element.reserve_node(),
-        _ => Ok(()),
+    if starts(rest, &['<', '/']) {
+        return element.reserve_node();
     }
+    Ok(())
 }
 
 /// Adds plain characters to content, before this rest of the text.
-fn push_plain(element: &mut Element, plain: Text, rest: &[char]) -> Result<(), AllocError>
+fn push_plain(element: &mut Element, plain: Text, rest: &str) -> Result<(), AllocError>
     ensures adds_the_characters { OnOk result (element.new ≡ record element.old { content = with_text plain element.old.content }) }
 {
     room_before(element, rest)?;
@@ -71,7 +72,7 @@ fn push_plain(element: &mut Element, plain: Text, rest: &[char]) -> Result<(), A
 
 /// Adds an element to the content of its parent, before this rest of the text.
 #[inline(always)]
-fn adopt(parent: &mut Element, element: Element, rest: &[char]) -> Result<(), AllocError>
+fn adopt(parent: &mut Element, element: Element, rest: &str) -> Result<(), AllocError>
     ensures adds_the_element { OnOk result (parent.new ≡ record parent.old { content = with_elem element parent.old.content }) }
 {
     room_before(parent, rest)?;
@@ -88,29 +89,24 @@ fn push_char(alloc: Global, element: &mut Element, c: char) -> Result<(), AllocE
 /// Adds a run of raw characters to content, as they are read, and answers what follows.
 fn push_mixed<'a>(
     alloc: Global,
-    text: &'a [char],
+    text: &'a str,
     element: &mut Element,
-) -> Result<&'a [char], AllocError>
-    ensures reads_the_characters_onto_it { IfOk result (λ rest. read_chars_onto element.old text.now ≡ Ok (element.new, rest.now)) }
+) -> Result<&'a str, AllocError>
+    ensures reads_the_characters_onto_it { IfOk result (λ rest. read_chars_onto element.old (chars text.now) ≡ Ok (element.new, chars rest.now)) }
 {
     let (run, rest) = raw_run(text);
     element.push_text(lines(alloc, run)?)?;
     Ok(rest)
 }
 
-/// The same. Most runs are short and plain, and are read in one pass.
+/// The same. Most runs are plain, and are copied as they stand.
 #[inline(never)]
-fn push_some<'a>(
-    alloc: Global,
-    text: &'a [char],
-    element: &mut Element,
-) -> Result<&'a [char], AllocError>
-    ensures reads_the_run_onto_it { IfOk result (λ rest. read_chars_onto element.old text.now ≡ Ok (element.new, rest.now)) }
+fn push_some<'a>(alloc: Global, text: &'a str, element: &mut Element) -> Result<&'a str, AllocError>
+    ensures reads_the_run_onto_it { IfOk result (λ rest. read_chars_onto element.old (chars text.now) ≡ Ok (element.new, chars rest.now)) }
 {
-    let mut bytes = [0; 64];
-    let (len, rest) = plain_in_content(text, &mut bytes);
+    let (plain, rest) = run(text, Class::PlainContent);
     if ends_run(rest, '<') {
-        let plain = ascii_text(alloc, &bytes, len)?;
+        let plain = Text::from(alloc, plain)?;
         push_plain(element, plain, rest)?;
         return Ok(rest);
     }
@@ -119,12 +115,8 @@ fn push_some<'a>(
 
 /// The same. Between tags there is often no run.
 #[inline(always)]
-fn push_run<'a>(
-    alloc: Global,
-    text: &'a [char],
-    element: &mut Element,
-) -> Result<&'a [char], AllocError>
-    ensures reads_the_run_onto_it { IfOk result (λ rest. read_chars_onto element.old text.now ≡ Ok (element.new, rest.now)) }
+fn push_run<'a>(alloc: Global, text: &'a str, element: &mut Element) -> Result<&'a str, AllocError>
+    ensures reads_the_run_onto_it { IfOk result (λ rest. read_chars_onto element.old (chars text.now) ≡ Ok (element.new, chars rest.now)) }
 {
     if ends_run(text, '<') {
         return Ok(text);
@@ -182,55 +174,59 @@ fn push_attrs(element: &mut Element, said: &mut Vec<Said>, room: usize) -> Resul
     push_all_said(element, said)
 }
 
-/// Whether content goes on: a reference or a `<` follows, and no end tag.
-fn markup_follows(text: &[char]) -> bool
-    ensures tells_whether_markup_follows { result ≡ markup_follows text.now }
+/// Whether a reference or a `<` follows.
+fn starts_markup(text: &str) -> bool
+    ensures tells_whether_markup_or_an_end_tag_follows { result ≡ head_is (λ c. c == 38 || c == 60) (chars text.now) }
 {
-    match text {
-        ['&', ..] => true,
-        ['<', ..] => !starts(text, &['<', '/']),
-        _ => false,
+    match split_first(text) {
+        Some((first, _)) => first == '&' || first == '<',
+        None => false,
     }
 }
 
-/// Why no element is read where no level is left: it is too deep, or none stands there.
-fn no_level(text: &[char], depth: usize) -> Stop<'_>
-    ensures stops_where_no_level_is_left { Fails result (read_element 0 [] depth text.now) }
+/// Whether content goes on: a reference or a `<` follows, and no end tag.
+fn markup_follows(text: &str) -> bool
+    ensures tells_whether_markup_follows { result ≡ markup_follows (chars text.now) }
 {
-    match text {
-        ['<', rest @ ..] => {
+    if !starts_markup(text) {
+        return false;
+    }
+    !starts(text, &['<', '/'])
+}
+
+/// Why no element is read where no level is left: it is too deep, or none stands there.
+fn no_level(text: &str, depth: usize) -> Stop<'_>
+    ensures stops_where_no_level_is_left { Fails result (read_element 0 [] depth (chars text.now)) }
+{
+    match split_first(text) {
+        Some((first, rest)) => {
+            if first != '<' {
+                return Stop::Syntax(text);
+            }
             if starts_with_name(rest) {
                 return Stop::Faulty(Kind::Depth(depth), text);
             }
             Stop::Syntax(rest)
         }
-        _ => Stop::Syntax(text),
+        None => Stop::Syntax(text),
     }
 }
 
 /// Whether markup follows that is no element.
-fn other_follows(text: &[char]) -> bool
-    ensures tells_whether_other_markup_follows { result ≡ other_follows text.now }
+#[inline(always)]
+fn other_follows(text: &str) -> bool
+    ensures tells_whether_other_markup_follows { result ≡ other_follows (chars text.now) }
 {
-    match text {
-        ['&', ..] => true,
-        ['<', '!', ..] => true,
-        ['<', '?', ..] => true,
-        _ => false,
-    }
+    is_first(text, '&') || starts(text, &['<', '!']) || starts(text, &['<', '?'])
 }
 
 /// Adds a piece of markup that is no element to content, and answers what follows it. Most are elements.
 #[inline(never)]
-fn push_other<'a>(
-    alloc: Global,
-    text: &'a [char],
-    element: &mut Element,
-) -> Result<&'a [char], Stop<'a>>
-    requires { other_follows text.now ≡ true }
-    ensures reads_other_markup_onto_it { (inner : Reader Kind Tree) → Gives (λ rest. (element.new, rest.now)) result (read_onto element.old inner text.now) }
+fn push_other<'a>(alloc: Global, text: &'a str, element: &mut Element) -> Result<&'a str, Stop<'a>>
+    requires { other_follows (chars text.now) ≡ true }
+    ensures reads_other_markup_onto_it { (inner : Reader Kind Tree) → Gives (λ rest. (element.new, chars rest.now)) result (read_onto element.old inner (chars text.now)) }
 {
-    if let ['&', ..] = text {
+    if is_first(text, '&') {
         let (c, rest) = reference(text)?;
         push_char(alloc, element, c)?;
         return Ok(rest);
@@ -254,16 +250,16 @@ fn push_other<'a>(
 #[tactic(auto, using(crate::proofs::ElementLemmas::child_onto))]
 fn push_markup<'a>(
     alloc: Global,
-    text: &'a [char],
+    text: &'a str,
     bindings: &mut Bindings,
     depth: usize,
     levels: usize,
     said: &mut Vec<Said>,
     element: &mut Element,
-) -> Result<&'a [char], Stop<'a>>
+) -> Result<&'a str, Stop<'a>>
     requires kept { AreKept bindings.old }
     requires deep { depth + levels ≤ 1000 }
-    ensures reads_as_the_rule_does { Gives (λ rest. (element.new, rest.now)) result (read_onto element.old (read_element levels (lists bindings.old) depth) text.now) }
+    ensures reads_as_the_rule_does { Gives (λ rest. (element.new, chars rest.now)) result (read_onto element.old (read_element levels (lists bindings.old) depth) (chars text.now)) }
     ensures bindings_are_those_of_before { OnOk result (AreBack bindings.old bindings.new) }
 {
     if other_follows(text) {
@@ -276,17 +272,17 @@ fn push_markup<'a>(
 #[cycle(nested)]
 fn content<'a>(
     alloc: Global,
-    text: &'a [char],
+    text: &'a str,
     bindings: &mut Bindings,
     depth: usize,
     levels: usize,
     said: &mut Vec<Said>,
     element: &mut Element,
-) -> Result<&'a [char], Stop<'a>>
+) -> Result<&'a str, Stop<'a>>
     requires kept { AreKept bindings.old }
     requires deep { depth + levels ≤ 1000 }
     requires empty { element.old.content ≡ last [] }
-    ensures reads_as_the_rule_does { Gives (λ rest. (element.new, rest.now)) result (read_filled element.old (read_element levels (lists bindings.old) depth) text.now) }
+    ensures reads_as_the_rule_does { Gives (λ rest. (element.new, chars rest.now)) result (read_filled element.old (read_element levels (lists bindings.old) depth) (chars text.now)) }
     ensures bindings_are_those_of_before { OnOk result (AreBack bindings.old bindings.new) }
 {
     let start = push_run(alloc, text, element)?;
@@ -311,11 +307,11 @@ fn behind_tag<'a>(
     said: &mut Vec<Said>,
     tag: &Tag<'a>,
     element: &mut Element,
-) -> Result<&'a [char], Stop<'a>>
+) -> Result<&'a str, Stop<'a>>
     requires kept { AreKept bindings.old }
     requires deep { depth + levels ≤ 1000 }
     requires empty { element.old.content ≡ last [] }
-    ensures reads_as_the_rule_does { Gives (λ rest. (element.new, rest.now)) result (read_filled_behind element.old (read_element levels (lists bindings.old) depth) (name_in tag.now.written) tag.now.is_empty tag.now.behind.now) }
+    ensures reads_as_the_rule_does { Gives (λ rest. (element.new, chars rest.now)) result (read_filled_behind element.old (read_element levels (lists bindings.old) depth) (name_in tag.now.written) tag.now.is_empty (chars tag.now.behind.now)) }
     ensures bindings_are_those_of_before { OnOk result (AreBack bindings.old bindings.new) }
 {
     if tag.is_empty {
@@ -331,21 +327,19 @@ fn behind_tag<'a>(
 #[cycle(nested)]
 fn fill<'a>(
     alloc: Global,
-    text: &'a [char],
+    text: &'a str,
     bindings: &mut Bindings,
     depth: usize,
     inner: usize,
     said: &mut Vec<Said>,
     tag: &Tag<'a>,
     element: &mut Element,
-) -> Result<&'a [char], Stop<'a>>
+) -> Result<&'a str, Stop<'a>>
     requires kept { AreKept bindings.old }
     requires deep { depth + inner < 1000 }
-    requires tagged { read_tag text.now ≡ Ok (tag_in tag.now said.old.items, tag.now.behind.now) }
-    requires opening { tag.now.opening ≡ opening_size (tag_in tag.now said.old.items) }
-    requires sizes { tag.now.opening + widths said.old.items ≤ length text.now }
+    requires tagged { read_tag (chars text.now) ≡ Ok (tag_in (chars text.now) tag.now said.old.items, chars tag.now.behind.now) }
     requires bare { element.old ≡ tree_of (name_in tag.now.written) [] [] (last []) }
-    ensures reads_as_the_rule_does { Gives (λ rest. (element.new, rest.now)) result (read_element (inner + 1) (lists bindings.old) depth text.now) }
+    ensures reads_as_the_rule_does { Gives (λ rest. (element.new, chars rest.now)) result (read_element (inner + 1) (lists bindings.old) depth (chars text.now)) }
     ensures bindings_are_those_of_before { OnOk result (AreBack bindings.old bindings.new) }
 {
     let all = said.as_slice();
@@ -364,16 +358,16 @@ fn fill<'a>(
 #[cycle(nested)]
 fn push_child<'a>(
     alloc: Global,
-    text: &'a [char],
+    text: &'a str,
     bindings: &mut Bindings,
     depth: usize,
     levels: usize,
     said: &mut Vec<Said>,
     parent: &mut Element,
-) -> Result<&'a [char], Stop<'a>>
+) -> Result<&'a str, Stop<'a>>
     requires kept { AreKept bindings.old }
     requires deep { depth + levels ≤ 1000 }
-    ensures reads_as_the_rule_does { Gives (λ rest. (parent.new, rest.now)) result (read_child parent.old (read_element levels (lists bindings.old) depth) text.now) }
+    ensures reads_as_the_rule_does { Gives (λ rest. (parent.new, chars rest.now)) result (read_child parent.old (read_element levels (lists bindings.old) depth) (chars text.now)) }
     ensures bindings_are_those_of_before { OnOk result (AreBack bindings.old bindings.new) }
 {
     let Some(inner) = levels.checked_sub(1) else {
@@ -398,14 +392,14 @@ fn push_child<'a>(
 /// An element at this depth, with this many levels at most, and what follows it.
 pub fn element<'a>(
     alloc: Global,
-    text: &'a [char],
+    text: &'a str,
     bindings: &mut Bindings,
     depth: usize,
     levels: usize,
-) -> Result<(Element, &'a [char]), Stop<'a>>
+) -> Result<(Element, &'a str), Stop<'a>>
     requires kept { AreKept bindings.old }
     requires deep { depth + levels ≤ 1000 }
-    ensures reads_as_the_rule_does { Gives (λ x. (x.0, x.1.now)) result (read_element levels (lists bindings.old) depth text.now) }
+    ensures reads_as_the_rule_does { Gives (λ x. (x.0, chars x.1.now)) result (read_element levels (lists bindings.old) depth (chars text.now)) }
     ensures bindings_are_those_of_before { OnOk result (AreBack bindings.old bindings.new) }
 {
     let Some(inner) = levels.checked_sub(1) else {

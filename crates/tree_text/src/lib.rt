@@ -5,6 +5,7 @@
 
 mod bindings;
 mod bodies;
+mod classes;
 mod declaration;
 mod digit_runs;
 mod elements;
@@ -25,6 +26,7 @@ mod reading;
 mod reading_laws;
 mod runs;
 mod said;
+mod stepping;
 mod stop;
 mod tags;
 mod texts;
@@ -45,6 +47,7 @@ pub use digit_runs::digits;
 pub use kind::Kind;
 pub use parts::word;
 pub use runs::starts;
+pub use stepping::{count, count_before, is_first, is_over, skip, split_first};
 pub use stop::Stop;
 pub use texts::{name_part, no_text, text_of};
 pub use values::{quote, raw_run, reference, reference_follows};

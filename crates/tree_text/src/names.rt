@@ -1,13 +1,14 @@
 //! Names in tags: declarations and attributes, and the first of a tag's names that is wrong.
-ghost use Rattle.std.specs.Prelude.{◌≡◌, ◌+◌, ◌<◌, ◌^◌, List, [], ◌++◌, ◌∷◌, None, IfOk, OnOk, chars, encode_utf8_all, not, if◌then◌else◌};
+ghost use Rattle.std.specs.Prelude.{◌≡◌, suc, ◌+◌, ◌<◌, ◌^◌, List, [], ◌++◌, ◌∷◌, chars, encode_utf8_all, length, None, IfOk, OnOk, not, if◌then◌else◌};
 ghost use Rattle.std.specs.Str.{bytes_eq};
 ghost use Rattle.xml_tree.specs.Scopes.{xml_prefix, xml_uri, xmlns_uri};
 ghost use Rattle.xml_tree.specs.Proper.{may_stand};
-ghost use Rattle.tree_text.specs.Names.{decls_of, is_misnamed, is_repeated, widths, opening_size, said_decl, is_declaring, is_unbound_in};
-ghost use Rattle.tree_text.specs.readers.Judging.{wrong_said, first_wrong, first_of_tag};
+ghost use Rattle.tree_text.specs.Names.{decls_of, is_misnamed, is_repeated, widths, said_decl, is_declaring, is_unbound_in};
+ghost use Rattle.tree_text.specs.Pieces.{written};
+ghost use Rattle.tree_text.specs.readers.Judging.{wrong_said, first_wrong, first_named};
 ghost use Rattle.tree_text.specs.readers.Bindings.{AreKept, lists};
 ghost use Rattle.tree_text.specs.readers.Meanings.{Holds};
-ghost use Rattle.tree_text.specs.readers.Views.{name_in, tag_in};
+ghost use Rattle.tree_text.specs.readers.Views.{name_in};
 ghost use Rattle.tree_text.specs.declared.said.Said.{Said};
 
 use crate::bindings::Bindings;
@@ -15,6 +16,7 @@ use crate::kind::Kind;
 use crate::meanings::{Meaning, meaning_of};
 use crate::said::Said;
 use crate::tags::Tag;
+use crate::written::{Written, opening};
 use std::alloc::{AllocError, Global};
 use std::collections::BTreeSet;
 use xml_tree::{Decl, Name, Prefix, Text, is_xml, is_xmlns};
@@ -191,15 +193,15 @@ fn wrong_said<'a>(
     Ok(Some(Kind::Repeated))
 }
 
-/// What is wrong with the only one of a tag, which nothing stands before, and how many characters of the tag stand before its name,
-/// of which this many before its white space.
-fn only_wrong(here: &Bindings, only: &Said, opening: usize) -> Option<(Kind, usize)>
+/// What is wrong with the only one of a tag of this name, which nothing stands before, and how many characters of the tag stand before
+/// its name.
+fn only_wrong(here: &Bindings, only: &Said, name: &Written<'_>) -> Option<(Kind, usize)>
     requires kept { AreKept here.now }
-    requires fits { opening + widths (only.now ∷ []) < 2 ^ 64 }
-    ensures finds_whether_it_is_wrong { result ≡ first_wrong (lists here.now) [] opening (only.now ∷ []) }
+    requires fits { 2 + length (chars name.now.prefix.now) + length (chars name.now.local.now) + widths (only.now ∷ []) < 2 ^ 64 }
+    ensures finds_whether_it_is_wrong { result ≡ first_wrong (lists here.now) [] (suc (length (written (name_in name.now)))) (only.now ∷ []) }
 {
     if is_misnamed(here, only) {
-        return Some((Kind::Unbound, opening + only.gap));
+        return Some((Kind::Unbound, opening(name) + only.gap));
     }
     None
 }
@@ -226,21 +228,21 @@ fn first_of_several<'a>(
     Ok(None)
 }
 
-/// The first of these that is wrong, and how many characters of the tag stand before its name, of which this many before all.
+/// The first of these in a tag of this name that is wrong, and how many characters of the tag stand before its name.
 pub fn first_wrong<'a>(
     alloc: Global,
     here: &Bindings,
     all: &'a [Said],
-    opening: usize,
+    name: &Written<'_>,
 ) -> Result<Option<(Kind, usize)>, AllocError>
     requires kept { AreKept here.now }
-    requires fits { opening + widths all.now < 2 ^ 64 }
-    ensures finds_the_first_wrong { IfOk result (λ found. found ≡ first_wrong (lists here.now) [] opening all.now) }
+    requires fits { 2 + length (chars name.now.prefix.now) + length (chars name.now.local.now) + widths all.now < 2 ^ 64 }
+    ensures finds_the_first_wrong { IfOk result (λ found. found ≡ first_wrong (lists here.now) [] (suc (length (written (name_in name.now)))) all.now) }
 {
     match all {
         [] => Ok(None),
-        [only] => Ok(only_wrong(here, only, opening)),
-        _ => first_of_several(alloc, here, all, opening),
+        [only] => Ok(only_wrong(here, only, name)),
+        _ => first_of_several(alloc, here, all, opening(name)),
     }
 }
 
@@ -255,12 +257,11 @@ pub fn first_of_tag<'a>(
 ) -> Result<Option<(Kind, usize)>, AllocError>
     requires kept { AreKept here.now }
     requires named { name.now ≡ name_in tag.now.written }
-    requires opening { tag.now.opening ≡ opening_size (tag_in tag.now said.now) }
-    requires fits { tag.now.opening + widths said.now < 2 ^ 64 }
-    ensures finds_the_first_of_the_tag { IfOk result (λ found. found ≡ first_of_tag (lists here.now) (tag_in tag.now said.now)) }
+    requires fits { 2 + length (chars tag.now.written.prefix.now) + length (chars tag.now.written.local.now) + widths said.now < 2 ^ 64 }
+    ensures finds_the_first_of_the_tag { IfOk result (λ found. found ≡ first_named (lists here.now) (name_in tag.now.written) said.now) }
 {
     if is_unbound(here, name) {
         return Ok(Some((Kind::Unbound, 1)));
     }
-    first_wrong(alloc, here, said, tag.opening)
+    first_wrong(alloc, here, said, &tag.written)
 }

@@ -1,5 +1,5 @@
 //! What stands between runs of characters: comments, CDATA sections and processing instructions.
-ghost use Rattle.std.specs.Prelude.{◌≡◌, true, IfOk, Ok};
+ghost use Rattle.std.specs.Prelude.{◌≡◌, true, chars, IfOk, Ok};
 ghost use Rattle.grammar_rules.specs.Reading.{starts};
 ghost use Rattle.xml_tree.specs.Characters.{is_space};
 ghost use Rattle.xml_tree.specs.Comments.{is_comment};
@@ -9,25 +9,26 @@ ghost use Rattle.tree_text.specs.Pieces.{line_ends};
 ghost use Rattle.tree_text.specs.readers.Texts.{misc_follows, less_follows, read_comment_inside, read_comment, read_section, read_instructed, read_instruction, read_misc, read_prolog_misc, read_prolog, read_epilog};
 
 use crate::kind::Kind;
-use crate::parts::{name, spaces, word};
+use crate::parts::{letter, name, spaces, word};
 use crate::runs::{lines, same_letters, starts, up_to};
+use crate::stepping::{is_first, split_first};
 use crate::stop::Stop;
 use std::alloc::Global;
 use xml_tree::{Text, is_space};
 
 /// The inside of a comment, and what follows the comment.
-fn comment_inside(text: &[char]) -> Result<(&[char], &[char]), Stop<'_>>
-    ensures reads_as_the_rule_does { Gives (λ x. (x.0.now, x.1.now)) result (read_comment_inside text.now) }
-    ensures comment_can_be_kept { IfOk result (λ x. is_comment (line_ends x.0.now) ≡ true) }
+fn comment_inside(text: &str) -> Result<(&str, &str), Stop<'_>>
+    ensures reads_as_the_rule_does { Gives (λ x. (chars x.0.now, chars x.1.now)) result (read_comment_inside (chars text.now)) }
+    ensures comment_can_be_kept { IfOk result (λ x. is_comment (line_ends (chars x.0.now)) ≡ true) }
 {
     let rest = word(text, &['<', '!', '-', '-'])?;
     let (inside, rest) = up_to(rest, &['-', '-'])?;
-    Ok((inside, word(rest, &['>'])?))
+    Ok((inside, letter(rest, '>')?))
 }
 
 /// A comment, and what follows it.
-pub fn comment(alloc: Global, text: &[char]) -> Result<(Text, &[char]), Stop<'_>>
-    ensures reads_as_the_rule_does { Gives (λ x. (x.0, x.1.now)) result (read_comment text.now) }
+pub fn comment(alloc: Global, text: &str) -> Result<(Text, &str), Stop<'_>>
+    ensures reads_as_the_rule_does { Gives (λ x. (x.0, chars x.1.now)) result (read_comment (chars text.now)) }
     ensures comment_can_be_kept { IfOk result (λ x. is_comment x.0 ≡ true) }
 {
     let (inside, rest) = comment_inside(text)?;
@@ -35,8 +36,8 @@ pub fn comment(alloc: Global, text: &[char]) -> Result<(Text, &[char]), Stop<'_>
 }
 
 /// A CDATA section, and what follows it.
-pub fn section(alloc: Global, text: &[char]) -> Result<(Text, &[char]), Stop<'_>>
-    ensures reads_a_section { Gives (λ x. (x.0, x.1.now)) result (read_section text.now) }
+pub fn section(alloc: Global, text: &str) -> Result<(Text, &str), Stop<'_>>
+    ensures reads_a_section { Gives (λ x. (x.0, chars x.1.now)) result (read_section (chars text.now)) }
 {
     let rest = word(text, &['<', '!', '[', 'C', 'D', 'A', 'T', 'A', '['])?;
     let (inside, rest) = up_to(rest, &[']', ']', '>'])?;
@@ -44,28 +45,31 @@ pub fn section(alloc: Global, text: &[char]) -> Result<(Text, &[char]), Stop<'_>
 }
 
 /// Whether a name may be the target of an instruction.
-fn is_target(name: &[char]) -> bool
-    ensures tells_whether_it_is_a_target { result ≡ is_target name.now }
+fn is_target(name: &str) -> bool
+    ensures tells_whether_it_is_a_target { result ≡ is_target (chars name.now) }
 {
     !same_letters(name, &['x', 'm', 'l'])
 }
 
 /// What follows the part of an instruction behind its target.
-fn instructed(text: &[char]) -> Result<&[char], Stop<'_>>
-    ensures reads_what_is_instructed { Gives (λ rest. (tt, rest.now)) result (read_instructed text.now) }
+fn instructed(text: &str) -> Result<&str, Stop<'_>>
+    ensures reads_what_is_instructed { Gives (λ rest. (tt, chars rest.now)) result (read_instructed (chars text.now)) }
 {
-    match text {
-        [c, rest @ ..] if is_space(*c) => {
+    match split_first(text) {
+        Some((first, rest)) => {
+            if !is_space(first) {
+                return word(text, &['?', '>']);
+            }
             let (_, rest) = up_to(rest, &['?', '>'])?;
             Ok(rest)
         }
-        _ => word(text, &['?', '>']),
+        None => word(text, &['?', '>']),
     }
 }
 
 /// What follows a processing instruction.
-pub fn instruction(text: &[char]) -> Result<&[char], Stop<'_>>
-    ensures reads_an_instruction { Gives (λ rest. (tt, rest.now)) result (read_instruction text.now) }
+pub fn instruction(text: &str) -> Result<&str, Stop<'_>>
+    ensures reads_an_instruction { Gives (λ rest. (tt, chars rest.now)) result (read_instruction (chars text.now)) }
 {
     let rest = word(text, &['<', '?'])?;
     let (target, rest) = name(rest)?;
@@ -76,8 +80,8 @@ pub fn instruction(text: &[char]) -> Result<&[char], Stop<'_>>
 }
 
 /// What follows a comment or an instruction.
-fn misc(text: &[char]) -> Result<&[char], Stop<'_>>
-    ensures reads_a_misc { Gives (λ rest. (tt, rest.now)) result (read_misc text.now) }
+fn misc(text: &str) -> Result<&str, Stop<'_>>
+    ensures reads_a_misc { Gives (λ rest. (tt, chars rest.now)) result (read_misc (chars text.now)) }
 {
     if starts(text, &['<', '!']) {
         let (_, rest) = comment_inside(text)?;
@@ -87,8 +91,8 @@ fn misc(text: &[char]) -> Result<&[char], Stop<'_>>
 }
 
 /// Whether a comment or an instruction follows.
-fn misc_follows(text: &[char]) -> bool
-    ensures tells_whether_a_misc_follows { result ≡ misc_follows text.now }
+fn misc_follows(text: &str) -> bool
+    ensures tells_whether_a_misc_follows { result ≡ misc_follows (chars text.now) }
 {
     if starts(text, &['<', '!']) {
         return true;
@@ -97,8 +101,8 @@ fn misc_follows(text: &[char]) -> bool
 }
 
 /// What follows a comment or an instruction before the root element, where no document type may stand.
-fn prolog_misc(text: &[char]) -> Result<&[char], Stop<'_>>
-    ensures reads_a_misc_of_the_prolog { Gives (λ rest. (tt, rest.now)) result (read_prolog_misc text.now) }
+fn prolog_misc(text: &str) -> Result<&str, Stop<'_>>
+    ensures reads_a_misc_of_the_prolog { Gives (λ rest. (tt, chars rest.now)) result (read_prolog_misc (chars text.now)) }
 {
     if starts(text, &['<', '!', 'D', 'O', 'C', 'T', 'Y', 'P', 'E']) {
         return Err(Stop::Faulty(Kind::Doctyped, text));
@@ -107,8 +111,8 @@ fn prolog_misc(text: &[char]) -> Result<&[char], Stop<'_>>
 }
 
 /// What follows white space, comments and instructions before the root element.
-pub fn prolog(text: &[char]) -> Result<&[char], Stop<'_>>
-    ensures reads_the_prolog { Gives (λ rest. (tt, rest.now)) result (read_prolog text.now) }
+pub fn prolog(text: &str) -> Result<&str, Stop<'_>>
+    ensures reads_the_prolog { Gives (λ rest. (tt, chars rest.now)) result (read_prolog (chars text.now)) }
 {
     let (_, start) = spaces(text);
     let mut rest = start;
@@ -124,15 +128,15 @@ pub fn prolog(text: &[char]) -> Result<&[char], Stop<'_>>
 }
 
 /// Whether a `<` follows: behind the root element only a comment or an instruction can begin with it.
-fn less_follows(text: &[char]) -> bool
-    ensures tells_whether_less_follows { result ≡ less_follows text.now }
+fn less_follows(text: &str) -> bool
+    ensures tells_whether_less_follows { result ≡ less_follows (chars text.now) }
 {
-    matches!(text, ['<', ..])
+    is_first(text, '<')
 }
 
 /// What follows white space, comments and instructions behind the root element.
-pub fn epilog(text: &[char]) -> Result<&[char], Stop<'_>>
-    ensures reads_the_epilog { Gives (λ rest. (tt, rest.now)) result (read_epilog text.now) }
+pub fn epilog(text: &str) -> Result<&str, Stop<'_>>
+    ensures reads_the_epilog { Gives (λ rest. (tt, chars rest.now)) result (read_epilog (chars text.now)) }
 {
     let (_, start) = spaces(text);
     let mut rest = start;

@@ -18,6 +18,7 @@ use crate::fault::TextFault;
 use crate::kind::Kind;
 use crate::pieces::{epilog, prolog};
 use crate::places::place;
+use crate::stepping::is_over;
 use crate::stop::Stop;
 use std::alloc::{AllocError, Global};
 use xml_tree::{Element, ReadError, Scope};
@@ -25,12 +26,12 @@ use xml_tree::{Element, ReadError, Scope};
 /// The root element of a whole text, with this many levels at most.
 fn root<'a>(
     alloc: Global,
-    text: &'a [char],
+    text: &'a str,
     scope: &Scope<'_>,
     depth: usize,
 ) -> Result<Element, Stop<'a>>
     requires { length scope.now + depth ≤ SCOPE_LIMIT }
-    ensures reads_all_of_the_text { GivesAll result (read_whole (read_text depth scope.now) text.now) }
+    ensures reads_all_of_the_text { GivesAll result (read_whole (read_text depth scope.now) (chars text.now)) }
 {
     let rest = mark_if(text);
     let rest = declaration_if(rest)?;
@@ -38,7 +39,7 @@ fn root<'a>(
     let mut bindings = Bindings::given(alloc, scope)?;
     let (root, rest) = element(alloc, rest, &mut bindings, 1, depth)?;
     let rest = epilog(rest)?;
-    if !rest.is_empty() {
+    if !is_over(rest) {
         return Err(Stop::Syntax(rest));
     }
     Ok(root)
@@ -91,8 +92,7 @@ fn read(
     let Ok(text) = str::from_utf8(bytes) else {
         return Err(ReadError::Fault(TextFault::NotUtf8));
     };
-    let all = decoded(alloc, text)?;
-    match root(alloc, &all, scope, depth) {
+    match root(alloc, text, scope, depth) {
         Ok(root) => Ok(root),
         Err(stop) => Err(error(bytes, stop)),
     }

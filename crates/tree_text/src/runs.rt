@@ -1,55 +1,92 @@
 //! Runs of characters: raw ones in content, and those up to a word that ends them.
-ghost use Rattle.std.specs.Prelude.{◌≡◌, ◌==◌, ◌+◌, ◌<◌, ◌≤◌, ◌++◌, true, false, [], length, OnOk, IfOk, IsTrue, Ok};
-ghost use Rattle.grammar_rules.specs.Reading.{starts, read_up_to};
+ghost use Rattle.std.specs.Prelude.{◌≡◌, ◌==◌, ◌++◌, true, false, [], ◌∷◌, chars, drop, OnOk, IfOk, IfSome, IfNone, IsTrue, Ok};
+ghost use Rattle.grammar_rules.specs.Reading.{after_without, starts, read_up_to};
 ghost use Rattle.xml_tree.specs.Characters.{is_char};
 ghost use Rattle.tree_text.specs.readers.Gives.{Gives};
 ghost use Rattle.tree_text.specs.Grammar.{is_raw};
 ghost use Rattle.tree_text.specs.Pieces.{line_char, line_ends, same_letters};
 ghost use Rattle.tree_text.specs.readers.Texts.{read_raw_run};
 ghost use Rattle.std.specs.List.{list_all, cons_option};
-ghost use Rattle.tree_text.specs.readers.Runs.{is_no_return, is_usual, without_len};
+ghost use Rattle.tree_text.specs.readers.Runs.{is_no_return, is_usual};
 ghost use Rattle.tree_text.specs.readers.Words.{section_end};
 
+use crate::stepping::{split_first, text_before};
 use crate::stop::Stop;
-use crate::texts::text_of;
 use crate::values::{is_raw, line_char};
 use std::alloc::{AllocError, Global};
 use xml_tree::{Text, is_char};
 
-/// Whether a word stands in front.
-pub fn starts(text: &[char], word: &[char]) -> bool
-    ensures tells_by_the_test { result ≡ starts word.now text.now }
-    ensures word_fits_in_the_text { IsTrue result → length word.now ≤ length text.now }
+/// What follows a word, where it stands in front.
+#[inline(always)]
+pub fn after_word<'a>(text: &'a str, word: &[char]) -> Option<&'a str>
+    ensures word_and_rest { IfSome result (λ rest. chars text.now ≡ word.now ++ chars rest.now) }
+    ensures no_word_where_there_is_none { IfNone result (starts word.now (chars text.now) ≡ false) }
 {
     let mut rest = text;
     for &expected in word {
-        match rest {
-            [found, after @ ..] if *found == expected => rest = after,
-            _ => return false,
+        match split_first(rest) {
+            Some((found, after)) => {
+                if found != expected {
+                    return None;
+                }
+                rest = after;
+            }
+            None => return None,
         }
     }
-    true
+    Some(rest)
+}
+
+/// Whether a word stands in front.
+#[inline(always)]
+pub fn starts(text: &str, word: &[char]) -> bool
+    ensures tells_by_the_test { result ≡ starts word.now (chars text.now) }
+{
+    match after_word(text, word) {
+        Some(_) => true,
+        None => false,
+    }
 }
 
 /// Whether these are the letters of a word, in small letters or in capitals.
-pub fn same_letters(text: &[char], word: &[char]) -> bool
-    ensures tells_whether_the_letters_are_the_same { result ≡ same_letters text.now word.now }
+#[tactic(auto, using(crate::proofs::WordLoops::letters_over, crate::proofs::WordLoops::letters_left))]
+pub fn same_letters(text: &str, word: &[char]) -> bool
+    ensures tells_whether_the_letters_are_the_same { result ≡ same_letters (chars text.now) word.now }
 {
     let mut rest = text;
     for &expected in word {
-        match rest {
-            [found, after @ ..] if found.to_ascii_lowercase() == expected => rest = after,
-            _ => return false,
+        match split_first(rest) {
+            Some((found, after)) => {
+                let lower = found.to_ascii_lowercase();
+                if lower != expected {
+                    return false;
+                }
+                rest = after;
+            }
+            None => return false,
         }
     }
-    matches!(rest, [])
+    match split_first(rest) {
+        Some(_) => false,
+        None => true,
+    }
 }
 
-/// Whether the end of a CDATA section stands in front.
-fn ends_section(text: &[char]) -> bool
-    ensures tells_whether_the_section_ends { result ≡ starts section_end text.now }
+/// The `>` that ends the end of a CDATA section, where one stands in front, and what follows it.
+fn at_section_end(text: &str) -> Option<&str>
+    ensures section_ends_here { IfSome result (λ _. starts section_end (chars text.now) ≡ true) }
+    ensures last_letter_and_rest { IfSome result (λ rest. chars rest.now ≡ drop 2 (chars text.now)) }
+    ensures no_end_where_there_is_none { IfNone result (starts section_end (chars text.now) ≡ false) }
 {
-    matches!(text, [']', ']', '>', ..])
+    match after_word(text, &[']', ']']) {
+        Some(rest) => {
+            if !starts(rest, &['>']) {
+                return None;
+            }
+            Some(rest)
+        }
+        None => None,
+    }
 }
 
 /// Whether a character stands behind `]` and before the surrogates, or is a space or a line end.
@@ -67,53 +104,68 @@ fn is_inner(c: char) -> bool
     is_usual(c)
 }
 
-/// How many raw characters of content stand in front of a `>` that would end `]]>`, or of what isn't raw.
-#[inline(never)]
-fn raw_len(text: &[char]) -> usize
-    ensures counts_the_raw_ones_of_content { result ≡ without_len is_raw section_end text.now }
+/// What follows the raw characters of content, where they end before this first character of a text or at the `>` that would end `]]>`.
+#[inline(always)]
+fn raw_end<'a>(text: &'a str, first: char, after: &str) -> Option<&'a str>
+    requires { chars text.now ≡ first ∷ chars after.now }
+    ensures ends_the_raw_ones { IfSome result (λ rest. chars rest.now ≡ after_without is_raw section_end (chars text.now)) }
+    ensures goes_on_where_there_is_none { IfNone result (after_without is_raw section_end (chars text.now) ≡ after_without is_raw section_end (chars after.now)) }
 {
-    for (i, &c) in text.iter().enumerate() {
-        if is_inner(c) {
-            continue;
-        }
-        if ends_section(&text[i..]) {
-            return i + 2;
-        }
-        if !is_raw(c) {
-            return i;
+    if is_inner(first) {
+        return None;
+    }
+    if let Some(rest) = at_section_end(text) {
+        return Some(rest);
+    }
+    if !is_raw(first) {
+        return Some(text);
+    }
+    None
+}
+
+/// What follows the raw characters of content in front: a `>` that would end `]]>`, or what isn't raw.
+#[inline(never)]
+fn behind_raw(text: &str) -> &str
+    ensures stands_behind_the_raw_ones { chars result.now ≡ after_without is_raw section_end (chars text.now) }
+{
+    let mut rest = text;
+    'each: while let Some((c, after)) = split_first(rest) {
+        match raw_end(rest, c, after) {
+            Some(end) => return end,
+            None => rest = after,
         }
     }
-    text.len()
+    rest
 }
 
 /// Raw characters of content, which may be none, and what follows them.
-#[tactic(auto, using(crate::proofs::RunLemmas::take_without, crate::proofs::RunLemmas::drop_without, crate::proofs::RunLemmas::without_len_le))]
-pub fn raw_run(text: &[char]) -> (&[char], &[char])
-    ensures reads_a_raw_run { read_raw_run text.now ≡ Ok (result.0.now, result.1.now) }
+pub fn raw_run(text: &str) -> (&str, &str)
+    ensures reads_a_raw_run { read_raw_run (chars text.now) ≡ Ok (chars result.0.now, chars result.1.now) }
 {
-    text.split_at(raw_len(text))
+    let rest = behind_raw(text);
+    (text_before(text, rest), rest)
 }
 
 /// The Chars up to the first time that a word stands there, and what follows the word.
-pub fn up_to<'a>(text: &'a [char], end: &[char]) -> Result<(&'a [char], &'a [char]), Stop<'a>>
-    requires { 0 < length end.now }
-    ensures reads_up_to_the_word { Gives (λ x. (x.0.now, x.1.now)) result (read_up_to is_char end.now text.now) }
+pub fn up_to<'a>(text: &'a str, end: &[char]) -> Result<(&'a str, &'a str), Stop<'a>>
+    ensures reads_up_to_the_word { Gives (λ x. (chars x.0.now, chars x.1.now)) result (read_up_to is_char end.now (chars text.now)) }
 {
-    for i in 0..text.len() {
-        let rest = &text[i..];
-        if starts(rest, end) {
-            return Ok((&text[..i], &rest[end.len()..]));
+    let mut rest = text;
+    'each: while let Some((c, after)) = split_first(rest) {
+        if let Some(behind) = after_word(rest, end) {
+            return Ok((text_before(text, rest), behind));
         }
-        if !is_char(text[i]) {
+        if !is_char(c) {
             return Err(Stop::Syntax(rest));
         }
+        rest = after;
     }
-    Err(Stop::Syntax(&[]))
+    Err(Stop::Syntax(rest))
 }
 
 /// Adds a raw character of content, which these follow.
-fn push_char(text: &mut Text, c: char, after: &[char]) -> Result<(), AllocError>
-    ensures adds_the_character_as_it_is_read { OnOk result (text.new ≡ text.old ++ cons_option (line_char c after.now) []) }
+fn push_char(text: &mut Text, c: char, after: &str) -> Result<(), AllocError>
+    ensures adds_the_character_as_it_is_read { OnOk result (text.new ≡ text.old ++ cons_option (line_char c (chars after.now)) []) }
 {
     match line_char(c, after) {
         Some(c) => text.push(c),
@@ -121,31 +173,38 @@ fn push_char(text: &mut Text, c: char, after: &[char]) -> Result<(), AllocError>
     }
 }
 
-/// Whether a run has no CR, so that it is read as it stands.
-fn has_no_return(run: &[char]) -> bool
-    ensures tells_whether_none_is_a_return { result ≡ list_all is_no_return run.now }
+/// Whether no byte is a CR.
+fn is_free_of_returns(bytes: &[u8]) -> bool
+    ensures tells_whether_no_byte_is_a_return { result ≡ list_all is_no_return bytes.now }
 {
-    run.iter().all(|&c| c != '\r')
+    bytes.iter().all(|&byte| byte != b'\r')
+}
+
+/// Whether a run has no CR, so that it is read as it stands.
+fn has_no_return(run: &str) -> bool
+    ensures tells_whether_none_is_a_return { result ≡ list_all is_no_return (chars run.now) }
+{
+    is_free_of_returns(run.as_bytes())
 }
 
 /// The text that a run is read as: its line ends are LF.
-pub fn lines(alloc: Global, run: &[char]) -> Result<Text, AllocError>
-    ensures mends_the_line_ends { IfOk result (λ text. text ≡ line_ends run.now) }
+pub fn lines(alloc: Global, run: &str) -> Result<Text, AllocError>
+    ensures mends_the_line_ends { IfOk result (λ text. text ≡ line_ends (chars run.now)) }
 {
     if has_no_return(run) {
-        return text_of(alloc, run);
+        return Text::from(alloc, run);
     }
     mended(alloc, run)
 }
 
 /// The same, character by character.
-fn mended(alloc: Global, run: &[char]) -> Result<Text, AllocError>
-    ensures mends_each_line_end { IfOk result (λ text. text ≡ line_ends run.now) }
+fn mended(alloc: Global, run: &str) -> Result<Text, AllocError>
+    ensures mends_each_line_end { IfOk result (λ text. text ≡ line_ends (chars run.now)) }
 {
     let mut text = Text::with_capacity(alloc, run.len())?;
     let mut rest = run;
-    while let [c, after @ ..] = rest {
-        push_char(&mut text, *c, after)?;
+    'each: while let Some((c, after)) = split_first(rest) {
+        push_char(&mut text, c, after)?;
         rest = after;
     }
     Ok(text)

@@ -9,9 +9,9 @@ use std::alloc::{AllocError, AllocFailed};
 #[derive(Debug, Drop)]
 pub enum Stop<'a> {
     /// Behind the longest beginning.
-    Syntax(&'a [char]),
+    Syntax(&'a str),
     /// At the place of a fault of this kind.
-    Faulty(Kind, &'a [char]),
+    Faulty(Kind, &'a str),
     /// For want of memory.
     Memory,
 }

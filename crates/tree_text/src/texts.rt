@@ -5,7 +5,7 @@ ghost use Rattle.std.specs.Str.{IsAscii};
 ghost use Rattle.tree_text.specs.readers.Runs.{is_ascii, Spells};
 
 use std::alloc::{AllocError, Global};
-use xml_tree::{LocalName, Text, Word};
+use xml_tree::{Text, Word};
 
 // How many characters are made bytes at a time.
 const CHUNK: usize = 64;
@@ -24,33 +24,14 @@ fn is_ascii(c: char) -> bool
     c <= '\u{7F}'
 }
 
-/// The text that the bytes in front are, which are ASCII.
-pub fn ascii(bytes: &[u8; 64], len: usize) -> &str
+// The text that the bytes in front are, which are ASCII.
+fn ascii(bytes: &[u8; 64], len: usize) -> &str
     requires size { len ≤ 64 }
     requires ascii { IsAscii (take len bytes.now) }
     ensures lends_the_bytes_in_front { chars result.now ≡ take len bytes.now }
-    ensures stands_in_front { result.now ≡ take len bytes.now }
 {
     // It is proved that these bytes are ASCII.
     unsafe { str::from_utf8_unchecked(&bytes[..len]) }
-}
-
-/// A text of the bytes in front, which are ASCII.
-pub fn ascii_text(alloc: Global, bytes: &[u8; 64], len: usize) -> Result<Text, AllocError>
-    requires size { len ≤ 64 }
-    requires ascii { IsAscii (take len bytes.now) }
-    ensures holds_the_bytes_in_front { IfOk result (λ text. text ≡ take len bytes.now) }
-{
-    Text::from_front(alloc, ascii(bytes, len), bytes)
-}
-
-/// A local name of the bytes in front, which are ASCII.
-pub fn ascii_name(alloc: Global, bytes: &[u8; 64], len: usize) -> Result<LocalName, AllocError>
-    requires size { len ≤ 64 }
-    requires ascii { IsAscii (take len bytes.now) }
-    ensures holds_the_bytes_in_front { IfOk result (λ name. name ≡ take len bytes.now) }
-{
-    LocalName::from_front(alloc, ascii(bytes, len), bytes)
 }
 
 // Writes characters as bytes, and answers whether all are ASCII, so that they are.
@@ -102,8 +83,8 @@ fn push_chunk(text: &mut Text, chars: &[char]) -> Result<(), AllocError>
     }
 }
 
-/// Adds characters to a text.
-pub fn push_all(text: &mut Text, chars: &[char]) -> Result<(), AllocError>
+// Adds characters to a text.
+fn push_all(text: &mut Text, chars: &[char]) -> Result<(), AllocError>
     ensures adds_all_characters { OnOk result (text.new ≡ text.old ++ chars.now) }
 {
     let mut rest = chars;

@@ -1,20 +1,21 @@
 //! References, and values between quotes.
-ghost use Rattle.std.specs.Prelude.{◌≡◌, ◌+◌, ◌≤◌, ◌<◌, ◌++◌, true, false, [], ◌∷◌, MatchOption, IfOk, OnOk, Ok, option_map};
-ghost use Rattle.grammar_rules.specs.Reading.{read_one, read_number};
+ghost use Rattle.std.specs.Prelude.{◌≡◌, ◌≤◌, ◌<◌, ◌++◌, true, false, [], ◌∷◌, chars, MatchOption, IfOk, OnOk, Ok, option_map};
+ghost use Rattle.grammar_rules.specs.Reading.{number_end, read_one, read_number};
 ghost use Rattle.xml_tree.specs.Characters.{is_char};
 ghost use Rattle.tree_text.specs.readers.Gives.{Gives};
 ghost use Rattle.std.specs.List.{list_all, cons_option};
-ghost use Rattle.tree_text.specs.readers.Runs.{is_frequent, is_smooth, run_len, ends_run};
+ghost use Rattle.tree_text.specs.readers.Runs.{is_frequent, is_smooth, ends_run};
 ghost use Rattle.tree_text.specs.Pieces.{line_char, blank, raw};
 ghost use Rattle.tree_text.specs.readers.Members.{read_blanked};
 ghost use Rattle.tree_text.specs.readers.Views.{digits_of};
 ghost use Rattle.tree_text.specs.Grammar.{last_char, is_quote, is_raw, is_raw_in};
 ghost use Rattle.tree_text.specs.readers.Texts.{read_stands_for, read_entity, read_numbered, read_named, read_reference, read_raw, reference_follows, read_value};
 
-use crate::fronts::plain_in_value;
-use crate::parts::word;
+use crate::classes::{Class, run};
+use crate::parts::{letter, word};
+use crate::runs::starts;
+use crate::stepping::{is_first, split_first};
 use crate::stop::Stop;
-use crate::texts::{ascii_text, push_all};
 use std::alloc::{AllocError, Global};
 use xml_tree::{Text, is_char};
 
@@ -37,79 +38,94 @@ fn base(hexadecimal: bool) -> u32
     if hexadecimal { 16 } else { 10 }
 }
 
+/// The Char of this number, if there is one and digits tell it, and what follows them.
+fn number_end(value: u32, any: bool, rest: &str) -> Result<(char, &str), Stop<'_>>
+    ensures ends_a_number { Gives (λ x. (x.0, chars x.1.now)) result (number_end is_char value any (chars rest.now)) }
+{
+    match char::from_u32(value) {
+        Some(c) if any && is_char(c) => Ok((c, rest)),
+        _ => Err(Stop::Syntax(rest)),
+    }
+}
+
 /// The Char whose number stands here, and what follows it.
-fn number(text: &[char], hexadecimal: bool) -> Result<(char, &[char]), Stop<'_>>
-    ensures reads_a_number { Gives (λ x. (x.0, x.1.now)) result (read_number (digits_of hexadecimal) last_char is_char text.now) }
+fn number(text: &str, hexadecimal: bool) -> Result<(char, &str), Stop<'_>>
+    ensures reads_a_number { Gives (λ x. (x.0, chars x.1.now)) result (read_number (digits_of hexadecimal) last_char is_char (chars text.now)) }
 {
     let base = base(hexadecimal);
     let mut value = 0u32;
+    let mut any = false;
     let mut rest = text;
-    while let [c, after @ ..] = rest {
-        let Some(digit) = digit(*c, hexadecimal) else {
-            break;
+    'each: while let Some((c, after)) = split_first(rest) {
+        let Some(digit) = digit(c, hexadecimal) else {
+            return number_end(value, any, rest);
         };
         if value * base + digit > 0x10FFFF {
             return Err(Stop::Syntax(rest));
         }
         value = value * base + digit;
+        any = true;
         rest = after;
     }
-    match char::from_u32(value) {
-        Some(c) if is_char(c) && rest.len() < text.len() => Ok((c, rest)),
-        _ => Err(Stop::Syntax(rest)),
-    }
+    number_end(value, any, rest)
 }
 
 /// `#` and a number.
-fn numbered(text: &[char]) -> Result<(char, &[char]), Stop<'_>>
-    ensures reads_a_numbered_one { Gives (λ x. (x.0, x.1.now)) result (read_numbered text.now) }
+fn numbered(text: &str) -> Result<(char, &str), Stop<'_>>
+    ensures reads_a_numbered_one { Gives (λ x. (x.0, chars x.1.now)) result (read_numbered (chars text.now)) }
 {
-    let rest = word(text, &['#'])?;
-    if let ['x', ..] = rest {
-        let rest = word(rest, &['x'])?;
+    let rest = letter(text, '#')?;
+    if is_first(rest, 'x') {
+        let rest = letter(rest, 'x')?;
         return number(rest, true);
     }
     number(rest, false)
 }
 
 /// The name of an entity, which stands for this character.
-fn stands_for<'a>(c: char, text: &'a [char], name: &[char]) -> Result<(char, &'a [char]), Stop<'a>>
-    ensures reads_what_stands_for_it { Gives (λ x. (x.0, x.1.now)) result (read_stands_for c name.now text.now) }
+fn stands_for<'a>(c: char, text: &'a str, name: &[char]) -> Result<(char, &'a str), Stop<'a>>
+    ensures reads_what_stands_for_it { Gives (λ x. (x.0, chars x.1.now)) result (read_stands_for c name.now (chars text.now)) }
 {
     let rest = word(text, name)?;
     Ok((c, rest))
 }
 
 /// The character that an entity stands for, and what follows its name.
-fn entity(text: &[char]) -> Result<(char, &[char]), Stop<'_>>
-    ensures reads_an_entity { Gives (λ x. (x.0, x.1.now)) result (read_entity text.now) }
+fn entity(text: &str) -> Result<(char, &str), Stop<'_>>
+    ensures reads_an_entity { Gives (λ x. (x.0, chars x.1.now)) result (read_entity (chars text.now)) }
 {
-    match text {
-        ['l', ..] => stands_for('<', text, &['l', 't']),
-        ['g', ..] => stands_for('>', text, &['g', 't']),
-        ['q', ..] => stands_for('"', text, &['q', 'u', 'o', 't']),
-        ['a', 'p', ..] => stands_for('\'', text, &['a', 'p', 'o', 's']),
-        _ => stands_for('&', text, &['a', 'm', 'p']),
+    if is_first(text, 'l') {
+        return stands_for('<', text, &['l', 't']);
     }
+    if is_first(text, 'g') {
+        return stands_for('>', text, &['g', 't']);
+    }
+    if is_first(text, 'q') {
+        return stands_for('"', text, &['q', 'u', 'o', 't']);
+    }
+    if starts(text, &['a', 'p']) {
+        return stands_for('\'', text, &['a', 'p', 'o', 's']);
+    }
+    stands_for('&', text, &['a', 'm', 'p'])
 }
 
 /// A number or the name of an entity.
-fn named(text: &[char]) -> Result<(char, &[char]), Stop<'_>>
-    ensures reads_a_named_one { Gives (λ x. (x.0, x.1.now)) result (read_named text.now) }
+fn named(text: &str) -> Result<(char, &str), Stop<'_>>
+    ensures reads_a_named_one { Gives (λ x. (x.0, chars x.1.now)) result (read_named (chars text.now)) }
 {
-    match text {
-        ['#', ..] => numbered(text),
-        _ => entity(text),
+    if is_first(text, '#') {
+        return numbered(text);
     }
+    entity(text)
 }
 
 /// The character that a reference stands for, and what follows it.
-pub fn reference(text: &[char]) -> Result<(char, &[char]), Stop<'_>>
-    ensures reads_a_reference { Gives (λ x. (x.0, x.1.now)) result (read_reference text.now) }
+pub fn reference(text: &str) -> Result<(char, &str), Stop<'_>>
+    ensures reads_a_reference { Gives (λ x. (x.0, chars x.1.now)) result (read_reference (chars text.now)) }
 {
-    let rest = word(text, &['&'])?;
+    let rest = letter(text, '&')?;
     let (c, rest) = named(rest)?;
-    Ok((c, word(rest, &[';'])?))
+    Ok((c, letter(rest, ';')?))
 }
 
 /// Whether a character is a quote.
@@ -120,12 +136,17 @@ pub fn is_quote(c: char) -> bool
 }
 
 /// A quote, and what follows it.
-pub fn quote(text: &[char]) -> Result<(char, &[char]), Stop<'_>>
-    ensures reads_a_quote { Gives (λ x. (x.0, x.1.now)) result (read_one is_quote text.now) }
+pub fn quote(text: &str) -> Result<(char, &str), Stop<'_>>
+    ensures reads_a_quote { Gives (λ x. (x.0, chars x.1.now)) result (read_one is_quote (chars text.now)) }
 {
-    match text {
-        [quote, rest @ ..] if is_quote(*quote) => Ok((*quote, rest)),
-        _ => Err(Stop::Syntax(text)),
+    match split_first(text) {
+        Some((quote, rest)) => {
+            if !is_quote(quote) {
+                return Err(Stop::Syntax(text));
+            }
+            Ok((quote, rest))
+        }
+        None => Err(Stop::Syntax(text)),
     }
 }
 
@@ -146,37 +167,32 @@ pub fn is_raw(c: char) -> bool
     is_char(c) && c != '<' && c != '&'
 }
 
-/// How many raw characters stand in front, in a value between these quotes.
-#[inline(never)]
-#[tactic(auto, using(crate::proofs::RunLemmas::run_more, crate::proofs::RunLemmas::run_done))]
-fn raw_len(text: &[char], quote: char) -> usize
-    ensures counts_the_raw_ones_of_a_value { result ≡ run_len (is_raw_in quote) text.now }
+/// Whether a character stands raw in a value between these quotes.
+#[inline(always)]
+pub fn is_raw_in(c: char, quote: char) -> bool
+    ensures tells_whether_it_is_raw_between_them { result ≡ is_raw_in quote c }
 {
-    for (i, &c) in text.iter().enumerate() {
-        if c == quote || !is_raw(c) {
-            return i;
-        }
-    }
-    text.len()
+    is_raw(c) && c != quote
 }
 
 /// The raw characters of a value between these quotes, and what follows them.
-#[tactic(auto, using(crate::proofs::RunLemmas::take_run, crate::proofs::RunLemmas::drop_run, crate::proofs::RunLemmas::run_len_le))]
-pub fn raw_run(text: &[char], quote: char) -> (&[char], &[char])
-    ensures reads_the_raw_ones_of_a_value { read_raw quote text.now ≡ Ok (result.0.now, result.1.now) }
+pub fn raw_run(text: &str, quote: char) -> (&str, &str)
+    ensures reads_the_raw_ones_of_a_value { read_raw quote (chars text.now) ≡ Ok (chars result.0.now, chars result.1.now) }
 {
-    text.split_at(raw_len(text, quote))
+    run(text, Class::RawIn(quote))
 }
 
 /// How a character is read that these follow: a CR before a LF as nothing.
-pub fn line_char(c: char, after: &[char]) -> Option<char>
-    ensures character_as_a_line_has_it { result ≡ line_char c after.now }
+pub fn line_char(c: char, after: &str) -> Option<char>
+    ensures character_as_a_line_has_it { result ≡ line_char c (chars after.now) }
 {
     match c {
-        '\r' => match after {
-            ['\n', ..] => None,
-            _ => Some('\n'),
-        },
+        '\r' => {
+            if is_first(after, '\n') {
+                return None;
+            }
+            Some('\n')
+        }
         _ => Some(c),
     }
 }
@@ -192,8 +208,8 @@ fn blank(c: char) -> char
 }
 
 /// Adds a raw character of a value, which these follow.
-fn push_raw_char(value: &mut Text, c: char, after: &[char]) -> Result<(), AllocError>
-    ensures adds_the_raw_character { OnOk result (value.new ≡ value.old ++ cons_option (option_map blank (line_char c after.now)) []) }
+fn push_raw_char(value: &mut Text, c: char, after: &str) -> Result<(), AllocError>
+    ensures adds_the_raw_character { OnOk result (value.new ≡ value.old ++ cons_option (option_map blank (line_char c (chars after.now))) []) }
 {
     match line_char(c, after) {
         Some(c) => value.push(blank(c)),
@@ -201,43 +217,45 @@ fn push_raw_char(value: &mut Text, c: char, after: &[char]) -> Result<(), AllocE
     }
 }
 
-/// Whether no raw character of a value is a tab or a line end, so that all are read as they stand.
-fn is_all_smooth(run: &[char]) -> bool
-    ensures tells_whether_all_are_smooth { result ≡ list_all is_smooth run.now }
+/// Whether no byte is below the space.
+fn is_free_of_controls(bytes: &[u8]) -> bool
+    ensures tells_whether_all_bytes_are_smooth { result ≡ list_all is_smooth bytes.now }
 {
-    for &c in run {
-        if c < ' ' {
-            return false;
-        }
-    }
-    true
+    bytes.iter().all(|&byte| byte >= b' ')
+}
+
+/// Whether no raw character of a value is a tab or a line end, so that all are read as they stand.
+fn is_all_smooth(run: &str) -> bool
+    ensures tells_whether_all_are_smooth { result ≡ list_all is_smooth (chars run.now) }
+{
+    is_free_of_controls(run.as_bytes())
 }
 
 /// Adds raw characters of a value, as they are read.
-pub fn push_raw(value: &mut Text, run: &[char]) -> Result<(), AllocError>
-    ensures adds_the_raw_run { OnOk result (value.new ≡ value.old ++ raw run.now) }
+pub fn push_raw(value: &mut Text, run: &str) -> Result<(), AllocError>
+    ensures adds_the_raw_run { OnOk result (value.new ≡ value.old ++ raw (chars run.now)) }
 {
     if is_all_smooth(run) {
-        return push_all(value, run);
+        return value.push_str(run);
     }
     push_blanks(value, run)
 }
 
 /// The same, character by character.
-fn push_blanks(value: &mut Text, run: &[char]) -> Result<(), AllocError>
-    ensures adds_each_raw_character { OnOk result (value.new ≡ value.old ++ raw run.now) }
+fn push_blanks(value: &mut Text, run: &str) -> Result<(), AllocError>
+    ensures adds_each_raw_character { OnOk result (value.new ≡ value.old ++ raw (chars run.now)) }
 {
     let mut rest = run;
-    while let [c, after @ ..] = rest {
-        push_raw_char(value, *c, after)?;
+    'each: while let Some((c, after)) = split_first(rest) {
+        push_raw_char(value, c, after)?;
         rest = after;
     }
     Ok(())
 }
 
 /// The text that raw characters of a value are read as.
-fn raw_text(alloc: Global, run: &[char]) -> Result<Text, AllocError>
-    ensures text_of_the_raw_run { IfOk result (λ text. text ≡ raw run.now) }
+fn raw_text(alloc: Global, run: &str) -> Result<Text, AllocError>
+    ensures text_of_the_raw_run { IfOk result (λ text. text ≡ raw (chars run.now)) }
 {
     let mut text = Text::with_capacity(alloc, run.len())?;
     push_raw(&mut text, run)?;
@@ -245,46 +263,45 @@ fn raw_text(alloc: Global, run: &[char]) -> Result<Text, AllocError>
 }
 
 /// Whether a reference follows.
-pub fn reference_follows(text: &[char]) -> bool
-    ensures tells_whether_a_reference_follows { result ≡ reference_follows text.now }
+pub fn reference_follows(text: &str) -> bool
+    ensures tells_whether_a_reference_follows { result ≡ reference_follows (chars text.now) }
 {
-    matches!(text, ['&', ..])
+    is_first(text, '&')
 }
 
 /// Adds a character from a reference, and the raw characters behind it.
-pub fn push_piece(value: &mut Text, c: char, run: &[char]) -> Result<(), AllocError>
-    ensures adds_the_piece { OnOk result (value.new ≡ value.old ++ (c ∷ raw run.now)) }
+pub fn push_piece(value: &mut Text, c: char, run: &str) -> Result<(), AllocError>
+    ensures adds_the_piece { OnOk result (value.new ≡ value.old ++ (c ∷ raw (chars run.now))) }
 {
     value.push(c)?;
     push_raw(value, run)
 }
 
 /// Whether this character or a `&` follows, which ends a run: a `<` in content, the quote in a value.
-pub fn ends_run(text: &[char], end: char) -> bool
-    ensures tells_whether_the_run_ends { result ≡ ends_run end text.now }
+pub fn ends_run(text: &str, end: char) -> bool
+    ensures tells_whether_the_run_ends { result ≡ ends_run end (chars text.now) }
 {
-    match text {
-        [c, ..] => *c == end || *c == '&',
-        [] => false,
+    match split_first(text) {
+        Some((first, _)) => first == end || first == '&',
+        None => false,
     }
 }
 
-/// What raw characters of a value are read as, and what follows them. Most runs are short and plain, and are read in one pass.
-fn blanked(alloc: Global, text: &[char], quote: char) -> Result<(Text, &[char]), AllocError>
-    ensures reads_a_blanked_run { IfOk result (λ x. read_blanked quote text.now ≡ Ok (x.0, x.1.now)) }
+/// What raw characters of a value are read as, and what follows them. Most runs are plain, and are copied as they stand.
+fn blanked(alloc: Global, text: &str, quote: char) -> Result<(Text, &str), AllocError>
+    ensures reads_a_blanked_run { IfOk result (λ x. read_blanked quote (chars text.now) ≡ Ok (x.0, chars x.1.now)) }
 {
-    let mut bytes = [0; 64];
-    let (len, rest) = plain_in_value(text, quote, &mut bytes);
+    let (plain, rest) = run(text, Class::PlainValue(quote));
     if ends_run(rest, quote) {
-        return Ok((ascii_text(alloc, &bytes, len)?, rest));
+        return Ok((Text::from(alloc, plain)?, rest));
     }
     let (run, rest) = raw_run(text, quote);
     Ok((raw_text(alloc, run)?, rest))
 }
 
 /// A value up to its quote, and what follows it.
-pub fn value(alloc: Global, text: &[char], quote: char) -> Result<(Text, &[char]), Stop<'_>>
-    ensures reads_a_value { Gives (λ x. (x.0, x.1.now)) result (read_value quote text.now) }
+pub fn value(alloc: Global, text: &str, quote: char) -> Result<(Text, &str), Stop<'_>>
+    ensures reads_a_value { Gives (λ x. (x.0, chars x.1.now)) result (read_value quote (chars text.now)) }
 {
     let (mut value, start) = blanked(alloc, text, quote)?;
     let mut rest = start;

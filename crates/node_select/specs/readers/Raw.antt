@@ -46,7 +46,7 @@ AreWhole (step ∷ steps) = (step.front ≤ step.size) × AreWhole steps
 
 -- there is room for the places of all names of steps that stand so many characters behind the beginning
 pub record HasRoom (at : ℕ) (steps : List RawStep) : Type 0 where
-  pub within : at + widths steps < 2 ^ 63
+  pub within : at + widths steps < 2 ^ 63 + 2
   pub whole : AreWhole steps
 
 -- ---- names, and where they stand

@@ -11,8 +11,8 @@ use Rattle.node_select.specs.declared.fault.SelectorFault.TheVariants as faults
 use Rattle.node_select.specs.Faults.{byte_of}
 
 abbrev pub Tells : List ℕ → Stop → ReadError SelectorFault → Type 0
-Tells text (stops.Syntax rest) error = error ≡ Fault (faults.BadSelector (byte_of text (length (chars text) - length rest.now)))
-Tells text (stops.Faulty kind rest) error = error ≡ Fault (faults.BadSelector (byte_of text (length (chars text) - length rest.now)))
+Tells text (stops.Syntax rest) error = error ≡ Fault (faults.BadSelector (byte_of text (length (chars text) - length (chars rest.now))))
+Tells text (stops.Faulty kind rest) error = error ≡ Fault (faults.BadSelector (byte_of text (length (chars text) - length (chars rest.now))))
 Tells text stops.Memory error = error ≡ NoMemory
 
 abbrev pub TellsUnresolved : List ℕ → Unresolved → ReadError SelectorFault → Type 0

@@ -1,11 +1,12 @@
 -- The first wrong name of a tag, found from left to right.
-use Rattle.std.specs.Prelude.{ℕ, ◌+◌, ◌-◌, List, [], ◌∷◌, ◌++◌, if◌then◌else◌, Option, None, Some}
+use Rattle.std.specs.Prelude.{ℕ, suc, ◌+◌, ◌-◌, List, [], ◌∷◌, ◌++◌, length, if◌then◌else◌, Option, None, Some}
 use Rattle.xml_tree.specs.declared.names.Decl.{Decl}
+use Rattle.xml_tree.specs.declared.names.Name.{Name}
 use Rattle.tree_text.specs.declared.kind.Kind.{Kind}
 use Rattle.tree_text.specs.declared.kind.Kind.TheVariants.{Unbound, Repeated}
 use Rattle.tree_text.specs.declared.said.Said.{Said}
-use Rattle.tree_text.specs.Pieces.{StartTag}
-use Rattle.tree_text.specs.Names.{is_misnamed, is_repeated, inside_tag, opening_size, is_unbound_in}
+use Rattle.tree_text.specs.Pieces.{StartTag, written}
+use Rattle.tree_text.specs.Names.{is_misnamed, is_repeated, inside_tag, is_unbound_in}
 
 -- what is wrong with one: Unbound comes first
 abbrev pub wrong_said : List (List Decl) → List Said → Said → Option Kind
@@ -21,8 +22,12 @@ abbrev pub first_wrong : List (List Decl) → List Said → ℕ → List Said �
 first_wrong here earlier at [] = None
 first_wrong here earlier at (s ∷ later) = or_later (wrong_said here earlier s) (at + s.gap) (first_wrong here (earlier ++ s ∷ []) (at + (s.gap + s.size)) later)
 
+-- the name of the tag comes before those of what it says
+abbrev pub first_named : List (List Decl) → Name → List Said → Option (Kind × ℕ)
+first_named here name said = if is_unbound_in here name then Some (Unbound, 1) else first_wrong here [] (suc (length (written name))) said
+
 abbrev pub first_of_tag : List (List Decl) → StartTag → Option (Kind × ℕ)
-first_of_tag here t = if is_unbound_in here t.name then Some (Unbound, 1) else first_wrong here [] (opening_size t) t.said
+first_of_tag here t = first_named here t.name t.said
 
 -- counted back from the end of the tag
 abbrev pub counted_back : ℕ → Option (Kind × ℕ) → Option (Kind × ℕ)

@@ -1,17 +1,12 @@
 -- How much of a text stands in front of what ends it.
-use Rattle.std.specs.Prelude.{◌≡◌, ℕ, ◌+◌, ◌-◌, Bool, List, [], ◌∷◌, length, if◌then◌else◌, ◌==◌, ◌&&◌, ◌||◌, not, nat_le, chars}
-use Rattle.grammar_rules.specs.Reading.{head_is, starts}
+use Rattle.std.specs.Prelude.{◌≡◌, ℕ, ◌+◌, Bool, List, [], ◌∷◌, if◌then◌else◌, ◌==◌, ◌&&◌, ◌||◌, not, nat_le, chars}
+use Rattle.grammar_rules.specs.Reading.{head_is}
 use Rattle.std.specs.Int.{is_in_range as within}
 
 -- the characters of a class
 abbrev pub run_len : (ℕ → Bool) → List ℕ → ℕ
 run_len p [] = 0
 run_len p (c ∷ cs) = if p c then run_len p cs + 1 else 0
-
--- those up to where the next one would end the word
-abbrev pub without_len : (ℕ → Bool) → List ℕ → List ℕ → ℕ
-without_len p w [] = 0
-without_len p w (c ∷ cs) = if starts w (c ∷ cs) then length w - 1 else if p c then without_len p w cs + 1 else 0
 
 -- a character that isn't a CR, so that it is read as it stands in content
 abbrev pub is_no_return : ℕ → Bool
@@ -47,10 +42,6 @@ is_plain_in_value quote c = not (c == quote) && (within 39 59 c || within 32 37 
 -- ASCII letters, digits, `-`, `.` and `_`: they stand in names
 abbrev pub is_plain_in_name : ℕ → Bool
 is_plain_in_name c = c == 45 || c == 46 || within 48 57 c || within 97 122 c || within 65 90 c || c == 95
-
--- whether a `>`, a space, a `=` or a `/` follows, which end most names
-abbrev pub ends_name : List ℕ → Bool
-ends_name text = head_is (λ c. c == 62 || c == 32 || c == 61 || c == 47) text
 
 -- whether this character or a `&` follows: a `<` ends a run of content so, and the quote one in a value
 abbrev pub ends_run : ℕ → List ℕ → Bool

@@ -1,5 +1,5 @@
 -- What the parts of the code stand for in clauses.
-use Rattle.std.specs.Prelude.{Bool, true, false, List}
+use Rattle.std.specs.Prelude.{ℕ, ◌-◌, Bool, true, false, List, length, chars}
 use Rattle.grammar_rules.specs.Digits.{Digits, decimal_digits, hexadecimal}
 use Rattle.xml_tree.specs.declared.names.Name.{Name}
 use Rattle.tree_text.specs.declared.written.Written.{Written}
@@ -14,8 +14,8 @@ digits_of false = decimal_digits
 
 -- the name that stands in a text
 abbrev pub name_in : Written → Name
-name_in w = record { prefix = w.prefix.now; local = w.local.now }
+name_in w = record { prefix = chars w.prefix.now; local = chars w.local.now }
 
--- the tag that the code has read, which says this behind its name
-abbrev pub tag_in : CodeTag → List Said → StartTag
-tag_in t said = record { name = name_in t.written; said = said; is_empty = t.is_empty; size = t.size }
+-- the tag that the code has read from this text, which says this behind its name
+abbrev pub tag_in : List ℕ → CodeTag → List Said → StartTag
+tag_in text t said = record { name = name_in t.written; said = said; is_empty = t.is_empty; size = length text - length (chars t.behind.now) }

@@ -23,8 +23,8 @@ text_read limit scope bytes = if is_utf8 bytes then text_told bytes (read_whole 
 
 -- the error that the code makes of why it stopped
 abbrev pub FaultOf : List ℕ → Stop → ReadError TextFault → Type 0
-FaultOf bytes (stops.Syntax rest) error = error ≡ errors.Fault (stop_fault bytes (Syntax rest.now))
-FaultOf bytes (stops.Faulty kind rest) error = error ≡ errors.Fault (stop_fault bytes (Faulty kind rest.now))
+FaultOf bytes (stops.Syntax rest) error = error ≡ errors.Fault (stop_fault bytes (Syntax (chars rest.now)))
+FaultOf bytes (stops.Faulty kind rest) error = error ≡ errors.Fault (stop_fault bytes (Faulty kind (chars rest.now)))
 FaultOf bytes stops.Memory error = error ≡ errors.NoMemory
 
 -- ---- bodies that spell a value
@@ -34,6 +34,6 @@ body_read bytes = if is_utf8 bytes then body_told (chars bytes) bytes (read_whol
 
 -- the same of a body behind whose spelling so many bytes stand
 abbrev pub BodyFaultOf : List ℕ → ℕ → Stop → ReadError ValueFault → Type 0
-BodyFaultOf bytes behind (stops.Syntax rest) error = error ≡ errors.Fault (bodies.NotValue (byte_at bytes rest.now - behind))
-BodyFaultOf bytes behind (stops.Faulty kind rest) error = error ≡ errors.Fault (bodies.NotValue (byte_at bytes rest.now - behind))
+BodyFaultOf bytes behind (stops.Syntax rest) error = error ≡ errors.Fault (bodies.NotValue (byte_at bytes (chars rest.now) - behind))
+BodyFaultOf bytes behind (stops.Faulty kind rest) error = error ≡ errors.Fault (bodies.NotValue (byte_at bytes (chars rest.now) - behind))
 BodyFaultOf bytes behind stops.Memory error = error ≡ errors.NoMemory

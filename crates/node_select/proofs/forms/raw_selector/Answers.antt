@@ -1,4 +1,5 @@
-use Rattle.std.proofs.Common.{sym, ◌∙◌}
+use Rattle.std.proofs.Common.{◌<◌, ◌^◌, chars, length, sym, rules, arith}
+use Rattle.tree_text.proofs.TextBytes.{chars_le}
 use Rattle.node_select.specs.readers.Selectors.{read_selector}
 use Rattle.node_select.specs.readers.Views.{selector_in}
 use Rattle.node_select.proofs.Widths.{selector_room, whole_read}
@@ -7,4 +8,7 @@ use Rattle.node_select.proofs.forms.raw_selector.Goals as goal
 pub returns-clause-places_fit_in_64_bits : goal.returns-clause-places_fit_in_64_bits
 returns-clause-places_fit_in_64_bits c =
     let raw = selector_in c.in_ok-selector.selector in
-    selector_room c.args.text.now raw c.requires (whole_read read_selector c.args.text.now raw c.in_ok-selector.rest.now (c.in_ok-selector.ensures {u = tt}).reads_a_selector (sym c.is_empty.ensures ∙ c.if-not-is_empty.false))
+    let text = c.args.text.now in
+    let size : length text < 2 ^ 63 = first_of (search rules, omega (arith, c.well_formed)) in
+    let fits : length (chars text) < 2 ^ 63 = omega (arith, chars_le text c.utf8.text, size) in
+    selector_room (chars text) raw fits (whole_read read_selector (chars text) raw (chars c.in_ok-selector.rest.now) (c.in_ok-selector.ensures {u = tt}).reads_a_selector (sym c.if-not-is_over.ensures.tells_whether_it_has_none))

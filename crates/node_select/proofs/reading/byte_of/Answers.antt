@@ -1,9 +1,11 @@
-use Rattle.std.proofs.Common.{arith}
-use Rattle.node_select.proofs.Resolving.{rest_fits}
+use Rattle.std.proofs.Common.{◌≡◌, length, drop, chars, encode_utf8_all, sym, ap, ◌∙◌, arith}
+use Rattle.std.proofs.lemmas.Str.{encodes-chars}
 use Rattle.node_select.proofs.reading.byte_of.Goals as goal
 
-pub byte_len-requires : goal.byte_len-requires
-byte_len-requires c = omega (arith, rest_fits c.args.text.now c.args.all.now c.min-n.result c.requires c.utf8.text, c.well_formed)
-
-pub overflow_sub-result : goal.overflow_sub-result
-overflow_sub-result c = omega (arith, rest_fits c.args.text.now c.args.all.now c.min-n.result c.requires c.utf8.text, c.byte_len.ensures.counts_the_bytes)
+pub returns : goal.returns
+returns c = record {
+  byte_behind_the_characters =
+      let rest = c.skip.result.now in
+      let bytes : length rest ≡ length (encode_utf8_all (drop c.args.n (chars c.args.text.now))) = ap length (sym (encodes-chars rest c.skip.utf8) ∙ ap encode_utf8_all c.skip.ensures.rest_behind_so_many) in
+      omega (arith, bytes, c.saturating_sub.ensures);
+}

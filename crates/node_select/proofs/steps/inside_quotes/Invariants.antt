@@ -1,4 +1,6 @@
-use Rattle.std.proofs.Common.{◌≡◌, ◌-◌}
+use Rattle.std.proofs.Common.{◌≡◌, ◌-◌, chars}
+use denote.Text.{Utf8}
+use denote.Shadow.{shadow}
 use Rattle.grammar_rules.specs.Reading.{read_at_most}
 use Rattle.tree_text.specs.readers.Texts.{reference_follows}
 use Rattle.tree_text.proofs.Loops.{finish}
@@ -7,4 +9,4 @@ use Rattle.node_select.specs.readers.Selectors.{read_inside_quotes}
 use Rattle.node_select.proofs.steps.inside_quotes.Given as goal
 
 abbrev pub invariant-loop : goal.invariant-loop
-invariant-loop l = read_inside_quotes l.quote l.text ≡ finish value_with l.value (read_at_most reference_follows (read_piece l.quote) (l.end - l.counter) l.rest)
+invariant-loop l = record { utf8 : shadow (Utf8 l.rest); left : read_inside_quotes l.quote (chars l.text) ≡ finish value_with l.value (read_at_most reference_follows (read_piece l.quote) (l.end - l.counter) (chars l.rest)) }

@@ -1,4 +1,6 @@
-use Rattle.std.proofs.Common.{◌≡◌, ◌-◌, map}
+use Rattle.std.proofs.Common.{◌≡◌, ◌-◌, map, chars}
+use denote.Text.{Utf8}
+use denote.Shadow.{shadow}
 use Rattle.grammar_rules.specs.Reading.{read_at_most}
 use Rattle.tree_text.proofs.Loops.{finish}
 use Rattle.node_select.specs.readers.Members.{steps_with}
@@ -7,4 +9,4 @@ use Rattle.node_select.specs.readers.Views.{follows_in, step_in}
 use Rattle.node_select.proofs.steps.steps.Given as goal
 
 abbrev pub invariant-loop : goal.invariant-loop
-invariant-loop l = read_steps (follows_in l.form) l.text ≡ finish steps_with (map step_in l.steps.items) (read_at_most (follows_in l.form) read_next_step (l.end - l.counter) l.rest)
+invariant-loop l = record { utf8 : shadow (Utf8 l.rest); left : read_steps (follows_in l.form) (chars l.text) ≡ finish steps_with (map step_in l.steps.items) (read_at_most (follows_in l.form) read_next_step (l.end - l.counter) (chars l.rest)) }

@@ -1,4 +1,7 @@
-use Rattle.std.proofs.Common.{◌≡◌, ℕ, ◌-◌, List, [], ◌∷◌, ◌++◌, length, sym, ap, ◌∙◌, append_assoc, arith}
+use Rattle.std.proofs.Common.{rules, ◌≡◌, ℕ, ◌-◌, List, [], ◌∷◌, ◌++◌, length, sym, ap, ◌∙◌, append_assoc, arith, chars, encode_utf8_all}
+use denote.Text.{Utf8}
+use denote.Shadow.{shadow}
+use Rattle.std.proofs.lemmas.Str.{encodes-chars}
 use Rattle.std.proofs.lemmas.List.{append-nil}
 use Rattle.std.proofs.lemmas.Result.{err_from_is_err_and}
 use Rattle.tree_text.specs.Pieces.{raw, more_value, value_spelled as value_of}
@@ -9,27 +12,35 @@ use Rattle.tree_text.proofs.bodies.spelled.Goals as goal
 use Rattle.tree_text.proofs.bodies.spelled.Goals.{else-loop-test, then-loop-test+then-not-reference_follows}
 
 pub loop-init : goal.loop-init
-loop-init c =
-    let first : c.push_raw.new.value ≡ raw c.plain.result.0.now = c.in_ok-push_raw.ensures.adds_the_raw_run ∙ ap (λ (z : List ℕ). z ++ raw c.plain.result.0.now) c.no_text-value.ensures.holds_no_characters in
-    let all : length c.plain.result.1.now - 0 ≡ length c.plain.result.1.now = omega arith in
-    rw (first, all) (start reference_follows read_plain read_whole_reference value_of c.args.text.now c.plain.result.1.now c.plain.result.0.now c.plain.ensures.reads_a_plain_run)
+loop-init c = record {
+  utf8 = search rules;
+  left =
+      let first : c.push_raw.new.value ≡ raw (chars c.plain.result.0.now) = c.in_ok-push_raw.ensures.adds_the_raw_run ∙ ap (λ (z : List ℕ). z ++ raw (chars c.plain.result.0.now)) c.no_text-value.ensures.holds_no_characters in
+      let left = c.plain.result.1.now in
+      let text : shadow (Utf8 left) = search rules in
+      let all : length left - 0 ≡ length (encode_utf8_all (chars left)) = omega (arith, ap length (encodes-chars left text)) in
+      rw (first, all) (start reference_follows read_plain read_whole_reference value_of (chars c.args.text.now) (chars c.plain.result.1.now) (chars c.plain.result.0.now) c.plain.ensures.reads_a_plain_run);
+}
 
 pub returns-in_err-c : goal.returns-in_err-c
 returns-in_err-c c = record {
   reads_a_spelling =
       let p = err_from_is_err_and c.from_residual-in_err-c.result c.from_residual-in_err-c.ensures.1 in
-      rw (p.1, p.2) (ends reference_follows read_spelled_piece value_with c.in_err-c.field-0.0 c.loop.value _ c.loop.counter c.loop.rest.now (read_spelling c.args.text.now) c.loop-test.true (sym c.reference_follows.ensures.tells_whether_a_reference_follows ∙ c.if-not-reference_follows.false)
-      (first_stops read_whole_reference (λ _. read_plain) c.loop.rest.now c.in_err-c.field-0.0 c.in_err-c.ensures.reads_a_whole_reference) c.loop.invariant);
+      rw (p.1, p.2) (ends reference_follows read_spelled_piece value_with c.in_err-c.field-0.0 c.loop.value _ c.loop.counter (chars c.loop.rest.now) (read_spelling (chars c.args.text.now)) c.loop-test.true (sym c.reference_follows.ensures.tells_whether_a_reference_follows ∙ c.if-not-reference_follows.false)
+      (first_stops read_whole_reference (λ _. read_plain) (chars c.loop.rest.now) c.in_err-c.field-0.0 c.in_err-c.ensures.reads_a_whole_reference) c.loop.invariant.left);
 }
 
 join : (front : List ℕ) (x : ℕ) (cs : List ℕ) (pieces : List (ℕ × List ℕ)) → front ++ (x ∷ (raw cs ++ more_value pieces)) ≡ (front ++ (x ∷ raw cs)) ++ more_value pieces
 join front x cs pieces = sym (append_assoc front (x ∷ raw cs) (more_value pieces))
 
 pub loop-preserved : goal.loop-preserved
-loop-preserved c =
-    rw c.in_ok-push_piece.ensures.adds_the_piece (goes_on reference_follows read_spelled_piece value_with c.loop.value (c.loop.value ++ (c.in_ok-c.c ∷ raw c.plain-in-loop.result.0.now)) _ c.loop.counter c.loop.rest.now c.plain-in-loop.result.1.now (c.in_ok-c.c, c.plain-in-loop.result.0.now) (read_spelling c.args.text.now) c.loop-test.true (sym c.reference_follows.ensures.tells_whether_a_reference_follows ∙ c.if-not-reference_follows.false)
-    (both_ok read_whole_reference (λ _. read_plain) c.loop.rest.now c.in_ok-c.after.now c.plain-in-loop.result.1.now c.in_ok-c.c c.plain-in-loop.result.0.now c.in_ok-c.ensures.reads_a_whole_reference c.plain-in-loop.ensures.reads_a_plain_run)
-    (λ xs. join c.loop.value c.in_ok-c.c c.plain-in-loop.result.0.now xs) c.loop.invariant)
+loop-preserved c = record {
+  utf8 = search rules;
+  left =
+      rw c.in_ok-push_piece.ensures.adds_the_piece (goes_on reference_follows read_spelled_piece value_with c.loop.value (c.loop.value ++ (c.in_ok-c.c ∷ raw (chars c.plain-in-loop.result.0.now))) _ c.loop.counter (chars c.loop.rest.now) (chars c.plain-in-loop.result.1.now) (c.in_ok-c.c, (chars c.plain-in-loop.result.0.now)) (read_spelling (chars c.args.text.now)) c.loop-test.true (sym c.reference_follows.ensures.tells_whether_a_reference_follows ∙ c.if-not-reference_follows.false)
+      (both_ok read_whole_reference (λ _. read_plain) (chars c.loop.rest.now) (chars c.in_ok-c.after.now) (chars c.plain-in-loop.result.1.now) c.in_ok-c.c (chars c.plain-in-loop.result.0.now) c.in_ok-c.ensures.reads_a_whole_reference c.plain-in-loop.ensures.reads_a_plain_run)
+      (λ xs. join c.loop.value c.in_ok-c.c (chars c.plain-in-loop.result.0.now) xs) c.loop.invariant.left);
+}
 
 none_more : (front : List ℕ) → front ++ [] ≡ front
 none_more front = append-nil front
@@ -37,7 +48,7 @@ none_more front = append-nil front
 pub returns : goal.returns
 returns c = record {
   reads_a_spelling = elim c.loop-test.branch [
-    | else-loop-test w ↦ rw (none_more c.loop.value) at (is_done reference_follows read_spelled_piece value_with c.loop.value _ c.loop.counter c.loop.rest.now (read_spelling c.args.text.now) w.loop-test.false c.loop.invariant)
-    | then-loop-test+then-not-reference_follows w ↦ rw (none_more c.loop.value) at (is_stopped reference_follows read_spelled_piece value_with c.loop.value _ c.loop.counter c.loop.rest.now (read_spelling c.args.text.now) (sym w.reference_follows.ensures.tells_whether_a_reference_follows ∙ w.if-not-reference_follows.true) c.loop.invariant)
+    | else-loop-test w ↦ rw (none_more c.loop.value) at (is_done reference_follows read_spelled_piece value_with c.loop.value _ c.loop.counter (chars c.loop.rest.now) (read_spelling (chars c.args.text.now)) w.loop-test.false c.loop.invariant.left)
+    | then-loop-test+then-not-reference_follows w ↦ rw (none_more c.loop.value) at (is_stopped reference_follows read_spelled_piece value_with c.loop.value _ c.loop.counter (chars c.loop.rest.now) (read_spelling (chars c.args.text.now)) (sym w.reference_follows.ensures.tells_whether_a_reference_follows ∙ w.if-not-reference_follows.true) c.loop.invariant.left)
   ];
 }

@@ -1,4 +1,6 @@
-use Rattle.std.proofs.Common.{◌≡◌, ◌-◌}
+use Rattle.std.proofs.Common.{◌≡◌, ◌-◌, chars}
+use denote.Text.{Utf8}
+use denote.Shadow.{shadow}
 use Rattle.grammar_rules.specs.Reading.{read_at_most}
 use Rattle.tree_text.specs.readers.Members.{read_spelled_piece, value_with}
 use Rattle.tree_text.specs.readers.Texts.{reference_follows, read_spelling}
@@ -6,4 +8,4 @@ use Rattle.tree_text.proofs.Loops.{finish}
 use Rattle.tree_text.proofs.bodies.spelled.Given as goal
 
 abbrev pub invariant-loop : goal.invariant-loop
-invariant-loop l = read_spelling l.text ≡ finish value_with l.value (read_at_most reference_follows read_spelled_piece (l.end - l.counter) l.rest)
+invariant-loop l = record { utf8 : shadow (Utf8 l.rest); left : read_spelling (chars l.text) ≡ finish value_with l.value (read_at_most reference_follows read_spelled_piece (l.end - l.counter) (chars l.rest)) }

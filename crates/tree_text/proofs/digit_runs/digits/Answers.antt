@@ -1,13 +1,10 @@
-use Rattle.std.proofs.Common.{sym, ◌∙◌, arith}
-use Rattle.std.specs.Char.{is_ascii_digit as is_digit}
-use Rattle.tree_text.proofs.RunLemmas.{some_read, none_read, run_len_le}
+use Rattle.std.proofs.Common.{chars, sym}
+use Rattle.std.specs.Char.{is_ascii_digit}
+use Rattle.tree_text.proofs.FirstRuns.{run_read, run_unread}
 use Rattle.tree_text.proofs.digit_runs.digits.Goals as goal
 
-pub split_at-requires : goal.split_at-requires
-split_at-requires c = omega (arith, run_len_le is_digit c.args.text.now, c.digits_len-len.ensures.counts_the_digits)
-
-pub returns-then-len-eq0 : goal.returns-then-len-eq0
-returns-then-len-eq0 c = record { reads_some_digits = none_read is_digit c.args.text.now (sym c.digits_len-len.ensures.counts_the_digits ∙ c.if-len-eq0.true) }
+pub returns-then-not-starts_with_digit : goal.returns-then-not-starts_with_digit
+returns-then-not-starts_with_digit c = record { reads_some_digits = run_unread is_ascii_digit is_ascii_digit (chars c.args.text.now) (sym c.if-not-starts_with_digit.ensures.tells_whether_a_digit_is_first) }
 
 pub returns : goal.returns
-returns c = record { reads_some_digits = some_read is_digit c.args.text.now c.split_at.result.0.now c.split_at.result.1.now c.digits_len-len.result c.digits_len-len.ensures.counts_the_digits c.split_at.ensures.front c.split_at.ensures.back (omega (arith, c.if-len-eq0.false)) }
+returns c = record { reads_some_digits = rw (c.run.ensures.characters_in_front, c.run.ensures.rest_behind_them) (run_read is_ascii_digit is_ascii_digit (λ c h. h) (chars c.args.text.now) (sym c.if-not-starts_with_digit.ensures.tells_whether_a_digit_is_first)) }

@@ -1,4 +1,6 @@
-use Rattle.std.proofs.Common.{◌≡◌, ◌+◌, ◌*◌, ◌-◌}
+use Rattle.std.proofs.Common.{◌≡◌, ◌+◌, ◌*◌, ◌-◌, chars}
+use denote.Text.{Utf8}
+use denote.Shadow.{shadow}
 use Rattle.grammar_rules.specs.Reading.{read_at_most}
 use Rattle.tree_text.specs.readers.Bindings.{AreBack, lists}
 use Rattle.tree_text.specs.readers.Members.{tree_with, read_member, read_filled}
@@ -23,6 +25,7 @@ decreases-fill l = 5 * l.inner + 4
 
 abbrev pub invariant-content-loop : goal.invariant-content-loop
 invariant-content-loop l = record {
-  filled : read_filled l.fn.element (read_element l.levels (lists l.fn.bindings) l.depth) l.text ≡ finish tree_with l.element (read_at_most markup_follows (read_member (read_element l.levels (lists l.fn.bindings) l.depth)) (l.end - l.counter) l.rest);
+  utf8 : shadow (Utf8 l.rest);
+  filled : read_filled l.fn.element (read_element l.levels (lists l.fn.bindings) l.depth) (chars l.text) ≡ finish tree_with l.element (read_at_most markup_follows (read_member (read_element l.levels (lists l.fn.bindings) l.depth)) (l.end - l.counter) (chars l.rest));
   back : AreBack l.fn.bindings l.bindings;
 }

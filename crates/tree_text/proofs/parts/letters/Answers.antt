@@ -1,6 +1,30 @@
-use Rattle.std.proofs.Common.{refl}
-use Rattle.tree_text.proofs.ReadFronts.{word_found}
+use Rattle.std.proofs.Common.{rules, chars, sym}
+use Rattle.std.proofs.lemmas.Bool.{ne_eqb}
+use Rattle.grammar_rules.specs.Reading.{read_word}
+use Rattle.tree_text.proofs.WordLoops.{word_more, word_stops, word_cut, word_over}
 use Rattle.tree_text.proofs.parts.letters.Goals as goal
 
-pub returns-then-word_is_first-clause-reads_as_the_rule_does : goal.returns-then-word_is_first-clause-reads_as_the_rule_does
-returns-then-word_is_first-clause-reads_as_the_rule_does c = rw c.split_at.ensures.back (word_found c.args.word.now c.args.text.now (c.if-word_is_first.ensures.word_and_what_follows refl))
+pub loop-expected-preserved : goal.loop-expected-preserved
+loop-expected-preserved c =
+    let l = c.loop-expected in
+    record {
+      utf8 = search rules;
+      left = word_more c.args.word.now l.expected-index c.expected-item.result c.loop-expected-test.true c.expected-item.is (chars l.rest.now) (chars c.in-Some.after.now) c.in-Some.found c.in-Some.ensures.first_and_rest (read_word c.args.word.now (chars c.args.text.now)) (sym c.if-found-expected.false) l.invariant.left;
+    }
+
+pub returns-then-found-expected : goal.returns-then-found-expected
+returns-then-found-expected c =
+    let l = c.loop-expected in
+    record {
+      reads_each_letter = word_stops c.args.word.now l.expected-index c.expected-item.result c.loop-expected-test.true c.expected-item.is (chars l.rest.now) (chars c.in-Some.after.now) c.in-Some.found c.in-Some.ensures.first_and_rest (read_word c.args.word.now (chars c.args.text.now)) (ne_eqb c.expected-item.result c.in-Some.found (λ e. c.if-found-expected.true (sym e))) l.invariant.left;
+    }
+
+pub returns-in-None : goal.returns-in-None
+returns-in-None c =
+    let l = c.loop-expected in
+    record {
+      reads_each_letter = word_cut c.args.word.now l.expected-index c.expected-item.result c.loop-expected-test.true c.expected-item.is (chars l.rest.now) c.in-None.ensures.nothing_where_there_is_none (read_word c.args.word.now (chars c.args.text.now)) l.invariant.left;
+    }
+
+pub returns : goal.returns
+returns c = record { reads_each_letter = word_over c.args.word.now c.loop-expected.expected-index c.loop-expected-test.false (chars c.loop-expected.rest.now) (read_word c.args.word.now (chars c.args.text.now)) c.loop-expected.invariant.left }

@@ -1,7 +1,16 @@
-use Rattle.std.proofs.Common.{sym, ◌∙◌}
+use Rattle.std.proofs.Common.{chars, sym}
 use Rattle.xml_tree.specs.Characters.{is_name_start, is_name_char}
-use Rattle.tree_text.proofs.RunLemmas.{name_read}
+use Rattle.tree_text.proofs.FirstRuns.{run_read, run_unread, run_some, start_in_name}
 use Rattle.tree_text.proofs.parts.name.Goals as goal
 
-pub returns-in-len1-up-clause-reads_as_the_rule_does : goal.returns-in-len1-up-clause-reads_as_the_rule_does
-returns-in-len1-up-clause-reads_as_the_rule_does c = name_read is_name_start is_name_char c.args.text.now c.split_at.result.0.now c.split_at.result.1.now c.first-item.result c.name_len.result c.in-len1-up.len_at_least c.first-item.is (sym c.begins_name.ensures.tells_whether_it_begins_names ∙ c.if-begins_name.true) c.name_len.ensures.counts_the_name_characters c.split_at.ensures.front c.split_at.ensures.back
+pub returns-then-not-starts_with_name-clause-reads_as_the_rule_does : goal.returns-then-not-starts_with_name-clause-reads_as_the_rule_does
+returns-then-not-starts_with_name-clause-reads_as_the_rule_does c = run_unread is_name_start is_name_char (chars c.args.text.now) (sym c.if-not-starts_with_name.ensures.tells_whether_a_name_is_first)
+
+pub returns : goal.returns
+returns c =
+    let text = chars c.args.text.now in
+    let first = sym c.if-not-starts_with_name.ensures.tells_whether_a_name_is_first in
+    record {
+      reads_as_the_rule_does = rw (c.run.ensures.characters_in_front, c.run.ensures.rest_behind_them) (run_read is_name_start is_name_char start_in_name text first);
+      name_is_not_empty = rw c.run.ensures.characters_in_front (run_some is_name_start is_name_char start_in_name text first);
+    }

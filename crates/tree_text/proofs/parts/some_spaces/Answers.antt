@@ -1,10 +1,10 @@
-use Rattle.std.proofs.Common.{arith}
+use Rattle.std.proofs.Common.{chars, sym}
 use Rattle.xml_tree.specs.Characters.{is_space}
-use Rattle.tree_text.proofs.RunLemmas.{some_read, run_len_le}
+use Rattle.tree_text.proofs.FirstRuns.{run_read, run_unread}
 use Rattle.tree_text.proofs.parts.some_spaces.Goals as goal
 
-pub split_at-requires : goal.split_at-requires
-split_at-requires c = omega (arith, run_len_le is_space c.args.text.now, c.spaces_len-len.ensures.counts_the_spaces)
+pub returns-then-not-starts_with_space : goal.returns-then-not-starts_with_space
+returns-then-not-starts_with_space c = record { reads_as_the_rule_does = run_unread is_space is_space (chars c.args.text.now) (sym c.if-not-starts_with_space.ensures.tells_whether_space_is_first) }
 
-pub returns-clause-reads_as_the_rule_does : goal.returns-clause-reads_as_the_rule_does
-returns-clause-reads_as_the_rule_does c = some_read is_space c.args.text.now c.split_at.result.0.now c.split_at.result.1.now c.spaces_len-len.result c.spaces_len-len.ensures.counts_the_spaces c.split_at.ensures.front c.split_at.ensures.back (omega (arith, c.if-len-eq0.false))
+pub returns : goal.returns
+returns c = record { reads_as_the_rule_does = rw (c.run.ensures.characters_in_front, c.run.ensures.rest_behind_them) (run_read is_space is_space (λ c h. h) (chars c.args.text.now) (sym c.if-not-starts_with_space.ensures.tells_whether_space_is_first)) }

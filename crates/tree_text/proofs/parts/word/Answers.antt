@@ -6,8 +6,5 @@ only [] c h i e = absurd (omega arith)
 only (d ∷ []) c h i e = ap (λ (z : ℕ). z ∷ []) (sym e)
 only (d ∷ f ∷ w) c h i e = absurd (omega arith)
 
-pub returns-in-len1-clause-reads_as_the_rule_does : goal.returns-in-len1-clause-reads_as_the_rule_does
-returns-in-len1-clause-reads_as_the_rule_does c = rw (only c.args.word.now c.first-item.result c.in-len1.len_at_least c.in-len1.len_below c.first-item.is) c.letter.ensures.reads_as_the_rule_does
-
-pub returns-in-len1-clause-lengths_add_up : goal.returns-in-len1-clause-lengths_add_up
-returns-in-len1-clause-lengths_add_up c = rw (only c.args.word.now c.first-item.result c.in-len1.len_at_least c.in-len1.len_below c.first-item.is) c.letter.ensures.lengths_add_up
+pub returns-in-len1 : goal.returns-in-len1
+returns-in-len1 c = record { reads_as_the_rule_does = rw (only c.args.word.now c.first-item.result c.in-len1.len_at_least c.in-len1.len_below c.first-item.is) c.letter.ensures.reads_as_the_rule_does }

@@ -1,4 +1,6 @@
-use Rattle.std.proofs.Common.{◌≡◌, ◌-◌}
+use Rattle.std.proofs.Common.{◌≡◌, ◌-◌, chars}
+use denote.Text.{Utf8}
+use denote.Shadow.{shadow}
 use Rattle.grammar_rules.specs.Reading.{read_sequence, read_at_most}
 use Rattle.tree_text.specs.readers.Members.{nothing_with}
 use Rattle.tree_text.specs.readers.Texts.{misc_follows, read_dropped, read_spaces, read_prolog_misc, read_prolog}
@@ -6,4 +8,4 @@ use Rattle.tree_text.proofs.Loops.{finish}
 use Rattle.tree_text.proofs.pieces.prolog.Given as goal
 
 abbrev pub invariant-loop : goal.invariant-loop
-invariant-loop l = read_prolog l.text ≡ finish nothing_with tt (read_at_most misc_follows (read_sequence read_prolog_misc (λ _. read_dropped read_spaces)) (l.end - l.counter) l.rest)
+invariant-loop l = record { utf8 : shadow (Utf8 l.rest); left : read_prolog (chars l.text) ≡ finish nothing_with tt (read_at_most misc_follows (read_sequence read_prolog_misc (λ _. read_dropped read_spaces)) (l.end - l.counter) (chars l.rest)) }

@@ -1,4 +1,4 @@
-use Rattle.std.proofs.Common.{◌≡◌, ℕ, ◌==◌, false, List, [], ◌∷◌, length, Ok, Err, refl, sym, subst, ◌∙◌}
+use Rattle.std.proofs.Common.{◌≡◌, ℕ, ◌==◌, false, List, [], ◌∷◌, length, chars, Ok, Err, refl, sym, subst}
 use Rattle.grammar_rules.specs.Reading.{Reader, Syntax, read_whole}
 use Rattle.xml_tree.specs.declared.names.Decl.{Decl}
 use Rattle.tree_text.specs.declared.kind.Kind.{Kind}
@@ -11,16 +11,16 @@ left_over : {A : Type 0} (p : Reader Kind A) (text rest : List ℕ) (a : A) → 
 left_over p text [] a h some = absurd cc
 left_over p text (c ∷ cs) a h some = rw h.read refl
 
-pub returns-then-not-is_empty : goal.returns-then-not-is_empty
-returns-then-not-is_empty c = record {
+pub returns-then-not-is_over : goal.returns-then-not-is_over
+returns-then-not-is_over c = record {
   reads_all_of_the_text =
       let tree = c.in_ok-root.root in
-      let behind = c.in_ok-root.rest.now in
-      let read = subst (λ (z : List (List Decl)). read_element c.args.depth z 1 c.in_ok-rest-2.rest.now ≡ Ok (tree, behind)) c.in_ok-bindings.ensures.holds_the_given_scope c.in_ok-root.ensures.reads_as_the_rule_does in
-      left_over (read_text c.args.depth c.args.scope.now) c.args.text.now c.in_ok-rest-3.rest.now tree
+      let behind = (chars c.in_ok-root.rest.now) in
+      let read = subst (λ (z : List (List Decl)). read_element c.args.depth z 1 (chars c.in_ok-rest-2.rest.now) ≡ Ok (tree, behind)) c.in_ok-bindings.ensures.holds_the_given_scope c.in_ok-root.ensures.reads_as_the_rule_does in
+      left_over (read_text c.args.depth c.args.scope.now) (chars c.args.text.now) (chars c.in_ok-rest-3.rest.now) tree
       (reads_behind {p = read_mark_if} (record { read = c.mark_if-rest.ensures.passes_a_mark_if_it_follows })
       (reads_behind {p = read_declaration_if} (record { read = c.in_ok-rest.ensures.reads_a_declaration_if_it_follows })
       (reads_behind {p = read_prolog} (record { read = c.in_ok-rest-2.ensures.reads_the_prolog })
       (reads_before {p = read_element c.args.depth c.args.scope.now 1} {q = read_epilog} (record { read = read }) (record { read = c.in_ok-rest-3.ensures.reads_the_epilog })))))
-      (sym c.is_empty.ensures ∙ c.if-not-is_empty.true);
+      (sym c.if-not-is_over.ensures.tells_whether_it_has_none);
 }

@@ -1,9 +1,11 @@
-use Rattle.std.proofs.Common.{◌≡◌, ◌++◌, length}
+use Rattle.std.proofs.Common.{◌≡◌, ◌++◌, chars, length}
+use denote.Text.{Utf8}
+use denote.Shadow.{shadow}
 use Rattle.tree_text.specs.Pieces.{line_ends}
 use Rattle.tree_text.proofs.runs.mended.Given as goal
 
-abbrev pub invariant-loop-rest : goal.invariant-loop-rest
-invariant-loop-rest l = l.text ++ line_ends l.rest ≡ line_ends l.run
+abbrev pub invariant-each : goal.invariant-each
+invariant-each l = record { utf8 : shadow (Utf8 l.rest); left : l.text ++ line_ends (chars l.rest) ≡ line_ends (chars l.run) }
 
-abbrev pub decreases-loop-rest : goal.decreases-loop-rest
-decreases-loop-rest l = length l.rest
+abbrev pub decreases-each : goal.decreases-each
+decreases-each l = length l.rest

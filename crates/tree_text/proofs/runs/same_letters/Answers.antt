@@ -1,20 +1,35 @@
-use Rattle.std.proofs.Common.{◌≡◌, ℕ, ◌≤◌, Bool, false, List, [], ◌∷◌, length, drop, refl, sym, ap, ◌∙◌, arith}
-use Rattle.std.proofs.lemmas.List.{length-drop}
+use Rattle.std.proofs.Common.{rules, chars, sym, ◌∙◌, eq-eqb}
+use Rattle.std.specs.Char.{to_ascii_lowercase}
+use Rattle.std.proofs.lemmas.Bool.{ne_eqb}
 use Rattle.tree_text.specs.Pieces.{same_letters}
+use Rattle.tree_text.proofs.WordLoops.{letters_more, letters_stop, letters_cut}
 use Rattle.tree_text.proofs.runs.same_letters.Goals as goal
 
-none_left : (cs : List ℕ) → length cs ≡ 0 → cs ≡ []
-none_left [] h = refl
-none_left (c ∷ cs) h = absurd (omega arith)
+pub loop-expected-preserved : goal.loop-expected-preserved
+loop-expected-preserved c =
+    let l = c.loop-expected in
+    let word = c.args.word.now in
+    let one = c.expected-item.result in
+    let same = eq-eqb (to_ascii_lowercase c.in-Some.found) one (sym c.to_ascii_lowercase-lower.ensures.value ∙ c.if-lower-expected.false) in
+    record {
+      utf8 = search rules;
+      left = letters_more word l.expected-index one c.loop-expected-test.true c.expected-item.is (chars l.rest.now) (chars c.in-Some.after.now) c.in-Some.found c.in-Some.ensures.first_and_rest (same_letters (chars c.args.text.now) word) same l.invariant.left;
+    }
 
-some_left : (rest : List ℕ) → 1 ≤ length rest → same_letters rest [] ≡ false
-some_left [] h = absurd (omega arith)
-some_left (c ∷ cs) h = refl
+pub returns-then-lower-expected : goal.returns-then-lower-expected
+returns-then-lower-expected c =
+    let l = c.loop-expected in
+    let word = c.args.word.now in
+    let one = c.expected-item.result in
+    let other = ne_eqb (to_ascii_lowercase c.in-Some.found) one (λ e. c.if-lower-expected.true (c.to_ascii_lowercase-lower.ensures.value ∙ e)) in
+    record {
+      tells_whether_the_letters_are_the_same = sym (letters_stop word l.expected-index one c.loop-expected-test.true c.expected-item.is (chars l.rest.now) (chars c.in-Some.after.now) c.in-Some.found c.in-Some.ensures.first_and_rest (same_letters (chars c.args.text.now) word) other l.invariant.left);
+    }
 
-longer : (total : Bool) (rest word : List ℕ) (n : ℕ) → length word ≤ n → 1 ≤ length rest → total ≡ same_letters rest (drop n word) → false ≡ total
-longer total rest word n le some e =
-    let over : drop n word ≡ [] = none_left (drop n word) (omega (arith, length-drop n word)) in
-    sym (e ∙ ap (same_letters rest) over ∙ some_left rest some)
-
-pub returns-in_default-matches : goal.returns-in_default-matches
-returns-in_default-matches c = record { tells_whether_the_letters_are_the_same = longer (same_letters c.args.text.now c.args.word.now) c.loop-expected.rest.now c.args.word.now c.loop-expected.expected-index c.loop-expected-test.false c.in_default-matches.len_at_least c.loop-expected.invariant }
+pub returns-in-None : goal.returns-in-None
+returns-in-None c =
+    let l = c.loop-expected in
+    let word = c.args.word.now in
+    record {
+      tells_whether_the_letters_are_the_same = sym (letters_cut word l.expected-index c.expected-item.result c.loop-expected-test.true c.expected-item.is (chars l.rest.now) c.in-None.ensures.nothing_where_there_is_none (same_letters (chars c.args.text.now) word) l.invariant.left);
+    }

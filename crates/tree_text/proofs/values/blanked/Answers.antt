@@ -1,10 +1,16 @@
-use Rattle.std.proofs.Common.{take, sym}
+use Rattle.std.proofs.Common.{chars, sym}
+use Rattle.tree_text.specs.readers.Runs.{is_plain_in_value}
 use Rattle.tree_text.proofs.PlainFronts.{plain_blanked}
+use Rattle.tree_text.proofs.TextBytes.{run_whole, run_all}
 use Rattle.tree_text.proofs.values.blanked.Goals as goal
 
 pub returns-then-ends_run : goal.returns-then-ends_run
 returns-then-ends_run c = record {
   reads_a_blanked_run =
-      let front = c.plain_in_value-len.result in
-      rw c.in_ok-ascii_text.ensures.holds_the_bytes_in_front (plain_blanked c.args.quote c.args.text.now (take front.0 c.plain_in_value-len.new.bytes) front.1.now c.plain_in_value-len.ensures.text_is_front_and_rest c.plain_in_value-len.ensures.is_plain_alone (sym c.if-ends_run.ensures.tells_whether_the_run_ends));
+      let text = chars c.args.text.now in
+      let plain = chars c.run.result.0.now in
+      let rest = chars c.run.result.1.now in
+      let p = is_plain_in_value c.args.quote in
+      let front = c.run.ensures.characters_in_front in
+      rw c.in_ok-from.ensures.copies_the_text (plain_blanked c.args.quote text plain rest (run_whole p text plain rest front c.run.ensures.rest_behind_them) (run_all p text plain front) (sym c.if-ends_run.ensures.tells_whether_the_run_ends));
 }

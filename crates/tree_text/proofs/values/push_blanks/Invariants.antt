@@ -1,9 +1,11 @@
-use Rattle.std.proofs.Common.{◌≡◌, ◌++◌, length}
+use Rattle.std.proofs.Common.{◌≡◌, ◌++◌, chars, length}
+use denote.Text.{Utf8}
+use denote.Shadow.{shadow}
 use Rattle.tree_text.specs.Pieces.{raw}
 use Rattle.tree_text.proofs.values.push_blanks.Given as goal
 
-abbrev pub invariant-loop-rest : goal.invariant-loop-rest
-invariant-loop-rest l = l.value ++ raw l.rest ≡ l.initial.value ++ raw l.run
+abbrev pub invariant-each : goal.invariant-each
+invariant-each l = record { utf8 : shadow (Utf8 l.rest); left : l.value ++ raw (chars l.rest) ≡ l.initial.value ++ raw (chars l.run) }
 
-abbrev pub decreases-loop-rest : goal.decreases-loop-rest
-decreases-loop-rest l = length l.rest
+abbrev pub decreases-each : goal.decreases-each
+decreases-each l = length l.rest

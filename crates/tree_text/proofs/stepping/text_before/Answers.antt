@@ -1,0 +1,18 @@
+use Rattle.std.proofs.Common.{◌≡◌, ◌-◌, ◌++◌, ℕ, List, length, take, chars, rules, sym, ap, ◌∙◌}
+use Rattle.tree_text.proofs.TextBytes.{end_shorter, end_boundary, end_whole}
+use Rattle.tree_text.proofs.stepping.text_before.Goals as goal
+
+pub overflow_sub-len : goal.overflow_sub-len
+overflow_sub-len c = end_shorter c.args.text.now c.args.rest.now c.utf8.text c.utf8.rest c.requires
+
+pub range-requires-clause-end_boundary : goal.range-requires-clause-end_boundary
+range-requires-clause-end_boundary c = end_boundary c.args.text.now c.args.rest.now c.utf8.text c.utf8.rest c.requires
+
+pub returns : goal.returns
+returns c = record {
+  both_are_the_text =
+      let text = c.args.text.now in
+      let rest = c.args.rest.now in
+      let cut : c.range.result.now ≡ take (length text - length rest) text = search rules in
+      end_whole text rest c.utf8.text c.utf8.rest c.requires ∙ ap (λ (z : List ℕ). chars z ++ chars rest) (sym cut);
+}

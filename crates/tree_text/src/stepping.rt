@@ -1,0 +1,104 @@
+//! Texts, character by character, and how many characters they have.
+ghost use Rattle.std.specs.Prelude.{◌≡◌, ◌==◌, ◌<◌, ◌-◌, ◌++◌, [], ◌∷◌, drop, length, chars, IfSome, IfNone};
+ghost use Rattle.grammar_rules.specs.Reading.{head_is};
+ghost use Rattle.tree_text.specs.readers.Ends.{EndsWith};
+
+/// The first character of a text, and what follows it. Most are ASCII.
+#[inline(always)]
+pub fn split_first(text: &str) -> Option<(char, &str)>
+    ensures first_and_rest { IfSome result (λ x. chars text.now ≡ x.0 ∷ chars x.1.now) }
+    ensures rest_is_shorter { IfSome result (λ x. length x.1.now < length text.now) }
+    ensures nothing_where_there_is_none { IfNone result (chars text.now ≡ []) }
+{
+    let bytes = text.as_bytes();
+    if bytes.is_empty() {
+        return None;
+    }
+    let first = bytes[0];
+    if first < 128 {
+        return Some((first as char, &text[1..]));
+    }
+    split_wide(text)
+}
+
+/// The same, whatever character it is.
+#[inline(never)]
+fn split_wide(text: &str) -> Option<(char, &str)>
+    ensures first_and_rest { IfSome result (λ x. chars text.now ≡ x.0 ∷ chars x.1.now) }
+    ensures rest_is_shorter { IfSome result (λ x. length x.1.now < length text.now) }
+    ensures nothing_where_there_is_none { IfNone result (chars text.now ≡ []) }
+{
+    let mut all = text.chars();
+    match all.next() {
+        Some(first) => Some((first, all.as_str())),
+        None => None,
+    }
+}
+
+/// Whether a text begins with a character.
+#[inline(always)]
+pub fn is_first(text: &str, letter: char) -> bool
+    ensures tells_whether_it_is_first { result ≡ head_is (λ c. c == letter) (chars text.now) }
+{
+    match split_first(text) {
+        Some((first, _)) => first == letter,
+        None => false,
+    }
+}
+
+/// Whether a text has no characters.
+#[inline(always)]
+pub fn is_over(text: &str) -> bool
+    ensures tells_whether_it_has_none { result ≡ (length (chars text.now) == 0) }
+{
+    match split_first(text) {
+        Some(_) => false,
+        None => true,
+    }
+}
+
+/// How many characters a text has.
+pub fn count(text: &str) -> usize
+    ensures counts_the_characters { result ≡ length (chars text.now) }
+{
+    if text.is_ascii() {
+        return text.len();
+    }
+    text.chars().count()
+}
+
+/// What stands in a text before this rest of it.
+#[inline(always)]
+pub fn text_before<'a>(text: &'a str, rest: &str) -> &'a str
+    requires { EndsWith (chars text.now) (chars rest.now) }
+    ensures both_are_the_text { chars text.now ≡ chars result.now ++ chars rest.now }
+{
+    let len = text.len() - rest.len();
+    &text[..len]
+}
+
+/// How many characters of a text stand before this rest of it.
+pub fn count_before(text: &str, rest: &str) -> usize
+    requires { EndsWith (chars text.now) (chars rest.now) }
+    ensures counts_those_before_it { result ≡ length (chars text.now) - length (chars rest.now) }
+{
+    count(text_before(text, rest))
+}
+
+/// What follows so many characters of a text, and nothing where it has no more.
+pub fn skip(text: &str, n: usize) -> &str
+    ensures rest_behind_so_many { chars result.now ≡ drop n (chars text.now) }
+{
+    let mut rest = text;
+    let mut left = n;
+    'each: while left > 0 {
+        match split_first(rest) {
+            Some((_, after)) => {
+                rest = after;
+                left -= 1;
+            }
+            None => return rest,
+        }
+    }
+    rest
+}
