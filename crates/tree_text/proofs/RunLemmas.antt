@@ -3,7 +3,7 @@ use Rattle.std.proofs.Common.{◌≡◌, ℕ, suc, ◌+◌, ◌-◌, ◌<◌, �
 use Rattle.std.specs.Prelude.{nat_eq}
 use Rattle.std.proofs.lemmas.Bool.{eqb-true}
 use Rattle.std.proofs.Math.Seq.{drop-cons, take-length}
-use Rattle.std.proofs.lemmas.List.{length-drop, drop_at, take-append-le, append-nil}
+use Rattle.std.proofs.lemmas.List.{length-drop, length-take, drop_at, take-append-le, take_min, append-nil}
 use Rattle.grammar_rules.specs.Reading.{Stop, Syntax, ◌>>=◌, starts, front_of, after_front, all_but_last, front_without, after_without, read_up_to}
 use Rattle.tree_text.specs.declared.kind.Kind.{Kind}
 use Rattle.tree_text.specs.readers.Runs.{run_len}
@@ -49,6 +49,10 @@ run_done p xs i n h e t =
     let d : drop i xs ≡ get_or xs i 0 ∷ drop (suc i) xs = drop-cons xs i 0 h in
     let f : run_len p (drop i xs) ≡ 0 = ap (run_len p) d ∙ rw t refl in
     omega (arith, f, e)
+
+-- the first ones are as many in front as they are
+pub first_ones : (taken xs : List ℕ) (n : ℕ) → taken ≡ take n xs → taken ≡ take (length taken) xs
+first_ones taken xs n is = is ∙ sym (ap (λ (k : ℕ). take k xs) (ap length is ∙ length-take n xs) ∙ take_min n xs)
 
 -- a run without a word
 starts_by : (c d : ℕ) (cs text : List ℕ) (b : Bool) → nat_eq c d ≡ b → (starts cs text ≡ true → (rest : List ℕ) × (text ≡ cs ++ rest)) → cond b (starts cs text) false ≡ true → (rest : List ℕ) × (d ∷ text ≡ c ∷ (cs ++ rest))

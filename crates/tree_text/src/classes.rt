@@ -1,5 +1,5 @@
 //! Runs of characters of one class.
-ghost use Rattle.std.specs.Prelude.{◌≡◌, chars};
+ghost use Rattle.std.specs.Prelude.{◌≡◌, chars, length, take};
 ghost use Rattle.grammar_rules.specs.Reading.{front_of, after_front, head_is};
 ghost use Rattle.tree_text.specs.readers.Runs.{run_len};
 ghost use Rattle.tree_text.specs.inner.Classes.{passes, in_ascii, is_wide};
@@ -119,6 +119,7 @@ fn behind_wide(text: &str, class: Class) -> &str
 pub fn run(text: &str, class: Class) -> (&str, &str)
     ensures characters_in_front { chars result.0.now ≡ front_of (passes class) (chars text.now) }
     ensures rest_behind_them { chars result.1.now ≡ after_front (passes class) (chars text.now) }
+    ensures stands_in_front { result.0.now ≡ take (length result.0.now) text.now }
 {
     let rest = behind(text, class);
     (text_before(text, rest), rest)

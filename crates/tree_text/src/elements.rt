@@ -106,7 +106,7 @@ fn push_some<'a>(alloc: Global, text: &'a str, element: &mut Element) -> Result<
 {
     let (plain, rest) = run(text, Class::PlainContent);
     if ends_run(rest, '<') {
-        let plain = Text::from(alloc, plain)?;
+        let plain = Text::from_front(alloc, plain, text.as_bytes())?;
         push_plain(element, plain, rest)?;
         return Ok(rest);
     }

@@ -1,5 +1,5 @@
 //! Words, white space and names: the parts in which no other rule stands.
-ghost use Rattle.std.specs.Prelude.{◌≡◌, ◌<◌, [], ◌∷◌, ◌++◌, chars, drop, length, IsTrue, IfOk, IfSome, Ok};
+ghost use Rattle.std.specs.Prelude.{◌≡◌, ◌<◌, [], ◌∷◌, ◌++◌, chars, drop, take, length, IsTrue, IfOk, IfSome, Ok};
 ghost use Rattle.grammar_rules.specs.Reading.{head_is, after_front, read_word};
 ghost use Rattle.xml_tree.specs.Characters.{is_space, is_name_start, is_name_char};
 ghost use Rattle.tree_text.specs.readers.Gives.{Gives};
@@ -155,6 +155,7 @@ pub fn stands_in_name(c: char) -> bool
 pub fn name(text: &str) -> Result<(&str, &str), Stop<'_>>
     ensures reads_as_the_rule_does { Gives (λ x. (chars x.0.now, chars x.1.now)) result (read_name (chars text.now)) }
     ensures name_is_not_empty { IfOk result (λ x. 0 < length (chars x.0.now)) }
+    ensures stands_in_front { IfOk result (λ x. x.0.now ≡ take (length x.0.now) text.now) }
 {
     if !starts_with_name(text) {
         return Err(Stop::Syntax(text));

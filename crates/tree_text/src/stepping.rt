@@ -1,5 +1,5 @@
 //! Texts, character by character, and how many characters they have.
-ghost use Rattle.std.specs.Prelude.{◌≡◌, ◌==◌, ◌<◌, ◌-◌, ◌++◌, [], ◌∷◌, drop, length, chars, IfSome, IfNone};
+ghost use Rattle.std.specs.Prelude.{◌≡◌, ◌==◌, ◌<◌, ◌-◌, ◌++◌, [], ◌∷◌, drop, take, length, chars, IfSome, IfNone};
 ghost use Rattle.grammar_rules.specs.Reading.{head_is};
 ghost use Rattle.tree_text.specs.readers.Ends.{EndsWith};
 
@@ -72,6 +72,7 @@ pub fn count(text: &str) -> usize
 pub fn text_before<'a>(text: &'a str, rest: &str) -> &'a str
     requires { EndsWith (chars text.now) (chars rest.now) }
     ensures both_are_the_text { chars text.now ≡ chars result.now ++ chars rest.now }
+    ensures stands_in_front { result.now ≡ take (length result.now) text.now }
 {
     let len = text.len() - rest.len();
     &text[..len]

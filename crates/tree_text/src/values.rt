@@ -293,7 +293,8 @@ fn blanked(alloc: Global, text: &str, quote: char) -> Result<(Text, &str), Alloc
 {
     let (plain, rest) = run(text, Class::PlainValue(quote));
     if ends_run(rest, quote) {
-        return Ok((Text::from(alloc, plain)?, rest));
+        let value = Text::from_front(alloc, plain, text.as_bytes())?;
+        return Ok((value, rest));
     }
     let (run, rest) = raw_run(text, quote);
     Ok((raw_text(alloc, run)?, rest))

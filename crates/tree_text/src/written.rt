@@ -1,5 +1,5 @@
 //! Names as they stand in a text.
-ghost use Rattle.std.specs.Prelude.{◌≡◌, ◌+◌, ◌<◌, ◌≤◌, ◌^◌, suc, [], chars, length, IfOk};
+ghost use Rattle.std.specs.Prelude.{◌≡◌, ◌+◌, ◌<◌, ◌≤◌, ◌^◌, suc, [], chars, length, take, IfOk};
 ghost use Rattle.grammar_rules.specs.Reading.{read_word};
 ghost use Rattle.tree_text.specs.readers.Gives.{Gives};
 ghost use Rattle.tree_text.specs.Pieces.{written};
@@ -125,11 +125,35 @@ pub fn owned(alloc: Global, name: &Written<'_>) -> Result<Name, AllocError>
     Ok(Name { prefix, local })
 }
 
-/// A name, with a prefix or without, that owns its parts; how it is written, and what follows it.
+/// The name without a prefix that is written so in front of a text.
+fn own_local<'a>(
+    alloc: Global,
+    text: &str,
+    local: &'a str,
+) -> Result<(Name, Written<'a>), AllocError>
+    requires front { local.now ≡ take (length local.now) text.now }
+    ensures name_without_a_prefix { IfOk result (λ x. x.0 ≡ record { prefix = []; local = chars local.now }) }
+    ensures name_is_as_written { IfOk result (λ x. x.0 ≡ name_in x.1) }
+{
+    let prefix = Prefix::empty();
+    let own = LocalName::from_front(alloc, local, text.as_bytes())?;
+    let written = Written {
+        prefix: no_prefix(),
+        local,
+    };
+    Ok((Name { prefix, local: own }, written))
+}
+
+/// A name, with a prefix or without, that owns its parts; how it is written, and what follows it. Most names have no prefix.
 pub fn own_qname(alloc: Global, text: &str) -> Result<(Name, Written<'_>, &str), Stop<'_>>
     ensures reads_as_the_rule_does { Gives (λ x. (x.0, chars x.2.now)) result (read_qname (chars text.now)) }
     ensures name_is_as_written { IfOk result (λ x. x.0 ≡ name_in x.1) }
 {
+    let (first, rest) = name(text)?;
+    if !colon_follows(rest) {
+        let (name, written) = own_local(alloc, text, first)?;
+        return Ok((name, written, rest));
+    }
     let (written, rest) = qname(text)?;
     let name = owned(alloc, &written)?;
     Ok((name, written, rest))

@@ -44,9 +44,10 @@ impl<const N: usize> ShortText<N> {
     }
 
     /// A copy of a text of a few bytes that stands in front of these. As many as there is room for are copied at once.
-    pub(crate) fn of_front(text: &str, bytes: &[u8; 64]) -> ShortText<N>
+    pub(crate) fn of_front(text: &str, bytes: &[u8]) -> ShortText<N>
         requires few { N ≤ 64 }
         requires fits { length text.now ≤ N }
+        requires enough { N ≤ length bytes.now }
         requires front { text.now ≡ take (length text.now) bytes.now }
         ensures copies_the_bytes { result ≡ text.now }
     {

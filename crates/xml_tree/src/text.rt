@@ -37,11 +37,11 @@ impl Text {
         Ok(Text { bytes })
     }
 
-    /// A copy of a text that stands in front of these bytes. A short one costs the same whatever its length.
+    /// A copy of a text that stands in front of these bytes. Where they are thirty or more, a short one costs the same whatever its length.
     ///
     /// # Errors
     /// `NoMemory` for want of memory.
-    pub fn from_front(alloc: Global, text: &str, bytes: &[u8; 64]) -> Result<Text, AllocError>
+    pub fn from_front(alloc: Global, text: &str, bytes: &[u8]) -> Result<Text, AllocError>
         requires { text.now ≡ take (length text.now) bytes.now }
         ensures copies_the_text { IfOk result (λ made. made ≡ chars text.now) }
     {

@@ -38,18 +38,17 @@ impl TextBytes {
     }
 
     /// A copy of a text's bytes, which stand in front of these.
-    pub(crate) fn of_front(
-        alloc: Global,
-        text: &str,
-        bytes: &[u8; 64],
-    ) -> Result<TextBytes, AllocError>
+    pub(crate) fn of_front(alloc: Global, text: &str, bytes: &[u8]) -> Result<TextBytes, AllocError>
         requires { text.now ≡ take (length text.now) bytes.now }
         ensures copies_the_bytes { IfOk result (λ made. bytes_of made ≡ text.now) }
     {
-        if text.len() <= MOST {
-            return Ok(TextBytes::Short(alloc, ShortText::of_front(text, bytes)));
+        if text.len() > MOST {
+            return TextBytes::from(alloc, text);
         }
-        Ok(TextBytes::Long(String::from_str(alloc, text)?))
+        if bytes.len() < MOST {
+            return TextBytes::from(alloc, text);
+        }
+        Ok(TextBytes::Short(alloc, ShortText::of_front(text, bytes)))
     }
 
     /// A copy of these bytes.

@@ -53,22 +53,24 @@ impl<const N: usize> Word<N> {
         Ok(Word { bytes })
     }
 
-    /// A copy of a text that stands in front of these bytes. A short one costs the same whatever its length.
+    /// A copy of a text that stands in front of these bytes. Where they are `N` or more, a short one costs the same whatever its length.
     ///
     /// # Errors
     /// `NoMemory` for want of memory.
-    pub fn from_front(alloc: Global, text: &str, bytes: &[u8; 64]) -> Result<Word<N>, AllocError>
+    pub fn from_front(alloc: Global, text: &str, bytes: &[u8]) -> Result<Word<N>, AllocError>
         requires few { N ≤ 64 }
         requires front { text.now ≡ take (length text.now) bytes.now }
         ensures copies_the_text { IfOk result (λ made. made ≡ chars text.now) }
     {
-        if text.len() <= N {
-            return Ok(Word {
-                bytes: WordBytes::Short(ShortText::of_front(text, bytes)),
-            });
+        if text.len() > N {
+            return Word::from(alloc, text);
         }
-        let long = WordBytes::long(alloc, text)?;
-        Ok(Word { bytes: long })
+        if bytes.len() < N {
+            return Word::from(alloc, text);
+        }
+        Ok(Word {
+            bytes: WordBytes::Short(ShortText::of_front(text, bytes)),
+        })
     }
 
     /// The text, lent. Takes no memory.

@@ -13,4 +13,5 @@ returns c =
     record {
       reads_as_the_rule_does = rw (c.run.ensures.characters_in_front, c.run.ensures.rest_behind_them) (run_read is_name_start is_name_char start_in_name text first);
       name_is_not_empty = rw c.run.ensures.characters_in_front (run_some is_name_start is_name_char start_in_name text first);
+      stands_in_front = c.run.ensures.stands_in_front;
     }

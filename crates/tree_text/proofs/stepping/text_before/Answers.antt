@@ -1,4 +1,5 @@
 use Rattle.std.proofs.Common.{◌≡◌, ◌-◌, ◌++◌, ℕ, List, length, take, chars, rules, sym, ap, ◌∙◌}
+use Rattle.tree_text.proofs.RunLemmas.{first_ones}
 use Rattle.tree_text.proofs.TextBytes.{end_shorter, end_boundary, end_whole}
 use Rattle.tree_text.proofs.stepping.text_before.Goals as goal
 
@@ -15,4 +16,8 @@ returns c = record {
       let rest = c.args.rest.now in
       let cut : c.range.result.now ≡ take (length text - length rest) text = search rules in
       end_whole text rest c.utf8.text c.utf8.rest c.requires ∙ ap (λ (z : List ℕ). chars z ++ chars rest) (sym cut);
+  stands_in_front =
+      let text = c.args.text.now in
+      let cut : c.range.result.now ≡ take (length text - length c.args.rest.now) text = search rules in
+      first_ones c.range.result.now text (length text - length c.args.rest.now) cut;
 }

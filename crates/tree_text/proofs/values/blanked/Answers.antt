@@ -12,5 +12,5 @@ returns-then-ends_run c = record {
       let rest = chars c.run.result.1.now in
       let p = is_plain_in_value c.args.quote in
       let front = c.run.ensures.characters_in_front in
-      rw c.in_ok-from.ensures.copies_the_text (plain_blanked c.args.quote text plain rest (run_whole p text plain rest front c.run.ensures.rest_behind_them) (run_all p text plain front) (sym c.if-ends_run.ensures.tells_whether_the_run_ends));
+      rw c.in_ok-value.ensures.copies_the_text (plain_blanked c.args.quote text plain rest (run_whole p text plain rest front c.run.ensures.rest_behind_them) (run_all p text plain front) (sym c.if-ends_run.ensures.tells_whether_the_run_ends));
 }
