@@ -1,5 +1,6 @@
 pub mod RunLemmas
 pub mod TextBytes
+pub mod ClassLemmas
 pub mod FirstRuns
 pub mod WordLoops
 pub mod Loops

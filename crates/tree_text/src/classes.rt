@@ -1,8 +1,10 @@
 //! Runs of characters of one class.
-ghost use Rattle.std.specs.Prelude.{◌≡◌, chars, length, take};
+ghost use Rattle.std.specs.Prelude.{◌≡◌, ◌==◌, chars, length, take};
 ghost use Rattle.grammar_rules.specs.Reading.{front_of, after_front, head_is};
 ghost use Rattle.tree_text.specs.readers.Runs.{run_len};
-ghost use Rattle.tree_text.specs.inner.Classes.{passes, in_ascii, is_wide};
+ghost use Rattle.xml_tree.specs.Characters.{is_name_char};
+ghost use Rattle.tree_text.specs.readers.Runs.{is_plain_in_content, is_plain_in_value};
+ghost use Rattle.tree_text.specs.inner.Classes.{passes, in_ascii, is_plain_unquoted, is_wide};
 
 use crate::declaration::is_encoding_char;
 use crate::digit_runs::is_digit;
@@ -53,12 +55,85 @@ fn passes(class: Class, c: char) -> bool
     }
 }
 
-/// Whether a byte is an ASCII character of a class.
+// What each byte is a character of, in the bits of a digit: of a name, of plain content, and of a plain value, quotes aside.
+static MARKS: [u8; 256] = *b"\
+    00000000002000000000000000000000\
+    66666606666667767777777777660666\
+    67777777777777777777777777766467\
+    67777777777777777777777777766660\
+    00000000000000000000000000000000\
+    00000000000000000000000000000000\
+    00000000000000000000000000000000\
+    00000000000000000000000000000000";
+
+const IN_NAMES: u8 = 1;
+
+const IN_CONTENT: u8 = 2;
+
+const IN_VALUES: u8 = 4;
+
+/// Whether a byte is an ASCII character that stands in names.
+#[inline(always)]
+fn is_name_byte(byte: u8) -> bool
+    ensures tells_whether_it_stands_in_names { result ≡ in_ascii is_name_char byte }
+{
+    MARKS[byte as usize] & IN_NAMES != 0
+}
+
+/// Whether a byte is a plain character of content.
+#[inline(always)]
+fn is_content_byte(byte: u8) -> bool
+    ensures tells_whether_it_is_plain_in_content { result ≡ in_ascii is_plain_in_content byte }
+{
+    MARKS[byte as usize] & IN_CONTENT != 0
+}
+
+/// Whether a byte is a plain character of a value, unless it is the quote.
+#[inline(always)]
+fn is_unquoted_byte(byte: u8) -> bool
+    ensures tells_whether_it_is_plain_unless_it_is_the_quote { result ≡ is_plain_unquoted byte }
+{
+    MARKS[byte as usize] & IN_VALUES != 0
+}
+
+/// Whether a byte is the quote.
+#[inline(always)]
+fn is_quote_byte(byte: u8, quote: char) -> bool
+    ensures tells_whether_it_is_the_quote { result ≡ (byte == quote) }
+{
+    byte as char == quote
+}
+
+/// Whether a byte is a plain character of a value between these quotes.
+#[inline(always)]
+fn is_value_byte(byte: u8, quote: char) -> bool
+    ensures tells_whether_it_is_plain_in_the_value { result ≡ in_ascii (is_plain_in_value quote) byte }
+{
+    if is_quote_byte(byte, quote) {
+        return false;
+    }
+    is_unquoted_byte(byte)
+}
+
+/// Whether a byte is an ASCII character of a class, whatever class it is.
+#[inline(always)]
+fn passes_by_rule(class: Class, byte: u8) -> bool
+    ensures tells_by_the_rule_of_the_class { result ≡ in_ascii (passes class) byte }
+{
+    byte < 128 && passes(class, byte as char)
+}
+
+/// Whether a byte is an ASCII character of a class. Those of the longest runs are marked.
 #[inline(always)]
 fn passes_in_ascii(class: Class, byte: u8) -> bool
     ensures tells_whether_it_is_one_in_ascii { result ≡ in_ascii (passes class) byte }
 {
-    byte < 128 && passes(class, byte as char)
+    match class {
+        Class::Name => is_name_byte(byte),
+        Class::PlainContent => is_content_byte(byte),
+        Class::PlainValue(quote) => is_value_byte(byte, quote),
+        _ => passes_by_rule(class, byte),
+    }
 }
 
 /// How many bytes in front are ASCII characters of a class.

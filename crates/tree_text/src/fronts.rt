@@ -2,7 +2,7 @@
 ghost use Rattle.std.specs.Prelude.{◌≡◌};
 ghost use Rattle.tree_text.specs.readers.Runs.{is_plain_in_content, is_plain_in_name, is_plain_in_value};
 
-/// Whether a character is an ASCII one that stands raw in content wherever it is, and for itself. The most frequent are tested first.
+/// Whether a character is an ASCII one that stands raw in content wherever it is, and for itself.
 #[inline(always)]
 pub fn is_plain_in_content(c: char) -> bool
     ensures tells_whether_it_is_plain_in_content { result ≡ is_plain_in_content c }
@@ -16,7 +16,6 @@ pub fn is_plain_in_content(c: char) -> bool
 }
 
 /// Whether a character is an ASCII one that stands raw in a value between these quotes, and for itself.
-/// Of the ranges the compiled code tests the third first, so letters stand there.
 #[inline(always)]
 pub fn is_plain_in_value(c: char, quote: char) -> bool
     ensures tells_whether_it_is_plain_in_a_value { result ≡ is_plain_in_value quote c }
@@ -24,8 +23,7 @@ pub fn is_plain_in_value(c: char, quote: char) -> bool
     c != quote && (matches!(c, '\''..=';') || matches!(c, ' '..='%') || matches!(c, '='..='~'))
 }
 
-/// Whether a character is an ASCII one that stands in names. Most are small letters; in this order the
-/// compiled code tests them first.
+/// Whether a character is an ASCII one that stands in names.
 #[inline(always)]
 pub fn is_plain_in_name(c: char) -> bool
     ensures tells_whether_it_is_plain_in_names { result ≡ is_plain_in_name c }
