@@ -1,5 +1,6 @@
 pub mod RunLemmas
 pub mod TextBytes
+pub mod AheadLemmas
 pub mod ClassLemmas
 pub mod FirstRuns
 pub mod WordLoops

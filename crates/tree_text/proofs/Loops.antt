@@ -31,6 +31,11 @@ module _ {A G B : Type 0} (test : List ℕ → Bool) (gap : Reader Kind G) (memb
       by_out (Ok y) = refl
       by_out (Err e) = refl
 
+-- no member follows
+pub none_read : {A : Type 0} (test : List ℕ → Bool) (p : Reader Kind A) (n : ℕ) (text : List ℕ) → test text ≡ false → read_at_most test p n text ≡ Ok ([], text)
+none_read test p zero text h = refl
+none_read test p (suc n) text h = rw h refl
+
 module _ {A S B : Type 0} (test : List ℕ → Bool) (p : Reader Kind A) (F : S → List A → B) where
   step : (s t : S) (x : A) (out : Result (List A × List ℕ) (Stop Kind)) → ((xs : List A) → F s (x ∷ xs) ≡ F t xs) → finish F s (out >>= λ y. Ok (x ∷ y.0, y.1)) ≡ finish F t out
   step s t x (Ok y) j = ap (λ (z : B). Ok (z, y.1)) (j y.0)

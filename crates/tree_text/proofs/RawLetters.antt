@@ -1,8 +1,9 @@
 -- Frequent characters stand raw in text.
-use Rattle.std.proofs.Common.{◌≡◌, ℕ, ◌≤◌, ◌≢◌, Bool, true, false, ◌||◌, refl, sym, ap, ◌∙◌, arith}
+use Rattle.std.proofs.Common.{◌≡◌, ℕ, ◌≤◌, ◌≢◌, Bool, true, false, ◌||◌, List, [], ◌∷◌, refl, sym, ap, ◌∙◌, arith}
 use Rattle.std.specs.Prelude.{nat_eq, nat_le, not}
 use Rattle.std.proofs.lemmas.Bool.{and_parts, eqb-true, leb-true, le-leb, ne_eqb, or_left, true≢false}
 use Rattle.std.specs.Int.{is_in_range as within}
+use Rattle.grammar_rules.specs.Reading.{head_is}
 use Rattle.xml_tree.specs.Characters.{is_name_start, is_joining, is_name_char}
 use Rattle.tree_text.specs.Grammar.{is_raw}
 use Rattle.tree_text.specs.readers.Runs.{is_frequent, is_usual}
@@ -42,13 +43,17 @@ pub usual_no_bracket : (c : ℕ) → is_usual c ≡ true → nat_eq 93 c ≡ fal
 usual_no_bracket c h = (inner c h).1
 
 -- names begin with small letters, which stand in them too
-pub small_begins_name : (c : ℕ) → within 97 122 c ≡ true → is_name_start c ≡ true
+small_begins_name : (c : ℕ) → within 97 122 c ≡ true → is_name_start c ≡ true
 small_begins_name c h = rw h (rw (by (within 65 90 c) (nat_eq c 95)) refl)
   where
     by : (a b : Bool) → ((a || b) || true) ≡ true
     by true b = refl
     by false true = refl
     by false false = refl
+
+pub small_first : (text : List ℕ) → head_is (within 97 122) text ≡ true → head_is is_name_start text ≡ true
+small_first [] h = absurd cc
+small_first (c ∷ cs) h = small_begins_name c h
 
 pub small_in_name : (c : ℕ) → within 97 122 c ≡ true → is_name_char c ≡ true
 small_in_name c h = or_left (is_name_start c) (is_joining c) (small_begins_name c h)

@@ -42,6 +42,7 @@ impl Bindings {
     }
 
     /// Goes into an element with these declarations.
+    #[inline(always)]
     pub fn enter(&mut self, alloc: Global, decls: Vec<Decl>) -> Result<(), AllocError>
         requires { AreKept self.old }
         ensures scope_grows_by_them { OnOk result (lists self.new ≡ lists self.old ++ decls.items ∷ []) }

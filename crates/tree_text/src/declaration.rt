@@ -6,10 +6,11 @@ ghost use Rattle.tree_text.specs.Grammar.{is_encoding_char, is_our_encoding};
 ghost use Rattle.tree_text.specs.readers.Texts.{letter_follows, read_version_number, read_encoding_name, read_yes_or_no, read_version, read_encoding, read_standalone, read_encoding_if, read_standalone_if, read_xml_declaration, declaration_follows, read_declaration, read_declaration_if, read_mark_if};
 ghost use Rattle.grammar_rules.specs.Reading.{head_is};
 
+use crate::ahead::is_space_next;
 use crate::classes::{Class, run};
 use crate::digit_runs::{digits, is_digit};
 use crate::kind::Kind;
-use crate::parts::{equals, letter, some_spaces, spaces, starts_with_space, word};
+use crate::parts::{equals, letter, some_spaces, spaces, word};
 use crate::places::before;
 use crate::runs::{after_word, same_letters};
 use crate::stepping::{is_first, split_first};
@@ -108,7 +109,7 @@ fn standalone(text: &str) -> Result<&str, Stop<'_>>
 fn letter_follows(text: &str, letter: char) -> bool
     ensures tells_whether_the_letter_follows { result ≡ letter_follows letter (chars text.now) }
 {
-    if !starts_with_space(text) {
+    if !is_space_next(text) {
         return false;
     }
     let (_, rest) = spaces(text);
@@ -180,7 +181,7 @@ fn declaration_follows(text: &str) -> bool
     ensures tells_whether_a_declaration_follows { result ≡ declaration_follows (chars text.now) }
 {
     match after_word(text, &['<', '?', 'x', 'm', 'l']) {
-        Some(rest) => starts_with_space(rest),
+        Some(rest) => is_space_next(rest),
         None => false,
     }
 }

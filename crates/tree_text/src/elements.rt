@@ -9,9 +9,11 @@ ghost use Rattle.tree_text.specs.readers.Gives.{Gives, Fails};
 ghost use Rattle.tree_text.specs.readers.Members.{read_chars_onto, read_onto, read_child, read_filled, read_filled_behind};
 ghost use Rattle.tree_text.specs.Names.{attrs_of};
 ghost use Rattle.tree_text.specs.readers.Judging.{counted_back, first_of_tag};
+ghost use Rattle.tree_text.specs.readers.Runs.{ends_run};
 ghost use Rattle.tree_text.specs.readers.Texts.{markup_follows, other_follows, read_tag, read_element};
 ghost use Rattle.tree_text.specs.readers.Views.{name_in, tag_in};
 
+use crate::ahead::{are_next, is_either_next, is_next};
 use crate::bindings::Bindings;
 use crate::classes::{Class, run};
 use crate::kind::Kind;
@@ -25,7 +27,7 @@ use crate::stepping::{count, is_first, split_first};
 use crate::stop::Stop;
 use crate::tags::{Tag, whole_tag};
 use crate::texts::text_of;
-use crate::values::{ends_run, reference};
+use crate::values::reference;
 use crate::written::end_tag;
 use std::alloc::{AllocError, Global};
 use xml_tree::{Attr, Decl, Element, Name, Text};
@@ -53,10 +55,11 @@ fn judged<'a>(
 }
 
 /// Takes room for one node alone where the content ends before this rest of the text: most elements have one node or none.
+#[inline(always)]
 fn room_before(element: &mut Element, rest: &str) -> Result<(), AllocError>
     ensures changes_nothing { element.new ≡ element.old }
 {
-    if starts(rest, &['<', '/']) {
+    if are_next(rest, '<', '/') {
         return element.reserve_node();
     }
     Ok(())
@@ -86,6 +89,14 @@ fn push_char(alloc: Global, element: &mut Element, c: char) -> Result<(), AllocE
     element.push_text(text_of(alloc, &[c])?)
 }
 
+/// Whether a `<` or a `&` follows, which ends a run.
+#[inline(always)]
+fn run_ends(text: &str) -> bool
+    ensures tells_whether_the_run_ends { result ≡ ends_run 60 (chars text.now) }
+{
+    is_either_next(text, '<', '&')
+}
+
 /// Adds a run of raw characters to content, as they are read, and answers what follows.
 fn push_mixed<'a>(
     alloc: Global,
@@ -105,7 +116,7 @@ fn push_some<'a>(alloc: Global, text: &'a str, element: &mut Element) -> Result<
     ensures reads_the_run_onto_it { IfOk result (λ rest. read_chars_onto element.old (chars text.now) ≡ Ok (element.new, chars rest.now)) }
 {
     let (plain, rest) = run(text, Class::PlainContent);
-    if ends_run(rest, '<') {
+    if run_ends(rest) {
         let plain = Text::from_front(alloc, plain, text.as_bytes())?;
         push_plain(element, plain, rest)?;
         return Ok(rest);
@@ -118,7 +129,7 @@ fn push_some<'a>(alloc: Global, text: &'a str, element: &mut Element) -> Result<
 fn push_run<'a>(alloc: Global, text: &'a str, element: &mut Element) -> Result<&'a str, AllocError>
     ensures reads_the_run_onto_it { IfOk result (λ rest. read_chars_onto element.old (chars text.now) ≡ Ok (element.new, chars rest.now)) }
 {
-    if ends_run(text, '<') {
+    if run_ends(text) {
         return Ok(text);
     }
     push_some(alloc, text, element)
@@ -175,23 +186,22 @@ fn push_attrs(element: &mut Element, said: &mut Vec<Said>, room: usize) -> Resul
 }
 
 /// Whether a reference or a `<` follows.
+#[inline(always)]
 fn starts_markup(text: &str) -> bool
     ensures tells_whether_markup_or_an_end_tag_follows { result ≡ head_is (λ c. c == 38 || c == 60) (chars text.now) }
 {
-    match split_first(text) {
-        Some((first, _)) => first == '&' || first == '<',
-        None => false,
-    }
+    is_either_next(text, '&', '<')
 }
 
 /// Whether content goes on: a reference or a `<` follows, and no end tag.
+#[inline(always)]
 fn markup_follows(text: &str) -> bool
     ensures tells_whether_markup_follows { result ≡ markup_follows (chars text.now) }
 {
     if !starts_markup(text) {
         return false;
     }
-    !starts(text, &['<', '/'])
+    !are_next(text, '<', '/')
 }
 
 /// Why no element is read where no level is left: it is too deep, or none stands there.
@@ -217,7 +227,7 @@ fn no_level(text: &str, depth: usize) -> Stop<'_>
 fn other_follows(text: &str) -> bool
     ensures tells_whether_other_markup_follows { result ≡ other_follows (chars text.now) }
 {
-    is_first(text, '&') || starts(text, &['<', '!']) || starts(text, &['<', '?'])
+    is_next(text, '&') || are_next(text, '<', '!') || are_next(text, '<', '?')
 }
 
 /// Adds a piece of markup that is no element to content, and answers what follows it. Most are elements.
@@ -246,6 +256,7 @@ fn push_other<'a>(alloc: Global, text: &'a str, element: &mut Element) -> Result
 }
 
 /// Adds a piece of markup to content, and answers what follows it.
+#[inline(always)]
 #[cycle(nested)]
 #[tactic(auto, using(crate::proofs::ElementLemmas::child_onto))]
 fn push_markup<'a>(
@@ -269,6 +280,7 @@ fn push_markup<'a>(
 }
 
 /// Adds content to an element that has none, and answers what follows it.
+#[inline(always)]
 #[cycle(nested)]
 fn content<'a>(
     alloc: Global,
@@ -298,6 +310,7 @@ fn content<'a>(
 }
 
 /// Adds what stands behind a tag to its element, which has no content, and answers what follows.
+#[inline(always)]
 #[cycle(nested)]
 fn behind_tag<'a>(
     alloc: Global,
@@ -324,6 +337,7 @@ fn behind_tag<'a>(
 
 /// Makes a bare element of the name of a tag that of the tag, which says this, and of what stands behind it, and answers what
 /// follows.
+#[inline(always)]
 #[cycle(nested)]
 fn fill<'a>(
     alloc: Global,
@@ -355,6 +369,7 @@ fn fill<'a>(
 }
 
 /// Adds an element at this depth, with this many levels at most, to content, and answers what follows it.
+#[inline(never)]
 #[cycle(nested)]
 fn push_child<'a>(
     alloc: Global,

@@ -3,6 +3,7 @@
 //! XML 1.0 (fifth edition) and Namespaces in XML 1.0, as RFC 4825 exchanges them.
 #![tactic(auto)]
 
+mod ahead;
 mod bindings;
 mod bodies;
 mod classes;

@@ -88,16 +88,25 @@ fn decl_of(alloc: Global, said: &Said) -> Result<Decl, AllocError>
     Ok(Decl { prefix, uri })
 }
 
-/// Adds a declaration, unless it is an attribute.
+/// Adds a declaration.
+#[inline(never)]
+fn push_declared(alloc: Global, decls: &mut Vec<Decl>, said: &Said) -> Result<(), AllocError>
+    ensures adds_the_declaration { IfOk result (λ _. decls.new.items ≡ decls.old.items ++ said_decl said.now ∷ []) }
+{
+    let decl = decl_of(alloc, said)?;
+    decls.push(decl)?;
+    Ok(())
+}
+
+/// The same, unless it is an attribute. Most are.
+#[inline(always)]
 fn push_decl(alloc: Global, decls: &mut Vec<Decl>, said: &Said) -> Result<(), AllocError>
     ensures adds_it_if_it_declares { IfOk result (λ _. decls.new.items ≡ decls.old.items ++ decls_of (said.now ∷ [])) }
 {
     if !declares(&said.name) {
         return Ok(());
     }
-    let decl = decl_of(alloc, said)?;
-    decls.push(decl)?;
-    Ok(())
+    push_declared(alloc, decls, said)
 }
 
 /// The declarations among these, in order.
@@ -207,6 +216,7 @@ fn only_wrong(here: &Bindings, only: &Said, name: &Written<'_>) -> Option<(Kind,
 }
 
 /// The first of these that is wrong, as `first_wrong` finds it.
+#[inline(never)]
 fn first_of_several<'a>(
     alloc: Global,
     here: &Bindings,

@@ -104,9 +104,21 @@ impl Namespaces {
         pop_number(&mut self.declared, &decl.prefix);
     }
 
-    /// Adds declarations, which are nearer than the others, and a later one nearer than those before it.
+    /// Adds declarations, which are nearer than the others, and a later one nearer than those before it. Most elements have none.
+    #[inline(always)]
     pub fn declare_all(&mut self, alloc: Global, decls: &[Decl]) -> Result<(), AllocError>
         ensures made_of_all_of_them { (ds : List Decl) → AreOf self.old ds → OnOk result (AreOf self.new (ds ++ decls.now)) }
+    {
+        if decls.is_empty() {
+            return Ok(());
+        }
+        self.declare_each(alloc, decls)
+    }
+
+    /// The same, one by one.
+    #[inline(never)]
+    fn declare_each(&mut self, alloc: Global, decls: &[Decl]) -> Result<(), AllocError>
+        ensures made_of_each_of_them { (ds : List Decl) → AreOf self.old ds → OnOk result (AreOf self.new (ds ++ decls.now)) }
     {
         for decl in decls {
             self.declare(alloc, decl)?;

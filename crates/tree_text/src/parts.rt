@@ -1,16 +1,16 @@
 //! Words, white space and names: the parts in which no other rule stands.
 ghost use Rattle.std.specs.Prelude.{◌≡◌, ◌<◌, [], ◌∷◌, ◌++◌, chars, drop, take, length, IsTrue, IfOk, IfSome, Ok};
-ghost use Rattle.grammar_rules.specs.Reading.{head_is, after_front, read_word};
+ghost use Rattle.grammar_rules.specs.Reading.{head_is, front_of, after_front, read_word};
 ghost use Rattle.xml_tree.specs.Characters.{is_space, is_name_start, is_name_char};
 ghost use Rattle.tree_text.specs.readers.Gives.{Gives};
 ghost use Rattle.tree_text.specs.readers.Texts.{read_name, read_spaces, read_some_spaces, read_equals};
-ghost use Rattle.std.specs.Int.{is_in_range as within};
 
+use crate::ahead::{behind_next, is_small_next, is_space_next};
 use crate::classes::{Class, run};
 use crate::fronts::is_plain_in_name;
-use crate::stepping::split_first;
+use crate::stepping::{nothing, split_first};
 use crate::stop::Stop;
-use xml_tree::{is_name_char, is_name_start, is_space};
+use xml_tree::{is_name_char, is_name_start};
 
 /// What follows a fixed letter.
 #[inline(always)]
@@ -24,6 +24,18 @@ pub fn letter(text: &str, expected: char) -> Result<&str, Stop<'_>>
             }
             Ok(rest)
         }
+        None => Err(Stop::Syntax(text)),
+    }
+}
+
+/// What follows a fixed ASCII letter.
+#[inline(always)]
+pub fn sign(text: &str, expected: char) -> Result<&str, Stop<'_>>
+    requires { expected < 128 }
+    ensures reads_as_the_rule_does { Gives (λ rest. (tt, chars rest.now)) result (read_word (expected ∷ []) (chars text.now)) }
+{
+    match behind_next(text, expected) {
+        Some(rest) => Ok(rest),
         None => Err(Stop::Syntax(text)),
     }
 }
@@ -107,37 +119,25 @@ fn same_by_each<'a>(text: &'a str, front: &str) -> Result<&'a str, Stop<'a>>
     Ok(rest)
 }
 
-/// White space, which may be absent, and what follows it.
-pub fn spaces(text: &str) -> (&str, &str)
-    ensures reads_as_the_rule_does { read_spaces (chars text.now) ≡ Ok (chars result.0.now, chars result.1.now) }
-    ensures rest_behind_the_front { chars result.1.now ≡ after_front is_space (chars text.now) }
+/// White space in front, and what follows it.
+#[inline(never)]
+fn space_run(text: &str) -> (&str, &str)
+    ensures characters_in_front { chars result.0.now ≡ front_of is_space (chars text.now) }
+    ensures rest_behind_them { chars result.1.now ≡ after_front is_space (chars text.now) }
 {
     run(text, Class::Space)
 }
 
-fn is_small_letter(c: char) -> bool
-    ensures tells_whether_it_is_small { result ≡ within 97 122 c }
-{
-    matches!(c, 'a'..='z')
-}
-
-/// Whether a name may begin with a character. Most begin with a small letter.
+/// White space, which may be absent, and what follows it. Most often it is.
 #[inline(always)]
-fn begins_name(c: char) -> bool
-    ensures tells_whether_it_begins_names { result ≡ is_name_start c }
+pub fn spaces(text: &str) -> (&str, &str)
+    ensures reads_as_the_rule_does { read_spaces (chars text.now) ≡ Ok (chars result.0.now, chars result.1.now) }
+    ensures rest_behind_the_front { chars result.1.now ≡ after_front is_space (chars text.now) }
 {
-    if is_small_letter(c) {
-        return true;
+    if !is_space_next(text) {
+        return (nothing(), text);
     }
-    begins_some_name(c)
-}
-
-/// The same, whatever character it is.
-#[inline(never)]
-fn begins_some_name(c: char) -> bool
-    ensures tells_of_every_character { result ≡ is_name_start c }
-{
-    is_name_start(c)
+    space_run(text)
 }
 
 /// Whether a character may stand in a name. Most are ASCII.
@@ -152,6 +152,7 @@ pub fn stands_in_name(c: char) -> bool
 }
 
 /// A name, and what follows it.
+#[inline(always)]
 pub fn name(text: &str) -> Result<(&str, &str), Stop<'_>>
     ensures reads_as_the_rule_does { Gives (λ x. (chars x.0.now, chars x.1.now)) result (read_name (chars text.now)) }
     ensures name_is_not_empty { IfOk result (λ x. 0 < length (chars x.0.now)) }
@@ -164,42 +165,44 @@ pub fn name(text: &str) -> Result<(&str, &str), Stop<'_>>
 }
 
 /// White space, which may not be absent, and what follows it.
+#[inline(always)]
 pub fn some_spaces(text: &str) -> Result<(&str, &str), Stop<'_>>
     ensures reads_as_the_rule_does { Gives (λ x. (chars x.0.now, chars x.1.now)) result (read_some_spaces (chars text.now)) }
 {
-    if !starts_with_space(text) {
+    if !is_space_next(text) {
         return Err(Stop::Syntax(text));
     }
     Ok(run(text, Class::Space))
 }
 
-/// Whether white space stands in front.
-#[inline(always)]
-pub fn starts_with_space(text: &str) -> bool
-    ensures tells_whether_space_is_first { result ≡ head_is is_space (chars text.now) }
-{
-    match split_first(text) {
-        Some((first, _)) => is_space(first),
-        None => false,
-    }
-}
-
-/// Whether the first character of a name stands in front.
+/// Whether the first character of a name stands in front. Most often it is a small letter.
 #[inline(always)]
 pub fn starts_with_name(text: &str) -> bool
     ensures tells_whether_a_name_is_first { result ≡ head_is is_name_start (chars text.now) }
 {
+    if is_small_next(text) {
+        return true;
+    }
+    starts_with_some_name(text)
+}
+
+/// The same, whatever character it is.
+#[inline(never)]
+fn starts_with_some_name(text: &str) -> bool
+    ensures tells_of_every_character { result ≡ head_is is_name_start (chars text.now) }
+{
     match split_first(text) {
-        Some((first, _)) => begins_name(first),
+        Some((first, _)) => is_name_start(first),
         None => false,
     }
 }
 
 /// `=` with white space round it: the white space behind it, and what follows.
+#[inline(always)]
 pub fn equals(text: &str) -> Result<(&str, &str), Stop<'_>>
     ensures reads_the_equals_sign { Gives (λ x. (chars x.0.now, chars x.1.now)) result (read_equals (chars text.now)) }
 {
     let (_, rest) = spaces(text);
-    let rest = letter(rest, '=')?;
+    let rest = sign(rest, '=')?;
     Ok(spaces(rest))
 }

@@ -46,6 +46,13 @@ pub fn is_first(text: &str, letter: char) -> bool
     }
 }
 
+/// No characters.
+pub fn nothing() -> &'static str
+    ensures has_no_characters { chars result.now ≡ [] }
+{
+    ""
+}
+
 /// Whether a text has no characters.
 #[inline(always)]
 pub fn is_over(text: &str) -> bool

@@ -6,11 +6,11 @@ ghost use Rattle.tree_text.specs.Grammar.{is_quote};
 ghost use Rattle.tree_text.specs.readers.Texts.{read_value, read_attribute, read_said, read_all_said, said_follows, read_tag_end, read_tag};
 ghost use Rattle.tree_text.specs.readers.Views.{name_in, tag_in};
 
-use crate::parts::{
-    equals, letter, some_spaces, spaces, starts_with_name, starts_with_space, word,
-};
+use crate::ahead::{is_next, is_space_next};
+use crate::classes::{Class, run};
+use crate::parts::{equals, letter, sign, some_spaces, spaces, starts_with_name, word};
 use crate::said::Said;
-use crate::stepping::{count, count_before, is_first};
+use crate::stepping::{count, count_before};
 use crate::stop::Stop;
 use crate::values::{quote, value};
 use crate::written::{Written, own_qname};
@@ -68,18 +68,19 @@ fn push_said<'a>(alloc: Global, text: &'a str, all: &mut Vec<Said>) -> Result<&'
 fn said_follows(text: &str) -> bool
     ensures tells_whether_an_attribute_follows { result ≡ said_follows (chars text.now) }
 {
-    if !starts_with_space(text) {
+    if !is_space_next(text) {
         return false;
     }
-    let (_, rest) = spaces(text);
+    let (_, rest) = run(text, Class::Space);
     starts_with_name(rest)
 }
 
-/// Puts all attributes, each behind white space, in place of these, and answers what follows them.
-fn all_said<'a>(alloc: Global, text: &'a str, all: &mut Vec<Said>) -> Result<&'a str, Stop<'a>>
-    ensures reads_as_the_rule_does { Gives (λ rest. (all.new.items, chars rest.now)) result (read_all_said (chars text.now)) }
+/// Puts all attributes, each behind white space, behind none, and answers what follows them.
+#[inline(never)]
+fn some_said<'a>(alloc: Global, text: &'a str, all: &mut Vec<Said>) -> Result<&'a str, Stop<'a>>
+    requires { all.old.items ≡ [] }
+    ensures reads_each_that_follows { Gives (λ rest. (all.new.items, chars rest.now)) result (read_all_said (chars text.now)) }
 {
-    all.clear();
     let mut rest = text;
     for _ in 0..text.len() {
         if !said_follows(rest) {
@@ -90,16 +91,28 @@ fn all_said<'a>(alloc: Global, text: &'a str, all: &mut Vec<Said>) -> Result<&'a
     Ok(rest)
 }
 
+/// Puts all attributes, each behind white space, in place of these, and answers what follows them. Many tags have none.
+#[inline(always)]
+fn all_said<'a>(alloc: Global, text: &'a str, all: &mut Vec<Said>) -> Result<&'a str, Stop<'a>>
+    ensures reads_as_the_rule_does { Gives (λ rest. (all.new.items, chars rest.now)) result (read_all_said (chars text.now)) }
+{
+    all.clear();
+    if !is_space_next(text) {
+        return Ok(text);
+    }
+    some_said(alloc, text, all)
+}
+
 /// Whether the tag is that of an empty element, and what follows its end.
 #[inline(always)]
 fn tag_end(text: &str) -> Result<(bool, &str), Stop<'_>>
     ensures reads_as_the_rule_does { Gives (λ x. (x.0, chars x.1.now)) result (read_tag_end (chars text.now)) }
 {
-    if is_first(text, '/') {
+    if is_next(text, '/') {
         let rest = word(text, &['/', '>'])?;
         return Ok((true, rest));
     }
-    let rest = letter(text, '>')?;
+    let rest = sign(text, '>')?;
     Ok((false, rest))
 }
 
@@ -113,7 +126,7 @@ pub fn whole_tag<'a>(
     ensures reads_as_the_rule_does { Gives (λ x. (tag_in (chars text.now) x.1 said.new.items, chars x.1.behind.now)) result (read_tag (chars text.now)) }
     ensures name_is_as_written { IfOk result (λ x. x.0 ≡ name_in x.1.written) }
 {
-    let rest = letter(text, '<')?;
+    let rest = sign(text, '<')?;
     let (name, written, rest) = own_qname(alloc, rest)?;
     let rest = all_said(alloc, rest, said)?;
     let (_, rest) = spaces(rest);

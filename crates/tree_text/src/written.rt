@@ -7,8 +7,9 @@ ghost use Rattle.tree_text.specs.readers.Texts.{colon_follows, read_qname, read_
 ghost use Rattle.tree_text.specs.readers.Views.{name_in};
 ghost use Rattle.tree_text.specs.readers.Words.{end_start};
 
-use crate::parts::{letter, name, same, spaces};
-use crate::stepping::{count, is_first, split_first};
+use crate::ahead::{behind_next, is_next};
+use crate::parts::{letter, name, same, sign, spaces};
+use crate::stepping::{count, nothing, split_first};
 use crate::stop::Stop;
 use std::alloc::{AllocError, Global};
 use xml_tree::{LocalName, Name, Prefix};
@@ -20,16 +21,11 @@ pub struct Written<'a> {
     pub local: &'a str,
 }
 
+#[inline(always)]
 fn colon_follows(text: &str) -> bool
     ensures tells_whether_a_colon_follows { result ≡ colon_follows (chars text.now) }
 {
-    is_first(text, ':')
-}
-
-fn no_prefix() -> &'static str
-    ensures has_no_characters { chars result.now ≡ [] }
-{
-    ""
+    is_next(text, ':')
 }
 
 /// A name, with a prefix or without, and what follows it.
@@ -38,7 +34,7 @@ pub fn qname(text: &str) -> Result<(Written<'_>, &str), Stop<'_>>
 {
     let (first, rest) = name(text)?;
     if !colon_follows(rest) {
-        let prefix = no_prefix();
+        let prefix = nothing();
         return Ok((
             Written {
                 prefix,
@@ -84,13 +80,8 @@ fn same_name<'a>(text: &'a str, name: &Written<'_>) -> Result<&'a str, Stop<'a>>
 fn end_start(text: &str) -> Result<&str, Stop<'_>>
     ensures reads_the_start_of_an_end_tag { Gives (λ rest. (tt, chars rest.now)) result (read_word end_start (chars text.now)) }
 {
-    match split_first(text) {
-        Some((first, rest)) => {
-            if first != '<' {
-                return Err(Stop::Syntax(text));
-            }
-            letter(rest, '/')
-        }
+    match behind_next(text, '<') {
+        Some(rest) => sign(rest, '/'),
         None => Err(Stop::Syntax(text)),
     }
 }
@@ -103,7 +94,7 @@ pub fn end_tag<'a>(text: &'a str, name: &Written<'_>) -> Result<&'a str, Stop<'a
     let rest = end_start(text)?;
     let rest = same_name(rest, name)?;
     let (_, rest) = spaces(rest);
-    letter(rest, '>')
+    sign(rest, '>')
 }
 
 /// A prefix that owns its characters. Most names have none.
@@ -138,7 +129,7 @@ fn own_local<'a>(
     let prefix = Prefix::empty();
     let own = LocalName::from_front(alloc, local, text.as_bytes())?;
     let written = Written {
-        prefix: no_prefix(),
+        prefix: nothing(),
         local,
     };
     Ok((Name { prefix, local: own }, written))
@@ -154,6 +145,15 @@ pub fn own_qname(alloc: Global, text: &str) -> Result<(Name, Written<'_>, &str),
         let (name, written) = own_local(alloc, text, first)?;
         return Ok((name, written, rest));
     }
+    own_prefixed(alloc, text)
+}
+
+/// The same, whether it has a prefix or not.
+#[inline(never)]
+fn own_prefixed(alloc: Global, text: &str) -> Result<(Name, Written<'_>, &str), Stop<'_>>
+    ensures reads_as_the_rule_does { Gives (λ x. (x.0, chars x.2.now)) result (read_qname (chars text.now)) }
+    ensures name_is_as_written { IfOk result (λ x. x.0 ≡ name_in x.1) }
+{
     let (written, rest) = qname(text)?;
     let name = owned(alloc, &written)?;
     Ok((name, written, rest))

@@ -4,13 +4,13 @@ use Rattle.tree_text.proofs.PlainFronts.{plain_chars, chars_onto}
 use Rattle.tree_text.proofs.TextBytes.{run_whole, run_all}
 use Rattle.tree_text.proofs.elements.push_some.Goals as goal
 
-pub returns-then-ends_run : goal.returns-then-ends_run
-returns-then-ends_run c = record {
+pub returns-then-run_ends : goal.returns-then-run_ends
+returns-then-run_ends c = record {
   reads_the_run_onto_it =
       let text = chars c.args.text.now in
       let plain = chars c.run.result.0.now in
       let rest = chars c.run.result.1.now in
       let front = c.run.ensures.characters_in_front in
       rw (c.in_ok-push_plain.ensures.adds_the_characters, c.in_ok-plain.ensures.copies_the_text) (chars_onto c.args.element.now text plain rest
-      (plain_chars text plain rest (run_whole is_plain_in_content text plain rest front c.run.ensures.rest_behind_them) (run_all is_plain_in_content text plain front) (sym c.if-ends_run.ensures.tells_whether_the_run_ends)));
+      (plain_chars text plain rest (run_whole is_plain_in_content text plain rest front c.run.ensures.rest_behind_them) (run_all is_plain_in_content text plain front) (sym c.if-run_ends.ensures.tells_whether_the_run_ends)));
 }

@@ -3,8 +3,8 @@ use Rattle.xml_tree.specs.Characters.{is_space}
 use Rattle.tree_text.proofs.FirstRuns.{run_read, run_unread}
 use Rattle.tree_text.proofs.parts.some_spaces.Goals as goal
 
-pub returns-then-not-starts_with_space : goal.returns-then-not-starts_with_space
-returns-then-not-starts_with_space c = record { reads_as_the_rule_does = run_unread is_space is_space (chars c.args.text.now) (sym c.if-not-starts_with_space.ensures.tells_whether_space_is_first) }
+pub returns-then-not-is_space_next : goal.returns-then-not-is_space_next
+returns-then-not-is_space_next c = record { reads_as_the_rule_does = run_unread is_space is_space (chars c.args.text.now) (sym c.if-not-is_space_next.ensures.tells_whether_space_is_next) }
 
 pub returns : goal.returns
-returns c = record { reads_as_the_rule_does = rw (c.run.ensures.characters_in_front, c.run.ensures.rest_behind_them) (run_read is_space is_space (λ c h. h) (chars c.args.text.now) (sym c.if-not-starts_with_space.ensures.tells_whether_space_is_first)) }
+returns c = record { reads_as_the_rule_does = rw (c.run.ensures.characters_in_front, c.run.ensures.rest_behind_them) (run_read is_space is_space (λ c h. h) (chars c.args.text.now) (sym c.if-not-is_space_next.ensures.tells_whether_space_is_next)) }
