@@ -1,6 +1,7 @@
 pub mod RunLemmas
 pub mod TextBytes
 pub mod AheadLemmas
+pub mod SpaceLemmas
 pub mod ClassLemmas
 pub mod FirstRuns
 pub mod WordLoops

@@ -1,5 +1,6 @@
 //! Words, white space and names: the parts in which no other rule stands.
-ghost use Rattle.std.specs.Prelude.{◌≡◌, ◌<◌, [], ◌∷◌, ◌++◌, chars, drop, take, length, IsTrue, IfOk, IfSome, Ok};
+ghost use Rattle.std.specs.Prelude.{◌≡◌, ◌<◌, true, [], ◌∷◌, ◌++◌, chars, drop, take, length, IsTrue, IfOk, IfSome, Ok};
+ghost use Rattle.std.specs.List.{list_all};
 ghost use Rattle.grammar_rules.specs.Reading.{head_is, front_of, after_front, read_word};
 ghost use Rattle.xml_tree.specs.Characters.{is_space, is_name_start, is_name_char};
 ghost use Rattle.tree_text.specs.readers.Gives.{Gives};
@@ -71,6 +72,7 @@ fn letters<'a>(text: &'a str, word: &[char]) -> Result<&'a str, Stop<'a>>
 }
 
 /// Whether a text begins with these bytes. They are compared several at once.
+#[inline(always)]
 fn begins_with(text: &str, front: &str) -> bool
     ensures front_and_what_follows { IsTrue result → text.now ≡ front.now ++ drop (length front.now) text.now }
 {
@@ -78,6 +80,7 @@ fn begins_with(text: &str, front: &str) -> bool
 }
 
 /// What follows these bytes, where they stand in front.
+#[inline(always)]
 fn after_bytes<'a>(text: &'a str, front: &str) -> Option<&'a str>
     ensures they_stand_in_front { IfSome result (λ rest. chars text.now ≡ chars front.now ++ chars rest.now) }
 {
@@ -88,6 +91,7 @@ fn after_bytes<'a>(text: &'a str, front: &str) -> Option<&'a str>
 }
 
 /// What follows the characters of a text. Most are there.
+#[inline(always)]
 pub fn same<'a>(text: &'a str, front: &str) -> Result<&'a str, Stop<'a>>
     ensures reads_the_same_characters { Gives (λ rest. (tt, chars rest.now)) result (read_word (chars front.now) (chars text.now)) }
 {
@@ -168,6 +172,7 @@ pub fn name(text: &str) -> Result<(&str, &str), Stop<'_>>
 #[inline(always)]
 pub fn some_spaces(text: &str) -> Result<(&str, &str), Stop<'_>>
     ensures reads_as_the_rule_does { Gives (λ x. (chars x.0.now, chars x.1.now)) result (read_some_spaces (chars text.now)) }
+    ensures all_is_space { IfOk result (λ x. list_all is_space (chars x.0.now) ≡ true) }
 {
     if !is_space_next(text) {
         return Err(Stop::Syntax(text));

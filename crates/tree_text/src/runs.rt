@@ -147,6 +147,7 @@ pub fn raw_run(text: &str) -> (&str, &str)
 }
 
 /// The Chars up to the first time that a word stands there, and what follows the word.
+#[inline(always)]
 pub fn up_to<'a>(text: &'a str, end: &[char]) -> Result<(&'a str, &'a str), Stop<'a>>
     ensures reads_up_to_the_word { Gives (λ x. (chars x.0.now, chars x.1.now)) result (read_up_to is_char end.now (chars text.now)) }
 {

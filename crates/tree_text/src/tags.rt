@@ -1,6 +1,8 @@
 //! Start tags and the tags of empty elements.
-ghost use Rattle.std.specs.Prelude.{◌≡◌, ◌++◌, ◌∷◌, [], chars, IfOk, Ok};
+ghost use Rattle.std.specs.Prelude.{◌≡◌, ◌++◌, ◌∷◌, true, [], chars, length, IfOk, Ok};
+ghost use Rattle.std.specs.List.{list_all};
 ghost use Rattle.grammar_rules.specs.Reading.{read_quoted, read_valued};
+ghost use Rattle.xml_tree.specs.Characters.{is_space};
 ghost use Rattle.tree_text.specs.readers.Gives.{Gives};
 ghost use Rattle.tree_text.specs.Grammar.{is_quote};
 ghost use Rattle.tree_text.specs.readers.Texts.{read_value, read_attribute, read_said, read_all_said, said_follows, read_tag_end, read_tag};
@@ -10,7 +12,7 @@ use crate::ahead::{is_next, is_space_next};
 use crate::classes::{Class, run};
 use crate::parts::{equals, letter, sign, some_spaces, spaces, starts_with_name, word};
 use crate::said::Said;
-use crate::stepping::{count, count_before};
+use crate::stepping::count_before;
 use crate::stop::Stop;
 use crate::values::{quote, value};
 use crate::written::{Written, own_qname};
@@ -46,13 +48,22 @@ fn attribute(alloc: Global, text: &str) -> Result<(Name, Text, &str), Stop<'_>>
     Ok((name, value, rest))
 }
 
+/// How many characters white space has: as many as bytes.
+#[inline(always)]
+fn width(white: &str) -> usize
+    requires { list_all is_space (chars white.now) ≡ true }
+    ensures counts_the_white_ones { result ≡ length (chars white.now) }
+{
+    white.len()
+}
+
 /// Puts an attribute that stands behind white space behind these, and answers what follows it.
 fn push_said<'a>(alloc: Global, text: &'a str, all: &mut Vec<Said>) -> Result<&'a str, Stop<'a>>
     ensures reads_as_the_rule_does { Gives (λ rest. (all.new.items, chars rest.now)) result (read_valued (λ said. all.old.items ++ said ∷ []) read_said (chars text.now)) }
 {
     let (white, from) = some_spaces(text)?;
     let (name, value, rest) = attribute(alloc, from)?;
-    let gap = count(white);
+    let gap = width(white);
     let size = count_before(from, rest);
     let said = Said {
         name,

@@ -1,12 +1,12 @@
 //! References, and values between quotes.
 ghost use Rattle.std.specs.Prelude.{◌≡◌, ◌≤◌, ◌<◌, ◌++◌, true, false, [], ◌∷◌, chars, MatchOption, IfOk, OnOk, Ok, option_map};
-ghost use Rattle.grammar_rules.specs.Reading.{number_end, read_one, read_number};
+ghost use Rattle.grammar_rules.specs.Reading.{number_end, read_one, read_number, read_many, read_valued};
 ghost use Rattle.xml_tree.specs.Characters.{is_char};
 ghost use Rattle.tree_text.specs.readers.Gives.{Gives};
 ghost use Rattle.std.specs.List.{list_all, cons_option};
 ghost use Rattle.tree_text.specs.readers.Runs.{is_frequent, is_smooth, ends_run};
 ghost use Rattle.tree_text.specs.Pieces.{line_char, blank, raw};
-ghost use Rattle.tree_text.specs.readers.Members.{read_blanked};
+ghost use Rattle.tree_text.specs.readers.Members.{read_blanked, read_piece, value_with};
 ghost use Rattle.tree_text.specs.readers.Views.{digits_of};
 ghost use Rattle.tree_text.specs.Grammar.{last_char, is_quote, is_raw, is_raw_in};
 ghost use Rattle.tree_text.specs.readers.Texts.{read_stands_for, read_entity, read_numbered, read_named, read_reference, read_raw, reference_follows, read_value};
@@ -300,20 +300,32 @@ fn blanked(alloc: Global, text: &str, quote: char) -> Result<(Text, &str), Alloc
     Ok((raw_text(alloc, run)?, rest))
 }
 
-/// A value up to its quote, and what follows it.
-pub fn value(alloc: Global, text: &str, quote: char) -> Result<(Text, &str), Stop<'_>>
-    ensures reads_a_value { Gives (λ x. (x.0, chars x.1.now)) result (read_value quote (chars text.now)) }
+/// Adds the references that follow to a value, each with the raw characters behind it, and answers what follows them.
+#[inline(never)]
+fn push_references<'a>(value: &mut Text, text: &'a str, quote: char) -> Result<&'a str, Stop<'a>>
+    ensures reads_what_follows_onto_it { Gives (λ rest. (value.new, chars rest.now)) result (read_valued (value_with value.old) (read_many reference_follows (read_piece quote)) (chars text.now)) }
 {
-    let (mut value, start) = blanked(alloc, text, quote)?;
-    let mut rest = start;
-    for _ in 0..start.len() {
+    let mut rest = text;
+    for _ in 0..text.len() {
         if !reference_follows(rest) {
             break;
         }
         let (c, after) = reference(rest)?;
         let (more, after) = raw_run(after, quote);
-        push_piece(&mut value, c, more)?;
+        push_piece(value, c, more)?;
         rest = after;
     }
+    Ok(rest)
+}
+
+/// A value up to its quote, and what follows it. Most values have no references.
+pub fn value(alloc: Global, text: &str, quote: char) -> Result<(Text, &str), Stop<'_>>
+    ensures reads_a_value { Gives (λ x. (x.0, chars x.1.now)) result (read_value quote (chars text.now)) }
+{
+    let (mut value, rest) = blanked(alloc, text, quote)?;
+    if !reference_follows(rest) {
+        return Ok((value, rest));
+    }
+    let rest = push_references(&mut value, rest, quote)?;
     Ok((value, rest))
 }

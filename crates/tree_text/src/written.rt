@@ -55,6 +55,7 @@ pub fn qname(text: &str) -> Result<(Written<'_>, &str), Stop<'_>>
 }
 
 /// What follows a name that is written as this one, which has a prefix.
+#[inline(never)]
 #[tactic(auto, using(crate::proofs::NameLemmas::word_then, crate::proofs::NameLemmas::prefixed))]
 fn same_prefixed<'a>(text: &'a str, name: &Written<'_>) -> Result<&'a str, Stop<'a>>
     requires { 0 < length (chars name.now.prefix.now) }
@@ -66,6 +67,7 @@ fn same_prefixed<'a>(text: &'a str, name: &Written<'_>) -> Result<&'a str, Stop<
 }
 
 /// What follows a name that is written as this one. Most have no prefix.
+#[inline(always)]
 fn same_name<'a>(text: &'a str, name: &Written<'_>) -> Result<&'a str, Stop<'a>>
     ensures reads_the_same_name { Gives (λ rest. (tt, chars rest.now)) result (read_word (written (name_in name.now)) (chars text.now)) }
 {
@@ -117,6 +119,7 @@ pub fn owned(alloc: Global, name: &Written<'_>) -> Result<Name, AllocError>
 }
 
 /// The name without a prefix that is written so in front of a text.
+#[inline(always)]
 fn own_local<'a>(
     alloc: Global,
     text: &str,
@@ -136,6 +139,7 @@ fn own_local<'a>(
 }
 
 /// A name, with a prefix or without, that owns its parts; how it is written, and what follows it. Most names have no prefix.
+#[inline(always)]
 pub fn own_qname(alloc: Global, text: &str) -> Result<(Name, Written<'_>, &str), Stop<'_>>
     ensures reads_as_the_rule_does { Gives (λ x. (x.0, chars x.2.now)) result (read_qname (chars text.now)) }
     ensures name_is_as_written { IfOk result (λ x. x.0 ≡ name_in x.1) }

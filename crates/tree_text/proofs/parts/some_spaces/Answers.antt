@@ -1,10 +1,14 @@
 use Rattle.std.proofs.Common.{chars, sym}
 use Rattle.xml_tree.specs.Characters.{is_space}
 use Rattle.tree_text.proofs.FirstRuns.{run_read, run_unread}
+use Rattle.tree_text.proofs.TextBytes.{run_all}
 use Rattle.tree_text.proofs.parts.some_spaces.Goals as goal
 
 pub returns-then-not-is_space_next : goal.returns-then-not-is_space_next
-returns-then-not-is_space_next c = record { reads_as_the_rule_does = run_unread is_space is_space (chars c.args.text.now) (sym c.if-not-is_space_next.ensures.tells_whether_space_is_next) }
+returns-then-not-is_space_next c = record { reads_as_the_rule_does = run_unread is_space is_space (chars c.args.text.now) (sym c.if-not-is_space_next.ensures.tells_whether_space_is_next); all_is_space = tt }
 
 pub returns : goal.returns
-returns c = record { reads_as_the_rule_does = rw (c.run.ensures.characters_in_front, c.run.ensures.rest_behind_them) (run_read is_space is_space (λ c h. h) (chars c.args.text.now) (sym c.if-not-is_space_next.ensures.tells_whether_space_is_next)) }
+returns c = record {
+  reads_as_the_rule_does = rw (c.run.ensures.characters_in_front, c.run.ensures.rest_behind_them) (run_read is_space is_space (λ c h. h) (chars c.args.text.now) (sym c.if-not-is_space_next.ensures.tells_whether_space_is_next));
+  all_is_space = run_all is_space (chars c.args.text.now) (chars c.run.result.0.now) c.run.ensures.characters_in_front;
+}
