@@ -106,14 +106,3 @@ doctype = codes "DOCTYPE"
 -- the byte order mark, U+FEFF
 abbrev pub byte_order_mark : List ℕ
 byte_order_mark = 0xFEFF ∷ []
-
--- `xml`
-abbrev pub xml : List ℕ
-xml = codes "xml"
-
--- `utf-8` and `us-ascii`
-abbrev pub utf_8 : List ℕ
-utf_8 = codes "utf-8"
-
-abbrev pub us_ascii : List ℕ
-us_ascii = codes "us-ascii"
