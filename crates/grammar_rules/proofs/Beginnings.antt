@@ -4,9 +4,9 @@ use Rattle.std.proofs.Common.{◌≡◌, ℕ, Bool, List, [], ◌∷◌, ◌++�
 use Rattle.std.specs.Prelude.{Some}
 use Rattle.std.proofs.lemmas.List.{append_cancel_left}
 use Rattle.grammar_rules.specs.Digits.{Digits}
-use Rattle.grammar_rules.specs.Rules.{Begin, Rule, Split, never, empty, one, word, run, run_without, up_to, number, sequence, either, Each, many, valued, sized, only, marked, judged, trap, optional, between, some_of, keeping_first, keeping_second, quoted, name_rule as name_of}
+use Rattle.grammar_rules.specs.Rules.{Begin, Rule, Split, empty, one, word, run, up_to, number, sequence, either, Each, many, valued, only, judged, optional, between, some_of, keeping_first, keeping_second, quoted, name_rule as name_of}
 use Rattle.grammar_rules.proofs.Exact.{Rest}
-use Rattle.grammar_rules.proofs.Fronts.{compare, pass_front, lacks_front, last_front}
+use Rattle.grammar_rules.proofs.Fronts.{compare, pass_front, last_front}
 use Rattle.grammar_rules.proofs.Greedy.{digits_front}
 use Rattle.grammar_rules.proofs.Repeats.{one_more_meets}
 use Rattle.grammar_rules.proofs.Laws.{Lawful, lawful_one, lawful_sequence}
@@ -18,9 +18,6 @@ none_front (c ∷ u) v j = absurd cc
 module _ {Kind : Type 0} where
   pub record Fronted {A : Type 0} (r : Rule Kind A) : Type 0 where
     pub front : (u w : List ℕ) → r.Meets Begin (u ++ w) → r.Meets Begin u
-
-  pub fronted_never : {A : Type 0} → let r : Rule Kind A = never in Fronted r
-  fronted_never = record { front = λ u w h. h }
 
   pub fronted_empty : {A : Type 0} {value : A} → Fronted (empty value)
   fronted_empty = record { front = λ u w h. none_front u w h }
@@ -39,9 +36,6 @@ module _ {Kind : Type 0} where
 
   pub fronted_run : {p : ℕ → Bool} → Fronted (run p)
   fronted_run {p} = record { front = pass_front p }
-
-  pub fronted_run_without : {p : ℕ → Bool} (w : List ℕ) → Fronted (run_without p w)
-  fronted_run_without {p} w = record { front = λ u t h. (pass_front p u t h.0, lacks_front w u t h.1) }
 
   pub fronted_up_to : {p : ℕ → Bool} (w : List ℕ) → Fronted (up_to p w)
   fronted_up_to {p} w = record { front = λ u t h. (pass_front p u t h.0, last_front w u t h.1) }
@@ -65,20 +59,11 @@ module _ {Kind : Type 0} where
   pub fronted_valued : {A B : Type 0} {r : Rule Kind A} (f : A → B) → Fronted r → Fronted (valued f r)
   fronted_valued f h = record { front = h.front }
 
-  pub fronted_sized : {A : Type 0} {r : Rule Kind A} → Fronted r → Fronted (sized r)
-  fronted_sized h = record { front = h.front }
-
   pub fronted_only : {A : Type 0} {r : Rule Kind A} (t : A → Bool) → Fronted r → Fronted (only t r)
   fronted_only t h = record { front = h.front }
 
   pub fronted_judged : {A : Type 0} {r : Rule Kind A} (Says : A → Kind → ℕ → Type 0) → Fronted r → Fronted (judged Says r)
   fronted_judged Says h = record { front = h.front }
-
-  pub fronted_marked : {A : Type 0} {r : Rule Kind A} (kind : Kind) (Front : List ℕ → Type 0) → Fronted r → Fronted (marked kind Front r)
-  fronted_marked kind Front h = record { front = h.front }
-
-  pub fronted_trap : {A : Type 0} (kind : Kind) (seen rest : List ℕ) → let r : Rule Kind A = trap kind seen rest in Fronted r
-  fronted_trap kind seen rest = record { front = λ u w m. (w ++ m.0, m.1 ∙ append_assoc u w m.0) }
 
   module _ {A : Type 0} {r : Rule Kind A} (l : Lawful r) (h : Fronted r) where
     each_front : (xs : List A) (u w : List ℕ) → (sp : Split (u ++ w) (λ x. Each r xs x) (λ y. r.Meets Begin y)) → (many r).Meets Begin u

@@ -96,9 +96,6 @@ module _ {Kind : Type 0} where
     sized_meets e v (inl h) = inl h
     sized_meets e v (inr h) = inr (h.0.0, record { front = h.1.front; back = h.1.back; joined = h.1.joined; front_is = h.1.front_is.0; back_is = h.1.back_is })
 
-    pub sized_whole : (v : List ℕ) → (ahead (sized r) (λ x. K x.0)).Whole v → (ahead r K).Whole v
-    sized_whole v h = (h.0.0, record { front = h.1.front; back = h.1.back; joined = h.1.joined; front_is = h.1.front_is.0; back_is = h.1.back_is })
-
 module _ {Kind : Type 0} (faults : Faults Kind) where
   carries_valued : {A B : Type 0} (f : A → B) (r : Rule Kind A) (K : B → Rest Kind) (text : List ℕ) → Carries faults text r (λ a. K (f a)) (valued f r) K (λ _ a. f a)
   carries_valued {A} {B} f r K text = record {
@@ -209,6 +206,3 @@ module _ {Kind : Type 0} {faults : Faults Kind} where
 
   pub covers_valued : {A B : Type 0} {text : List ℕ} {r : Rule Kind A} {K : B → Rest Kind} {X : Rest Kind} (f : A → B) → Covers faults text (ahead r (λ a. K (f a))) X → Covers faults text (ahead (valued f r) K) X
   covers_valued {A} {B} {text} {r} {K} {X} f h = record { events = λ e v w j m. h.events e v w j (valued_meets f r K e v m); whole = λ m. h.whole (valued_whole f r K text m) }
-
-  pub covers_sized : {A : Type 0} {text : List ℕ} {r : Rule Kind A} {K : A → Rest Kind} {X : Rest Kind} → Covers faults text (ahead r K) X → Covers faults text (ahead (sized r) (λ x. K x.0)) X
-  covers_sized {A} {text} {r} {K} {X} h = record { events = λ e v w j m. h.events e v w j (sized_meets r K e v m); whole = λ m. h.whole (sized_whole r K text m) }

@@ -64,9 +64,6 @@ last_front w u v h x t e =
     let n : t ++ v ≡ [] = h x (t ++ v) (ap (λ (z : List ℕ). z ++ v) e ∙ append_assoc x (w ++ t) v ∙ ap (λ (z : List ℕ). x ++ z) (append_assoc w t v)) in
     nil_from_length t (omega (arith, ap length n, length-append t v))
 
-pub lacks_tail : (w : List ℕ) (c : ℕ) (v : List ℕ) → Lacks w (c ∷ v) → Lacks w v
-lacks_tail w c v h u t e = h (c ∷ u) t (ap (λ (z : List ℕ). c ∷ z) e)
-
 -- the word doesn't stand in what is shorter
 pub lacks_short : (w v : List ℕ) → length v < length w → Lacks w v
 lacks_short w v lt u t e = omega (arith, ap length e, length-append u (w ++ t), length-append w t)

@@ -2,10 +2,10 @@
 use Rattle.std.proofs.Common.{◌≡◌, ℕ, ◌<◌, Bool, true, false, List, [], ◌∷◌, ◌++◌, length, ◌⊎◌, inl, inr, ⊎_elim, refl, sym, ap, subst, ◌∙◌, arith}
 use Rattle.std.specs.Prelude.{Some}
 use Rattle.grammar_rules.specs.Digits.{Digits}
-use Rattle.grammar_rules.specs.Rules.{Event, Begin, Mark, Rule, Split, empty, one, word, AllPass, run, run_without, number, sequence, either, valued, sized, only, atomic, marked, judged, trap, optional}
+use Rattle.grammar_rules.specs.Rules.{Event, Begin, Mark, Rule, Split, empty, one, word, AllPass, run, number, sequence, either, valued, sized, atomic, judged, optional}
 use Rattle.grammar_rules.specs.Answers.{Faults}
 use Rattle.grammar_rules.proofs.Exact.{Rest, ahead, sequence_meets, sequence_whole}
-use Rattle.grammar_rules.proofs.Carry.{Idle, Covers, valued_meets, valued_whole, sized_meets, sized_whole, either_meets, either_whole}
+use Rattle.grammar_rules.proofs.Carry.{Idle, Covers, valued_meets, valued_whole, either_meets, either_whole}
 
 -- not of the class
 abbrev pub Not : (ℕ → Bool) → ℕ → Type 0
@@ -139,9 +139,6 @@ module _ {Kind : Type 0} where
   pub starts_sized : {A : Type 0} {P : ℕ → Type 0} {r : Rule Kind A} → Starts P r → Starts P (sized r)
   starts_sized h = record { meets = h.meets; spells = λ c x a m. h.spells c x a.0 m.0; none = h.none; some = λ a m. h.some a.0 m.0 }
 
-  pub starts_only : {A : Type 0} {P : ℕ → Type 0} {r : Rule Kind A} (t : A → Bool) → Starts P r → Starts P (only t r)
-  starts_only t h = record { meets = h.meets; spells = λ c x a m. h.spells c x a m.0; none = h.none; some = λ a m. h.some a m.0 }
-
   pub starts_atomic : {A : Type 0} {P : ℕ → Type 0} {r : Rule Kind A} → Starts P r → Starts P (atomic r)
   starts_atomic {A} {P} {r} h = record { meets = atomic_meets; spells = h.spells; none = λ k b m. m; some = h.some }
     where
@@ -157,21 +154,6 @@ module _ {Kind : Type 0} where
       judged_meets Begin c x m = h.meets Begin c x m
       judged_meets (Mark k b) c x (inl m) = h.spells c x m.0 m.1
       judged_meets (Mark k b) c x (inr m) = h.meets (Mark k b) c x m
-
-  pub starts_marked : {A : Type 0} {P : ℕ → Type 0} {r : Rule Kind A} (kind : Kind) (Front : List ℕ → Type 0) → ((c : ℕ) (x : List ℕ) → Front (c ∷ x) → P c) → (Front [] → ⊥) → Starts P r → Starts P (marked kind Front r)
-  starts_marked {A} {P} {r} kind Front f g h = record { meets = marked_meets; spells = h.spells; none = λ k b m. ⊎_elim (λ l. g l.2) (λ l. h.none k b l) m; some = h.some }
-    where
-      marked_meets : (e : Event Kind) (c : ℕ) (x : List ℕ) → (marked kind Front r).Meets e (c ∷ x) → P c
-      marked_meets Begin c x m = h.meets Begin c x m
-      marked_meets (Mark k b) c x (inl m) = f c x m.2
-      marked_meets (Mark k b) c x (inr m) = h.meets (Mark k b) c x m
-
-  pub starts_trap : {A : Type 0} {P : ℕ → Type 0} {kind : Kind} {d : ℕ} {seen : List ℕ} (rest : List ℕ) → P d → let r : Rule Kind A = trap kind (d ∷ seen) rest in Starts P r
-  starts_trap {A} {P} {kind} {d} {seen} rest h = record { meets = trap_meets; spells = λ c x a m. absurd m; none = λ k b m. absurd (let e = m.2 in cc); some = λ a m. m }
-    where
-      trap_meets : (e : Event Kind) (c : ℕ) (x : List ℕ) → let r : Rule Kind A = trap kind (d ∷ seen) rest in r.Meets e (c ∷ x) → P c
-      trap_meets Begin c x m = subst P (let k = m.1 in let same : d ≡ c = cc in same) h
-      trap_meets (Mark k b) c x m = subst P (let e = m.2 in let same : d ≡ c = cc in same) h
 
   -- # Rules that may be empty
 
@@ -189,20 +171,6 @@ module _ {Kind : Type 0} where
       run_meets Begin c x (inl m) = h c m.0
       run_meets (Mark q b) c x (inl m) = elim m [ ]
       run_meets e c x (inr m) = head_of P c x m.1.front m.1.back m.1.joined (λ f fs j. in_front m.1.front m.1.front_is.0 f fs j) (λ _ b bs j. (k m.0).meets e b bs (subst (λ (z : List ℕ). (K m.0).Meets e z) j m.1.back_is))
-
-  -- a run in which a word stands nowhere is a run
-  pub without_meets : (p : ℕ → Bool) (w : List ℕ) (K : List ℕ → Rest Kind) (e : Event Kind) (v : List ℕ) → (ahead (run_without p w) K).Meets e v → (ahead (run p) K).Meets e v
-  without_meets p w K Begin v (inl m) = inl m.0
-  without_meets p w K (Mark k b) v (inl m) = inl m
-  without_meets p w K e v (inr m) = inr (m.0, record { front = m.1.front; back = m.1.back; joined = m.1.joined; front_is = (m.1.front_is.0, m.1.front_is.2); back_is = m.1.back_is })
-
-  pub without_whole : (p : ℕ → Bool) (w : List ℕ) (K : List ℕ → Rest Kind) (v : List ℕ) → (ahead (run_without p w) K).Whole v → (ahead (run p) K).Whole v
-  without_whole p w K v m = (m.0, record { front = m.1.front; back = m.1.back; joined = m.1.joined; front_is = (m.1.front_is.0, m.1.front_is.2); back_is = m.1.back_is })
-
-  pub heads_run_without : {P : ℕ → Type 0} {p : ℕ → Bool} (w : List ℕ) {K : List ℕ → Rest Kind} → ((c : ℕ) → p c ≡ true → P c) → ((cs : List ℕ) → Heads P (K cs)) → Heads P (ahead (run_without p w) K)
-  heads_run_without {P} {p} w {K} h k =
-      let i : Heads P (ahead (run p) K) = heads_run h k in
-      record { meets = λ e c x m. i.meets e c x (without_meets p w K e (c ∷ x) m); whole = λ c x m. i.whole c x (without_whole p w K (c ∷ x) m); none = λ q b m. i.none q b (without_meets p w K (Mark q b) [] m) }
 
   pub heads_empty : {A : Type 0} {P : ℕ → Type 0} {value : A} {K : A → Rest Kind} → Heads P (K value) → Heads P (ahead (empty value) K)
   heads_empty {A} {P} {value} {K} h = record {
@@ -236,13 +204,6 @@ module _ {Kind : Type 0} where
     none = λ k b m. h.none k b (valued_meets f r K (Mark k b) [] m);
   }
 
-  pub heads_sized : {A : Type 0} {P : ℕ → Type 0} {r : Rule Kind A} {K : A → Rest Kind} → Heads P (ahead r K) → Heads P (ahead (sized r) (λ x. K x.0))
-  heads_sized {A} {P} {r} {K} h = record {
-    meets = λ e c x m. h.meets e c x (sized_meets r K e (c ∷ x) m);
-    whole = λ c x m. h.whole c x (sized_whole r K (c ∷ x) m);
-    none = λ k b m. h.none k b (sized_meets r K (Mark k b) [] m);
-  }
-
   pub heads_either : {A : Type 0} {P : ℕ → Type 0} {r s : Rule Kind A} {K : A → Rest Kind} → Heads P (ahead r K) → Heads P (ahead s K) → Heads P (ahead (either r s) K)
   heads_either {A} {P} {r} {s} {K} h i = record {
     meets = λ e c x m. ⊎_elim (λ l. h.meets e c x l) (λ l. i.meets e c x l) (either_meets r s K e (c ∷ x) m);
@@ -252,17 +213,6 @@ module _ {Kind : Type 0} where
 
   pub heads_optional : {A : Type 0} {P : ℕ → Type 0} {r : Rule Kind A} {K : Rest Kind} → Starts P r → Heads P K → Heads P (ahead (optional r) (λ _. K))
   heads_optional h k = heads_either (heads_starts (starts_valued Some h)) (heads_empty k)
-
-  -- # Something follows
-
-  pub follows_run : {p : ℕ → Bool} {K : List ℕ → Rest Kind} → ((cs : List ℕ) → Follows (K cs)) → Follows (ahead (run p) K)
-  follows_run {p} {K} h = record { whole = λ m. (h m.0).whole (subst (K m.0).Whole (empty_back m.1.front m.1.back m.1.joined) m.1.back_is) }
-
-  pub follows_any : {A : Type 0} {r : Rule Kind A} {K : A → Rest Kind} → ((a : A) → Follows (K a)) → Follows (ahead r K)
-  follows_any {A} {r} {K} h = record { whole = λ m. (h m.0).whole (subst (K m.0).Whole (empty_back m.1.front m.1.back m.1.joined) m.1.back_is) }
-
-  pub follows_sequence : {A B : Type 0} {r : Rule Kind A} {s : A → Rule Kind B} {K : A × B → Rest Kind} → Follows (ahead r (λ a. ahead (s a) (λ b. K (a, b)))) → Follows (ahead (sequence r s) K)
-  follows_sequence {A} {B} {r} {s} {K} h = record { whole = λ m. h.whole (sequence_whole r s K [] m) }
 
 -- # Covers by the first character
 

@@ -176,9 +176,6 @@ module _ {Kind : Type 0} where
   pub quiet_only : {A : Type 0} {r : Rule Kind A} (t : A → Bool) → Quiet r → Quiet (only t r)
   quiet_only t h = record { no_mark = h.no_mark }
 
-  pub quiet_atomic : {A : Type 0} (r : Rule Kind A) → Quiet (atomic r)
-  quiet_atomic r = record { no_mark = λ k b v m. m }
-
   pub quiet_empty : {A : Type 0} {value : A} → Quiet (empty value)
   quiet_empty = record { no_mark = λ k b v m. m }
 
@@ -190,12 +187,6 @@ module _ {Kind : Type 0} where
 
   pub quiet_run : {p : ℕ → Bool} → Quiet (run p)
   quiet_run = record { no_mark = λ k b v m. m }
-
-  pub quiet_run_without : {p : ℕ → Bool} (w : List ℕ) → Quiet (run_without p w)
-  quiet_run_without w = record { no_mark = λ k b v m. m }
-
-  pub quiet_up_to : {p : ℕ → Bool} (w : List ℕ) → Quiet (up_to p w)
-  quiet_up_to w = record { no_mark = λ k b v m. m }
 
   pub quiet_number : (d : Digits) (most : ℕ) (p : ℕ → Bool) → Quiet (number d most p)
   quiet_number d most p = record { no_mark = λ k b v m. m }

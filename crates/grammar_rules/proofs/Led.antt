@@ -1,7 +1,7 @@
 -- Rules whose texts begin with one word and then a character of a class: the character behind the word tells which rule is there.
-use Rattle.std.proofs.Common.{◌≡◌, ℕ, ◌≤◌, Bool, true, false, List, [], ◌∷◌, ◌++◌, length, Result, Ok, Err, ◌⊎◌, inl, inr, ⊎_elim, refl, sym, ap, subst, ◌∙◌, append_assoc, arith}
+use Rattle.std.proofs.Common.{◌≡◌, ℕ, ◌≤◌, true, false, List, [], ◌∷◌, ◌++◌, length, Result, Ok, Err, ◌⊎◌, inl, inr, ⊎_elim, refl, sym, ap, subst, ◌∙◌, append_assoc, arith}
 use Rattle.std.proofs.lemmas.List.{length-append, append-nil, append_cancel_left}
-use Rattle.grammar_rules.specs.Rules.{Event, Begin, Mark, Rule, word, sequence, either, valued, sized, only, judged, marked, trap, keeping_first, keeping_second}
+use Rattle.grammar_rules.specs.Rules.{Event, Begin, Mark, Rule, word, sequence, either, valued, sized, judged, marked, trap, keeping_first, keeping_second}
 use Rattle.grammar_rules.specs.Reading.{Stop, Syntax, Faulty, ◌>>=◌, starts}
 use Rattle.grammar_rules.specs.Answers.{Faults}
 use Rattle.grammar_rules.proofs.Exact.{Rest, ahead, regroup, Passed, IsStopped, Outcome}
@@ -117,9 +117,6 @@ module _ {Kind : Type 0} where
 
   pub led_sized : {A : Type 0} {w : List ℕ} {Q : ℕ → Type 0} {r : Rule Kind A} → Led w Q r → Led w Q (sized r)
   led_sized h = record { fronts = h.fronts; meets = h.meets; spells = λ v a m. h.spells v a.0 m.0 }
-
-  pub led_only : {A : Type 0} {w : List ℕ} {Q : ℕ → Type 0} {r : Rule Kind A} (t : A → Bool) → Led w Q r → Led w Q (only t r)
-  led_only t h = record { fronts = h.fronts; meets = h.meets; spells = λ v a m. h.spells v a m.0 }
 
   pub led_judged : {A : Type 0} {w : List ℕ} {Q : ℕ → Type 0} {r : Rule Kind A} (Says : A → Kind → ℕ → Type 0) → Led w Q r → Led w Q (judged Says r)
   led_judged {A} {w} {Q} {r} Says h = record { fronts = h.fronts; meets = judged_meets; spells = h.spells }

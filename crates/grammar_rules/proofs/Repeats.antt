@@ -164,10 +164,3 @@ module _ {Kind : Type 0} where
 module _ {Kind : Type 0} {faults : Faults Kind} where
   pub exact_many : {A : Type 0} {r : Rule Kind A} {K : Rest Kind} {test : List ℕ → Bool} {p : Reader Kind A} → Repeats faults r K test → Exact faults r (more r K) p → Exact faults (many r) (λ _. K) (read_many test p)
   exact_many {A} {r} {K} {test} {p} h exact = record { by = λ text. many_outcome faults r K test p h exact (length (encode_utf8_all text)) text (length-le-encodes text) }
-
-  -- A repetition is covered where a member with what follows it is, and what follows all.
-  pub covers_many : {A : Type 0} {text : List ℕ} {r : Rule Kind A} {K X : Rest Kind} → Covers faults text (ahead r (more r K)) X → Covers faults text K X → Covers faults text (ahead (many r) (λ _. K)) X
-  covers_many {A} {text} {r} {K} {X} h i = record {
-    events = λ e v w j m. ⊎_elim (λ l. i.events e v w j l) (λ l. h.events e v w j l) (many_meets r K e v m);
-    whole = λ m. ⊎_elim (λ l. i.whole l) (λ l. h.whole l) (many_whole r K text m);
-  }

@@ -1,14 +1,14 @@
 -- The shapes that grammars often have are read exactly.
-use Rattle.std.proofs.Common.{◌≡◌, ℕ, ◌<◌, Bool, true, false, List, [], ◌∷◌, ◌++◌, length, ◌⊎◌, inl, inr, ⊎_elim, refl, sym, ap, subst, ◌∙◌, append_assoc}
+use Rattle.std.proofs.Common.{◌≡◌, ℕ, Bool, true, false, List, [], ◌∷◌, ◌++◌, ◌⊎◌, inl, inr, ⊎_elim, refl, sym, ap, subst, ◌∙◌, append_assoc}
 use Rattle.std.specs.Prelude.{Some, None}
-use Rattle.grammar_rules.specs.Rules.{Event, Begin, Mark, Rule, empty, word, AllPass, run, run_without, sequence, either, many, valued, optional, between, some_of, keeping_first, keeping_second, quoted, name_rule as name_of}
-use Rattle.grammar_rules.specs.Reading.{Reader, read_run, read_run_without, read_optional, read_between, read_some_of, read_name_of, read_before, read_behind, read_quoted}
+use Rattle.grammar_rules.specs.Rules.{Event, Begin, Mark, Rule, empty, word, run, sequence, either, many, valued, optional, between, some_of, keeping_first, keeping_second, quoted, name_rule as name_of}
+use Rattle.grammar_rules.specs.Reading.{Reader, read_run, read_optional, read_between, read_some_of, read_name_of, read_before, read_behind, read_quoted}
 use Rattle.grammar_rules.specs.Answers.{Faults}
 use Rattle.grammar_rules.proofs.Exact.{Rest, ahead, Exact, exact_sequence, exact_sequence_if}
 use Rattle.grammar_rules.proofs.Carry.{Idle, Covers, exact_valued, exact_either, covers_sequence}
 use Rattle.grammar_rules.proofs.Leaves.{exact_empty, exact_one, exact_word}
 use Rattle.grammar_rules.proofs.Heads.{Not, Heads, Starts, uses, starts_one, starts_sequence, starts_valued, heads_sequence, heads_valued}
-use Rattle.grammar_rules.proofs.Greedy.{exact_run, exact_run_without}
+use Rattle.grammar_rules.proofs.Greedy.{exact_run}
 use Rattle.grammar_rules.proofs.Laws.{Lawful, lawful_sequence, lawful_many, Inside, inside_ahead}
 use Rattle.grammar_rules.proofs.Repeats.{more, Repeats, exact_many, heads_many}
 
@@ -39,10 +39,6 @@ module _ {Kind : Type 0} where
   into_first r s K e v (inl m) = inl (inl m)
   into_first r s K e v (inr m) = inr (m.0, record { front = m.1.front; back = m.1.back; joined = m.1.joined; front_is = inl m.1.front_is; back_is = m.1.back_is })
 
-  pub into_second : {A : Type 0} (r s : Rule Kind A) (K : A → Rest Kind) (e : Event Kind) (v : List ℕ) → (ahead s K).Meets e v → (ahead (either r s) K).Meets e v
-  into_second r s K e v (inl m) = inl (inr m)
-  into_second r s K e v (inr m) = inr (m.0, record { front = m.1.front; back = m.1.back; joined = m.1.joined; front_is = inr m.1.front_is; back_is = m.1.back_is })
-
   pub into_empty : {A : Type 0} (value : A) (K : A → Rest Kind) (e : Event Kind) (v : List ℕ) → (K value).Meets e v → (ahead (empty value) K).Meets e v
   into_empty value K e v m = inr (value, record { front = []; back = v; joined = refl; front_is = (refl, refl); back_is = m })
 
@@ -63,9 +59,6 @@ module _ {Kind : Type 0} {faults : Faults Kind} where
   -- what one member of a choice covers the choice covers
   pub covered_first : {A : Type 0} {text : List ℕ} {X : Rest Kind} {r : Rule Kind A} (s : Rule Kind A) (K : A → Rest Kind) → Covers faults text X (ahead r K) → Covers faults text X (ahead (either r s) K)
   covered_first {A} {text} {X} {r} s K c = covers_by (into_first r s K) c
-
-  pub covered_second : {A : Type 0} {text : List ℕ} {X : Rest Kind} (r : Rule Kind A) {s : Rule Kind A} (K : A → Rest Kind) → Covers faults text X (ahead s K) → Covers faults text X (ahead (either r s) K)
-  covered_second {A} {text} {X} r {s} K c = covers_by (into_second r s K) c
 
   pub covers_empty : {A : Type 0} {text : List ℕ} {X : Rest Kind} {value : A} {K : A → Rest Kind} → Covers faults text (K value) X → Covers faults text (ahead (empty value) K) X
   covers_empty {A} {text} {X} {value} {K} c = record { events = empty_events; whole = λ m. c.whole (subst (K value).Whole (sym (m.1.joined ∙ ap (λ (z : List ℕ). z ++ m.1.back) m.1.front_is.0)) (subst (λ (a : A). (K a).Whole m.1.back) m.1.front_is.1 m.1.back_is)) }
@@ -126,12 +119,6 @@ module _ {Kind : Type 0} {faults : Faults Kind} where
   exact_between_run {B} {p} {member} {K} {q} test starts heads at_end c d h =
       let members : Heads (Not p) (ahead (many (sequence member (λ _. run p))) (λ _. K)) = heads_many (starts_sequence (λ _. run p) starts) heads in
       exact_sequence (exact_run (λ _. members)) (λ _. exact_many (repeats_member starts at_end c d) (exact_sequence h (λ _. exact_run (λ _. members))))
-
-  -- The same, of runs in which a word stands nowhere.
-  pub exact_between_run_without : {B : Type 0} {p : ℕ → Bool} (w : List ℕ) {member : Rule Kind B} {K : Rest Kind} {q : Reader Kind B} (test : List ℕ → Bool) → 0 < length w → AllPass p w → Starts (Not p) member → Heads (Not p) K → test [] ≡ false → ((text : List ℕ) → test text ≡ true → Covers faults text K (ahead member (past_member (run_without p w) member K))) → ((text : List ℕ) → test text ≡ false → Covers faults text (ahead member (past_member (run_without p w) member K)) K) → Exact faults member (past_member (run_without p w) member K) q → Exact faults (between (run_without p w) member) (λ _. K) (read_between test (read_run_without p w) q)
-  exact_between_run_without {B} {p} w {member} {K} {q} test some inside starts heads at_end c d h =
-      let members : Heads (Not p) (ahead (many (sequence member (λ _. run_without p w))) (λ _. K)) = heads_many (starts_sequence (λ _. run_without p w) starts) heads in
-      exact_sequence (exact_run_without w some inside (λ _. members)) (λ _. exact_many (repeats_member starts at_end c d) (exact_sequence h (λ _. exact_run_without w some inside (λ _. members))))
 
 module _ {Kind : Type 0} where
   pub starts_some_of : {P : ℕ → Type 0} {p : ℕ → Bool} → ((c : ℕ) → p c ≡ true → P c) → Starts {Kind = Kind} P (some_of p)

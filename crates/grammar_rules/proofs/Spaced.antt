@@ -2,14 +2,14 @@
 use Rattle.std.proofs.Common.{◌≡◌, ℕ, ◌<◌, Bool, true, false, List, [], ◌∷◌, ◌++◌, length, ◌⊎◌, inl, inr, ⊎_elim, refl, sym, ap, subst, ◌∙◌, arith}
 use Rattle.std.specs.Prelude.{◌&&◌, Option, Some, None}
 use Rattle.std.proofs.lemmas.List.{length-append, append-nil}
-use Rattle.grammar_rules.specs.Rules.{Event, Begin, Mark, Rule, AllPass, empty, run, sequence, many, valued, sized, optional, some_of, keeping_first, keeping_second}
+use Rattle.grammar_rules.specs.Rules.{Event, Begin, Mark, Rule, AllPass, empty, run, sequence, many, valued, optional, some_of, keeping_second}
 use Rattle.grammar_rules.specs.Reading.{Reader, head_is, after_front, spaced, read_many, read_optional}
 use Rattle.grammar_rules.specs.Answers.{Faults}
 use Rattle.grammar_rules.proofs.Exact.{Rest, ahead, regroup, sequence_meets, sequence_whole, Exact}
 use Rattle.grammar_rules.proofs.Carry.{Idle, Covers, valued_meets, valued_whole, either_meets, either_whole}
 use Rattle.grammar_rules.proofs.Fronts.{pass_append}
 use Rattle.grammar_rules.proofs.Heads.{Heads, Follows, Starts}
-use Rattle.grammar_rules.proofs.Repeats.{more, many_meets, many_whole, exact_many}
+use Rattle.grammar_rules.proofs.Repeats.{more, exact_many}
 use Rattle.grammar_rules.proofs.Shapes.{into_sequence, into_valued, exact_optional}
 
 module _ (space : ℕ → Bool) where
@@ -92,12 +92,6 @@ module _ {Kind : Type 0} (space : ℕ → Bool) where
       some_meets Begin v (inr m) = (refl, subst (AllPass space) (sym m.1.joined) (pass_append space m.1.front m.1.back (subst (AllPass space) (sym m.1.front_is.1) (m.1.front_is.0, tt)) m.1.back_is))
       some_meets (Mark k b) v (inr m) = absurd m.1.back_is
 
-  pub blank_valued : {A B : Type 0} {r : Rule Kind A} (f : A → B) → Blank space r → Blank space (valued f r)
-  blank_valued f h = record { begins = h.begins; meets = h.meets; spells = λ v a m. h.spells v m.0 m.1 }
-
-  pub blank_sized : {A : Type 0} {r : Rule Kind A} → Blank space r → Blank space (sized r)
-  blank_sized h = record { begins = h.begins; meets = h.meets; spells = λ v a m. h.spells v a.0 m.0 }
-
   pub leads_valued : {A B : Type 0} {P : ℕ → Type 0} {r : Rule Kind A} (f : A → B) → Leads space P r → Leads space P (valued f r)
   leads_valued f h = record { begins = h.begins; meets = h.meets; spells = λ v a m. h.spells v m.0 m.1; first = h.first; first_spelled = λ c x a m. h.first_spelled c x m.0 m.1 }
 
@@ -168,22 +162,6 @@ module _ {Kind : Type 0} (space : ℕ → Bool) where
     first_spelled = h.first_spelled;
   }
 
-  pub spaced_weaker : {P Q : ℕ → Type 0} {J : Rest Kind} → ((c : ℕ) → P c → Q c) → Spaced space P J → Spaced space Q J
-  spaced_weaker {P} {Q} {J} f h = record {
-    begins = h.begins;
-    meets = λ e v m. ⊎_elim (λ l. inl l) (λ l. inr (behind_weaker space P Q v f l)) (h.meets e v m);
-    whole = λ v m. behind_weaker space P Q v f (h.whole v m);
-  }
-
-  pub spaced_many : {A : Type 0} {P : ℕ → Type 0} {r : Rule Kind A} {K : Rest Kind} → Leads space P r → Spaced space P K → Spaced space P (ahead (many r) (λ _. K))
-  spaced_many {A} {P} {r} {K} h i =
-      let g : Spaced space P (ahead r (more r K)) = spaced_leads h in
-      record {
-        begins = λ v m. inl ([], record { front = []; back = v; joined = refl; front_is = refl; back_is = h.begins v m });
-        meets = λ e v m. ⊎_elim (λ l. i.meets e v l) (λ l. g.meets e v l) (many_meets r K e v m);
-        whole = λ v m. ⊎_elim (λ l. i.whole v l) (λ l. g.whole v l) (many_whole r K v m);
-      }
-
   pub spaced_sequence : {A B : Type 0} {P : ℕ → Type 0} {r : Rule Kind A} {s : A → Rule Kind B} {K : A × B → Rest Kind} → Spaced space P (ahead r (λ a. ahead (s a) (λ b. K (a, b)))) → Spaced space P (ahead (sequence r s) K)
   spaced_sequence {A} {B} {P} {r} {s} {K} h = record {
     begins = λ v m. into_sequence r s K Begin v (h.begins v m);
@@ -200,9 +178,6 @@ module _ {Kind : Type 0} (space : ℕ → Bool) where
 
   pub spaced_behind : {A B : Type 0} {P : ℕ → Type 0} {r : Rule Kind A} {s : Rule Kind B} {K : B → Rest Kind} → Spaced space P (ahead r (λ _. ahead s K)) → Spaced space P (ahead (keeping_second r s) K)
   spaced_behind {A} {B} {P} {r} {s} {K} h = spaced_valued (λ x. x.1) (spaced_sequence {s = λ _. s} {K = λ x. K x.1} h)
-
-  pub spaced_before : {A B : Type 0} {P : ℕ → Type 0} {r : Rule Kind A} {s : Rule Kind B} {K : A → Rest Kind} → Spaced space P (ahead r (λ a. ahead s (λ _. K a))) → Spaced space P (ahead (keeping_first r s) K)
-  spaced_before {A} {B} {P} {r} {s} {K} h = spaced_valued (λ x. x.0) (spaced_sequence {s = λ _. s} {K = λ x. K x.0} h)
 
   -- a rule behind white space that may be absent
   pub spaced_optional : {A : Type 0} {P : ℕ → Type 0} {r : Rule Kind A} {K : Rest Kind} → Leads space P r → Spaced space P K → Spaced space P (ahead (optional r) (λ _. K))

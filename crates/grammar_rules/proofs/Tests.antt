@@ -1,12 +1,11 @@
 -- Choices and repetitions by a test of the first character, or of a word and the character behind it.
 use Rattle.std.proofs.Common.{◌≡◌, ℕ, Bool, true, false, List, [], ◌∷◌, ◌++◌, ◌⊎◌, inr, refl, sym, ap, subst, ◌∙◌}
-use Rattle.grammar_rules.specs.Rules.{Event, Begin, Mark, Rule, run, either, many, optional, between}
-use Rattle.grammar_rules.specs.Reading.{Reader, head_is, starts, read_run, read_either, read_many, read_optional, read_between}
+use Rattle.grammar_rules.specs.Rules.{Event, Begin, Mark, Rule, run, either, optional, between}
+use Rattle.grammar_rules.specs.Reading.{Reader, head_is, starts, read_run, read_either, read_optional, read_between}
 use Rattle.grammar_rules.specs.Answers.{Faults}
 use Rattle.grammar_rules.proofs.Exact.{Rest, ahead, Exact}
 use Rattle.grammar_rules.proofs.Carry.{Idle, Covers, exact_either}
-use Rattle.grammar_rules.proofs.Heads.{Heads, Starts, uses, starts_weaker, starts_covers, heads_weaker}
-use Rattle.grammar_rules.proofs.Repeats.{more, exact_many}
+use Rattle.grammar_rules.proofs.Heads.{Heads, Starts, starts_weaker, starts_covers, heads_weaker}
 use Rattle.grammar_rules.proofs.Shapes.{exact_optional, exact_between_run, past_member}
 use Rattle.grammar_rules.proofs.Led.{Led, led_covers, next_true, next_false, next_is}
 
@@ -54,14 +53,6 @@ module _ {Kind : Type 0} {faults : Faults Kind} where
   exact_optional_head p h is i apart exact = exact_optional (head_is p) exact
       (λ text t. passed_covers p i apart t)
       (λ text f. failed_covers p h is f)
-
-  pub exact_many_head : {A : Type 0} {P Q : ℕ → Type 0} {r : Rule Kind A} {K : Rest Kind} {q : Reader Kind A} (p : ℕ → Bool) → Starts P r → ((c : ℕ) → P c → p c ≡ true) → Heads Q K → ((c : ℕ) → p c ≡ true → Q c → ⊥) → Exact faults r (more r K) q → Exact faults (many r) (λ _. K) (read_many (head_is p) q)
-  exact_many_head p h is i apart exact = exact_many (record {
-    at_end = refl;
-    uses = uses h;
-    goes_on = λ text t. passed_covers p i apart t;
-    stops = λ text f. failed_covers p h is f;
-  }) exact
 
   -- Members between runs: a member begins with characters that pass, which are none of the run and none with which what follows begins.
   pub exact_between_run_head : {B : Type 0} {P Q : ℕ → Type 0} {gap : ℕ → Bool} {member : Rule Kind B} {K : Rest Kind} {q : Reader Kind B} (p : ℕ → Bool) → Starts P member → ((c : ℕ) → P c → (p c ≡ true) × (gap c ≡ false)) → Heads Q K → ((c : ℕ) → Q c → gap c ≡ false) → ((c : ℕ) → p c ≡ true → Q c → ⊥) → Exact faults member (past_member (run gap) member K) q → Exact faults (between (run gap) member) (λ _. K) (read_between (head_is p) (read_run gap) q)
