@@ -1,7 +1,7 @@
 -- What a call answers, by the bytes that it read.
-use Rattle.std.proofs.Common.{◌≡◌, ℕ, ◌⊎◌, inl, inr, List, [], ◌++◌, take, drop, map, Option, None, Result, Ok, Err, refl, sym, ap, subst, ◌∙◌}
+use Rattle.std.proofs.Common.{◌≡◌, ℕ, inl, inr, List, [], ◌++◌, take, drop, map, Option, Result, Ok, Err, refl, sym, ap, subst, ◌∙◌}
 use Rattle.xcap_io.specs.Causes.{Inward}
-use Rattle.xcap_io.specs.Passing.{Gave, IsEnded}
+use Rattle.xcap_io.specs.Passing.{Gave}
 use Rattle.xcap_io.proofs.Passing.{gave_on}
 use Rattle.httparse.specs.Grammar.{ResponseHead, status_code}
 use Rattle.httparse.specs.Spans.{header_bytes, name_and_value}
@@ -13,11 +13,11 @@ use Rattle.http_exchange.specs.declared.fault.ResponseFault.TheVariants as fault
 use Rattle.http_exchange.specs.declared.extents.Extent.{Extent}
 use Rattle.http_exchange.specs.declared.response.Response.{Response}
 use Rattle.http_exchange.specs.Stops.{ByCause, IsOfFields}
-use Rattle.http_exchange.specs.Heads.{BeginsWithHead, HasNoHead, NeverHasHead}
+use Rattle.http_exchange.specs.Heads.{BeginsWithHead}
 use Rattle.http_exchange.specs.Tags.{TagIs}
 use Rattle.http_exchange.specs.Extents.{extent_by, body_by, body_to, LacksMore}
-use Rattle.http_exchange.specs.Inflow.{IsHeadAt, HeadOrNone, Settles}
-use Rattle.http_exchange.specs.Responses.{extent_of, response_of, no_head, refused, responds, IsDecided, DecidesNothing, lacks_head, lacks_body, AnswersRead, GivesBody}
+use Rattle.http_exchange.specs.Inflow.{IsHeadAt, Settles}
+use Rattle.http_exchange.specs.Responses.{extent_of, response_of, refused, responds, IsDecided, DecidesNothing, lacks_body, AnswersRead, GivesBody}
 use Rattle.http_exchange.proofs.Fronts.{begins-append}
 
 -- what holds by the cause of a fault, of another answer with that fault
@@ -54,22 +54,6 @@ said_responds given left head rest tag body begins tagged (inr is) = inr (is.1.0
 -- the bytes held after reads from nothing are those given
 given_is : (held : List ℕ) (left left' : Inward) → Gains [] held left left' → Gave left left' held
 given_is held left left' gains = subst (Gave left left') (sym gains.added) gains.given
-
--- there is no head
-pub answers_none : (held : List ℕ) (headers : List HeaderSpan) (left left' : Inward) → Gains [] held left left' → HeadOrNone held left' headers None → AnswersRead left left' (Err faults.Head)
-answers_none held headers left left' gains none = record { read = held; given = given_is held left left' gains; answer = by_end none }
-  where
-    by_end : NeverHasHead held ⊎ (HasNoHead held × IsEnded left') → IsDecided held left'.ended (Err faults.Head)
-    by_end (inl never) = inl (λ more. no_head (never more) refl)
-    by_end (inr (lacks, ends)) = inr (ends.0, no_head lacks refl)
-
--- a read failed before there was a head
-pub answers_no_head : (held : List ℕ) (left left' : Inward) → Gains [] held left left' → HasNoHead held → AnswersRead left left' (Err faults.ReadFailed)
-answers_no_head held left left' gains lacks = record { read = held; given = given_is held left left' gains; answer = lacks_head lacks }
-
--- memory ran out
-pub answers_no_memory : (held : List ℕ) (left left' : Inward) → Gains [] held left left' → AnswersRead left left' (Err faults.NoMemory)
-answers_no_memory held left left' gains = record { read = held; given = given_is held left left' gains; answer = tt }
 
 -- what the fields of the head say is what the spans cover
 pub extent_at : (held : List ℕ) (headers : List HeaderSpan) (spans : ResponseSpans) (head : ResponseHead) → IsHeadAt held headers spans head → extent_by spans.code (map (header_bytes held) (take spans.headers headers)) ≡ extent_of head

@@ -245,10 +245,6 @@ reads_to_limit (c ∷ chunks) line body are is room over = elim (cases_lt 262_14
 
 -- Where a reading ends is determined by the bytes.
 
-ends_once : (d : Decoding) (bytes : List ℕ) (x y : Decoding) → ReadsOn d bytes x → ReadsOn d bytes y → x ≡ y
-ends_once d [] x y p q = p ∙ sym q
-ends_once d (b ∷ bytes) x y p q = ends_once (next_decoding d b) bytes x y p.1 q.1
-
 -- of two readings of bytes that go on alike, one goes no further where it is settled
 pub settles_once : (d : Decoding) (front other rest more : List ℕ) (x y : Decoding) → ReadsOn d front x → ReadsOn d other y → front ++ rest ≡ other ++ more → is_settled x.stage ≡ true → is_settled y.stage ≡ true → (x ≡ y) × (front ≡ other) × (rest ≡ more)
 settles_once d [] [] rest more x y p q same u v = (p ∙ sym q, refl, same)

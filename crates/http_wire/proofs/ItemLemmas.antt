@@ -1,5 +1,5 @@
 -- Items, by what was found at the front of the bytes given.
-use Rattle.std.proofs.Common.{◌≡◌, ℕ, ◌+◌, ◌<◌, ◌≤◌, ◌⊎◌, inl, inr, Bool, ◌==◌, ◌||◌, List, [], ◌++◌, length, take, drop, map, slice_range, Result, Ok, Err, MatchResult, refl, sym, ap, subst, ◌∙◌, arith, length-append, length-drop, append_assoc, take-append-drop}
+use Rattle.std.proofs.Common.{◌≡◌, ℕ, ◌+◌, ◌<◌, ◌≤◌, inl, inr, Bool, ◌==◌, ◌||◌, List, [], ◌++◌, length, take, drop, map, slice_range, Result, Ok, Err, MatchResult, refl, sym, ap, subst, ◌∙◌, arith, length-drop, append_assoc, take-append-drop}
 use Rattle.std.proofs.lemmas.List.{append-nil, drop-drop, length-take-le}
 use Rattle.xcap_io.proofs.Passing.{gave_none, gave_on}
 use Rattle.xcap_io.specs.Causes.{Inward}
@@ -9,7 +9,7 @@ use Rattle.httparse.specs.Spans.{header_bytes, span_bytes, name_and_value}
 use Rattle.httparse.specs.declared.spans.HeaderSpan.{HeaderSpan}
 use Rattle.httparse.specs.declared.spans.RequestSpans.{RequestSpans}
 use Rattle.http_wire.specs.declared.framing.Framing.{Framing}
-use Rattle.http_wire.specs.declared.framing.Framing.TheVariants.{Bad as BadFields, Coded as OtherCoding, TooLong as LongBody, Length, Chunked}
+use Rattle.http_wire.specs.declared.framing.Framing.TheVariants.{Bad as BadFields, Coded as OtherCoding, Length, Chunked}
 use Rattle.http_wire.specs.declared.decoding.Decoded.TheVariants.{Whole, TooLong as LongChunks, Bad as BadChunks, Cut}
 use Rattle.http_wire.specs.declared.request.Field.{Field}
 use Rattle.http_wire.specs.declared.request.Request.{Request}
@@ -17,9 +17,8 @@ use Rattle.http_wire.specs.declared.request.Asked.{Asked}
 use Rattle.http_wire.specs.declared.request.Asked.TheVariants.{Request as Requested, Bad, TooLong, NoMemory}
 use Rattle.http_wire.specs.Fields.{asks_to_close}
 use Rattle.http_wire.specs.Framing.{framing}
-use Rattle.http_wire.specs.Heads.{HasNoHead, NeverHasHead}
 use Rattle.http_wire.specs.Chunked.{print_line, print_chunks, HasNoBody, MayBecomeBody, PassesLimit}
-use Rattle.http_wire.specs.Items.{bad, too_long, coded, field_of, request_of, Opens, BehindHead, IsFramed, AsksFor, with_length, in_chunks, IsBad, bad_fields, body_cut, no_head, no_body, IsTooLong, long_body, long_chunks, IsUnfinished, lacks_body, lacks_chunks}
+use Rattle.http_wire.specs.Items.{bad, coded, field_of, request_of, Opens, BehindHead, IsFramed, AsksFor, with_length, in_chunks, IsBad, bad_fields, body_cut, no_body, IsTooLong, long_chunks, IsUnfinished, lacks_body, lacks_chunks}
 use Rattle.http_wire.specs.Asking.{IsNext, IsAsked, Asks}
 use Rattle.http_wire.specs.Inflow.{Gains, IsHeadAt, IsOpenAt, HasBody, HasNoBodyYet, Decodes}
 use Rattle.http_wire.proofs.Fronts.{begins-append, head_at-append}
@@ -170,14 +169,6 @@ next_bad before held left held' headers spans o = inl (λ more. bad_fields (fram
 
 pub next_coded : (before : ℕ) (held : List ℕ) (left : Inward) (held' : List ℕ) (headers : List HeaderSpan) (spans : RequestSpans) → IsOpenAt held headers spans OtherCoding → IsNext before held left coded held'
 next_coded before held left held' headers spans o = inl (λ more. framed_on held more headers spans OtherCoding o)
-
-pub next_long : (before : ℕ) (held : List ℕ) (left : Inward) (held' : List ℕ) (headers : List HeaderSpan) (spans : RequestSpans) → IsOpenAt held headers spans LongBody → IsNext before held left too_long held'
-next_long before held left held' headers spans o = inl (λ more. long_body (framed_on held more headers spans LongBody o))
-
--- there is no head, and none can come or the bytes have ended
-pub next_headless : (before : ℕ) (held : List ℕ) (left : Inward) (held' : List ℕ) → 0 < length held → (NeverHasHead held × (0 < length held)) ⊎ (HasNoHead held × IsEnded left) → IsNext before held left bad held'
-next_headless before held left held' some (inl never) = inl (λ more. no_head (omega (arith, length-append held more)) (never.0 more))
-next_headless before held left held' some (inr (none, ended)) = inr (no_head some none, ended)
 
 -- the body is cut short by the end
 pub asks_cut : {E : Type 0} (before : ℕ) (held mid : List ℕ) (left left' : Inward) (headers : List HeaderSpan) (spans : RequestSpans) (len : ℕ) → IsOpenAt held headers spans (Length len) → Gains held mid left left' → length mid < spans.len + len → IsEnded left' → Asks {E = E} before held left (Ok Bad) mid left'

@@ -45,9 +45,6 @@ is_name_of u n m =
       others = m.1.back_is.0;
     }
 
-begins_in_name : (c : ℕ) → is_name_start c ≡ true → is_name_char c ≡ true
-begins_in_name c h = rw h refl
-
 -- the name in front of a text
 front_name : (p : ℕ → Bool) (u v : List ℕ) (c : ℕ) → AllPass p u → p c ≡ false → (front_of p (u ++ (c ∷ v)) ≡ u) × (after_front p (u ++ (c ∷ v)) ≡ c ∷ v)
 front_name p [] v c h f = (rw f refl, rw f refl)

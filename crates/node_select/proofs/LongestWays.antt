@@ -1,5 +1,5 @@
 -- How far steps lead, one step after the other.
-use Rattle.std.proofs.Common.{◌≡◌, ℕ, suc, ◌<◌, ◌≤◌, ◌-◌, false, cond, List, [], ◌∷◌, ◌++◌, length, take, drop, get_or, Option, None, Some, option_map, slice_get, IsTrue, refl, sym, ap, ◌∙◌, subst, append-nil, arith}
+use Rattle.std.proofs.Common.{◌≡◌, ℕ, suc, ◌<◌, ◌≤◌, ◌-◌, cond, List, [], ◌∷◌, ◌++◌, length, take, drop, get_or, Option, None, Some, option_map, slice_get, IsTrue, refl, sym, ap, ◌∙◌, subst, arith}
 use Rattle.step_laws.specs.Selection.{matches}
 use Rattle.xml_tree.specs.Tree.{Tree, kids_of}
 use Rattle.xml_tree.specs.declared.names.Decl.{Decl}
@@ -8,21 +8,7 @@ use Rattle.node_select.specs.declared.leading.Reached.{Reached}
 use Rattle.node_select.specs.declared.selector.Step.{Step}
 use Rattle.node_select.specs.inner.LongestWays.{ReachesBelow}
 use Rattle.node_select.specs.Selection.{is_named, is_tested, selected_child, selected_among, depth_among, longest_in, IsLongestMatch, SelectsPath}
-use Rattle.node_select.proofs.Reaching.{among_next, depth_next, depth_none, longer, longest_is, path_is, sole_selected}
-
-no_step : (steps : List Step) → take 0 steps ≡ []
-no_step [] = refl
-no_step (s ∷ steps) = refl
-
--- no step leads on
-pub stays : (c : List (List Decl)) (kids : List Tree) (steps : List Step) (base : List ℕ) (reached : Reached) → reached.steps ≡ 0 → reached.path ≡ base → depth_among c kids steps ≡ 0 → ReachesBelow c kids steps base reached
-stays c kids steps base reached none at deep = record {
-  counted = none ∙ sym deep;
-  leads =
-      ap (λ n. option_map (λ q. base ++ q) (selected_among c kids (take n steps))) none
-      ∙ ap (λ (l : List Step). option_map (λ q. base ++ q) (selected_among c kids l)) (no_step steps)
-      ∙ ap (λ (p : List ℕ). Some p) (append-nil base ∙ sym at);
-}
+use Rattle.node_select.proofs.Reaching.{among_next, depth_next, longer, longest_is, path_is, sole_selected}
 
 -- one step leads to a child, and the others on from there
 pub goes_on : (c : List (List Decl)) (kids : List Tree) (s : Step) (steps : List Step) (base : List ℕ) (i : ℕ) (kid : Tree) (below reached : Reached) → selected_child c s kids ≡ Some i → slice_get kids i ≡ Some kid
@@ -37,9 +23,6 @@ goes_on c kids s steps base i kid below reached one there b counted at = record 
       ∙ ap (λ (p : List ℕ). Some p) (sym at);
 }
 
-pub none_deep : (c : List (List Decl)) (kids : List Tree) (s : Step) (steps : List Step) → selected_child c s kids ≡ None → depth_among c kids (s ∷ steps) ≡ 0
-none_deep c kids s steps none = depth_none c kids s steps none
-
 -- ---- from the document on
 
 same_path : (o : Option (List ℕ)) (p : List ℕ) → option_map (λ q. [] ++ q) o ≡ Some p → o ≡ Some p
@@ -52,9 +35,6 @@ from_root s steps root below m b = (path_is (s ∷ take below.steps steps) root 
 
 pub longest_next : (s : Step) (steps : List Step) (root : Tree) → IsTrue (matches (is_named [] s) (is_tested [] s) s.position (root ∷ []) 0) → longest_in (s ∷ steps) root ≡ suc (depth_among (root.decls ∷ []) (kids_of root) steps)
 longest_next s steps root m = depth_next [] (root ∷ []) s steps 0 root (sole_selected (is_named [] s) (is_tested [] s) s.position root ∙ ap (λ b. cond b (Some 0) None) m) refl
-
-pub longest_none : (s : Step) (steps : List Step) (root : Tree) → matches (is_named [] s) (is_tested [] s) s.position (root ∷ []) 0 ≡ false → longest_in (s ∷ steps) root ≡ 0
-longest_none s steps root m = depth_none [] (root ∷ []) s steps (sole_selected (is_named [] s) (is_tested [] s) s.position root ∙ ap (λ b. cond b (Some 0) None) m)
 
 -- so many, as computed, are the most
 pub most : (steps : List Step) (root : Tree) (n : ℕ) → n ≡ longest_in steps root → IsLongestMatch steps root n
@@ -70,14 +50,6 @@ all_taken (x ∷ xs) n e = rw e (ap (λ l. x ∷ l) (all_taken xs (length xs) re
 pub first_and_rest : (steps : List Step) (s : Step) → 1 ≤ length steps → s ≡ get_or steps 0 s → steps ≡ s ∷ take (length steps - 1) (drop 1 steps)
 first_and_rest [] s le is = absurd (omega arith)
 first_and_rest (x ∷ steps) s le is = ap (λ (y : Step). y ∷ steps) (sym is) ∙ ap (λ (l : List Step). s ∷ l) (sym (all_taken steps (length (x ∷ steps) - 1) (omega arith)))
-
-pub no_steps : (steps : List Step) → length steps < 1 → steps ≡ []
-no_steps [] lt = refl
-no_steps (s ∷ steps) lt = absurd (omega arith)
-
--- where no step is taken, none is the most
-pub nowhere_is : (steps : List Step) (root : Tree) (reached : Reached) → reached.steps ≡ 0 → longest_in steps root ≡ 0 → IsLongestMatch steps root reached.steps × (0 < reached.steps → SelectsPath (take reached.steps steps) root reached.path)
-nowhere_is steps root reached none deep = (most steps root reached.steps (none ∙ sym deep), λ lt. absurd (omega arith))
 
 -- where the root is taken, and the others lead on
 pub onwards : (s : Step) (steps : List Step) (root : Tree) (below reached : Reached) → IsTrue (matches (is_named [] s) (is_tested [] s) s.position (root ∷ []) 0) → ReachesBelow (root.decls ∷ []) (kids_of root) steps [] below → reached.steps ≡ suc below.steps → reached.path ≡ below.path

@@ -44,9 +44,6 @@ among_from (s ∷ steps) c kids (i ∷ p) h =
     let rest = among_from steps (inside c k.0) (kids_of k.0) p k.2 in
     rw one (rw k.1 (ap (option_map (λ q. i ∷ q)) rest))
 
-pub among_is : (steps : List Step) (c : List (List Decl)) (kids : List Tree) (p : List ℕ) → (selected_among c kids steps ≡ Some p) ↔ SelectsAmong c kids steps p
-among_is steps c kids p = (among_to steps c kids p, among_from steps c kids p)
-
 -- ---- the document, whose one child is the root
 only_zero : {A : Type 0} (x y : A) (k : ℕ) → slice_get (x ∷ []) k ≡ Some y → k ≡ 0
 only_zero x y zero h = refl
@@ -149,9 +146,6 @@ pub among_next : (c : List (List Decl)) (kids : List Tree) (s : Step) (steps : L
     → selected_among c kids (s ∷ steps) ≡ option_map (λ q. i ∷ q) (selected_among (inside c kid) (kids_of kid) steps)
 among_next c kids s steps i kid one there = rw one (rw there refl)
 
-pub among_none : (c : List (List Decl)) (kids : List Tree) (s : Step) (steps : List Step) → selected_child c s kids ≡ None → selected_among c kids (s ∷ steps) ≡ None
-among_none c kids s steps none = rw none refl
-
 pub among_missing : (c : List (List Decl)) (kids : List Tree) (s : Step) (steps : List Step) (i : ℕ) → selected_child c s kids ≡ Some i → slice_get kids i ≡ None → ⊥
 among_missing c kids s steps i one none =
     let r = (selected_is (is_named c s) (is_tested c s) s.position kids i).0 one in
@@ -160,9 +154,6 @@ among_missing c kids s steps i one none =
 pub depth_next : (c : List (List Decl)) (kids : List Tree) (s : Step) (steps : List Step) (i : ℕ) (kid : Tree) → selected_child c s kids ≡ Some i → slice_get kids i ≡ Some kid
     → depth_among c kids (s ∷ steps) ≡ suc (depth_among (inside c kid) (kids_of kid) steps)
 depth_next c kids s steps i kid one there = rw one (rw there refl)
-
-pub depth_none : (c : List (List Decl)) (kids : List Tree) (s : Step) (steps : List Step) → selected_child c s kids ≡ None → depth_among c kids (s ∷ steps) ≡ 0
-depth_none c kids s steps none = rw none refl
 
 pub length-take-le : {A : Type 0} (n : ℕ) (xs : List A) → length (take n xs) ≤ n
 length-take-le zero xs = omega arith

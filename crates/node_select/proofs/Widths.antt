@@ -29,13 +29,6 @@ shrinks_optional test h = shrinks_either test (shrinks_valued Some h) (shrinks_e
 shrinks_name_of : (p q : ℕ → Bool) → Shrinks (read_name_of p q)
 shrinks_name_of p q = shrinks_valued (λ x. x.0 ∷ x.1) (shrinks_sequence (shrinks_one p) (λ _. shrinks_run q))
 
-sized_left : {A : Type 0} (text : List ℕ) (m : ℕ) (out : Result (A × List ℕ) (Stop Kind)) → Left text out → Left text (out >>= λ x. let z : (A × ℕ) × List ℕ = ((x.0, m - length x.1), x.1) in Ok z)
-sized_left text m (Ok x) h = h
-sized_left text m (Err e) h = h
-
-shrinks_sized : {A : Type 0} {p : Reader Kind A} → Shrinks p → Shrinks (read_sized p)
-shrinks_sized {A} {p} h = record { by = λ text. sized_left text (length text) (p text) (h.by text) }
-
 only_by : {A : Type 0} (text : List ℕ) (b : Bool) (x : A × List ℕ) → EndsWith text x.1 → Left text (cond b (Ok x) (Err (Syntax x.1)))
 only_by text true x h = h
 only_by text false x h = tt

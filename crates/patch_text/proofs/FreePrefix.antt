@@ -39,16 +39,6 @@ reached taken (suc f) a k low high free all = by (taken (candidate a)) refl (sid
     by false e (inl same) rest = rw e same
     by false e (inr less) rest = let both : true ≡ false = sym (all a (omega arith) less) ∙ e in absurd cc
 
-last_or_before : (j n : ℕ) → j < n + 1 → (j ≡ n) ⊎ (j < n)
-last_or_before j n h = grind arith
-
-pub among-more : (ps : List (List ℕ)) (n : ℕ) → ((j : ℕ) → j < n → is_member bytes_eq ps (candidate j) ≡ true) → is_member bytes_eq ps (candidate n) ≡ true → (j : ℕ) → j < n + 1 → is_member bytes_eq ps (candidate j) ≡ true
-among-more ps n before here j lt = by (last_or_before j n lt)
-  where
-    by : (j ≡ n) ⊎ (j < n) → is_member bytes_eq ps (candidate j) ≡ true
-    by (inl same) = ap (λ k. is_member bytes_eq ps (candidate k)) same ∙ here
-    by (inr less) = before j less
-
 pub found_first : (ps : List (List ℕ)) (k : ℕ) → k < 2 ^ 64 → is_member bytes_eq ps (candidate k) ≡ false → ((j : ℕ) → j < k → is_member bytes_eq ps (candidate j) ≡ true)
     → candidate k ≡ candidate (first_free (is_member bytes_eq ps) (length ps) 0)
 found_first ps k room free all =

@@ -3,7 +3,6 @@ use Rattle.std.proofs.Common.{◌≡◌, ℕ, suc, ◌+◌, ◌<◌, ◌==◌, B
 use Rattle.std.specs.Option.{option_and_then}
 use Rattle.std.specs.List.{prefix_len}
 use Rattle.std.proofs.lemmas.List.Sums.{take_while-cons}
-use Rattle.std.proofs.lemmas.List.{append-nil}
 use Rattle.std.proofs.lemmas.Bool.Decides.{nat_tests}
 use Rattle.preconditions.specs.declared.tags.EntityTag.{EntityTag}
 use Rattle.preconditions.specs.Tags.{AreAll, is_tag_byte, is_ows_byte as is_blank}
@@ -39,9 +38,6 @@ drop-more n c cs = let e : 1 + n ≡ suc n = omega arith in rw e refl
 
 closed-cons : (c : ℕ) (cs : List ℕ) → is_tag_byte c ≡ true → closed (c ∷ cs) ≡ closed cs
 closed-cons c cs h = rw h (ap (behind_byte 34) (drop-more (prefix_len is_tag_byte cs) c cs))
-
-closed-stops : (c : ℕ) (cs : List ℕ) → is_tag_byte c ≡ false → closed (c ∷ cs) ≡ cond (c == 34) (Some cs) None
-closed-stops c cs h = rw h refl
 
 choice : (b : Bool) (rest : List ℕ) → cond b (tags_from Behind rest) None ≡ option_and_then (λ r. tags_from Behind r) (cond b (Some rest) None)
 choice true rest = refl
@@ -164,8 +160,3 @@ comma-step c cs false e = refl
 pub comma_reads : (s : List ℕ) → IsTrimmed s → 0 < length s → tags_from Behind s ≡ option_and_then (λ r. tags_from Before r) (behind_byte 44 s)
 comma_reads [] h some = absurd (omega arith)
 comma_reads (c ∷ cs) h some = rw h (comma-step c cs (c == 44) refl)
-
--- at the end
-pub end-reads : (ts : List EntityTag) (s : List ℕ) → length s ≡ 0 → with_tags ts (tags_from Behind s) ≡ Some ts
-end-reads ts [] h = ap (λ l. Some l) (append-nil ts)
-end-reads ts (c ∷ cs) h = absurd (omega arith)

@@ -1,12 +1,7 @@
 -- The names of a tag, judged from the first to the last.
 use Rattle.std.proofs.Common.{◌≡◌, Bool, true, false, cond, List, [], ◌∷◌, ◌++◌, refl, ap}
-use Rattle.std.specs.Prelude.{◌&&◌}
 use Rattle.tree_text.specs.declared.said.Said.{Said}
 use Rattle.tree_text.specs.Names.{said_attr, decls_of, attrs_of, said_decl as decl_of, is_declaring as declares}
-
-pub no_and : (a : Bool) → a && false ≡ false
-no_and true = refl
-no_and false = refl
 
 cons_or : {A : Type 0} (b : Bool) (x : A) (front last rest : List A) → rest ≡ front ++ last → cond b (x ∷ rest) rest ≡ cond b (x ∷ front) front ++ last
 cons_or {A} true x front last rest e = ap (λ (z : List A). x ∷ z) e

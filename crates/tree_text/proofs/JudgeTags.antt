@@ -260,10 +260,6 @@ pub widths_parts : (front : List Said) (s : Said) (back : List Said) → widths 
 widths_parts [] s back = omega arith
 widths_parts (x ∷ front) s back = omega (arith, widths_parts front s back)
 
-some_part : (front : List Said) (s : Said) (back : List Said) → AllSome (front ++ s ∷ back) → 0 < s.size
-some_part [] s back h = h.0
-some_part (x ∷ front) s back h = some_part front s back h.1
-
 counted_none : (n : ℕ) (o : Option (Kind × ℕ)) → counted_back n o ≡ None → o ≡ None
 counted_none n None e = refl
 counted_none n (Some y) e = absurd cc

@@ -11,7 +11,7 @@ use Rattle.tree_text.specs.declared.kind.Kind.{Kind}
 use Rattle.tree_text.specs.Grammar.{is_raw, is_raw_in}
 use Rattle.tree_text.specs.readers.Members.{with_chars, read_chars_onto, read_blanked}
 use Rattle.tree_text.specs.Pieces.{line_ends, raw}
-use Rattle.tree_text.specs.readers.Texts.{read_chars, read_raw}
+use Rattle.tree_text.specs.readers.Texts.{read_chars}
 use Rattle.tree_text.specs.readers.Runs.{is_no_return, is_smooth, is_plain_in_content, is_plain_in_value, ends_run}
 use Rattle.tree_text.specs.readers.Words.{section_end}
 use Rattle.tree_text.proofs.PlainRuns.{plain_lines, smooth_raw}
@@ -205,6 +205,3 @@ plain_blanked quote text front rest whole h e =
     (front_is (is_raw_in quote) (is_plain_in_value quote) (plain_raw_in quote) rest none.0 none.1 front h)
     (rest_is (is_raw_in quote) (is_plain_in_value quote) (plain_raw_in quote) rest none.0 none.1 front h)
     (value_raw quote front h)
-
-pub raw_blanked : (quote : ℕ) (text cs rest : List ℕ) → read_raw quote text ≡ Ok (cs, rest) → read_blanked quote text ≡ Ok (raw cs, rest)
-raw_blanked quote text cs rest h = ap (λ (r : Result (List ℕ × List ℕ) (Stop Kind)). r >>= λ x. let z : List ℕ × List ℕ = (raw x.0, x.1) in Ok z) h

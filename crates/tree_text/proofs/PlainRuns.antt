@@ -1,12 +1,10 @@
 -- Runs that are read as they stand.
 use Rattle.std.proofs.Common.{◌≡◌, ℕ, ◌≤◌, Bool, true, false, List, [], ◌∷◌, ◌&&◌, ◌||◌, refl, ap, arith}
-use Rattle.std.proofs.lemmas.Bool.{and_parts, eqb-true, leb-true}
+use Rattle.std.proofs.lemmas.Bool.{eqb-true, leb-true}
 use Rattle.std.specs.List.{list_all}
 use Rattle.std.specs.Prelude.{nat_eq, nat_le, not}
 use Rattle.tree_text.specs.Pieces.{line_ends, raw}
-use Rattle.std.specs.Str.{IsAscii}
-use Rattle.std.proofs.lemmas.Str.Ascii.{IsAscii-nil, IsAscii-cons}
-use Rattle.tree_text.specs.readers.Runs.{is_no_return, is_smooth, is_ascii}
+use Rattle.tree_text.specs.readers.Runs.{is_no_return, is_smooth}
 
 pub plain_lines : (run : List ℕ) → list_all is_no_return run ≡ true → line_ends run ≡ run
 plain_lines [] h = refl
@@ -34,11 +32,3 @@ smooth_raw (c ∷ cs) h = one (nat_le 32 c) refl h (smooth_raw cs)
         let le : 32 ≤ c = leb-true 32 c e in
         rw (high_by c le (nat_eq c 13) refl) (rw (blank_by c le (nat_eq c 9) (nat_eq c 10) refl refl) (ap (λ (z : List ℕ). c ∷ z) (more k)))
     one false e k more = absurd cc
-
--- bytes of ASCII characters
-pub all_ascii : (run : List ℕ) → list_all is_ascii run ≡ true → IsAscii run
-all_ascii [] h = IsAscii-nil
-all_ascii (c ∷ cs) h =
-    let parts = and_parts (is_ascii c) (list_all is_ascii cs) h in
-    let le : c ≤ 127 = leb-true c 127 parts.0 in
-    IsAscii-cons c cs (omega (arith, le)) (all_ascii cs parts.1)

@@ -43,9 +43,6 @@ quote_no_digit q h = grind (arith, nat_tests)
 quote_no_encoding : (q : ℕ) → is_quote q ≡ true → is_encoding_char q ≡ false
 quote_no_encoding q h = grind (arith, nat_tests)
 
-only_char : (p : ℕ → Bool) (q : ℕ) → p q ≡ false → (c : ℕ) → c ≡ q → p c ≡ false
-only_char p q h c e = ap p e ∙ h
-
 letter_no_space : (d : ℕ) → is_space d ≡ false → (c : ℕ) → c ≡ d → is_space c ≡ false
 letter_no_space d h c e = ap is_space e ∙ h
 
@@ -142,9 +139,6 @@ module _ (faults : Faults Kind) where
 
   lawful_encoding : Lawful Encoding
   lawful_encoding = lawful_optional (lawful_declared 101 _ refl encoding_name lawful_name_of)
-
-  is_letter_115 : (c : ℕ) → c ≡ 115 → (c == 115) ≡ true
-  is_letter_115 c e = same 115 c e
 
   closed_declaration : Exact faults xml_declaration (λ _. anything) read_xml_declaration
   closed_declaration = exact_behind exact_word (exact_behind

@@ -71,9 +71,6 @@ module _ (faults : Faults Kind) where
   lawful_chars : Lawful chars
   lawful_chars = lawful_valued line_ends (lawful_run_without section_end)
 
-  is_open : ℕ → Bool
-  is_open c = c == 38 || c == 60
-
   module _ (inner : Rule Kind Tree) (lawful : Lawful inner) where
     lawful_markup : Lawful (markup inner)
     lawful_markup = lawful_either (lawful_valued Reference (lawful_reference faults)) (lawful_either (lawful_valued Section (lawful_section faults)) (lawful_either (lawful_valued Comment (lawful_comment faults)) (lawful_either (lawful_valued _ (lawful_instruction faults)) (lawful_valued Inner lawful))))

@@ -62,9 +62,6 @@ same d c e = grind (arith, nat_tests)
 pub apart : (d : ℕ) (c : ℕ) → (c == d) ≡ true → (c == d) ≡ false → ⊥
 apart d c t f = absurd cc
 
-other_than : (d e : ℕ) → (e == d) ≡ false → (c : ℕ) → c ≡ e → (c == d) ≡ false
-other_than d e h c j = grind (arith, nat_tests)
-
 -- # Names
 
 module _ (faults : Faults Kind) where

@@ -1,14 +1,12 @@
 -- Queries read item by item, and URIs character by character.
 use Rattle.std.proofs.Common.{◌≡◌, ℕ, zero, suc, ◌+◌, ◌-◌, ◌<◌, List, [], ◌∷◌, ◌++◌, length, Result, Ok, Err, refl, ap, ◌∙◌, sym, append_assoc, ◌⊎◌, inl, inr, arith}
-use Rattle.std.proofs.lemmas.List.{append-nil}
 use Rattle.grammar_rules.specs.Reading.{after_front}
 use Rattle.xml_tree.specs.declared.names.Decl.{Decl}
-use Rattle.xml_tree.specs.declared.read_error.ReadError.TheVariants.{Fault, NoMemory}
+use Rattle.xml_tree.specs.declared.read_error.ReadError.TheVariants.{NoMemory}
 use Rattle.xcap_uri.specs.Gives.{UriError, ◌>>=◌}
 use Rattle.xcap_uri.specs.Queries.{is_blank}
-use Rattle.xcap_uri.specs.readers.Queries.{Read, with_char, item_read, items_read}
+use Rattle.xcap_uri.specs.readers.Queries.{Read, item_read, items_read}
 use Rattle.xcap_uri.specs.readers.UriSteps.{with_chars, with_items}
-use Rattle.xcap_uri.specs.declared.fault.UriFault.TheVariants.{BadQuery}
 
 -- ---- the characters of a URI
 
@@ -16,33 +14,12 @@ pub no_char_yet : (read : Read (List ℕ)) → read ≡ with_chars [] read
 no_char_yet (Ok x) = refl
 no_char_yet (Err e) = refl
 
-module _ (total : Read (List ℕ)) (front : List ℕ) (read : Read (List ℕ)) (so_far : total ≡ with_chars front read) where
-  pub uri_breaks : (e : UriError) → read ≡ Err e → total ≡ Err e
-  uri_breaks e h = so_far ∙ rw h refl
-
-  pub uri_ends : (rest : List ℕ) → read ≡ Ok ([], rest) → total ≡ Ok (front, rest)
-  uri_ends rest h = so_far ∙ rw h (ap (λ (l : List ℕ). let z : List ℕ × List ℕ = (l, rest) in let r : Read (List ℕ) = Ok z in r) (append-nil front))
-
-  pub uri_goes : (c : ℕ) (next : Read (List ℕ)) → read ≡ with_char c next → total ≡ with_chars (front ++ c ∷ []) next
-  uri_goes c next h = so_far ∙ rw h (longer next)
-    where
-      longer : (out : Read (List ℕ)) → with_chars front (with_char c out) ≡ with_chars (front ++ c ∷ []) out
-      longer (Ok x) = ap (λ (l : List ℕ). let z : List ℕ × List ℕ = (l, x.1) in let r : Read (List ℕ) = Ok z in r) (sym (append_assoc front (c ∷ []) x.0))
-      longer (Err e) = refl
-
 -- ---- the items of a query
 
 abbrev Items : Type 0
 Items = Result (List Decl) UriError
 
-pub no_item_yet : (read : Items) → read ≡ with_items [] read
-no_item_yet (Ok items) = refl
-no_item_yet (Err e) = refl
-
 module _ (total : Items) (front : List Decl) (n : ℕ) (rest : List ℕ) (so_far : total ≡ with_items front (items_read n rest)) where
-  pub no_item : rest ≡ [] → total ≡ Ok front
-  no_item h = so_far ∙ rw h (ap (λ (l : List Decl). let r : Items = Ok l in r) (append-nil front))
-
   pub item_fails : (m : ℕ) (e : UriError) → n ≡ m + 1 → 0 < length rest → item_read rest ≡ Err e → total ≡ Err e
   item_fails m e count some h = so_far ∙ fails n rest count some h
     where
@@ -62,14 +39,6 @@ module _ (total : Items) (front : List Decl) (n : ℕ) (rest : List ℕ) (so_far
       more zero rest count some h = absurd (omega (arith, count))
       more (suc n) [] count some h = absurd (omega (arith, some))
       more (suc n) (c ∷ cs) count some h = let k : n ≡ m = omega (arith, count) in rw (h, k) (longer (items_read m (after_front is_blank after)))
-
-  pub no_more : n ≡ 0 → 0 < length rest → total ≡ Err (Fault BadQuery)
-  no_more count some = so_far ∙ over n rest count some
-    where
-      over : (n : ℕ) (rest : List ℕ) → n ≡ 0 → 0 < length rest → with_items front (items_read n rest) ≡ Err (Fault BadQuery)
-      over n [] count some = absurd (omega (arith, some))
-      over zero (c ∷ cs) count some = refl
-      over (suc n) (c ∷ cs) count some = absurd (omega (arith, count))
 
 -- what the code has read of an item
 module _ (total : Items) (front : List Decl) (count i : ℕ) (rest : List ℕ) (more : i < count) (some : 0 < length rest) (so_far : total ≡ with_items front (items_read (count - i) rest)) where

@@ -50,17 +50,6 @@ pub some_of : (p : ℕ → Bool) (piece : List ℕ) → 1 ≤ length piece → l
 some_of p [] some = absurd (omega arith)
 some_of p (c ∷ cs) some = refl
 
--- what is said of all pieces, one cut at a time
-module _ (p : List ℕ → Bool) (stop : ℕ) (rest : List ℕ) where
-  pub first_fails : p (front_before stop rest) ≡ false → list_all p (pieces stop rest) ≡ false
-  first_fails h = ap (list_all p) (pieces_cut stop rest) ∙ rw h refl
-
-  pub only_piece : p (front_before stop rest) ≡ true → rest_behind stop rest ≡ None → list_all p (pieces stop rest) ≡ true
-  only_piece h none = ap (list_all p) (pieces_cut stop rest) ∙ rw (h, none) refl
-
-  pub first_passes : (tail : List ℕ) → p (front_before stop rest) ≡ true → rest_behind stop rest ≡ Some tail → list_all p (pieces stop rest) ≡ list_all p (pieces stop tail)
-  first_passes tail h some = ap (list_all p) (pieces_cut stop rest) ∙ rw (h, some) refl
-
 -- ---- cuts where nothing is cut, and behind a front
 
 not_true : (t : Bool) → not t ≡ true → t ≡ false

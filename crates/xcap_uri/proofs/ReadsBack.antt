@@ -1,5 +1,5 @@
 -- A printed id reads back as itself.
-use Rattle.std.proofs.Common.{◌≡◌, ◌≢◌, ℕ, ◌<◌, ◌/◌, ◌%◌, Bool, true, false, not, ◌&&◌, ◌==◌, List, [], ◌∷◌, ◌++◌, Option, None, Some, Result, Ok, All, codes, encode_utf8_all, drop, refl, ap, ◌∙◌, sym, subst, append_assoc, arith}
+use Rattle.std.proofs.Common.{◌≡◌, ◌≢◌, ℕ, ◌<◌, ◌/◌, ◌%◌, Bool, true, false, not, ◌&&◌, ◌==◌, List, [], ◌∷◌, ◌++◌, None, Some, Result, Ok, All, codes, encode_utf8_all, drop, refl, ap, ◌∙◌, sym, subst, append_assoc, arith}
 use Rattle.std.proofs.lemmas.Bool.{and_parts, agree_below, agree_below_at, ltb-true}
 use Rattle.std.proofs.lemmas.Str.{IsUtf8-from_ascii}
 use Rattle.std.specs.Char.{is_ascii, is_ascii_hexdigit}
@@ -145,9 +145,6 @@ unfolding percent_decode
 global_read = word_read (codes "global") (word_letters (codes "global") refl) refl refl
 
 -- ---- segments
-
-Path : Type 0
-Path = Result (List (List ℕ) × Option (List ℕ)) UriError
 
 one_more : (s text : List ℕ) (ss texts : List (List ℕ)) → text_read s ≡ Ok text → bytes_eq text separator ≡ false → segments_read ss ≡ Ok (texts, None) → segments_read (s ∷ ss) ≡ Ok (text ∷ texts, None)
 one_more s text ss texts h e k = rw (h, e, k) refl

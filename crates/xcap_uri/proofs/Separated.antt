@@ -20,10 +20,6 @@ Segments = Result (List (List ℕ) × Option (List ℕ)) UriError
 abbrev pub with_segments : List (List ℕ) → Segments → Segments
 with_segments front read = read >>= λ x. Ok (front ++ x.0, x.1)
 
-pub none_yet : (read : Segments) → read ≡ with_segments [] read
-none_yet (Ok x) = refl
-none_yet (Err e) = refl
-
 -- a character in front of pieces, and a stop
 joined_first : (stop b : ℕ) (ps : List (List ℕ)) → joined stop (with_first b ps) ≡ b ∷ joined stop ps
 joined_first stop b [] = refl
