@@ -7,7 +7,7 @@ use Rattle.std.proofs.lemmas.Bool.{cases_lt}
 use Rattle.step_laws.specs.Selection.{IsAtPosition, Matches, is_at_position}
 use Rattle.step_laws.specs.Places.{IsFree, Lawful, PlanIs}
 use Rattle.step_laws.proofs.Selecting.{is_at_position_is}
-use Rattle.step_laws.proofs.GapLaws.{lawful_by_count, lawful_named, lawful_tested, lawful_free}
+use Rattle.step_laws.proofs.GapLaws.{lawful_by_count, lawful_free}
 use Rattle.xml_tree.specs.Tree.{Content, last, more, note, Tree, tree_of, kids}
 use Rattle.usage_docs.specs.declared.rows.Kind.{Kind}
 use Rattle.usage_docs.specs.Rows.{Scope}
@@ -47,9 +47,6 @@ after_kid row c content j kid next there h kind is = h ∙ ap (λ (o : Option Ki
 pub before_kid : (row : Option Kind) (c : Scope) (content : Content) (j j' : ℕ) (kid : Tree) (next : ℕ) → j' ≡ suc j → slice_get (kids content) j ≡ Some kid → next ≡ part_in row c kid → ForSome row (λ kind. next ≡ part_before kind c 0 j' content)
 before_kid row c content j j' kid next step there h kind is =
     h ∙ ap (λ (o : Option Kind). part_in o c kid) is ∙ sym (before_is kind c content 0 j kid there) ∙ ap (λ (n : ℕ). part_before kind c 0 n content) (sym step)
-
-pub before_none : (row : Option Kind) (c : Scope) (content : Content) → ForSome row (λ kind. 0 ≡ part_before kind c 0 0 content)
-before_none row c content kind is = refl
 
 pub end_behind : (row : Option Kind) (c : Scope) (content : Content) (j : ℕ) → j ≡ length (kids content) → ForSome row (λ kind. end ≡ part_after kind c j content)
 end_behind row c content j same kind is = sym (after_end kind c content j (omega arith))
@@ -104,12 +101,6 @@ none_planned : {E : Type 0} (unlawful invalid : E) (L V : ℕ → Type 0) (many 
 none_planned unlawful invalid L V many h = inl (refl, record { none = h })
 
 module _ {E : Type 0} (unlawful invalid : E) (named tested : Tree → Bool) (position : Option ℕ) (xs : List Tree) (e : Tree) (V : ℕ → Type 0) where
-  pub not_named : named e ≡ false → PlanIs unlawful invalid (Lawful named tested position xs e) V (length xs + 1) (Err unlawful)
-  not_named no_name = none_planned unlawful invalid (Lawful named tested position xs e) V (length xs) (λ k lt l. true_false (named e) (lawful_named named tested position xs e k (omega arith) l) no_name)
-
-  pub not_tested : tested e ≡ false → PlanIs unlawful invalid (Lawful named tested position xs e) V (length xs + 1) (Err unlawful)
-  not_tested no_test = none_planned unlawful invalid (Lawful named tested position xs e) V (length xs) (λ k lt l. true_false (tested e) (lawful_tested named tested position xs e k (omega arith) l) no_test)
-
   pub not_free : (IsFree named tested position xs → ⊥) → PlanIs unlawful invalid (Lawful named tested position xs e) V (length xs + 1) (Err unlawful)
   not_free no_room = none_planned unlawful invalid (Lawful named tested position xs e) V (length xs) (λ k lt l. no_room (lawful_free named tested position xs e k (omega arith) l))
 

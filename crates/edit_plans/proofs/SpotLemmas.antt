@@ -73,14 +73,6 @@ not_both end is a = let e = a.1.1 in cc
 pub nothing_selected : (steps : List Step) (t : Tree) (k : ℕ) → IsLongestMatch steps t k → (k ≡ length steps → ⊥) → SelectNothing steps t
 nothing_selected steps t k m ne p h = ne (all_reached steps t k p m h)
 
-pub one_step : (steps : List Step) → length steps ≡ 1 → (s : Step) × (steps ≡ s ∷ [])
-one_step [] h = absurd (omega arith)
-one_step (s ∷ []) h = (s, refl)
-one_step (s ∷ r ∷ steps) h = absurd (omega arith)
-
-pub all_selected : (steps : List Step) (t : Tree) (k : ℕ) (p : List ℕ) → k ≡ length steps → SelectsPath (take k steps) t p → SelectsPath steps t p
-all_selected steps t k p is h = subst (λ (l : List Step). SelectsPath l t p) (ap (λ (n : ℕ). take n steps) is ∙ whole steps) h
-
 pub parent_selected : (steps : List Step) (t : Tree) (k : ℕ) (q : List ℕ) → length steps ≡ suc k → SelectsPath (take k steps) t q → SelectsParent steps t q
 parent_selected steps t k q is h = let r = parts steps k is in record { before = take k steps; step = r.0; are = r.1; selects = h }
 
@@ -90,13 +82,6 @@ no_element_spot t selector k ends_so m not_all not_parent not_one (Over p) h = l
 no_element_spot t selector k ends_so m not_all not_parent not_one (Under q) h = let r = parent_reached selector.steps t k q m h.2 in not_parent r.0 r.1
 no_element_spot t selector k ends_so m not_all not_parent not_one Beside h = not_one (ap (λ (l : List Step). length l) h.2.1)
 no_element_spot t selector k ends_so m not_all not_parent not_one (Value p) h = not_both selector.end ends_so h.0
-
--- none of an attribute: they don't lead to their end
-pub no_value_spot : (t : Tree) (selector : Selector) (k : ℕ) → EndsInAttribute selector.end → IsLongestMatch selector.steps t k → (k ≡ length selector.steps → 0 < k → ⊥) → (spot : Spot) → IsSpotOf t selector spot → ⊥
-no_value_spot t selector k ends_so m not_all (Over p) h = not_both selector.end h.0 ends_so
-no_value_spot t selector k ends_so m not_all (Under q) h = not_both selector.end h.0 ends_so
-no_value_spot t selector k ends_so m not_all Beside h = not_both selector.end h.0 ends_so
-no_value_spot t selector k ends_so m not_all (Value p) h = let e = all_reached selector.steps t k p m h.1 in let some = some_step selector.steps t p h.1 in not_all e (omega arith)
 
 -- ---- as computed
 
@@ -131,21 +116,12 @@ module _ (t : Tree) (selector : Selector) (many : ℕ) (reached : Reached) (is_m
   within : k ≤ many
   within = let w = r.longest.within in let m = is_many in omega arith
 
-  pub is_beside : selector.end ≡ ends.Element → k ≡ 0 → many ≡ 1 → IsSpotOf t selector Beside
-  is_beside ends_so none one = (ends_so, nothing_selected selector.steps t k r.longest (λ all. let m = is_many in absurd (omega arith)), one_step selector.steps (sym is_many ∙ one))
-
-  pub is_over : selector.end ≡ ends.Element → (k ≡ 0 → ⊥) → k ≡ many → IsSpotOf t selector (Over reached.path)
-  is_over ends_so some all = (ends_so, all_selected selector.steps t k reached.path (all ∙ is_many) (r.selected (some_number k some)))
-
   pub is_under : selector.end ≡ ends.Element → (k ≡ 0 → ⊥) → k < many → many - k ≡ 1 → IsSpotOf t selector (Under reached.path)
   is_under ends_so some lt one = (
     ends_so,
     nothing_selected selector.steps t k r.longest (λ all. let m = is_many in absurd (omega arith)),
     parent_selected selector.steps t k reached.path (let m = is_many in omega arith) (r.selected (some_number k some)),
   )
-
-  pub is_value : EndsInAttribute selector.end → (k ≡ 0 → ⊥) → k ≡ many → IsSpotOf t selector (Value reached.path)
-  is_value ends_so some all = (ends_so, all_selected selector.steps t k reached.path (all ∙ is_many) (r.selected (some_number k some)))
 
   -- none
   pub no_first_step : selector.end ≡ ends.Element → k ≡ 0 → (many ≡ 1 → ⊥) → IsLongestMatch selector.steps t 0 × ((spot : Spot) → IsSpotOf t selector spot → ⊥)
@@ -166,9 +142,3 @@ module _ (t : Tree) (selector : Selector) (many : ℕ) (reached : Reached) (is_m
       by_order : length selector.steps ≤ k + 1 → (k < many) ⊎ (many ≤ k) → ⊥
       by_order le (inl lt) = let m = is_many in not_next lt (omega arith)
       by_order le (inr ge) = let w = within in not_all (omega arith)
-
-  pub no_value : EndsInAttribute selector.end → (n : ℕ) → n ≡ k → (k ≡ many → 0 < k → ⊥) → IsLongestMatch selector.steps t n × ((spot : Spot) → IsSpotOf t selector spot → ⊥)
-  no_value ends_so n same not_all = (
-    subst (λ (j : ℕ). IsLongestMatch selector.steps t j) (sym same) r.longest,
-    no_value_spot t selector k ends_so r.longest (λ all some. not_all (all ∙ sym is_many) some),
-  )

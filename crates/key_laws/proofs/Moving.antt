@@ -163,9 +163,6 @@ hole i (n ∷ r) e row c ne =
 
 -- ---- an attribute that isn't the key
 
-not_both : (b : Bool) → b ≡ true → b ≡ false → ⊥
-not_both b p q = cc
-
 and_parts : (a b : Bool) → (a && b) ≡ true → (a ≡ true) × (b ≡ true)
 and_parts true b h = (refl, h)
 and_parts false b h = cc

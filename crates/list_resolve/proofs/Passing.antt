@@ -17,7 +17,7 @@ use Rattle.list_resolve.specs.Places.{same_place, is_on}
 use Rattle.list_resolve.specs.Spots.{Spot}
 use Rattle.list_resolve.specs.Leads.{Ground}
 use Rattle.list_resolve.specs.Walks.{Item, address, mark, kind_items, spot_items, walked}
-use Rattle.list_resolve.specs.inner.Gathering.{Tally, Gathered, gathering, passing, with_item, with_items}
+use Rattle.list_resolve.specs.inner.Gathering.{Tally, Gathered, gathering, with_item, with_items}
 use Rattle.list_resolve.specs.inner.Passing.{AreGathered, IsPassed, IsSound, own_items, spot_at}
 use Rattle.list_resolve.specs.inner.PlaceTests.{place_exact}
 use Rattle.list_resolve.proofs.Walks.{marks_rise, reference_items}
@@ -127,9 +127,6 @@ module _ (one other : Reference → List Item) (root : List ℕ) (uris : List (L
       given_alike s.kind s.element.attrs s.element.content (walked one root EntryList s.scope s.element.content) (walked other root EntryList s.scope s.element.content)
       (walked_alike EntryList s.scope s.element.content) h
 
-nothing_behind : Reference → List Item
-nothing_behind r = []
-
 for_some : (A : Type 0) (P : A → Type 0) (o : Option A) (x : A) → o ≡ Some x → ForSome o P → P x
 for_some A P o x e h = h x e
 
@@ -167,18 +164,6 @@ all_still g uris more_uris (p ∷ ps) grow h = (still_passed g uris more_uris (s
 -- an item more leaves them so
 pub sound_with : (g : Ground) (s : Gathered) (i : Item) → IsSound g s → IsSound g (gathering s i)
 sound_with g s i h = all_still g s.tally.uris (with_item s.tally i).uris s.passed (λ uri there. stays uri s.tally i there) h
-
-all_behind : (P : Place → Type 0) (ps : List Place) (p : Place) → AllByRecursion P ps → P p → AllByRecursion P (ps ++ p ∷ [])
-all_behind P [] p h x = (x, tt)
-all_behind P (q ∷ ps) p h x = (h.0, all_behind P ps p h.1 x)
-
-all_with : (P : Place → Type 0) (ps : List Place) (p : Place) (b : Bool) → AllByRecursion P ps → P p → AllByRecursion P (cond b ps (ps ++ p ∷ []))
-all_with P ps p true h x = h
-all_with P ps p false h x = all_behind P ps p h x
-
--- so does a place more that is passed
-pub sound_passing : (g : Ground) (s : Gathered) (p : Place) → IsSound g s → IsPassed g s.tally.uris p → IsSound g (passing s p)
-sound_passing g s p h x = all_with (IsPassed g s.tally.uris) s.passed p (is_on s.passed p) h x
 
 one_of_by : (P : Place → Type 0) (p q : Place) (ps : List Place) (b : Bool) → same_place p q ≡ b → ((list_any (same_place p) ps ≡ true) → P p) → (b || list_any (same_place p) ps) ≡ true → P q → P p
 one_of_by P p q ps true e rest h x = subst P (sym (place_exact p q e)) x

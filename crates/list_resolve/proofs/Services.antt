@@ -1,8 +1,7 @@
 -- The services of a document, node by node.
-use Rattle.std.proofs.Common.{◌≡◌, ◌<◌, ◌+◌, ℕ, List, [], ◌∷◌, drop, get_or, length, Option, None, refl, sym, ap, ◌∙◌}
+use Rattle.std.proofs.Common.{◌≡◌, ℕ, List, [], ◌∷◌, Option, None, refl, sym, ap, ◌∙◌}
 use Rattle.std.specs.Option.{option_or}
-use Rattle.std.proofs.lemmas.List.{drop_more}
-use Rattle.xml_tree.specs.Tree.{Content, last, more, note, Tree, kids}
+use Rattle.xml_tree.specs.Tree.{Content, last, more, note, kids}
 use Rattle.xml_tree.specs.Edits.{with_text_before}
 use Rattle.xml_tree.specs.Nodes.{content_of}
 use Rattle.xml_tree.specs.declared.tree.Node.{Node}
@@ -29,7 +28,3 @@ first_is uri root (Comment x ∷ ns) = first_is uri root ns
 
 pub all_services : (uri : List ℕ) (root : Spot) (ns : List Node) (content : Content) → content_of ns ≡ content → first_among uri root ns ≡ first_service uri root (kids content)
 all_services uri root ns content e = first_is uri root ns ∙ ap (λ c. first_service uri root (kids c)) e
-
-pub first_elem : (uri : List ℕ) (root : Spot) (ns : List Node) (i : ℕ) (x : Node) (kid : Tree) → i < length ns → x ≡ get_or ns i x → x ≡ Elem kid
-    → first_among uri root (drop i ns) ≡ option_or (service_spot uri root kid) (first_among uri root (drop (i + 1) ns))
-first_elem uri root ns i x kid lt there is = ap (first_among uri root) (drop_more ns i x lt ∙ ap (λ y. y ∷ drop (i + 1) ns) (sym there ∙ is))

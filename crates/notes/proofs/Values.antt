@@ -24,9 +24,6 @@ written-quoted v = byte_len-quoted v ∙ ap (λ n. n + 2) (sym (written-bytes v)
 
 -- ---- names
 
-pub written-plain : (n : Name) → n.prefix ≡ [] → written_len (print_name n) ≡ written_len n.local
-written-plain n e = ap (λ b. written_len (if b then n.local else (n.prefix ++ 58 ∷ n.local))) ((bytes_decides n.prefix []).1 e)
-
 colon : (t : List ℕ) → written_len (58 ∷ t) ≡ written_len t + 1
 unfolding encode
 colon t = ascii 58 (flat_map value_escape t) (omega arith)

@@ -86,16 +86,7 @@ module _ (row : Kind) (c : Scope) (kids : List Tree) (new : Tree) (gap : ℕ) (b
   abbrev B : List ℕ → Key → Type 0
   B = ClashesBeside row c kids new gap
 
-  -- the new one itself, where a sibling before it has its key
-  pub first_at_gap : (i : ℕ) (clash : Clash) → clash.path ≡ base ++ gap ∷ [] → i < gap → IsTwin row c kids new i clash.key → IsFirst B base (Some clash)
-  first_at_gap i clash is lt t = (gap ∷ [], (is, inl (refl, (i, (lt, t))), later))
-    where
-      later : (r : List ℕ) (key : Key) → B r key → NoLater (gap ∷ []) r
-      later r key (inl (e, h)) = subst (λ (z : List ℕ). NoLater (gap ∷ []) z) (sym e) (inr (refl, tt))
-      later r key (inr (inl (p, (e, h)))) = subst (λ (z : List ℕ). NoLater (gap ∷ []) z) (sym e) (inr (refl, tt))
-      later r key (inr (inr (j, (e, (from, h))))) = subst (λ (z : List ℕ). NoLater (gap ∷ []) z) (sym e) (inl (omega arith))
-
-  -- else the first in it
+  -- the first in the new one, where no sibling before it has its key
   pub first_in_new : (clash : Clash) → ((i : ℕ) (key : Key) → i < gap → IsTwin row c kids new i key → ⊥) → IsFirst (ClashesInside row c new) (base ++ gap ∷ []) (Some clash) → IsFirst B base (Some clash)
   first_in_new clash none f = (gap ∷ f.0, (f.1.0 ∙ append_assoc base (gap ∷ []) f.0, inr (inl (f.0, (refl, f.1.1))), later))
     where

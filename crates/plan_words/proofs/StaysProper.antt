@@ -285,9 +285,6 @@ new_is c uri local n h = by (new_prefix c uri) refl
               sym (ap (λ (m : Name). m.prefix) same) ∙ same_Some prefix [] (sym e ∙ empty)),
         )
 
-no_uri : (o : Option (List ℕ)) (uri : List ℕ) → unwrap_or o [] ≡ uri → o ≡ None → uri ≡ []
-no_uri o uri is none = sym is ∙ ap (λ (x : Option (List ℕ)). unwrap_or x []) none
-
 -- a new attribute may stand
 new_stands : (c : List (List Decl)) (uri local : List ℕ) (n : Name) (v : List ℕ) → AllDeclared (joined c) → IsWritable uri local → IsTrue (all_chars v)
     → new_name c uri local ≡ Some n → IsTrue (is_attr c uri local (attr_of n v)) → IsAttribute c (attr_of n v)

@@ -1,17 +1,10 @@
 -- At which gaps a step then selects a new child, told from the children before it is put.
-use Rattle.std.proofs.Common.{◌≡◌, ℕ, zero, suc, ◌+◌, ◌<◌, ◌≤◌, ◌⊎◌, inl, inr, ◌↔◌, Bool, subst, List, length, take, sym, ap, ◌∙◌, Option, Some, None, slice_get, insert, count_by, IsTrue, arith}
+use Rattle.std.proofs.Common.{◌≡◌, ℕ, zero, suc, ◌+◌, ◌<◌, ◌≤◌, ◌⊎◌, inl, inr, ◌↔◌, Bool, subst, List, length, take, sym, ap, ◌∙◌, Option, Some, None, insert, count_by, IsTrue, arith}
 use Rattle.std.proofs.lemmas.Bool.{cases_order, cases_lt}
 use Rattle.std.proofs.lemmas.Option.{same_Some}
 use Rattle.step_laws.specs.Selection.{IsAtPosition, Matches}
 use Rattle.step_laws.specs.Places.{IsFree, Lawful}
 use Rattle.step_laws.proofs.Inserted.{get-insert_before, get-insert_at, get-insert_behind, take-insert_before, count-insert_behind, count_up_to, count_past, one_more}
-
--- whether a child that is there matches
-pub match_at : {A : Type 0} (named tested : A → Bool) (position : Option ℕ) (xs : List A) (i : ℕ) (kid : A) → slice_get xs i ≡ Some kid → (IsTrue (named kid) × IsAtPosition position (count_by named (take i xs)) × IsTrue (tested kid)) ↔ Matches named tested position xs i
-match_at named tested position xs i kid there = (
-  λ h. record { kid = kid; there = there; is_named = h.0; at_position = h.1; is_tested = h.2 },
-  λ m. let same : m.kid ≡ kid = same_Some _ _ (sym m.there ∙ there) in (ap named (sym same) ∙ m.is_named, m.at_position, ap tested (sym same) ∙ m.is_tested),
-)
 
 -- a child before the gap matches as before
 pub match_before : {A : Type 0} (named tested : A → Bool) (position : Option ℕ) (xs : List A) (gap : ℕ) (e : A) (i : ℕ) → gap ≤ length xs → i < gap → Matches named tested position (insert xs gap e) i ↔ Matches named tested position xs i

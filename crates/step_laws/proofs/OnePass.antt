@@ -10,9 +10,6 @@ abbrev pub OnlyBelow : (ℕ → Type 0) → ℕ → Option ℕ → Type 0
 OnlyBelow P n None = (k : ℕ) → k < n → P k → ⊥
 OnlyBelow P n (Some i) = (i < n) × P i × ((k : ℕ) → k < n → P k → k ≡ i)
 
-pub only_none : (P : ℕ → Type 0) → OnlyBelow P 0 None
-only_none P k lt p = omega arith
-
 -- the next has it not
 pub only_more : (P : ℕ → Type 0) (n : ℕ) (found : Option ℕ) → OnlyBelow P n found → (P n → ⊥) → OnlyBelow P (n + 1) found
 only_more P n None h here = λ k lt p. elim (cases_lt k n) [ inl below ↦ h k below p | inr le ↦ here (let same : k ≡ n = omega arith in subst P same p) ]

@@ -1,8 +1,7 @@
 -- A tree has one judgement: a first fault, or none.
-use Rattle.std.proofs.Common.{◌≡◌, ◌↔◌, ◌⊎◌, ℕ, suc, Bool, true, false, List, [], ◌∷◌, ◌++◌, length, slice_get, take, Option, None, Some, IsTrue, inl, inr, refl, sym, ap, ap₂, subst, ◌∙◌, arith, append_assoc, append-nil}
+use Rattle.std.proofs.Common.{◌≡◌, ◌⊎◌, ℕ, suc, Bool, true, false, List, [], ◌∷◌, ◌++◌, length, slice_get, take, Option, None, Some, IsTrue, inl, inr, refl, sym, ap, ap₂, subst, ◌∙◌, arith, append_assoc, append-nil}
 use Rattle.std.specs.Option.{ForSome}
 use Rattle.std.specs.Str.{bytes_eq}
-use Rattle.std.proofs.lemmas.Bool.{false≢true}
 use Rattle.std.proofs.lemmas.Option.{same_Some}
 use Rattle.std.specs.Cmp.Lexicographic.{bytes_decides}
 use Rattle.xml_tree.specs.Tree.{Content, Tree, kids, kids_of, last, more, note, tree_of}
@@ -29,13 +28,6 @@ use Rattle.usage_docs.specs.declared.judging.Fault.{Fault}
 use Rattle.usage_docs.specs.declared.judging.Fault.TheVariants.{Invalid, Unformed, Repeated}
 
 -- ---- what holds or doesn't
-
--- what a test tells
-pub holds : (b : Bool) (P : Type 0) → IsTrue b ↔ P → b ≡ true → P
-holds b P exact is = exact.0 is
-
-pub fails : (b : Bool) (P : Type 0) → IsTrue b ↔ P → b ≡ false → P → ⊥
-fails b P exact is p = false≢true (sym is ∙ exact.1 p)
 
 abbrev Decided : Type 0 → Type 0
 Decided P = P ⊎ (P → ⊥)

@@ -136,9 +136,6 @@ one_more : (d : Decl) (ds g : List Decl) → AreInOrder g → left ds (placed d 
 one_more d ds [] h = sym (zero_before (left ds (d ∷ [])))
 one_more d ds (x ∷ g) h = by (order d.prefix x.prefix) refl (AreInOrder-placed d (x ∷ g) h) (one_more d ds g h.1)
   where
-    here : ℕ
-    here = left ds (d ∷ [])
-
     by : (o : Ordering) → order d.prefix x.prefix ≡ o → AreInOrder (match_ordering o (d ∷ x ∷ g) (d ∷ g) (x ∷ placed d g)) → left ds (placed d g) ≡ left (d ∷ ds) g + left ds (d ∷ [])
         → left ds (match_ordering o (d ∷ x ∷ g) (d ∷ g) (x ∷ placed d g)) ≡ left (d ∷ ds) (x ∷ g) + left ds (d ∷ [])
     by Less is all rest =

@@ -94,9 +94,6 @@ declared-placed : (d : Decl) (ds : List Decl) (p : List ℕ) → AreInOrder ds �
 declared-placed d [] p h = sym (option_or-none (of_one d p))
 declared-placed d (x ∷ ds) p h = by (order d.prefix x.prefix) refl (bytes_eq d.prefix p) refl (declared-placed d ds p h.1)
   where
-    whole : Option (List ℕ)
-    whole = option_or (of_one d p) (declared (x ∷ ds) p)
-
     by : (o : Ordering) → order d.prefix x.prefix ≡ o → (b : Bool) → bytes_eq d.prefix p ≡ b → declared (placed d ds) p ≡ option_or (of_one d p) (declared ds p)
         → declared (placed d (x ∷ ds)) p ≡ option_or (of_one d p) (declared (x ∷ ds) p)
     by Less is true e rest = rw (is, e, sole d p (x ∷ ds) (is, further d.prefix x.prefix ds is h.0) e) refl

@@ -4,7 +4,7 @@ use Rattle.std.specs.List.{slice_get}
 use Rattle.xml_tree.specs.Tree.{Content, Tree, kids_of, at}
 use Rattle.xml_tree.specs.Edits.{change_kid}
 use Rattle.xml_tree.specs.inner.Lending.{nodes_with_kid}
-use Rattle.xml_tree.proofs.Places.{AreNormal-set, content_of-kid, content_of-same}
+use Rattle.xml_tree.proofs.Places.{AreNormal-set, content_of-kid}
 use Rattle.xml_tree.specs.declared.tree.Element.TheInside.{Inside}
 use Rattle.xml_tree.specs.contracts.tree.Element.{the_view as view, the_invariant as IsWhole}
 
@@ -15,9 +15,6 @@ module _ (i : Inside) (n : ℕ) (k w : Tree) (is : slice_get (kids_of (view i)) 
 
   pub changed : (f : Tree → Tree) → w ≡ f k → view (record i { nodes = nodes_with_kid i.nodes n w }) ≡ change_kid n f (view i)
   changed f made = ap (λ (x : Content). record (view i) { content = x }) (content_of-kid n i.nodes.items f k w is (sym made))
-
-  pub unchanged : w ≡ k → view (record i { nodes = nodes_with_kid i.nodes n w }) ≡ view i
-  unchanged same = ap (λ (x : Content). record (view i) { content = x }) (content_of-same n i.nodes.items k w is same)
 
   -- a path that goes on from the child
   pub below : (p : List ℕ) (e : Tree) → at p k ≡ Some e → at (n ∷ p) (view i) ≡ Some e

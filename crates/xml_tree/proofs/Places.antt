@@ -38,11 +38,6 @@ put-before t (note u c rest) j e = refl
 
 -- ---- the place of an element among the nodes
 
-there_below : {X : Type 0} (n : ℕ) (xs : List X) (x : X) → slice_get xs n ≡ Some x → n < length xs
-there_below n [] x is = absurd (cc)
-there_below zero (y ∷ xs) x is = omega arith
-there_below (suc n) (y ∷ xs) x is = omega (arith, there_below n xs x is)
-
 abbrev pub kids_in : List Node → List Tree
 kids_in ns = kids (content_of ns)
 
@@ -69,9 +64,6 @@ elem_there n (Comment c ∷ ns) d h = elem_there n ns d h
 elem_there zero (Elem e ∷ ns) d h = refl
 elem_there (suc n) (Elem e ∷ ns) d h = elem_there n ns d (omega arith)
 
-pub kid_within : (n : ℕ) (ns : List Node) (k : Tree) → slice_get (kids_in ns) n ≡ Some k → n < length (kids_in ns)
-kid_within n ns k is = there_below n (kids_in ns) k is
-
 -- ---- an element exchanged
 
 -- at its place stands what f makes of it
@@ -82,16 +74,6 @@ content_of-kid n (Chars t ∷ ns) f k w is made = ap (with_text_before t) (conte
 content_of-kid n (Comment c ∷ ns) f k w is made = ap (note [] c) (content_of-kid n ns f k w is made)
 content_of-kid zero (Elem e ∷ ns) f k w is made = ap (λ x. more_of [] x (content_of ns)) (sym made ∙ ap f (sym (cc)))
 content_of-kid (suc n) (Elem e ∷ ns) f k w is made = ap (more_of [] e) (content_of-kid n ns f k w is made)
-
-change-same : (n : ℕ) (c : Content) → change n (λ e. e) c ≡ c
-change-same n (last t) = refl
-change-same zero (more t m ds ats c rest) = refl
-change-same (suc n) (more t m ds ats c rest) = ap (more t m ds ats c) (change-same n rest)
-change-same n (note t c rest) = ap (note t c) (change-same n rest)
-
--- written back as it was, it changes nothing
-pub content_of-same : (n : ℕ) (ns : List Node) (k w : Tree) → slice_get (kids_in ns) n ≡ Some k → w ≡ k → content_of (slice_set ns (place n ns) (Elem w)) ≡ content_of ns
-content_of-same n ns k w is same = content_of-kid n ns (λ e. e) k w is (sym same) ∙ change-same n (content_of ns)
 
 StartsApart-set : (n : ℕ) (ns : List Node) (w : Tree) → StartsApart ns → StartsApart (slice_set ns (place n ns) (Elem w))
 StartsApart-set n [] w a = tt
@@ -286,10 +268,6 @@ with_text-nil (more t n ds ats c rest) = ap (more t n ds ats c) (with_text-nil r
 with_text-nil (note t c rest) = ap (note t c) (with_text-nil rest)
 
 -- ---- the nodes of a content
-
-abbrev pub text_then : List ℕ → Content → List Node
-text_then [] c = nodes_of c
-text_then (c ∷ cs) rest = Chars (c ∷ cs) ∷ nodes_of rest
 
 -- a content that doesn't start with a text
 abbrev OpensApart : Content → Type 0

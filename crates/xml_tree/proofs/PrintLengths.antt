@@ -67,10 +67,7 @@ byte_len-comment x =
     let rest = byte_len-append x (codes "-->") in
     omega (arith, begins, ends, parts, rest)
 
--- a name without a prefix, and one with a prefix
-pub byte_len-plain : (n : Name) → n.prefix ≡ [] → byte_len (print_name n) ≡ byte_len n.local
-byte_len-plain n e = ap (λ b. byte_len (if b then n.local else (n.prefix ++ 58 ∷ n.local))) ((bytes_decides n.prefix []).1 e)
-
+-- a name with a prefix
 pub byte_len-prefixed : (n : Name) → n.prefix ≢ [] → byte_len (print_name n) ≡ byte_len n.prefix + byte_len n.local + 1
 byte_len-prefixed n apart =
     let parts = byte_len-append n.prefix (58 ∷ n.local) in

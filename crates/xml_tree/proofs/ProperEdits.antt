@@ -48,9 +48,6 @@ module _ (P : List (List Decl) → Part → Type 0) where
   own : (c : List (List Decl)) (p : List ℕ) (t e : Tree) → at p t ≡ Some e → (c ++ scope_around p t) ++ e.decls ∷ [] ≡ c ++ scope_at p t
   own c p t e there = append_assoc c (scope_around p t) (e.decls ∷ []) ∙ ap (λ s. c ++ s) (sym (scope_at-around p t e there))
 
-  pub content-at : (c : List (List Decl)) (p : List ℕ) (t e : Tree) → at p t ≡ Some e → Throughout P c t → Everywhere P (c ++ scope_at p t) e.content
-  content-at c p t e there h = subst (λ s. Everywhere P s e.content) (own c p t e there) (inside P p c t e there h).1
-
   -- another content, where it holds in the scope of the place
   pub with-content : (c : List (List Decl)) (p : List ℕ) (f : Content → Content) (t : Tree)
       → ((k : Content) → Everywhere P (c ++ scope_at p t) k → Everywhere P (c ++ scope_at p t) (f k)) → Throughout P c t → Throughout P c (change_at p (with_content f) t)

@@ -1,5 +1,5 @@
 -- A node taken out, and the texts beside it joined.
-use Rattle.std.proofs.Common.{◌≡◌, ℕ, zero, suc, ◌+◌, ◌-◌, ◌<◌, List, [], ◌∷◌, length, slice_set, remove, Option, Some, None, IsSome, false, refl, sym, ap, ◌∙◌, subst, arith}
+use Rattle.std.proofs.Common.{◌≡◌, ℕ, zero, suc, ◌+◌, ◌<◌, List, [], ◌∷◌, length, slice_set, remove, Option, Some, None, IsSome, false, refl, sym, ap, ◌∙◌, subst, arith}
 use Rattle.std.specs.List.{slice_get}
 use Rattle.xml_tree.specs.Tree.{Content, last, more, note, more_of, Tree}
 use Rattle.xml_tree.specs.Edits.{with_text_before, cut, IsFull, first_text, TextsMeet}
@@ -136,10 +136,6 @@ TextsMeet-joined n (Chars t ∷ ns) h a m = let there = rw kids-before at h in
     texts_meet_behind t n ns a.0 a.1 there (λ k l b j. TextsMeet-joined k ns l b j) a.2 m
 
 -- ---- the parts of the code
-
-pub removed_joined-at : (p : ℕ) (t : List ℕ) (ns : List Node) → 0 < p → slice_set (remove (remove ns p) p) (p - 1) (Chars t) ≡ removed_joined p (Some t) ns
-removed_joined-at zero t ns h = absurd (omega arith)
-removed_joined-at (suc i) t ns h = let e : suc i - 1 ≡ i = omega arith in ap (λ k. slice_set (remove (remove ns (suc i)) (suc i)) k (Chars t)) e
 
 -- the node at an element's place is the element
 pub elem_of-place : (n : ℕ) (ns : List Node) (x : Node) → n < length (kids_in ns) → slice_get ns (place n ns) ≡ Some x → elem_of x ≡ slice_get (kids_in ns) n
