@@ -1,24 +1,21 @@
 -- Requests on nodes, line by line: what is missing, what the conditions say, and what is made of a plan.
-use Rattle.std.proofs.Common.{◌≡◌, ℕ, Bool, true, false, List, Option, None, Some, Result, Ok, Err, IfOk, refl, sym, ap, subst}
+use Rattle.std.proofs.Common.{◌≡◌, ℕ, Bool, true, false, List, Option, None, Some, Result, Ok, Err, IfOk, refl, sym, subst}
 use Rattle.xml_tree.specs.Tree.{Tree}
-use Rattle.conflict_docs.specs.declared.conflicts.ErrorBody.TheVariants as conflicts
 use Rattle.doc_names.specs.declared.doc_id.DocId.{DocId}
 use Rattle.doc_names.specs.declared.usages.Usage.{Usage}
 use Rattle.node_select.specs.declared.selector.Selector.{Selector}
 use Rattle.plan_words.specs.Spots.{IsSpot}
-use Rattle.plan_words.specs.declared.spot.NoParent.{NoParent}
 use Rattle.plan_words.specs.declared.spot.Spot.{Spot}
 use Rattle.http_wire.specs.declared.request.Request.{Request}
-use Rattle.reply_text.specs.Heads.{Sent, plain}
+use Rattle.reply_text.specs.Heads.{Sent}
 use Rattle.request_terms.specs.Conditions.{IsStop}
-use Rattle.xcap_uri.specs.Ancestors.{ancestor_uri}
 use Rattle.store_core.specs.Stored.{Stored}
 use Rattle.store_core.specs.Held.{Stock as Content}
-use Rattle.machine_words.specs.Answers.{Answer, BehindConditions, conflict, unchanged}
+use Rattle.machine_words.specs.Answers.{Answer, BehindConditions, unchanged}
 use Rattle.machine_words.specs.Fragments.{CutsNode, PutsFragment, is_there}
 use Rattle.machine_words.specs.Resources.{version_of}
 use Rattle.machine_words.specs.inner.Cases.{DeletesNodeOf, PutsNodeOf}
-use Rattle.machine_words.proofs.Cases.{at_false, at_true, stopped, unstopped}
+use Rattle.machine_words.proofs.Cases.{at_true, stopped, unstopped}
 use Rattle.document_writes.specs.Deciding.{Decides}
 use Rattle.document_writes.specs.inner.Planning.{IsPlanFor, answer_by}
 use Rattle.document_writes.specs.declared.decision.Decision.{Decision}
@@ -58,17 +55,11 @@ module _ (root : List ℕ) (id : DocId) (usage : Usage) (selector : Selector) (t
   put_at_spot spot is (Ok plan) plans = let p = plans id in record { answers = λ c. (Ok spot, is, p.answers c); may_be_made = p.may_be_made }
   put_at_spot spot is (Err e) plans = tt
 
-  pub put_nowhere : (none : NoParent) → IsSpot t selector (Err none) → (reply : Sent) → reply ≡ conflict (conflicts.NoParent (ancestor_uri root id t selector.steps)) request.closes → IsPlanFor usage t id request.closes PutsIt (Stops reply)
-  put_nowhere none is reply so = record { answers = λ c. (Err none, is, ap unchanged so); may_be_made = tt }
-
 -- ---- DELETE
 
 module _ (usage : Usage) (selector : Selector) (t : Tree) (tag : ℕ) (request : Request) where
   abbrev DeletesIt : Content → DocId → Answer → Type 0
   DeletesIt c id a = DeletesNodeOf c id usage selector t tag request a
-
-  pub not_there : (reply : Sent) → is_there t selector ≡ false → reply ≡ plain 404 request.closes → Plans usage t request.closes DeletesIt (Stops reply)
-  not_there reply absent so = stopped_by usage t request.closes DeletesIt (Stops reply) reply refl (λ c id. at_false _ _ _ absent (ap unchanged so))
 
   pub there : {E : Type 0} (plan : Result Plan E) → is_there t selector ≡ true
       → IfOk plan (Plans usage t request.closes (λ c id a. BehindConditions request (Some tag) true false a (CutsNode c id usage selector t request a))) → IfOk plan (Plans usage t request.closes DeletesIt)

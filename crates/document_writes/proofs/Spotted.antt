@@ -2,7 +2,6 @@
 use Rattle.std.specs.Prelude.{slice_get, unwrap_or}
 use Rattle.std.proofs.Common.{◌≡◌, ℕ, suc, ◌<◌, ◌≤◌, ◌+◌, true, false, List, [], ◌∷◌, ◌++◌, length, length-append, Option, None, Some, IsSome, is_some, option_map, option_and_then, refl, sym, ap, subst, ◌∙◌, arith}
 use Rattle.xml_tree.specs.Edits.{parent_path}
-use Rattle.xml_tree.specs.Proper.{ProperIn}
 use Rattle.xml_tree.specs.Scopes.{scope_around, scope_at}
 use Rattle.xml_tree.specs.Tree.{Tree, at, height, kids_of}
 use Rattle.xml_tree.proofs.PathLemmas.{front-snoc}
@@ -14,7 +13,6 @@ use Rattle.node_select.specs.declared.selector.Selector.{Selector}
 use Rattle.node_select.proofs.Along.{path_there}
 use Rattle.node_select.proofs.Reaching.{path_is}
 use Rattle.node_texts.specs.Nodes.{found_text, node_text, text_at}
-use Rattle.plan_words.specs.Puts.{HasRoomAt, IsProperAt}
 use Rattle.plan_words.specs.Spots.{IsSpotOf, SelectNothing}
 use Rattle.plan_words.specs.declared.spot.Spot.{Spot}
 use Rattle.plan_words.specs.declared.spot.Spot.TheVariants.{Over, Under, Beside, Value}
@@ -113,9 +111,3 @@ scope_fits t (Over p) there low = let a = around_len p t in let h = there_low t 
 scope_fits t (Under q) there low = let a = scope_len q t in let h = there_low t q there low in omega arith
 scope_fits t Beside there low = omega arith
 scope_fits t (Value p) there low = omega arith
-
-pub stands_there : (t : Tree) (spot : Spot) (e : Tree) → LeadsSomewhere t spot → height t ≤ 64 → ProperIn (scope_for t spot) e × (height e ≤ levels_for spot) → IsProperAt t spot e × HasRoomAt spot e
-stands_there t (Over p) e there low h = let lt = there_low t p there low in let le = h.1 in (h.0, omega arith)
-stands_there t (Under q) e there low h = let lt = there_low t q there low in let le = h.1 in (h.0, omega arith)
-stands_there t Beside e there low h = (tt, tt)
-stands_there t (Value p) e there low h = (tt, tt)

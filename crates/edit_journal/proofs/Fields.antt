@@ -1,5 +1,5 @@
 -- Fields whose bytes may break off.
-use Rattle.std.proofs.Common.{◌≡◌, ℕ, zero, suc, ◌+◌, ◌*◌, ◌-◌, ◌<◌, ◌≤◌, ◌^◌, ◌==◌, if◌then◌else◌, true, List, [], ◌∷◌, ◌++◌, length, take, drop, All, OnOk, Result, Ok, Err, refl, sym, ap, ◌∙◌, subst, arith, append_assoc, length-append, flat_map}
+use Rattle.std.proofs.Common.{◌≡◌, ℕ, zero, suc, ◌+◌, ◌*◌, ◌-◌, ◌<◌, ◌≤◌, ◌^◌, true, List, [], ◌∷◌, ◌++◌, length, take, drop, All, OnOk, Result, Ok, Err, refl, sym, ap, ◌∙◌, subst, arith, append_assoc, length-append, flat_map}
 use Rattle.std.specs.Borrow.{Bor}
 use Rattle.http_wire.specs.declared.request.Field.{Field}
 use Rattle.edit_journal.specs.Records.{block, field_text}
@@ -17,34 +17,6 @@ use Rattle.std.proofs.Math.Seq.{take-append_seam}
 use Rattle.edit_journal.proofs.Blocks.{one_block}
 use Rattle.edit_journal.proofs.Lengths.{block_length, field_length}
 use Rattle.edit_journal.specs.inner.Reading.{Reads, Block, Name, Value, FieldPart, FieldsAndBody, HasRoom}
-
--- the least length of a value
-abbrev pub least_of : ℕ → ℕ → ℕ
-least_of others left = if others == 0 then left - 262152 else 0
-
-low_one : (others left n : ℕ) → least_of (suc others) left ≤ n
-low_one others left n = grind arith
-
-value_of_block : (others left : ℕ) (bytes value : List ℕ) → 9 * others + 8 ≤ left → Block (least_of others left) (left - 8 - 9 * others) bytes value → Value others left bytes value
-value_of_block zero left bytes value room is = (is.0, omega (arith, is.2), (omega (arith, is.2), λ none. omega (arith, is.1, is.2)))
-value_of_block (suc others) left bytes value room is = (is.0, omega (arith, is.2), (omega (arith, is.2), λ none. absurd (omega arith)))
-
-block_of_value : (others left : ℕ) (bytes value : List ℕ) → 9 * others + 8 ≤ left → Value others left bytes value → Block (least_of others left) (left - 8 - 9 * others) bytes value
-block_of_value zero left bytes value room is = let most = is.2.1 refl in (is.0, omega (arith, most, is.1, is.2.0), omega (arith, most, is.1, is.2.0))
-block_of_value (suc others) left bytes value room is = (is.0, low_one others left (length value), omega (arith, is.1, is.2.0))
-
--- parts with the same bytes are read alike
-pub reads_as : {A B : Type 0} (seen : B → A) (P Q : List ℕ → A → Type 0) (bytes : List ℕ) (result : Result B Stop) → ((b : List ℕ) (v : A) → P b v → Q b v) → ((b : List ℕ) (v : A) → Q b v → P b v) → Reads seen P bytes result → Reads seen Q bytes result
-reads_as seen P Q bytes (Ok value) to from (front, rest, split, is) = (front, rest, split, to front (seen value) is)
-reads_as seen P Q bytes (Err Open) to from (more, value, some, is) = (more, value, some, to (bytes ++ more) value is)
-reads_as seen P Q bytes (Err Wrong) to from wrong = λ all value more rest is e. wrong all value more rest (from all value is) e
-reads_as seen P Q bytes (Err NoMemory) to from none = tt
-
-pub value_reads : (bytes : List ℕ) (others left : ℕ) (result : Result (Bor (List ℕ)) Stop) → 9 * others + 8 ≤ left → Reads (λ (piece : Bor (List ℕ)). piece.now) (Block (least_of others left) (left - 8 - 9 * others)) bytes result
-    → Reads (λ (piece : Bor (List ℕ)). piece.now) (Value others left) bytes result
-value_reads bytes others left result room reads =
-    reads_as (λ (piece : Bor (List ℕ)). piece.now) (Block (least_of others left) (left - 8 - 9 * others)) (Value others left) bytes result
-    (λ b v. value_of_block others left b v room) (λ b v. block_of_value others left b v room) reads
 
 -- a field whose name isn't there
 pub field_no_name : (bytes : List ℕ) (others left : ℕ) (stop : Stop) → 9 * others + 13 ≤ left → Reads (λ (piece : Bor (List ℕ)). piece.now) (Name 1 (left - 12 - 9 * others)) bytes (Err stop)

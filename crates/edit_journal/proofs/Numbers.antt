@@ -61,10 +61,6 @@ number_whole (a ∷ b ∷ c ∷ d ∷ bytes) least most are long low high =
     let s : d ≡ value % 256 = omega (arith, are 0, are 1, are 2, are 3) in
     (a ∷ b ∷ c ∷ d ∷ [], bytes, refl, ((λ i. p i ∷ q i ∷ r i ∷ s i ∷ []), low, high))
 
--- the number that goes on from the bytes, and is at least the bound
-at_least : ℕ → ℕ → ℕ
-at_least least value = value + (least - value)
-
 pub number_open : (bytes : List ℕ) (least most : ℕ) → AreBytes bytes → length bytes < 4 → least ≤ most → most < 2 ^ 32 → least ≤ worth bytes 255 → worth bytes 0 ≤ most → Reads (λ n. n) (Number least most) bytes (Err Open)
 number_open [] least most are short some fits low high =
     (to_be_bytes w32 least, least, omega arith, (refl, omega arith, some))

@@ -12,7 +12,7 @@ use Rattle.edit_journal.specs.Records.{record_of}
 use Rattle.edit_journal.specs.Journals.{JournalState, Goes, IsFirstOf, AddsSome}
 use Rattle.edit_journal.specs.Logs.{LogState, Fits, KeepsWhole, AddsRecord, log_with}
 use Rattle.edit_journal.specs.Replaying.{MeansTheSame, Redoes, RedoesAll}
-use Rattle.edit_journal.specs.Texts.{text, IsTold, IsDamaged}
+use Rattle.edit_journal.specs.Texts.{text, IsTold}
 use Rattle.edit_journal.specs.inner.Redoing.{Redone, StopsAs, Stops, RedoesHeld, fault_of}
 use Rattle.edit_journal.proofs.Going.{goes_none, goes_on}
 use Rattle.edit_journal.proofs.Keeping.{text-append}
@@ -130,32 +130,6 @@ module _ {S : Type 0} (stands : S → List Request → Type 0) (refuses : S → 
     goes = goes_on j0 j1 j2 p.goes q.goes;
   }
 
-  -- the bytes that are left begin no record
-  pub stops_damaged : (journal : JournalState) (replayer : S) (log : LogState) (count : ℕ) (bytes : List ℕ) (place : ℕ) → IsDamaged bytes → place ≡ log.len
-      → Stops stands refuses journal journal replayer replayer log count bytes (Damaged place)
-  stops_damaged journal replayer log count bytes place damaged is = record {
-    requests = [];
-    rest = bytes;
-    told = All-nil IsTold;
-    split = refl;
-    redone = means_refl replayer;
-    ending = (sym (append-nil journal.held), damaged, omega (arith, is), refl);
-    goes = goes_none journal;
-  }
-
-  -- memory ran out, and all means what it meant
-  pub stops_without_memory : (journal : JournalState) (replayer replayer' : S) (log : LogState) (count : ℕ) (bytes : List ℕ) → MeansTheSame stands refuses replayer replayer'
-      → Stops stands refuses journal journal replayer replayer' log count bytes NoMemory
-  stops_without_memory journal replayer replayer' log count bytes same = record {
-    requests = [];
-    rest = bytes;
-    told = All-nil IsTold;
-    split = refl;
-    redone = same;
-    ending = (([], [], refl, sym (append-nil journal.held)), refl);
-    goes = goes_none journal;
-  }
-
   -- the request at the front is refused
   pub stops_refused : (journal : JournalState) (replayer replayer' : S) (log : LogState) (count number : ℕ) (request : Request) (more : List ℕ) → IsTold request
       → refuses replayer request × MeansTheSame stands refuses replayer replayer' → number ≡ count + 1
@@ -228,11 +202,6 @@ module _ {S : Type 0} (stands : S → List Request → Type 0) (refuses : S → 
     ending = (([], request ∷ [], refl, ap (λ (j : JournalState). j.held) stays ∙ sym (append-nil journal.held)), ap (λ (j : JournalState). j.faults) stays);
     goes = goes;
   }
-
-  -- nothing was done again
-  pub held_first : (journal : JournalState) (replayer : S) (log : LogState) (count : ℕ) (bytes : List ℕ) → log.is_torn ≡ false
-      → RedoesHeld stands refuses journal journal replayer replayer log log count count bytes bytes (Ok tt)
-  held_first journal replayer log count bytes whole = ([], refl, redone_none journal replayer log count whole)
 
   -- some were done again, and then more
   pub held_next : (j0 j1 j2 : JournalState) (s0 s1 s2 : S) (l0 l1 l2 : LogState) (c0 c1 c2 : ℕ) (bytes left more rest : List ℕ)

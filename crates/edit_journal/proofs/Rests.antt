@@ -75,11 +75,6 @@ rest_stops seen seen' bytes front tail count left Wrong some split is wrong = λ
     (second_part (to_be_bytes w16 (length value.0)) ((flat_map field_text value.0 ++ block value.1) ++ behind) front (tail ++ more) (omega arith) joined)
 rest_stops seen seen' bytes front tail count left NoMemory some split is none = tt
 
-pub rest_whole : (bytes front tail front' tail' : List ℕ) (count left : ℕ) (value : List Field × List ℕ) → 6 ≤ left → bytes ≡ front ++ tail
-    → Short (least_count left) (most_count left) front count → tail ≡ front' ++ tail' → FieldsAndBody count (left - 2) front' value → (all rest : List ℕ) × (bytes ≡ all ++ rest) × Rest left all value
-rest_whole bytes front tail front' tail' count left value some split is split' fields =
-    (front ++ front', tail', split ∙ ap (λ l. front ++ l) split' ∙ sym (append_assoc front front' tail'), rest_of left (front ++ front') front front' value count some (omega (arith, is.2)) refl is.0 fields)
-
 -- such a rest is there, where it has room
 rest_with : (left count : ℕ) → 6 ≤ left → count ≤ 64 → HasRoom count (left - 2) → (bytes : List ℕ) × (value : List Field × List ℕ) × Rest left bytes value
 rest_with left count some few room =

@@ -1,5 +1,5 @@
 -- What is said of a content, said of its nodes.
-use Rattle.std.proofs.Common.{◌≡◌, Bor, ℕ, zero, suc, ◌<◌, Bool, true, false, cond, ◌&&◌, List, [], ◌∷◌, ◌++◌, length, get_or, drop, Option, None, Some, is_some, option_map, refl, sym, ap, ◌∙◌, arith, append-nil}
+use Rattle.std.proofs.Common.{◌≡◌, Bor, ℕ, Bool, true, false, cond, ◌&&◌, List, [], ◌∷◌, ◌++◌, Option, None, Some, is_some, option_map, refl, sym, ap, ◌∙◌, append-nil}
 use Rattle.std.proofs.Math.Bool.{and-true}
 use Rattle.std.specs.List.{list_all, slice_get}
 use Rattle.std.specs.Option.{option_copied}
@@ -34,16 +34,6 @@ text_is_value (more [] n ds ats c rest) = refl
 text_is_value (more (x ∷ t) n ds ats c rest) = refl
 text_is_value (note [] x rest) = text_is_value rest ∙ with_nothing (value_in rest)
 text_is_value (note (y ∷ t) x rest) = ap (option_map (λ v. (y ∷ t) ++ v)) (text_is_value rest)
-
--- an element among nodes leaves no text
-pub text_stops : (ns : List Node) (i : ℕ) (d : Node) (e : Tree) → i < length ns → d ≡ get_or ns i d → d ≡ Elem e → text_in (drop i ns) ≡ None
-text_stops [] i d e h is elem = absurd (omega arith)
-text_stops (n ∷ ns) zero d e h is elem = ap (λ x. text_in (x ∷ ns)) (sym is ∙ elem)
-text_stops (n ∷ ns) (suc i) d e h is elem = text_stops ns i d e (omega arith) is elem
-
--- nothing before a value
-pub with_none : (o : Option (List ℕ)) → option_map (λ v. [] ++ v) o ≡ o
-with_none o = sym (with_nothing o)
 
 -- ---- one element with white space beside it
 

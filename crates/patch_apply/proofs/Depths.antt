@@ -105,10 +105,6 @@ pub some_if : (o : Option Tree) (P : Tree → Type 0) → IsSomeAnd o P → IsSo
 some_if None P h = absurd h
 some_if (Some e) P h = refl
 
-pub some_weaker : (o : Option Tree) (P Q : Tree → Type 0) → ((e : Tree) → P e → Q e) → IsSomeAnd o P → IsSomeAnd o Q
-some_weaker None P Q f h = absurd h
-some_weaker (Some e) P Q f h = f e h
-
 pub attrs_low : (p : List ℕ) (f : List Attr → List Attr) (t : Tree) → IsSome (at p t) → height t ≤ 64 → within_depth (change_at p (with_attrs f) t) ≡ true
 attrs_low p f t there low = let s = some_is (at p t) there in attrs_fit p f s.0 t s.1 low
 

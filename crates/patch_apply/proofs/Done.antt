@@ -177,9 +177,6 @@ module _ (f : Attr → Bool) (i : ℕ) (ats : List Attr) (first : position f ats
   parts : (nat_lt (position_or_len f ats) (length ats) ≡ true) × (position_or_len f ats ≡ i)
   parts = cond_some _ (position_or_len f ats) i first
 
-  pub is_within : i < length ats
-  is_within = let less = ltb-true (position_or_len f ats) (length ats) parts.0 in omega (arith, less, parts.1)
-
   pub written_at : (v : List ℕ) → rewritten f v ats ≡ with_value i v ats
   written_at v = written_by f v ats (ltb-true (position_or_len f ats) (length ats) parts.0) ∙ ap (λ (n : ℕ). with_value n v ats) parts.1
 

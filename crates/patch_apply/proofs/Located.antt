@@ -1,5 +1,5 @@
 -- What a selector selects, where the code has it by its number.
-use Rattle.std.proofs.Common.{◌≡◌, ℕ, suc, ◌+◌, ◌<◌, ◌≤◌, Bool, true, false, cond, ◌||◌, not, List, [], ◌∷◌, length, Option, None, Some, is_some, option_map, option_and_then, refl, sym, ap, ◌∙◌, subst, arith}
+use Rattle.std.proofs.Common.{◌≡◌, ℕ, suc, ◌+◌, ◌<◌, ◌≤◌, Bool, true, false, cond, ◌||◌, not, List, [], ◌∷◌, length, Option, None, Some, is_some, option_map, refl, sym, ap, ◌∙◌, subst, arith}
 use Rattle.std.specs.List.{list_any, position, position_or_len}
 use Rattle.std.specs.Prelude.{nat_lt}
 use Rattle.std.proofs.lemmas.Bool.{ltb-false, ltb-true}
@@ -11,12 +11,9 @@ use Rattle.xml_tree.specs.declared.names.Attr.{Attr}
 use Rattle.xml_tree.specs.declared.names.Decl.{Decl}
 use Rattle.xml_tree.specs.declared.tree.Node.{Node}
 use Rattle.xml_tree.proofs.PathLemmas.{with_there}
-use Rattle.node_select.specs.Selection.{selected_in}
-use Rattle.node_select.specs.declared.selector.PatchSelector.{PatchSelector}
 use Rattle.patch_words.specs.Applied as words
-use Rattle.patch_words.specs.Applied.{ended, located, selected_text}
+use Rattle.patch_words.specs.Applied.{selected_text}
 use Rattle.patch_apply.specs.inner.Spotting.{Spots}
-use Rattle.patch_apply.specs.declared.spots.Spot.{Spot}
 use Rattle.patch_apply.specs.declared.spots.Spot.TheVariants.{AtElement, AtAttr, AtText}
 
 -- ---- the first attribute that passes
@@ -44,10 +41,6 @@ is_past false n h = refl
 module _ (t e : Tree) (p : List ℕ) (there : at p t ≡ Some e) where
   pub element_spot : Spots t (Some (words.AtElement p)) (Some (AtElement p))
   element_spot = (ap is_some there, (words.AtElement p, refl, refl))
-
-  -- the scope at it is there
-  pub no_scope : None ≡ option_map (λ (x : Tree). scope_at p t) (at p t) → ⊥
-  no_scope none = let same : None ≡ Some (scope_at p t) = none ∙ ap (option_map (λ (x : Tree). scope_at p t)) there in absurd (cc)
 
   pub scope_is : (c : List (List Decl)) → Some c ≡ option_map (λ (x : Tree). scope_at p t) (at p t) → c ≡ scope_at p t
   scope_is c is = let same : Some c ≡ Some (scope_at p t) = is ∙ ap (option_map (λ (x : Tree). scope_at p t)) there in cc
@@ -78,19 +71,3 @@ module _ (t e : Tree) (p : List ℕ) (there : at p t ≡ Some e) where
     with_there (at p t) (λ x. i < length (nodes_of x.content)) e there (subst (λ (l : List Node). i < length l) same within),
     (words.AtText p i, ap (option_map (words.AtText p)) (sym (is ∙ ap (selected_text position) same)), (refl, refl)),
   )
-
--- ---- a whole selector
-
-module _ (s : PatchSelector) (t : Tree) where
-  pub nothing_selected : None ≡ selected_in s.steps t → located s t ≡ None
-  nothing_selected none = ap (option_and_then (λ p. option_and_then (ended s.end (scope_at p t) p) (at p t))) (sym none)
-
-  pub selected_at : (p : List ℕ) → Some p ≡ selected_in s.steps t → located s t ≡ option_and_then (ended s.end (scope_at p t) p) (at p t)
-  selected_at p is = ap (option_and_then (λ q. option_and_then (ended s.end (scope_at q t) q) (at q t))) (sym is)
-
-  pub selected_nowhere : (p : List ℕ) → Some p ≡ selected_in s.steps t → None ≡ at p t → located s t ≡ None
-  selected_nowhere p is none = selected_at p is ∙ ap (option_and_then (ended s.end (scope_at p t) p)) (sym none)
-
-  pub located_by_end : (p : List ℕ) (e : Tree) (r : Option Spot) → Some p ≡ selected_in s.steps t → Some e ≡ at p t → Spots t (ended s.end (scope_at p t) p e) r → Spots t (located s t) r
-  located_by_end p e r is there h =
-      subst (λ (o : Option words.Spot). Spots t o r) (sym (selected_at p is ∙ ap (option_and_then (ended s.end (scope_at p t) p)) (sym there))) h

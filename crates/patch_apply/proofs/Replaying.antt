@@ -1,11 +1,11 @@
 -- A whole notice, document after document.
-use Rattle.std.proofs.Common.{◌≡◌, ℕ, ◌<◌, Bool, true, false, cond, List, [], ◌∷◌, length, None, Some, Result, Ok, Err, refl, sym, ap, ◌∙◌, subst, arith, is_some, Option, if◌then◌else◌}
+use Rattle.std.proofs.Common.{◌≡◌, ℕ, ◌<◌, Bool, true, cond, List, [], ◌∷◌, length, Some, Result, Ok, Err, refl, sym, ap, ◌∙◌, subst, arith, is_some, Option, if◌then◌else◌}
 use Rattle.xml_tree.specs.declared.read_error.ReadError.{ReadError}
 use Rattle.xml_tree.specs.declared.read_error.ReadError.TheVariants.{Fault, NoMemory}
 use Rattle.xml_tree.specs.Proper.{ProperIn}
 use Rattle.xml_tree.specs.Tree.{Tree}
 use Rattle.patch_words.specs.Replay as replay
-use Rattle.patch_words.specs.Replay.{CopyAnswer, Fetch, CopyHeld, Patched, Removed, Same, WrongDocument, copy_answer, documents, is_all_mine, last_new, then_next}
+use Rattle.patch_words.specs.Replay.{CopyAnswer, CopyHeld, Patched, Removed, WrongDocument, copy_answer, documents, is_all_mine, then_next}
 use Rattle.patch_words.specs.readers.Applied.{reading_in}
 use Rattle.patch_words.specs.readers.Replay.{all_taken, replayed}
 use Rattle.patch_laws.specs.Replayed.{HoldsSound}
@@ -24,18 +24,9 @@ module _ (is_mine : List ℕ → Bool) (notice : Tree) (held : CopyHeld) where
   abbrev taken_all : Result (Option CopyHeld) replay.CopyFault
   taken_all = all_taken 0 (notice.decls ∷ []) (documents notice) held
 
-  pub not_mine : is_all_mine is_mine (documents notice) ≡ false → replayed is_mine notice held ≡ Err WrongDocument
-  not_mine e = ap (λ b. cond b (answer_of taken_all) (Err WrongDocument)) e
-
   module _ (mine : is_all_mine is_mine (documents notice) ≡ true) where
     pub of_mine : replayed is_mine notice held ≡ then_next (all_taken 0 (notice.decls ∷ []) (documents notice) held) (λ end. Ok (copy_answer (documents notice) held end))
     of_mine = ap (λ b. cond b (answer_of taken_all) (Err WrongDocument)) mine
-
-    pub no_documents : documents notice ≡ [] → replayed is_mine notice held ≡ Ok (Same, held)
-    no_documents none = of_mine ∙ ap (λ (ds : List Tree). then_next (all_taken 0 (notice.decls ∷ []) ds held) (λ end. Ok (copy_answer ds held end))) none
-
-    pub untold : all_taken 0 (notice.decls ∷ []) (documents notice) held ≡ Ok None → replayed is_mine notice held ≡ Ok (Fetch (last_new [] (documents notice)), held)
-    untold e = of_mine ∙ ap answer_of e
 
     pub done_with : (new : CopyHeld) → 0 < length (documents notice) → all_taken 0 (notice.decls ∷ []) (documents notice) held ≡ Ok (Some new) → replayed is_mine notice held ≡ Ok (if is_some new then Patched else Removed, new)
     done_with new some e = of_mine ∙ ap answer_of e ∙ ap Ok (answer_is (documents notice) some)

@@ -1,15 +1,12 @@
 -- Parents of elements, and places among their nodes.
-use Rattle.std.proofs.Common.{◌≡◌, ℕ, zero, suc, ◌<◌, true, false, List, [], ◌∷◌, ◌++◌, length, Option, None, Some, IsSome, option_map, option_and_then, unwrap_or, refl, sym, ap, ◌∙◌, subst, arith}
-use Rattle.std.specs.List.{slice_get}
-use Rattle.std.specs.Prelude.{is_some}
+use Rattle.std.proofs.Common.{◌≡◌, ℕ, ◌<◌, List, [], ◌∷◌, ◌++◌, length, Option, None, Some, IsSome, option_map, option_and_then, unwrap_or, refl, sym, ap, ◌∙◌, subst}
 use Rattle.xml_tree.specs.Edits.{parent_path}
-use Rattle.xml_tree.specs.Nodes.{nodes_of, place, text_of}
+use Rattle.xml_tree.specs.Nodes.{nodes_of, place}
 use Rattle.xml_tree.specs.Scopes.{scope_around, scope_at}
 use Rattle.xml_tree.specs.Tree.{Content, Tree, at, kids, kids_of}
-use Rattle.xml_tree.specs.declared.tree.Node.{Node}
 use Rattle.xml_tree.proofs.PathLemmas.{at-snoc, final-snoc, front-snoc, from_there, kid_there}
 use Rattle.xml_tree.proofs.Places.{content_of-nodes_of, place_there}
-use Rattle.patch_words.specs.Applied.{is_white, is_space_at, nodes_at, own_place, space_before}
+use Rattle.patch_words.specs.Applied.{nodes_at, own_place}
 
 some_before : {A : Type 0} (f : Tree → Option A) (o : Option Tree) → IsSome (option_and_then f o) → IsSome o
 some_before f None h = h
@@ -50,23 +47,3 @@ place_within path parent k t e is h there =
     let below = subst IsSome (ap (λ q. at q t) is ∙ at-snoc parent k t) h in
     let inside = from_there (at parent t) (λ x. k < length (kids_of x)) e (kid_there (at parent t) k below) there in
     place_there k (nodes_of e.content) (subst (λ (x : Content). k < length (kids x)) (sym (content_of-nodes_of e.content)) inside)
-
--- ---- white space beside a place
-
-there_by_blank : (i : ℕ) (ns : List Node) (o : Option Node) → o ≡ slice_get ns i → unwrap_or (option_map is_white (option_and_then text_of o)) false ≡ true → IsSome (slice_get ns i)
-there_by_blank i ns None is h = absurd (cc)
-there_by_blank i ns (Some n) is h = ap is_some (sym is)
-
-within_by : {A : Type 0} (i : ℕ) (xs : List A) → IsSome (slice_get xs i) → i < length xs
-within_by i [] h = cc
-within_by zero (x ∷ xs) h = omega arith
-within_by (suc i) (x ∷ xs) h = omega (arith, within_by i xs h)
-
--- a number at which there is white space is that of a node
-pub space_within : (i : ℕ) (ns : List Node) → is_space_at i ns ≡ true → i < length ns
-space_within i ns h = within_by i ns (there_by_blank i ns (slice_get ns i) refl h)
-
--- white space before a node: there is a node before it
-pub before_within : (i : ℕ) (ns : List Node) → space_before i ns ≡ true → 0 < i
-before_within zero ns h = absurd (cc)
-before_within (suc i) ns h = omega arith

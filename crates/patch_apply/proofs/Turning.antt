@@ -1,7 +1,5 @@
 -- Operations and documents, one after another.
-use Rattle.std.proofs.Common.{◌≡◌, Bor, ℕ, zero, suc, ◌+◌, ◌<◌, min, true, false, cond, List, [], ◌∷◌, length, map, get_or, drop, Option, None, Some, Result, Ok, Err, refl, sym, ap, ◌∙◌, subst, add-one, arith}
-use Rattle.std.specs.Str.{bytes_eq}
-use Rattle.std.specs.Option.{option_map_or}
+use Rattle.std.proofs.Common.{◌≡◌, Bor, ℕ, zero, suc, ◌+◌, ◌<◌, min, List, [], ◌∷◌, length, map, get_or, drop, Option, Result, Ok, Err, refl, sym, ap, ◌∙◌, subst, add-one, arith}
 use Rattle.xml_tree.specs.Memory.{Answered}
 use Rattle.xml_tree.specs.declared.read_error.ReadError.{ReadError}
 use Rattle.xml_tree.specs.declared.read_error.ReadError.TheVariants as errors
@@ -10,8 +8,8 @@ use Rattle.xml_tree.specs.Tree.{Tree}
 use Rattle.xml_tree.specs.declared.names.Decl.{Decl}
 use Rattle.patch_words.specs.Applied.{Wrong}
 use Rattle.patch_words.specs.readers.Applied.{applied}
-use Rattle.patch_words.specs.Replay.{AtOperation, CopyFault, CopyHeld, Missing, Now, Turn, WrongTag, held_tag, numbered, operation_count, says_same, then_next, unless_missing}
-use Rattle.patch_words.specs.readers.Replay.{all_applied, all_taken, by_tags, changed, renewed_copy, document_taken}
+use Rattle.patch_words.specs.Replay.{AtOperation, CopyFault, CopyHeld, Now, Turn, numbered, operation_count, then_next, unless_missing}
+use Rattle.patch_words.specs.readers.Replay.{all_applied, all_taken, document_taken}
 use Rattle.patch_apply.specs.inner.Giving.{AreGiven}
 use Rattle.patch_apply.specs.Views.{fault_told}
 use Rattle.patch_apply.specs.inner.Seen.{fault_at, wrong_in}
@@ -25,39 +23,11 @@ module _ (n : ℕ) (c : List (List Decl)) (o : Tree) (os : List Tree) (t : Tree)
   pub applied_next : (made : Tree) → applied c o t ≡ Ok made → all_applied n c (o ∷ os) t ≡ all_applied (suc n) c os made
   applied_next made e = ap (λ r. then_next (numbered n r) (all_applied (suc n) c os)) e
 
-  pub applied_fault : (w : Wrong) → applied c o t ≡ Err w → all_applied n c (o ∷ os) t ≡ Err (AtOperation (suc n) w)
-  applied_fault w e = ap (λ r. then_next (numbered n r) (all_applied (suc n) c os)) e
-
--- ---- a document
-
-module _ (n : ℕ) (c : List (List Decl)) (tag : List ℕ) (h : List ℕ × Tree) where
-  pub changed_untold : (os : List Tree) → os ≡ [] → changed n c os tag (Some h) ≡ Ok Missing
-  changed_untold [] e = refl
-  changed_untold (o ∷ os) e = absurd (cc)
-
-  pub unchanged_tree : (os : List Tree) → says_same c os ≡ true → changed n c os tag (Some h) ≡ Ok (Now (Some (tag, h.1)))
-  unchanged_tree [] e = absurd (cc)
-  unchanged_tree (o ∷ os) e = ap (λ b. cond b (Ok (Now (Some (tag, h.1)))) (then_next (all_applied n c (o ∷ os) h.1) (λ t. Ok (Now (Some (tag, t)))))) e
-
-  pub changed_tree : (os : List Tree) → 0 < length os → says_same c os ≡ false → changed n c os tag (Some h) ≡ then_next (all_applied n c os h.1) (λ t. Ok (Now (Some (tag, t))))
-  changed_tree [] some e = absurd (omega arith)
-  changed_tree (o ∷ os) some e = ap (λ b. cond b (Ok (Now (Some (tag, h.1)))) (then_next (all_applied n c (o ∷ os) h.1) (λ t. Ok (Now (Some (tag, t)))))) e
-
-module _ (n : ℕ) (c : List (List Decl)) (os : List Tree) (previous : List ℕ) (new : Option (List ℕ)) (held : CopyHeld) where
-  pub other_tag : option_map_or (bytes_eq previous) (held_tag held) false ≡ false → by_tags n c os (Some previous) new held ≡ Err (WrongTag (held_tag held) previous)
-  other_tag e = ap (λ b. cond b (renewed_copy n c os new held) (Err (WrongTag (held_tag held) previous))) e
-
-  pub same_tag : option_map_or (bytes_eq previous) (held_tag held) false ≡ true → by_tags n c os (Some previous) new held ≡ renewed_copy n c os new held
-  same_tag e = ap (λ b. cond b (renewed_copy n c os new held) (Err (WrongTag (held_tag held) previous))) e
-
 -- ---- documents
 
 module _ (n : ℕ) (c : List (List Decl)) (d : Tree) (ds : List Tree) (held : CopyHeld) where
   pub taken_next : (now : CopyHeld) → document_taken n c d held ≡ Ok (Now now) → all_taken n c (d ∷ ds) held ≡ all_taken (n + operation_count c d) c ds now
   taken_next now e = ap (λ r. then_next r (λ turn. unless_missing turn (all_taken (n + operation_count c d) c ds))) e
-
-  pub taken_missing : document_taken n c d held ≡ Ok Missing → all_taken n c (d ∷ ds) held ≡ Ok None
-  taken_missing e = ap (λ r. then_next r (λ turn. unless_missing turn (all_taken (n + operation_count c d) c ds))) e
 
   pub taken_fault : (f : CopyFault) → document_taken n c d held ≡ Err f → all_taken n c (d ∷ ds) held ≡ Err f
   taken_fault f e = ap (λ r. then_next r (λ turn. unless_missing turn (all_taken (n + operation_count c d) c ds))) e
@@ -77,11 +47,6 @@ pub one_item : (xs : List (Bor Tree)) (x : Bor Tree) → 0 < length xs → lengt
 one_item [] x some one is = absurd (omega arith)
 one_item (y ∷ []) x some one is = ap (λ (z : Bor Tree). z.now ∷ []) (sym is)
 one_item (y ∷ z ∷ xs) x some one is = absurd (omega arith)
-
--- no item, and some
-pub no_item : (xs : List (Bor Tree)) → length xs ≡ 0 → map (λ y. y.now) xs ≡ []
-no_item [] none = refl
-no_item (y ∷ xs) none = absurd (omega arith)
 
 pub some_item : (xs : List (Bor Tree)) → 0 < length xs → 0 < length (map (λ y. y.now) xs)
 some_item [] some = absurd (omega arith)

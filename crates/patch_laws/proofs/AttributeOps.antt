@@ -1,10 +1,10 @@
 -- The operations of changes of attributes make what the changes make.
-use Rattle.std.proofs.Common.{◌≡◌, ◌≢◌, ℕ, ◌≤◌, Bool, true, false, List, [], ◌∷◌, ◌++◌, Option, Some, None, IsSome, is_some, is_none, option_and_then, option_map, Ok, refl, sym, ap, ◌∙◌}
+use Rattle.std.proofs.Common.{◌≡◌, ◌≢◌, ℕ, ◌≤◌, Bool, true, false, List, [], ◌∷◌, ◌++◌, Option, Some, None, IsSome, is_some, option_map, Ok, refl, sym, ap, ◌∙◌}
 use Rattle.std.specs.Prelude.{unwrap_or}
 use Rattle.std.specs.List.{AllByRecursion, find, list_any}
 use Rattle.xml_tree.specs.Print.{print_name}
 use Rattle.xml_tree.specs.Attributes.{remove_first, is_written_so as is_named}
-use Rattle.xml_tree.specs.Edits.{attr_at, drop_attr, write_attr}
+use Rattle.xml_tree.specs.Edits.{drop_attr, write_attr}
 use Rattle.xml_tree.specs.Expanded.{attr_name, same_expanded}
 use Rattle.xml_tree.specs.Proper.{IsNamed}
 use Rattle.xml_tree.specs.Scopes.{bindings_in, bound, scope_at, xmlns_prefix}
@@ -49,17 +49,6 @@ none_same c n (a ∷ ats) s h = by (same_expanded (attr_name c a.name) (attr_nam
         → list_any (λ a. same_expanded (attr_name c a.name) (attr_name c n)) (a ∷ ats) ≡ false
     by true e rest = absurd (let z : true ≡ false = sym (s.0 e) ∙ h.0 in cc)
     by false e rest = rw e rest
-
-found_at : (p : List ℕ) (n : Name) (t k : Tree) → at p t ≡ Some k → attr_at p n t ≡ find (is_named n) k.attrs
-found_at p n t k there = ap (option_and_then (λ (e : Tree). find (is_named n) e.attrs)) there
-
-none_of : {A : Type 0} (o : Option A) → is_none o ≡ true → o ≡ None
-none_of None h = refl
-none_of (Some x) h = cc
-
-some_of : {A : Type 0} (o : Option A) → is_none o ≡ false → IsSome o
-some_of None h = cc
-some_of (Some x) h = refl
 
 module _ (d uri : List ℕ) (ne : d ≢ []) (t : Tree) (p : List ℕ) (n : Name) (k : Tree) (there : at p t ≡ Some k) (small : ArePositions p) (name : NameAt (scope_at p t) n k.attrs) where
   abbrev place : List (List Decl)

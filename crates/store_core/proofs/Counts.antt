@@ -1,12 +1,12 @@
 -- What the notes of a ring count against the limit of their weights.
-use Rattle.std.proofs.Common.{◌≡◌, ℕ, ◌+◌, ◌<◌, ◌≤◌, nat_lt, true, false, cond, [], ◌∷◌, ◌++◌, length, drop, slice_get, Option, None, Some, refl, arith}
+use Rattle.std.proofs.Common.{◌≡◌, ℕ, ◌+◌, ◌<◌, ◌≤◌, nat_lt, true, false, cond, [], ◌∷◌, ◌++◌, length, slice_get, Option, None, Some, refl, arith}
 use Rattle.std.proofs.lemmas.Bool.Decides.{nat_tests}
 use Rattle.circular_buffer.specs.Buffer.{Buffer, buffer, keep_last}
 use Rattle.notes.specs.Notes.{Note}
 use Rattle.notes.specs.Operations.{weight}
 use Rattle.store_core.specs.State.{is_small, retained}
 use Rattle.store_core.specs.inner.Rings.{IsRing, counted, counted_in}
-use Rattle.store_core.proofs.Rings.{counts-all, counts-less, light-stays, sum-bound, sum-popped, sum-pushed, sum_in, too-heavy}
+use Rattle.store_core.proofs.Rings.{counts-all, counts-less, light-stays, sum-bound, sum-pushed, sum_in, too-heavy}
 
 pub over : (n : ℕ) → nat_lt 65536 n ≡ true → 65536 < n
 over n h = grind (arith, nat_tests)
@@ -31,16 +31,6 @@ small-count ring count r few =
 in-one : (o : Option Note) → sum_in counted o ≡ counted_in o
 in-one None = refl
 in-one (Some n) = refl
-
--- without the oldest note
-pub popped-ring : (ring : Buffer Note) (count after : ℕ) → IsRing ring count → after + counted_in (slice_get ring.items 0) ≡ count → IsRing (buffer (drop 1 ring.items) ring.capacity) after
-popped-ring ring count after r e = record {
-  room = r.room;
-  sum = omega (arith, sum-popped counted ring.items, in-one (slice_get ring.items 0), r.sum, e);
-}
-
-pub first-within : (ring : Buffer Note) (count : ℕ) → IsRing ring count → counted_in (slice_get ring.items 0) ≤ count
-first-within ring count r = omega (arith, sum-popped counted ring.items, in-one (slice_get ring.items 0), r.sum)
 
 module _ (ring : Buffer Note) (count : ℕ) (note : Note) (r : IsRing ring count) (few : length ring.items ≤ ring.capacity) where
   abbrev pub out : Option Note

@@ -11,7 +11,7 @@ use Rattle.doc_names.specs.Usages.{usage_of}
 use Rattle.doc_names.specs.declared.doc_id.DocId.{DocId}
 use Rattle.edit_ops.specs.Changes.{Fits, edited}
 use Rattle.edit_ops.specs.declared.change.Change.{Change}
-use Rattle.edit_ops.specs.declared.change.Change.TheVariants.{CreateDocument, Insert, Replace, Remove, SetAttr, DropAttr, RemoveDocument}
+use Rattle.edit_ops.specs.declared.change.Change.TheVariants.{CreateDocument, RemoveDocument}
 use Rattle.notes.specs.Notes.{Note, note_of}
 use Rattle.store_core.specs.declared.refusal.StoreRefusal.{StoreRefusal}
 use Rattle.store_core.specs.declared.entry.Entry.{Entry}
@@ -188,16 +188,6 @@ edit-planned c doc change v number len total leaves enters p asks edits held fre
         ap (λ (t : Tree). total + document_len t) (sym tree) ∙ sum,
       );
     }))
-
--- a change that neither makes nor removes a document edits one
-pub edits-one : (change : Change) → ((root : Tree) → change ≡ CreateDocument root → ⊥) → (change ≡ RemoveDocument → ⊥) → act_of change ≡ Edits
-edits-one (CreateDocument root) a b = absurd (a root refl)
-edits-one (Insert parent gap element) a b = refl
-edits-one (Replace p element) a b = refl
-edits-one (Remove p) a b = refl
-edits-one (SetAttr p name value) a b = refl
-edits-one (DropAttr p name) a b = refl
-edits-one RemoveDocument a b = absurd (b refl)
 
 -- ---- a document that is taken away
 

@@ -1,5 +1,5 @@
 -- What is retained of notes, as a ring gives up its oldest ones.
-use Rattle.std.proofs.Common.{◌≡◌, ℕ, ◌+◌, ◌-◌, ◌*◌, ◌<◌, ◌≤◌, ◌&&◌, ◌⊎◌, nat_le, nat_lt, min, Bool, true, false, cond, List, [], ◌∷◌, ◌++◌, length, drop, slice_get, sum_by, Option, None, Some, refl, sym, ap, ◌∙◌, ⊎_elim, arith, length-append}
+use Rattle.std.proofs.Common.{◌≡◌, ℕ, ◌+◌, ◌-◌, ◌*◌, ◌<◌, ◌≤◌, ◌&&◌, nat_le, nat_lt, min, Bool, true, false, cond, List, [], ◌∷◌, ◌++◌, length, drop, slice_get, sum_by, Option, None, Some, refl, sym, ap, arith, length-append}
 use Rattle.std.proofs.lemmas.Bool.Decides.{nat_tests}
 use Rattle.std.proofs.lemmas.List.Sums.{sum_by-append}
 use Rattle.circular_buffer.specs.Buffer.{keep_last}
@@ -7,16 +7,6 @@ use Rattle.store_core.specs.State.{is_small, small_end}
 use Rattle.store_core.proofs.Accepted.{sum-first}
 
 module _ {A : Type 0} (weight : A → ℕ) where
-  long : (n w : ℕ) → 64 < n → (nat_le n 64 && nat_le w 65536) ≡ false
-  long n w h = grind (arith, nat_tests)
-
-  -- the first of more than `MOST_NOTES` items isn't retained
-  first-goes : (x y : A) (xs : List A) → 64 < length (x ∷ y ∷ xs) → small_end weight (x ∷ y ∷ xs) ≡ small_end weight (y ∷ xs)
-  first-goes x y xs h = ap (λ b. cond b (x ∷ y ∷ xs) (small_end weight (y ∷ xs))) (long (length (x ∷ y ∷ xs)) (sum_by weight (x ∷ y ∷ xs)) h)
-
-  pub heavy-goes : (x y : A) (xs : List A) → is_small weight (x ∷ y ∷ xs) ≡ false → small_end weight (x ∷ y ∷ xs) ≡ small_end weight (y ∷ xs)
-  heavy-goes x y xs h = ap (λ b. cond b (x ∷ y ∷ xs) (small_end weight (y ∷ xs))) h
-
   pub one-stays : (xs : List A) → length xs ≤ 1 → small_end weight xs ≡ xs
   one-stays [] h = refl
   one-stays (x ∷ []) h = refl
@@ -38,34 +28,6 @@ module _ {A : Type 0} (weight : A → ℕ) where
     where
       by : (n w : ℕ) → w ≤ 65536 → n ≤ 64 → (nat_le n 64 && nat_le w 65536) ≡ true
       by n w light few = grind (arith, nat_tests)
-
-  -- the oldest of too heavy notes goes
-  pub popped : (xs : List A) → 1 < length xs → is_small weight xs ≡ false → small_end weight (drop 1 xs) ≡ small_end weight xs
-  popped [] h e = absurd (omega arith)
-  popped (x ∷ []) h e = absurd (omega arith)
-  popped (x ∷ y ∷ xs) h e = sym (heavy-goes x y xs e)
-
-  -- a note more in a ring that held at most `MOST_NOTES`
-  all-kept : (xs : List A) (n : A) (k : ℕ) → k ≡ 0 → small_end weight (drop k (xs ++ n ∷ [])) ≡ small_end weight (xs ++ n ∷ [])
-  all-kept xs n k e = ap (λ (i : ℕ). small_end weight (drop i (xs ++ n ∷ []))) e
-
-  first-gone : (xs : List A) (n : A) (k : ℕ) → k ≡ 1 → length xs ≡ 64 → small_end weight (drop k (xs ++ n ∷ [])) ≡ small_end weight (xs ++ n ∷ [])
-  first-gone [] n k e h = absurd (omega arith)
-  first-gone (x ∷ []) n k e h = absurd (omega arith)
-  first-gone (x ∷ y ∷ xs) n k e h =
-      let long : 64 < length (x ∷ y ∷ (xs ++ n ∷ [])) = omega (arith, h, length-append xs (n ∷ [])) in
-      ap (λ (i : ℕ). small_end weight (drop i (x ∷ y ∷ (xs ++ n ∷ [])))) e ∙ sym (first-goes x y (xs ++ n ∷ []) long)
-
-  pub pushed : (cap : ℕ) (xs : List A) (n : A) → cap ≡ 64 → length xs ≤ cap → small_end weight (keep_last cap (xs ++ n ∷ [])) ≡ small_end weight (xs ++ n ∷ [])
-  pushed cap xs n e h =
-      let len = length-append xs (n ∷ []) in
-      ⊎_elim
-      (λ (g : length xs < 64). all-kept xs n (length (xs ++ n ∷ []) - cap) (omega (arith, len, g, e)))
-      (λ (g : length xs ≡ 64). first-gone xs n (length (xs ++ n ∷ []) - cap) (omega (arith, len, g, e)) g)
-      (few-or-full (length xs) (omega (arith, h, e)))
-    where
-      few-or-full : (m : ℕ) → m ≤ 64 → (m < 64) ⊎ (m ≡ 64)
-      few-or-full m h = grind arith
 
 -- ---- what the notes of a ring count together
 

@@ -322,13 +322,6 @@ first-storing es rs first last none empty h e =
       lens = tt;
     }))
 
-pub same-content : (es ds : List Row) (last : ℕ) (room : Room) (s : Stored) → ds ≡ es → (let x : Stored = record { content = content_in es last; room = room } in x) ≡ s → content_in ds last ≡ s.content
-same-content es ds last room s e seen = ap (λ (x : List Row). content_in x last) e ∙ ap (λ (x : Stored). x.content) seen
-
-pub same-storing : (es ds : List Row) (rs us : List (List ℕ × ℕ)) (last total : ℕ) → ds ≡ es → us ≡ rs → IsStoring es rs last total → IsStoring ds us last total
-same-storing es ds rs us last total e g s =
-    subst (λ (x : List Row). IsStoring x us last total) (sym e) (subst (λ (x : List (List ℕ × ℕ)). IsStoring es x last total) (sym g) s)
-
 -- ---- what a look-up finds
 
 pub low-entry : (es : List Row) (rs : List (List ℕ × ℕ)) (last total : ℕ) (doc : DocId) (v : Entry) → IsStoring es rs last total → lookup (same_id doc) es ≡ Some v → height v.tree.root ≤ 64
@@ -380,6 +373,3 @@ steppable es rs last total p End s planned step has = tt
 
 pub absent-entry : (es : List Row) (rs : List (List ℕ × ℕ)) (last total : ℕ) (doc : DocId) → IsStoring es rs last total → document_in held_name (map held_in es) doc ≡ None → lookup (same_id doc) es ≡ None
 absent-entry es rs last total doc s missing = not-there es rs last total doc (lookup (same_id doc) es) s refl missing
-
-pub present-entry : (es : List Row) (doc : DocId) (h : Held) → document_in held_name (map held_in es) doc ≡ Some h → (v : Entry) × (lookup (same_id doc) es ≡ Some v)
-present-entry es doc h there = found-entry es doc h (lookup (same_id doc) es) refl there

@@ -11,11 +11,7 @@ use Rattle.xml_tree.specs.declared.names.Name.{Name}
 use Rattle.xml_tree.specs.PathTexts.{path_text, steps_text}
 use Rattle.watchers.specs.Lines.{place_bytes}
 
--- a name without a prefix
-pub bare_name : (n : Name) → n.prefix ≡ [] → print_name n ≡ n.local
-bare_name n none = ap (λ (p : List ℕ). if bytes_eq p [] then n.local else (p ++ 58 ∷ n.local)) none
-
--- a name with one
+-- a name with a prefix
 prefixed_name : (n : Name) → n.prefix ≢ [] → encode_utf8_all (print_name n) ≡ encode_utf8_all n.prefix ++ 58 ∷ encode_utf8_all n.local
 prefixed_name n some =
     ⊎_elim

@@ -41,13 +41,6 @@ module _ {B : Type 0} (told_list : B → Option (List Edit)) (faults : B → ℕ
   abbrev Leaves : B → B → Type 0
   Leaves = HasLeft told_list faults never_refuses answers written edit
 
-  pub none_told : (old : List B) → SoFar old old 0 0
-  none_told old = record {
-    within = omega arith;
-    count = omega arith;
-    goes_on = λ new k h. let e : k ≡ 0 + k = omega arith in subst (Tells old new) e h;
-  }
-
   pub one_kept : (old now : List B) (i left : ℕ) (d b : B) → i < length now → d ≡ get_or now i d → Keeps d b → SoFar old now i left → SoFar old (set now i b) (i + 1) left
   one_kept old now i left d b lt is_at kept so_far = record {
     within = grind (arith, common_steps);
