@@ -1,5 +1,5 @@
 -- A machine with its log and its journal, as one machine.
-use Rattle.std.proofs.Common.{◌≡◌, ℕ, suc, ◌+◌, ◌≤◌, Result, Ok, Err, Option, IfOk, OnErr, ap, arith}
+use Rattle.std.proofs.Common.{◌≡◌, ℕ, suc, ◌+◌, Result, Ok, Err, Option, IfOk, OnErr, ap, arith}
 use Rattle.reply_text.specs.Heads.{Sent}
 use Rattle.http_wire.specs.declared.request.Request.{Request}
 use Rattle.edit_journal.specs.Journals.{Goes}
@@ -9,10 +9,6 @@ use Rattle.http_serve.specs.declared.machine.Answered.{Answered}
 use Rattle.logged_serve.specs.Logging.{Answers, stays, entered, not_entered}
 use Rattle.logged_serve.specs.Ports.{HasRoom}
 use Rattle.logged_serve.specs.inner.Wrapped.{Wrapped, WrappedStep}
-
--- room for one record
-pub room_for_one : (log : LogState) → HasRoom log 1 → log.len ≤ 18_446_744_073_709_251_611
-room_for_one log h = omega (arith, h)
 
 same_len : (log log' : LogState) (n : ℕ) → log'.len ≡ log.len → HasRoom log (suc n) → HasRoom log' n
 same_len log log' n is h = omega (arith, is, h)

@@ -2,13 +2,6 @@
 use Rattle.std.proofs.Common.{◌≡◌, ℕ, suc, ◌+◌, ◌-◌, ◌<◌, List, [], ◌∷◌, ◌++◌, sym, ap, ◌∙◌, arith, append_assoc}
 use Rattle.sample_runs.specs.Requests.{connection_bytes, connections_from, numbered_request, requests_from}
 
--- none is left
-pub no_request : (first left : ℕ) → left ≡ 0 → requests_from first left ≡ []
-no_request first left none = ap (λ (n : ℕ). requests_from first n) none
-
-pub no_connection : (requests number left : ℕ) → left ≡ 0 → connections_from requests number left ≡ []
-no_connection requests number left none = ap (λ (n : ℕ). connections_from requests number n) none
-
 -- the next one is made
 pub next_request : (bytes : List ℕ) (first made count : ℕ) → made < count
     → (bytes ++ numbered_request (first + made)) ++ requests_from (first + (made + 1)) (count - (made + 1)) ≡ bytes ++ requests_from (first + made) (count - made)

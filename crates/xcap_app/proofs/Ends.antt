@@ -1,5 +1,5 @@
 -- How a command ends, by what it did.
-use Rattle.std.proofs.Common.{◌≡◌, ℕ, ◌≤◌, List, [], Option, None, Some, Result, Ok, Err, encode_utf8_all, length, IfOk, ◌⊎◌, inl, inr, refl, sym, subst, arith, ⊎_elim}
+use Rattle.std.proofs.Common.{◌≡◌, ℕ, List, [], Option, None, Some, Result, Ok, Err, encode_utf8_all, IfOk, ◌⊎◌, inl, inr, refl, sym, subst, arith, ⊎_elim}
 use Rattle.xcap_io.proofs.Passing.{gave_none}
 use Rattle.std.specs.Result.{result_unwrap_or}
 use Rattle.tree_text.specs.Faults.{TextAnswer}
@@ -7,7 +7,6 @@ use Rattle.xml_tree.specs.Memory.{Answered}
 use Rattle.xml_tree.specs.declared.read_error.ReadError.{ReadError}
 use Rattle.xml_tree.specs.declared.read_error.ReadError.TheVariants as errors
 use Rattle.tree_text.specs.declared.fault.TextFault.{TextFault}
-use Rattle.tree_text.specs.declared.fault.TextFault.TheVariants as faults
 use Rattle.doc_names.specs.declared.usages.Usage.{Usage as TheUsage}
 use Rattle.usage_docs.specs.declared.judging.Fault.{Fault}
 use Rattle.notes.specs.declared.edit.Edit.{Edit}
@@ -17,7 +16,6 @@ use Rattle.xcap_io.specs.Passing.{Took}
 use Rattle.http_wire.specs.declared.request.Request.{Request}
 use Rattle.store_core.specs.State.{State}
 use Rattle.xcap_io.proofs.Lines.{reads_none}
-use Rattle.stream_texts.specs.Inputs.{GaveText}
 use Rattle.std.specs.Prelude.{encode_utf8_all}
 use Rattle.xcap_client.specs.Asks.{getting, removing}
 use Rattle.client_commands.specs.Endings.{MakesOneCall}
@@ -35,7 +33,7 @@ use Rattle.xcap_app.specs.Keeping.{KeepsCommand, KeepsOn, exit_of_restart, keeps
 use Rattle.xcap_app.specs.Runs.{Runs}
 use Rattle.xcap_app.specs.Samples.{RunsSample}
 use Rattle.xcap_app.specs.Telling.{IsToldAs}
-use Rattle.xcap_app.specs.Verdicts.{AnswerVerdict, TextVerdict, exit_of_judgement, refusal_of_text}
+use Rattle.xcap_app.specs.Verdicts.{AnswerVerdict, TextVerdict, refusal_of_text}
 use Rattle.xcap_app.specs.declared.command.Command.{Command}
 use Rattle.xcap_app.specs.declared.command.Command.TheVariants.{Replay, Serve, Keep, Check, Sample, Fetch, Put, Delete, Follow}
 use Rattle.xcap_app.specs.declared.exit.Exit.{Exit}
@@ -58,64 +56,6 @@ pub tree_judged : {E : Type 0} → (usage : TheUsage) (text : List ℕ) (t : Tre
     → IfOk r (λ e. AnswerVerdict usage (Ok t) e) → exit ≡ result_unwrap_or r OutOfMemory → TextVerdict usage text exit ⊎ (exit ≡ OutOfMemory)
 tree_judged usage text t (Ok e) exit read verdict is = inl (record { answer = Ok t; by_grammar = read; verdict = subst (AnswerVerdict usage (Ok t)) (sym is) verdict })
 tree_judged usage text t (Err e) exit read verdict is = inr is
-
--- how a command may end whose text was judged
-abbrev IsVerdict : Exit → Type 0
-IsVerdict Done = Unit {0}
-IsVerdict Usage = ⊥
-IsVerdict InputFailed = ⊥
-IsVerdict OutputFailed = ⊥
-IsVerdict NetworkFailed = ⊥
-IsVerdict (Client fault) = ⊥
-IsVerdict (Refused TooLarge) = ⊥
-IsVerdict (Refused NotUtf8) = Unit {0}
-IsVerdict (Refused (NotWellFormed place)) = Unit {0}
-IsVerdict (Refused (Faulty fault)) = Unit {0}
-IsVerdict (BadJournal refusal) = ⊥
-IsVerdict OutOfMemory = Unit {0}
-
-refused_verdict : (fault : TextFault) → IsVerdict (Refused (refusal_of_text fault))
-refused_verdict faults.NotUtf8 = tt
-refused_verdict (faults.NotWellFormed place) = tt
-refused_verdict (faults.Namespace place) = tt
-refused_verdict (faults.RepeatedAttribute place) = tt
-refused_verdict (faults.TooDeep place) = tt
-refused_verdict (faults.Doctype place) = tt
-
-judged_verdict : (fault : Option Fault) → IsVerdict (exit_of_judgement fault)
-judged_verdict None = tt
-judged_verdict (Some fault) = tt
-
-answer_verdict : (usage : TheUsage) (answer : Result Tree TextFault) (exit : Exit) → AnswerVerdict usage answer exit → IsVerdict exit
-answer_verdict usage (Ok t) exit v = subst IsVerdict (sym v.2) (judged_verdict v.0)
-answer_verdict usage (Err fault) exit v = subst IsVerdict (sym v) (refused_verdict fault)
-
-is_verdict : (usage : TheUsage) (text : List ℕ) (exit : Exit) → TextVerdict usage text exit ⊎ (exit ≡ OutOfMemory) → IsVerdict exit
-is_verdict usage text exit judged = ⊎_elim (λ v. answer_verdict usage v.answer exit v.verdict) (λ (e : exit ≡ OutOfMemory). subst IsVerdict (sym e) tt) judged
-
--- where memory wasn't wanted
-surely : (usage : TheUsage) (text : List ℕ) (exit : Exit) → (exit ≡ OutOfMemory → ⊥) → TextVerdict usage text exit ⊎ (exit ≡ OutOfMemory) → TextVerdict usage text exit
-surely usage text exit sure judged = ⊎_elim (λ v. v) (λ e. absurd (sure e)) judged
-
--- the input gave a text, which was judged
-examined : (usage : TheUsage) (text : List ℕ) (exit : Exit) (input input' : LineState) → GaveText 262144 text input input' → TextVerdict usage text exit ⊎ (exit ≡ OutOfMemory) → IsVerdict exit
-    → Examines usage exit input input'
-examined usage text Done input input' g j v = (text, g, surely usage text Done (λ e. cc) j)
-examined usage text Usage input input' g j v = v
-examined usage text InputFailed input input' g j v = absurd v
-examined usage text OutputFailed input input' g j v = v
-examined usage text NetworkFailed input input' g j v = v
-examined usage text (Client fault) input input' g j v = absurd v
-examined usage text (Refused TooLarge) input input' g j v = absurd v
-examined usage text (Refused NotUtf8) input input' g j v = (text, g, surely usage text (Refused NotUtf8) (λ e. cc) j)
-examined usage text (Refused (NotWellFormed place)) input input' g j v = (text, g, surely usage text (Refused (NotWellFormed place)) (λ e. cc) j)
-examined usage text (Refused (Faulty fault)) input input' g j v = (text, g, surely usage text (Refused (Faulty fault)) (λ e. cc) j)
-examined usage text (BadJournal refusal) input input' g j v = v
-examined usage text OutOfMemory input input' g j v = (text, g.gave, let fits : length text ≤ 262144 = g.fits in omega arith)
-
-pub examined_text : (usage : TheUsage) (text : List ℕ) (exit : Exit) (input input' : LineState) → GaveText 262144 text input input' → TextVerdict usage text exit ⊎ (exit ≡ OutOfMemory)
-    → Examines usage exit input input'
-examined_text usage text exit input input' g j = examined usage text exit input input' g j (is_verdict usage text exit j)
 
 -- ---- commands of the client
 

@@ -79,10 +79,6 @@ all_written a b h h' (Err e) xs before after p = subst (λ l. TookProperPrefix a
 pub record Owes (E : Type 0) (old : LineState) (held all : List ℕ) (mid : LineState) (held' rest : List ℕ) : Type 0 where
   pub pays : (new : LineState) (held'' : List ℕ) (result : Result (Unit {0}) E) → Adds mid held' new held'' result rest → Adds old held new held'' result all
 
--- at first all is owed
-pub owes_all : {E : Type 0} (a : LineState) (h all : List ℕ) → Owes E a h all a h all
-owes_all a h all = record { pays = λ new held result adds. adds }
-
 -- one more piece was added
 pub owes_less : {E : Type 0} (a : LineState) (h all : List ℕ) (b : LineState) (h' : List ℕ) (c : LineState) (h'' xs rest rest' : List ℕ)
     → Owes E a h all b h' rest → Adds {E = E} b h' c h'' (Ok tt) xs → rest ≡ xs ++ rest' → Owes E a h all c h'' rest'

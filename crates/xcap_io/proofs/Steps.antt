@@ -1,25 +1,16 @@
 -- How one call after another adds to what a line has given or taken.
-use Rattle.std.proofs.Common.{◌≡◌, ℕ, ◌+◌, ◌-◌, ◌<◌, ◌≤◌, ◌==◌, true, min, List, [], ◌++◌, length, take, drop, Result, Ok, Err, sym, ap, ◌∙◌, subst, arith, length-drop, length-append, take-append-drop}
+use Rattle.std.proofs.Common.{◌≡◌, ℕ, ◌+◌, ◌-◌, ◌<◌, ◌≤◌, ◌==◌, true, min, List, [], ◌++◌, length, take, drop, sym, ap, ◌∙◌, subst, arith, length-drop, length-append, take-append-drop}
 use Rattle.std.proofs.lemmas.Bool.Decides.{nat_tests}
 use Rattle.std.proofs.lemmas.List.{length-take-le, take_at, take-append-le, drop-drop, drop_all}
 use Rattle.xcap_io.specs.Passing.{Took}
 use Rattle.xcap_io.proofs.Passing.{took_on}
-use Rattle.std.proofs.Math.Seq.{take-add, take-append-add}
-use Rattle.xcap_io.specs.Streams.{WritesAll, TookProperPrefix}
+use Rattle.std.proofs.Math.Seq.{take-add}
+use Rattle.xcap_io.specs.Streams.{TookProperPrefix}
 
 -- the next m of the bytes, after the first n of them
 pub appends_next : (a b c : List ℕ) (n m : ℕ) (bytes : List ℕ) → Took a b (take n bytes) → Took b c (take m (drop n bytes)) → Took a c (take (n + m) bytes)
 appends_next a b c n m bytes first next =
     subst (Took a c) (sym (take-add n m bytes)) (took_on a b c (take n bytes) (take m (drop n bytes)) first next)
-
--- one `write_all` after another
-pub writes_both : {E : Type 0} (a b c : List ℕ) (first next : List ℕ) (result : Result (Unit {0}) E) → Took a b first → WritesAll b c result next → WritesAll a c result (first ++ next)
-writes_both a b c first next (Ok x) done more = took_on a b c first next done more
-writes_both a b c first next (Err e) done more = (
-  length first + more.0,
-  omega (arith, length-append first next, more.1),
-  subst (Took a c) (sym (take-append-add first next more.0)) (took_on a b c first (take more.0 next) done more.2),
-)
 
 -- a write that stopped within the first bytes stopped before the next ones too
 pub stopped_first : (a b : List ℕ) (first next : List ℕ) → TookProperPrefix a b first → TookProperPrefix a b (first ++ next)

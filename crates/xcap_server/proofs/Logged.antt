@@ -248,10 +248,6 @@ module _ (s now s' : ServerState) (is : s ≡ now) (rooted : IsRooted s) (log lo
   same_root_after a (entered made told step can adds) = step.same_root ∙ ap (λ (x : ServerState). x.root) is
   same_root_after a (not_entered none accepts reply same can adds) = ap (λ (x : ServerState). x.root) (same ∙ is)
 
-  pub root_logged : {E : Type 0} (r : Result (Answered Edit) E) → IfOk r IsAnswered → OnErr r (s' ≡ s) → s'.root ≡ now.root
-  root_logged (Err e) h same = ap (λ (x : ServerState). x.root) (same ∙ is)
-  root_logged (Ok a) h same = same_root_after a h
-
   -- want of memory leaves the journal's state, too
   pub states_too : {E J : Type 0} (P Q : Type 0) (state : J → JournalState) (j j' : J) (r : Result (Answered Edit) E) → OnErr r (P × Q × (j' ≡ j)) → OnErr r (P × Q × (state j' ≡ state j))
   states_too P Q state j j' (Ok a) h = tt
