@@ -1,4 +1,4 @@
-//! Node selectors: their text, what they select in a tree, and the positional selector of a place.
+//! Node selectors: their text, and what they select in a tree.
 //! Promises upward that reading answers exactly the selectors and where a text is none, and that `select` is the relation of selection.
 //! The standard is RFC 4825, section 6.3; the selectors of patches are those of RFC 5261, section 4.1, as far as they are taken.
 #![tactic(auto)]
