@@ -1,5 +1,5 @@
--- How selectors are read from left to right: what the code and the proofs speak of. No clause of a public call needs it: what reading answers
--- is what the grammar says of the text (`IsSelectorAnswer`, `IsPatchSelectorAnswer`).
+-- How selectors are read from left to right: what the code and the proofs speak of. What reading a text answers is what
+-- the grammar says of it (`IsSelectorAnswer`, `IsPatchSelectorAnswer`): of public clauses only those of laws lead here.
 pub mod Made
 pub mod Members
 pub mod Raw

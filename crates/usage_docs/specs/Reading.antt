@@ -1,4 +1,5 @@
--- Words of private functions, of functions that look at the neighbours of a change alone, and of proofs: how a document is gone through.
+-- How a document is gone through: words of private functions and proofs, and in public clauses of `services`, of the calls that look at the
+-- neighbours of a change alone (`part_of`, `follows`, `clash_below`), and of laws.
 pub mod Findings
 pub mod Gaps
 pub mod Lengths

@@ -1,5 +1,5 @@
--- Queries read from left to right: what the code and the proofs speak of. No clause of a public call needs it: the bindings that are found
--- are those of the rules (`queries_have_one_reading`).
+-- Queries read from left to right: what the code and the proofs speak of. The bindings that are found are those of the
+-- rules, which is a law (`queries_have_one_reading`).
 use Rattle.std.specs.Prelude.{ℕ, zero, suc, ◌+◌, ◌-◌, Bool, ◌&&◌, ◌||◌, ◌==◌, List, [], ◌∷◌, codes, length, Option, None, Some, Result, Ok, Err, if◌then◌else◌}
 use Rattle.std.specs.Str.{bytes_eq}
 use Rattle.grammar_rules.specs.Reading.{front_of, after_front, head_is}
