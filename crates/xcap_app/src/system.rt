@@ -19,9 +19,11 @@ use xcap_io::{Line, StdSink, StdSource, TcpPeer, TcpPort};
 
 /// Runs the command that the words spell, as `run` does, over sockets and streams over which nothing has passed yet. Where it
 /// answers 0, what passed over them is what the command says: of `serve`, the bytes that were taken on each socket are the replies
-/// to what was given on it; of `replay`, the same of the input and the output; of `check`, the bytes that were given are a valid
-/// document; of a command of the client, one connection was begun for each of its calls, and what was written is what the responses
-/// given there say. The watchers were told exactly the changes that were made, in order.
+/// to what was given on it; of `replay`, the same of the input and the output; of `keep`, the same as of `serve`, from what the
+/// records that were given come to on, and the output took the records of all requests that were accepted; of `check`, the bytes that
+/// were given are a valid document; of `sample`, the output took its summary; of a command of the client, one connection was begun for
+/// each of its calls, and what was written is what the responses given there say. The watchers were told exactly the changes that were
+/// made, in order.
 pub fn run_on_system<N: Net + Clock + Drop, I: Read, O: Write, E: Write, W: Watchers<Edit>>(
     alloc: Global,
     words: &[String],
