@@ -7,7 +7,8 @@ use notes::EditNote;
 use std::marker::Model;
 use xml_tree::{List, Text};
 
-/// A change of a document that has all its memory. It borrows nothing, and where it is dropped nothing has changed.
+/// A change of a document that has all its memory. It borrows nothing, and where it is dropped the store holds what it held; but a
+/// tree that was shared may then be the document's own.
 /// Contracts see the document, the note of the change and what the store does with them.
 #[derive(Drop)]
 pub struct Prepared {
