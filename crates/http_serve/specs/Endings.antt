@@ -1,4 +1,4 @@
--- What it says of the counts of faults how a connection ended. This is the project's own.
+-- What the ending of a connection says of the counts of faults. This is the project's own.
 use Rattle.std.specs.Prelude.{◌≡◌, ℕ, Option, None, Some}
 use Rattle.xcap_io.specs.Causes.{LineState, Rose}
 use Rattle.http_wire.specs.declared.ended.Ended.{Ended}
