@@ -27,7 +27,7 @@ fn value_width(byte: u8) -> usize
     }
 }
 
-/// Whether each byte of a text is written as itself. Takes no memory.
+/// Where it answers true, each byte of the text is written as itself. Takes no memory.
 #[inline(always)]
 #[tactic(auto, using(crate::proofs::Escapes::plain_more))]
 pub fn is_plain_text(text: &[u8]) -> bool
@@ -41,7 +41,7 @@ pub fn is_plain_text(text: &[u8]) -> bool
     true
 }
 
-/// Whether each byte of a value in quotes is written as itself. Takes no memory.
+/// Where it answers true, each byte of the value is written as itself in quotes. Takes no memory.
 #[inline(always)]
 #[tactic(auto, using(crate::proofs::Escapes::plain_more))]
 pub fn is_plain_value(value: &[u8]) -> bool
