@@ -16,7 +16,6 @@ use Rattle.xcap_io.specs.Passing.{Took}
 use Rattle.http_wire.specs.declared.request.Request.{Request}
 use Rattle.store_core.specs.State.{State}
 use Rattle.xcap_io.proofs.Lines.{reads_none}
-use Rattle.std.specs.Prelude.{encode_utf8_all}
 use Rattle.xcap_client.specs.Asks.{getting, removing}
 use Rattle.client_commands.specs.Endings.{MakesOneCall}
 use Rattle.client_commands.specs.Follows.{Follows}
