@@ -1,5 +1,5 @@
 //! Where an element stood before changes.
-ghost use Rattle.std.specs.Prelude.{◌≡◌, ◌↔◌, ◌≤◌, ◌+◌, ◌-◌, ◌||◌, ℕ, List, [], All, Some, None, is_some, length, map, not, option_and_then, if◌then◌else◌};
+ghost use Rattle.std.specs.Prelude.{◌≡◌, ◌↔◌, ◌≤◌, ◌+◌, ◌-◌, ◌||◌, ℕ, List, [], All, Some, None, is_some, length, not, option_and_then, if◌then◌else◌};
 ghost use Rattle.std.specs.Str.{bytes_eq};
 ghost use Rattle.store_core.specs.Limits.{most_notes};
 ghost use Rattle.edit_ops.specs.Moves.{behind, made_room, under};

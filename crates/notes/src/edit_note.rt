@@ -1,5 +1,5 @@
 //! The note of a change.
-ghost use Rattle.std.specs.Prelude.{◌≡◌, [], IfErr, IfOk, min};
+ghost use Rattle.std.specs.Prelude.{◌≡◌, IfErr, IfOk, min};
 ghost use Rattle.xml_tree.specs.Tree.{Tree};
 ghost use Rattle.edit_ops.specs.Changes.{Fits};
 ghost use Rattle.edit_ops.specs.Lengths.{element_len};

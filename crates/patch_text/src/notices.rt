@@ -1,5 +1,5 @@
 //! Notices of documents (RFC 5874, section 3).
-ghost use Rattle.std.specs.Prelude.{◌≡◌, [], ◌∷◌, IfOk, OnOk, chars, false, encode_utf8_all, map};
+ghost use Rattle.std.specs.Prelude.{◌≡◌, [], ◌∷◌, IfOk, OnOk, chars, false, encode_utf8_all};
 ghost use Rattle.doc_names.specs.Ids.{id_text};
 ghost use Rattle.tree_text.specs.Printing.{document_print};
 ghost use Rattle.notes.specs.Notes.{tag_after};

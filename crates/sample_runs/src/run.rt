@@ -1,5 +1,5 @@
 //! A sample, run on a server in memory.
-ghost use Rattle.std.specs.Prelude.{◌≡◌, ◌*◌, length, IfOk};
+ghost use Rattle.std.specs.Prelude.{◌*◌, length, IfOk};
 ghost use Rattle.http_wire.specs.Limits.{most_requests};
 ghost use Rattle.sample_runs.specs.Noting.{Noted};
 ghost use Rattle.sample_runs.specs.Samples.{Samples};
