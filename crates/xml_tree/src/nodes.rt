@@ -60,6 +60,7 @@ pub(crate) fn kid_in(nodes: &mut Vec<Node>, child: usize) -> &mut Element
 }
 
 // Adds an element at the end.
+#[inline(always)]
 #[tactic(auto, using(crate::proofs::Places::places))]
 pub(crate) fn push_elem_node(nodes: &mut Vec<Node>, element: Element) -> Result<(), AllocError>
     ensures normal_nodes_stay_normal { AreNormal nodes.old.items → AreNormal nodes.new.items }
@@ -94,6 +95,7 @@ pub(crate) fn ends_in_text(nodes: &[Node]) -> bool
 }
 
 // Adds a text at the end, as push_text does, and copies it only where it joins another.
+#[inline(always)]
 #[tactic(auto, using(crate::proofs::Places::texts))]
 pub(crate) fn push_own_text(nodes: &mut Vec<Node>, text: Text) -> Result<(), AllocError>
     ensures normal_nodes_stay_normal { AreNormal nodes.old.items → AreNormal nodes.new.items }

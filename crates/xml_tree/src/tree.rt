@@ -60,6 +60,7 @@ impl Element {
     ghost use Rattle.xml_tree.specs.Edits.{with_comment, with_elem, with_text};
 
     /// An element with this name and nothing else. Takes no memory; what is added later takes it from `alloc`.
+    #[inline(always)]
     pub fn new(alloc: Global, name: Name) -> Element
         ensures has_the_name_alone { result ≡ tree_of name [] [] (last []) }
     {
@@ -99,6 +100,7 @@ impl Element {
     ///
     /// # Errors
     /// `NoMemory` for want of memory.
+    #[inline(always)]
     pub fn push_elem(&mut self, element: Element) -> Result<(), AllocError>
         ensures adds_the_element { OnOk result (self.new ≡ record self.old { content = with_elem element self.old.content }) }
         ensures failure_changes_nothing { OnErr result (self.new ≡ self.old) }
@@ -122,6 +124,7 @@ impl Element {
     ///
     /// # Errors
     /// `NoMemory` for want of memory.
+    #[inline(always)]
     pub fn push_text(&mut self, text: Text) -> Result<(), AllocError>
         ensures adds_the_text { OnOk result (self.new ≡ record self.old { content = with_text text self.old.content }) }
         ensures failure_changes_nothing { OnErr result (self.new ≡ self.old) }

@@ -57,6 +57,7 @@ impl<const N: usize> Word<N> {
     ///
     /// # Errors
     /// `NoMemory` for want of memory.
+    #[inline(always)]
     pub fn from_front(alloc: Global, text: &str, bytes: &[u8]) -> Result<Word<N>, AllocError>
         requires few { N ≤ 64 }
         requires front { text.now ≡ take (length text.now) bytes.now }
