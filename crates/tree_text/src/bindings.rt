@@ -54,6 +54,7 @@ impl Bindings {
     }
 
     /// Goes out of the innermost element, and answers its declarations.
+    #[inline(always)]
     pub fn leave(&mut self) -> Vec<Decl>
         requires kept { AreKept self.old }
         requires some { 0 < length self.old.open.items }

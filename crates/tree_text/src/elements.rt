@@ -33,6 +33,7 @@ use std::alloc::{AllocError, Global};
 use xml_tree::{Attr, Decl, Element, Name, Text};
 
 /// Stops at the first wrong name of a tag, which this follows, inside its element.
+#[inline(always)]
 fn judged<'a>(
     alloc: Global,
     text: &'a str,
@@ -136,12 +137,21 @@ fn push_run<'a>(alloc: Global, text: &'a str, element: &mut Element) -> Result<&
 }
 
 /// Adds declarations to an element. Most have none.
+#[inline(always)]
 fn push_decls(element: &mut Element, decls: Vec<Decl>) -> Result<(), AllocError>
     ensures adds_the_declarations { OnOk result (element.new ≡ record element.old { decls = element.old.decls ++ decls.items }) }
 {
     if decls.is_empty() {
         return Ok(());
     }
+    push_each_decl(element, decls)
+}
+
+/// The same, one by one.
+#[inline(never)]
+fn push_each_decl(element: &mut Element, decls: Vec<Decl>) -> Result<(), AllocError>
+    ensures adds_each_declaration { OnOk result (element.new ≡ record element.old { decls = element.old.decls ++ decls.items }) }
+{
     for decl in decls {
         element.push_decl(decl)?;
     }
@@ -165,6 +175,7 @@ fn push_said(element: &mut Element, said: Said) -> Result<(), AllocError>
 }
 
 /// Adds the attributes among what a tag says to an element, and keeps nothing of it.
+#[inline(never)]
 fn push_all_said(element: &mut Element, said: &mut Vec<Said>) -> Result<(), AllocError>
     ensures adds_the_attributes { OnOk result (element.new ≡ record element.old { attrs = element.old.attrs ++ attrs_of said.old.items }) }
 {
@@ -175,6 +186,7 @@ fn push_all_said(element: &mut Element, said: &mut Vec<Said>) -> Result<(), Allo
 }
 
 /// The same, with room for so many. Most tags say nothing.
+#[inline(always)]
 fn push_attrs(element: &mut Element, said: &mut Vec<Said>, room: usize) -> Result<(), AllocError>
     ensures adds_the_attributes { OnOk result (element.new ≡ record element.old { attrs = element.old.attrs ++ attrs_of said.old.items }) }
 {

@@ -58,13 +58,10 @@ fn is_xmlns_uri(text: &Text) -> bool
 pub fn declares(name: &Name) -> bool
     ensures tells_whether_it_declares { result ≡ is_declaring name.now }
 {
-    if is_xmlns(name.prefix.as_str()) {
-        return true;
+    if is_nothing(&name.prefix) {
+        return is_xmlns(name.local.as_str());
     }
-    if !is_nothing(&name.prefix) {
-        return false;
-    }
-    is_xmlns(name.local.as_str())
+    is_xmlns(name.prefix.as_str())
 }
 
 /// The prefix that a declaration declares.
@@ -109,9 +106,21 @@ fn push_decl(alloc: Global, decls: &mut Vec<Decl>, said: &Said) -> Result<(), Al
     push_declared(alloc, decls, said)
 }
 
-/// The declarations among these, in order.
+/// The declarations among these, in order. Many tags say nothing.
+#[inline(always)]
 pub fn decls_of(alloc: Global, all: &[Said]) -> Result<Vec<Decl>, AllocError>
     ensures declarations_among_them { IfOk result (λ decls. decls.items ≡ decls_of all.now) }
+{
+    if all.is_empty() {
+        return Ok(Vec::new(alloc));
+    }
+    some_decls(alloc, all)
+}
+
+/// The same, one by one.
+#[inline(never)]
+fn some_decls(alloc: Global, all: &[Said]) -> Result<Vec<Decl>, AllocError>
+    ensures declarations_among_some { IfOk result (λ decls. decls.items ≡ decls_of all.now) }
 {
     let mut decls = Vec::new(alloc);
     for said in all {
@@ -148,6 +157,7 @@ fn may_stand(prefix: &str, uri: &Text) -> bool
 }
 
 /// Whether a name has a prefix that isn't bound.
+#[inline(always)]
 pub fn is_unbound(here: &Bindings, name: &Name) -> bool
     requires kept { AreKept here.now }
     ensures tells_whether_it_is_unbound { result ≡ is_unbound_in (lists here.now) name.now }
@@ -159,6 +169,7 @@ pub fn is_unbound(here: &Bindings, name: &Name) -> bool
 }
 
 /// Whether a declaration may not stand, or an attribute has an unbound prefix.
+#[inline(always)]
 fn is_misnamed(here: &Bindings, said: &Said) -> bool
     requires kept { AreKept here.now }
     ensures tells_whether_it_is_misnamed { result ≡ is_misnamed (lists here.now) said.now }
@@ -204,6 +215,7 @@ fn wrong_said<'a>(
 
 /// What is wrong with the only one of a tag of this name, which nothing stands before, and how many characters of the tag stand before
 /// its name.
+#[inline(always)]
 fn only_wrong(here: &Bindings, only: &Said, name: &Written<'_>) -> Option<(Kind, usize)>
     requires kept { AreKept here.now }
     requires fits { 2 + length (chars name.now.prefix.now) + length (chars name.now.local.now) + widths (only.now ∷ []) < 2 ^ 64 }
@@ -239,6 +251,7 @@ fn first_of_several<'a>(
 }
 
 /// The first of these in a tag of this name that is wrong, and how many characters of the tag stand before its name.
+#[inline(always)]
 pub fn first_wrong<'a>(
     alloc: Global,
     here: &Bindings,
@@ -258,6 +271,7 @@ pub fn first_wrong<'a>(
 
 /// The first wrong name of a tag of this name that says this, in the scope inside it, and how many characters of the tag stand
 /// before it.
+#[inline(always)]
 pub fn first_of_tag<'a>(
     alloc: Global,
     here: &Bindings,

@@ -126,9 +126,21 @@ impl Namespaces {
         Ok(())
     }
 
-    /// Takes the nearest declarations away.
+    /// Takes the nearest declarations away. Most elements have none.
+    #[inline(always)]
     pub fn forget_all(&mut self, decls: &[Decl])
         ensures made_of_those_before { (ds : List Decl) → AreOf self.old (ds ++ decls.now) → AreOf self.new ds }
+    {
+        if decls.is_empty() {
+            return;
+        }
+        self.forget_each(decls);
+    }
+
+    /// The same, one by one.
+    #[inline(never)]
+    fn forget_each(&mut self, decls: &[Decl])
+        ensures takes_each_away { (ds : List Decl) → AreOf self.old (ds ++ decls.now) → AreOf self.new ds }
     {
         for decl in decls.iter().rev() {
             self.forget(decl);

@@ -2,7 +2,7 @@ use Rattle.std.proofs.Common.{List, [], ◌∷◌, ◌++◌, sym, ap, ◌∙◌,
 use Rattle.std.proofs.lemmas.List.{nil_from_length}
 use Rattle.xml_tree.specs.declared.names.Decl.{Decl}
 use Rattle.tree_text.specs.readers.Bindings.{AreOf}
-use Rattle.tree_text.proofs.namespaces.Namespaces.forget_all.Goals as goal
+use Rattle.tree_text.proofs.namespaces.Namespaces.forget_each.Goals as goal
 
 pub loop-decl-preserved : goal.loop-decl-preserved
 loop-decl-preserved c =
@@ -17,4 +17,4 @@ loop-decl-preserved c =
     }
 
 pub returns : goal.returns
-returns c = record { made_of_those_before = λ ds are. subst (AreOf c.loop-decl.self) (ap (λ (l : List Decl). ds ++ l) (nil_from_length c.loop-decl.decl-iterator.iter.rest.now c.in-None.ensures.steps.0) ∙ append-nil ds) (c.loop-decl.invariant.left ds are) }
+returns c = record { takes_each_away = λ ds are. subst (AreOf c.loop-decl.self) (ap (λ (l : List Decl). ds ++ l) (nil_from_length c.loop-decl.decl-iterator.iter.rest.now c.in-None.ensures.steps.0) ∙ append-nil ds) (c.loop-decl.invariant.left ds are) }

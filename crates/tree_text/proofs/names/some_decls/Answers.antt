@@ -4,7 +4,7 @@ use Rattle.xml_tree.specs.declared.names.Decl.{Decl}
 use Rattle.tree_text.specs.declared.said.Said.{Said}
 use Rattle.tree_text.specs.Names.{decls_of}
 use Rattle.tree_text.proofs.JudgeLemmas.{decls-append}
-use Rattle.tree_text.proofs.names.decls_of.Goals as goal
+use Rattle.tree_text.proofs.names.some_decls.Goals as goal
 
 pub loop-said-preserved : goal.loop-said-preserved
 loop-said-preserved c =

@@ -1,7 +1,7 @@
 use Rattle.std.proofs.Common.{List, ◌++◌}
 use Rattle.xml_tree.specs.declared.names.Decl.{Decl}
 use Rattle.tree_text.specs.readers.Bindings.{AreOf}
-use Rattle.tree_text.proofs.namespaces.Namespaces.forget_all.Given as goal
+use Rattle.tree_text.proofs.namespaces.Namespaces.forget_each.Given as goal
 
 abbrev pub invariant-loop-decl : goal.invariant-loop-decl
 invariant-loop-decl l =
