@@ -9,6 +9,7 @@ pub mod GatheringLemmas
 pub mod HeightLaws
 pub mod IndexLemmas
 pub mod KidLemmas
+pub mod LastElems
 pub mod Letters
 pub mod PathLemmas
 pub mod PathLetters

@@ -75,6 +75,12 @@ ends_in_text [] = false
 ends_in_text (x ∷ []) = is_text x
 ends_in_text (x ∷ y ∷ ns) = ends_in_text (y ∷ ns)
 
+-- the element that is the last node, where it is one
+abbrev pub last_elem : List Node → Option Tree
+last_elem [] = None
+last_elem (x ∷ []) = elem_of x
+last_elem (x ∷ y ∷ ns) = last_elem (y ∷ ns)
+
 -- ---- places among nodes
 
 -- the place of the n-th element, or the number of nodes where there are fewer elements

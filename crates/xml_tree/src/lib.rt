@@ -44,7 +44,7 @@ pub use laws::{
 pub use limits::MAX_LEVELS;
 pub use list::List;
 pub use names::{Attr, Decl, LocalName, Name, Prefix, copy_decls};
-pub use nodes::{place_of, place_of_gap};
+pub use nodes::{last_elem, place_of, place_of_gap};
 pub use path::{PATH_LIMIT, Path, element_at};
 pub use path_texts::print_path;
 pub use printed::{

@@ -5,8 +5,8 @@ ghost use Rattle.std.specs.Borrow.{sem};
 ghost use Rattle.std.specs.Option.{option_copied};
 ghost use Rattle.xml_tree.specs.Tree.{kids};
 ghost use Rattle.xml_tree.specs.Edits.{TextsMeet, cut, put, with_comment, with_elem, with_text};
-ghost use Rattle.xml_tree.specs.Nodes.{AreNormal, content_of, ends_in_text, gap_place, joined_beside, place, removed_joined, text_at};
-ghost use Rattle.xml_tree.specs.inner.Lending.{LendsKid};
+ghost use Rattle.xml_tree.specs.Nodes.{AreNormal, content_of, ends_in_text, gap_place, joined_beside, last_elem, place, removed_joined, text_at};
+ghost use Rattle.xml_tree.specs.inner.Lending.{LendsKid, LendsLast};
 ghost use Rattle.xml_tree.specs.Rooms.{HasRoom};
 
 use crate::text::Text;
@@ -56,6 +56,17 @@ pub(crate) fn kid_in(nodes: &mut Vec<Node>, child: usize) -> &mut Element
     ensures lends_the_element { slice_get (kids (content_of nodes.old.items)) child ≡ Some result.now }
 {
     let at = place_of(nodes, child);
+    nodes[at].elem_mut()
+}
+
+/// The element that is the last node, for writing. Takes no memory.
+#[inline(always)]
+pub fn last_elem(nodes: &mut Vec<Node>) -> &mut Element
+    requires { IsSome (last_elem nodes.old.items) }
+    ensures* writes_back { sem 𝓛 (LendsLast nodes.entry result) }
+    ensures lends_the_element { last_elem nodes.old.items ≡ Some result.now }
+{
+    let at = nodes.len() - 1;
     nodes[at].elem_mut()
 }
 

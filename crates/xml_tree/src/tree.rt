@@ -9,6 +9,7 @@ use crate::path::Path;
 use crate::text::Text;
 use std::alloc::{AllocError, Global};
 use std::marker::Model;
+use std::mem;
 
 /// A node of an element.
 #[cycle(tree)]
@@ -201,6 +202,34 @@ impl Element {
         ensures child_of_that_number { option_copied result ≡ slice_get (kids_of self.now) child }
     {
         kid_of(&self.nodes, child)
+    }
+}
+
+/// Its nodes, out of it and in it. These calls take no memory.
+impl Element {
+    ghost use Rattle.xml_tree.specs.Tree.{last};
+    ghost use Rattle.xml_tree.specs.Nodes.{content_of, AreNormal};
+
+    /// The nodes, taken out of the element, which then has none.
+    #[inline(always)]
+    pub fn take_nodes(&mut self) -> Vec<Node>
+        ensures content_of_the_nodes { content_of result.items ≡ self.old.content }
+        ensures nodes_are_normal { AreNormal result.items }
+        ensures leaves_none { self.new ≡ record self.old { content = last [] } }
+    {
+        let none = Vec::new(*self.nodes.allocator());
+        mem::replace(&mut self.nodes, none)
+    }
+
+    /// Puts nodes into an element that has none.
+    #[inline(always)]
+    pub fn put_nodes(&mut self, nodes: Vec<Node>)
+        requires empty { self.old.content ≡ last [] }
+        requires normal { AreNormal nodes.items }
+        ensures puts_them_in { self.new ≡ record self.old { content = content_of nodes.items } }
+    {
+        let none = mem::replace(&mut self.nodes, nodes);
+        none.destroy_empty();
     }
 }
 

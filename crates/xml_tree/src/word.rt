@@ -63,15 +63,32 @@ impl<const N: usize> Word<N> {
         requires front { text.now ≡ take (length text.now) bytes.now }
         ensures copies_the_text { IfOk result (λ made. made ≡ chars text.now) }
     {
-        if text.len() > N {
+        if !Word::<N>::fits_front(text, bytes) {
             return Word::from(alloc, text);
         }
-        if bytes.len() < N {
-            return Word::from(alloc, text);
-        }
-        Ok(Word {
+        Ok(Word::of_front(text, bytes))
+    }
+
+    /// Whether `of_front` can copy a text in front of these bytes: it has at most `N`, and they are `N` or more.
+    #[inline(always)]
+    pub fn fits_front(text: &str, bytes: &[u8]) -> bool
+        ensures tells_whether_it_fits { IsTrue result ↔ (length text.now ≤ N) × (N ≤ length bytes.now) }
+    {
+        text.len() <= N && N <= bytes.len()
+    }
+
+    /// A copy of a text of at most `N` bytes that stands in front of these, which are `N` or more: it costs the same whatever its length.
+    /// Takes no memory.
+    #[inline(always)]
+    pub fn of_front(text: &str, bytes: &[u8]) -> Word<N>
+        requires few { N ≤ 64 }
+        requires fits { (length text.now ≤ N) × (N ≤ length bytes.now) }
+        requires front { text.now ≡ take (length text.now) bytes.now }
+        ensures copies_the_text { result ≡ chars text.now }
+    {
+        Word {
             bytes: WordBytes::Short(ShortText::of_front(text, bytes)),
-        })
+        }
     }
 
     /// The text, lent. Takes no memory.

@@ -1,5 +1,5 @@
 -- What a list of nodes ends as, where a part of it was lent for writing.
-use Rattle.std.specs.Prelude.{ℕ, Vec}
+use Rattle.std.specs.Prelude.{ℕ, ◌-◌, length, Vec}
 use Rattle.std.specs.Borrow.{Lends, MutBor, Fml, RattleType}
 use Rattle.std.specs.Vec.{with_item}
 use Rattle.std.specs.declared.alloc.Global.{Global}
@@ -27,3 +27,7 @@ nodes_with_kid ns i w = with_item ns (place i ns.items) (Elem w)
 -- the nodes end with their i-th element exchanged for its last value
 abbrev pub LendsKid : MutBor (Vec Node Global) → ℕ → MutBor Tree → Fml
 LendsKid s i r = Lends nodes_row element.the_row s r (nodes_with_kid s.now i)
+
+-- the nodes end with the last exchanged for the element's last value
+abbrev pub LendsLast : MutBor (Vec Node Global) → MutBor Tree → Fml
+LendsLast s r = Lends nodes_row element.the_row s r (λ w. with_item s.now (length s.now.items - 1) (Elem w))
