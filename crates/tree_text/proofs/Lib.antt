@@ -2,6 +2,7 @@ pub mod RunLemmas
 pub mod TextBytes
 pub mod AheadLemmas
 pub mod SpaceLemmas
+pub mod ChildLemmas
 pub mod ClassLemmas
 pub mod FirstRuns
 pub mod WordLoops

@@ -26,7 +26,7 @@ written_is : (p l : List ℕ) → print_name (record { prefix = p; local = l }) 
 written_is [] l = refl
 written_is (c ∷ cs) l = refl
 
-end_read : (n : Name) (rest : List ℕ) → Reads (read_end_tag n) (60 ∷ 47 ∷ (written n ++ 62 ∷ rest)) tt rest
+pub end_read : (n : Name) (rest : List ℕ) → Reads (read_end_tag n) (60 ∷ 47 ∷ (written n ++ 62 ∷ rest)) tt rest
 end_read n rest = reads_behind (reads_word end_start (written n ++ 62 ∷ rest)) (reads_behind (reads_word (written n) (62 ∷ rest)) (reads_behind (reads_none is_space (62 ∷ rest) refl) (reads_word greater rest)))
 
 closing_is : (n : Name) (rest : List ℕ) → closing n ++ rest ≡ 60 ∷ 47 ∷ (written n ++ 62 ∷ rest)

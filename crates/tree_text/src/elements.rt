@@ -1,7 +1,7 @@
 //! Elements: their tags, their content, and the elements in it, no deeper than a limit.
 ghost use Rattle.std.specs.Prelude.{◌≡◌, ◌==◌, ◌||◌, ◌+◌, ◌≤◌, ◌<◌, ◌++◌, true, [], ◌∷◌, chars, IfOk, OnOk, Ok, Err};
 ghost use Rattle.grammar_rules.specs.Reading.{Reader, head_is, judgement};
-ghost use Rattle.xml_tree.specs.Edits.{with_elem, with_text};
+ghost use Rattle.xml_tree.specs.Edits.{with_text};
 ghost use Rattle.xml_tree.specs.Tree.{Tree, last, tree_of};
 ghost use Rattle.tree_text.specs.declared.kind.Kind.{Kind};
 ghost use Rattle.tree_text.specs.readers.Bindings.{AreBack, AreKept, lists};
@@ -14,6 +14,7 @@ ghost use Rattle.tree_text.specs.readers.Texts.{markup_follows, other_follows, r
 ghost use Rattle.tree_text.specs.readers.Views.{name_in, tag_in};
 
 use crate::ahead::{are_next, is_either_next, is_next};
+use crate::bare::push_bare;
 use crate::bindings::Bindings;
 use crate::classes::{Class, run};
 use crate::kind::Kind;
@@ -28,9 +29,9 @@ use crate::stop::Stop;
 use crate::tags::{Tag, whole_tag};
 use crate::texts::text_of;
 use crate::values::reference;
-use crate::written::end_tag;
+use crate::written::{end_tag, owned};
 use std::alloc::{AllocError, Global};
-use xml_tree::{Attr, Decl, Element, Name, Text};
+use xml_tree::{Attr, Decl, Element, Name, Text, last_elem};
 
 /// Stops at the first wrong name of a tag, which this follows, inside its element.
 #[inline(always)]
@@ -72,15 +73,6 @@ fn push_plain(element: &mut Element, plain: Text, rest: &str) -> Result<(), Allo
 {
     room_before(element, rest)?;
     element.push_text(plain)
-}
-
-/// Adds an element to the content of its parent, before this rest of the text.
-#[inline(always)]
-fn adopt(parent: &mut Element, element: Element, rest: &str) -> Result<(), AllocError>
-    ensures adds_the_element { OnOk result (parent.new ≡ record parent.old { content = with_elem element parent.old.content }) }
-{
-    room_before(parent, rest)?;
-    parent.push_elem(element)
 }
 
 /// Adds a character to content.
@@ -142,6 +134,7 @@ fn push_decls(element: &mut Element, decls: Vec<Decl>) -> Result<(), AllocError>
     ensures adds_the_declarations { OnOk result (element.new ≡ record element.old { decls = element.old.decls ++ decls.items }) }
 {
     if decls.is_empty() {
+        decls.destroy_empty();
         return Ok(());
     }
     push_each_decl(element, decls)
@@ -380,7 +373,7 @@ fn fill<'a>(
     Ok(rest)
 }
 
-/// Adds an element at this depth, with this many levels at most, to content, and answers what follows it.
+/// Adds an element at this depth, with this many levels at most, to content, and answers what follows it. It is made in its place.
 #[inline(never)]
 #[cycle(nested)]
 fn push_child<'a>(
@@ -400,19 +393,12 @@ fn push_child<'a>(
     let Some(inner) = levels.checked_sub(1) else {
         return Err(no_level(text, depth));
     };
-    let (name, tag) = whole_tag(alloc, text, said)?;
-    let mut element = Element::new(alloc, name);
-    let rest = fill(
-        alloc,
-        text,
-        bindings,
-        depth,
-        inner,
-        said,
-        &tag,
-        &mut element,
-    )?;
-    adopt(parent, element, rest)?;
+    let tag = whole_tag(alloc, text, said)?;
+    let mut nodes = parent.take_nodes();
+    push_bare(alloc, &mut nodes, &tag)?;
+    let child = last_elem(&mut nodes);
+    let rest = fill(alloc, text, bindings, depth, inner, said, &tag, child)?;
+    parent.put_nodes(nodes);
     Ok(rest)
 }
 
@@ -433,7 +419,8 @@ pub fn element<'a>(
         return Err(no_level(text, depth));
     };
     let mut said = Vec::new(alloc);
-    let (name, tag) = whole_tag(alloc, text, &mut said)?;
+    let tag = whole_tag(alloc, text, &mut said)?;
+    let name = owned(alloc, &tag.written)?;
     let mut element = Element::new(alloc, name);
     let rest = fill(
         alloc,

@@ -4,6 +4,7 @@
 #![tactic(auto)]
 
 mod ahead;
+mod bare;
 mod bindings;
 mod bodies;
 mod classes;

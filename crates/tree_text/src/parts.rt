@@ -81,7 +81,7 @@ fn begins_with(text: &str, front: &str) -> bool
 
 /// What follows these bytes, where they stand in front.
 #[inline(always)]
-fn after_bytes<'a>(text: &'a str, front: &str) -> Option<&'a str>
+pub fn after_bytes<'a>(text: &'a str, front: &str) -> Option<&'a str>
     ensures they_stand_in_front { IfSome result (λ rest. chars text.now ≡ chars front.now ++ chars rest.now) }
 {
     if !begins_with(text, front) {

@@ -1,27 +1,29 @@
 //! Start tags and the tags of empty elements.
 ghost use Rattle.std.specs.Prelude.{◌≡◌, ◌++◌, ◌∷◌, true, [], chars, length, IfOk, Ok};
 ghost use Rattle.std.specs.List.{list_all};
-ghost use Rattle.grammar_rules.specs.Reading.{read_quoted, read_valued};
+ghost use Rattle.grammar_rules.specs.Reading.{after_front, read_quoted, read_valued};
 ghost use Rattle.xml_tree.specs.Characters.{is_space};
 ghost use Rattle.tree_text.specs.readers.Gives.{Gives};
 ghost use Rattle.tree_text.specs.Grammar.{is_quote};
 ghost use Rattle.tree_text.specs.readers.Texts.{read_value, read_attribute, read_said, read_all_said, said_follows, read_tag_end, read_tag};
-ghost use Rattle.tree_text.specs.readers.Views.{name_in, tag_in};
+ghost use Rattle.tree_text.specs.readers.Views.{BeginsWithLocal, tag_in};
 
-use crate::ahead::{is_next, is_space_next};
+use crate::ahead::{behind_next, is_next, is_space_next};
 use crate::classes::{Class, run};
 use crate::parts::{equals, letter, sign, some_spaces, spaces, starts_with_name, word};
 use crate::said::Said;
 use crate::stepping::count_before;
 use crate::stop::Stop;
 use crate::values::{quote, value};
-use crate::written::{Written, own_qname};
+use crate::written::{Written, front_qname, own_qname};
 use std::alloc::Global;
 use xml_tree::{Name, Text};
 
 /// A start tag, or the tag of an empty element, but for what it says behind its name.
 #[derive(Clone, Copy, Debug)]
 pub struct Tag<'a> {
+    /// The text from its name on.
+    pub from: &'a str,
     /// Its name, as it stands in the text.
     pub written: Written<'a>,
     pub is_empty: bool,
@@ -127,25 +129,36 @@ fn tag_end(text: &str) -> Result<(bool, &str), Stop<'_>>
     Ok((false, rest))
 }
 
-/// A tag and its name. What the tag says behind its name is put in place of these.
+/// The same behind white space, which may be absent. Most tags end at once.
+#[inline(always)]
+fn tag_rest(text: &str) -> Result<(bool, &str), Stop<'_>>
+    ensures reads_the_end_behind_white_space { Gives (λ x. (x.0, chars x.1.now)) result (read_tag_end (after_front is_space (chars text.now))) }
+{
+    if let Some(behind) = behind_next(text, '>') {
+        return Ok((false, behind));
+    }
+    let (_, rest) = spaces(text);
+    tag_end(rest)
+}
+
+/// A tag. What it says behind its name is put in place of these.
 #[inline(always)]
 pub fn whole_tag<'a>(
     alloc: Global,
     text: &'a str,
     said: &mut Vec<Said>,
-) -> Result<(Name, Tag<'a>), Stop<'a>>
-    ensures reads_as_the_rule_does { Gives (λ x. (tag_in (chars text.now) x.1 said.new.items, chars x.1.behind.now)) result (read_tag (chars text.now)) }
-    ensures name_is_as_written { IfOk result (λ x. x.0 ≡ name_in x.1.written) }
+) -> Result<Tag<'a>, Stop<'a>>
+    ensures reads_as_the_rule_does { Gives (λ x. (tag_in (chars text.now) x said.new.items, chars x.behind.now)) result (read_tag (chars text.now)) }
+    ensures local_part_alone_is_in_front { IfOk result BeginsWithLocal }
 {
-    let rest = sign(text, '<')?;
-    let (name, written, rest) = own_qname(alloc, rest)?;
+    let from = sign(text, '<')?;
+    let (written, rest) = front_qname(from)?;
     let rest = all_said(alloc, rest, said)?;
-    let (_, rest) = spaces(rest);
-    let (is_empty, behind) = tag_end(rest)?;
-    let tag = Tag {
+    let (is_empty, behind) = tag_rest(rest)?;
+    Ok(Tag {
+        from,
         written,
         is_empty,
         behind,
-    };
-    Ok((name, tag))
+    })
 }

@@ -1,15 +1,15 @@
 //! Names as they stand in a text.
-ghost use Rattle.std.specs.Prelude.{◌≡◌, ◌+◌, ◌<◌, ◌≤◌, ◌^◌, suc, [], chars, length, take, IfOk};
-ghost use Rattle.grammar_rules.specs.Reading.{read_word};
+ghost use Rattle.std.specs.Prelude.{◌≡◌, ◌+◌, ◌<◌, ◌≤◌, ◌^◌, suc, [], ◌∷◌, ◌++◌, chars, length, take, IfOk, IfSome};
+ghost use Rattle.grammar_rules.specs.Reading.{read_behind, read_word};
 ghost use Rattle.tree_text.specs.readers.Gives.{Gives};
 ghost use Rattle.tree_text.specs.Pieces.{written};
-ghost use Rattle.tree_text.specs.readers.Texts.{colon_follows, read_qname, read_end_tag};
+ghost use Rattle.tree_text.specs.readers.Texts.{colon_follows, read_name, read_qname, read_end_tag};
 ghost use Rattle.tree_text.specs.readers.Views.{name_in};
-ghost use Rattle.tree_text.specs.readers.Words.{end_start};
+ghost use Rattle.tree_text.specs.readers.Words.{colon, end_start};
 
 use crate::ahead::{behind_next, is_next};
-use crate::parts::{letter, name, same, sign, spaces};
-use crate::stepping::{count, nothing, split_first};
+use crate::parts::{after_bytes, letter, name, same, sign, spaces};
+use crate::stepping::{count, is_over, nothing, split_first};
 use crate::stop::Stop;
 use std::alloc::{AllocError, Global};
 use xml_tree::{LocalName, Name, Prefix};
@@ -32,6 +32,24 @@ fn colon_follows(text: &str) -> bool
 pub fn qname(text: &str) -> Result<(Written<'_>, &str), Stop<'_>>
     ensures reads_as_the_rule_does { Gives (λ x. (name_in x.0, chars x.1.now)) result (read_qname (chars text.now)) }
 {
+    front_qname(text)
+}
+
+/// The local part of a name behind its prefix, and what follows it.
+#[inline(never)]
+fn behind_prefix(text: &str) -> Result<(&str, &str), Stop<'_>>
+    ensures reads_a_colon_and_a_name { Gives (λ x. (chars x.0.now, chars x.1.now)) result (read_behind (read_word colon) read_name (chars text.now)) }
+{
+    let rest = letter(text, ':')?;
+    name(rest)
+}
+
+/// A name, with a prefix or without, and what follows it. Most names have no prefix.
+#[inline(always)]
+pub fn front_qname(text: &str) -> Result<(Written<'_>, &str), Stop<'_>>
+    ensures reads_as_the_rule_does { Gives (λ x. (name_in x.0, chars x.1.now)) result (read_qname (chars text.now)) }
+    ensures local_part_alone_is_in_front { IfOk result (λ x. chars x.0.prefix.now ≡ [] → x.0.local.now ≡ take (length x.0.local.now) text.now) }
+{
     let (first, rest) = name(text)?;
     if !colon_follows(rest) {
         let prefix = nothing();
@@ -43,8 +61,7 @@ pub fn qname(text: &str) -> Result<(Written<'_>, &str), Stop<'_>>
             rest,
         ));
     }
-    let rest = letter(rest, ':')?;
-    let (local, rest) = name(rest)?;
+    let (local, rest) = behind_prefix(rest)?;
     Ok((
         Written {
             prefix: first,
@@ -88,15 +105,51 @@ fn end_start(text: &str) -> Result<&str, Stop<'_>>
     }
 }
 
-/// What follows the end tag of an element of this name.
+/// What follows the end tag of an element of this name without a prefix, where no white space stands in it.
+#[inline(always)]
+fn behind_plain_end<'a>(text: &'a str, local: &str) -> Option<&'a str>
+    ensures end_tag_and_rest { IfSome result (λ rest. chars text.now ≡ 60 ∷ 47 ∷ (chars local.now ++ 62 ∷ chars rest.now)) }
+{
+    let rest = behind_next(text, '<')?;
+    let rest = behind_next(rest, '/')?;
+    let rest = after_bytes(rest, local)?;
+    behind_next(rest, '>')
+}
+
+/// What follows the end tag of an element of a name of these parts.
+#[inline(never)]
+fn any_end_tag<'a>(text: &'a str, prefix: &str, local: &str) -> Result<&'a str, Stop<'a>>
+    ensures reads_any_end_tag { Gives (λ rest. (tt, chars rest.now)) result (read_end_tag (record { prefix = chars prefix.now; local = chars local.now }) (chars text.now)) }
+{
+    let name = Written { prefix, local };
+    let rest = end_start(text)?;
+    let rest = same_name(rest, &name)?;
+    let (_, rest) = spaces(rest);
+    sign(rest, '>')
+}
+
+/// The same of a name without a prefix. Most have no white space in them.
+#[inline(always)]
+fn local_end_tag<'a>(text: &'a str, local: &str) -> Result<&'a str, Stop<'a>>
+    ensures reads_the_end_tag { Gives (λ rest. (tt, chars rest.now)) result (read_end_tag (record { prefix = []; local = chars local.now }) (chars text.now)) }
+{
+    if let Some(rest) = behind_plain_end(text, local) {
+        return Ok(rest);
+    }
+    let rest = any_end_tag(text, nothing(), local)?;
+    Ok(rest)
+}
+
+/// What follows the end tag of an element of this name. Most names have no prefix.
 #[inline(always)]
 pub fn end_tag<'a>(text: &'a str, name: &Written<'_>) -> Result<&'a str, Stop<'a>>
     ensures reads_the_end_tag { Gives (λ rest. (tt, chars rest.now)) result (read_end_tag (name_in name.now) (chars text.now)) }
 {
-    let rest = end_start(text)?;
-    let rest = same_name(rest, name)?;
-    let (_, rest) = spaces(rest);
-    sign(rest, '>')
+    if is_over(name.prefix) {
+        return local_end_tag(text, name.local);
+    }
+    let rest = any_end_tag(text, name.prefix, name.local)?;
+    Ok(rest)
 }
 
 /// A prefix that owns its characters. Most names have none.
@@ -164,6 +217,7 @@ fn own_prefixed(alloc: Global, text: &str) -> Result<(Name, Written<'_>, &str), 
 }
 
 /// How many characters of a tag of this name stand before its attributes: `<` and the name.
+#[inline(always)]
 pub fn opening(name: &Written<'_>) -> usize
     requires { 2 + length (chars name.now.prefix.now) + length (chars name.now.local.now) < 2 ^ 64 }
     ensures counts_the_opening { result ≡ suc (length (written (name_in name.now))) }

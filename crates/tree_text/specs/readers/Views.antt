@@ -1,5 +1,5 @@
 -- What the parts of the code stand for in clauses.
-use Rattle.std.specs.Prelude.{ℕ, ◌-◌, Bool, true, false, List, length, chars}
+use Rattle.std.specs.Prelude.{◌≡◌, ℕ, ◌-◌, Bool, true, false, List, [], length, take, chars}
 use Rattle.grammar_rules.specs.Digits.{Digits, decimal_digits, hexadecimal}
 use Rattle.xml_tree.specs.declared.names.Name.{Name}
 use Rattle.tree_text.specs.declared.written.Written.{Written}
@@ -15,6 +15,10 @@ digits_of false = decimal_digits
 -- the name that stands in a text
 abbrev pub name_in : Written → Name
 name_in w = record { prefix = chars w.prefix.now; local = chars w.local.now }
+
+-- without a prefix, the local part of a tag's name stands in front of the text from the name on
+abbrev pub BeginsWithLocal : CodeTag → Type 0
+BeginsWithLocal t = chars t.written.prefix.now ≡ [] → t.written.local.now ≡ take (length t.written.local.now) t.from.now
 
 -- the tag that the code has read from this text, which says this behind its name
 abbrev pub tag_in : List ℕ → CodeTag → List Said → StartTag

@@ -11,7 +11,8 @@ use Rattle.tree_text.specs.Pieces.{StartTag}
 use Rattle.tree_text.specs.declared.said.Said.{Said}
 use Rattle.tree_text.specs.declared.tags.Tag.{Tag as CodeTag}
 use Rattle.tree_text.specs.readers.Texts.{markup_follows, read_tag, read_markup, read_chars, read_element}
-use Rattle.tree_text.specs.readers.Views.{tag_in}
+use Rattle.tree_text.specs.readers.Views.{name_in, tag_in}
+use Rattle.tree_text.proofs.ChildLemmas.{there, is_bare, still_normal, in_place}
 use Rattle.tree_text.proofs.Loops.{both_ok, first_stops, goes_on, ends, is_done, is_stopped, valued_ok, valued_fails}
 use Rattle.tree_text.proofs.ElementLemmas.{begins, piece_more, judged_is, misjudged, element_ok, element_err, tag_err, untagged, child_ok, child_stops, level_ok, level_stops, onto_ok, onto_stops, still, back_again, closed}
 use Rattle.tree_text.proofs.elements.+nested.Goals as goal
@@ -120,13 +121,13 @@ fill-returns t c =
       bindings_are_those_of_before = out.1;
     }
 
-pub push_child-returns-in_err-name-clause-reads_as_the_rule_does : goal.push_child-returns-in_err-name-clause-reads_as_the_rule_does
-push_child-returns-in_err-name-clause-reads_as_the_rule_does t c =
+pub push_child-returns-in_err-tag-clause-reads_as_the_rule_does : goal.push_child-returns-in_err-tag-clause-reads_as_the_rule_does
+push_child-returns-in_err-tag-clause-reads_as_the_rule_does t c =
     let p = err_from_is_err_and c.from_residual.result c.from_residual.ensures.1 in
-    let stop = c.in_err-name.field-0.0 in
+    let stop = c.in_err-tag.field-0.0 in
     let scope = lists c.args.bindings.now in
     rw (p.1, p.2) (child_stops c.args.parent.now (read_element c.args.levels scope c.args.depth) (chars c.args.text.now) stop
-    (untagged c.args.levels c.in-Some.inner c.args.depth scope (chars c.args.text.now) stop (omega (arith, c.in-Some.ensures)) c.in_err-name.ensures.reads_as_the_rule_does))
+    (untagged c.args.levels c.in-Some.inner c.args.depth scope (chars c.args.text.now) stop (omega (arith, c.in-Some.ensures)) c.in_err-tag.ensures.reads_as_the_rule_does))
 
 pub push_child-returns-in_err-rest-clause-reads_as_the_rule_does : goal.push_child-returns-in_err-rest-clause-reads_as_the_rule_does
 push_child-returns-in_err-rest-clause-reads_as_the_rule_does t c =
@@ -136,11 +137,27 @@ push_child-returns-in_err-rest-clause-reads_as_the_rule_does t c =
     rw (p.1, p.2) (child_stops c.args.parent.now (read_element c.args.levels scope c.args.depth) (chars c.args.text.now) stop
     (level_stops c.args.levels c.in-Some.inner c.args.depth scope (chars c.args.text.now) stop (omega (arith, c.in-Some.ensures)) c.in_err-rest.ensures.reads_as_the_rule_does))
 
+pub push_child-last_elem-child-requires : goal.push_child-last_elem-child-requires
+push_child-last_elem-child-requires t c =
+    there c.take_nodes-nodes.result.items c.push_bare.new.nodes.items (tree_of (name_in c.in_ok-tag.tag.written) [] [] (last [])) c.in_ok-push_bare.ensures.adds_a_bare_element
+
+pub push_child-fill-requires : goal.push_child-fill-requires
+push_child-fill-requires t c =
+    let bare = is_bare c.take_nodes-nodes.result.items c.push_bare.new.nodes.items (tree_of (name_in c.in_ok-tag.tag.written) [] [] (last [])) c.in_ok-push_bare.ensures.adds_a_bare_element c.last_elem-child.result.now c.last_elem-child.ensures.lends_the_element in
+    search (rules, bare)
+
+pub push_child-put_nodes-requires-clause-normal : goal.push_child-put_nodes-requires-clause-normal
+push_child-put_nodes-requires-clause-normal t c =
+    still_normal c.take_nodes-nodes.result.items c.push_bare.new.nodes.items (tree_of (name_in c.in_ok-tag.tag.written) [] [] (last [])) c.in_ok-push_bare.ensures.adds_a_bare_element c.fill.new.element c.take_nodes-nodes.ensures.nodes_are_normal
+
 pub push_child-returns : goal.push_child-returns
 push_child-returns t c =
     let scope = lists c.args.bindings.now in
+    let bare = tree_of (name_in c.in_ok-tag.tag.written) [] [] (last []) in
+    let taken = c.take_nodes-nodes.ensures in
+    let made = in_place c.take_nodes-nodes.result.items c.push_bare.new.nodes.items bare c.in_ok-push_bare.ensures.adds_a_bare_element c.fill.new.element c.args.parent.now c.take_nodes-nodes.new.self c.put_nodes.new.self taken.content_of_the_nodes taken.leaves_none c.put_nodes.ensures.puts_them_in in
     record {
-      reads_as_the_rule_does = rw c.in_ok-adopt.ensures.adds_the_element (child_ok c.args.parent.now (read_element c.args.levels scope c.args.depth) (chars c.args.text.now) (chars c.in_ok-rest.rest.now) c.fill.new.element
+      reads_as_the_rule_does = rw made (child_ok c.args.parent.now (read_element c.args.levels scope c.args.depth) (chars c.args.text.now) (chars c.in_ok-rest.rest.now) c.fill.new.element
           (level_ok c.args.levels c.in-Some.inner c.args.depth scope (chars c.args.text.now) (chars c.in_ok-rest.rest.now) c.fill.new.element (omega (arith, c.in-Some.ensures)) c.in_ok-rest.ensures.reads_as_the_rule_does));
       bindings_are_those_of_before = c.in_ok-rest.ensures.bindings_are_those_of_before;
     }
