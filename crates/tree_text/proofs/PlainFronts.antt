@@ -8,7 +8,7 @@ use Rattle.std.specs.Int.{is_in_range as within}
 use Rattle.xml_tree.specs.Tree.{Content, Tree}
 use Rattle.xml_tree.proofs.Places.{with_text-nil}
 use Rattle.tree_text.specs.declared.kind.Kind.{Kind}
-use Rattle.tree_text.specs.Grammar.{is_raw, is_raw_in}
+use Rattle.tree_text.specs.Grammar.{is_quote, is_raw, is_raw_in}
 use Rattle.tree_text.specs.readers.Members.{with_chars, read_chars_onto, read_blanked}
 use Rattle.tree_text.specs.Pieces.{line_ends, raw}
 use Rattle.tree_text.specs.readers.Texts.{read_chars}
@@ -75,34 +75,55 @@ inner_by c false false false false false false i j k l m n h = absurd cc
 plain_inner : (c : ℕ) → is_plain_in_content c ≡ true → IsInner c
 plain_inner c h = inner_by c (within 94 126 c) (nat_eq c 32) (nat_eq c 10) (within 61 92 c) (within 33 37 c) (within 39 59 c) refl refl refl refl refl refl h
 
-value_by : (c : ℕ) (a b d : Bool) → within 39 59 c ≡ a → within 32 37 c ≡ b → within 61 126 c ≡ d → ((a || b) || d) ≡ true → IsPrinted c
-value_by c true b d i j k h =
-    let w = bounds 39 59 c i in
-    let from : 39 ≤ c = w.0 in
+-- what does so in a value, whatever its quotes are
+record IsUnquoted (c : ℕ) : Type 0 where
+  printed : IsPrinted c
+  no_quote : nat_eq c 34 ≡ false
+  no_apostrophe : nat_eq c 39 ≡ false
+
+unquoted : (c : ℕ) → IsPrinted c → c ≢ 34 → c ≢ 39 → IsUnquoted c
+unquoted c p double single = record { printed = p; no_quote = ne_eqb c 34 double; no_apostrophe = ne_eqb c 39 single }
+
+space_unquoted : IsUnquoted 32
+space_unquoted = record { printed = record { stands = refl; smooth = refl; no_return = refl }; no_quote = refl; no_apostrophe = refl }
+
+mark_unquoted : IsUnquoted 33
+mark_unquoted = record { printed = record { stands = refl; smooth = refl; no_return = refl }; no_quote = refl; no_apostrophe = refl }
+
+value_by : (c : ℕ) (a b d e f : Bool) → within 40 59 c ≡ a → within 61 126 c ≡ b → within 35 37 c ≡ d → nat_eq c 32 ≡ e → nat_eq c 33 ≡ f → ((((a || b) || d) || e) || f) ≡ true → IsUnquoted c
+value_by c true b d e f i j k l m h =
+    let w = bounds 40 59 c i in
+    let from : 40 ≤ c = w.0 in
     let to : c ≤ 59 = w.1 in
-    printed c (omega (arith, from)) (omega (arith, to)) (λ x. omega (arith, x, from)) (λ x. omega (arith, x, to))
-value_by c false true d i j k h =
-    let w = bounds 32 37 c j in
-    let to : c ≤ 37 = w.1 in
-    printed c w.0 (omega (arith, to)) (λ x. omega (arith, x, to)) (λ x. omega (arith, x, to))
-value_by c false false true i j k h =
-    let w = bounds 61 126 c k in
+    unquoted c (printed c (omega (arith, from)) (omega (arith, to)) (λ x. omega (arith, x, from)) (λ x. omega (arith, x, to))) (λ x. omega (arith, x, from)) (λ x. omega (arith, x, from))
+value_by c false true d e f i j k l m h =
+    let w = bounds 61 126 c j in
     let from : 61 ≤ c = w.0 in
-    printed c (omega (arith, from)) w.1 (λ x. omega (arith, x, from)) (λ x. omega (arith, x, from))
-value_by c false false false i j k h = absurd cc
+    unquoted c (printed c (omega (arith, from)) w.1 (λ x. omega (arith, x, from)) (λ x. omega (arith, x, from))) (λ x. omega (arith, x, from)) (λ x. omega (arith, x, from))
+value_by c false false true e f i j k l m h =
+    let w = bounds 35 37 c k in
+    let from : 35 ≤ c = w.0 in
+    let to : c ≤ 37 = w.1 in
+    unquoted c (printed c (omega (arith, from)) (omega (arith, to)) (λ x. omega (arith, x, to)) (λ x. omega (arith, x, to))) (λ x. omega (arith, x, from)) (λ x. omega (arith, x, to))
+value_by c false false false true f i j k l m h = subst IsUnquoted (sym (eqb-true c 32 l)) space_unquoted
+value_by c false false false false true i j k l m h = subst IsUnquoted (sym (eqb-true c 33 m)) mark_unquoted
+value_by c false false false false false i j k l m h = absurd cc
 
-module _ (quote c : ℕ) (h : is_plain_in_value quote c ≡ true) where
-  parts : (not (nat_eq c quote) ≡ true) × (((within 39 59 c || within 32 37 c) || within 61 126 c) ≡ true)
-  parts = and_parts (not (nat_eq c quote)) ((within 39 59 c || within 32 37 c) || within 61 126 c) h
+plain_unquoted : (c : ℕ) → is_plain_in_value c ≡ true → IsUnquoted c
+plain_unquoted c h = value_by c (within 40 59 c) (within 61 126 c) (within 35 37 c) (nat_eq c 32) (nat_eq c 33) refl refl refl refl refl h
 
-  plain_printed : IsPrinted c
-  plain_printed = value_by c (within 39 59 c) (within 32 37 c) (within 61 126 c) refl refl refl parts.1
+is_other : (quote c : ℕ) (a b : Bool) → nat_eq quote 34 ≡ a → nat_eq quote 39 ≡ b → (a || b) ≡ true → IsUnquoted c → nat_eq c quote ≡ false
+is_other quote c true b i j h plain = subst (λ (q : ℕ). nat_eq c q ≡ false) (sym (eqb-true quote 34 i)) plain.no_quote
+is_other quote c false true i j h plain = subst (λ (q : ℕ). nat_eq c q ≡ false) (sym (eqb-true quote 39 j)) plain.no_apostrophe
+is_other quote c false false i j h plain = absurd cc
 
-  plain_raw_in : is_raw_in quote c ≡ true
-  plain_raw_in = both_true (is_raw c) (not (nat_eq c quote)) plain_printed.stands parts.0
-    where
-      both_true : (a b : Bool) → a ≡ true → b ≡ true → (a && b) ≡ true
-      both_true a b i j = rw (i, j) refl
+plain_raw_in : (quote : ℕ) → is_quote quote ≡ true → (c : ℕ) → is_plain_in_value c ≡ true → is_raw_in quote c ≡ true
+plain_raw_in quote given c h =
+    let plain = plain_unquoted c h in
+    both_true (is_raw c) (not (nat_eq c quote)) plain.printed.stands (ap not (is_other quote c (nat_eq quote 34) (nat_eq quote 39) refl refl given plain))
+  where
+    both_true : (a b : Bool) → a ≡ true → b ≡ true → (a && b) ≡ true
+    both_true a b i j = rw (i, j) refl
 
 -- what holds of each holds of all
 all_by : (p q : ℕ → Bool) → ((c : ℕ) → p c ≡ true → q c ≡ true) → (cs : List ℕ) → list_all p cs ≡ true → list_all q cs ≡ true
@@ -115,8 +136,8 @@ all_by p q each (c ∷ cs) h =
 content_lines : (cs : List ℕ) → list_all is_plain_in_content cs ≡ true → line_ends cs ≡ cs
 content_lines cs h = plain_lines cs (all_by is_plain_in_content is_no_return (λ c i. ap not (plain_inner c i).no_return) cs h)
 
-value_raw : (quote : ℕ) (cs : List ℕ) → list_all (is_plain_in_value quote) cs ≡ true → raw cs ≡ cs
-value_raw quote cs h = smooth_raw cs (all_by (is_plain_in_value quote) is_smooth (λ c i. (plain_printed quote c i).smooth) cs h)
+value_raw : (cs : List ℕ) → list_all is_plain_in_value cs ≡ true → raw cs ≡ cs
+value_raw cs h = smooth_raw cs (all_by is_plain_in_value is_smooth (λ c i. (plain_unquoted c i).printed.smooth) cs h)
 
 -- a run of characters that pass, in front of what doesn't
 module _ (p q : ℕ → Bool) (each : (c : ℕ) → q c ≡ true → p c ≡ true) (rest : List ℕ) (none : front_of p rest ≡ []) (all : after_front p rest ≡ rest) where
@@ -198,10 +219,10 @@ value_ends quote (c ∷ cs) h = by (is_raw_in quote) (value_ends_by quote c cs (
     by : (p : ℕ → Bool) → p c ≡ false → (front_of p (c ∷ cs) ≡ []) × (after_front p (c ∷ cs) ≡ c ∷ cs)
     by p i = rw i (refl, refl)
 
-pub plain_blanked : (quote : ℕ) (text front rest : List ℕ) → text ≡ front ++ rest → list_all (is_plain_in_value quote) front ≡ true → ends_run quote rest ≡ true → read_blanked quote text ≡ Ok (front, rest)
-plain_blanked quote text front rest whole h e =
+pub plain_blanked : (quote : ℕ) (text front rest : List ℕ) → is_quote quote ≡ true → text ≡ front ++ rest → list_all is_plain_in_value front ≡ true → ends_run quote rest ≡ true → read_blanked quote text ≡ Ok (front, rest)
+plain_blanked quote text front rest given whole h e =
     let none = value_ends quote rest e in
     ap (read_blanked quote) whole ∙ answer raw _ _ front rest front
-    (front_is (is_raw_in quote) (is_plain_in_value quote) (plain_raw_in quote) rest none.0 none.1 front h)
-    (rest_is (is_raw_in quote) (is_plain_in_value quote) (plain_raw_in quote) rest none.0 none.1 front h)
-    (value_raw quote front h)
+    (front_is (is_raw_in quote) is_plain_in_value (plain_raw_in quote given) rest none.0 none.1 front h)
+    (rest_is (is_raw_in quote) is_plain_in_value (plain_raw_in quote given) rest none.0 none.1 front h)
+    (value_raw front h)

@@ -4,7 +4,7 @@ ghost use Rattle.grammar_rules.specs.Reading.{front_of, after_front, head_is};
 ghost use Rattle.tree_text.specs.readers.Runs.{run_len};
 ghost use Rattle.xml_tree.specs.Characters.{is_name_char};
 ghost use Rattle.tree_text.specs.readers.Runs.{is_plain_in_content, is_plain_in_value};
-ghost use Rattle.tree_text.specs.inner.Classes.{passes, in_ascii, is_plain_unquoted, is_wide};
+ghost use Rattle.tree_text.specs.inner.Classes.{passes, in_ascii, is_wide};
 
 use crate::declaration::is_encoding_char;
 use crate::digit_runs::is_digit;
@@ -33,8 +33,8 @@ pub enum Class {
     Other(char),
     /// What stands in content for itself wherever it is, of ASCII.
     PlainContent,
-    /// What does so in a value between these quotes.
-    PlainValue(char),
+    /// What does so in a value, whatever its quotes are.
+    PlainValue,
 }
 
 /// Whether a character is of a class.
@@ -51,14 +51,14 @@ fn passes(class: Class, c: char) -> bool
         Class::RawIn(quote) => is_raw_in(c, quote),
         Class::Other(one) => c != one,
         Class::PlainContent => is_plain_in_content(c),
-        Class::PlainValue(quote) => is_plain_in_value(c, quote),
+        Class::PlainValue => is_plain_in_value(c),
     }
 }
 
-// What each byte is a character of, in the bits of a digit: of a name, of plain content, and of a plain value, quotes aside.
+// What each byte is a character of, in the bits of a digit: of a name, of plain content, and of a plain value.
 static MARKS: [u8; 256] = *b"\
     00000000002000000000000000000000\
-    66666606666667767777777777660666\
+    66266602666667767777777777660666\
     67777777777777777777777777766467\
     67777777777777777777777777766660\
     00000000000000000000000000000000\
@@ -88,31 +88,12 @@ fn is_content_byte(byte: u8) -> bool
     MARKS[byte as usize] & IN_CONTENT != 0
 }
 
-/// Whether a byte is a plain character of a value, unless it is the quote.
+/// Whether a byte is a plain character of values.
 #[inline(always)]
-fn is_unquoted_byte(byte: u8) -> bool
-    ensures tells_whether_it_is_plain_unless_it_is_the_quote { result ≡ is_plain_unquoted byte }
+fn is_value_byte(byte: u8) -> bool
+    ensures tells_whether_it_is_plain_in_values { result ≡ in_ascii is_plain_in_value byte }
 {
     MARKS[byte as usize] & IN_VALUES != 0
-}
-
-/// Whether a byte is the quote.
-#[inline(always)]
-fn is_quote_byte(byte: u8, quote: char) -> bool
-    ensures tells_whether_it_is_the_quote { result ≡ (byte == quote) }
-{
-    byte as char == quote
-}
-
-/// Whether a byte is a plain character of a value between these quotes.
-#[inline(always)]
-fn is_value_byte(byte: u8, quote: char) -> bool
-    ensures tells_whether_it_is_plain_in_the_value { result ≡ in_ascii (is_plain_in_value quote) byte }
-{
-    if is_quote_byte(byte, quote) {
-        return false;
-    }
-    is_unquoted_byte(byte)
 }
 
 /// Whether a byte is an ASCII character of a class, whatever class it is.
@@ -131,7 +112,7 @@ fn passes_in_ascii(class: Class, byte: u8) -> bool
     match class {
         Class::Name => is_name_byte(byte),
         Class::PlainContent => is_content_byte(byte),
-        Class::PlainValue(quote) => is_value_byte(byte, quote),
+        Class::PlainValue => is_value_byte(byte),
         _ => passes_by_rule(class, byte),
     }
 }

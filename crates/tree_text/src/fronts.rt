@@ -15,12 +15,16 @@ pub fn is_plain_in_content(c: char) -> bool
         || matches!(c, '\''..=';')
 }
 
-/// Whether a character is an ASCII one that stands raw in a value between these quotes, and for itself.
+/// Whether a character is an ASCII one that stands raw in a value, whatever its quotes are, and for itself.
 #[inline(always)]
-pub fn is_plain_in_value(c: char, quote: char) -> bool
-    ensures tells_whether_it_is_plain_in_a_value { result ≡ is_plain_in_value quote c }
+pub fn is_plain_in_value(c: char) -> bool
+    ensures tells_whether_it_is_plain_in_values { result ≡ is_plain_in_value c }
 {
-    c != quote && (matches!(c, '\''..=';') || matches!(c, ' '..='%') || matches!(c, '='..='~'))
+    matches!(c, '('..=';')
+        || matches!(c, '='..='~')
+        || matches!(c, '#'..='%')
+        || c == ' '
+        || c == '!'
 }
 
 /// Whether a character is an ASCII one that stands in names.

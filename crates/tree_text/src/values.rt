@@ -1,5 +1,5 @@
 //! References, and values between quotes.
-ghost use Rattle.std.specs.Prelude.{◌≡◌, ◌≤◌, ◌<◌, ◌++◌, true, false, [], ◌∷◌, chars, MatchOption, IfOk, OnOk, Ok, option_map};
+ghost use Rattle.std.specs.Prelude.{◌≡◌, ◌≤◌, ◌<◌, ◌++◌, ◌&&◌, true, false, [], ◌∷◌, chars, MatchOption, IfOk, OnOk, Ok, option_map};
 ghost use Rattle.grammar_rules.specs.Reading.{number_end, read_one, read_number, read_many, read_valued};
 ghost use Rattle.xml_tree.specs.Characters.{is_char};
 ghost use Rattle.tree_text.specs.readers.Gives.{Gives};
@@ -287,12 +287,23 @@ pub fn ends_run(text: &str, end: char) -> bool
     }
 }
 
+/// Whether a quote is given, and this quote or a `&` follows, which ends a plain run.
+#[inline(always)]
+fn ends_plain(text: &str, quote: char) -> bool
+    ensures tells_whether_the_plain_run_ends { result ≡ (is_quote quote && ends_run quote (chars text.now)) }
+{
+    if !is_quote(quote) {
+        return false;
+    }
+    ends_run(text, quote)
+}
+
 /// What raw characters of a value are read as, and what follows them. Most runs are plain, and are copied as they stand.
 fn blanked(alloc: Global, text: &str, quote: char) -> Result<(Text, &str), AllocError>
     ensures reads_a_blanked_run { IfOk result (λ x. read_blanked quote (chars text.now) ≡ Ok (x.0, chars x.1.now)) }
 {
-    let (plain, rest) = run(text, Class::PlainValue(quote));
-    if ends_run(rest, quote) {
+    let (plain, rest) = run(text, Class::PlainValue);
+    if ends_plain(rest, quote) {
         let value = Text::from_front(alloc, plain, text.as_bytes())?;
         return Ok((value, rest));
     }

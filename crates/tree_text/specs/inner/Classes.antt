@@ -1,6 +1,5 @@
 -- The classes of characters that runs are made of.
-use Rattle.std.specs.Prelude.{ℕ, Bool, ◌&&◌, ◌||◌, nat_lt, nat_le}
-use Rattle.std.specs.Int.{is_in_range as within}
+use Rattle.std.specs.Prelude.{ℕ, Bool, ◌&&◌, nat_lt, nat_le}
 use Rattle.std.specs.Char.{is_ascii_digit}
 use Rattle.xml_tree.specs.Characters.{is_space, is_name_char}
 use Rattle.tree_text.specs.Faults.{is_other}
@@ -19,15 +18,11 @@ passes Raw = is_raw
 passes (RawIn quote) = is_raw_in quote
 passes (Other one) = is_other one
 passes PlainContent = is_plain_in_content
-passes (PlainValue quote) = is_plain_in_value quote
+passes PlainValue = is_plain_in_value
 
 -- those of ASCII
 abbrev pub in_ascii : (ℕ → Bool) → ℕ → Bool
 in_ascii p c = nat_lt c 128 && p c
-
--- what is plain in a value, unless it is the quote
-abbrev pub is_plain_unquoted : ℕ → Bool
-is_plain_unquoted c = within 39 59 c || within 32 37 c || within 61 126 c
 
 -- a byte of a character that isn't ASCII
 abbrev pub is_wide : ℕ → Bool

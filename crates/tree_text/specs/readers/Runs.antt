@@ -35,9 +35,9 @@ is_usual c = within 94 55295 c || c == 32 || c == 10
 abbrev pub is_plain_in_content : ℕ → Bool
 is_plain_in_content c = within 94 126 c || c == 32 || c == 10 || within 61 92 c || within 33 37 c || within 39 59 c
 
--- those that do so in a value between these quotes: from the space to the tilde but `&`, `<` and the quote
-abbrev pub is_plain_in_value : ℕ → ℕ → Bool
-is_plain_in_value quote c = not (c == quote) && (within 39 59 c || within 32 37 c || within 61 126 c)
+-- those that do so in a value, whatever its quotes are: from the space to the tilde but `"`, `&`, `'` and `<`
+abbrev pub is_plain_in_value : ℕ → Bool
+is_plain_in_value c = within 40 59 c || within 61 126 c || within 35 37 c || c == 32 || c == 33
 
 -- ASCII letters, digits, `-`, `.` and `_`: they stand in names
 abbrev pub is_plain_in_name : ℕ → Bool
