@@ -40,7 +40,7 @@ fn judged<'a>(
     text: &'a str,
     here: &Bindings,
     name: &Name,
-    said: &[Said],
+    said: &[Said<'_>],
     tag: &Tag<'_>,
 ) -> Result<(), Stop<'a>>
     requires kept { AreKept here.now }
@@ -152,8 +152,9 @@ fn push_each_decl(element: &mut Element, decls: Vec<Decl>) -> Result<(), AllocEr
 }
 
 /// Adds one of a tag to an element, unless it is a declaration.
-fn push_said(element: &mut Element, said: Said) -> Result<(), AllocError>
-    ensures adds_it_if_it_is_an_attribute { OnOk result (element.new ≡ record element.old { attrs = element.old.attrs ++ attrs_of (said ∷ []) }) }
+#[inline(always)]
+fn push_said(element: &mut Element, said: Said<'_>) -> Result<(), AllocError>
+    ensures adds_it_if_it_is_an_attribute { OnOk result (element.new ≡ record element.old { attrs = element.old.attrs ++ attrs_of (said.entry ∷ []) }) }
 {
     if declares(&said.name) {
         return Ok(());
@@ -169,7 +170,7 @@ fn push_said(element: &mut Element, said: Said) -> Result<(), AllocError>
 
 /// Adds the attributes among what a tag says to an element, and keeps nothing of it.
 #[inline(never)]
-fn push_all_said(element: &mut Element, said: &mut Vec<Said>) -> Result<(), AllocError>
+fn push_all_said(element: &mut Element, said: &mut Vec<Said<'_>>) -> Result<(), AllocError>
     ensures adds_the_attributes { OnOk result (element.new ≡ record element.old { attrs = element.old.attrs ++ attrs_of said.old.items }) }
 {
     for one in said.drain(..) {
@@ -180,7 +181,11 @@ fn push_all_said(element: &mut Element, said: &mut Vec<Said>) -> Result<(), Allo
 
 /// The same, with room for so many. Most tags say nothing.
 #[inline(always)]
-fn push_attrs(element: &mut Element, said: &mut Vec<Said>, room: usize) -> Result<(), AllocError>
+fn push_attrs(
+    element: &mut Element,
+    said: &mut Vec<Said<'_>>,
+    room: usize,
+) -> Result<(), AllocError>
     ensures adds_the_attributes { OnOk result (element.new ≡ record element.old { attrs = element.old.attrs ++ attrs_of said.old.items }) }
 {
     if said.is_empty() {
@@ -270,7 +275,7 @@ fn push_markup<'a>(
     bindings: &mut Bindings,
     depth: usize,
     levels: usize,
-    said: &mut Vec<Said>,
+    said: &mut Vec<Said<'a>>,
     element: &mut Element,
 ) -> Result<&'a str, Stop<'a>>
     requires kept { AreKept bindings.old }
@@ -293,7 +298,7 @@ fn content<'a>(
     bindings: &mut Bindings,
     depth: usize,
     levels: usize,
-    said: &mut Vec<Said>,
+    said: &mut Vec<Said<'a>>,
     element: &mut Element,
 ) -> Result<&'a str, Stop<'a>>
     requires kept { AreKept bindings.old }
@@ -322,7 +327,7 @@ fn behind_tag<'a>(
     bindings: &mut Bindings,
     depth: usize,
     levels: usize,
-    said: &mut Vec<Said>,
+    said: &mut Vec<Said<'a>>,
     tag: &Tag<'a>,
     element: &mut Element,
 ) -> Result<&'a str, Stop<'a>>
@@ -350,7 +355,7 @@ fn fill<'a>(
     bindings: &mut Bindings,
     depth: usize,
     inner: usize,
-    said: &mut Vec<Said>,
+    said: &mut Vec<Said<'a>>,
     tag: &Tag<'a>,
     element: &mut Element,
 ) -> Result<&'a str, Stop<'a>>
@@ -382,7 +387,7 @@ fn push_child<'a>(
     bindings: &mut Bindings,
     depth: usize,
     levels: usize,
-    said: &mut Vec<Said>,
+    said: &mut Vec<Said<'a>>,
     parent: &mut Element,
 ) -> Result<&'a str, Stop<'a>>
     requires kept { AreKept bindings.old }

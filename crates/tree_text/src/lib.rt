@@ -28,6 +28,7 @@ mod reading;
 mod reading_laws;
 mod runs;
 mod said;
+mod size;
 mod stepping;
 mod stop;
 mod tags;

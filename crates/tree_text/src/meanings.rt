@@ -30,7 +30,7 @@ fn attr_number(here: &Bindings, name: &Name) -> Option<usize>
 }
 
 /// What one says, in the scope inside its tag.
-pub fn meaning_of<'a>(here: &Bindings, said: &'a Said) -> Meaning<'a>
+pub fn meaning_of<'a>(here: &Bindings, said: &'a Said<'_>) -> Meaning<'a>
     requires { AreKept here.now }
     ensures means_what_it_says { Means here.now said.now result }
 {

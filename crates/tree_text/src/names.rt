@@ -1,5 +1,5 @@
 //! Names in tags: declarations and attributes, and the first of a tag's names that is wrong.
-ghost use Rattle.std.specs.Prelude.{◌≡◌, suc, ◌+◌, ◌<◌, ◌^◌, List, [], ◌++◌, ◌∷◌, chars, encode_utf8_all, length, None, IfOk, OnOk, not, if◌then◌else◌};
+ghost use Rattle.std.specs.Prelude.{◌≡◌, suc, ◌+◌, ◌<◌, ◌^◌, List, [], ◌++◌, ◌∷◌, chars, encode_utf8_all, length, None, IsTrue, IfOk, OnOk, not, if◌then◌else◌};
 ghost use Rattle.std.specs.Str.{bytes_eq};
 ghost use Rattle.xml_tree.specs.Scopes.{xml_prefix, xml_uri, xmlns_uri};
 ghost use Rattle.xml_tree.specs.Proper.{may_stand};
@@ -22,10 +22,11 @@ use std::collections::BTreeSet;
 use xml_tree::{Decl, Name, Prefix, Text, is_xml, is_xmlns};
 
 /// Whether a prefix is empty.
+#[inline(always)]
 pub fn is_nothing(prefix: &Prefix) -> bool
     ensures tells_whether_it_is_empty { result ≡ bytes_eq prefix.now [] }
 {
-    prefix.is("")
+    prefix.is_empty()
 }
 
 /// Whether a declared prefix is empty: the default namespace is declared.
@@ -55,6 +56,7 @@ fn is_xmlns_uri(text: &Text) -> bool
 }
 
 /// Whether an attribute of this name is a declaration.
+#[inline(always)]
 pub fn declares(name: &Name) -> bool
     ensures tells_whether_it_declares { result ≡ is_declaring name.now }
 {
@@ -65,7 +67,7 @@ pub fn declares(name: &Name) -> bool
 }
 
 /// The prefix that a declaration declares.
-pub fn declared_prefix(said: &Said) -> &str
+pub fn declared_prefix<'a>(said: &'a Said<'_>) -> &'a str
     ensures characters_of_the_prefix { chars result.now ≡ (said_decl said.now).prefix }
     ensures bytes_of_the_prefix { result.now ≡ encode_utf8_all (said_decl said.now).prefix }
 {
@@ -77,7 +79,7 @@ pub fn declared_prefix(said: &Said) -> &str
 }
 
 /// The declaration that one is.
-fn decl_of(alloc: Global, said: &Said) -> Result<Decl, AllocError>
+fn decl_of(alloc: Global, said: &Said<'_>) -> Result<Decl, AllocError>
     ensures declaration_that_it_is { IfOk result (λ decl. decl ≡ said_decl said.now) }
 {
     let prefix = Prefix::from(alloc, declared_prefix(said))?;
@@ -87,7 +89,7 @@ fn decl_of(alloc: Global, said: &Said) -> Result<Decl, AllocError>
 
 /// Adds a declaration.
 #[inline(never)]
-fn push_declared(alloc: Global, decls: &mut Vec<Decl>, said: &Said) -> Result<(), AllocError>
+fn push_declared(alloc: Global, decls: &mut Vec<Decl>, said: &Said<'_>) -> Result<(), AllocError>
     ensures adds_the_declaration { IfOk result (λ _. decls.new.items ≡ decls.old.items ++ said_decl said.now ∷ []) }
 {
     let decl = decl_of(alloc, said)?;
@@ -97,7 +99,7 @@ fn push_declared(alloc: Global, decls: &mut Vec<Decl>, said: &Said) -> Result<()
 
 /// The same, unless it is an attribute. Most are.
 #[inline(always)]
-fn push_decl(alloc: Global, decls: &mut Vec<Decl>, said: &Said) -> Result<(), AllocError>
+fn push_decl(alloc: Global, decls: &mut Vec<Decl>, said: &Said<'_>) -> Result<(), AllocError>
     ensures adds_it_if_it_declares { IfOk result (λ _. decls.new.items ≡ decls.old.items ++ decls_of (said.now ∷ [])) }
 {
     if !declares(&said.name) {
@@ -106,12 +108,24 @@ fn push_decl(alloc: Global, decls: &mut Vec<Decl>, said: &Said) -> Result<(), Al
     push_declared(alloc, decls, said)
 }
 
-/// The declarations among these, in order. Many tags say nothing.
+/// Whether these are none, or one that is an attribute.
 #[inline(always)]
-pub fn decls_of(alloc: Global, all: &[Said]) -> Result<Vec<Decl>, AllocError>
+fn is_without_decls(all: &[Said<'_>]) -> bool
+    ensures there_is_no_declaration { IsTrue result → decls_of all.now ≡ [] }
+{
+    match all {
+        [] => true,
+        [only] => !declares(&only.name),
+        _ => false,
+    }
+}
+
+/// The declarations among these, in order. Most tags say nothing, or one attribute.
+#[inline(always)]
+pub fn decls_of(alloc: Global, all: &[Said<'_>]) -> Result<Vec<Decl>, AllocError>
     ensures declarations_among_them { IfOk result (λ decls. decls.items ≡ decls_of all.now) }
 {
-    if all.is_empty() {
+    if is_without_decls(all) {
         return Ok(Vec::new(alloc));
     }
     some_decls(alloc, all)
@@ -119,7 +133,7 @@ pub fn decls_of(alloc: Global, all: &[Said]) -> Result<Vec<Decl>, AllocError>
 
 /// The same, one by one.
 #[inline(never)]
-fn some_decls(alloc: Global, all: &[Said]) -> Result<Vec<Decl>, AllocError>
+fn some_decls(alloc: Global, all: &[Said<'_>]) -> Result<Vec<Decl>, AllocError>
     ensures declarations_among_some { IfOk result (λ decls. decls.items ≡ decls_of all.now) }
 {
     let mut decls = Vec::new(alloc);
@@ -170,7 +184,7 @@ pub fn is_unbound(here: &Bindings, name: &Name) -> bool
 
 /// Whether a declaration may not stand, or an attribute has an unbound prefix.
 #[inline(always)]
-fn is_misnamed(here: &Bindings, said: &Said) -> bool
+fn is_misnamed(here: &Bindings, said: &Said<'_>) -> bool
     requires kept { AreKept here.now }
     ensures tells_whether_it_is_misnamed { result ≡ is_misnamed (lists here.now) said.now }
 {
@@ -184,7 +198,7 @@ fn is_misnamed(here: &Bindings, said: &Said) -> bool
 fn is_first<'a>(
     here: &Bindings,
     seen: &mut BTreeSet<Meaning<'a>>,
-    said: &'a Said,
+    said: &'a Said<'_>,
 ) -> Result<bool, AllocError>
     requires kept { AreKept here.now }
     ensures tells_the_first { (es : List Said) → Holds here.now es seen.old → IfOk result (λ first. first ≡ not (is_repeated (lists here.now) es said.now)) }
@@ -198,7 +212,7 @@ fn is_first<'a>(
 fn wrong_said<'a>(
     here: &Bindings,
     seen: &mut BTreeSet<Meaning<'a>>,
-    said: &'a Said,
+    said: &'a Said<'_>,
 ) -> Result<Option<Kind>, AllocError>
     requires kept { AreKept here.now }
     ensures tells_what_is_wrong { (es : List Said) → Holds here.now es seen.old → IfOk result (λ wrong. wrong ≡ wrong_said (lists here.now) es said.now) }
@@ -216,7 +230,7 @@ fn wrong_said<'a>(
 /// What is wrong with the only one of a tag of this name, which nothing stands before, and how many characters of the tag stand before
 /// its name.
 #[inline(always)]
-fn only_wrong(here: &Bindings, only: &Said, name: &Written<'_>) -> Option<(Kind, usize)>
+fn only_wrong(here: &Bindings, only: &Said<'_>, name: &Written<'_>) -> Option<(Kind, usize)>
     requires kept { AreKept here.now }
     requires fits { 2 + length (chars name.now.prefix.now) + length (chars name.now.local.now) + widths (only.now ∷ []) < 2 ^ 64 }
     ensures finds_whether_it_is_wrong { result ≡ first_wrong (lists here.now) [] (suc (length (written (name_in name.now)))) (only.now ∷ []) }
@@ -232,7 +246,7 @@ fn only_wrong(here: &Bindings, only: &Said, name: &Written<'_>) -> Option<(Kind,
 fn first_of_several<'a>(
     alloc: Global,
     here: &Bindings,
-    all: &'a [Said],
+    all: &'a [Said<'_>],
     opening: usize,
 ) -> Result<Option<(Kind, usize)>, AllocError>
     requires kept { AreKept here.now }
@@ -245,7 +259,7 @@ fn first_of_several<'a>(
         if let Some(kind) = wrong_said(here, &mut seen, said)? {
             return Ok(Some((kind, at + said.gap)));
         }
-        at += said.gap + said.size;
+        at += said.gap + said.size.count();
     }
     Ok(None)
 }
@@ -255,7 +269,7 @@ fn first_of_several<'a>(
 pub fn first_wrong<'a>(
     alloc: Global,
     here: &Bindings,
-    all: &'a [Said],
+    all: &'a [Said<'_>],
     name: &Written<'_>,
 ) -> Result<Option<(Kind, usize)>, AllocError>
     requires kept { AreKept here.now }
@@ -276,7 +290,7 @@ pub fn first_of_tag<'a>(
     alloc: Global,
     here: &Bindings,
     name: &Name,
-    said: &'a [Said],
+    said: &'a [Said<'_>],
     tag: &Tag<'_>,
 ) -> Result<Option<(Kind, usize)>, AllocError>
     requires kept { AreKept here.now }

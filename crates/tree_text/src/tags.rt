@@ -1,18 +1,19 @@
 //! Start tags and the tags of empty elements.
-ghost use Rattle.std.specs.Prelude.{◌≡◌, ◌++◌, ◌∷◌, true, [], chars, length, IfOk, Ok};
+ghost use Rattle.std.specs.Prelude.{◌≡◌, ◌++◌, ◌∷◌, true, [], chars, length, is_some, IfOk, IfSome, Ok};
 ghost use Rattle.std.specs.List.{list_all};
-ghost use Rattle.grammar_rules.specs.Reading.{after_front, read_quoted, read_valued};
+ghost use Rattle.grammar_rules.specs.Reading.{after_front, read_quoted, read_sized, read_valued};
 ghost use Rattle.xml_tree.specs.Characters.{is_space};
 ghost use Rattle.tree_text.specs.readers.Gives.{Gives};
 ghost use Rattle.tree_text.specs.Grammar.{is_quote};
-ghost use Rattle.tree_text.specs.readers.Texts.{read_value, read_attribute, read_said, read_all_said, said_follows, read_tag_end, read_tag};
+ghost use Rattle.tree_text.specs.readers.Texts.{read_some_spaces, read_value, read_attribute, read_all_said, said_follows, read_tag_end, read_tag};
+ghost use Rattle.tree_text.specs.readers.Made.{said_of};
 ghost use Rattle.tree_text.specs.readers.Views.{BeginsWithLocal, tag_in};
 
 use crate::ahead::{behind_next, is_next, is_space_next};
 use crate::classes::{Class, run};
-use crate::parts::{equals, letter, sign, some_spaces, spaces, starts_with_name, word};
+use crate::parts::{equals, letter, sign, spaces, starts_with_name, word};
 use crate::said::Said;
-use crate::stepping::count_before;
+use crate::size::Size;
 use crate::stop::Stop;
 use crate::values::{quote, value};
 use crate::written::{Written, front_qname, own_qname};
@@ -59,14 +60,37 @@ fn width(white: &str) -> usize
     white.len()
 }
 
-/// Puts an attribute that stands behind white space behind these, and answers what follows it.
-fn push_said<'a>(alloc: Global, text: &'a str, all: &mut Vec<Said>) -> Result<&'a str, Stop<'a>>
-    ensures reads_as_the_rule_does { Gives (λ rest. (all.new.items, chars rest.now)) result (read_valued (λ said. all.old.items ++ said ∷ []) read_said (chars text.now)) }
+/// The white space in front and what follows it, where an attribute follows.
+#[inline(always)]
+fn before_said(text: &str) -> Option<(&str, &str)>
+    ensures reads_the_white_space { IfSome result (λ x. read_some_spaces (chars text.now) ≡ Ok (chars x.0.now, chars x.1.now)) }
+    ensures all_is_space { IfSome result (λ x. list_all is_space (chars x.0.now) ≡ true) }
+    ensures tells_whether_an_attribute_follows { is_some result ≡ said_follows (chars text.now) }
 {
-    let (white, from) = some_spaces(text)?;
+    if !is_space_next(text) {
+        return None;
+    }
+    let (white, from) = run(text, Class::Space);
+    if !starts_with_name(from) {
+        return None;
+    }
+    Some((white, from))
+}
+
+/// Adds the attribute that stands here, behind this white space, to these, and answers what follows it.
+#[inline(always)]
+fn push_said<'a>(
+    alloc: Global,
+    white: &str,
+    from: &'a str,
+    all: &mut Vec<Said<'a>>,
+) -> Result<&'a str, Stop<'a>>
+    requires { list_all is_space (chars white.now) ≡ true }
+    ensures reads_the_attribute { Gives (λ rest. (all.new.items, chars rest.now)) result (read_valued (λ x. all.old.items ++ said_of (chars white.now, x) ∷ []) (read_sized read_attribute) (chars from.now)) }
+{
     let (name, value, rest) = attribute(alloc, from)?;
     let gap = width(white);
-    let size = count_before(from, rest);
+    let size = Size::before(from, rest);
     let said = Said {
         name,
         value,
@@ -77,36 +101,25 @@ fn push_said<'a>(alloc: Global, text: &'a str, all: &mut Vec<Said>) -> Result<&'
     Ok(rest)
 }
 
-/// Whether an attribute follows behind white space.
-fn said_follows(text: &str) -> bool
-    ensures tells_whether_an_attribute_follows { result ≡ said_follows (chars text.now) }
-{
-    if !is_space_next(text) {
-        return false;
-    }
-    let (_, rest) = run(text, Class::Space);
-    starts_with_name(rest)
-}
-
 /// Puts all attributes, each behind white space, behind none, and answers what follows them.
 #[inline(never)]
-fn some_said<'a>(alloc: Global, text: &'a str, all: &mut Vec<Said>) -> Result<&'a str, Stop<'a>>
+fn some_said<'a>(alloc: Global, text: &'a str, all: &mut Vec<Said<'a>>) -> Result<&'a str, Stop<'a>>
     requires { all.old.items ≡ [] }
     ensures reads_each_that_follows { Gives (λ rest. (all.new.items, chars rest.now)) result (read_all_said (chars text.now)) }
 {
     let mut rest = text;
     for _ in 0..text.len() {
-        if !said_follows(rest) {
+        let Some((white, from)) = before_said(rest) else {
             break;
-        }
-        rest = push_said(alloc, rest, all)?;
+        };
+        rest = push_said(alloc, white, from, all)?;
     }
     Ok(rest)
 }
 
 /// Puts all attributes, each behind white space, in place of these, and answers what follows them. Many tags have none.
 #[inline(always)]
-fn all_said<'a>(alloc: Global, text: &'a str, all: &mut Vec<Said>) -> Result<&'a str, Stop<'a>>
+fn all_said<'a>(alloc: Global, text: &'a str, all: &mut Vec<Said<'a>>) -> Result<&'a str, Stop<'a>>
     ensures reads_as_the_rule_does { Gives (λ rest. (all.new.items, chars rest.now)) result (read_all_said (chars text.now)) }
 {
     all.clear();
@@ -146,7 +159,7 @@ fn tag_rest(text: &str) -> Result<(bool, &str), Stop<'_>>
 pub fn whole_tag<'a>(
     alloc: Global,
     text: &'a str,
-    said: &mut Vec<Said>,
+    said: &mut Vec<Said<'a>>,
 ) -> Result<Tag<'a>, Stop<'a>>
     ensures reads_as_the_rule_does { Gives (λ x. (tag_in (chars text.now) x said.new.items, chars x.behind.now)) result (read_tag (chars text.now)) }
     ensures local_part_alone_is_in_front { IfOk result BeginsWithLocal }

@@ -1,6 +1,12 @@
-use Rattle.std.proofs.Common.{bytes_eq, ap, ◌∙◌}
-use Rattle.std.proofs.lemmas.Str.{chars-nil}
+use Rattle.std.proofs.Common.{[]}
+use Rattle.std.specs.Cmp.{both_ways}
+use Rattle.std.specs.Cmp.Lexicographic.{bytes_decides}
 use Rattle.tree_text.proofs.names.is_nothing.Goals as goal
 
 pub returns : goal.returns
-returns c = record { tells_whether_it_is_empty = c.is.ensures.tells_whether_it_has_these ∙ ap (bytes_eq c.args.prefix.now) chars-nil }
+returns c = record {
+  tells_whether_it_is_empty =
+      let prefix = c.args.prefix.now in
+      let test = c.is_empty.ensures.tells_whether_it_has_none in
+      both_ways _ _ (λ yes. (bytes_decides prefix []).1 (test.0 yes)) (λ none. test.1 ((bytes_decides prefix []).0 none));
+}

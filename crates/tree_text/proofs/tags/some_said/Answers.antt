@@ -1,27 +1,47 @@
-use Rattle.std.proofs.Common.{rules, ◌≡◌, ℕ, ◌-◌, List, [], ◌∷◌, ◌++◌, length, chars, encode_utf8_all, Result, Ok, Err, refl, sym, ap, ◌∙◌, append_assoc, arith}
+use Rattle.std.proofs.Common.{rules, ◌≡◌, ℕ, ◌-◌, List, [], ◌∷◌, ◌++◌, length, chars, encode_utf8_all, Result, Ok, Err, refl, sym, ap, subst, ◌∙◌, append_assoc, arith}
 use Rattle.std.proofs.lemmas.Str.{encodes-chars}
-use Rattle.grammar_rules.specs.Reading.{Stop}
+use Rattle.grammar_rules.specs.Reading.{Stop, ◌>>=◌, read_sized, read_valued}
+use Rattle.xml_tree.specs.declared.names.Name.{Name}
 use Rattle.tree_text.specs.declared.kind.Kind.{Kind}
 use Rattle.std.proofs.lemmas.List.{append-nil}
 use Rattle.std.proofs.lemmas.Result.{err_from_is_err_and}
 use Rattle.tree_text.specs.declared.said.Said.{Said}
-use Rattle.tree_text.specs.readers.Texts.{said_follows, read_said, read_all_said}
+use Rattle.tree_text.specs.readers.Gives.{Fails}
+use Rattle.tree_text.specs.readers.Made.{said_of}
+use Rattle.tree_text.specs.readers.Texts.{said_follows, read_some_spaces, read_attribute, read_said, read_all_said}
 use Rattle.tree_text.proofs.Loops.{finish, goes_on, ends, is_done, is_stopped, valued_ok, valued_fails}
 use Rattle.tree_text.proofs.tags.some_said.Goals as goal
-use Rattle.tree_text.proofs.tags.some_said.Goals.{else-loop-test, then-loop-test+then-not-said_follows}
+use Rattle.tree_text.proofs.tags.some_said.Goals.{else-loop-test, then-loop-test+in_default}
 
 -- nothing stands before them
 none_before : (r : Result (List Said × List ℕ) (Stop Kind)) → r ≡ finish (λ front all. front ++ all) [] r
 none_before (Ok x) = refl
 none_before (Err e) = refl
 
+-- an attribute read behind what white space in front gives
+abbrev read_on : List Said → Result (List ℕ × List ℕ) (Stop Kind) → Result (List Said × List ℕ) (Stop Kind)
+read_on front r = ((r >>= λ x. read_sized read_attribute x.1 >>= λ y. let z : (List ℕ × ((Name × List ℕ) × ℕ)) × List ℕ = ((x.0, y.0), y.1) in Ok z) >>= λ x. let z : Said × List ℕ = (said_of x.0, x.1) in Ok z) >>= λ x. let z : List Said × List ℕ = (front ++ x.0 ∷ [], x.1) in Ok z
+
+by_out : (front : List Said) (white : List ℕ) (out : Result (((Name × List ℕ) × ℕ) × List ℕ) (Stop Kind)) → ((out >>= λ y. let z : (List ℕ × ((Name × List ℕ) × ℕ)) × List ℕ = ((white, y.0), y.1) in Ok z) >>= λ x. let z : Said × List ℕ = (said_of x.0, x.1) in Ok z) >>= (λ x. let z : List Said × List ℕ = (front ++ x.0 ∷ [], x.1) in Ok z) ≡ (out >>= λ x. let z : List Said × List ℕ = (front ++ said_of (white, x.0) ∷ [], x.1) in Ok z)
+by_out front white (Ok y) = refl
+by_out front white (Err e) = refl
+
+-- an attribute is read behind the white space in front of it
+behind_white : (front : List Said) (text white from : List ℕ) → read_some_spaces text ≡ Ok (white, from) → read_valued (λ (one : Said). front ++ one ∷ []) read_said text ≡ read_valued (λ x. front ++ said_of (white, x) ∷ []) (read_sized read_attribute) from
+behind_white front text white from h = ap (read_on front) h ∙ by_out front white (read_sized read_attribute from)
+
 pub returns-in_err-rest : goal.returns-in_err-rest
 returns-in_err-rest c = record {
   reads_each_that_follows =
       let p = err_from_is_err_and c.from_residual.result c.from_residual.ensures.1 in
-      let add = λ (one : Said). c.loop.all.items ++ one ∷ [] in
-      rw (p.1, p.2) (ends said_follows read_said (λ front all. front ++ all) c.in_err-rest.field-0.0 c.loop.all.items _ c.loop.counter (chars c.loop.rest.now) (read_all_said (chars c.args.text.now)) c.loop-test.true (sym c.said_follows.ensures.tells_whether_an_attribute_follows ∙ c.if-not-said_follows.false)
-      (valued_fails add read_said (chars c.loop.rest.now) c.in_err-rest.field-0.0 c.in_err-rest.ensures.reads_as_the_rule_does) c.loop.invariant.left);
+      let stop = c.in_err-rest.field-0.0 in
+      let front = c.loop.all.items in
+      let text = chars c.loop.rest.now in
+      let add = λ (one : Said). front ++ one ∷ [] in
+      let white = behind_white front text (chars c.in-Some.white.now) (chars c.in-Some.from.now) c.in-Some.ensures.reads_the_white_space in
+      let fails = subst (λ (r : Result (List Said × List ℕ) (Stop Kind)). Fails stop r) (sym white) c.in_err-rest.ensures.reads_the_attribute in
+      rw (p.1, p.2) (ends said_follows read_said (λ front all. front ++ all) stop front _ c.loop.counter text (read_all_said (chars c.args.text.now)) c.loop-test.true (sym c.in-Some.ensures.tells_whether_an_attribute_follows)
+      (valued_fails add read_said text stop fails) c.loop.invariant.left);
 }
 
 one_more : (front more xs : List Said) (one : Said) → front ++ one ∷ [] ≡ more → front ++ one ∷ xs ≡ more ++ xs
@@ -35,13 +55,17 @@ loop-init c =
 
 pub loop-preserved : goal.loop-preserved
 loop-preserved c =
+    let front = c.loop.all.items in
     let more = c.push_said.new.all.items in
-    let add = λ (one : Said). c.loop.all.items ++ one ∷ [] in
-    let v = valued_ok add (read_said (chars c.loop.rest.now)) more (chars c.in_ok-rest.rest.now) c.in_ok-rest.ensures.reads_as_the_rule_does in
+    let text = chars c.loop.rest.now in
+    let after = chars c.in_ok-rest.rest.now in
+    let add = λ (one : Said). front ++ one ∷ [] in
+    let white = behind_white front text (chars c.in-Some.white.now) (chars c.in-Some.from.now) c.in-Some.ensures.reads_the_white_space in
+    let v = valued_ok add (read_said text) more after (white ∙ c.in_ok-rest.ensures.reads_the_attribute) in
     record {
       utf8 = search rules;
-      left = goes_on said_follows read_said (λ front all. front ++ all) c.loop.all.items more _ c.loop.counter (chars c.loop.rest.now) (chars c.in_ok-rest.rest.now) v.value (read_all_said (chars c.args.text.now)) c.loop-test.true (sym c.said_follows.ensures.tells_whether_an_attribute_follows ∙ c.if-not-said_follows.false) v.read
-          (λ xs. one_more c.loop.all.items more xs v.value v.made) c.loop.invariant.left;
+      left = goes_on said_follows read_said (λ front all. front ++ all) front more _ c.loop.counter text after v.value (read_all_said (chars c.args.text.now)) c.loop-test.true (sym c.in-Some.ensures.tells_whether_an_attribute_follows) v.read
+          (λ xs. one_more front more xs v.value v.made) c.loop.invariant.left;
     }
 
 none_more : (front : List Said) → front ++ [] ≡ front
@@ -51,6 +75,6 @@ pub returns : goal.returns
 returns c = record {
   reads_each_that_follows = elim c.loop-test.branch [
     | else-loop-test w ↦ rw (none_more c.loop.all.items) at (is_done said_follows read_said (λ front all. front ++ all) c.loop.all.items _ c.loop.counter (chars c.loop.rest.now) (read_all_said (chars c.args.text.now)) w.loop-test.false c.loop.invariant.left)
-    | then-loop-test+then-not-said_follows w ↦ rw (none_more c.loop.all.items) at (is_stopped said_follows read_said (λ front all. front ++ all) c.loop.all.items _ c.loop.counter (chars c.loop.rest.now) (read_all_said (chars c.args.text.now)) (sym w.said_follows.ensures.tells_whether_an_attribute_follows ∙ w.if-not-said_follows.true) c.loop.invariant.left)
+    | then-loop-test+in_default w ↦ rw (none_more c.loop.all.items) at (is_stopped said_follows read_said (λ front all. front ++ all) c.loop.all.items _ c.loop.counter (chars c.loop.rest.now) (read_all_said (chars c.args.text.now)) (sym w.in_default.ensures.tells_whether_an_attribute_follows) c.loop.invariant.left)
   ];
 }
