@@ -1,5 +1,5 @@
 -- A run, cut by its length.
-use Rattle.std.proofs.Common.{◌≡◌, ℕ, suc, ◌+◌, ◌-◌, ◌<◌, ◌≤◌, Bool, true, false, cond, ◌&&◌, List, [], ◌∷◌, ◌++◌, length, take, drop, get_or, Result, Ok, Err, refl, sym, ap, ◌∙◌, append_assoc, take-append-drop, eq-eqb, arith, add-one}
+use Rattle.std.proofs.Common.{◌≡◌, ℕ, suc, ◌+◌, ◌-◌, ◌<◌, ◌≤◌, Bool, true, false, cond, ◌&&◌, List, [], ◌∷◌, ◌++◌, length, take, drop, get_or, Result, Ok, Err, refl, sym, ap, subst, ◌∙◌, append_assoc, take-append-drop, eq-eqb, arith, add-one}
 use Rattle.std.specs.Prelude.{nat_eq}
 use Rattle.std.proofs.lemmas.Bool.{eqb-true}
 use Rattle.std.proofs.Math.Seq.{drop-cons, take-length}
@@ -49,6 +49,41 @@ run_done p xs i n h e t =
     let d : drop i xs ≡ get_or xs i 0 ∷ drop (suc i) xs = drop-cons xs i 0 h in
     let f : run_len p (drop i xs) ≡ 0 = ap (run_len p) d ∙ rw t refl in
     omega (arith, f, e)
+
+-- a loop's step over four
+module _ (p : ℕ → Bool) (xs : List ℕ) where
+  next : (i j : ℕ) → j ≡ i + 1 → i < length xs → i + run_len p (drop i xs) ≡ run_len p xs → p (get_or xs i 0) ≡ true → j + run_len p (drop j xs) ≡ run_len p xs
+  next i j is h e t = subst (λ (k : ℕ). k + run_len p (drop k xs) ≡ run_len p xs) (sym is) (run_more p xs i i h e t)
+
+  module _ (i : ℕ) (h : i + 4 ≤ length xs) (e : i + run_len p (drop i xs) ≡ run_len p xs) where
+    pub first_stops : p (get_or xs i 0) ≡ false → i ≡ run_len p xs
+    first_stops a = run_done p xs i i (omega (arith, h)) e a
+
+    module _ (a : p (get_or xs i 0) ≡ true) where
+      second : i + 1 + run_len p (drop (i + 1) xs) ≡ run_len p xs
+      second = next i (i + 1) refl (omega (arith, h)) e a
+
+      pub second_stops : p (get_or xs (i + 1) 0) ≡ false → i + 1 ≡ run_len p xs
+      second_stops b = run_done p xs (i + 1) (i + 1) (omega (arith, h)) second b
+
+      module _ (b : p (get_or xs (i + 1) 0) ≡ true) where
+        third : i + 2 + run_len p (drop (i + 2) xs) ≡ run_len p xs
+        third = next (i + 1) (i + 2) (omega arith) (omega (arith, h)) second b
+
+        pub third_stops : p (get_or xs (i + 2) 0) ≡ false → i + 2 ≡ run_len p xs
+        third_stops d = run_done p xs (i + 2) (i + 2) (omega (arith, h)) third d
+
+        module _ (d : p (get_or xs (i + 2) 0) ≡ true) where
+          fourth : i + 3 + run_len p (drop (i + 3) xs) ≡ run_len p xs
+          fourth = next (i + 2) (i + 3) (omega arith) (omega (arith, h)) third d
+
+          pub fourth_stops : p (get_or xs (i + 3) 0) ≡ false → i + 3 ≡ run_len p xs
+          fourth_stops f = run_done p xs (i + 3) (i + 3) (omega (arith, h)) fourth f
+
+          pub four_more : p (get_or xs (i + 3) 0) ≡ true → i + 4 + run_len p (drop (i + 4) xs) ≡ run_len p xs
+          four_more f = next (i + 3) (i + 4) (omega arith) (omega (arith, h)) fourth f
+
+pub ruleset four_by_four = (first_stops, second_stops, third_stops, fourth_stops, four_more)
 
 -- the first ones are as many in front as they are
 pub first_ones : (taken xs : List ℕ) (n : ℕ) → taken ≡ take n xs → taken ≡ take (length taken) xs

@@ -1,5 +1,5 @@
 //! Runs of characters of one class.
-ghost use Rattle.std.specs.Prelude.{◌≡◌, ◌==◌, chars, length, take};
+ghost use Rattle.std.specs.Prelude.{◌≡◌, ◌≤◌, chars, length, take};
 ghost use Rattle.grammar_rules.specs.Reading.{front_of, after_front, head_is};
 ghost use Rattle.tree_text.specs.readers.Runs.{run_len};
 ghost use Rattle.xml_tree.specs.Characters.{is_name_char};
@@ -117,11 +117,12 @@ fn passes_in_ascii(class: Class, byte: u8) -> bool
     }
 }
 
-/// How many bytes in front are ASCII characters of a class.
-#[inline(always)]
+/// How many bytes in front are ASCII characters of a class. Each is asked in turn.
+#[inline(never)]
 #[tactic(auto, using(crate::proofs::RunLemmas::run_more, crate::proofs::RunLemmas::run_done))]
-fn ascii_len(bytes: &[u8], class: Class) -> usize
-    ensures counts_those_in_ascii { result ≡ run_len (in_ascii (passes class)) bytes.now }
+fn ascii_len_by_each(bytes: &[u8], class: Class) -> usize
+    ensures counts_each_in_ascii { result ≡ run_len (in_ascii (passes class)) bytes.now }
+    ensures lies_within { result ≤ length bytes.now }
 {
     for (i, &byte) in bytes.iter().enumerate() {
         if !passes_in_ascii(class, byte) {
@@ -129,6 +130,31 @@ fn ascii_len(bytes: &[u8], class: Class) -> usize
         }
     }
     bytes.len()
+}
+
+/// The same. Four bytes are asked in each step, as long as there are so many.
+#[inline(always)]
+#[tactic(auto, using(crate::proofs::RunLemmas::four_by_four))]
+fn ascii_len(bytes: &[u8], class: Class) -> usize
+    ensures counts_those_in_ascii { result ≡ run_len (in_ascii (passes class)) bytes.now }
+{
+    let mut len = 0usize;
+    'fours: while bytes.len() - len >= 4 {
+        if !passes_in_ascii(class, bytes[len]) {
+            return len;
+        }
+        if !passes_in_ascii(class, bytes[len + 1]) {
+            return len + 1;
+        }
+        if !passes_in_ascii(class, bytes[len + 2]) {
+            return len + 2;
+        }
+        if !passes_in_ascii(class, bytes[len + 3]) {
+            return len + 3;
+        }
+        len += 4;
+    }
+    len + ascii_len_by_each(&bytes[len..], class)
 }
 
 /// Whether a byte that isn't an ASCII character stands in front.
