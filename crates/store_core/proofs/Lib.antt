@@ -23,6 +23,7 @@ pub mod PlanAnswers
 pub mod Owning
 pub mod Places
 pub mod Planning
+pub mod PutLengths
 pub mod Registering
 pub mod Rings
 pub mod Sorting

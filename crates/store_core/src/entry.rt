@@ -7,9 +7,10 @@ ghost use Rattle.store_core.specs.Making.{IsOwnWhere, IsStagedIn};
 ghost use Rattle.store_core.specs.inner.Storing.{IsRenewed, as_own};
 
 use crate::kept_tree::KeptTree;
+use crate::printed_tree::PrintedTree;
 use crate::retained::Retained;
 use crate::staged_tree::StagedTree;
-use notes::{EditNote, NotedTree};
+use notes::EditNote;
 use std::alloc::{AllocError, Global};
 
 /// A document: the number that its creation took, its tag, its tree and the bytes of its print, and the notes that are retained.
@@ -27,7 +28,7 @@ impl Entry {
     pub(crate) fn new(
         alloc: Global,
         number: u64,
-        tree: NotedTree,
+        tree: PrintedTree,
         len: usize,
     ) -> Result<Entry, AllocError>
         requires { len ≡ document_len tree }

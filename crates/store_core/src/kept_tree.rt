@@ -1,22 +1,23 @@
-//! The tree of a document that is held, with its print where that was asked for (RFC 4825, section 8.3).
+//! The tree of a document that is held, with its print where that was made (RFC 4825, section 8.3).
 ghost use Rattle.std.specs.Prelude.{◌≡◌, IfOk, OnOk, encode_utf8_all, false, true};
 ghost use Rattle.edit_ops.specs.Changes.{Fits, edited};
+ghost use Rattle.edit_ops.specs.Staging.{IsStaged};
 ghost use Rattle.tree_text.specs.Printing.{document_print};
 ghost use Rattle.store_core.specs.Making.{IsOwnWhere, IsStagedIn};
 
 use crate::NoMemory;
+use crate::printed_tree::PrintedTree;
 use crate::root::Root;
 use crate::staged_tree::StagedTree;
-use edit_ops::Change;
-use notes::NotedTree;
+use edit_ops::{Change, Staged};
 use std::alloc::Global;
 use std::marker::Model;
 use tree_text::print_document;
 use xcap_io::Bytes;
 use xml_tree::Element;
 
-/// The tree of a document. Its print stands beside it, from when it is first asked for until the tree changes. Contracts see the tree, and
-/// whether nobody shares it.
+/// The tree of a document. Its print stands beside it, from when the document is put as a whole, or when it is first asked for, until the
+/// tree changes. Contracts see the tree, and whether nobody shares it.
 #[derive(Drop)]
 pub struct KeptTree {
     root: Root,
@@ -40,13 +41,14 @@ impl Model for KeptTree {
 }
 
 impl KeptTree {
-    /// The tree that a note brings, which they share. Takes no memory.
-    pub(crate) fn noted(root: NotedTree) -> KeptTree
-        ensures shares_the_tree { result ≡ record { root = root; own = false } }
+    /// The tree that a note brings, which they share, with its print. Takes no memory.
+    pub(crate) fn noted(printed: PrintedTree) -> KeptTree
+        ensures shares_the_tree { result ≡ record { root = printed; own = false } }
     {
+        let PrintedTree { tree, print } = printed;
         KeptTree {
-            root: Root::Noted(root),
-            print: None,
+            root: Root::Noted(tree),
+            print,
         }
     }
 
@@ -68,15 +70,29 @@ impl KeptTree {
         self.root.unshare(alloc)
     }
 
-    /// Makes a change that has its memory, and gives up the print. Takes no memory.
+    /// Makes a change that has its memory. What takes the place of the whole tree comes with its print, and else the print is given up. Takes
+    /// no memory.
     pub(crate) fn make(&mut self, change: &Change, staged: StagedTree)
         requires fits { Fits self.old.root change.now }
         requires staged { IsStagedIn self.old.root change.now staged }
         requires own { IsOwnWhere staged self.old.own }
         ensures makes_the_change { self.new.root ≡ edited self.old.root change.now }
     {
+        match staged {
+            StagedTree::Whole(printed) => *self = KeptTree::noted(printed),
+            StagedTree::InPlace(staged) => self.make_in_place(change, staged),
+        }
+    }
+
+    // Makes a change in place, and gives up the print.
+    fn make_in_place(&mut self, change: &Change, staged: Staged)
+        requires fits { Fits self.old.root change.now }
+        requires staged { IsStaged self.old.root change.now staged }
+        requires own { self.old.own ≡ true }
+        ensures makes_the_change { self.new.root ≡ edited self.old.root change.now }
+    {
         self.print = None;
-        self.root.make(change, staged);
+        self.root.make_in_place(change, staged);
     }
 
     /// A copy of the document's print, which then stands beside the tree, if there is memory for both.

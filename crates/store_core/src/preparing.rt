@@ -1,6 +1,7 @@
 //! Changes of documents: each first takes all its memory, and then can't fail.
 ghost use Rattle.std.specs.Prelude.{◌≡◌, ℕ, ◌≤◌, ◌+◌, [], ◌∷◌, Err, IfErr, IfOk, IfSome, IsSome, IsSomeAnd, None, Ok, OnOk, List, Some, false, max, min, option_map, true};
 ghost use Rattle.store_core.specs.inner.Planning.{refused_for, IsHeldAs, IsNoted, Plans};
+ghost use Rattle.store_core.specs.inner.Prints.{IsPrintBrought, IsPrintOf};
 ghost use Rattle.xml_tree.specs.Tree.{Tree};
 ghost use Rattle.usage_docs.specs.Services.{document_len};
 ghost use Rattle.usage_docs.specs.declared.rows.Key.TheVariants as keys;
@@ -25,6 +26,8 @@ use crate::addresses::{addresses, entering, first_number, leaving};
 use crate::entry::Entry;
 use crate::limits::{MOST_BYTES, MOST_BYTES_TOGETHER, MOST_DOCUMENTS};
 use crate::prepared::Prepared;
+use crate::printed_tree::PrintedTree;
+use crate::put::{HEAD_LEN, Put, document_len, put_by, put_root};
 use crate::refusal::StoreRefusal;
 use crate::registry::first_taken;
 use crate::staged_tree::StagedTree;
@@ -32,21 +35,12 @@ use crate::step::{Step, find, unshare};
 use crate::store::Store;
 use crate::within::is_within;
 use doc_names::DocId;
-use edit_ops::{Change, element_len, printed_len_after, stage};
+use edit_ops::{Change, printed_len_after, stage};
 use notes::{EditNote, NotedTree};
 use std::alloc::Global;
 use usage_docs::{Clash, Key};
-use xml_tree::{Element, List, Path, Text, printed_len};
-
-// The length of what a printed document has before its root.
-const HEAD_LEN: usize = 39;
-
-// How many bytes a document has, printed; the greatest number where it has more.
-fn document_len(root: &Element) -> usize
-    ensures counts_the_document { result ≡ min (document_len root.now) usize.MAX }
-{
-    printed_len(root).saturating_add(HEAD_LEN)
-}
+use xcap_io::Bytes;
+use xml_tree::{Element, List, Path, Text};
 
 // How many bytes a document that has so many has after a change, where the element that the change brings has so many; the greatest
 // number where it has more.
@@ -106,17 +100,19 @@ fn refused_for(place: Option<usize>, len: usize, is_full: bool, others: u64) -> 
 
 // ---- a change with all its memory
 
-// A document that is made, whose addresses and total are known. It shares its tree with the note.
+// A document that is made, whose print, addresses and total are known. It shares its tree with the note.
 fn creation(
     alloc: Global,
     doc: &DocId,
     root: Element,
+    print: Option<Bytes>,
     number: u64,
     len: usize,
     enters: List<Text>,
     total: u64,
 ) -> Result<Prepared, NoMemory>
-    requires { len ≡ document_len root }
+    requires print { IsPrintOf root print }
+    requires len { len ≡ document_len root }
     ensures prepares_the_creation { IfOk result (λ p. p ≡ record {
       doc = doc.now;
       note = record { previous = 0; next = number; bindings = []; change = changes.CreateDocument root; fresh = false };
@@ -129,7 +125,8 @@ fn creation(
     let doc = doc.copy(alloc)?;
     let change = Change::CreateDocument { root };
     let note = EditNote::of_document(alloc, 0, number, change)?;
-    let tree = NotedTree::of(&note)?;
+    let noted = NotedTree::of(&note)?;
+    let tree = PrintedTree::of(noted, print);
     let entry = Entry::new(alloc, number, tree, len)?;
     Ok(Prepared {
         doc,
@@ -203,9 +200,16 @@ fn removal(
     })
 }
 
-// What the change of a note brings into the tree that it is one of. Where it exchanges the root, the tree is shared with the note.
-fn staged(alloc: Global, root: &Element, note: &EditNote) -> Result<StagedTree, NoMemory>
-    requires { Fits root.now note.now.change }
+// What the change of a note brings into the tree that it is one of. Where it exchanges the root, the tree is shared with the note, and
+// its print comes with it.
+fn staged(
+    alloc: Global,
+    root: &Element,
+    note: &EditNote,
+    print: Option<Bytes>,
+) -> Result<StagedTree, NoMemory>
+    requires fits { Fits root.now note.now.change }
+    requires print { IsPrintBrought note.now.change print }
     ensures stages_the_change { IfOk result (λ made. IsStagedIn root.now note.now.change made) }
 {
     let change = note.change();
@@ -213,7 +217,8 @@ fn staged(alloc: Global, root: &Element, note: &EditNote) -> Result<StagedTree, 
         let staged = stage(alloc, root, change)?;
         return Ok(StagedTree::InPlace(staged));
     }
-    let tree = NotedTree::of(note)?;
+    let noted = NotedTree::of(note)?;
+    let tree = PrintedTree::of(noted, print);
     Ok(StagedTree::Whole(tree))
 }
 
@@ -224,19 +229,20 @@ fn noted(
     entry: &Entry,
     number: u64,
     change: Change,
-    put: usize,
+    put: Put,
     len: usize,
     leaves: List<Text>,
     enters: List<Text>,
     total: u64,
 ) -> Result<Prepared, NoMemory>
     requires fits { Fits entry.now.tree.root change }
-    requires put { put ≡ min (element_len change) usize.MAX }
+    requires put { put.len ≡ min (element_len change) usize.MAX }
+    requires print { IsPrintBrought change put.print }
     ensures notes_the_edit { IfOk result (λ p. IsNoted doc.now entry.now number change len leaves enters total p) }
 {
     let tree = entry.tree.root();
-    let note = EditNote::of(alloc, entry.tag, number, tree, change, put)?;
-    let staged = staged(alloc, tree, &note)?;
+    let note = EditNote::of(alloc, entry.tag, number, tree, change, put.len)?;
+    let staged = staged(alloc, tree, &note, put.print)?;
     edit(alloc, doc, staged, note, len, leaves, enters, total)
 }
 
@@ -316,7 +322,8 @@ impl Store {
         ensures plans_the_creation { IfOk result (Plans self.now.content doc.now (changes.CreateDocument root)) }
     {
         let enters = addresses(self.alloc, doc.auid, &root)?;
-        let len = document_len(&root);
+        let put = put_root(self.alloc, &root);
+        let len = document_len(put.len);
         if let Some(refusal) = self.refusal_of_new(doc, len, enters.as_slice()) {
             return Ok(Err(refusal));
         }
@@ -325,7 +332,7 @@ impl Store {
         };
         let sum = self.total();
         let total = sum.saturating_add(len as u64);
-        let prepared = creation(self.alloc, doc, root, number, len, enters, total)?;
+        let prepared = creation(self.alloc, doc, root, put.print, number, len, enters, total)?;
         Ok(Ok(prepared))
     }
 
@@ -343,8 +350,8 @@ impl Store {
         let tree = entry.tree.root();
         let leaves = leaving(self.alloc, doc.auid, tree, &change)?;
         let enters = entering(self.alloc, doc.auid, &change)?;
-        let put = element_len(&change);
-        let len = len_after(tree, entry.len, &change, put);
+        let put = put_by(self.alloc, &change);
+        let len = len_after(tree, entry.len, &change, put.len);
         let first = first_number(&change);
         if let Some(refusal) = self.refusal_of_edit(doc, len, first, enters.as_slice()) {
             return Ok(Err(refusal));

@@ -41,8 +41,9 @@ fn print_in(
 }
 
 impl Store {
-    /// The print of a document: None exactly where it isn't held. It is printed when it is first asked for since the document
-    /// changed, and then stays beside the tree, if there is memory for that: so at most all documents stand there once as printed.
+    /// The print of a document: None exactly where it isn't held. It is printed when the document is put as a whole, or when it
+    /// is first asked for since an edit, and then stays beside the tree, if there is memory for that: so at most all documents stand there
+    /// once as printed.
     ///
     /// # Errors
     /// `NoMemory` for want of memory.

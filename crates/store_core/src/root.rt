@@ -2,11 +2,9 @@
 ghost use Rattle.std.specs.Prelude.{◌≡◌, OnOk, true};
 ghost use Rattle.edit_ops.specs.Changes.{Fits, edited};
 ghost use Rattle.edit_ops.specs.Staging.{IsStaged};
-ghost use Rattle.store_core.specs.Making.{IsOwnWhere, IsStagedIn};
 ghost use Rattle.store_core.specs.inner.Roots.{is_own, root_in};
 
 use crate::NoMemory;
-use crate::staged_tree::StagedTree;
 use edit_ops::{Change, Staged, make_staged};
 use notes::NotedTree;
 use std::alloc::Global;
@@ -102,8 +100,8 @@ impl Root {
         Err(NoMemory)
     }
 
-    // Makes a change in place, for which nobody else has the root.
-    fn make_in_place(&mut self, change: &Change, staged: Staged)
+    /// Makes a change in place, for which nobody else has the root. Takes no memory.
+    pub(crate) fn make_in_place(&mut self, change: &Change, staged: Staged)
         requires own { is_own self.old ≡ true }
         requires fits { Fits (root_in self.old) change.now }
         requires staged { IsStaged (root_in self.old) change.now staged }
@@ -112,19 +110,6 @@ impl Root {
         match self {
             Root::Own(root) => make_staged(root, change, staged),
             Root::Noted(_) => unreachable!(),
-        }
-    }
-
-    /// Makes a change that has its memory. Takes no memory.
-    pub(crate) fn make(&mut self, change: &Change, staged: StagedTree)
-        requires fits { Fits (root_in self.old) change.now }
-        requires staged { IsStagedIn (root_in self.old) change.now staged }
-        requires own { IsOwnWhere staged (is_own self.old) }
-        ensures makes_the_change { root_in self.new ≡ edited (root_in self.old) change.now }
-    {
-        match staged {
-            StagedTree::Whole(tree) => *self = Root::Noted(tree),
-            StagedTree::InPlace(staged) => self.make_in_place(change, staged),
         }
     }
 }

@@ -5,12 +5,16 @@ use Rattle.edit_ops.specs.Changes.{Fits}
 use Rattle.edit_ops.specs.declared.change.Change.{Change}
 use Rattle.notes.specs.Notes.{Note, note_of}
 use Rattle.store_core.specs.Making.{IsStagedIn}
+use Rattle.store_core.specs.inner.Prints.{IsPrintBrought}
 use Rattle.store_core.proofs.preparing.noted.Goals as goal
 
 pub staged-requires : goal.staged-requires
 staged-requires c =
     let changed = ap (λ (n : Note). n.change) c.in_ok-note.ensures.tells_of_the_change in
-    subst (λ (x : Change). Fits c.root-tree.result.now x) (sym changed) (subst (λ (t : Tree). Fits t c.args.change) (sym c.root-tree.ensures.lends_the_root) c.requires.fits)
+    record {
+      fits = subst (λ (x : Change). Fits c.root-tree.result.now x) (sym changed) (subst (λ (t : Tree). Fits t c.args.change) (sym c.root-tree.ensures.lends_the_root) c.requires.fits);
+      print = subst (λ (x : Change). IsPrintBrought x c.args.put.print) (sym changed) c.requires.print;
+    }
 
 pub returns : goal.returns
 returns c = record {
