@@ -6,9 +6,9 @@ use std::marker::Model;
 /// A text of at most `N` bytes, which takes no memory of its own. Contracts see its bytes.
 #[derive(Debug, Drop)]
 pub(crate) struct ShortText<const N: usize> {
+    len: u8,
     // The text, and what fills it up.
     bytes: [u8; N],
-    len: u8,
 }
 
 impl<const N: usize> Model for ShortText<N> {
