@@ -4,7 +4,6 @@ use Rattle.xml_tree.specs.Tree.{Tree}
 use Rattle.xml_tree.specs.Print.{byte_len, print}
 use Rattle.xml_tree.proofs.PrintLengths.{byte_len-append}
 use Rattle.tree_text.specs.Printing.{document_print, header}
-use Rattle.usage_docs.specs.Services.{document_len}
 use Rattle.edit_ops.specs.Lengths.{element_len}
 use Rattle.edit_ops.specs.declared.change.Change.{Change}
 use Rattle.edit_ops.specs.declared.change.Change.TheVariants.{CreateDocument, Insert, Replace, Remove, SetAttr, DropAttr, RemoveDocument}

@@ -8,7 +8,6 @@ use Rattle.xml_tree.specs.declared.read_error.ReadError.{ReadError}
 use Rattle.xml_tree.specs.declared.read_error.ReadError.TheVariants as errors
 use Rattle.tree_text.specs.declared.fault.TextFault.{TextFault}
 use Rattle.doc_names.specs.declared.usages.Usage.{Usage as TheUsage}
-use Rattle.usage_docs.specs.declared.judging.Fault.{Fault}
 use Rattle.notes.specs.declared.edit.Edit.{Edit}
 use Rattle.xml_tree.specs.Tree.{Tree}
 use Rattle.xcap_io.specs.Causes.{LineState, Rose}
