@@ -9,6 +9,11 @@ IMPORT = re.compile(r"^ *ghost use ([^;]+);", re.M)
 USE = re.compile(r"^ *(?:pub(?:\([^)]*\))? )?use (\w+)::([^;]+);", re.M)
 USED = re.compile(r"(?:(\w+) as )?(\w+)(?=\s*(?:[,}]|$))")
 CLAUSE = re.compile(r"\s*(?:requires|ensures|ghost)\*?\s*\w*\s*(?=\{)")
+EXPORTS = re.compile(r"^pub use \w+::([^;]+);", re.M)
+DECLARED = re.compile(r"^pub (?:fn|struct|enum|trait|type) (\w+)", re.M)
+FUNCTION = re.compile(r"(\bpub (?:unsafe )?)?\bfn \w+")
+GHOST = re.compile(r"^ *ghost \w+(?:: [^;{]*)? = ", re.M)
+HEAD = re.compile(r"\b(?:trait (\w+)|impl(?:<[^{]*?>)? (?:[^{]*? for )?&?(?:mut )?(\w+))")
 CLOSING = {"{": "}", "(": ")", "<": ">", "[": "]"}
 
 
@@ -119,6 +124,9 @@ def parts_of_type(target):
     if not found or found[1].group(1) == "trait":
         return []
     file, words = found
+    if re.match(r"\s*:", file.text[words.end():]):
+        # An associated type, which each impl gives.
+        return []
     model = re.search(rf"^impl.* Model for {target.name}\b", file.text, re.M)
     if model and "ghost Value = " in within(file.text, model.end()):
         place = file.text.index("ghost Value = ", model.end())
@@ -171,3 +179,32 @@ def parts_at(file, place, head):
         end = behind_bracket(text, opening.end())
     has_self = re.search(r"\b[sS]elf\b", signature)
     return parts + file.types(signature + (head if has_self else ""))
+
+
+@functools.cache
+def exported(crate):
+    """The names that the root file of a library declares or gives on; a program has none."""
+    root = CRATES / crate / "src" / "lib.rt"
+    text = without_comments(root.read_text()) if root.exists() else ""
+    given = {here for names in EXPORTS.findall(text) for _, here in USED.findall(names)}
+    return given | set(DECLARED.findall(text))
+
+
+def parts_of_public(crate):
+    """What the clauses of the public calls of a crate name, and what the ghost members of its
+    public types and traits do."""
+    calls, ghosts = [], []
+    for file in CodeFile.all_of(crate):
+        for words in [*FUNCTION.finditer(file.text), *GHOST.finditer(file.text)]:
+            heads = [re.split(r"[;}]", file.text[:it])[-1] for it in file.blocks(words.start())]
+            head = heads[-1] if heads else ""
+            owner = next(filter(None, map(HEAD.search, reversed(heads))), None)
+            name = (owner[1] or owner[2]) if owner else words[0].split()[-1]
+            if name not in exported(crate):
+                continue
+            if not words[0].lstrip().startswith("ghost"):
+                is_public = words[1] or re.search(r"\btrait\b|\bfor\b", head)
+                calls += parts_at(file, words.end(), head) if is_public else []
+            elif file.text[words.end()] == "{":
+                ghosts += file.free_names(words.end(), within(file.text, words.end()), {})
+    return calls, ghosts

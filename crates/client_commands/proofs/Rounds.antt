@@ -6,7 +6,7 @@ use Rattle.stream_texts.specs.Outputs.{TakesAll, TakesSome}
 use Rattle.feed_follower.specs.Rounds.{Rounds}
 use Rattle.feed_follower.specs.States.{Following}
 use Rattle.feed_follower.specs.declared.feeds.Round.{Round}
-use Rattle.client_commands.specs.Endings.{Writes}
+use Rattle.client_commands.specs.inner.Endings.{Writes}
 use Rattle.client_commands.specs.Follows.{FollowsOn, RoundEnds, RoundMade, RoundsMade, WritesCopy, follows_to_the_end}
 use Rattle.client_commands.specs.Lines.{round_line}
 use Rattle.client_commands.specs.declared.ended.Ended.{Ended}

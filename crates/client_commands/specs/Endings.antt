@@ -10,12 +10,6 @@ use Rattle.feed_follower.specs.Faults.{of_client}
 use Rattle.client_commands.specs.declared.ended.Ended.{Ended}
 use Rattle.client_commands.specs.declared.ended.Ended.TheVariants.{Done, OutputFailed, Failed, OutOfMemory}
 
--- how a command ends that has written its output: the line took it all, or failed
-abbrev pub Writes : List ℕ → Ended → LineState → LineState → Type 0
-Writes bytes Done old new = TakesAll bytes old new
-Writes bytes OutputFailed old new = TakesSome bytes old new
-Writes bytes _ old new = ⊥
-
 -- One call was made, and its response was taken, and the output took this text made of it, or some of that where it failed; or the call
 -- failed, and nothing was written; or memory was wanted for the output behind the call, and nothing was written.
 abbrev pub MakesOneCall : List ℕ → Ask → (Response → List ℕ) → Ended → LineState → LineState → LineState → LineState → Type 0

@@ -1,5 +1,5 @@
 -- What the command that follows a document did, by how it ended. This is the project's own.
-use Rattle.std.specs.Prelude.{◌≡◌, ℕ, zero, suc, ◌<◌, List, Option, None, Some, Ok, Err}
+use Rattle.std.specs.Prelude.{◌≡◌, ℕ, zero, suc, ◌<◌, List, Option, Ok, Err}
 use Rattle.xcap_io.specs.Causes.{LineState}
 use Rattle.doc_names.specs.declared.doc_id.DocId.{DocId}
 use Rattle.patch_words.specs.Replay.{CopyHeld}
@@ -34,11 +34,6 @@ RoundEnds f f' OutputFailed peer peer' output output' =
 RoundEnds f f' (Failed fault) peer peer' output output' = Rounds f f' peer peer' (Err fault) × (output' ≡ output)
 RoundEnds f f' OutOfMemory peer peer' output output' = (round : Round) × Rounds f f' peer peer' (Ok round) × (output' ≡ output)
 RoundEnds f f' _ peer peer' output output' = ⊥
-
--- what a round did: none where the command goes on
-abbrev pub MakesRound : Following → Following → Option Ended → LineState → LineState → LineState → LineState → Type 0
-MakesRound f f' None peer peer' output output' = RoundMade f f' peer peer' output output'
-MakesRound f f' (Some ended) peer peer' output output' = RoundEnds f f' ended peer peer' output output'
 
 -- the document was written, if one is held; or some of it; or memory was wanted for that
 abbrev pub WritesCopy : CopyHeld → Ended → LineState → LineState → Type 0

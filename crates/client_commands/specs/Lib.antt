@@ -3,3 +3,4 @@ pub mod Endings
 pub mod Puts
 pub mod Follows
 pub mod Words
+pub mod inner

@@ -1,6 +1,6 @@
 -- What the commands of the client write of responses. This is the project's own.
 use Rattle.std.specs.Prelude.{ℕ, List, [], ◌++◌, Option, None, Some, codes, decimal, encode_utf8_all}
-use Rattle.tree_text.specs.Printing.{document_print}
+use Rattle.xml_tree.specs.Print.{document_print}
 use Rattle.patch_words.specs.Replay.{CopyHeld}
 
 -- of a DELETE: the status

@@ -1,5 +1,5 @@
 // How a command of the client ends.
-ghost use Rattle.client_commands.specs.Endings.{Writes};
+ghost use Rattle.client_commands.specs.inner.Endings.{Writes};
 
 use feed_follower::FollowerFault;
 use xcap_io::{Failed, Line, Sink, write_all};

@@ -1,7 +1,8 @@
 // The command that follows a document.
 ghost use Rattle.std.specs.Prelude.{None};
 ghost use Rattle.patch_apply.specs.Views.{held_in};
-ghost use Rattle.client_commands.specs.Follows.{FollowsOn, Follows, MakesRound, WritesCopy};
+ghost use Rattle.client_commands.specs.Follows.{FollowsOn, Follows, WritesCopy};
+ghost use Rattle.client_commands.specs.inner.Follows.{MakesRound};
 
 use crate::asker::Asker;
 use crate::ended::{Ended, write_out};

@@ -2,11 +2,11 @@
 use Rattle.std.proofs.Common.{◌≡◌, ℕ, List, [], ◌∷◌, ◌++◌, codes, encode_utf8_all, flat_map, refl, ap, sym, ◌∙◌, append_assoc, append-nil}
 use Rattle.std.proofs.lemmas.Str.{encodes-append}
 use lib.Utf8.{encode}
-use Rattle.xml_tree.specs.Print.{print, print_text, text_escape, value_escape}
+use Rattle.xml_tree.specs.Print.{document_print, print, print_text, text_escape, value_escape}
 use Rattle.xml_tree.proofs.Escapes.{encode-text, encode-value}
 use Rattle.conflict_docs.specs.declared.conflicts.ErrorBody.{ErrorBody}
 use Rattle.conflict_docs.specs.declared.conflicts.ErrorBody.TheVariants.{NotUtf8, NotWellFormed, NotXmlFrag, NotXmlAttValue, NoParent, Schema, CannotInsert, CannotDelete, Unique, Constraint}
-use Rattle.conflict_docs.specs.Conflicts.{IsNamed, conflict, conflict_root, conflict_bytes, document_text, child_bytes}
+use Rattle.conflict_docs.specs.Conflicts.{IsNamed, conflict, conflict_root, conflict_bytes, child_bytes}
 
 -- what stands before the child of the root, and behind it
 abbrev opening_bytes : List ℕ
@@ -27,7 +27,7 @@ closing_ascii : encode_utf8_all closing_bytes ≡ closing_bytes
 unfolding encode
 closing_ascii = refl
 
-document_parts : (body : ErrorBody) → document_text (conflict_root body) ≡ opening_bytes ++ ((print (conflict body) ++ []) ++ closing_bytes)
+document_parts : (body : ErrorBody) → document_print (conflict_root body) ≡ opening_bytes ++ ((print (conflict body) ++ []) ++ closing_bytes)
 document_parts body = refl
 
 no_parent_parts : (c : ℕ) (u : List ℕ) → print (conflict (NoParent (c ∷ u))) ≡ codes "<no-parent><ancestor>" ++ (((print_text (c ∷ u) ++ codes "</ancestor>") ++ []) ++ codes "</no-parent>")
@@ -85,7 +85,7 @@ child_is CannotDelete n = refl
 child_is (Unique field) n = unique_is field
 child_is Constraint n = refl
 
-pub document_is : (body : ErrorBody) → IsNamed body → conflict_bytes body ≡ encode_utf8_all (document_text (conflict_root body))
+pub document_is : (body : ErrorBody) → IsNamed body → conflict_bytes body ≡ encode_utf8_all (document_print (conflict_root body))
 document_is body n =
     let c = print (conflict body) in
     append_assoc opening_bytes (child_bytes body) closing_bytes

@@ -1,7 +1,7 @@
 -- Conflict documents. RFC 4825, section 11 (detailed conflict reports).
 use Rattle.std.specs.Prelude.{◌≢◌, ℕ, List, [], ◌∷◌, ◌++◌, codes, encode_utf8_all, flat_map}
 use Rattle.xml_tree.specs.Tree.{last, Tree, tree_of, more_of}
-use Rattle.xml_tree.specs.Print.{print, text_escape, value_escape}
+use Rattle.xml_tree.specs.Print.{header, text_escape, value_escape}
 use Rattle.xml_tree.specs.declared.names.Decl.{Decl}
 use Rattle.xml_tree.specs.Expanded.{name_of}
 use Rattle.conflict_docs.specs.declared.conflicts.ErrorBody.{ErrorBody}
@@ -23,7 +23,7 @@ child_bytes Constraint = codes "<constraint-failure/>"
 -- the bytes of a conflict document; there is no white space between the elements
 abbrev pub conflict_bytes : ErrorBody → List ℕ
 conflict_bytes body =
-    codes "<?xml version=\"1.0\" encoding=\"UTF-8\"?>\n" ++ codes "<xcap-error xmlns=\"urn:ietf:params:xml:ns:xcap-error\">" ++ child_bytes body ++ codes "</xcap-error>"
+    header ++ codes "<xcap-error xmlns=\"urn:ietf:params:xml:ns:xcap-error\">" ++ child_bytes body ++ codes "</xcap-error>"
 
 -- ---- the same as a tree
 
@@ -54,10 +54,6 @@ error_decls = record { prefix = []; uri = codes "urn:ietf:params:xml:ns:xcap-err
 
 abbrev pub conflict_root : ErrorBody → Tree
 conflict_root body = tree_of (name_of [] (codes "xcap-error")) error_decls [] (more_of [] (conflict body) (last []))
-
--- a document's print: the declaration of XML, a line end, the root
-abbrev pub document_text : Tree → List ℕ
-document_text t = codes "<?xml version=\"1.0\" encoding=\"UTF-8\"?>\n" ++ print t
 
 -- a URI, where there is one, is not empty
 abbrev pub IsNamed : ErrorBody → Type 0

@@ -1,7 +1,7 @@
 //! Conflict documents (RFC 4825, section 11).
 ghost use Rattle.std.specs.Prelude.{◌≡◌, [], ◌∷◌, ◌++◌, IfNone, IfOk, IfSome, OnOk, codes, encode_utf8_all, flat_map};
-ghost use Rattle.xml_tree.specs.Print.{text_escape, value_escape};
-ghost use Rattle.conflict_docs.specs.Conflicts.{IsNamed, document_text, conflict_root, conflict_bytes, child_bytes};
+ghost use Rattle.xml_tree.specs.Print.{document_print, text_escape, value_escape};
+ghost use Rattle.conflict_docs.specs.Conflicts.{IsNamed, conflict_root, conflict_bytes, child_bytes};
 
 use std::alloc::Global;
 use xcap_io::Bytes;
@@ -36,7 +36,7 @@ const CLOSING: &[u8] = b"</xcap-error>";
 /// `NoMemory` for want of memory.
 pub fn error_document(alloc: Global, body: &ErrorBody) -> Result<Bytes, NoMemory>
     ensures bytes_of_the_conflict { IfOk result (λ document. document ≡ conflict_bytes body.now) }
-    ensures print_of_the_conflict { IsNamed body.now → IfOk result (λ document. document ≡ encode_utf8_all (document_text (conflict_root body.now))) }
+    ensures print_of_the_conflict { IsNamed body.now → IfOk result (λ document. document ≡ encode_utf8_all (document_print (conflict_root body.now))) }
 {
     let document = document(alloc, body)?;
     Ok(document)

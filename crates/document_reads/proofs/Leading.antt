@@ -9,7 +9,7 @@ use Rattle.xml_tree.specs.Memory.{OfFault}
 use Rattle.xml_tree.specs.declared.read_error.ReadError.{ReadError}
 use Rattle.xml_tree.specs.declared.read_error.ReadError.TheVariants.{Fault, NoMemory}
 use Rattle.doc_names.specs.declared.doc_id.Auid.TheVariants.{RlsServices}
-use Rattle.document_reads.specs.Finding.{HasLongIndex}
+use Rattle.document_reads.specs.inner.Finding.{HasLongIndex}
 use Rattle.machine_words.specs.Resources.{IsIndexOfServices, LeadsUnderGlobal, beyond_limit, there}
 
 pub leads_index : (c : Content) (root : Tree) (tag : ℕ) → IsIndexOfServices c root → document_len root ≤ index_limit → tag + 1 ≡ c.next → LeadsUnderGlobal c RlsServices true (there root tag)

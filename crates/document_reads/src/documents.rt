@@ -1,7 +1,7 @@
 //! GET and HEAD of documents (RFC 4825, sections 7.3 and 8.3).
 ghost use Rattle.std.specs.Prelude.{◌≡◌, Some, IfOk, IfSome, encode_utf8_all};
 ghost use Rattle.xml_tree.specs.Tree.{Tree};
-ghost use Rattle.tree_text.specs.Printing.{document_print};
+ghost use Rattle.xml_tree.specs.Print.{document_print};
 ghost use Rattle.request_terms.specs.MediaTypes.{document_media};
 ghost use Rattle.request_terms.specs.Methods.{as_asked};
 ghost use Rattle.machine_words.specs.Answers.{found, unchanged};

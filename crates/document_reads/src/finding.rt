@@ -6,7 +6,7 @@ ghost use Rattle.usage_docs.specs.Capabilities.{capabilities};
 ghost use Rattle.doc_names.specs.declared.doc_id.Auid.TheVariants.{RlsServices};
 ghost use Rattle.store_core.specs.Indexes.{index};
 ghost use Rattle.machine_words.specs.Resources.{LeadsTo, LeadsUnderGlobal, absent, there, version_of};
-ghost use Rattle.document_reads.specs.Finding.{IsLow, resource_of};
+ghost use Rattle.document_reads.specs.inner.Finding.{IsLow, resource_of};
 
 use crate::NoMemory;
 use crate::listing::index_of_services;

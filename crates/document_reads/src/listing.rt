@@ -5,7 +5,7 @@ ghost use Rattle.xml_tree.specs.Memory.{OfFault};
 ghost use Rattle.xml_tree.specs.Tree.{height};
 ghost use Rattle.usage_docs.specs.Services.{document_len, index_limit};
 ghost use Rattle.machine_words.specs.Resources.{IsIndexOfServices};
-ghost use Rattle.document_reads.specs.Finding.{HasLongIndex};
+ghost use Rattle.document_reads.specs.inner.Finding.{HasLongIndex};
 
 use std::alloc::Global;
 use store_core::Store;

@@ -14,7 +14,8 @@ use Rattle.edit_ops.specs.declared.change.Change.{Change}
 use Rattle.edit_ops.specs.declared.change.Change.TheVariants.{CreateDocument, Insert, Replace, Remove, SetAttr, DropAttr, RemoveDocument}
 use Rattle.edit_ops.specs.Changes.{edited}
 use Rattle.edit_ops.specs.inner.Lengths.{brought, end_tag_len, lost}
-use Rattle.edit_ops.specs.Rebuilding.{FitsHere, made_here, site}
+use Rattle.edit_ops.specs.Rebuilding.{site}
+use Rattle.edit_ops.specs.inner.Here.{FitsHere, made_here}
 use Rattle.edit_ops.proofs.SiteLemmas.{edited_there}
 
 -- ---- an element that gets its first node, or loses its only one

@@ -8,7 +8,8 @@ use Rattle.xml_tree.proofs.PathLemmas.{at-snoc, kid_there}
 use Rattle.edit_ops.specs.declared.change.Change.{Change}
 use Rattle.edit_ops.specs.declared.change.Change.TheVariants.{CreateDocument, Insert, Replace, Remove, SetAttr, DropAttr, RemoveDocument}
 use Rattle.edit_ops.specs.Changes.{Fits, edited}
-use Rattle.edit_ops.specs.Rebuilding.{FitsHere, made_here, site}
+use Rattle.edit_ops.specs.Rebuilding.{site}
+use Rattle.edit_ops.specs.inner.Here.{FitsHere, made_here}
 
 -- ---- what is there
 

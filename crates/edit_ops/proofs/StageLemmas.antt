@@ -6,8 +6,9 @@ use Rattle.xml_tree.proofs.PathLemmas.{from_there, made_at, with_there}
 use Rattle.edit_ops.specs.declared.change.Change.{Change}
 use Rattle.edit_ops.specs.declared.change.Change.TheVariants.{CreateDocument, Insert, Replace, Remove, SetAttr, DropAttr, RemoveDocument}
 use Rattle.edit_ops.specs.Changes.{Fits, WantsMemory, edited}
-use Rattle.edit_ops.specs.Rebuilding.{FitsHere, made_here, site}
-use Rattle.edit_ops.specs.Staging.{WantsHere}
+use Rattle.edit_ops.specs.Rebuilding.{site}
+use Rattle.edit_ops.specs.inner.Here.{FitsHere, made_here}
+use Rattle.edit_ops.specs.inner.Here.{WantsHere}
 use Rattle.edit_ops.proofs.SiteLemmas.{edited_there, fits_there}
 
 is_there : (o : Option Tree) (P : Tree → Type 0) → IsSomeAnd o P → IsSome o

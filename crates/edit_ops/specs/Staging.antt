@@ -3,7 +3,7 @@
 use Rattle.std.specs.Prelude.{◌≡◌, IsSomeAnd, Vec}
 use Rattle.std.specs.declared.alloc.Global.{Global}
 use Rattle.xml_tree.specs.Tree.{Tree, at}
-use Rattle.xml_tree.specs.Edits.{TextsMeet, own_number}
+use Rattle.xml_tree.specs.Edits.{own_number}
 use Rattle.xml_tree.specs.Rooms.{HasAttrRoom, HasNodeRoom, joined_around}
 use Rattle.xml_tree.specs.declared.names.Attr.{Attr}
 use Rattle.xml_tree.specs.declared.tree.Node.{Node}
@@ -26,13 +26,3 @@ IsStagedHere RemoveDocument e made = ⊥
 -- what the change brings into the tree
 abbrev pub IsStaged : Tree → Change → Staged → Type 0
 IsStaged t change made = IsSomeAnd (at (site change) t) (λ e. IsStagedHere change e made)
-
--- the change may want memory at that element: to remove an element from it only where texts meet
-abbrev pub WantsHere : Change → Tree → Type 0
-WantsHere (CreateDocument root) e = ⊥
-WantsHere (Insert parent gap element) e = Unit {0}
-WantsHere (Replace p element) e = Unit {0}
-WantsHere (Remove p) e = TextsMeet (own_number p) e.content
-WantsHere (SetAttr p name value) e = Unit {0}
-WantsHere (DropAttr p name) e = ⊥
-WantsHere RemoveDocument e = ⊥

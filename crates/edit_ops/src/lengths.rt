@@ -9,7 +9,7 @@ ghost use Rattle.xml_tree.specs.Print.{byte_len, is_empty, print, print_attr};
 ghost use Rattle.edit_ops.specs.Changes.{Fits, edited};
 ghost use Rattle.edit_ops.specs.Lengths.{element_len};
 ghost use Rattle.edit_ops.specs.inner.Lengths.{brought, end_tag_len, lost};
-ghost use Rattle.edit_ops.specs.Rebuilding.{FitsHere};
+ghost use Rattle.edit_ops.specs.inner.Here.{FitsHere};
 
 use crate::change::{Change, site_of};
 use xml_tree::{Element, Name, attr_len, element_at, name_len, printed_len};

@@ -6,7 +6,7 @@ ghost use Rattle.xml_tree.specs.Edits.{change_at, change_kid, cut_kid, drop_attr
 ghost use Rattle.xml_tree.specs.Nodes.{content_of};
 ghost use Rattle.xml_tree.specs.declared.tree.Node.TheVariants as node;
 ghost use Rattle.edit_ops.specs.Changes.{Fits, edited};
-ghost use Rattle.edit_ops.specs.Rebuilding.{FitsHere, made_here};
+ghost use Rattle.edit_ops.specs.inner.Here.{FitsHere, made_here};
 
 use crate::change::{Change, site_of};
 use std::alloc::{AllocError, Global};

@@ -9,8 +9,9 @@ ghost use Rattle.xml_tree.specs.declared.names.Attr.{Attr as AnAttr};
 ghost use Rattle.xml_tree.specs.declared.tree.Node.{Node as ANode};
 ghost use Rattle.edit_ops.specs.Changes.{Fits, WantsMemory, edited};
 ghost use Rattle.edit_ops.specs.Moves.{KeepsTheOthers};
-ghost use Rattle.edit_ops.specs.Rebuilding.{FitsHere, made_here};
-ghost use Rattle.edit_ops.specs.Staging.{IsStaged, IsStagedHere, WantsHere};
+ghost use Rattle.edit_ops.specs.inner.Here.{FitsHere, made_here};
+ghost use Rattle.edit_ops.specs.Staging.{IsStaged, IsStagedHere};
+ghost use Rattle.edit_ops.specs.inner.Here.{WantsHere};
 ghost use Rattle.edit_ops.specs.declared.staged.Staged.TheVariants as staging;
 
 use crate::change::{Change, site_of};

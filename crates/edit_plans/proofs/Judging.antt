@@ -19,7 +19,7 @@ use Rattle.usage_docs.specs.Validity.{Schema}
 use Rattle.usage_docs.specs.declared.judging.Fault.{Fault}
 use Rattle.usage_docs.specs.declared.judging.Fault.TheVariants as faults
 use Rattle.usage_docs.specs.declared.judging.Fault.TheVariants.{Unformed, Repeated}
-use Rattle.usage_docs.specs.Reading.Siblings.{IsFirst}
+use Rattle.usage_docs.specs.readers.Siblings.{IsFirst}
 use Rattle.edit_ops.specs.Changes.{edited}
 use Rattle.edit_ops.specs.declared.change.Change.{Change}
 use Rattle.plan_words.specs.declared.refusal.EditRefusal.{EditRefusal}

@@ -27,7 +27,8 @@ use Rattle.plan_words.specs.Deletions.{FindsNothingAfter, IsDeletePlan, IsPlanFo
 use Rattle.usage_docs.specs.Kinds.{kind_at}
 use Rattle.plan_words.specs.Lawful.{LawfulOver}
 use Rattle.plan_words.specs.Plans.{IsTested}
-use Rattle.plan_words.specs.Tags.{AttrsFormed, tag_with, value_in, with_attrs}
+use Rattle.plan_words.specs.Tags.{AttrsFormed, tag_with, with_attrs}
+use Rattle.plan_words.specs.inner.Tags.{value_in}
 use Rattle.plan_words.proofs.Places.{as_exchange}
 use Rattle.plan_words.proofs.Removed.{no_shorter}
 use Rattle.plan_words.proofs.Reselected.{any_found, found_any, finds, found_from, found_to, only_retag, only_root, scope_retag, selected_retag, selected_root, there_retag}

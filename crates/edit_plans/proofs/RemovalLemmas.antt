@@ -11,8 +11,8 @@ use Rattle.node_select.specs.declared.selector.Step.{Step}
 use Rattle.node_select.specs.Selection.{SelectsChild, is_named, is_tested}
 use Rattle.usage_docs.specs.declared.rows.Kind.{Kind}
 use Rattle.usage_docs.specs.Rows.{Scope}
-use Rattle.usage_docs.specs.Reading.Parts.{follows, end}
-use Rattle.usage_docs.specs.Reading.Gaps.{part_before, part_after}
+use Rattle.usage_docs.specs.readers.Parts.{follows, end}
+use Rattle.usage_docs.specs.readers.Gaps.{part_before, part_after}
 use Rattle.plan_words.specs.Removals.{StillSelects, ClosesUp}
 use Rattle.edit_plans.specs.inner.Sides.{part_in}
 use Rattle.plan_words.proofs.Removed.{get_removed}

@@ -11,9 +11,9 @@ use Rattle.step_laws.proofs.GapLaws.{lawful_by_count, lawful_free}
 use Rattle.xml_tree.specs.Tree.{Content, last, more, note, Tree, tree_of, kids}
 use Rattle.usage_docs.specs.declared.rows.Kind.{Kind}
 use Rattle.usage_docs.specs.Rows.{Scope}
-use Rattle.usage_docs.specs.Reading.Parts.{follows, end}
+use Rattle.usage_docs.specs.readers.Parts.{follows, end}
 use Rattle.usage_docs.specs.Validity.{ValidChild}
-use Rattle.usage_docs.specs.Reading.Gaps.{FollowsGap, part_of_kid, part_before, part_after}
+use Rattle.usage_docs.specs.readers.Gaps.{FollowsGap, part_of_kid, part_before, part_after}
 use Rattle.edit_plans.specs.inner.Sides.{part_in, fits_between, FitsIn, FitsOver, FitsPlace}
 use Rattle.edit_plans.proofs.Judging.{true_false}
 

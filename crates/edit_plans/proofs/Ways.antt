@@ -7,7 +7,8 @@ use Rattle.xml_tree.proofs.ScopeLemmas.{scope_at-below}
 use Rattle.doc_names.specs.declared.usages.Usage.{Usage}
 use Rattle.usage_docs.specs.declared.rows.Kind.{Kind}
 use Rattle.usage_docs.specs.Rows.{Scope, root_kind}
-use Rattle.usage_docs.specs.Kinds.{kind_at, kind_of_kid, row_below}
+use Rattle.usage_docs.specs.Kinds.{kind_at, kind_of_kid}
+use Rattle.usage_docs.specs.inner.Kinds.{row_below}
 use Rattle.plan_words.proofs.Options.{scope_through}
 use Rattle.plan_words.proofs.ValidBeside.{kind_through}
 use Rattle.edit_plans.specs.inner.Parents.{Below}

@@ -4,7 +4,7 @@ ghost use Rattle.std.specs.Option.{ForSome};
 ghost use Rattle.step_laws.specs.Edits.{IsNextMatch};
 ghost use Rattle.xml_tree.specs.Tree.{kids_of};
 ghost use Rattle.node_select.specs.Selection.{SelectsChild, is_named, is_tested};
-ghost use Rattle.usage_docs.specs.Reading.Gaps.{part_before, part_after};
+ghost use Rattle.usage_docs.specs.readers.Gaps.{part_before, part_after};
 ghost use Rattle.plan_words.specs.Removals.{ClosesUp, StillSelects};
 ghost use Rattle.edit_plans.specs.inner.Asking.{IsRemovedIn, IsSelected};
 

@@ -7,7 +7,7 @@ ghost use Rattle.xml_tree.specs.Tree.{height, kids_of};
 ghost use Rattle.usage_docs.specs.declared.rows.Key.{Key};
 ghost use Rattle.usage_docs.specs.Keys.{key_of, value_of};
 ghost use Rattle.usage_docs.specs.Clashes.{RepeatsAt, mark, mark_at, mark_of};
-ghost use Rattle.usage_docs.specs.Reading.Siblings.{IsFirst};
+ghost use Rattle.usage_docs.specs.readers.Siblings.{IsFirst};
 ghost use Rattle.plan_words.specs.Beside.{ClashesBeside, ClashesInside, IsTwin, NoTwin};
 ghost use Rattle.usage_docs.specs.Kinds.{kind_of_kid};
 ghost use Rattle.edit_plans.specs.inner.Asking.{HasRoom, among, others};

@@ -2,7 +2,7 @@
 -- exists; RFC 4826, sections 3.4.5 and 4.4.5, name the attributes that tell an element from its siblings.
 use Rattle.std.specs.Prelude.{◌≡◌, ℕ, List, [], ◌⊎◌, Option, None, Some, Result, Err, MatchResult, encode_utf8_all}
 use Rattle.xml_tree.specs.Tree.{Tree}
-use Rattle.tree_text.specs.Printing.{document_print}
+use Rattle.xml_tree.specs.Print.{document_print}
 use Rattle.doc_names.specs.Ids.{id_text}
 use Rattle.doc_names.specs.Usages.{usage_of}
 use Rattle.doc_names.specs.declared.doc_id.DocId.{DocId}

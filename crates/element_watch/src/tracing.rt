@@ -1,6 +1,5 @@
 //! Where an element stood before changes.
-ghost use Rattle.std.specs.Prelude.{◌≡◌, ◌↔◌, ◌≤◌, ◌+◌, ◌-◌, ◌||◌, ℕ, List, [], All, Some, None, is_some, length, not, option_and_then, if◌then◌else◌};
-ghost use Rattle.std.specs.Str.{bytes_eq};
+ghost use Rattle.std.specs.Prelude.{◌≡◌, ◌↔◌, ◌≤◌, ◌+◌, ◌-◌, ◌||◌, ℕ, List, All, Some, None, is_some, length, not, option_and_then, if◌then◌else◌};
 ghost use Rattle.store_core.specs.Limits.{most_notes};
 ghost use Rattle.edit_ops.specs.Moves.{behind, made_room, under};
 ghost use Rattle.edit_ops.specs.declared.change.Change.TheVariants.{Remove};
@@ -107,17 +106,11 @@ fn before_remove(path: &Path, place: &Path) -> Option<Path>
     }
 }
 
-fn has_no_prefix(name: &Name) -> bool
-    ensures tells_whether_it_has_none { result ≡ bytes_eq name.now.prefix [] }
-{
-    name.prefix.is("")
-}
-
 // Whether an attribute of this name of the element at a place touches the one at a path.
 fn is_touched(path: &Path, place: &Path, name: &Name) -> bool
     ensures tells_whether_it_is_touched { result ≡ is_touched path.now place.now name.now }
 {
-    lies_in(path, place) || (lies_in(place, path) && has_no_prefix(name))
+    lies_in(path, place) || (lies_in(place, path) && name.has_no_prefix())
 }
 
 // The path before an attribute of the element at a place was written or dropped: None where that

@@ -14,7 +14,8 @@ use Rattle.xcap_client.specs.declared.fault.ClientFault.TheVariants as clients
 use Rattle.feed_follower.specs.Documents.{Fetches}
 use Rattle.feed_follower.specs.Feeds.{TakesFeed}
 use Rattle.feed_follower.specs.Paths.{feed_path}
-use Rattle.feed_follower.specs.Rounds.{AsksFeed, KeepsState, Refetches, Rounds, asks, by_document, by_feed}
+use Rattle.feed_follower.specs.Rounds.{AsksFeed, Refetches, Rounds, asks, by_document, by_feed}
+use Rattle.feed_follower.specs.inner.Rounds.{KeepsState}
 use Rattle.feed_follower.specs.Starts.{Starts}
 use Rattle.feed_follower.specs.States.{Following}
 use Rattle.feed_follower.specs.declared.fault.FollowerFault.{FollowerFault}

@@ -25,7 +25,8 @@ use Rattle.patch_apply.specs.declared.replica.Held.{Held as Version}
 use Rattle.xcap_client.specs.declared.fault.ClientFault.{ClientFault}
 use Rattle.feed_follower.specs.Documents.{BringsVersion, TakesDocument, spells_a_document, spells_none, lacks_memory as reading_lacks_memory}
 use Rattle.feed_follower.specs.Faults.{of_notice, of_text}
-use Rattle.feed_follower.specs.Feeds.{KeepsUnlessTold, TakesFeed, TakesNotice, applies, is_none, lacks_memory, outcome_of}
+use Rattle.feed_follower.specs.Feeds.{TakesFeed, TakesNotice, applies, is_none, lacks_memory, outcome_of}
+use Rattle.feed_follower.specs.inner.Feeds.{KeepsUnlessTold}
 use Rattle.feed_follower.specs.declared.fault.FollowerFault.{FollowerFault}
 use Rattle.feed_follower.specs.declared.feeds.Round.{Round}
 

@@ -43,9 +43,3 @@ abbrev pub TakesFeed : DocId → Result Response ClientFault → CopyHeld → Co
 TakesFeed doc (Ok response) held held' result = TakesNotice doc response.body held held' result
 TakesFeed doc (Err fault) held held' result =
     (held' ≡ held) × (result ≡ (if is_refused_with 410 fault then Ok None else Err (of_client fault)))
-
--- only where a notice told what came of the document, something else may be held than before
-abbrev pub KeepsUnlessTold : CopyHeld → CopyHeld → Result (Option Round) FollowerFault → Type 0
-KeepsUnlessTold held held' (Ok (Some round)) = Unit {0}
-KeepsUnlessTold held held' (Ok None) = held' ≡ held
-KeepsUnlessTold held held' (Err fault) = held' ≡ held

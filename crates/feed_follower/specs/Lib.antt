@@ -5,3 +5,4 @@ pub mod Documents
 pub mod Feeds
 pub mod Starts
 pub mod Rounds
+pub mod inner

@@ -35,12 +35,6 @@ pub record Refetches (f f' : Following) (old new : LineState) (result : Result R
   pub fetches : Fetches f.root f.user f.doc old new fetched
   pub holds : HoldsFetched f f' fetched result
 
--- only where a notice told what came of the document, the follower may be another than before
-abbrev pub KeepsState : Following → Following → Result (Option Round) FollowerFault → Type 0
-KeepsState f f' (Ok (Some round)) = Unit {0}
-KeepsState f f' (Ok None) = f' ≡ f
-KeepsState f f' (Err fault) = f' ≡ f
-
 -- The feed's notice told what came of the document; or the feed didn't, and then the document was fetched; or asking for the feed failed.
 pub data Rounds (f f' : Following) (old new : LineState) (result : Result Round FollowerFault) : Type 0 where
   by_feed : (round : Round) → AsksFeed f f' old new (Ok (Some round)) → result ≡ Ok round → Rounds f f' old new result

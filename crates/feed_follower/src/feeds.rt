@@ -2,7 +2,8 @@
 ghost use Rattle.std.specs.Prelude.{◌≡◌};
 ghost use Rattle.patch_apply.specs.Views.{held_in};
 ghost use Rattle.patch_laws.specs.Replayed.{HoldsSound};
-ghost use Rattle.feed_follower.specs.Feeds.{KeepsUnlessTold, TakesFeed, TakesNotice, outcome_of};
+ghost use Rattle.feed_follower.specs.Feeds.{TakesFeed, TakesNotice, outcome_of};
+ghost use Rattle.feed_follower.specs.inner.Feeds.{KeepsUnlessTold};
 
 use crate::fault::FollowerFault;
 use http_exchange::Response;

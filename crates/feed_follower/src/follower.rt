@@ -1,7 +1,8 @@
 // A follower of a document.
 ghost use Rattle.std.specs.Prelude.{◌≡◌, OnErr, chars, option_map};
 ghost use Rattle.patch_apply.specs.Views.{held_in};
-ghost use Rattle.feed_follower.specs.Rounds.{AsksFeed, KeepsState, Refetches, Rounds};
+ghost use Rattle.feed_follower.specs.Rounds.{AsksFeed, Refetches, Rounds};
+ghost use Rattle.feed_follower.specs.inner.Rounds.{KeepsState};
 ghost use Rattle.feed_follower.specs.Starts.{Starts};
 
 use crate::documents::document;

@@ -4,7 +4,7 @@ use Rattle.std.proofs.lemmas.Bool.{eq-eqb}
 use Rattle.std.specs.Prelude.{◌==◌}
 use Rattle.xml_tree.specs.Tree.{Tree}
 use Rattle.tree_text.specs.Faults.{TextAnswer}
-use Rattle.tree_text.specs.Printing.{document_print}
+use Rattle.xml_tree.specs.Print.{document_print}
 use Rattle.doc_names.specs.Ids.{id_text}
 use Rattle.doc_names.specs.Same.{same_id}
 use Rattle.doc_names.specs.declared.doc_id.DocId.{DocId}

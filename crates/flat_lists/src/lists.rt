@@ -1,7 +1,7 @@
 //! GET and HEAD of flat lists (RFC 4826, section 4; RFC 9110, sections 9.3.1 and 9.3.2).
 ghost use Rattle.std.specs.Prelude.{◌≡◌, None, IfOk, encode_utf8_all};
 ghost use Rattle.xml_tree.specs.Memory.{Answered};
-ghost use Rattle.tree_text.specs.Printing.{document_print};
+ghost use Rattle.xml_tree.specs.Print.{document_print};
 ghost use Rattle.reply_text.specs.Heads.{plain};
 ghost use Rattle.reply_text.specs.declared.media_types.Media.TheVariants as medias;
 ghost use Rattle.request_terms.specs.Methods.{as_asked};

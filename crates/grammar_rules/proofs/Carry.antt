@@ -2,7 +2,8 @@
 use Rattle.std.proofs.Common.{◌≡◌, ℕ, ◌-◌, Bool, true, false, cond, List, [], ◌++◌, length, Result, Ok, Err, ◌⊎◌, inl, inr, ⊎_elim, refl, ap, subst, ◌∙◌, arith}
 use Rattle.std.proofs.lemmas.List.{length-append}
 use Rattle.grammar_rules.specs.Rules.{Event, Begin, Mark, Rule, sequence, either, valued, sized}
-use Rattle.grammar_rules.specs.Reading.{Stop, Syntax, Faulty, Reader, ◌>>=◌, read_either, read_valued, read_sized}
+use Rattle.grammar_rules.specs.Reading.{Stop, Syntax, Faulty, Reader, ◌>>=◌, read_valued}
+use Rattle.grammar_rules.specs.readers.Functions.{read_either, read_sized}
 use Rattle.grammar_rules.specs.Answers.{Faults}
 use Rattle.grammar_rules.proofs.Exact.{Rest, ahead, sequence_meets, sequence_whole, Passed, IsRead, IsStopped, IsAtFault, Outcome, Exact, behind_passed}
 

@@ -2,7 +2,8 @@
 use Rattle.std.proofs.Common.{◌≡◌, ℕ, ◌<◌, Bool, true, false, cond, List, [], ◌∷◌, ◌++◌, length, Result, Ok, Err, ◌⊎◌, inl, inr, ⊎_elim, refl, ap, subst, ◌∙◌, arith}
 use Rattle.std.proofs.lemmas.List.{length-append, append-nil}
 use Rattle.grammar_rules.specs.Rules.{Event, Begin, Mark, Rule, only, atomic}
-use Rattle.grammar_rules.specs.Reading.{Stop, Syntax, Faulty, Reader, ◌>>=◌, head_is, read_only, whole_or_stop, read_atomic}
+use Rattle.grammar_rules.specs.Reading.{Stop, Syntax, Faulty, Reader, ◌>>=◌, head_is}
+use Rattle.grammar_rules.specs.readers.Functions.{read_only, whole_or_stop, read_atomic}
 use Rattle.grammar_rules.specs.Answers.{Faults}
 use Rattle.grammar_rules.proofs.Exact.{Rest, ahead, regroup, Passed, Behind, Later, IsRead, IsStopped, IsAtFault, Outcome, Exact}
 use Rattle.grammar_rules.proofs.Heads.{Heads, Not}

@@ -3,7 +3,8 @@ use Rattle.std.proofs.Common.{◌≡◌, ℕ, ◌+◌, ◌<◌, Bool, true, fals
 use Rattle.std.proofs.lemmas.Bool.{eqb-true, eq-eqb}
 use Rattle.std.proofs.lemmas.List.{length-append, nil_from_length}
 use Rattle.grammar_rules.specs.Rules.{AllPass, Lacks, OnlyLast}
-use Rattle.grammar_rules.specs.Reading.{starts, all_but_last}
+use Rattle.grammar_rules.specs.Reading.{starts}
+use Rattle.grammar_rules.specs.readers.Functions.{all_but_last}
 
 -- of two fronts of one text, the longer goes on from the other
 pub record GoesOn (v u t : List ℕ) : Type 0 where

@@ -5,7 +5,8 @@ use Rattle.std.proofs.lemmas.Bool.Decides.{nat_tests}
 use Rattle.std.proofs.lemmas.List.{append_cancel_left, length-append, append-nil}
 use Rattle.grammar_rules.specs.Digits.{Digits}
 use Rattle.grammar_rules.specs.Rules.{Event, Begin, Mark, AllPass, run, Lacks, run_without, IsNumberSoFar, number_from, number}
-use Rattle.grammar_rules.specs.Reading.{Stop, Syntax, Faulty, starts, front_of, after_front, read_run, all_but_last, front_without, after_without, read_run_without, number_end, read_digits, read_number}
+use Rattle.grammar_rules.specs.Reading.{Stop, Syntax, Faulty, starts, front_of, after_front, read_run}
+use Rattle.grammar_rules.specs.readers.Functions.{all_but_last, front_without, after_without, read_run_without, number_end, read_digits, read_number}
 use Rattle.grammar_rules.specs.Answers.{Faults}
 use Rattle.grammar_rules.proofs.Exact.{Rest, ahead, regroup, Passed, Later, IsRead, IsStopped, Outcome, Exact}
 use Rattle.grammar_rules.proofs.Leaves.{leaf}

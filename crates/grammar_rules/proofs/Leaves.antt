@@ -3,7 +3,8 @@ use Rattle.std.proofs.Common.{◌≡◌, ℕ, ◌≤◌, Bool, true, false, cond
 use Rattle.std.proofs.lemmas.Bool.{eqb-true, eq-eqb}
 use Rattle.std.proofs.lemmas.List.{length-append}
 use Rattle.grammar_rules.specs.Rules.{Event, Begin, Mark, Rule, breaks, empty, one, word}
-use Rattle.grammar_rules.specs.Reading.{Stop, Syntax, Faulty, read_empty, read_one, read_word}
+use Rattle.grammar_rules.specs.Reading.{Stop, Syntax, Faulty, read_one, read_word}
+use Rattle.grammar_rules.specs.readers.Functions.{read_empty}
 use Rattle.grammar_rules.specs.Answers.{Faults}
 use Rattle.grammar_rules.proofs.Exact.{Rest, ahead, regroup, Passed, Later, IsRead, IsStopped, Outcome, Exact}
 

@@ -3,7 +3,8 @@ use Rattle.std.proofs.Common.{◌≡◌, ℕ, ◌+◌, ◌-◌, ◌<◌, ◌≤�
 use Rattle.std.specs.Prelude.{Option, Some, None}
 use Rattle.std.proofs.lemmas.List.{length-append, append-nil, take-append-drop, length-drop}
 use Rattle.grammar_rules.specs.Rules.{Event, Begin, Mark, Rule, word, marked, judged, trap}
-use Rattle.grammar_rules.specs.Reading.{Stop, Syntax, Faulty, Reader, ◌>>=◌, starts, read_word, read_marked, judgement, read_judged, read_trap}
+use Rattle.grammar_rules.specs.Reading.{Stop, Syntax, Faulty, Reader, ◌>>=◌, starts, read_word}
+use Rattle.grammar_rules.specs.readers.Functions.{read_marked, judgement, read_judged, read_trap}
 use Rattle.grammar_rules.specs.Answers.{Faults}
 use Rattle.grammar_rules.proofs.Exact.{Rest, ahead, Passed, Behind, Later, IsRead, IsAtFault, Outcome, Exact}
 use Rattle.grammar_rules.proofs.Carry.{Idle, Covers, Carries, same, carried_same}

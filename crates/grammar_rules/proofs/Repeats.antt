@@ -3,7 +3,8 @@ use Rattle.std.proofs.Common.{◌≡◌, ℕ, zero, suc, ◌<◌, ◌≤◌, Boo
 use Rattle.std.proofs.lemmas.Str.{length-le-encodes}
 use Rattle.std.proofs.lemmas.List.{length-append, nil_from_length}
 use Rattle.grammar_rules.specs.Rules.{Event, Mark, Rule, sequence, valued, Each, many}
-use Rattle.grammar_rules.specs.Reading.{Stop, Reader, ◌>>=◌, read_at_most, read_many}
+use Rattle.grammar_rules.specs.Reading.{Stop, Reader, ◌>>=◌}
+use Rattle.grammar_rules.specs.readers.Functions.{read_at_most, read_many}
 use Rattle.grammar_rules.specs.Answers.{Faults}
 use Rattle.grammar_rules.proofs.Exact.{Rest, ahead, regroup, sequence_outcome, IsRead, Outcome, Exact}
 use Rattle.grammar_rules.proofs.Carry.{idle_passed, Covers, Carries, same, carried_same, valued_outcome}

@@ -3,7 +3,8 @@ use Rattle.std.proofs.Common.{◌≡◌, ℕ, ◌<◌, Bool, true, false, List, 
 use Rattle.std.specs.Prelude.{◌&&◌, Option, Some, None}
 use Rattle.std.proofs.lemmas.List.{length-append, append-nil}
 use Rattle.grammar_rules.specs.Rules.{Event, Begin, Mark, Rule, AllPass, empty, run, sequence, many, valued, optional, some_of, keeping_second}
-use Rattle.grammar_rules.specs.Reading.{Reader, head_is, after_front, spaced, read_many, read_optional}
+use Rattle.grammar_rules.specs.Reading.{Reader, head_is, after_front}
+use Rattle.grammar_rules.specs.readers.Functions.{spaced, read_many, read_optional}
 use Rattle.grammar_rules.specs.Answers.{Faults}
 use Rattle.grammar_rules.proofs.Exact.{Rest, ahead, regroup, sequence_meets, sequence_whole, Exact}
 use Rattle.grammar_rules.proofs.Carry.{Idle, Covers, valued_meets, valued_whole, either_meets, either_whole}

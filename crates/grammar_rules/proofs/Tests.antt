@@ -1,7 +1,8 @@
 -- Choices and repetitions by a test of the first character, or of a word and the character behind it.
 use Rattle.std.proofs.Common.{◌≡◌, ℕ, Bool, true, false, List, [], ◌∷◌, ◌++◌, ◌⊎◌, inr, refl, sym, ap, subst, ◌∙◌}
 use Rattle.grammar_rules.specs.Rules.{Event, Begin, Mark, Rule, run, either, optional, between}
-use Rattle.grammar_rules.specs.Reading.{Reader, head_is, starts, read_run, read_either, read_optional, read_between}
+use Rattle.grammar_rules.specs.Reading.{Reader, head_is, starts, read_run}
+use Rattle.grammar_rules.specs.readers.Functions.{read_either, read_optional, read_between}
 use Rattle.grammar_rules.specs.Answers.{Faults}
 use Rattle.grammar_rules.proofs.Exact.{Rest, ahead, Exact}
 use Rattle.grammar_rules.proofs.Carry.{Idle, Covers, exact_either}

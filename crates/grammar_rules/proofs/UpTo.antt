@@ -2,7 +2,8 @@
 use Rattle.std.proofs.Common.{◌≡◌, ℕ, ◌<◌, Bool, true, false, cond, List, [], ◌∷◌, ◌++◌, length, drop, Result, Ok, Err, ⊎_elim, refl, sym, ap, subst, ◌∙◌, append_assoc, arith}
 use Rattle.std.proofs.lemmas.List.{append_cancel_right, length-append, append-nil}
 use Rattle.grammar_rules.specs.Rules.{AllPass, Lacks, OnlyLast, up_to}
-use Rattle.grammar_rules.specs.Reading.{Stop, Syntax, Faulty, ◌>>=◌, starts, read_up_to}
+use Rattle.grammar_rules.specs.Reading.{Stop, Syntax, Faulty, ◌>>=◌, starts}
+use Rattle.grammar_rules.specs.readers.Functions.{read_up_to}
 use Rattle.grammar_rules.specs.Answers.{Faults}
 use Rattle.grammar_rules.proofs.Exact.{Rest, Outcome, Exact}
 use Rattle.grammar_rules.proofs.Leaves.{leaf_read, leaf_stopped}

@@ -2,7 +2,8 @@
 use Rattle.std.proofs.Common.{◌≡◌, ℕ, ◌+◌, ◌<◌, ◌≤◌, true, false, List, [], ◌∷◌, ◌++◌, length, Result, Ok, Err, ◌⊎◌, inl, inr, ⊎_elim, refl, sym, ap, subst, ◌∙◌, append_assoc, arith}
 use Rattle.std.proofs.lemmas.List.{length-append, append-nil}
 use Rattle.grammar_rules.specs.Rules.{Event, Begin, Mark, Rule, breaks}
-use Rattle.grammar_rules.specs.Reading.{Stop, Syntax, Faulty, Reader, ◌>>=◌, all_of, read_whole}
+use Rattle.grammar_rules.specs.Reading.{Stop, Syntax, Faulty, Reader, ◌>>=◌}
+use Rattle.grammar_rules.specs.readers.Functions.{all_of, read_whole}
 use Rattle.grammar_rules.specs.Answers.{Faults, IsSaid, IsCalm, IsSpelled, BreaksOff, IsFirstFault, Answers}
 use Rattle.grammar_rules.proofs.Exact.{Rest, IsRead, IsStopped, IsAtFault, Outcome, Exact}
 use Rattle.grammar_rules.proofs.Heads.{Heads}

@@ -2,3 +2,4 @@ pub mod Rules
 pub mod Digits
 pub mod Reading
 pub mod Answers
+pub mod readers

@@ -7,17 +7,19 @@ use Rattle.httparse.specs.Grammar.{ResponseHead, status_code}
 use Rattle.httparse.specs.Spans.{header_bytes, name_and_value}
 use Rattle.httparse.specs.declared.spans.HeaderSpan.{HeaderSpan}
 use Rattle.httparse.specs.declared.spans.ResponseSpans.{ResponseSpans}
-use Rattle.http_wire.specs.Inflow.{Gains}
+use Rattle.http_wire.specs.inner.Inflow.{Gains}
 use Rattle.http_exchange.specs.declared.fault.ResponseFault.{ResponseFault}
 use Rattle.http_exchange.specs.declared.fault.ResponseFault.TheVariants as faults
 use Rattle.http_exchange.specs.declared.extents.Extent.{Extent}
 use Rattle.http_exchange.specs.declared.response.Response.{Response}
-use Rattle.http_exchange.specs.Stops.{ByCause, IsOfFields}
+use Rattle.http_exchange.specs.Stops.{ByCause}
+use Rattle.http_exchange.specs.inner.Stops.{IsOfFields}
 use Rattle.http_exchange.specs.Heads.{BeginsWithHead}
 use Rattle.http_exchange.specs.Tags.{TagIs}
 use Rattle.http_exchange.specs.Extents.{extent_by, body_by, body_to, LacksMore}
-use Rattle.http_exchange.specs.Inflow.{IsHeadAt, Settles}
-use Rattle.http_exchange.specs.Responses.{extent_of, response_of, refused, responds, IsDecided, DecidesNothing, lacks_body, AnswersRead, GivesBody}
+use Rattle.http_exchange.specs.inner.Inflow.{IsHeadAt, Settles}
+use Rattle.http_exchange.specs.Responses.{extent_of, response_of, refused, responds, IsDecided, DecidesNothing, lacks_body, AnswersRead}
+use Rattle.http_exchange.specs.inner.Responses.{GivesBody}
 use Rattle.http_exchange.proofs.Fronts.{begins-append}
 
 -- what holds by the cause of a fault, of another answer with that fault

@@ -12,8 +12,9 @@ use Rattle.httparse.specs.declared.spans.Span.{Span}
 use Rattle.httparse.specs.declared.spans.HeaderSpan.{HeaderSpan}
 use Rattle.httparse.specs.declared.spans.ResponseSpans.{ResponseSpans}
 use Rattle.httparse.proofs.GrammarLemmas.{ReadsResponse-append}
-use Rattle.http_exchange.specs.Heads.{BeginsWithHead, HasNoHead, NeverHasHead}
-use Rattle.http_exchange.specs.Inflow.{IsHeadAt}
+use Rattle.http_exchange.specs.Heads.{BeginsWithHead, HasNoHead}
+use Rattle.http_exchange.specs.inner.Inflow.{NeverHasHead}
+use Rattle.http_exchange.specs.inner.Inflow.{IsHeadAt}
 
 -- what begins with a head does so however it goes on
 pub begins-append : (bytes more : List ℕ) (head : ResponseHead) (rest : List ℕ) → BeginsWithHead bytes head rest → BeginsWithHead (bytes ++ more) head (rest ++ more)

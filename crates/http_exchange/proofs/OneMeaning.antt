@@ -5,7 +5,7 @@ use Rattle.httparse.specs.Grammar.{ResponseHead}
 use Rattle.httparse.specs.Spans.{name_and_value}
 use Rattle.httparse.proofs.GrammarLemmas.{response_unique}
 use Rattle.preconditions.specs.Tags.{tag_text}
-use Rattle.preconditions.specs.Reading.{entity_tag}
+use Rattle.preconditions.specs.readers.Fields.{entity_tag}
 use Rattle.http_exchange.specs.declared.fault.ResponseFault.{ResponseFault}
 use Rattle.http_exchange.specs.declared.response.Response.{Response}
 use Rattle.http_exchange.specs.Heads.{BeginsWithHead}

@@ -4,7 +4,7 @@ use Rattle.std.proofs.lemmas.Bool.{and_parts, true≢false}
 use Rattle.std.proofs.lemmas.List.{append_cancel_left, append_cancel_right}
 use Rattle.std.specs.List.{list_all}
 use Rattle.preconditions.specs.Tags.{AreAll, is_tag_byte}
-use Rattle.http_exchange.specs.Tags.{IsQuoted}
+use Rattle.http_exchange.specs.inner.Tags.{IsQuoted}
 
 -- each passes the test where the whole list does, and the other way round
 pub all_pass : (p : ℕ → Bool) (xs : List ℕ) → list_all p xs ≡ true → AreAll p xs

@@ -3,7 +3,7 @@ pub mod Stops
 pub mod Heads
 pub mod Tags
 pub mod Extents
-pub mod Inflow
 pub mod Responses
 pub mod Requests
 pub mod Understood
+pub mod inner

@@ -13,8 +13,7 @@ use Rattle.http_exchange.specs.declared.response.Response.{Response}
 use Rattle.http_exchange.specs.Stops.{ByCause}
 use Rattle.http_exchange.specs.Heads.{BeginsWithHead, HasNoHead}
 use Rattle.http_exchange.specs.Tags.{TagIs}
-use Rattle.http_exchange.specs.Extents.{extent_by, body_by, body_to, LacksMore}
-use Rattle.http_exchange.specs.Inflow.{Settles}
+use Rattle.http_exchange.specs.Extents.{extent_by, body_to, LacksMore}
 
 -- how far the body goes behind that head
 abbrev pub extent_of : ResponseHead → Result Extent ResponseFault
@@ -49,9 +48,3 @@ pub record AnswersRead (source source' : Inward) (result : Result Response Respo
   pub read : List ℕ
   pub given : Gave source source' read
   pub answer : ByCause result (DecidesNothing read) (IsDecided read source'.ended)
-
--- Bytes were read behind those that were held, and the body is by them all; where a read failed, they don't decide.
-pub record GivesBody (extent : Extent) (held : List ℕ) (source source' : Inward) (result : Result (List ℕ) ResponseFault) : Type 0 where
-  pub read : List ℕ
-  pub given : Gave source source' read
-  pub body : ByCause result (LacksMore extent (held ++ read)) (Settles (body_by extent) (held ++ read) source')

@@ -1,5 +1,5 @@
 -- Why reading stops, and what the source's count of failed reads says of that. This is the project's own.
-use Rattle.std.specs.Prelude.{◌≡◌, ℕ, Result, Ok, Err}
+use Rattle.std.specs.Prelude.{◌≡◌, ℕ, Result, Err}
 use Rattle.xcap_io.specs.Causes.{Rose}
 use Rattle.http_exchange.specs.declared.fault.Stop.{Stop}
 use Rattle.http_exchange.specs.declared.fault.Stop.TheVariants as stops
@@ -11,13 +11,7 @@ abbrev pub fault_of : Stop → ResponseFault
 fault_of stops.ReadFailed = faults.ReadFailed
 fault_of stops.NoMemory = faults.NoMemory
 
--- the count rose where a read failed, and else it stayed
-abbrev pub CountsStop : {T : Type 0} → ℕ → ℕ → Result T Stop → Type 0
-CountsStop before now (Ok x) = now ≡ before
-CountsStop before now (Err stops.ReadFailed) = Rose before now
-CountsStop before now (Err stops.NoMemory) = now ≡ before
-
--- the same of what stands in the place of a response
+-- the count rose where a read failed, so that something else stands in the place of a response, and else it stayed
 abbrev pub CountsFault : {T : Type 0} → ℕ → ℕ → Result T ResponseFault → Type 0
 CountsFault before now (Err faults.ReadFailed) = Rose before now
 CountsFault before now _ = now ≡ before
@@ -27,10 +21,3 @@ abbrev pub ByCause : {T : Type 0} → Result T ResponseFault → Type 0 → (Res
 ByCause (Err faults.ReadFailed) Lacks Said = Lacks
 ByCause (Err faults.NoMemory) Lacks Said = Unit {0}
 ByCause result Lacks Said = Said result
-
--- the fault is one that the fields of a head show
-abbrev pub IsOfFields : ResponseFault → Type 0
-IsOfFields faults.Coding = Unit {0}
-IsOfFields faults.Length = Unit {0}
-IsOfFields (faults.TooLong n) = Unit {0}
-IsOfFields _ = ⊥

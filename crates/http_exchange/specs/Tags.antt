@@ -1,11 +1,7 @@
 -- The tag of a response: what its `ETag` field says (RFC 9110, section 8.8.3).
-use Rattle.std.specs.Prelude.{◌≡◌, ℕ, Bool, List, [], ◌∷◌, ◌++◌, Option, None, Some, codes, chars, IsUtf8}
+use Rattle.std.specs.Prelude.{◌≡◌, ℕ, Bool, List, [], ◌∷◌, Option, None, Some, codes, chars, IsUtf8}
 use Rattle.preconditions.specs.Tags.{AreAll, is_tag_byte, tag_text}
 use Rattle.http_wire.specs.Fields.{values_of}
-
--- opaque-tag = DQUOTE *etagc DQUOTE
-abbrev pub IsQuoted : List ℕ → List ℕ → Type 0
-IsQuoted text opaque = AreAll is_tag_byte opaque × (text ≡ codes "\"" ++ (opaque ++ codes "\""))
 
 -- the value is an entity tag, weak or not, with this between its quotes
 abbrev pub IsTagWith : List ℕ → List ℕ → Type 0

@@ -1,9 +1,8 @@
 // How far the body of a response goes (RFC 9112, section 6.3).
 ghost use Rattle.std.specs.Prelude.{◌≡◌, ℕ, List, [], ◌∷◌, All, map, length, IfErr, Some, None, if◌then◌else◌};
 ghost use Rattle.httparse.specs.Spans.{IsHeaderWithin, header_bytes};
-ghost use Rattle.http_wire.specs.Fields.{is_number};
-ghost use Rattle.http_wire.specs.Inflow.{Found};
-ghost use Rattle.http_exchange.specs.Stops.{IsOfFields};
+ghost use Rattle.http_wire.specs.Fields.{is_number, Found};
+ghost use Rattle.http_exchange.specs.inner.Stops.{IsOfFields};
 ghost use Rattle.http_exchange.specs.Extents.{capped_value, within_limit, extent_by_length, extent_by};
 
 use crate::ResponseFault;

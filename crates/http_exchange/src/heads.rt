@@ -1,10 +1,10 @@
 // The head of a response at the front of bytes (RFC 9112, sections 2, 4 and 5).
 ghost use Rattle.std.specs.Prelude.{◌≡◌, ◌<◌, ◌≤◌, length, take, IfOk, OnErr};
 ghost use Rattle.xcap_io.specs.Causes.{Reads};
-ghost use Rattle.http_wire.specs.Inflow.{Gains};
-ghost use Rattle.http_exchange.specs.Stops.{CountsStop};
+ghost use Rattle.http_wire.specs.inner.Inflow.{Gains};
+ghost use Rattle.http_exchange.specs.inner.Stops.{CountsStop};
 ghost use Rattle.http_exchange.specs.Heads.{HasNoHead};
-ghost use Rattle.http_exchange.specs.Inflow.{IsFront, HeadOrNone};
+ghost use Rattle.http_exchange.specs.inner.Inflow.{IsFront, HeadOrNone};
 
 use crate::fault::Stop;
 use crate::inflow::Inflow;

@@ -1,8 +1,8 @@
 // What was read of a connection, as far as it isn't passed.
 ghost use Rattle.std.specs.Prelude.{◌≡◌, ◌<◌, ◌≤◌, [], length, drop, take, IfOk, OnOk, OnErr};
 ghost use Rattle.xcap_io.specs.Causes.{Reads};
-ghost use Rattle.http_wire.specs.Inflow.{Gains, GainedOrEnded, HoldsOrEnded};
-ghost use Rattle.http_exchange.specs.Stops.{CountsStop};
+ghost use Rattle.http_wire.specs.inner.Inflow.{Gains, GainedOrEnded, HoldsOrEnded};
+ghost use Rattle.http_exchange.specs.inner.Stops.{CountsStop};
 
 use crate::fault::Stop;
 use std::alloc::Global;

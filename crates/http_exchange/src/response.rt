@@ -2,7 +2,8 @@
 ghost use Rattle.std.specs.Prelude.{◌+◌, Option, Ok};
 ghost use Rattle.xcap_io.specs.Causes.{Reads};
 ghost use Rattle.http_exchange.specs.Stops.{CountsFault};
-ghost use Rattle.http_exchange.specs.Responses.{AnswersRead, GivesBody};
+ghost use Rattle.http_exchange.specs.Responses.{AnswersRead};
+ghost use Rattle.http_exchange.specs.inner.Responses.{GivesBody};
 
 use crate::ResponseFault;
 use crate::extents::{Extent, MAX_RESPONSE_BODY, read_extent};

@@ -3,7 +3,8 @@ ghost use Rattle.std.specs.Prelude.{◌≡◌, ℕ, List, [], ◌∷◌, ◌++�
 ghost use Rattle.std.specs.List.{list_all};
 ghost use Rattle.httparse.specs.Spans.{IsHeaderWithin, header_bytes};
 ghost use Rattle.preconditions.specs.Tags.{is_tag_byte};
-ghost use Rattle.http_exchange.specs.Tags.{IsQuoted, IsTagWith, TagIs};
+ghost use Rattle.http_exchange.specs.Tags.{IsTagWith, TagIs};
+ghost use Rattle.http_exchange.specs.inner.Tags.{IsQuoted};
 
 use http_wire::{Named, find};
 use httparse::spans::HeaderSpan;

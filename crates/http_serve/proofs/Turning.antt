@@ -12,7 +12,8 @@ use Rattle.http_wire.specs.Items.{AsksFor, in_chunks, with_length}
 use Rattle.http_wire.specs.Serving.{EndsBy, GoesOn, Run}
 use Rattle.http_wire.proofs.Connections.{run_none, run_more, run-append}
 use Rattle.http_wire.specs.declared.ended.Ended.{Ended}
-use Rattle.http_serve.specs.Endings.{KeepsTheRest, FaultsBy, FaultsSoFar}
+use Rattle.http_serve.specs.Endings.{KeepsTheRest, FaultsBy}
+use Rattle.http_serve.specs.inner.Endings.{FaultsSoFar}
 use Rattle.http_serve.specs.Fixed.{fixed}
 use Rattle.http_serve.proofs.Faults.{faults_on}
 use Rattle.http_serve.specs.inner.Turns.{GivesOn, Turn}

@@ -1,5 +1,5 @@
 -- What the ending of a connection says of the counts of faults. This is the project's own.
-use Rattle.std.specs.Prelude.{◌≡◌, ℕ, Option, None, Some}
+use Rattle.std.specs.Prelude.{◌≡◌, ℕ}
 use Rattle.xcap_io.specs.Causes.{LineState, Rose}
 use Rattle.http_wire.specs.declared.ended.Ended.{Ended}
 use Rattle.http_wire.specs.declared.ended.Ended.TheVariants.{Closed, ReadFailed, WriteFailed}
@@ -9,11 +9,6 @@ abbrev pub FaultsBy : Ended → ℕ → ℕ → ℕ → ℕ → Type 0
 FaultsBy Closed reads reads' writes writes' = (reads' ≡ reads) × (writes' ≡ writes)
 FaultsBy ReadFailed reads reads' writes writes' = Rose reads reads' × (writes' ≡ writes)
 FaultsBy WriteFailed reads reads' writes writes' = (reads' ≡ reads) × Rose writes writes'
-
--- the same of a connection that may go on
-abbrev pub FaultsSoFar : Option Ended → LineState → LineState → Type 0
-FaultsSoFar None old new = (new.read_faults ≡ old.read_faults) × (new.write_faults ≡ old.write_faults)
-FaultsSoFar (Some ended) old new = FaultsBy ended old.read_faults new.read_faults old.write_faults new.write_faults
 
 -- Between the two there were reads and writes of one connection alone, if any.
 pub record KeepsTheRest (old new : LineState) : Type 0 where

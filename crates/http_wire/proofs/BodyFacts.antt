@@ -5,8 +5,8 @@ use Rattle.httparse.specs.Ascii.{crlf_bytes}
 use Rattle.http_wire.specs.declared.chunks.Stage.{Stage}
 use Rattle.http_wire.specs.declared.chunks.Stage.TheVariants.{Size, Blank, Extension, SizeEnd, Data, DataEnd, Trailers, Trailer, TrailerEnd, LastEnd, Done, Bad, TooLong}
 use Rattle.http_wire.specs.Chunked.{print_line, print_chunks, print_trailers, ChunkedBody, print_body, ReadsBody, MayBecomeBody, PassesLimit, chunk_data as joined}
-use Rattle.http_wire.specs.Decoding.{Decoding, decoding, start, is_settled, ReadsOn, Fits}
-use Rattle.http_wire.specs.Inflow.{HasBody, HasNoBodyYet}
+use Rattle.http_wire.specs.inner.Decoding.{Decoding, decoding, start, is_settled, ReadsOn, Fits}
+use Rattle.http_wire.specs.inner.Inflow.{HasBody, HasNoBodyYet}
 use Rattle.http_wire.proofs.Steps.{reads_in_limits}
 use Rattle.http_wire.proofs.BodyForms.{Stands}
 use Rattle.http_wire.proofs.BodyReached.{start_in_limits, reached, may_become}

@@ -5,7 +5,7 @@ use Rattle.std.proofs.lemmas.List.{append-nil, nil_from_length, length-take-le, 
 use Rattle.std.proofs.Math.Seq.{take-append-add}
 use Rattle.xcap_io.specs.Causes.{Inward}
 use Rattle.xcap_io.specs.Passing.{IsEnded}
-use Rattle.http_wire.specs.Inflow.{GainedOrEnded}
+use Rattle.http_wire.specs.inner.Inflow.{GainedOrEnded}
 
 -- how many there are
 pub length-between : (buffer : List ℕ) (start end : ℕ) → start ≤ end → end ≤ length buffer → length (slice_range buffer start end) ≡ end - start

@@ -6,9 +6,9 @@ use Rattle.xcap_io.specs.Causes.{Inward}
 use Rattle.xcap_io.specs.Passing.{Gave, IsEnded}
 use Rattle.http_wire.specs.declared.chunks.Stage.TheVariants.{Done, Bad as BadStage, TooLong as LongStage}
 use Rattle.http_wire.specs.declared.decoding.Decoded.TheVariants.{Whole, TooLong, Bad, Cut}
-use Rattle.http_wire.specs.Decoding.{Decoding, start, is_settled, ReadsOn}
+use Rattle.http_wire.specs.inner.Decoding.{Decoding, start, is_settled, ReadsOn}
 use Rattle.http_wire.specs.Chunked.{PassesLimit, MayBecomeBody}
-use Rattle.http_wire.specs.Inflow.{Gains, HasBody, HasNoBodyYet, Decodes, DecodesSoFar}
+use Rattle.http_wire.specs.inner.Inflow.{Gains, HasBody, HasNoBodyYet, Decodes, DecodesSoFar}
 use Rattle.http_wire.proofs.Steps.{IsInLimits, reads_on, reads_in_limits, fewer_after, left_of}
 use Rattle.http_wire.proofs.BodyReached.{start_in_limits}
 use Rattle.http_wire.proofs.BodyFacts.{no_body_ever, whole_body, passes_limit, goes_on}

@@ -12,8 +12,9 @@ use Rattle.httparse.specs.declared.spans.Span.{Span}
 use Rattle.httparse.specs.declared.spans.HeaderSpan.{HeaderSpan}
 use Rattle.httparse.specs.declared.spans.RequestSpans.{RequestSpans}
 use Rattle.httparse.proofs.GrammarLemmas.{ReadsRequest-append}
-use Rattle.http_wire.specs.Heads.{BeginsWithHead, HasNoHead, NeverHasHead}
-use Rattle.http_wire.specs.Inflow.{IsHeadAt}
+use Rattle.http_wire.specs.Heads.{BeginsWithHead, HasNoHead}
+use Rattle.http_wire.specs.inner.Inflow.{NeverHasHead}
+use Rattle.http_wire.specs.inner.Inflow.{IsHeadAt}
 
 -- what begins with a head does so however it goes on
 pub begins-append : (bytes more : List ℕ) (head : RequestHead) (rest : List ℕ) → BeginsWithHead bytes head rest → BeginsWithHead (bytes ++ more) head (rest ++ more)

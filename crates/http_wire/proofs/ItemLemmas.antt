@@ -20,7 +20,7 @@ use Rattle.http_wire.specs.Framing.{framing}
 use Rattle.http_wire.specs.Chunked.{print_line, print_chunks, HasNoBody, MayBecomeBody, PassesLimit}
 use Rattle.http_wire.specs.Items.{bad, coded, field_of, request_of, Opens, BehindHead, IsFramed, AsksFor, with_length, in_chunks, IsBad, bad_fields, body_cut, no_body, IsTooLong, long_chunks, IsUnfinished, lacks_body, lacks_chunks}
 use Rattle.http_wire.specs.Asking.{IsNext, IsAsked, Asks}
-use Rattle.http_wire.specs.Inflow.{Gains, IsHeadAt, IsOpenAt, HasBody, HasNoBodyYet, Decodes}
+use Rattle.http_wire.specs.inner.Inflow.{Gains, IsHeadAt, IsOpenAt, HasBody, HasNoBodyYet, Decodes}
 use Rattle.http_wire.proofs.Fronts.{begins-append, head_at-append}
 
 -- Reads, one after the other.

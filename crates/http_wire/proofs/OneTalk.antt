@@ -13,10 +13,10 @@ use Rattle.http_wire.specs.declared.request.Request.{Request}
 use Rattle.http_wire.specs.Framing.{framing}
 use Rattle.http_wire.specs.Heads.{HasNoHead}
 use Rattle.http_wire.specs.Chunked.{ChunkedBody, print_body, ReadsBody, HasNoBody, PassesLimit, chunk_data as joined}
-use Rattle.http_wire.specs.Decoding.{Decoding, decoding, start}
+use Rattle.http_wire.specs.inner.Decoding.{Decoding, decoding, start}
 use Rattle.http_wire.specs.declared.chunks.Stage.TheVariants.{Done, TooLong}
 use Rattle.http_wire.specs.Items.{Item, asks, bad, too_long, coded, request_of, Opens, BehindHead, IsFramed, AsksFor, with_length, in_chunks, IsBad, no_head, bad_fields, body_cut, no_body, IsTooLong, long_body, long_chunks, FirstItem, SameRest, ends_connection, Talk}
-use Rattle.http_wire.specs.Inflow.{HasNoBodyYet}
+use Rattle.http_wire.specs.inner.Inflow.{HasNoBodyYet}
 use Rattle.http_wire.proofs.Fronts.{head_feeds}
 use Rattle.http_wire.proofs.BodyRuns.{settles_once, reads_body}
 use Rattle.http_wire.proofs.BodyFacts.{short_settles, limit_settles}

@@ -10,7 +10,7 @@ use Rattle.httparse.specs.Grammar.{is_ows, is_value_byte}
 use Rattle.http_wire.specs.declared.chunks.Stage.{Stage}
 use Rattle.http_wire.specs.declared.chunks.Stage.TheVariants.{Size, Blank, Extension, SizeEnd, Data, DataEnd, Trailers, Trailer, TrailerEnd, LastEnd, Done, Bad, TooLong}
 use Rattle.http_wire.specs.Chunked.{is_trailer_byte}
-use Rattle.http_wire.specs.Decoding.{Decoding, decoding, is_settled, is_data, after_digits, in_digits, in_extension, after_line, after_data, in_trailers, if_feed, next_stage, next_decoding, ReadsOn, Fits, bytes_left}
+use Rattle.http_wire.specs.inner.Decoding.{Decoding, decoding, is_settled, is_data, after_digits, in_digits, in_extension, after_line, after_data, in_trailers, if_feed, next_stage, next_decoding, ReadsOn, Fits, bytes_left}
 
 -- A fact on the stage behind each kind of byte, from the fact at each stage that may follow.
 

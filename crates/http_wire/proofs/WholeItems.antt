@@ -7,7 +7,7 @@ use Rattle.http_wire.specs.declared.framing.Framing.TheVariants.{Bad as BadField
 use Rattle.http_wire.specs.declared.request.Request.{Request}
 use Rattle.http_wire.specs.Chunked.{print_line, print_chunks, print_body, ReadsBody, HasNoBody, MayBecomeBody, PassesLimit}
 use Rattle.http_wire.specs.Items.{Item, asks, bad, too_long, coded, Opens, BehindHead, IsFramed, AsksFor, with_length, in_chunks, bad_fields, no_body, long_body, long_chunks, FirstItem, LiesWhole, IsUnfinished, lacks_head, lacks_body, lacks_chunks}
-use Rattle.http_wire.specs.Inflow.{HasNoBodyYet}
+use Rattle.http_wire.specs.inner.Inflow.{HasNoBodyYet}
 use Rattle.http_wire.proofs.Fronts.{lies_in_front}
 use Rattle.http_wire.proofs.BodyReached.{becomes_body, becomes_line}
 use Rattle.http_wire.proofs.ItemLemmas.{opens-append, passes-append}

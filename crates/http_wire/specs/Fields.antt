@@ -1,11 +1,13 @@
 -- What the fields of a head say (RFC 9110, sections 5.1, 5.6.1 and 7.6.1). A field is its name and its value, without
 -- the spaces and tabs at the value's ends.
-use Rattle.std.specs.Prelude.{ℕ, ◌==◌, nat_lt, Bool, ◌&&◌, if◌then◌else◌, List, [], ◌∷◌, length, map, codes}
+use Rattle.std.specs.Prelude.{◌≡◌, ℕ, ◌≤◌, ◌==◌, nat_lt, Bool, ◌&&◌, if◌then◌else◌, List, [], ◌∷◌, length, map, codes}
 use Rattle.std.specs.Str.{bytes_eq}
 use Rattle.std.specs.List.{list_all, list_any, slice_split}
 use Rattle.std.specs.Char.{to_ascii_lowercase, is_ascii_digit}
 use Rattle.httparse.specs.Ascii.{comma}
 use Rattle.httparse.specs.Grammar.{trim_ows}
+use Rattle.http_wire.specs.declared.framing.Named.{Named}
+use Rattle.http_wire.specs.declared.framing.Named.TheVariants.{Absent, Once, Repeated}
 
 -- the two words are equal, whatever the case of their letters
 abbrev pub same_word : List ℕ → List ℕ → Bool
@@ -16,6 +18,12 @@ abbrev pub values_of : List ℕ → List (List ℕ × List ℕ) → List (List �
 values_of name [] = []
 values_of name (field ∷ fields) =
     if same_word field.0 name then field.1 ∷ values_of name fields else values_of name fields
+
+-- what a search for a field by its name found
+abbrev pub Found : Named → List (List ℕ) → Type 0
+Found Absent values = values ≡ []
+Found (Once value) values = values ≡ value.now ∷ []
+Found Repeated values = 2 ≤ length values
 
 -- one digit or more, and nothing else
 abbrev pub is_number : List ℕ → Bool

@@ -1,6 +1,6 @@
 -- The head of a request at the front of a connection's bytes (RFC 9112, sections 2 to 5), by the grammar of `httparse`
 -- and within this server's limits.
-use Rattle.std.specs.Prelude.{ℕ, ◌≤◌, List, ◌++◌, length}
+use Rattle.std.specs.Prelude.{ℕ, ◌≤◌, List, length}
 use Rattle.httparse.specs.Grammar.{RequestHead, ReadsRequest, print_request}
 use Rattle.http_wire.specs.Limits.{most_field_lines, most_head_bytes}
 
@@ -13,7 +13,3 @@ pub record BeginsWithHead (bytes : List ℕ) (head : RequestHead) (rest : List �
 -- no prefix of the bytes is such a head
 abbrev pub HasNoHead : List ℕ → Type 0
 HasNoHead bytes = (head : RequestHead) (rest : List ℕ) → ¬ (BeginsWithHead bytes head rest)
-
--- no prefix is one, whatever follows the bytes
-abbrev pub NeverHasHead : List ℕ → Type 0
-NeverHasHead bytes = (more : List ℕ) → HasNoHead (bytes ++ more)

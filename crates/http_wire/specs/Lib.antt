@@ -4,7 +4,6 @@ pub mod Fields
 pub mod Framing
 pub mod Chunked
 pub mod Items
-pub mod Decoding
-pub mod Inflow
 pub mod Asking
 pub mod Serving
+pub mod inner

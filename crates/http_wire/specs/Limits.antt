@@ -1,7 +1,7 @@
 -- The limits of requests, which are the constants of the code. They are this server's own, as RFC 9110 (section 5.4) and RFC 9112
 -- (sections 3 and 7.1.1) let it have them.
 use Rattle.std.specs.Prelude.{ℕ, ◌+◌}
-use Rattle.http_wire.specs.declared.limits.TheConstants.{MAX_HEAD, MAX_FIELDS, MAX_BODY, MAX_DIGITS, MAX_LINE, MAX_TRAILERS, MAX_REQUESTS, MAX_HELD}
+use Rattle.http_wire.specs.declared.limits.TheConstants.{MAX_HEAD, MAX_FIELDS, MAX_BODY, MAX_DIGITS, MAX_LINE, MAX_TRAILERS, MAX_REQUESTS}
 
 -- how many bytes a head has at most, from its first line to the empty one
 abbrev pub most_head_bytes : ℕ
@@ -30,7 +30,3 @@ most_trailer_bytes = MAX_TRAILERS
 -- how many requests a connection has at most
 abbrev pub most_requests : ℕ
 most_requests = MAX_REQUESTS
-
--- how many bytes are held of a connection at most
-abbrev pub most_held_bytes : ℕ
-most_held_bytes = MAX_HELD

@@ -1,6 +1,6 @@
 // Chunked bodies, decoded as their bytes come.
 ghost use Rattle.std.specs.Prelude.{◌≡◌, ◌<◌, ◌≤◌, ◌+◌, length, take, false, IfOk};
-ghost use Rattle.http_wire.specs.Decoding.{Decoding, start, is_settled, is_data, after_digits, in_digits, in_extension, after_line, in_trailers, if_feed, next_stage, next_decoding, ReadsOn, Fits};
+ghost use Rattle.http_wire.specs.inner.Decoding.{Decoding, start, is_settled, is_data, after_digits, in_digits, in_extension, after_line, in_trailers, if_feed, next_stage, next_decoding, ReadsOn, Fits};
 
 use crate::limits::{MAX_BODY, MAX_DIGITS, MAX_LINE, MAX_TRAILERS};
 use httparse::{is_header_value_token, is_space_or_tab, parse_hex_digit};
@@ -166,7 +166,7 @@ pub struct Decoder {
 
 impl Model for Decoder {
     ghost use Rattle.std.specs.Prelude.{◌≡◌, ◌≤◌, length, take};
-    ghost use Rattle.http_wire.specs.Decoding.{Decoding, Fits};
+    ghost use Rattle.http_wire.specs.inner.Decoding.{Decoding, Fits};
     ghost use Rattle.http_wire.specs.declared.limits.TheConstants.{MAX_BODY};
 
     ghost Value = { Decoding };

@@ -1,7 +1,7 @@
 // The body behind a head whose fields say that it is chunked, read from the source.
 ghost use Rattle.std.specs.Prelude.{◌≤◌, length};
 ghost use Rattle.xcap_io.specs.Causes.{OnlyReads};
-ghost use Rattle.http_wire.specs.Inflow.{Decodes};
+ghost use Rattle.http_wire.specs.inner.Inflow.{Decodes};
 
 use crate::chunks::{Decoder, Stage};
 use crate::limits::MAX_HEAD;

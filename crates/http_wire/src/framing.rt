@@ -3,9 +3,9 @@ ghost use Rattle.std.specs.Prelude.{◌≡◌, ◌+◌, ◌==◌, ◌||◌, ℕ,
 ghost use Rattle.std.specs.Str.Parse.{digits_value};
 ghost use Rattle.httparse.specs.Grammar.{skip_ows, trim_ows};
 ghost use Rattle.httparse.specs.Spans.{IsHeaderWithin, header_bytes};
-ghost use Rattle.http_wire.specs.Fields.{same_word, values_of, is_number, has_close, asks_to_close};
+ghost use Rattle.http_wire.specs.Fields.{same_word, values_of, is_number, has_close, asks_to_close, Found};
 ghost use Rattle.http_wire.specs.Framing.{lacks_host, length_by, coding_by, framing};
-ghost use Rattle.http_wire.specs.Inflow.{Found, IsWithinLimit};
+ghost use Rattle.http_wire.specs.inner.Inflow.{IsWithinLimit};
 
 use crate::limits::MAX_BODY;
 use httparse::is_space_or_tab;

@@ -2,7 +2,7 @@
 ghost use Rattle.std.specs.Prelude.{◌≡◌, ◌<◌, ◌≤◌, length, take, IfOk, OnErr};
 ghost use Rattle.xcap_io.specs.Causes.{OnlyReads};
 ghost use Rattle.http_wire.specs.Heads.{HasNoHead};
-ghost use Rattle.http_wire.specs.Inflow.{IsFront, Gains, HeadOrNone};
+ghost use Rattle.http_wire.specs.inner.Inflow.{IsFront, Gains, HeadOrNone};
 
 use crate::limits::{MAX_FIELDS, MAX_HEAD};
 use crate::wire::{Inflow, ReadFault};

@@ -1,7 +1,7 @@
 // The next request of a connection.
 ghost use Rattle.std.specs.Prelude.{◌≡◌, ◌≤◌, ◌+◌, true, false, Ok};
 ghost use Rattle.xcap_io.specs.Causes.{OnlyReads};
-ghost use Rattle.http_wire.specs.Inflow.{IsOpenAt};
+ghost use Rattle.http_wire.specs.inner.Inflow.{IsOpenAt};
 ghost use Rattle.http_wire.specs.Asking.{Asks, StandsAfter};
 
 use crate::chunks::Decoder;

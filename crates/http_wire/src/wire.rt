@@ -2,7 +2,7 @@
 ghost use Rattle.std.specs.Prelude.{◌≡◌, ◌+◌, ◌-◌, ◌<◌, ◌≤◌, ◌↔◌, [], length, drop, take, slice_range, IfOk, OnErr, IsTrue};
 ghost use Rattle.xcap_io.specs.Causes.{OnlyReads};
 ghost use Rattle.http_wire.specs.Asking.{WireState, fresh_wire};
-ghost use Rattle.http_wire.specs.Inflow.{Gains, GainedOrEnded, HoldsOrEnded};
+ghost use Rattle.http_wire.specs.inner.Inflow.{Gains, GainedOrEnded, HoldsOrEnded};
 
 use crate::chunks::Decoder;
 use crate::limits::MAX_HELD;

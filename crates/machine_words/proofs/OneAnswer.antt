@@ -3,7 +3,7 @@ use Rattle.std.proofs.Common.{◌≡◌, ℕ, Bool, true, false, not, List, [], 
 use Rattle.std.specs.Bool.{MatchBool}
 use Rattle.xml_tree.specs.Tree.{Tree}
 use Rattle.tree_text.specs.Faults.{BodyAnswer, TextAnswer}
-use Rattle.tree_text.specs.Printing.{document_print}
+use Rattle.xml_tree.specs.Print.{document_print}
 use Rattle.tree_text.specs.readers.Whole.{body_read, text_read}
 use Rattle.tree_text.proofs.ReadAnswers.{body_answer, text_answer}
 use Rattle.tree_text.proofs.OneAnswer.{one_body as one_value_reading, one_text as one_reading}

@@ -1,7 +1,7 @@
 -- No request is answered 503: no refusal, of the store, of a plan or of a text, is told so.
 use Rattle.std.proofs.Common.{◌≡◌, ℕ, Bool, true, false, not, ◌==◌, List, is_some, Option, None, Some, Result, Ok, Err, refl, sym, ap, subst, ◌∙◌, encode_utf8_all}
 use Rattle.xml_tree.specs.Tree.{Tree}
-use Rattle.tree_text.specs.Printing.{document_print}
+use Rattle.xml_tree.specs.Print.{document_print}
 use Rattle.tree_text.specs.declared.fault.TextFault.{TextFault}
 use Rattle.tree_text.specs.declared.fault.ValueFault.{ValueFault}
 use Rattle.usage_docs.specs.declared.judging.Fault.{Fault}

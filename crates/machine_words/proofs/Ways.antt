@@ -4,7 +4,7 @@ use Rattle.std.proofs.Common.{◌≡◌, ◌≤◌, ℕ, Bool, true, false, not,
 use Rattle.xml_tree.specs.Tree.{Tree, height}
 use Rattle.xml_tree.specs.Proper.{ProperIn}
 use Rattle.tree_text.specs.Faults.{BodyAnswer, TextAnswer}
-use Rattle.tree_text.specs.Printing.{document_print}
+use Rattle.xml_tree.specs.Print.{document_print}
 use Rattle.tree_text.specs.declared.fault.TextFault.{TextFault}
 use Rattle.tree_text.specs.declared.fault.ValueFault.{ValueFault}
 use Rattle.tree_text.specs.declared.fault.ValueFault.TheVariants as values

@@ -2,7 +2,7 @@
 -- address, and that neither conditions nor tags go with it, is this server's own.
 use Rattle.std.specs.Prelude.{◌≡◌, ℕ, List, None, Result, Ok, Err, encode_utf8_all}
 use Rattle.xml_tree.specs.Tree.{Tree}
-use Rattle.tree_text.specs.Printing.{document_print}
+use Rattle.xml_tree.specs.Print.{document_print}
 use Rattle.doc_names.specs.declared.doc_id.DocId.{DocId}
 use Rattle.reply_text.specs.Heads.{plain}
 use Rattle.reply_text.specs.declared.media_types.Media.TheVariants as medias

@@ -2,7 +2,7 @@
 -- (RFC 4825, sections 7.11 and 8.5).
 use Rattle.std.specs.Prelude.{◌≡◌, ℕ, true, List, Option, None, Some, encode_utf8_all}
 use Rattle.store_core.specs.Held.{Stock}
-use Rattle.tree_text.specs.Printing.{document_print}
+use Rattle.xml_tree.specs.Print.{document_print}
 use Rattle.node_select.specs.declared.selector.Selector.{Selector}
 use Rattle.doc_names.specs.declared.doc_id.DocId.{DocId}
 use Rattle.reply_text.specs.Heads.{plain}

@@ -3,7 +3,8 @@ use Rattle.std.proofs.Common.{◌≡◌, ℕ, zero, suc, ◌+◌, ◌-◌, Bool,
 use Rattle.std.specs.Prelude.{◌&&◌, Option, None, Some, option_map, map}
 use Rattle.std.proofs.lemmas.List.{length-append}
 use Rattle.grammar_rules.specs.Rules.{Rule}
-use Rattle.grammar_rules.specs.Reading.{Stop, Faulty, Reader, ◌>>=◌, read_sequence, read_either, read_at_most, read_many, read_valued, read_sized, read_empty, read_judged, judgement, read_optional}
+use Rattle.grammar_rules.specs.Reading.{Stop, Faulty, Reader, ◌>>=◌, read_sequence, read_valued}
+use Rattle.grammar_rules.specs.readers.Functions.{read_either, read_at_most, read_many, read_sized, read_empty, read_judged, judgement, read_optional}
 use Rattle.grammar_rules.specs.Answers.{Faults}
 use Rattle.grammar_rules.proofs.Exact.{Rest, Exact, Outcome}
 use Rattle.xml_tree.specs.declared.names.Name.{Name}

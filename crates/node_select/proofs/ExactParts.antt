@@ -7,7 +7,8 @@ use Rattle.std.specs.Char.{is_ascii_digit as is_digit, is_ascii_hexdigit as is_h
 use Rattle.xml_tree.specs.Characters.{is_char, is_name_start, is_name_char}
 use Rattle.grammar_rules.specs.Digits.{decimal_digits, hexadecimal}
 use Rattle.grammar_rules.specs.Rules.{word, run, either, valued, optional, between, keeping_first, keeping_second, number}
-use Rattle.grammar_rules.specs.Reading.{starts, read_word, read_either, read_valued}
+use Rattle.grammar_rules.specs.Reading.{starts, read_word, read_valued}
+use Rattle.grammar_rules.specs.readers.Functions.{read_either}
 use Rattle.grammar_rules.specs.Answers.{Faults}
 use Rattle.grammar_rules.proofs.Exact.{Rest, ahead, Exact, exact_sequence}
 use Rattle.grammar_rules.proofs.Leaves.{exact_word}

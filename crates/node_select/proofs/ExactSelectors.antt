@@ -5,7 +5,8 @@ use Rattle.std.proofs.lemmas.Bool.{eqb-true}
 use Rattle.std.proofs.lemmas.List.{append_cancel_right, append_cancel_left, length-append, take-append-drop}
 use Rattle.xml_tree.specs.Characters.{is_name_start}
 use Rattle.grammar_rules.specs.Rules.{Event, Begin, Mark, Rule, word, many, only, judged, optional, keeping_second, valued}
-use Rattle.grammar_rules.specs.Reading.{Stop, Syntax, Faulty, ◌>>=◌, all_of, Reader, head_is, starts, read_word, read_behind, read_optional, read_valued, read_whole}
+use Rattle.grammar_rules.specs.Reading.{Stop, Syntax, Faulty, ◌>>=◌, Reader, head_is, starts, read_word, read_valued}
+use Rattle.grammar_rules.specs.readers.Functions.{all_of, read_behind, read_optional, read_whole}
 use Rattle.grammar_rules.specs.Answers.{Answers, Faults}
 use Rattle.grammar_rules.proofs.Exact.{Rest, ahead, Exact, IsRead, IsStopped, exact_sequence}
 use Rattle.grammar_rules.proofs.Leaves.{exact_word}

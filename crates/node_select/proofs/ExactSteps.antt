@@ -6,7 +6,8 @@ use Rattle.xml_tree.specs.Characters.{is_name_start}
 use Rattle.xml_tree.specs.declared.names.Decl.{Decl}
 use Rattle.std.specs.Char.{is_ascii_digit as is_digit}
 use Rattle.grammar_rules.specs.Rules.{Event, Begin, Mark, Rule, word, sequence, optional, keeping_first, keeping_second, valued, some_of}
-use Rattle.grammar_rules.specs.Reading.{head_is, starts, read_optional}
+use Rattle.grammar_rules.specs.Reading.{head_is, starts}
+use Rattle.grammar_rules.specs.readers.Functions.{read_optional}
 use Rattle.grammar_rules.specs.Answers.{Faults}
 use Rattle.grammar_rules.proofs.Exact.{Rest, ahead, Exact, IsRead, Passed, exact_sequence}
 use Rattle.grammar_rules.proofs.Carry.{Idle, Covers, exact_valued, covers_either, covers_valued}

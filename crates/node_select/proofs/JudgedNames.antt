@@ -8,7 +8,8 @@ use Rattle.xml_tree.specs.declared.names.Name.{Name}
 use Rattle.xml_tree.specs.declared.names.Decl.{Decl}
 use Rattle.xml_tree.specs.Characters.{is_name_start, is_name_char}
 use Rattle.grammar_rules.specs.Rules.{Event, Begin, Mark, Rule, AllPass, word, only, judged, optional, keeping_second}
-use Rattle.grammar_rules.specs.Reading.{Stop, Syntax, Faulty, Reader, ◌>>=◌, front_of, after_front, read_judged, read_only, judgement}
+use Rattle.grammar_rules.specs.Reading.{Stop, Syntax, Faulty, Reader, ◌>>=◌, front_of, after_front}
+use Rattle.grammar_rules.specs.readers.Functions.{read_judged, read_only, judgement}
 use Rattle.grammar_rules.proofs.Exact.{Rest, ahead, Exact, IsRead, IsAtFault, Outcome, Passed, Behind, Later}
 use Rattle.grammar_rules.proofs.Laws.{Lawful, Quiet, Inside, inside_ahead, lawful_judged}
 use Rattle.tree_text.specs.declared.kind.Kind.{Kind}

@@ -3,7 +3,8 @@ use Rattle.std.proofs.Common.{ℕ, Bool, List, length}
 use Rattle.std.specs.Prelude.{◌&&◌, Option, None, Some, if◌then◌else◌}
 use Rattle.xml_tree.specs.declared.names.Name.{Name}
 use Rattle.xml_tree.specs.declared.names.Decl.{Decl}
-use Rattle.grammar_rules.specs.Reading.{Reader, read_word, read_sequence, read_either, read_many, read_valued, read_judged, read_only, read_optional, read_before, read_behind}
+use Rattle.grammar_rules.specs.Reading.{Reader, read_word, read_sequence, read_valued}
+use Rattle.grammar_rules.specs.readers.Functions.{read_either, read_many, read_judged, read_only, read_optional, read_before, read_behind}
 use Rattle.tree_text.specs.declared.kind.Kind.{Kind}
 use Rattle.tree_text.specs.declared.kind.Kind.TheVariants.{Unbound}
 use Rattle.tree_text.specs.Pieces.{written}

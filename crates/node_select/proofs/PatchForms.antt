@@ -2,7 +2,8 @@
 use Rattle.std.proofs.Common.{◌≡◌, ℕ, ◌+◌, false, List, [], ◌∷◌, Option, Some, None, Result, Ok, Err, IfOk, refl, sym, ap, ◌∙◌, subst}
 use Rattle.std.specs.Str.{chars}
 use Rattle.std.specs.declared.alloc.AllocError.{AllocError}
-use Rattle.grammar_rules.specs.Reading.{Stop, ◌>>=◌, all_of, read_whole}
+use Rattle.grammar_rules.specs.Reading.{Stop, ◌>>=◌}
+use Rattle.grammar_rules.specs.readers.Functions.{all_of, read_whole}
 use Rattle.grammar_rules.proofs.Whole.{told_alike}
 use Rattle.tree_text.specs.declared.kind.Kind.{Kind}
 use Rattle.node_select.specs.declared.selector.PatchForm.{PatchForm}

@@ -2,7 +2,8 @@
 use Rattle.std.proofs.Common.{◌≡◌, ℕ, zero, suc, ◌+◌, ◌-◌, Bool, true, false, cond, List, [], ◌∷◌, length, Result, Ok, Err, refl, sym, ap, ◌∙◌, arith}
 use Rattle.std.specs.Prelude.{Option, None, Some, option_map, nat_eq, map}
 use Rattle.grammar_rules.specs.Rules.{word, keeping_second, only}
-use Rattle.grammar_rules.specs.Reading.{Stop, Syntax, Reader, ◌>>=◌, read_word, read_sequence, read_valued, read_sized, read_only, read_optional, read_behind}
+use Rattle.grammar_rules.specs.Reading.{Stop, Syntax, Reader, ◌>>=◌, read_word, read_sequence, read_valued}
+use Rattle.grammar_rules.specs.readers.Functions.{read_sized, read_only, read_optional, read_behind}
 use Rattle.grammar_rules.proofs.Exact.{Exact}
 use Rattle.grammar_rules.proofs.Leaves.{exact_word}
 use Rattle.grammar_rules.proofs.Closed.{exact_only, heads_unless}

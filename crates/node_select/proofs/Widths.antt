@@ -3,7 +3,8 @@ use Rattle.std.proofs.Common.{◌≡◌, ℕ, zero, suc, ◌+◌, ◌-◌, ◌�
 use Rattle.std.specs.Prelude.{nat_eq}
 use Rattle.xml_tree.specs.declared.names.Name.{Name}
 use Rattle.std.specs.Char.{is_ascii_digit as is_digit}
-use Rattle.grammar_rules.specs.Reading.{Stop, Syntax, Reader, ◌>>=◌, read_word, read_sequence, read_at_most, read_many, read_valued, read_sized, read_only, read_optional, read_name_of, read_before, read_behind, read_whole, all_of}
+use Rattle.grammar_rules.specs.Reading.{Stop, Syntax, Reader, ◌>>=◌, read_word, read_sequence, read_valued}
+use Rattle.grammar_rules.specs.readers.Functions.{read_at_most, read_many, read_sized, read_only, read_optional, read_name_of, read_before, read_behind, read_whole, all_of}
 use Rattle.tree_text.specs.declared.kind.Kind.{Kind}
 use Rattle.tree_text.specs.Grammar.{is_quote, is_raw_in}
 use Rattle.tree_text.specs.readers.Texts.{reference_follows}

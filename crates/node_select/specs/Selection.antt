@@ -49,9 +49,6 @@ is_tested c step kid = has_asked (inside c kid) step.test kid.attrs
 -- ---- selection as a relation
 
 -- the i-th of these children, in the scope around them, matches the step; and it alone does
-abbrev pub MatchesChild : List (List Decl) → Step → List Tree → ℕ → Type 0
-MatchesChild c step kids i = step_laws.Matches (is_named c step) (is_tested c step) step.position kids i
-
 abbrev pub SelectsChild : List (List Decl) → Step → List Tree → ℕ → Type 0
 SelectsChild c step kids i = step_laws.Selects (is_named c step) (is_tested c step) step.position kids i
 

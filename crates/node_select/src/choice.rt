@@ -109,17 +109,10 @@ fn element_uri<'a>(scope: &Around<'a>, name: &Name) -> &'a str
 fn attr_uri<'a>(scope: &Around<'a>, name: &Name) -> &'a str
     ensures uri_of_the_attribute_name { chars result.now ≡ uri_of (attr_name scope.now name.now) }
 {
-    if has_no_prefix(name) {
+    if name.has_no_prefix() {
         return no_uri();
     }
     element_uri(scope, name)
-}
-
-// Whether a name has no prefix.
-fn has_no_prefix(name: &Name) -> bool
-    ensures tells_whether_it_lacks_a_prefix { result ≡ bytes_eq name.now.prefix [] }
-{
-    name.prefix.is("")
 }
 
 // Whether it is the attribute of this name.

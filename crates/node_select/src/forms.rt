@@ -1,6 +1,7 @@
 //! The form of selectors, read from left to right.
 ghost use Rattle.std.specs.Prelude.{chars, map, IfOk, Ok};
-ghost use Rattle.grammar_rules.specs.Reading.{read_behind, read_optional, read_valued, read_whole, read_word};
+ghost use Rattle.grammar_rules.specs.Reading.{read_valued, read_word};
+ghost use Rattle.grammar_rules.specs.readers.Functions.{read_behind, read_optional, read_whole};
 ghost use Rattle.tree_text.specs.readers.Gives.{Gives};
 ghost use Rattle.node_select.specs.readers.Words.{slash};
 ghost use Rattle.node_select.specs.readers.Raw.{HasRoom, end_or_element, patch_end_or_element, slash_width};

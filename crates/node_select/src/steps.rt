@@ -2,7 +2,8 @@
 ghost use Rattle.std.specs.Prelude.{◌≡◌, ◌<◌, ◌^◌, ◌++◌, [], ◌∷◌, chars, map, Some, option_map, OnOk, Ok};
 ghost use Rattle.grammar_rules.specs.Digits.{decimal_digits};
 ghost use Rattle.std.specs.Str.{bytes_eq};
-ghost use Rattle.grammar_rules.specs.Reading.{read_optional, read_sequence};
+ghost use Rattle.grammar_rules.specs.Reading.{read_sequence};
+ghost use Rattle.grammar_rules.specs.readers.Functions.{read_optional};
 ghost use Rattle.tree_text.specs.readers.Gives.{Gives};
 ghost use Rattle.tree_text.specs.readers.Views.{name_in};
 ghost use Rattle.node_select.specs.Grammar.{position_of, names_attribute};

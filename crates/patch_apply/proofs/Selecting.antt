@@ -1,6 +1,7 @@
 -- The selector of an operation: its form, what it ends in, and what it means, by what reading answers.
 use Rattle.std.proofs.Common.{◌≡◌, ℕ, Bool, true, false, cond, List, [], Option, None, Some, is_some, unwrap_or, Result, Ok, Err, chars, refl, sym, ap, ◌∙◌, subst}
-use Rattle.grammar_rules.specs.Reading.{Stop, read_whole}
+use Rattle.grammar_rules.specs.Reading.{Stop}
+use Rattle.grammar_rules.specs.readers.Functions.{read_whole}
 use Rattle.xml_tree.specs.Memory.{Answered}
 use Rattle.xml_tree.specs.declared.read_error.ReadError.{ReadError}
 use Rattle.xml_tree.specs.declared.read_error.ReadError.TheVariants.{Fault, NoMemory}

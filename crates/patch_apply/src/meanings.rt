@@ -5,7 +5,7 @@ ghost use Rattle.xml_tree.specs.Expanded.{attr_name, element_name, same_expanded
 ghost use Rattle.patch_words.specs.Applied.{means_alike};
 ghost use Rattle.patch_apply.specs.inner.ByNodes.{element_alike, node_alike};
 
-use crate::names::{has_no_prefix, resolved};
+use crate::names::resolved;
 use node_select::{declared_in, same_text};
 use std::alloc::Global;
 use xml_tree::{Around, Attr, Element, LocalName, Name, Node, Scope};
@@ -37,7 +37,7 @@ fn same_element_name(c: &Around<'_>, d: &Around<'_>, name: &Name) -> bool
 fn same_attr_name(c: &Around<'_>, d: &Around<'_>, name: &Name) -> bool
     ensures tells_whether_it_means_the_same { result ≡ same_expanded (attr_name c.now name.now) (attr_name d.now name.now) }
 {
-    if has_no_prefix(name) {
+    if name.has_no_prefix() {
         return true;
     }
     same_element_name(c, d, name)
@@ -111,7 +111,7 @@ pub(crate) fn means_alike(
 fn attr_uri<'a>(scope: &Scope<'a>, name: &Name) -> Option<&'a str>
     ensures uri_of_the_attribute_name { option_map (λ x. chars x.now) result ≡ (attr_name scope.now name.now).uri }
 {
-    if has_no_prefix(name) {
+    if name.has_no_prefix() {
         return None;
     }
     resolved(scope, &name.prefix)

@@ -15,18 +15,11 @@ use xml_tree::{Attr, Element, Name, Prefix, Scope, Text};
 
 // ---- attributes without prefix
 
-// Whether a name has no prefix.
-pub(crate) fn has_no_prefix(name: &Name) -> bool
-    ensures tells_whether_it_lacks_a_prefix { result ≡ bytes_eq name.now.prefix [] }
-{
-    name.prefix.is("")
-}
-
 // Whether it is the attribute of this local name, without prefix.
 fn is_plain(attr: &Attr, word: &str) -> bool
     ensures tells_whether_it_is_plain { result ≡ is_written_so (record { prefix = []; local = chars word.now }) attr.now }
 {
-    has_no_prefix(&attr.name) && attr.name.local.is(word)
+    attr.name.has_no_prefix() && attr.name.local.is(word)
 }
 
 /// The value of the attribute of this local name that has no prefix.
@@ -47,7 +40,7 @@ fn is_known(attr: &Attr) -> bool
     ensures tells_whether_it_is_known { result ≡ is_known attr.now }
 {
     let local = &attr.name.local;
-    !has_no_prefix(&attr.name)
+    !attr.name.has_no_prefix()
         || (local.is("sel") || (local.is("pos") || (local.is("type") || local.is("ws"))))
 }
 

@@ -1,6 +1,6 @@
 //! What the selector of an operation ends in (RFC 5261, section 4.1).
 ghost use Rattle.std.specs.Prelude.{◌≡◌, IfOk};
-ghost use Rattle.grammar_rules.specs.Reading.{read_whole};
+ghost use Rattle.grammar_rules.specs.readers.Functions.{read_whole};
 ghost use Rattle.node_select.specs.readers.Selectors.{read_patch_selector};
 ghost use Rattle.node_select.specs.readers.Whole.{raw_form_told};
 

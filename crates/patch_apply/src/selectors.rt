@@ -13,7 +13,6 @@ ghost use Rattle.patch_apply.specs.inner.Stages.{selector_tested};
 ghost use Rattle.patch_apply.specs.inner.Seen.{task_in, wrong_in};
 
 use crate::fault::Wrong;
-use crate::names::has_no_prefix;
 use crate::patch_forms::patch_form;
 use crate::tasks::Task;
 use node_select::{
@@ -82,7 +81,7 @@ fn suits(task: &Task, form: PatchForm) -> bool
 fn is_bound(bindings: &Bindings, name: &Name) -> bool
     ensures tells_whether_it_is_bound { result ≡ (bytes_eq name.now.prefix [] || is_some (prefix_uri bindings.now name.now.prefix)) }
 {
-    has_no_prefix(name) || bindings.resolve(name.prefix.as_str()).is_some()
+    name.has_no_prefix() || bindings.resolve(name.prefix.as_str()).is_some()
 }
 
 // Whether the prefix of a new attribute's name is bound.

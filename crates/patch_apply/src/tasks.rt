@@ -1,11 +1,11 @@
 //! What an operation says, by its name and its attributes (RFC 5261, sections 4.3 to 4.5).
 ghost use Rattle.std.specs.Prelude.{◌≡◌, [], IfOk, option_map};
 ghost use Rattle.std.specs.Option.{option_copied};
-ghost use Rattle.patch_words.specs.Applied.{adding, cut_name, cutting, no_declaration, add_position, white_space_of, task_of, type_of, with_prefix, operation_word};
+ghost use Rattle.patch_words.specs.Applied.{adding, cutting, name_cut, no_declaration, add_position, name_of_text, white_space_of, task_of, type_of, with_prefix, operation_word};
 ghost use Rattle.patch_apply.specs.inner.Stages.{task_said};
 ghost use Rattle.patch_apply.specs.inner.Seen.{position_in, task_in, word_in};
 
-use crate::names::{has_no_prefix, plain_value};
+use crate::names::plain_value;
 use std::alloc::{AllocError, Global};
 use tree_text::{decoded, name_part};
 use xml_tree::{Attr, LocalName, Name, Prefix, Text, is_name};
@@ -106,7 +106,7 @@ fn with_prefix(alloc: Global, prefix: &[char], local: &[char]) -> Result<Option<
 
 // A name without prefix, where it is an NCName.
 fn without_prefix(alloc: Global, local: &[char]) -> Result<Option<Name>, AllocError>
-    ensures name_of_the_one_part { IfOk result (λ name. name ≡ cut_name local.now []) }
+    ensures name_of_the_one_part { IfOk result (λ name. name ≡ name_cut local.now []) }
 {
     let local: LocalName = name_part(alloc, local)?;
     if !is_name(local.as_str()) {
@@ -117,8 +117,9 @@ fn without_prefix(alloc: Global, local: &[char]) -> Result<Option<Name>, AllocEr
 }
 
 // A QName, cut at its first colon.
-fn cut_name(alloc: Global, text: &[char]) -> Result<Option<Name>, AllocError>
-    ensures cuts_the_name { IfOk result (λ name. name ≡ cut_name [] text.now) }
+#[tactic(auto, using(patch_words::proofs::Cutting::cut_from_front))]
+fn name_of_text(alloc: Global, text: &[char]) -> Result<Option<Name>, AllocError>
+    ensures cuts_the_name { IfOk result (λ name. name ≡ name_of_text text.now) }
 {
     for (i, &c) in text.iter().enumerate() {
         if c == ':' {
@@ -133,7 +134,7 @@ fn cut_name(alloc: Global, text: &[char]) -> Result<Option<Name>, AllocError>
 fn no_declaration(name: Name) -> Option<Name>
     ensures other_than_a_declaration { result ≡ no_declaration name }
 {
-    if has_no_prefix(&name) && name.local.is("xmlns") {
+    if name.has_no_prefix() && name.local.is("xmlns") {
         return None;
     }
     Some(name)
@@ -144,7 +145,7 @@ fn type_in(alloc: Global, text: &[char]) -> Result<Option<Name>, AllocError>
     ensures name_behind_the_at_sign { IfOk result (λ name. name ≡ type_of text.now) }
 {
     match text {
-        ['@', rest @ ..] => match cut_name(alloc, rest)? {
+        ['@', rest @ ..] => match name_of_text(alloc, rest)? {
             None => Ok(None),
             Some(name) => Ok(no_declaration(name)),
         },

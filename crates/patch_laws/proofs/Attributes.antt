@@ -17,7 +17,9 @@ use Rattle.tree_text.proofs.PrintedNames.{IsWritten}
 use Rattle.tree_text.proofs.PrintedValues.{both as parts}
 use Rattle.node_select.specs.Names.{attr_uri, is_unbound, prefix_uri, uri_of}
 use Rattle.node_select.specs.Selection.{is_attr}
-use Rattle.patch_words.specs.Applied.{attr_of, cut_name, no_declaration, rewritten, type_of, with_prefix}
+use Rattle.patch_words.proofs.Cutting.{cut_from_front}
+use Rattle.patch_words.specs.Applied.{attr_of, no_declaration, name_of_text, rewritten, type_of, with_prefix}
+use Rattle.patch_words.specs.inner.Cutting.{cut_onto}
 use Rattle.notes.specs.Operations.{attr_name_text}
 use Rattle.patch_laws.specs.Premises.{Meets}
 use Rattle.patch_laws.proofs.Prefixes.{both, same_uri-refl}
@@ -262,7 +264,7 @@ name_chars : (n : List ℕ) → is_name n ≡ true → list_all is_name_char n �
 name_chars [] h = cc
 name_chars (c ∷ cs) h = let b = parts (is_name_start c) (list_all is_name_char cs) h in both (is_name_char c) (list_all is_name_char cs) (start_char c b.0) b.1
 
-cut_colon : (cs seen l : List ℕ) → list_all is_name_char cs ≡ true → cut_name seen (cs ++ 58 ∷ l) ≡ with_prefix (seen ++ cs) l
+cut_colon : (cs seen l : List ℕ) → list_all is_name_char cs ≡ true → cut_onto seen (cs ++ 58 ∷ l) ≡ with_prefix (seen ++ cs) l
 cut_colon [] seen l h = ap (λ p. with_prefix p l) (sym (append-nil seen))
 cut_colon (c ∷ cs) seen l h =
     let b = parts (is_name_char c) (list_all is_name_char cs) h in
@@ -271,13 +273,13 @@ cut_colon (c ∷ cs) seen l h =
 abbrev plain_name : List ℕ → Option Name
 plain_name l = cond (is_name l) (Some (record { prefix = []; local = l })) None
 
-cut_plain : (cs seen : List ℕ) → list_all is_name_char cs ≡ true → cut_name seen cs ≡ plain_name (seen ++ cs)
+cut_plain : (cs seen : List ℕ) → list_all is_name_char cs ≡ true → cut_onto seen cs ≡ plain_name (seen ++ cs)
 cut_plain [] seen h = ap plain_name (sym (append-nil seen))
 cut_plain (c ∷ cs) seen h =
     let b = parts (is_name_char c) (list_all is_name_char cs) h in
     rw (no_colon c b.0) (cut_plain cs (seen ++ c ∷ []) b.1 ∙ ap plain_name (append_assoc seen (c ∷ []) cs))
 
-cut_by : (p l : List ℕ) → is_prefix p ≡ true → is_name l ≡ true → cut_name [] (print_name (record { prefix = p; local = l })) ≡ Some (record { prefix = p; local = l })
+cut_by : (p l : List ℕ) → is_prefix p ≡ true → is_name l ≡ true → cut_onto [] (print_name (record { prefix = p; local = l })) ≡ Some (record { prefix = p; local = l })
 cut_by [] l h k = cut_plain l [] (name_chars l k) ∙ rw k refl
 cut_by (c ∷ cs) l h k = cut_colon (c ∷ cs) [] l (name_chars (c ∷ cs) h) ∙ rw (h, k) refl
 
@@ -290,7 +292,7 @@ declares_not n o = by (bytes_eq n.prefix []) refl (bytes_eq n.local xmlns_prefix
     by true e true f = absurd (o ((bytes_eq-Decides n.prefix []).0 e) ((bytes_eq-Decides n.local xmlns_prefix).0 f))
 
 pub type_read : (n : Name) → IsWritten n → (n.prefix ≡ [] → n.local ≢ xmlns_prefix) → type_of (attr_name_text n) ≡ Some n
-type_read n w o = ap (option_and_then no_declaration) (cut_by n.prefix n.local w.prefix w.local) ∙ rw (declares_not n o) refl
+type_read n w o = ap (option_and_then no_declaration) (sym (cut_from_front (print_name n)) ∙ cut_by n.prefix n.local w.prefix w.local) ∙ rw (declares_not n o) refl
 
 pub may_name : (n : Name) → (n.prefix ≡ [] → n.local ≢ xmlns_prefix) → not (bytes_eq n.prefix [] && bytes_eq n.local xmlns_prefix) ≡ true
 may_name n o = rw (declares_not n o) refl

@@ -10,7 +10,7 @@ use Rattle.xml_tree.specs.declared.names.Decl.{Decl}
 use Rattle.xml_tree.proofs.PathLemmas.{at-snoc}
 use Rattle.edit_ops.specs.Changes.{Fits, edited}
 use Rattle.edit_ops.specs.declared.change.Change.TheVariants.{Insert, Replace, Remove}
-use Rattle.edit_ops.specs.Rebuilding.{FitsHere}
+use Rattle.edit_ops.specs.inner.Here.{FitsHere}
 use Rattle.edit_ops.proofs.SiteLemmas.{fits_there}
 use Rattle.xml_tree.specs.PathTexts.{path_text}
 use Rattle.node_select.specs.declared.selector.PatchEnd.TheVariants.{Element}

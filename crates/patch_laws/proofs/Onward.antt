@@ -9,7 +9,8 @@ use Rattle.xml_tree.specs.Characters.{all_chars, is_char, is_name}
 use Rattle.xml_tree.specs.Edits.{change_at, parent_path, put_over}
 use Rattle.xml_tree.specs.Expanded.{Expanded, attr_name, element_name, same_expanded}
 use Rattle.xml_tree.specs.Nodes.{exchange_nodes, nodes_of, text_node}
-use Rattle.xml_tree.specs.Proper.{IsAttribute, IsNamed, IsTag, Letters, OfNode, IsProperPart, Proper, ProperIn, is_prefix}
+use Rattle.xml_tree.specs.Proper.{IsAttribute, IsNamed, IsTag, Letters, OfNode, IsProperPart, ProperIn, is_prefix}
+use Rattle.xml_tree.specs.inner.Proper.{Proper}
 use Rattle.xml_tree.specs.Scopes.{bindings_in, bound, scope_around, scope_at, xmlns_prefix}
 use Rattle.xml_tree.specs.Tree.{Content, last, more, note, Tree, at, height, tree_of}
 use Rattle.xml_tree.specs.declared.names.Name.{Name}
@@ -21,7 +22,9 @@ use Rattle.xml_tree.proofs.ProperEdits.{with-nodes, with-other}
 use Rattle.tree_text.proofs.PrintedValues.{both as parts}
 use Rattle.node_select.specs.Names.{prefix_uri}
 use Rattle.patch_words.specs.Applied as words
-use Rattle.patch_words.specs.Applied.{Position, Behind, Prepend, Before, After, Spot, AtElement, AtAttr, AtText, Task, Wrong, attr_done, attr_of, cut_name, done, given, is_bound_type, made, means_alike, no_declaration, off_root, spot_path, put_at, put_done, remove_done, replace_done, rewritten, scope_of_put, sole_element, tested, type_of, value_in, with_attrs, with_prefix, within_depth}
+use Rattle.patch_words.proofs.Cutting.{cut_from_front}
+use Rattle.patch_words.specs.Applied.{Position, Behind, Prepend, Before, After, Spot, AtElement, AtAttr, AtText, Task, Wrong, attr_done, attr_of, name_of_text, done, given, is_bound_type, made, means_alike, no_declaration, off_root, spot_path, put_at, put_done, remove_done, replace_done, rewritten, scope_of_put, sole_element, tested, type_of, value_in, with_attrs, with_prefix, within_depth}
+use Rattle.patch_words.specs.inner.Cutting.{cut_onto}
 use Rattle.patch_laws.specs.Premises.{IsSound}
 use Rattle.patch_laws.proofs.Attributes.{not_xmlns, same_expanded-true}
 use Rattle.patch_laws.proofs.Prefixes.{both}
@@ -272,7 +275,7 @@ parts_named p l n is = by (is_name p && is_name l) refl is
         subst (λ (x : Name). (is_prefix x.prefix ≡ true) × (is_name x.local ≡ true)) same (or_true (bytes_eq p []) (is_name p) b.0, b.1)
     by false e s = cc
 
-cut_named : (cs seen : List ℕ) (n : Name) → cut_name seen cs ≡ Some n → (is_prefix n.prefix ≡ true) × (is_name n.local ≡ true)
+cut_named : (cs seen : List ℕ) (n : Name) → cut_onto seen cs ≡ Some n → (is_prefix n.prefix ≡ true) × (is_name n.local ≡ true)
 cut_named [] seen n is = by (is_name seen) refl is
   where
     by : (b : Bool) → is_name seen ≡ b → cond b (Some (record { prefix = []; local = seen })) None ≡ Some n → (is_prefix n.prefix ≡ true) × (is_name n.local ≡ true)
@@ -280,7 +283,7 @@ cut_named [] seen n is = by (is_name seen) refl is
     by false e s = cc
 cut_named (c ∷ cs) seen n is = by (c == 58) is (λ s. cut_named cs (seen ++ c ∷ []) n s)
   where
-    by : (b : Bool) → cond b (with_prefix seen cs) (cut_name (seen ++ c ∷ []) cs) ≡ Some n → (cut_name (seen ++ c ∷ []) cs ≡ Some n → (is_prefix n.prefix ≡ true) × (is_name n.local ≡ true))
+    by : (b : Bool) → cond b (with_prefix seen cs) (cut_onto (seen ++ c ∷ []) cs) ≡ Some n → (cut_onto (seen ++ c ∷ []) cs ≡ Some n → (is_prefix n.prefix ≡ true) × (is_name n.local ≡ true))
         → (is_prefix n.prefix ≡ true) × (is_name n.local ≡ true)
     by true s f = parts_named seen cs n s
     by false s f = f s
@@ -300,11 +303,11 @@ declared_not m n is h = by (bytes_eq m.prefix [] && bytes_eq m.local xmlns_prefi
 
 type_named : (text : List ℕ) (n : Name) → type_of text ≡ Some n → IsTyped n
 type_named [] n is = cc
-type_named (c ∷ cs) n is = by (c == 64) is (cut_name [] cs) refl
+type_named (c ∷ cs) n is = by (c == 64) is (name_of_text cs) refl
   where
-    by : (b : Bool) → cond b (option_and_then no_declaration (cut_name [] cs)) None ≡ Some n → (o : Option Name) → cut_name [] cs ≡ o → IsTyped n
+    by : (b : Bool) → cond b (option_and_then no_declaration (name_of_text cs)) None ≡ Some n → (o : Option Name) → name_of_text cs ≡ o → IsTyped n
     by true s None e = let z : None ≡ Some n = ap (option_and_then no_declaration) (sym e) ∙ s in cc
-    by true s (Some m) e = declared_not m n (ap (option_and_then no_declaration) (sym e) ∙ s) (cut_named cs [] m e)
+    by true s (Some m) e = declared_not m n (ap (option_and_then no_declaration) (sym e) ∙ s) (cut_named cs [] m (cut_from_front cs ∙ e))
     by false s o e = cc
 
 added_named : (pos type : Option (List ℕ)) (n : Name) → words.adding pos type ≡ Some (words.NewAttr n) → IsTyped n

@@ -8,7 +8,8 @@ use Rattle.std.proofs.lemmas.Fmt.{decimal-digits_of, decimal_nonempty}
 use Rattle.std.specs.Char.{is_ascii_digit as is_digit}
 use Rattle.grammar_rules.specs.Digits as digits
 use Rattle.grammar_rules.specs.Rules.{AllPass, number_from}
-use Rattle.grammar_rules.specs.Reading.{Reader, head_is, read_empty, read_word, read_sequence, read_many, read_valued, read_only, read_optional, read_some_of, read_behind, read_whole}
+use Rattle.grammar_rules.specs.Reading.{Reader, head_is, read_word, read_sequence, read_valued, read_some_of}
+use Rattle.grammar_rules.specs.readers.Functions.{read_empty, read_many, read_only, read_optional, read_behind, read_whole}
 use Rattle.xml_tree.specs.Print.{print_name}
 use Rattle.xml_tree.specs.declared.names.Name.{Name}
 use Rattle.tree_text.specs.declared.kind.Kind.{Kind}

@@ -7,7 +7,8 @@ use Rattle.xml_tree.specs.declared.names.Name.{Name}
 use Rattle.xml_tree.specs.declared.names.Decl.{Decl}
 use Rattle.xml_tree.specs.declared.names.Attr.{Attr}
 use Rattle.xml_tree.specs.Expanded.{Expanded, attr_name, element_name, same_expanded, same_uri}
-use Rattle.xml_tree.specs.Proper.{IsAttribute, IsNamed, Proper, ProperIn}
+use Rattle.xml_tree.specs.Proper.{IsAttribute, IsNamed, ProperIn}
+use Rattle.xml_tree.specs.inner.Proper.{Proper}
 use Rattle.xml_tree.specs.Scopes.{bindings_in, bound, declared, joined, some_text, xml_prefix, xml_uri}
 use Rattle.xml_tree.specs.Tree.{Content, last, more, note, Tree, of_kids}
 use Rattle.xml_tree.proofs.BindingWords.{bound-bindings_in}

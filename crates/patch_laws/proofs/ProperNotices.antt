@@ -7,7 +7,8 @@ use Rattle.std.proofs.lemmas.Fmt.{decimal-digits_of}
 use Rattle.std.proofs.lemmas.Int.Digits.{all_below_base_digits_of}
 use Rattle.xml_tree.specs.Characters.{all_chars, is_name_char}
 use Rattle.xml_tree.specs.Expanded.{Expanded, attr_name, same_expanded}
-use Rattle.xml_tree.specs.Proper.{Proper, ProperIn, is_declaration, is_prefix}
+use Rattle.xml_tree.specs.Proper.{ProperIn, is_declaration, is_prefix}
+use Rattle.xml_tree.specs.inner.Proper.{Proper}
 use Rattle.xml_tree.specs.Scopes.{xml_uri, xmlns_prefix, xmlns_uri}
 use Rattle.xml_tree.specs.Tree.{Tree, content_height, height, of_kids as listed}
 use Rattle.xml_tree.specs.declared.names.Decl.{Decl}

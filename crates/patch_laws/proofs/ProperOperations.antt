@@ -7,7 +7,8 @@ use Rattle.xml_tree.specs.Characters.{all_chars, is_char, is_name, is_name_char,
 use Rattle.xml_tree.specs.Edits.{put_over, set_at, write_attr}
 use Rattle.xml_tree.specs.Expanded.{Expanded, attr_name, same_expanded}
 use Rattle.xml_tree.specs.Print.{print_name}
-use Rattle.xml_tree.specs.Proper.{IsAttribute, IsNamed, IsTag, Letters, IsProperPart, Proper, ProperIn, is_prefix}
+use Rattle.xml_tree.specs.Proper.{IsAttribute, IsNamed, IsTag, Letters, IsProperPart, ProperIn, is_prefix}
+use Rattle.xml_tree.specs.inner.Proper.{Proper}
 use Rattle.xml_tree.specs.Scopes.{bindings_in, bound, scope_around, scope_at, xml_prefix, xmlns_prefix}
 use Rattle.xml_tree.specs.Tree.{Tree, at, height, kids_of, of_kids}
 use Rattle.xml_tree.specs.declared.names.Name.{Name}

@@ -9,7 +9,8 @@ use Rattle.xml_tree.specs.declared.names.Decl.{Decl}
 use Rattle.xml_tree.specs.declared.names.Attr.{Attr}
 use Rattle.xml_tree.specs.Edits.{parent_path}
 use Rattle.xml_tree.specs.Expanded.{attr_name, same_expanded}
-use Rattle.xml_tree.specs.Proper.{IsAttribute, IsNamed, IsTag, IsProperPart, Proper, ProperIn, is_declaration}
+use Rattle.xml_tree.specs.Proper.{IsAttribute, IsNamed, IsTag, IsProperPart, ProperIn, is_declaration}
+use Rattle.xml_tree.specs.inner.Proper.{Proper}
 use Rattle.xml_tree.specs.Scopes.{AreInOrder, bindings_in, binds, joined, scope_around, scope_at}
 use Rattle.xml_tree.specs.inner.Gathering.{gathered, placed}
 use Rattle.xml_tree.specs.Tree.{Content, last, more, note, Tree, kids_of}

@@ -5,7 +5,8 @@ use Rattle.std.specs.Str.{chars}
 use Rattle.std.proofs.lemmas.Bool.Decides.{nat_tests}
 use Rattle.std.proofs.lemmas.Str.{chars-encodes}
 use lib.Utf8.{scalar, scalars}
-use Rattle.grammar_rules.specs.Reading.{Stop, read_whole}
+use Rattle.grammar_rules.specs.Reading.{Stop}
+use Rattle.grammar_rules.specs.readers.Functions.{read_whole}
 use Rattle.tree_text.specs.declared.kind.Kind.{Kind}
 use Rattle.tree_text.proofs.PrintedValues.{both as parts}
 use Rattle.xml_tree.specs.Characters.{all_chars, is_char}

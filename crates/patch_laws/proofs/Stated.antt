@@ -35,7 +35,7 @@ use Rattle.patch_laws.proofs.Outcomes.{replays}
 use Rattle.patch_laws.proofs.ProperNotices.{IsDiffPrefix-candidate, proper_at_once, proper_one_by_one}
 use Rattle.patch_laws.proofs.ProperOperations.{IsDiffPrefix}
 use Rattle.tree_text.specs.Faults.{TextAnswer}
-use Rattle.tree_text.specs.Printing.{document_print}
+use Rattle.xml_tree.specs.Print.{document_print}
 use Rattle.tree_text.proofs.PrintedTexts.{document_is_read}
 use Rattle.tree_text.proofs.ReadAnswers.{text_answer}
 use Rattle.xml_tree.specs.Characters.{all_chars}

@@ -6,7 +6,7 @@ use Rattle.xml_tree.specs.Proper.{ProperIn}
 use Rattle.xml_tree.specs.Scopes.{xml_prefix}
 use Rattle.xml_tree.specs.Tree.{Tree}
 use Rattle.tree_text.specs.Faults.{TextAnswer}
-use Rattle.tree_text.specs.Printing.{document_print}
+use Rattle.xml_tree.specs.Print.{document_print}
 use Rattle.notes.specs.Notes.{Note}
 use Rattle.patch_words.specs.Notices.{declares, most_notice_levels}
 use Rattle.patch_words.specs.Replay.{CopyHeld, CopyAnswer, Same, Patched, is_notice}

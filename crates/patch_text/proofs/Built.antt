@@ -10,7 +10,8 @@ use Rattle.notes.specs.Notes.{Note, tag_after}
 use Rattle.notes.specs.Operations.{plain_attr as plain}
 use Rattle.patch_words.specs.Notices.{all_at_once, candidate, diff, diff_uri, document, gone_notice, operations, prefix_for, removed_document, tags_alone}
 use Rattle.patch_text.specs.inner.Lists.{is_none, with_all}
-use Rattle.patch_text.specs.Modes.{documents_of, notice_of, told_notes}
+use Rattle.patch_text.specs.Modes.{notice_of}
+use Rattle.patch_text.specs.inner.Modes.{documents_of, told_notes}
 use Rattle.xcap_uri.specs.declared.target.Mode.{Mode}
 use Rattle.xcap_uri.specs.declared.target.Mode.TheVariants.{NoPatching, XcapPatching, Aggregate}
 use Rattle.patch_text.proofs.Listing.{all-listed}

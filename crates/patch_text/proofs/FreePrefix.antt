@@ -7,7 +7,7 @@ use Rattle.edit_ops.specs.declared.change.Change.TheVariants.{CreateDocument, In
 use Rattle.notes.specs.Recorded.{all_notes as joined}
 use Rattle.notes.specs.Notes.{Note}
 use Rattle.notes.specs.Operations.{change_told as told}
-use Rattle.patch_words.specs.Declaring.{prefixes, prefixes_in}
+use Rattle.patch_words.specs.inner.Declaring.{prefixes, prefixes_in}
 use Rattle.patch_words.specs.Notices.{candidate, first_free, operations, prefix_for}
 use Rattle.patch_words.proofs.FreePrefix.{among-without, candidate-one, length-whole, length-without, taken_whole, whole, without}
 use Rattle.patch_text.specs.inner.Declaring.{prefixes_put, prefixes_told}

@@ -14,7 +14,7 @@ use Rattle.xml_tree.specs.Nodes.{content_of}
 use Rattle.xml_tree.specs.declared.names.Decl.{Decl}
 use Rattle.xml_tree.specs.declared.tree.Node.{Node}
 use Rattle.xml_tree.specs.declared.tree.Node.TheVariants.{Elem, Chars, Comment}
-use Rattle.patch_words.specs.Declaring.{prefixes, prefixes_in}
+use Rattle.patch_words.specs.inner.Declaring.{prefixes, prefixes_in}
 use Rattle.patch_text.specs.inner.Declaring.{Gains, Holds, by_text, prefixes_at}
 use Rattle.patch_words.proofs.FreePrefix.{among-append}
 

@@ -1,7 +1,7 @@
 //! Notices of single elements (RFC 5874, section 3).
 ghost use Rattle.std.specs.Prelude.{◌≡◌, [], ◌∷◌, IfOk, OnOk, chars, encode_utf8_all, ◌++◌, codes};
 ghost use Rattle.doc_names.specs.Ids.{id_text};
-ghost use Rattle.tree_text.specs.Printing.{document_print};
+ghost use Rattle.xml_tree.specs.Print.{document_print};
 ghost use Rattle.patch_text.specs.Elements.{element_notice, element_told, elements_told, truth};
 ghost use Rattle.patch_text.specs.inner.Lists.{with_all};
 

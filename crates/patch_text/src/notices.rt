@@ -1,12 +1,13 @@
 //! Notices of documents (RFC 5874, section 3).
 ghost use Rattle.std.specs.Prelude.{◌≡◌, [], ◌∷◌, IfOk, OnOk, chars, false, encode_utf8_all};
 ghost use Rattle.doc_names.specs.Ids.{id_text};
-ghost use Rattle.tree_text.specs.Printing.{document_print};
+ghost use Rattle.xml_tree.specs.Print.{document_print};
 ghost use Rattle.notes.specs.Notes.{tag_after};
 ghost use Rattle.notes.specs.Operations.{operation};
 ghost use Rattle.notes.specs.Recorded.{all_notes};
 ghost use Rattle.patch_words.specs.Notices.{all_at_once, diff, document, gone_notice, one_by_one, operations, removed_document, tags_alone};
-ghost use Rattle.patch_text.specs.Modes.{documents_of, notice_of, told_notes};
+ghost use Rattle.patch_text.specs.Modes.{notice_of};
+ghost use Rattle.patch_text.specs.inner.Modes.{documents_of, told_notes};
 ghost use Rattle.patch_text.specs.inner.Lists.{is_none, with_all};
 
 use crate::operations::operation;

@@ -5,7 +5,7 @@ ghost use Rattle.notes.specs.Recorded.{all_notes};
 ghost use Rattle.std.specs.Set.{is_member};
 ghost use Rattle.std.specs.Str.{bytes_eq};
 ghost use Rattle.patch_words.specs.Notices.{candidate, first_free, prefix_for};
-ghost use Rattle.patch_words.specs.Declaring.{prefixes, prefixes_in};
+ghost use Rattle.patch_words.specs.inner.Declaring.{prefixes, prefixes_in};
 ghost use Rattle.patch_text.specs.inner.Declaring.{Gains, Holds, prefixes_at, prefixes_put, prefixes_told};
 
 use edit_ops::Change;

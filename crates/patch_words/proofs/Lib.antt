@@ -1,1 +1,2 @@
 pub mod FreePrefix
+pub mod Cutting

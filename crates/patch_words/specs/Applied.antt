@@ -2,6 +2,7 @@
 use Rattle.std.specs.Prelude.{ℕ, zero, suc, ◌+◌, ◌-◌, ◌==◌, Bool, true, false, not, ◌&&◌, ◌||◌, nat_le, codes, List, [], ◌∷◌, ◌++◌, length, Option, None, Some, is_some, option_map, option_and_then, unwrap_or, slice_get, Result, Ok, Err, if◌then◌else◌, find}
 use Rattle.std.specs.List.{list_all, list_any}
 use Rattle.std.specs.Str.{bytes_eq}
+use Rattle.grammar_rules.specs.Reading.{front_of, after_front}
 use Rattle.xml_tree.specs.Attributes.{remove_first, with_new_value, is_written_so}
 use Rattle.xml_tree.specs.Characters.{is_name, is_space}
 use Rattle.xml_tree.specs.Edits.{change_at, own_number, parent_path, put_over}
@@ -14,6 +15,7 @@ use Rattle.xml_tree.specs.declared.names.Decl.{Decl}
 use Rattle.xml_tree.specs.declared.names.Attr.{Attr}
 use Rattle.xml_tree.specs.declared.tree.Node.{Node}
 use Rattle.xml_tree.specs.Limits.{most_levels}
+use Rattle.tree_text.specs.Faults.{is_other}
 use Rattle.node_select.specs.Names.{prefix_uri}
 use Rattle.node_select.specs.Selection.{is_attr, selected_in}
 use Rattle.node_select.specs.declared.selector.PatchEnd.{PatchEnd}
@@ -73,13 +75,18 @@ abbrev pub add_position : List ℕ → Option Position
 add_position text =
     if bytes_eq text (codes "prepend") then Some Prepend else (if bytes_eq text (codes "before") then Some Before else (if bytes_eq text (codes "after") then Some After else None))
 
--- a QName, cut at its colon (58); none where it has none of its parts or a part is no NCName
+-- a name of two parts, of which each is an NCName
 abbrev pub with_prefix : List ℕ → List ℕ → Option Name
 with_prefix prefix local = if is_name prefix && is_name local then Some (record { prefix = prefix; local = local }) else None
 
-abbrev pub cut_name : List ℕ → List ℕ → Option Name
-cut_name seen [] = if is_name seen then Some (record { prefix = []; local = seen }) else None
-cut_name seen (c ∷ cs) = if c == 58 then with_prefix seen cs else cut_name (seen ++ c ∷ []) cs
+-- by what stands in front of the first colon (58), and from that on: a name without a prefix where there is no colon
+abbrev pub name_cut : List ℕ → List ℕ → Option Name
+name_cut local [] = if is_name local then Some (record { prefix = []; local = local }) else None
+name_cut prefix (colon ∷ local) = with_prefix prefix local
+
+-- the QName of a text; none where it has none of its parts or a part is no NCName. Namespaces in XML 1.0, section 4.
+abbrev pub name_of_text : List ℕ → Option Name
+name_of_text text = name_cut (front_of (is_other 58) text) (after_front (is_other 58) text)
 
 -- `@` (64) and a QName other than `xmlns`
 abbrev pub no_declaration : Name → Option Name
@@ -87,7 +94,7 @@ no_declaration n = if bytes_eq n.prefix [] && bytes_eq n.local xmlns_prefix then
 
 abbrev pub type_of : List ℕ → Option Name
 type_of [] = None
-type_of (c ∷ cs) = if c == 64 then option_and_then no_declaration (cut_name [] cs) else None
+type_of (c ∷ cs) = if c == 64 then option_and_then no_declaration (name_of_text cs) else None
 
 -- which white space a `remove` takes with it: before the element, and behind it
 abbrev pub white_space_of : List ℕ → Option (Bool × Bool)

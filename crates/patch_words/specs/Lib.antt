@@ -1,6 +1,6 @@
 pub mod Applied
-pub mod Declaring
 pub mod Notices
 pub mod Replay
 pub mod Selectors
 pub mod readers
+pub mod inner

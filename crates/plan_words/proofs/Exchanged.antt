@@ -15,7 +15,7 @@ use Rattle.usage_docs.specs.declared.keys.Clash.{Clash}
 use Rattle.usage_docs.specs.Rows.{Scope, root_kind}
 use Rattle.usage_docs.specs.Clashes.{RepeatsAt, Unique, IsFirstClash}
 use Rattle.usage_docs.specs.Forms.{AllFormed, Constraints, IsNodeFormed}
-use Rattle.usage_docs.specs.Reading.Siblings.{IsFirst}
+use Rattle.usage_docs.specs.readers.Siblings.{IsFirst}
 use Rattle.usage_docs.specs.Kinds.{kind_at}
 use Rattle.plan_words.specs.Beside.{NoTwin, UniqueInside, ClashesBeside}
 use Rattle.plan_words.proofs.ClashesAt.{unique_there}

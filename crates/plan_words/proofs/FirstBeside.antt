@@ -12,7 +12,7 @@ use Rattle.usage_docs.specs.declared.rows.Key.{Key}
 use Rattle.usage_docs.specs.declared.keys.Clash.{Clash}
 use Rattle.usage_docs.specs.Rows.{Scope}
 use Rattle.usage_docs.specs.Clashes.{RepeatsAt, Clashes, NoLater, Unique, IsFirstClash}
-use Rattle.usage_docs.specs.Reading.Siblings.{IsFirst}
+use Rattle.usage_docs.specs.readers.Siblings.{IsFirst}
 use Rattle.plan_words.specs.Lawful.{KeepsTag}
 use Rattle.usage_docs.specs.Kinds.{kind_at}
 use Rattle.plan_words.specs.Beside.{IsTwin, NoTwin, ClashesInside, UniqueInside, ClashesBeside}

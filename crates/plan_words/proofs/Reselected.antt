@@ -19,7 +19,8 @@ use Rattle.node_select.specs.declared.selector.Selector.{Selector}
 use Rattle.node_select.specs.Selection.{is_attr, is_named, is_tested, has_end, Found, SelectsChild, SelectsPath}
 use Rattle.node_select.proofs.Along.{last_step_to, one_path}
 use Rattle.plan_words.specs.Attributes.{FindsValue}
-use Rattle.plan_words.specs.Tags.{value_in, with_attrs}
+use Rattle.plan_words.specs.Tags.{with_attrs}
+use Rattle.plan_words.specs.inner.Tags.{value_in}
 use Rattle.plan_words.proofs.Places.{scope_at_kid}
 use Rattle.plan_words.proofs.Removed.{split_end, no_shorter}
 use Rattle.plan_words.proofs.StaysSelected.{kids-over, last_step_after, lawful_over, scope_stays, stays_selected}

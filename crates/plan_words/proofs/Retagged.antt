@@ -13,7 +13,7 @@ use Rattle.usage_docs.specs.Rows.{Scope, root_kind}
 use Rattle.usage_docs.specs.Keys.{attrs_pass}
 use Rattle.usage_docs.specs.Clashes.{RepeatsAt, Unique, IsFirstClash}
 use Rattle.usage_docs.specs.Forms.{Constraints, is_formed}
-use Rattle.usage_docs.specs.Reading.Siblings.{IsFirst}
+use Rattle.usage_docs.specs.readers.Siblings.{IsFirst}
 use Rattle.usage_docs.specs.Validity.{AllKeep, KeepsRow, Schema}
 use Rattle.plan_words.specs.Beside.{IsTwin, ClashesInside, ClashesBeside}
 use Rattle.usage_docs.specs.Kinds.{kind_at}

@@ -10,7 +10,7 @@ use Rattle.doc_names.specs.declared.usages.Usage.{Usage}
 use Rattle.usage_docs.specs.declared.rows.Kind.{Kind}
 use Rattle.usage_docs.specs.Rows.{Scope, root_kind}
 use Rattle.usage_docs.specs.Validity.{Schema}
-use Rattle.usage_docs.specs.Reading.Gaps.{FollowsGap, FollowsBelow}
+use Rattle.usage_docs.specs.readers.Gaps.{FollowsGap, FollowsBelow}
 use Rattle.usage_docs.specs.Gaps.{GapThere}
 use Rattle.usage_docs.proofs.GapLemmas.{insertion_by_parts}
 use Rattle.usage_docs.specs.Kinds.{kind_of_kid, kind_below, kind_at}

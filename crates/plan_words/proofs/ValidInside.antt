@@ -10,11 +10,11 @@ use Rattle.xml_tree.proofs.ScopeLemmas.{scope_at-below}
 use Rattle.doc_names.specs.declared.usages.Usage.{Usage}
 use Rattle.usage_docs.specs.declared.rows.Kind.{Kind}
 use Rattle.usage_docs.specs.Rows.{Scope, root_kind}
-use Rattle.usage_docs.specs.Reading.Parts.{part_of, follows}
+use Rattle.usage_docs.specs.readers.Parts.{part_of, follows}
 use Rattle.usage_docs.specs.Validity.{AllKeep, KeepsRow, Schema, ValidChild, text_passes}
 use Rattle.usage_docs.proofs.Walking.{kept_walked, walk_kept}
-use Rattle.usage_docs.specs.Reading.Walks.{Walks}
-use Rattle.usage_docs.specs.Reading.Gaps.{part_before, part_after, part_of_kid}
+use Rattle.usage_docs.specs.readers.Walks.{Walks}
+use Rattle.usage_docs.specs.readers.Gaps.{part_before, part_after, part_of_kid}
 use Rattle.usage_docs.proofs.BlankTexts.{passes_append}
 use Rattle.plan_words.specs.Lawful.{KeepsTag}
 use Rattle.usage_docs.specs.Kinds.{kind_of_kid, kind_below, kind_at}

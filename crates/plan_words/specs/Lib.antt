@@ -7,3 +7,4 @@ pub mod Puts
 pub mod Removals
 pub mod Spots
 pub mod Tags
+pub mod inner

@@ -6,8 +6,8 @@ use Rattle.node_select.specs.Selection.{SelectsChild}
 use Rattle.node_select.specs.declared.selector.Step.{Step}
 use Rattle.usage_docs.specs.declared.rows.Kind.{Kind}
 use Rattle.usage_docs.specs.Rows.{Scope}
-use Rattle.usage_docs.specs.Reading.Parts.{follows}
-use Rattle.usage_docs.specs.Reading.Gaps.{part_before, part_after}
+use Rattle.usage_docs.specs.readers.Parts.{follows}
+use Rattle.usage_docs.specs.readers.Gaps.{part_before, part_after}
 
 -- without the child the step still selects one
 abbrev pub StillSelects : Scope → Step → List Tree → ℕ → Type 0

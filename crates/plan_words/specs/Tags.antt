@@ -1,10 +1,8 @@
 -- An element with other attributes, seen from its parent. What is asked of its tag is asked whatever it holds.
-use Rattle.std.specs.Prelude.{ℕ, Bool, true, List, [], Option, None, IsTrue, find, option_map, if◌then◌else◌}
+use Rattle.std.specs.Prelude.{Bool, true, List, [], Option, IsTrue}
 use Rattle.std.specs.Option.{ForSome}
 use Rattle.xml_tree.specs.Tree.{last, Tree, tree_of}
 use Rattle.xml_tree.specs.declared.names.Attr.{Attr}
-use Rattle.node_select.specs.Selection.{is_attr, is_tested}
-use Rattle.node_select.specs.declared.selector.Step.{Step}
 use Rattle.usage_docs.specs.declared.rows.Kind.{Kind}
 use Rattle.usage_docs.specs.declared.rows.Kind.TheVariants.{ResourceList}
 use Rattle.usage_docs.specs.Rows.{Scope}
@@ -19,11 +17,6 @@ with_attrs ats e = tree_of e.name e.decls ats e.content
 
 abbrev pub tag_with : List Attr → Tree → Tree
 tag_with ats e = tree_of e.name e.decls ats (last [])
-
--- the value that a step and the name of an attribute find in a child with this tag: none where the step doesn't test it, or the attribute
--- isn't there
-abbrev pub value_in : Scope → Step → List ℕ → List ℕ → Tree → Option (List ℕ)
-value_in c step uri local tag = if is_tested c step tag then option_map (λ a. a.value) (find (is_attr (inside c tag) uri local) tag.attrs) else None
 
 -- the attributes may be those of the element's kind, if it has one
 abbrev pub AttrsPass : Option Kind → Scope → Tree → Type 0

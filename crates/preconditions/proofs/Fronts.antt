@@ -6,7 +6,7 @@ use Rattle.std.proofs.lemmas.List.Sums.{take_while-cons}
 use Rattle.std.proofs.lemmas.Bool.Decides.{nat_tests}
 use Rattle.preconditions.specs.declared.tags.EntityTag.{EntityTag}
 use Rattle.preconditions.specs.Tags.{AreAll, is_tag_byte, is_ows_byte as is_blank}
-use Rattle.preconditions.specs.Reading.{Before, Letter, Slash, Inside, Behind, IsTrimmed, behind_blanks, behind_byte, closed, opaque_front, quoted, first_tag, behind_letter, behind_slash, tags_from, with_tags, entity_tag as tag_of}
+use Rattle.preconditions.specs.readers.Fields.{Before, Letter, Slash, Inside, Behind, IsTrimmed, behind_blanks, behind_byte, closed, opaque_front, quoted, first_tag, behind_letter, behind_slash, tags_from, with_tags, entity_tag as tag_of}
 
 -- blanks are passed, before a tag and behind it
 pub before-blanks : (bs s : List ℕ) → AreAll is_blank bs → tags_from Before (bs ++ s) ≡ tags_from Before s

@@ -5,7 +5,7 @@ use Rattle.std.specs.Option.{option_map_or, option_to_list, IfSome}
 use Rattle.std.proofs.lemmas.Bool.Decides.{nat_tests}
 use Rattle.preconditions.specs.declared.tags.EntityTag.{EntityTag}
 use Rattle.preconditions.specs.Tags.{AreAll, IsPart, SpellsTags, tag_text, comma_joined, is_tag_byte, ListPart as Part, is_ows_byte as is_blank}
-use Rattle.preconditions.specs.Reading.{Place, Before, Letter, Slash, Inside, Behind, opaque_front, tags_from, with_tags, entity_tag as tag_of}
+use Rattle.preconditions.specs.readers.Fields.{Place, Before, Letter, Slash, Inside, Behind, opaque_front, tags_from, with_tags, entity_tag as tag_of}
 use Rattle.preconditions.proofs.Fronts.{before-blanks, behind-blanks, inside-closed, front-closed}
 
 -- a part as it is written

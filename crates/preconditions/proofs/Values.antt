@@ -5,7 +5,7 @@ use Rattle.std.proofs.lemmas.Slice.Eq.{bytes_eq-Decides}
 use Rattle.preconditions.specs.declared.tags.EntityTag.{EntityTag}
 use Rattle.preconditions.specs.Tags.{comma_joined}
 use Rattle.preconditions.specs.Fields.{FieldValue, Missing, Star, Tags, Preconditions, Says, SayBoth, ConditionsAnswer}
-use Rattle.preconditions.specs.Reading.{Before, tags_from, listed, text_value, field_value, both, conditions_of}
+use Rattle.preconditions.specs.readers.Fields.{Before, tags_from, listed, text_value, field_value, both, conditions_of}
 use Rattle.preconditions.proofs.Grammar.{spelled-reads, read-spells}
 
 is-same : (a b : List ℕ) → bytes_eq a b ≡ true → a ≡ b

@@ -1,5 +1,5 @@
 pub mod Fields
-pub mod Reading
+pub mod readers
 pub mod Tags
 pub mod Verdicts
 pub mod inner

@@ -1,7 +1,7 @@
 //! The fields `If-Match` and `If-None-Match` (RFC 9110, sections 13.1.1 and 13.1.2).
 ghost use Rattle.std.specs.Prelude.{◌≡◌, ◌++◌, [], Some, None, IfOk, IsErrOf, flat_map, codes};
 ghost use Rattle.preconditions.specs.Fields.{ConditionsAnswer, SayBoth};
-ghost use Rattle.preconditions.specs.Reading.{text_value, field_value, conditions_of};
+ghost use Rattle.preconditions.specs.readers.Fields.{text_value, field_value, conditions_of};
 ghost use Rattle.preconditions.specs.inner.Values.{value_of};
 
 use crate::tags::read_tags;

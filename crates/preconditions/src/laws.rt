@@ -1,7 +1,7 @@
 //! Fields have one reading by the grammar, which is what is computed of them.
 ghost use Rattle.std.specs.Prelude.{◌≡◌, ◌↔◌, ℕ, List, Option, Some};
 ghost use Rattle.preconditions.specs.Fields.{ConditionsAnswer, FieldValue, Preconditions, Says};
-ghost use Rattle.preconditions.specs.Reading.{field_value};
+ghost use Rattle.preconditions.specs.readers.Fields.{field_value};
 
 /// A law: the lines of a field say exactly what is computed of them, and nothing else.
 pub fn fields_have_one_reading()

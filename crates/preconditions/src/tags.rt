@@ -2,7 +2,7 @@
 ghost use Rattle.std.specs.Prelude.{◌≡◌, ◌≤◌, ◌<◌, ◌++◌, ◌∷◌, [], length, Some, None, IfOk, OnOk, IsErrOf, MatchOption};
 ghost use Rattle.std.specs.List.{prefix_len};
 ghost use Rattle.preconditions.specs.Tags.{is_tag_byte, is_ows_byte};
-ghost use Rattle.preconditions.specs.Reading.{Before, Behind, behind_blanks, IsTrimmed, behind_byte, closed, opaque_front, first_tag, tags_from, with_tags, entity_tag};
+ghost use Rattle.preconditions.specs.readers.Fields.{Before, Behind, behind_blanks, IsTrimmed, behind_byte, closed, opaque_front, first_tag, tags_from, with_tags, entity_tag};
 
 use crate::{ConditionFault, NoMemory};
 use std::alloc::Global;

@@ -212,7 +212,7 @@ fn new_server(alloc: Global) -> Result<Server> {
 // The documents, none of which was put yet.
 fn new_documents(alloc: Global) -> Result<Vec<Document>> {
     let mut documents = Vec::new(alloc);
-    for name in ["index", "work", "home"] {
+    for name in ["index", "book", "home"] {
         documents.push(Document {
             name,
             prefix: "",

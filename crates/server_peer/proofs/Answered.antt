@@ -15,7 +15,7 @@ use Rattle.http_wire.specs.declared.ended.Ended.{Ended}
 use Rattle.http_wire.specs.declared.ended.Ended.TheVariants.{Closed, ReadFailed, WriteFailed}
 use Rattle.feed_laws.specs.Holding.{FollowedStep}
 use Rattle.xcap_server.proofs.Counting.{line_counts}
-use Rattle.server_peer.specs.Ends.{end_state}
+use Rattle.server_peer.specs.inner.Ends.{end_state}
 use Rattle.server_peer.specs.Serving.{whole}
 
 -- one reference is held as before

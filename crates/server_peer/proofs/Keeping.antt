@@ -2,7 +2,7 @@
 use Rattle.std.proofs.Common.{◌≡◌, ℕ, zero, suc, ◌+◌, ◌-◌, ◌<◌, ◌≤◌, nat_lt, min, Bool, true, false, ◌||◌, List, [], ◌∷◌, ◌++◌, length, take, drop, refl, sym, ap, ◌∙◌, arith, length-append, length-drop, append_assoc, append-nil, take-append-drop, true≢false}
 use Rattle.std.proofs.lemmas.Bool.Decides.{nat_tests}
 use Rattle.std.proofs.lemmas.List.{drop_all, length-take, length-take-le, take_all, take_at, take_min}
-use Rattle.server_peer.specs.Ends.{KeepsFront}
+use Rattle.server_peer.specs.inner.Ends.{KeepsFront}
 use Rattle.server_peer.specs.Rooms.{RepliesState}
 
 -- either there were others before, or there are now

@@ -1,4 +1,4 @@
-pub mod Ends
 pub mod Rooms
 pub mod Serving
 pub mod Peers
+pub mod inner

@@ -1,5 +1,5 @@
 -- Bytes that a server replies to, as those of one connection. RFC 9112, section 9; the room for its replies is the project's own.
-use Rattle.std.specs.Prelude.{◌≡◌, ℕ, Bool, true, List, length}
+use Rattle.std.specs.Prelude.{◌≡◌, ℕ, true, List}
 use Rattle.xcap_io.specs.Histories.{Traffic}
 use Rattle.http_wire.specs.Serving.{Serves}
 use Rattle.http_wire.specs.declared.ended.Ended.TheVariants.{Closed}
@@ -11,7 +11,6 @@ use Rattle.store_core.specs.Keeping.{Kept}
 use Rattle.store_core.specs.State.{State}
 use Rattle.feed_laws.specs.Holding.{FollowedStep}
 use Rattle.xcap_server.specs.Servers.{ServerState}
-use Rattle.server_peer.specs.Ends.{KeepsFront}
 use Rattle.server_peer.specs.Rooms.{RepliesState, with_replies}
 
 -- all bytes of a connection, to their end, and all that was replied
@@ -31,13 +30,6 @@ pub record Replies (old new : ServerState) (asked replies : List ℕ) (m : State
 pub record RepliesTo (old new : ServerState) (asked replies : List ℕ) : Type 0 where
   pub same_root : new.root ≡ old.root
   pub by_machine : (m : State) → Kept m → Stands old.content m → Replies old new asked replies m
-
--- The server replied to these bytes, and of the replies so many bytes are kept, as far as there is room.
-pub record FillsRoom (old new : ServerState) (asked room room' : List ℕ) (held : ℕ) (is_over : Bool) : Type 0 where
-  pub replies : List ℕ
-  pub served : RepliesTo old new asked replies
-  pub same_room : length room' ≡ length room
-  pub keeps : KeepsFront room' held is_over replies
 
 -- The server replied to these bytes, and the replies stand behind those before, as far as there is room.
 pub record AddsReplies (old new : ServerState) (asked : List ℕ) (before after : RepliesState) : Type 0 where

@@ -1,7 +1,7 @@
 // The server's end of a connection in memory.
 ghost use Rattle.std.specs.Prelude.{◌≡◌, ◌≤◌, length, drop};
 ghost use Rattle.xcap_io.specs.Histories.{no_traffic};
-ghost use Rattle.server_peer.specs.Ends.{KeepsFront, end_state};
+ghost use Rattle.server_peer.specs.inner.Ends.{KeepsFront, end_state};
 
 use xcap_io::{Failed, Line, Log, Sink, Source};
 

@@ -1,5 +1,5 @@
 // A server replies to some bytes, as to those of one connection.
-ghost use Rattle.server_peer.specs.Serving.{FillsRoom};
+ghost use Rattle.server_peer.specs.inner.Serving.{FillsRoom};
 
 use crate::server_end::ServerEnd;
 use std::alloc::Global;

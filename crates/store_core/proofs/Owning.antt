@@ -11,7 +11,7 @@ use Rattle.doc_names.specs.declared.doc_id.DocId.{DocId}
 use Rattle.store_core.specs.declared.entry.Entry.{Entry}
 use Rattle.store_core.specs.Held.{Held, Stock as Content}
 use Rattle.store_core.specs.Keeping.{AreApart}
-use Rattle.store_core.specs.Making.{IsOwn}
+use Rattle.store_core.specs.inner.Making.{IsOwn}
 use Rattle.store_core.specs.inner.Storing.{IsStoring, all_as_own, as_own, content_in, held_in, holder, len_in, number_in, trees_in, uris_in}
 use Rattle.store_core.proofs.Accepted.{sum-mapped}
 use Rattle.store_core.proofs.Entries.{each-mapped, each-unmapped, mapped}

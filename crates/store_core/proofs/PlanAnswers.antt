@@ -21,7 +21,8 @@ use Rattle.store_core.specs.Held.{Held, Stock as Content}
 use Rattle.store_core.specs.Keeping.{IsSoundFor, addresses_in}
 use Rattle.store_core.specs.Asking.{Asks, MayBeFor}
 use Rattle.store_core.specs.Changing.{Act, Edits, act_of, against, against_number, against_tree, answered, changing, content_after, document_in, held_name, note_for, other_lengths}
-use Rattle.store_core.specs.Making.{IsOwn, IsStagedIn, is_within}
+use Rattle.store_core.specs.Making.{IsStagedIn, is_within}
+use Rattle.store_core.specs.inner.Making.{IsOwn}
 use Rattle.store_core.specs.Preparing.{HasTree, IsPlanned, IsReady, IsStepOf, Readied, total_of}
 use Rattle.store_core.proofs.Accepted.{passes, unfound}
 use Rattle.store_core.proofs.Apart.{none-filtered}

@@ -1,9 +1,8 @@
 -- How long a printed document is, and which print an element has that is put.
 use Rattle.std.proofs.Common.{◌≡◌, ℕ, ◌+◌, List, length, encode_utf8_all, Option, None, Some, refl, sym, ap, ◌∙◌}
 use Rattle.xml_tree.specs.Tree.{Tree}
-use Rattle.xml_tree.specs.Print.{byte_len, print}
+use Rattle.xml_tree.specs.Print.{byte_len, print, document_print, header}
 use Rattle.xml_tree.proofs.PrintLengths.{byte_len-append}
-use Rattle.tree_text.specs.Printing.{document_print, header}
 use Rattle.edit_ops.specs.Lengths.{element_len}
 use Rattle.edit_ops.specs.declared.change.Change.{Change}
 use Rattle.edit_ops.specs.declared.change.Change.TheVariants.{CreateDocument, Insert, Replace, Remove, SetAttr, DropAttr, RemoveDocument}

@@ -1,10 +1,7 @@
 -- How a change is made in the tree of a document: the root is exchanged for that of the change's note, or the change is made in place, which only a tree
 -- allows that nobody shares.
-use Rattle.std.specs.Prelude.{◌≡◌, ℕ, Bool, true, false, List, [], ◌∷◌, Some}
-use Rattle.std.specs.Map.{lookup}
+use Rattle.std.specs.Prelude.{◌≡◌, ℕ, Bool, true, false, List, [], ◌∷◌}
 use Rattle.xml_tree.specs.Tree.{Tree}
-use Rattle.doc_names.specs.Same.{same_id}
-use Rattle.doc_names.specs.declared.doc_id.DocId.{DocId}
 use Rattle.edit_ops.specs.Changes.{edited}
 use Rattle.edit_ops.specs.Staging.{IsStaged}
 use Rattle.edit_ops.specs.declared.change.Change.{Change}
@@ -36,7 +33,3 @@ IsStagedIn t change (InPlace staged) = IsStaged t change staged × (is_within ch
 abbrev pub IsOwnWhere : StagedTree → Bool → Type 0
 IsOwnWhere (Whole root) own = Unit {0}
 IsOwnWhere (InPlace staged) own = own ≡ true
-
--- nobody shares the tree of this document, if it is there
-abbrev pub IsOwn : List (DocId × Bool) → DocId → Type 0
-IsOwn trees doc = (own : Bool) → lookup (same_id doc) trees ≡ Some own → own ≡ true

@@ -7,3 +7,4 @@ pub mod Rings
 pub mod Roots
 pub mod Storing
 pub mod Stories
+pub mod Making

@@ -4,7 +4,7 @@ ghost use Rattle.std.specs.Map.{lookup};
 ghost use Rattle.indexmap.specs.IndexMap.{spare};
 ghost use Rattle.std.specs.Option.{option_map};
 ghost use Rattle.doc_names.specs.Same.{same_id};
-ghost use Rattle.tree_text.specs.Printing.{document_print};
+ghost use Rattle.xml_tree.specs.Print.{document_print};
 ghost use Rattle.store_core.specs.Changing.{document_in, held_name};
 
 use crate::NoMemory;

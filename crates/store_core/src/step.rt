@@ -6,7 +6,8 @@ ghost use Rattle.indexmap.specs.IndexMap.{spare};
 ghost use Rattle.doc_names.specs.Same.{same_id};
 ghost use Rattle.edit_ops.specs.Changes.{Fits};
 ghost use Rattle.store_core.specs.declared.entry.Entry.{Entry as Held};
-ghost use Rattle.store_core.specs.Making.{IsOwn, IsOwnWhere, IsStagedIn};
+ghost use Rattle.store_core.specs.Making.{IsOwnWhere, IsStagedIn};
+ghost use Rattle.store_core.specs.inner.Making.{IsOwn};
 ghost use Rattle.store_core.specs.inner.Storing.{IsRenewed, all_as_own, trees_in};
 
 use crate::entry::{Entry, renew, unshare_tree};

@@ -1,16 +1,9 @@
 -- What a text is that an input gave, and what the input did where it gave none. This is the project's own.
-use Rattle.std.specs.Prelude.{◌≡◌, ℕ, ◌+◌, ◌<◌, ◌≤◌, List, length, take, Result, Ok, Err, MatchResult}
-use Rattle.xcap_io.specs.Causes.{Inward, LineState, Reads, Rose}
+use Rattle.std.specs.Prelude.{◌≡◌, ℕ, ◌+◌, ◌≤◌, List, length, Result, Ok, Err}
+use Rattle.xcap_io.specs.Causes.{LineState, Reads, Rose}
 use Rattle.xcap_io.specs.Passing.{Gave, IsEnded}
 use Rattle.stream_texts.specs.declared.inputs.InputFault.{InputFault}
 use Rattle.stream_texts.specs.declared.inputs.InputFault.TheVariants.{Failed, TooLong, NoMemory}
-
--- A buffer was filled from its front: so many bytes came, and where it isn't full the input ended behind them. At a failure
--- fewer came than it has room for.
-abbrev pub Fills : {E : Type 0} → Result ℕ E → List ℕ → Inward → Inward → Type 0
-Fills result buffer input input' = MatchResult result
-    (λ n. (n ≤ length buffer) × Gave input input' (take n buffer) × (n < length buffer → IsEnded input'))
-    (λ _. (n : ℕ) × (n < length buffer) × Gave input input' (take n buffer))
 
 -- The input gave these bytes, without a fault, and nothing else changed.
 pub record JustGave (bytes : List ℕ) (old new : LineState) : Type 0 where

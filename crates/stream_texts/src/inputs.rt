@@ -1,7 +1,8 @@
 // The input, read to its end.
 ghost use Rattle.std.specs.Prelude.{◌≡◌, ◌+◌, ◌<◌, ◌^◌, length, take};
 ghost use Rattle.xcap_io.specs.Causes.{OnlyReads};
-ghost use Rattle.stream_texts.specs.Inputs.{Fills, ReadsText};
+ghost use Rattle.stream_texts.specs.Inputs.{ReadsText};
+ghost use Rattle.stream_texts.specs.inner.Inputs.{Fills};
 ghost use Rattle.stream_texts.specs.declared.inputs.InputFault.TheVariants as faults;
 
 use std::alloc::{AllocError, Global};

@@ -24,10 +24,10 @@ pub fn home(alloc: Global, user: Option<&str>) -> Result<Home> {
     })
 }
 
-/// The document `work` of a user's lists.
+/// The document `book` of a user's lists.
 pub fn lists_of(alloc: Global, user: &str) -> Result<DocId> {
     let home = home(alloc, Some(user))?;
-    let name = Text::from(alloc, "work")?;
+    let name = Text::from(alloc, "book")?;
     Ok(DocId {
         auid: Auid::ResourceLists,
         home,

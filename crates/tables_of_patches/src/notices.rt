@@ -173,14 +173,14 @@ fn noticed(alloc: Global, inputs: &[Field]) -> Result<String> {
 // The notice of operations on the document `work` of joe, from the tag 1 to the tag 2.
 fn notice_of(alloc: Global, operations: &str) -> Result<Option<Notice>> {
     let bytes = format!(in alloc;
-        "<d:xcap-diff xmlns:d=\"urn:ietf:params:xml:ns:xcap-diff\" xcap-root=\"r/\"><d:document sel=\"resource-lists/users/joe/work\" new-etag=\"2\" previous-etag=\"1\">{operations}</d:document></d:xcap-diff>"
+        "<d:xcap-diff xmlns:d=\"urn:ietf:params:xml:ns:xcap-diff\" xcap-root=\"r/\"><d:document sel=\"resource-lists/users/joe/book\" new-etag=\"2\" previous-etag=\"1\">{operations}</d:document></d:xcap-diff>"
     )?;
     notice(alloc, bytes.as_str().as_bytes())
 }
 
 // What operations make of a document.
 fn patched(alloc: Global, text: &Field, operations: &Field) -> Result<String> {
-    let doc = named(alloc, "resource-lists", Some("joe"), "work")?;
+    let doc = named(alloc, "resource-lists", Some("joe"), "book")?;
     let Some(notice) = notice_of(alloc, operations.text()?)? else {
         return Ok(String::from_str(alloc, "NotADiff")?);
     };

@@ -3,7 +3,8 @@ use Rattle.std.proofs.Common.{◌≡◌, ℕ, Bool, true, false, cond, List, [],
 use Rattle.std.specs.Prelude.{◌&&◌, not, ◌==◌, nat_eq, None, Some}
 use Rattle.std.specs.List.{list_all, cons_option as with_char}
 use Rattle.std.proofs.lemmas.Bool.{eqb-true, eq-eqb}
-use Rattle.grammar_rules.specs.Reading.{Stop, Syntax, ◌>>=◌, head_is, starts, read_up_to}
+use Rattle.grammar_rules.specs.Reading.{Stop, Syntax, ◌>>=◌, head_is, starts}
+use Rattle.grammar_rules.specs.readers.Functions.{read_up_to}
 use Rattle.xml_tree.specs.Characters.{is_char}
 use Rattle.xml_tree.specs.Comments.{is_kept_char, hyphens_apart, is_comment}
 use Rattle.tree_text.specs.declared.kind.Kind.{Kind}

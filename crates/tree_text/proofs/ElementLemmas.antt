@@ -2,7 +2,8 @@
 use Rattle.std.proofs.Common.{◌≡◌, ℕ, suc, ◌+◌, Bool, true, false, cond, ◌||◌, List, [], ◌∷◌, ◌++◌, length, chars, encode_utf8_all, Result, Ok, Err, refl, sym, subst, ap, ◌∙◌, arith}
 use Rattle.std.proofs.lemmas.List.{same_from_push}
 use Rattle.std.specs.Prelude.{nat_eq, ◌==◌}
-use Rattle.grammar_rules.specs.Reading.{Reader, Stop, Syntax, Faulty, ◌>>=◌, head_is, starts, judgement, read_judged, read_at_most, read_many, read_valued}
+use Rattle.grammar_rules.specs.Reading.{Reader, Stop, Syntax, Faulty, ◌>>=◌, head_is, starts, read_valued}
+use Rattle.grammar_rules.specs.readers.Functions.{judgement, read_judged, read_at_most, read_many}
 use Rattle.xml_tree.specs.Edits.{with_text}
 use Rattle.xml_tree.specs.Tree.{Content, last, Tree, tree_of}
 use Rattle.xml_tree.specs.declared.names.Decl.{Decl}

@@ -3,7 +3,8 @@ use Rattle.std.proofs.Common.{◌≡◌, ℕ, ◌<◌, ◌≤◌, Bool, true, fa
 use Rattle.std.specs.Prelude.{nat_eq}
 use Rattle.std.proofs.lemmas.Bool.{eqb-true, lt-leb, ne_eqb, or_left, or_right}
 use Rattle.std.specs.Int.{is_in_range as within}
-use Rattle.grammar_rules.specs.Reading.{Syntax, head_is, front_of, after_front, read_name_of}
+use Rattle.grammar_rules.specs.Reading.{Syntax, head_is, front_of, after_front}
+use Rattle.grammar_rules.specs.readers.Functions.{read_name_of}
 use Rattle.xml_tree.specs.Characters.{is_name_start, is_joining, is_name_char}
 use Rattle.tree_text.specs.declared.kind.Kind.{Kind}
 use Rattle.tree_text.specs.readers.Runs.{is_plain_in_name}

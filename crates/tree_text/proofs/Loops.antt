@@ -1,6 +1,7 @@
 -- A loop over members reads them all: what it has made of those that it has read, and the members that are left to read.
 use Rattle.std.proofs.Common.{◌≡◌, ℕ, zero, suc, ◌+◌, ◌-◌, ◌<◌, ◌≤◌, Bool, true, false, List, [], ◌∷◌, Result, Ok, Err, chars, refl, ap, ◌∙◌, arith}
-use Rattle.grammar_rules.specs.Reading.{Stop, Syntax, Faulty, Reader, ◌>>=◌, read_sequence, read_valued, read_at_most, read_many, read_between}
+use Rattle.grammar_rules.specs.Reading.{Stop, Syntax, Faulty, Reader, ◌>>=◌, read_sequence, read_valued}
+use Rattle.grammar_rules.specs.readers.Functions.{read_at_most, read_many, read_between}
 use Rattle.tree_text.specs.declared.kind.Kind.{Kind}
 use Rattle.tree_text.specs.declared.stop.Stop.{Stop as CodeStop}
 use Rattle.tree_text.specs.declared.stop.Stop.TheVariants as stops

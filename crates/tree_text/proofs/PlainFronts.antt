@@ -3,7 +3,8 @@ use Rattle.std.proofs.Common.{◌≡◌, ℕ, ◌≤◌, ◌≢◌, Bool, true, 
 use Rattle.std.specs.List.{list_all}
 use Rattle.std.specs.Prelude.{nat_eq, nat_le, not}
 use Rattle.std.proofs.lemmas.Bool.{and_parts, eqb-true, le-leb, ne_eqb}
-use Rattle.grammar_rules.specs.Reading.{Stop, ◌>>=◌, front_of, after_front, front_without, after_without}
+use Rattle.grammar_rules.specs.Reading.{Stop, ◌>>=◌, front_of, after_front}
+use Rattle.grammar_rules.specs.readers.Functions.{front_without, after_without}
 use Rattle.std.specs.Int.{is_in_range as within}
 use Rattle.xml_tree.specs.Tree.{Content, Tree}
 use Rattle.xml_tree.proofs.Places.{with_text-nil}

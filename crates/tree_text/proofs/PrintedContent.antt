@@ -2,7 +2,8 @@
 use Rattle.std.proofs.Common.{◌≡◌, ℕ, ◌<◌, Bool, true, false, cond, List, [], ◌∷◌, ◌++◌, length, Result, Ok, IsTrue, refl, sym, ap, subst, ◌∙◌, append_assoc, eqb-true, eq-eqb, length-append, arith}
 use Rattle.std.specs.Prelude.{◌&&◌, ◌==◌, not, nat_eq}
 use Rattle.std.specs.List.{list_all, AllByRecursion}
-use Rattle.grammar_rules.specs.Reading.{Stop, Reader, ◌>>=◌, head_is, starts, read_up_to, read_valued}
+use Rattle.grammar_rules.specs.Reading.{Stop, Reader, ◌>>=◌, head_is, starts, read_valued}
+use Rattle.grammar_rules.specs.readers.Functions.{read_up_to}
 use Rattle.xml_tree.specs.Characters.{is_char, is_name_start}
 use Rattle.xml_tree.specs.Comments.{is_kept_char, hyphens_apart, is_comment}
 use Rattle.xml_tree.specs.Edits.{with_text_before, with_text, with_elem, with_comment}

@@ -4,7 +4,8 @@ use Rattle.grammar_rules.specs.Reading.{Reader}
 use Rattle.xml_tree.specs.Characters.{is_name_start, is_space}
 use Rattle.xml_tree.specs.Edits.{with_text_before}
 use Rattle.xml_tree.specs.Print.{opening, ending, closing, is_empty, print, print_attr, print_content, print_decl, print_name, print_text, print_comment}
-use Rattle.xml_tree.specs.Proper.{IsTag, Proper, ProperIn}
+use Rattle.xml_tree.specs.Proper.{IsTag, ProperIn}
+use Rattle.xml_tree.specs.inner.Proper.{Proper}
 use Rattle.xml_tree.specs.Scopes.{bound, xmlns_prefix}
 use Rattle.xml_tree.specs.Tree.{Content, last, more, note, Tree, tree_of, height, content_height}
 use Rattle.xml_tree.specs.declared.names.Name.{Name}

@@ -3,7 +3,8 @@ use Rattle.std.proofs.Common.{◌≡◌, ℕ, Bool, true, false, List, [], ◌�
 use Rattle.std.specs.Prelude.{◌==◌, None, Some}
 use Rattle.std.specs.List.{list_all}
 use Rattle.grammar_rules.specs.Rules.{AllPass}
-use Rattle.grammar_rules.specs.Reading.{head_is, read_empty, read_behind, read_run, read_valued, read_word, read_quoted}
+use Rattle.grammar_rules.specs.Reading.{head_is, read_run, read_valued, read_word}
+use Rattle.grammar_rules.specs.readers.Functions.{read_empty, read_behind, read_quoted}
 use Rattle.xml_tree.specs.Characters.{is_char, is_space, is_name_start, is_name_char, is_name}
 use Rattle.xml_tree.specs.Print.{declaring, print_attr, print_decl, print_name, value_escape, quoted_text as quoted}
 use Rattle.xml_tree.specs.Proper.{is_prefix}

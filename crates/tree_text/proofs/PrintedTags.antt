@@ -15,7 +15,8 @@ use Rattle.xml_tree.specs.declared.names.Name.{Name}
 use Rattle.xml_tree.specs.declared.names.Decl.{Decl}
 use Rattle.xml_tree.specs.declared.names.Attr.{Attr}
 use Rattle.xml_tree.proofs.ScopesAlike.{bound-inner}
-use Rattle.grammar_rules.specs.Reading.{Reader, read_judged}
+use Rattle.grammar_rules.specs.Reading.{Reader}
+use Rattle.grammar_rules.specs.readers.Functions.{read_judged}
 use Rattle.tree_text.specs.readers.Words.{less}
 use Rattle.tree_text.specs.declared.kind.Kind.{Kind}
 use Rattle.tree_text.specs.declared.said.Said.{Said}

@@ -5,10 +5,11 @@ use Rattle.std.specs.List.{list_all}
 use Rattle.std.specs.Str.{chars, is_utf8}
 use Rattle.std.proofs.lemmas.Str.{chars-encodes, is_utf8-from_IsUtf8}
 use lib.Utf8.{scalars}
-use Rattle.grammar_rules.specs.Reading.{Stop, Syntax, Faulty, Reader, read_whole}
+use Rattle.grammar_rules.specs.Reading.{Stop, Syntax, Faulty, Reader}
+use Rattle.grammar_rules.specs.readers.Functions.{read_whole}
 use Rattle.grammar_rules.specs.Answers.{Answers, IsSpelled}
 use Rattle.xml_tree.specs.Characters.{is_char, is_space, is_name_start}
-use Rattle.xml_tree.specs.Print.{print, ending, is_empty, print_content}
+use Rattle.xml_tree.specs.Print.{print, ending, is_empty, print_content, header, document_print}
 use Rattle.xml_tree.specs.Proper.{ProperIn}
 use Rattle.xml_tree.specs.Scopes.{bound, xmlns_prefix}
 use Rattle.xml_tree.specs.Tree.{Tree, height}
@@ -19,7 +20,7 @@ use Rattle.tree_text.specs.declared.kind.Kind.{Kind}
 use Rattle.tree_text.specs.Faults.{body_told, in_quotes, spelling_of, TextAnswer, BodyAnswer, text_told as told}
 use Rattle.tree_text.specs.Grammar.{document, spelling}
 use Rattle.tree_text.specs.Kinds.{faults}
-use Rattle.tree_text.specs.Printing.{header, document_print, body_escape, body_print}
+use Rattle.tree_text.specs.Printing.{body_escape, body_print}
 use Rattle.tree_text.specs.readers.Texts.{read_mark_if, read_declaration_if, read_spaces, read_dropped, misc_follows, read_prolog_misc, read_prolog, read_epilog, read_element, read_text, read_spelling}
 use Rattle.tree_text.specs.readers.Whole.{text_read, body_read}
 use Rattle.tree_text.proofs.ReadAnswers.{text_answer, body_answer}

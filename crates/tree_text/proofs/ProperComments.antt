@@ -4,7 +4,8 @@ use Rattle.std.proofs.lemmas.List.{append-nil}
 use Rattle.xml_tree.specs.Characters.{is_char}
 use Rattle.xml_tree.specs.Comments.{is_comment}
 use Rattle.grammar_rules.specs.Rules.{up_to}
-use Rattle.grammar_rules.specs.Reading.{Stop, Syntax, Faulty, read_up_to}
+use Rattle.grammar_rules.specs.Reading.{Stop, Syntax, Faulty}
+use Rattle.grammar_rules.specs.readers.Functions.{read_up_to}
 use Rattle.grammar_rules.proofs.Exact.{Outcome, Exact}
 use Rattle.grammar_rules.proofs.Closed.{anything}
 use Rattle.grammar_rules.proofs.UpTo.{exact_up_to}

@@ -7,7 +7,8 @@ use Rattle.xml_tree.specs.Characters.{is_char}
 use Rattle.xml_tree.specs.Comments.{is_comment}
 use Rattle.xml_tree.specs.Tree.{Content, last, more, note, Tree, height, content_height}
 use Rattle.xml_tree.specs.Edits.{with_text, with_elem, with_comment}
-use Rattle.xml_tree.specs.Proper.{Letters, IsProperPart, Proper, ProperIn}
+use Rattle.xml_tree.specs.Proper.{Letters, IsProperPart, ProperIn}
+use Rattle.xml_tree.specs.inner.Proper.{Proper}
 use Rattle.xml_tree.specs.declared.names.Name.{Name}
 use Rattle.xml_tree.specs.declared.names.Decl.{Decl}
 use Rattle.xml_tree.proofs.EverywhereLaws.{Letters-append}

@@ -2,7 +2,7 @@
 use Rattle.std.proofs.Common.{◌≡◌, ℕ, zero, suc, ◌+◌, ◌<◌, Bool, true, false, cond, List, Err, inl, inr, refl, arith}
 use Rattle.std.specs.Str.{is_utf8, chars}
 use Rattle.std.proofs.lemmas.Str.{IsUtf8-from_is_utf8, is_utf8-from_IsUtf8}
-use Rattle.grammar_rules.specs.Reading.{read_whole}
+use Rattle.grammar_rules.specs.readers.Functions.{read_whole}
 use Rattle.grammar_rules.specs.Answers.{Answers}
 use Rattle.xml_tree.specs.declared.names.Decl.{Decl}
 use Rattle.tree_text.specs.declared.fault.TextFault.TheVariants as texts

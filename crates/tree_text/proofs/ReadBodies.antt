@@ -2,7 +2,7 @@
 use Rattle.std.proofs.Common.{◌≡◌, ℕ, List, inl, refl, arith}
 use Rattle.std.specs.Prelude.{◌==◌}
 use Rattle.std.proofs.lemmas.Bool.Decides.{nat_tests}
-use Rattle.grammar_rules.specs.Reading.{read_whole}
+use Rattle.grammar_rules.specs.readers.Functions.{read_whole}
 use Rattle.grammar_rules.specs.Answers.{Faults, Answers}
 use Rattle.grammar_rules.proofs.Exact.{Exact}
 use Rattle.grammar_rules.proofs.Carry.{exact_valued}

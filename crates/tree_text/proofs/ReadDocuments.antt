@@ -8,7 +8,8 @@ use Rattle.xml_tree.specs.Tree.{Tree}
 use Rattle.xml_tree.specs.declared.names.Decl.{Decl}
 use Rattle.std.specs.Char.{is_ascii_digit as is_digit}
 use Rattle.grammar_rules.specs.Rules.{Begin, Rule, word, either, judged, trap, optional, keeping_first, keeping_second}
-use Rattle.grammar_rules.specs.Reading.{Reader, Stop, Syntax, head_is, starts, read_whole, read_word, read_behind, read_before}
+use Rattle.grammar_rules.specs.Reading.{Reader, Stop, Syntax, head_is, starts, read_word}
+use Rattle.grammar_rules.specs.readers.Functions.{read_whole, read_behind, read_before}
 use Rattle.grammar_rules.specs.Answers.{Faults, Answers}
 use Rattle.grammar_rules.proofs.Exact.{Rest, ahead, IsStopped, Outcome, Exact}
 use Rattle.grammar_rules.proofs.Leaves.{exact_word}

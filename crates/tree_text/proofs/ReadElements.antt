@@ -8,7 +8,8 @@ use Rattle.xml_tree.specs.Tree.{last, Tree}
 use Rattle.xml_tree.specs.declared.names.Name.{Name}
 use Rattle.xml_tree.specs.declared.names.Decl.{Decl}
 use Rattle.grammar_rules.specs.Rules.{Begin, Rule, word, sequence, valued, judged}
-use Rattle.grammar_rules.specs.Reading.{Reader, Stop, Syntax, ◌>>=◌, head_is, starts, read_word, read_behind, read_never}
+use Rattle.grammar_rules.specs.Reading.{Reader, Stop, Syntax, ◌>>=◌, head_is, starts, read_word}
+use Rattle.grammar_rules.specs.readers.Functions.{read_behind, read_never}
 use Rattle.grammar_rules.specs.Answers.{Faults}
 use Rattle.grammar_rules.proofs.Exact.{Rest, ahead, Outcome, Exact, exact_sequence}
 use Rattle.grammar_rules.proofs.Leaves.{exact_empty, exact_word}

@@ -3,7 +3,8 @@ use Rattle.std.proofs.Common.{◌≡◌, ℕ, zero, suc, ◌-◌, ◌<◌, ◌�
 use Rattle.std.proofs.lemmas.Str.{length-le-encodes}
 use Rattle.std.specs.Prelude.{nat_eq, Option, None}
 use Rattle.grammar_rules.specs.Rules.{AllPass}
-use Rattle.grammar_rules.specs.Reading.{Stop, Reader, ◌>>=◌, head_is, read_one, read_word, read_run, read_sequence, read_either, read_at_most, read_many, read_valued, read_sized, read_atomic, read_judged, read_between, read_name_of, read_before, read_behind, read_quoted}
+use Rattle.grammar_rules.specs.Reading.{Stop, Reader, ◌>>=◌, head_is, read_one, read_word, read_run, read_sequence, read_valued}
+use Rattle.grammar_rules.specs.readers.Functions.{read_either, read_at_most, read_many, read_sized, read_atomic, read_judged, read_between, read_name_of, read_before, read_behind, read_quoted}
 use Rattle.tree_text.specs.declared.kind.Kind.{Kind}
 
 -- the text is read as this value, up to this rest

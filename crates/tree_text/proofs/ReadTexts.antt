@@ -5,7 +5,8 @@ use Rattle.std.proofs.lemmas.Bool.Decides.{nat_tests}
 use Rattle.xml_tree.specs.Characters.{is_char, is_space, is_name_start, is_name_char}
 use Rattle.xml_tree.specs.Tree.{Tree}
 use Rattle.grammar_rules.specs.Rules.{Rule, AllPass, either, valued}
-use Rattle.grammar_rules.specs.Reading.{Reader, starts, read_either, read_valued}
+use Rattle.grammar_rules.specs.Reading.{Reader, starts, read_valued}
+use Rattle.grammar_rules.specs.readers.Functions.{read_either}
 use Rattle.grammar_rules.specs.Answers.{Faults}
 use Rattle.grammar_rules.proofs.Exact.{ahead, Exact}
 use Rattle.grammar_rules.proofs.Leaves.{exact_one, exact_word}

@@ -2,7 +2,8 @@
 use Rattle.std.proofs.Common.{◌≡◌, ℕ, zero, suc, ◌+◌, ◌*◌, ◌≤◌, Bool, true, false, cond, List, [], ◌∷◌, ◌++◌, length, length-append, Result, Ok, Err, encode_utf8_all, refl, sym, ap, ◌∙◌, append_assoc, subst, arith}
 use Rattle.std.specs.Prelude.{nat_eq, nat_le}
 use Rattle.grammar_rules.specs.Digits.{Digits}
-use Rattle.grammar_rules.specs.Reading.{Stop, Syntax, Reader, ◌>>=◌, after_front, number_end, read_digits, read_one, read_word, read_run, read_number, read_sequence, read_either, read_at_most, read_many, read_valued, read_empty}
+use Rattle.grammar_rules.specs.Reading.{Stop, Syntax, Reader, ◌>>=◌, after_front, read_one, read_word, read_run, read_sequence, read_valued}
+use Rattle.grammar_rules.specs.readers.Functions.{number_end, read_digits, read_number, read_either, read_at_most, read_many, read_empty}
 use Rattle.tree_text.specs.declared.kind.Kind.{Kind}
 use Rattle.tree_text.specs.readers.Ends.{EndsWith}
 

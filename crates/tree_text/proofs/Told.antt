@@ -3,7 +3,8 @@ use Rattle.std.proofs.Common.{◌≡◌, ℕ, ◌-◌, Bool, true, false, List, 
 use Rattle.std.specs.Prelude.{IsUtf8}
 use Rattle.std.specs.Str.{chars, is_utf8}
 use Rattle.std.proofs.lemmas.Str.{IsUtf8-from_is_utf8, is_utf8-from_IsUtf8}
-use Rattle.grammar_rules.specs.Reading.{Stop, Syntax, Faulty, read_whole}
+use Rattle.grammar_rules.specs.Reading.{Stop, Syntax, Faulty}
+use Rattle.grammar_rules.specs.readers.Functions.{read_whole}
 use Rattle.xml_tree.specs.Tree.{Tree}
 use Rattle.xml_tree.specs.declared.names.Decl.{Decl}
 use Rattle.tree_text.specs.declared.kind.Kind.{Kind}

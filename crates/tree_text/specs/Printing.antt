@@ -1,15 +1,5 @@
--- The print of a document and of an attribute body (application/xcap-att+xml): the one text, of those that are read, that stands for each.
-use Rattle.std.specs.Prelude.{ℕ, ◌==◌, codes, List, [], ◌∷◌, ◌++◌, flat_map, if◌then◌else◌}
-use Rattle.xml_tree.specs.Tree.{Tree}
-use Rattle.xml_tree.specs.Print.{print}
-
--- the XML declaration, and a line feed
-abbrev pub header : List ℕ
-header = codes "<?xml version=\"1.0\" encoding=\"UTF-8\"?>\n"
-
--- a document: the declaration, and its root element; nothing follows
-abbrev pub document_print : Tree → List ℕ
-document_print root = header ++ print root
+-- The print of an attribute body (application/xcap-att+xml, RFC 4825, section 15.2.2): the one text, of those that are read, that stands for it.
+use Rattle.std.specs.Prelude.{ℕ, ◌==◌, codes, List, [], ◌∷◌, flat_map, if◌then◌else◌}
 
 -- a character of a body: `&` (38), `<` (60), `"` (34), `'` (39), tab (9), LF (10) and CR (13) are references
 abbrev pub body_escape : ℕ → List ℕ

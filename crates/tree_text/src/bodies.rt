@@ -1,7 +1,7 @@
 //! Bodies that spell the value of an attribute (application/xcap-att+xml; RFC 4825, section 15.2.2).
 ghost use Rattle.std.specs.Prelude.{◌≡◌, option_map, IfOk, IsTrue, Ok};
 ghost use Rattle.std.specs.Str.{chars};
-ghost use Rattle.grammar_rules.specs.Reading.{read_whole};
+ghost use Rattle.grammar_rules.specs.readers.Functions.{read_whole};
 ghost use Rattle.xml_tree.specs.Characters.{all_chars};
 ghost use Rattle.tree_text.specs.Faults.{BodyAnswer, all_but_one, in_quotes, spelling_of, closing_len};
 ghost use Rattle.tree_text.specs.readers.Gives.{Gives, GivesAll};

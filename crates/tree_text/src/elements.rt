@@ -1,6 +1,7 @@
 //! Elements: their tags, their content, and the elements in it, no deeper than a limit.
 ghost use Rattle.std.specs.Prelude.{◌≡◌, ◌==◌, ◌||◌, ◌+◌, ◌≤◌, ◌<◌, ◌++◌, true, [], ◌∷◌, chars, IfOk, OnOk, Ok, Err};
-ghost use Rattle.grammar_rules.specs.Reading.{Reader, head_is, judgement};
+ghost use Rattle.grammar_rules.specs.Reading.{Reader, head_is};
+ghost use Rattle.grammar_rules.specs.readers.Functions.{judgement};
 ghost use Rattle.xml_tree.specs.Edits.{with_text};
 ghost use Rattle.xml_tree.specs.Tree.{Tree, last, tree_of};
 ghost use Rattle.tree_text.specs.declared.kind.Kind.{Kind};

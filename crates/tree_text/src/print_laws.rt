@@ -2,7 +2,7 @@
 ghost use Rattle.std.specs.Prelude.{◌≡◌, ◌≤◌, ◌<◌, ◌+◌, ◌++◌, ℕ, List, None, Ok, IsTrue, encode_utf8_all};
 ghost use Rattle.grammar_rules.specs.Answers.{IsSpelled};
 ghost use Rattle.xml_tree.specs.Characters.{all_chars};
-ghost use Rattle.xml_tree.specs.Print.{print};
+ghost use Rattle.xml_tree.specs.Print.{print, document_print};
 ghost use Rattle.xml_tree.specs.Proper.{ProperIn};
 ghost use Rattle.xml_tree.specs.Scopes.{bound, scope_at, xmlns_prefix};
 ghost use Rattle.xml_tree.specs.Tree.{Tree, height};
@@ -10,7 +10,7 @@ ghost use Rattle.xml_tree.specs.declared.names.Decl.{Decl};
 ghost use Rattle.tree_text.specs.Faults.{BodyAnswer, TextAnswer};
 ghost use Rattle.tree_text.specs.Grammar.{document, spelling};
 ghost use Rattle.tree_text.specs.Kinds.{faults};
-ghost use Rattle.tree_text.specs.Printing.{document_print, body_print};
+ghost use Rattle.tree_text.specs.Printing.{body_print};
 
 /// What is printed is read as what was printed: the bytes of the print of a tree, as a document or by itself, as the tree, in the
 /// scope in which it is proper and with at least as many levels as it has; and those of the print of a value that consists of

@@ -1,7 +1,8 @@
 //! Printing documents, elements and bodies.
 ghost use Rattle.std.specs.Prelude.{◌≡◌, ◌∷◌, ◌++◌, IfOk, OnOk, chars, encode_utf8_all, flat_map};
-ghost use Rattle.xml_tree.specs.Print.{closing, declaring, ending, is_empty, opening, print, print_content, print_attr, print_comment, print_decl, print_name, print_node, print_text, value_escape, quoted_text};
-ghost use Rattle.tree_text.specs.Printing.{header, document_print, body_escape, body_print};
+ghost use Rattle.xml_tree.specs.Print.{closing, declaring, ending, is_empty, opening, print, print_content, print_attr, print_comment, print_decl, print_name, print_text, value_escape, quoted_text, header, document_print};
+ghost use Rattle.xml_tree.specs.inner.Print.{print_node};
+ghost use Rattle.tree_text.specs.Printing.{body_escape, body_print};
 
 use crate::escapes::{Place, push_escaped};
 use crate::names::is_nothing;

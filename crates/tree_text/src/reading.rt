@@ -1,7 +1,7 @@
 //! Reading documents, fragments and bodies.
 ghost use Rattle.std.specs.Prelude.{◌≡◌, ◌+◌, ◌≤◌, length, [], IfOk};
 ghost use Rattle.std.specs.Str.{chars};
-ghost use Rattle.grammar_rules.specs.Reading.{read_whole};
+ghost use Rattle.grammar_rules.specs.readers.Functions.{read_whole};
 ghost use Rattle.xml_tree.specs.declared.scope.TheConstants.{SCOPE_LIMIT};
 ghost use Rattle.xml_tree.specs.Proper.{ProperIn};
 ghost use Rattle.xml_tree.specs.Tree.{height};

@@ -1,6 +1,7 @@
 //! Runs of characters: raw ones in content, and those up to a word that ends them.
 ghost use Rattle.std.specs.Prelude.{◌≡◌, ◌==◌, ◌++◌, true, false, [], ◌∷◌, chars, drop, OnOk, IfOk, IfSome, IfNone, IsTrue, Ok};
-ghost use Rattle.grammar_rules.specs.Reading.{after_without, starts, read_up_to};
+ghost use Rattle.grammar_rules.specs.Reading.{starts};
+ghost use Rattle.grammar_rules.specs.readers.Functions.{after_without, read_up_to};
 ghost use Rattle.xml_tree.specs.Characters.{is_char};
 ghost use Rattle.tree_text.specs.readers.Gives.{Gives};
 ghost use Rattle.tree_text.specs.Grammar.{is_raw};

@@ -1,7 +1,8 @@
 //! Start tags and the tags of empty elements.
 ghost use Rattle.std.specs.Prelude.{◌≡◌, ◌++◌, ◌∷◌, true, [], chars, length, is_some, IfOk, IfSome, Ok};
 ghost use Rattle.std.specs.List.{list_all};
-ghost use Rattle.grammar_rules.specs.Reading.{after_front, read_quoted, read_sized, read_valued};
+ghost use Rattle.grammar_rules.specs.Reading.{after_front, read_valued};
+ghost use Rattle.grammar_rules.specs.readers.Functions.{read_quoted, read_sized};
 ghost use Rattle.xml_tree.specs.Characters.{is_space};
 ghost use Rattle.tree_text.specs.readers.Gives.{Gives};
 ghost use Rattle.tree_text.specs.Grammar.{is_quote};

@@ -1,6 +1,7 @@
 //! References, and values between quotes.
 ghost use Rattle.std.specs.Prelude.{◌≡◌, ◌≤◌, ◌<◌, ◌++◌, ◌&&◌, true, false, [], ◌∷◌, chars, MatchOption, IfOk, OnOk, Ok, option_map};
-ghost use Rattle.grammar_rules.specs.Reading.{number_end, read_one, read_number, read_many, read_valued};
+ghost use Rattle.grammar_rules.specs.Reading.{read_one, read_valued};
+ghost use Rattle.grammar_rules.specs.readers.Functions.{number_end, read_number, read_many};
 ghost use Rattle.xml_tree.specs.Characters.{is_char};
 ghost use Rattle.tree_text.specs.readers.Gives.{Gives};
 ghost use Rattle.std.specs.List.{list_all, cons_option};

@@ -1,6 +1,7 @@
 //! Names as they stand in a text.
 ghost use Rattle.std.specs.Prelude.{◌≡◌, ◌+◌, ◌<◌, ◌≤◌, ◌^◌, suc, [], ◌∷◌, ◌++◌, chars, length, take, IfOk, IfSome};
-ghost use Rattle.grammar_rules.specs.Reading.{read_behind, read_word};
+ghost use Rattle.grammar_rules.specs.Reading.{read_word};
+ghost use Rattle.grammar_rules.specs.readers.Functions.{read_behind};
 ghost use Rattle.tree_text.specs.readers.Gives.{Gives};
 ghost use Rattle.tree_text.specs.Pieces.{written};
 ghost use Rattle.tree_text.specs.readers.Texts.{colon_follows, read_name, read_qname, read_end_tag};

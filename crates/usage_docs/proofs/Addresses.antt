@@ -6,7 +6,7 @@ use Rattle.std.proofs.lemmas.Bool.{eqb-true}
 use Rattle.xml_tree.specs.Characters.{is_space}
 use Rattle.usage_docs.specs.declared.letters.Address.{Address}
 use Rattle.usage_docs.specs.declared.letters.Address.TheVariants.{Start, H, Ht, Htt, Http, Https, Colon, Slash, Whole, GoesOn, Other}
-use Rattle.usage_docs.specs.Reading.Letters.{white, address_after, is_address}
+use Rattle.usage_docs.specs.readers.Letters.{white, address_after, is_address}
 use Rattle.usage_docs.specs.Forms.{goes_on, is_http, trimmed, trim_front, trim_back}
 
 -- ---- what each state still needs, `w` being the letters that don't count at the ends

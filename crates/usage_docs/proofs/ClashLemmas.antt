@@ -18,7 +18,7 @@ use Rattle.usage_docs.specs.declared.keys.Clash.{Clash}
 use Rattle.usage_docs.specs.Rows.{Scope, kind_of}
 use Rattle.usage_docs.specs.Keys.{key_of, value_of, key_value}
 use Rattle.usage_docs.specs.Clashes.{Mark, mark, mark_of, mark_at, RepeatsAt, NoLater}
-use Rattle.usage_docs.specs.Reading.Siblings.{node_kids, one_more, IsFirst}
+use Rattle.usage_docs.specs.readers.Siblings.{node_kids, one_more, IsFirst}
 use Rattle.usage_docs.proofs.EarlierMarks.{marks_of, IsAmong, RepeatsHere, RepeatedKey}
 
 -- ---- an element in the scope inside it

@@ -25,11 +25,11 @@ use Rattle.usage_docs.specs.declared.findings.Passed.{Passed}
 use Rattle.usage_docs.specs.Clashes.{IsFirstClash, NoLater, Repeats, RepeatsAt, mark_of}
 use Rattle.usage_docs.specs.Forms.{AllFormed, Constraints, IsNodeFormed}
 use Rattle.usage_docs.specs.Rows.{Scope, is_root, kind_of, root_kind}
-use Rattle.usage_docs.specs.Reading.Findings.{IsFirstAfter, IsFirstSoFar, PassesClash, PassesKey, RepeatsBelow, RepeatsKnown, fault_of}
-use Rattle.usage_docs.specs.Reading.Parts.{end, follows}
-use Rattle.usage_docs.specs.Reading.Repeats.{Holds, IsFirstRepeat, mark_by}
-use Rattle.usage_docs.specs.Reading.Siblings.{node_kids, one_more}
-use Rattle.usage_docs.specs.Reading.Walks.{HoldsRow, IsNodeValid, part_behind}
+use Rattle.usage_docs.specs.readers.Findings.{IsFirstAfter, IsFirstSoFar, PassesClash, PassesKey, RepeatsBelow, RepeatsKnown, fault_of}
+use Rattle.usage_docs.specs.readers.Parts.{end, follows}
+use Rattle.usage_docs.specs.readers.Repeats.{Holds, IsFirstRepeat, mark_by}
+use Rattle.usage_docs.specs.readers.Siblings.{node_kids, one_more}
+use Rattle.usage_docs.specs.readers.Walks.{HoldsRow, IsNodeValid, part_behind}
 use Rattle.usage_docs.proofs.ClashLemmas.{count_next, kid_at, mark_within, repeats_within}
 use Rattle.usage_docs.proofs.NodesFormed.{FormedNodes}
 use Rattle.usage_docs.proofs.NodesValid.{ValidNodes}

@@ -9,10 +9,10 @@ use Rattle.usage_docs.specs.declared.rows.Kind.{Kind}
 use Rattle.usage_docs.specs.Rows.{Scope, kind_of, root_kind}
 use Rattle.xml_tree.specs.Scopes.{inside}
 use Rattle.usage_docs.specs.Validity.{KeepsRow, AllKeep, ValidChild, Schema}
-use Rattle.usage_docs.specs.Reading.Parts.{part_of, follows}
-use Rattle.usage_docs.specs.Reading.Walks.{Walks}
+use Rattle.usage_docs.specs.readers.Parts.{part_of, follows}
+use Rattle.usage_docs.specs.readers.Walks.{Walks}
 use Rattle.usage_docs.specs.Gaps.{GapThere}
-use Rattle.usage_docs.specs.Reading.Gaps.{part_of_kid, part_before, part_after, FollowsBelow}
+use Rattle.usage_docs.specs.readers.Gaps.{part_of_kid, part_before, part_after, FollowsBelow}
 use Rattle.usage_docs.proofs.BlankTexts.{passes_none}
 use Rattle.usage_docs.proofs.Walking.{walk_kept, kept_walked}
 

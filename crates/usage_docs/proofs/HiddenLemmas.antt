@@ -16,7 +16,7 @@ use Rattle.xml_tree.proofs.BindingLaws.{Behind}
 use Rattle.xml_tree.proofs.ByteOrder.{order, order_same, order_equal}
 use Rattle.xml_tree.proofs.ScopeLemmas.{declared-append}
 use Rattle.usage_docs.specs.Services.{listed_as}
-use Rattle.usage_docs.specs.Reading.Lengths.{binding_of, decls_len, hidden}
+use Rattle.usage_docs.specs.readers.Lengths.{binding_of, decls_len, hidden}
 use Rattle.usage_docs.proofs.LengthLemmas.{first_more, kept, own_service, unlike, with_decls}
 
 -- the greatest length that is told

@@ -11,8 +11,8 @@ use Rattle.usage_docs.specs.Clashes.{Clashes, IsFirstClash, Mark, NoLater, Repea
 use Rattle.usage_docs.specs.Forms.{AllFormed, Constraints, is_formed}
 use Rattle.usage_docs.specs.Keys.{attrs_pass, key_of, value_of}
 use Rattle.usage_docs.specs.Rows.{Scope, Child, is_root, items_in, kind_of, model_of, root_kind, MatchesModel as Matches}
-use Rattle.usage_docs.specs.Reading.Parts.{end, follows, part_in}
-use Rattle.usage_docs.specs.Reading.Siblings.{IsFirst}
+use Rattle.usage_docs.specs.readers.Parts.{end, follows, part_in}
+use Rattle.usage_docs.specs.readers.Siblings.{IsFirst}
 use Rattle.usage_docs.specs.Texts.{text_of}
 use Rattle.usage_docs.specs.Validity.{AllKeep, KeepsRow, Schema, children_of, text_passes}
 use Rattle.usage_docs.proofs.KindTests.{same_kind, same_kind_exact}

@@ -22,8 +22,8 @@ use Rattle.xml_tree.proofs.PrintLengths.{byte_len-append, byte_len-opening}
 use Rattle.xml_tree.proofs.ScopeLemmas.{drop_item, option_or-none}
 use Rattle.usage_docs.specs.Rows.{Scope}
 use Rattle.usage_docs.specs.Services.{listed_as}
-use Rattle.usage_docs.specs.Reading.Listing.{elems_len, listed_nodes}
-use Rattle.usage_docs.specs.Reading.Lengths.{decls_len}
+use Rattle.usage_docs.specs.readers.Listing.{elems_len, listed_nodes}
+use Rattle.usage_docs.specs.readers.Lengths.{decls_len}
 use Rattle.usage_docs.proofs.ListingLemmas.{listed_step}
 
 -- ---- sums

@@ -12,9 +12,9 @@ use Rattle.usage_docs.specs.declared.listing.IndexFault.TheVariants.{TooLarge}
 use Rattle.std.proofs.lemmas.Str.{length-le-encodes}
 use Rattle.std.proofs.lemmas.Bool.Decides.{nat_tests}
 use Rattle.usage_docs.specs.Services.{index_limit, RefusesServices, is_service, listed_as, index_name, index_decls, index_of, index_text, index_len}
-use Rattle.usage_docs.specs.Reading.Listing.{listed_nodes, elems_len}
+use Rattle.usage_docs.specs.readers.Listing.{listed_nodes, elems_len}
 use Rattle.usage_docs.specs.inner.Indexes.{len_with}
-use Rattle.usage_docs.specs.Reading.Siblings.{node_kids}
+use Rattle.usage_docs.specs.readers.Siblings.{node_kids}
 use Rattle.usage_docs.proofs.ClashLemmas.{kids_are}
 
 -- ---- the services among nodes

@@ -5,7 +5,7 @@ use Rattle.std.proofs.lemmas.Bool.{cases_lt}
 use Rattle.usage_docs.specs.declared.rows.Kind.{Kind}
 use Rattle.usage_docs.specs.declared.rows.Kind.TheVariants.{ResourceLists, EntryList, Entry, EntryRef, External, DisplayName, RlsServices, Service, ResourceList, Packages, Package}
 use Rattle.usage_docs.specs.Rows.{Child, known, foreign, one, opt, any, ends, takes, may_take, takes_none, takes_more, takes_no_more, IsIn, model_of, items_in, children_in, ModelItem as Item, MatchesModel as Matches}
-use Rattle.usage_docs.specs.Reading.Parts.{part_named, foreign_part, single_parts, needs_first, follows, part_in, end}
+use Rattle.usage_docs.specs.readers.Parts.{part_named, foreign_part, single_parts, needs_first, follows, part_in, end}
 use Rattle.usage_docs.proofs.KindTests.{is_in, is_in_exact}
 
 -- children behind one of the part `before`, each behind the one before it

@@ -9,9 +9,9 @@ use Rattle.usage_docs.specs.Rows.{Scope, Child, child_of, root_kind, items_in, m
 use Rattle.xml_tree.specs.Scopes.{inside}
 use Rattle.usage_docs.specs.Validity.{Schema, children_of}
 use Rattle.usage_docs.specs.Gaps.{last_of, child_before, child_behind, FitsGap, FitsBelow, GapThere}
-use Rattle.usage_docs.specs.Reading.Gaps.{part_before, part_after, FollowsGap, FollowsBelow}
-use Rattle.usage_docs.specs.Reading.Parts.{part_in, part_of, follows, end}
-use Rattle.usage_docs.specs.Reading.Walks.{Walks}
+use Rattle.usage_docs.specs.readers.Gaps.{part_before, part_after, FollowsGap, FollowsBelow}
+use Rattle.usage_docs.specs.readers.Parts.{part_in, part_of, follows, end}
+use Rattle.usage_docs.specs.readers.Walks.{Walks}
 use Rattle.usage_docs.proofs.Matching.{Chain, matched}
 use Rattle.usage_docs.proofs.Walking.{followed, walk_kept}
 use Rattle.usage_docs.proofs.GapLemmas.{insertion_by_parts, kid_valid, put_from}

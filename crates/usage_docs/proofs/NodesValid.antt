@@ -7,8 +7,8 @@ use Rattle.xml_tree.specs.declared.tree.Node.{Node}
 use Rattle.xml_tree.specs.declared.tree.Node.TheVariants.{Elem, Chars, Comment}
 use Rattle.usage_docs.specs.declared.rows.Kind.{Kind}
 use Rattle.usage_docs.specs.Rows.{Scope}
-use Rattle.usage_docs.specs.Reading.Parts.{follows, end}
-use Rattle.usage_docs.specs.Reading.Walks.{Walks, HoldsRow, IsNodeValid, part_behind}
+use Rattle.usage_docs.specs.readers.Parts.{follows, end}
+use Rattle.usage_docs.specs.readers.Walks.{Walks, HoldsRow, IsNodeValid, part_behind}
 use Rattle.usage_docs.specs.Validity.{text_passes}
 use Rattle.usage_docs.proofs.BlankTexts.{passes_append, passes_none}
 use Rattle.usage_docs.proofs.Walking.{holds_walked}

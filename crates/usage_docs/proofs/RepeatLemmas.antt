@@ -26,7 +26,7 @@ use Rattle.usage_docs.specs.declared.rows.Kind.TheVariants.{ResourceLists, Entry
 use Rattle.usage_docs.specs.Clashes.{Mark, Repeats, mark, mark_at, mark_of}
 use Rattle.usage_docs.specs.Keys.{key_of}
 use Rattle.usage_docs.specs.Rows.{Scope}
-use Rattle.usage_docs.specs.Reading.Repeats.{Enters, Holds, IsFirstRepeat, IsLeastPair, IsPair, lesser, mark_in}
+use Rattle.usage_docs.specs.readers.Repeats.{Enters, Holds, IsFirstRepeat, IsLeastPair, IsPair, lesser, mark_in}
 use Rattle.usage_docs.proofs.ClashLemmas.{mark_parts, mark_within, no_key}
 
 -- ---- the order of marks and of keys

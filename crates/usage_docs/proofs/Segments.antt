@@ -3,7 +3,7 @@ use Rattle.std.proofs.Common.{◌≡◌, ℕ, Bool, true, false, List, [], ◌�
 use Rattle.std.specs.Prelude.{◌==◌, if◌then◌else◌}
 use Rattle.std.specs.List.{list_all}
 use Rattle.usage_docs.specs.declared.letters.Segment.TheVariants.{Empty, Begun, Ended, Wrong}
-use Rattle.usage_docs.specs.Reading.Letters.{segment_after, is_segment}
+use Rattle.usage_docs.specs.readers.Letters.{segment_after, is_segment}
 use Rattle.usage_docs.specs.Forms.{first_segment, is_reference}
 
 -- a letter that is no colon

@@ -5,8 +5,8 @@ use Rattle.xml_tree.specs.declared.names.Attr.{Attr}
 use Rattle.usage_docs.specs.declared.rows.Kind.{Kind}
 use Rattle.usage_docs.specs.Keys.{attrs_pass}
 use Rattle.usage_docs.specs.Rows.{Scope}
-use Rattle.usage_docs.specs.Reading.Parts.{part_of}
-use Rattle.usage_docs.specs.Reading.Walks.{Walks, HoldsRow}
+use Rattle.usage_docs.specs.readers.Parts.{part_of}
+use Rattle.usage_docs.specs.readers.Walks.{Walks, HoldsRow}
 use Rattle.usage_docs.specs.Texts.{text_of}
 use Rattle.usage_docs.specs.Validity.{text_passes, children_of, KeepsRow, AllKeep}
 use Rattle.usage_docs.proofs.Matching.{Chain, matched}

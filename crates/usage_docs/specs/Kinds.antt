@@ -18,7 +18,3 @@ kind_below row c e (n ∷ q) = option_and_then (λ kid. option_and_then (λ kind
 -- of the element at a path of a document
 abbrev pub kind_at : Usage → Tree → List ℕ → Option Kind
 kind_at u t q = kind_below (root_kind u) (t.decls ∷ []) t q
-
--- the same below an element that may have no row
-abbrev pub row_below : Option Kind → Scope → Tree → List ℕ → Option Kind
-row_below row c e q = option_and_then (λ kind. kind_below kind c e q) row

@@ -5,7 +5,7 @@ pub mod Gaps
 pub mod Judging
 pub mod Keys
 pub mod Kinds
-pub mod Reading
+pub mod readers
 pub mod Rows
 pub mod Services
 pub mod Texts

@@ -11,6 +11,8 @@ use Rattle.std.specs.Option.{option_map_or}
 use Rattle.xml_tree.specs.Scopes.{bound}
 use Rattle.xml_tree.specs.declared.names.Name.{Name}
 use Rattle.xml_tree.specs.declared.names.Decl.{Decl}
+use Rattle.doc_names.specs.Usages.{namespace_of}
+use Rattle.doc_names.specs.declared.doc_id.Auid.TheVariants as auids
 use Rattle.doc_names.specs.declared.usages.Usage.{Usage}
 use Rattle.doc_names.specs.declared.usages.Usage.TheVariants as usage
 use Rattle.usage_docs.specs.declared.rows.Kind.{Kind}
@@ -18,11 +20,11 @@ use Rattle.usage_docs.specs.declared.rows.Kind.TheVariants.{ResourceLists, Entry
 
 -- the namespace of resource-lists (RFC 4826, 3.2)
 unfoldable pub lists_space : List ℕ
-lists_space = codes "urn:ietf:params:xml:ns:resource-lists"
+lists_space = namespace_of auids.ResourceLists
 
 -- the namespace of rls-services (RFC 4826, 4.2)
 unfoldable pub services_space : List ℕ
-services_space = codes "urn:ietf:params:xml:ns:rls-services"
+services_space = namespace_of auids.RlsServices
 
 -- the kind of a document's root; its namespace is that of its children
 unfoldable pub root_kind : Usage → Kind

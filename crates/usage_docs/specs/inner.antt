@@ -1,3 +1,4 @@
 -- What private functions and proofs speak of. No clause of a public call needs it.
 pub mod Indexes
 pub mod Trails
+pub mod Kinds

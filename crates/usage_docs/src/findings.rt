@@ -12,10 +12,10 @@ ghost use Rattle.usage_docs.specs.Clashes.{RepeatsAt};
 ghost use Rattle.usage_docs.specs.Forms.{AllFormed, IsNodeFormed};
 ghost use Rattle.usage_docs.specs.Rows.{Scope};
 ghost use Rattle.usage_docs.specs.Validity.{ValidInRow};
-ghost use Rattle.usage_docs.specs.Reading.Repeats.{Enters, Holds, mark_by};
-ghost use Rattle.usage_docs.specs.Reading.Siblings.{one_more};
-ghost use Rattle.usage_docs.specs.Reading.Walks.{HoldsRow, IsNodeValid, part_behind};
-ghost use Rattle.usage_docs.specs.Reading.Findings.{IsKnownFormed, IsFirstAfter, IsFirstSoFar, PassesClash, PassesKey, RepeatsKnown};
+ghost use Rattle.usage_docs.specs.readers.Repeats.{Enters, Holds, mark_by};
+ghost use Rattle.usage_docs.specs.readers.Siblings.{one_more};
+ghost use Rattle.usage_docs.specs.readers.Walks.{HoldsRow, IsNodeValid, part_behind};
+ghost use Rattle.usage_docs.specs.readers.Findings.{IsKnownFormed, IsFirstAfter, IsFirstSoFar, PassesClash, PassesKey, RepeatsKnown};
 
 use crate::attributes::attrs_pass;
 use crate::forms::is_formed;

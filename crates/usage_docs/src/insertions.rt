@@ -6,7 +6,7 @@ ghost use Rattle.doc_names.specs.declared.usages.Usage.{Usage};
 ghost use Rattle.usage_docs.specs.Rows.{root_kind};
 ghost use Rattle.usage_docs.specs.Validity.{Schema};
 ghost use Rattle.usage_docs.specs.Gaps.{FitsBelow, GapThere};
-ghost use Rattle.usage_docs.specs.Reading.Gaps.{FollowsBelow};
+ghost use Rattle.usage_docs.specs.readers.Gaps.{FollowsBelow};
 
 /// A law: a valid document with a new element in a gap is valid exactly where the element is valid by itself and may stand
 /// between its two neighbours; that is, where its part follows theirs.

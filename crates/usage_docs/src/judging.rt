@@ -8,8 +8,8 @@ ghost use Rattle.usage_docs.specs.Clashes.{IsFirstClash, RepeatsAt};
 ghost use Rattle.usage_docs.specs.Forms.{Constraints, IsNodeFormed};
 ghost use Rattle.usage_docs.specs.Judging.{Judged};
 ghost use Rattle.usage_docs.specs.Validity.{Schema, ValidChild};
-ghost use Rattle.usage_docs.specs.Reading.Findings.{fault_of};
-ghost use Rattle.usage_docs.specs.Reading.Siblings.{IsFirst};
+ghost use Rattle.usage_docs.specs.readers.Findings.{fault_of};
+ghost use Rattle.usage_docs.specs.readers.Siblings.{IsFirst};
 
 use crate::attributes::attrs_pass;
 use crate::findings::{Found, walk_inside, walk_known};

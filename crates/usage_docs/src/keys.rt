@@ -3,7 +3,7 @@ ghost use Rattle.std.specs.Prelude.{◌≡◌, ◌↔◌, List, IsTrue, OnOk, le
 ghost use Rattle.xml_tree.specs.Tree.{Tree};
 ghost use Rattle.usage_docs.specs.declared.rows.Kind.{Kind};
 ghost use Rattle.usage_docs.specs.Rows.{Scope};
-ghost use Rattle.usage_docs.specs.Reading.Repeats.{Enters, Holds, IsFirstRepeat, IsLeastPair, IsPair, lesser, mark_by};
+ghost use Rattle.usage_docs.specs.readers.Repeats.{Enters, Holds, IsFirstRepeat, IsLeastPair, IsPair, lesser, mark_by};
 
 use crate::attributes::{key_of, key_text};
 use crate::rows::{Key, Kind};

@@ -4,8 +4,8 @@ ghost use Rattle.xml_tree.specs.Print.{print, byte_len};
 ghost use Rattle.xml_tree.specs.Scopes.{AreInOrder};
 ghost use Rattle.xml_tree.specs.declared.tree.Node.TheVariants.{Elem};
 ghost use Rattle.usage_docs.specs.Services.{listed, listed_as};
-ghost use Rattle.usage_docs.specs.Reading.Listing.{elems_len, listed_nodes};
-ghost use Rattle.usage_docs.specs.Reading.Lengths.{CountsFrom, binding_of, decls_len, hidden};
+ghost use Rattle.usage_docs.specs.readers.Listing.{elems_len, listed_nodes};
+ghost use Rattle.usage_docs.specs.readers.Lengths.{CountsFrom, binding_of, decls_len, hidden};
 
 use crate::listing::{is_service, listed_as};
 use std::alloc::Global;

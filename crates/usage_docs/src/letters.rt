@@ -4,7 +4,7 @@ ghost use Rattle.usage_docs.specs.declared.letters.Address.TheVariants.{Other};
 ghost use Rattle.usage_docs.specs.declared.letters.Segment.TheVariants.{Empty};
 ghost use Rattle.usage_docs.specs.Forms.{is_http, is_reference, trimmed};
 ghost use Rattle.usage_docs.specs.Texts.{text_of};
-ghost use Rattle.usage_docs.specs.Reading.Letters.{white, address_after, is_address, segment_after, is_segment};
+ghost use Rattle.usage_docs.specs.readers.Letters.{white, address_after, is_address, segment_after, is_segment};
 
 use xml_tree::{Element, Node, is_space};
 

@@ -1,13 +1,13 @@
 //! Children by numbers, as they are followed from left to right (RFC 4826, sections 3.2 and 4.2).
 ghost use Rattle.std.specs.Prelude.{◌≡◌, chars, if◌then◌else◌};
 ghost use Rattle.usage_docs.specs.Rows.{foreign, stray, is_foreign, kind_of};
-ghost use Rattle.usage_docs.specs.Reading.Parts.{part_named, foreign_part, single_parts, needs_first, follows, part_in, part_of};
+ghost use Rattle.usage_docs.specs.readers.Parts.{part_named, foreign_part, single_parts, needs_first, follows, part_in, part_of};
 
 use crate::rows::{Kind, is_foreign, kind_by, space_of};
 use xml_tree::{Around, Name};
 
 // The part of a child of some kind.
-#[tactic(auto, unfolding(crate::specs::Reading::Parts::part_named))]
+#[tactic(auto, unfolding(crate::specs::readers::Parts::part_named))]
 fn part_named(row: Kind, kind: Kind) -> u8
     ensures part_of_the_kind { result ≡ part_named row kind }
 {
@@ -31,7 +31,7 @@ fn part_named(row: Kind, kind: Kind) -> u8
 }
 
 // The part of the foreign elements.
-#[tactic(auto, unfolding(crate::specs::Reading::Parts::foreign_part))]
+#[tactic(auto, unfolding(crate::specs::readers::Parts::foreign_part))]
 fn foreign_part(row: Kind) -> u8
     ensures part_of_the_foreign { result ≡ foreign_part row }
 {
@@ -44,7 +44,7 @@ fn foreign_part(row: Kind) -> u8
 }
 
 // How many of the first parts are of one child at most.
-#[tactic(auto, unfolding(crate::specs::Reading::Parts::single_parts))]
+#[tactic(auto, unfolding(crate::specs::readers::Parts::single_parts))]
 fn single_parts(row: Kind) -> u8
     ensures counts_the_single_parts { result ≡ single_parts row }
 {
@@ -56,7 +56,7 @@ fn single_parts(row: Kind) -> u8
 }
 
 // Whether the first part has to be there.
-#[tactic(auto, unfolding(crate::specs::Reading::Parts::needs_first))]
+#[tactic(auto, unfolding(crate::specs::readers::Parts::needs_first))]
 fn needs_first(row: Kind) -> bool
     ensures tells_whether_the_first_is_needed { result ≡ needs_first row }
 {
@@ -65,7 +65,7 @@ fn needs_first(row: Kind) -> bool
 
 /// Whether a child of the part `next` may stand directly behind one of the part `before`, in an element of this row.
 /// Parts count from 1; before the first child stands part 0, behind the last one the part `END`. Takes no memory.
-#[tactic(auto, unfolding(crate::specs::Reading::Parts::follows))]
+#[tactic(auto, unfolding(crate::specs::readers::Parts::follows))]
 pub fn follows(row: Kind, before: u8, next: u8) -> bool
     ensures tells_whether_it_may_follow { result ≡ follows row before next }
 {
@@ -87,7 +87,7 @@ pub(crate) struct Placed {
 }
 
 /// The part and the kind of a child, by the row of its parent and the scope that ends with its own declarations. Takes no memory.
-#[tactic(auto, unfolding(crate::specs::Reading::Parts::part_of, crate::specs::Rows::child_of, crate::specs::Rows::kind_of))]
+#[tactic(auto, unfolding(crate::specs::readers::Parts::part_of, crate::specs::Rows::child_of, crate::specs::Rows::kind_of))]
 pub(crate) fn place_of(row: Kind, scope: &Around<'_>, name: &Name) -> Placed
     ensures part_of_the_child { result.part ≡ part_of row scope.now name.now }
     ensures kind_of_the_child { result.kind ≡ kind_of row scope.now name.now }

@@ -2,7 +2,7 @@
 ghost use Rattle.std.specs.Prelude.{◌≡◌, ◌∷◌, [], chars, option_map, IfOk};
 ghost use Rattle.std.specs.Iterator.{YieldsFirstBy, item_count};
 ghost use Rattle.usage_docs.specs.Services.{service_uri, service_uris};
-ghost use Rattle.usage_docs.specs.Reading.Uris.{node_uri, uris_left};
+ghost use Rattle.usage_docs.specs.readers.Uris.{node_uri, uris_left};
 
 use crate::attributes::value_of;
 use crate::listing::is_service;

@@ -3,7 +3,8 @@ use Rattle.std.proofs.Common.{◌≡◌, ℕ, ◌+◌, ◌<◌, ◌≤◌, List,
 use Rattle.std.proofs.lemmas.Grind.{common_steps}
 use Rattle.notes.specs.declared.edit.Edit.{Edit}
 use Rattle.watchers.specs.declared.watcher.Told.{Told}
-use Rattle.watchers.specs.Telling.{HasKept, HasLeft, AreTold, AreToldAsFarAs}
+use Rattle.watchers.specs.Telling.{HasKept, HasLeft, AreTold}
+use Rattle.watchers.specs.inner.Telling.{AreToldAsFarAs}
 
 -- ---- the item at a place, and the lists before and behind it
 

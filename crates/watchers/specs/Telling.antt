@@ -1,5 +1,5 @@
 -- What watchers were told and wrote of changes, and which of them left. This is the project's own.
-use Rattle.std.specs.Prelude.{◌≡◌, ◌≢◌, ℕ, ◌+◌, ◌≤◌, List, [], ◌∷◌, ◌++◌, take, drop, length, Option, ◌⊎◌, option_map}
+use Rattle.std.specs.Prelude.{◌≡◌, ◌≢◌, ℕ, ◌+◌, ◌≤◌, List, [], ◌∷◌, ◌++◌, Option, ◌⊎◌, option_map}
 use Rattle.notes.specs.declared.edit.Edit.{Edit}
 use Rattle.watchers.specs.Writing.{Wrote, with_lines}
 use Rattle.watchers.specs.declared.watcher.Told.{Told}
@@ -36,13 +36,6 @@ module _ {B : Type 0} (told_list : B → Option (List Edit)) (faults : B → ℕ
   AreTold edit (b ∷ bs) new left =
       ((b' : B) × (bs' : List B) × (new ≡ b' ∷ bs') × HasKept edit b b' × AreTold edit bs bs' left)
       ⊎ ((last : B) × (k : ℕ) × (left ≡ k + 1) × HasLeft edit b last × AreTold edit bs new k)
-
-  -- The first i of those listed now were told and kept the change, and some left: whatever telling the rest leaves, behind
-  -- the first i it is what telling all of them leaves.
-  pub record AreToldAsFarAs (edit : Edit) (old now : List B) (i left : ℕ) : Type 0 where
-    pub within : i ≤ length now
-    pub count : left + length now ≡ length old
-    pub goes_on : (new : List B) (k : ℕ) → AreTold edit (drop i now) new k → AreTold edit old (take i now ++ new) (left + k)
 
   -- A watcher that was told these changes and kept each of them: it wrote the lines of these, in order, and nothing else.
   pub record HasKeptAll (edits : List Edit) (old new : B) : Type 0 where

@@ -14,9 +14,10 @@ use Rattle.http_wire.specs.declared.ended.Ended.{Ended}
 use Rattle.http_wire.specs.declared.ended.Ended.TheVariants.{Closed, ReadFailed, WriteFailed}
 use Rattle.http_serve.specs.declared.port.Served.{Served}
 use Rattle.http_serve.specs.declared.port.Stop.TheVariants.{PortFailed}
-use Rattle.xcap_app.specs.Replays.{ReplaysCommand, ServesInput, exit_of_connection}
+use Rattle.xcap_app.specs.Replays.{ReplaysCommand, ServesInput}
+use Rattle.xcap_app.specs.inner.Replays.{exit_of_connection}
 use Rattle.xcap_app.specs.Serves.{IsComplete, ServesAddress, served_line, ServesCommand as Serves}
-use Rattle.xcap_app.specs.Telling.{Prints}
+use Rattle.xcap_app.specs.inner.Telling.{Prints}
 use Rattle.xcap_app.specs.declared.exit.Exit.{Exit}
 use Rattle.xcap_app.specs.declared.exit.Exit.TheVariants.{Done, Usage, InputFailed, OutputFailed, NetworkFailed, Refused, Client, BadJournal, OutOfMemory}
 

@@ -1,6 +1,8 @@
 -- Which words spell which command. The commands are the project's own; a ROOT is that of RFC 4825, section 6.1.
 use Rattle.std.specs.Prelude.{ℕ, List, [], ◌∷◌, chars, codes, Option, None, Some, if◌then◌else◌, option_and_then, option_map}
 use Rattle.std.specs.Str.{bytes_eq}
+use Rattle.doc_names.specs.Usages.{auid_text}
+use Rattle.doc_names.specs.declared.doc_id.Auid.TheVariants as auids
 use Rattle.doc_names.specs.declared.usages.Usage.{Usage}
 use Rattle.doc_names.specs.declared.usages.Usage.TheVariants.{ResourceLists, RlsServices}
 use Rattle.xcap_uri.specs.Roots.{root_of}
@@ -13,8 +15,8 @@ use Rattle.xcap_app.specs.declared.words.TheConstants.{GREATEST_COUNT, GREATEST_
 -- AUID: the usage that a word names
 unfoldable pub usage_named : List ℕ → Option Usage
 usage_named word =
-    if bytes_eq word (codes "resource-lists") then Some ResourceLists
-    else if bytes_eq word (codes "rls-services") then Some RlsServices
+    if bytes_eq word (auid_text auids.ResourceLists) then Some ResourceLists
+    else if bytes_eq word (auid_text auids.RlsServices) then Some RlsServices
     else None
 
 -- `ADDR ROOT COUNT`: ADDR is any word of one or more octets, ROOT a root, and COUNT a numeral of at most `GREATEST_COUNT`

@@ -1,13 +1,11 @@
 -- How a run of the program can end. The statuses and texts are the project's own.
-use Rattle.std.specs.Prelude.{ℕ, List, [], ◌++◌, codes, decimal, encode_utf8_all, string_bytes}
+use Rattle.std.specs.Prelude.{ℕ, List, [], ◌++◌, codes, decimal, encode_utf8_all}
 use Rattle.xml_tree.specs.PathTexts.{path_text}
 use Rattle.usage_docs.specs.Keys.{word}
 use Rattle.usage_docs.specs.declared.judging.Fault.TheVariants.{Invalid, Unformed, Repeated}
 use Rattle.client_commands.specs.Words.{fault_words, status_of_fault}
 use Rattle.xcap_app.specs.declared.exit.Exit.{Exit}
 use Rattle.xcap_app.specs.declared.exit.Exit.TheVariants.{Done, Usage, InputFailed, OutputFailed, NetworkFailed, Refused, Client, BadJournal, OutOfMemory}
-use Rattle.xcap_app.specs.declared.exit.Words.{Words}
-use Rattle.xcap_app.specs.declared.exit.Words.TheVariants.{Fixed, Made}
 use Rattle.xcap_app.specs.declared.journal_refusal.JournalRefusal.{JournalRefusal}
 use Rattle.xcap_app.specs.declared.journal_refusal.JournalRefusal.TheVariants.{Damaged, Refused as RefusedAt, TooLong}
 use Rattle.xcap_app.specs.declared.refusal.Refusal.{Refusal}
@@ -62,8 +60,3 @@ IsRefused (Refused refusal) = Unit {0}
 IsRefused (Client fault) = Unit {0}
 IsRefused (BadJournal refusal) = Unit {0}
 IsRefused _ = ⊥
-
--- the bytes of words
-abbrev pub said : Words → List ℕ
-said (Fixed words) = words.now
-said (Made words) = string_bytes words

@@ -17,12 +17,6 @@ use Rattle.xcap_app.specs.Frames.{JustRead, JustWritten}
 use Rattle.xcap_app.specs.declared.exit.Exit.{Exit}
 use Rattle.xcap_app.specs.declared.exit.Exit.TheVariants.{Done, InputFailed, OutputFailed, OutOfMemory}
 
--- how the command ends with its connection
-abbrev pub exit_of_connection : Ended → Exit
-exit_of_connection Closed = Done
-exit_of_connection ReadFailed = InputFailed
-exit_of_connection WriteFailed = OutputFailed
-
 -- W is the type of the watchers, and `Keeps` says what they are after such changes.
 module _ {W : Type 0} (Keeps : List Edit → W → W → Type 0) where
   -- The input was served as one connection by the machine of this root from this state on, each state on the way kept and

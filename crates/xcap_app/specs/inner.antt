@@ -1,2 +1,5 @@
 -- What private functions and proofs speak of. No clause of a public call needs it.
 pub mod Streams
+pub mod Exits
+pub mod Replays
+pub mod Telling

@@ -1,6 +1,7 @@
 // How a run ends: its status, and the words that it tells on the stream for errors.
 ghost use Rattle.std.specs.Prelude.{◌≡◌, IfOk, OnErr};
-ghost use Rattle.xcap_app.specs.Exits.{IsRefused, said, status_of, words_of};
+ghost use Rattle.xcap_app.specs.Exits.{IsRefused, status_of, words_of};
+ghost use Rattle.xcap_app.specs.inner.Exits.{said};
 
 use crate::journal_refusal::JournalRefusal;
 use crate::refusal::Refusal;

@@ -3,7 +3,8 @@ ghost use Rattle.std.specs.Prelude.{◌≡◌, []};
 ghost use Rattle.store_core.specs.Held.{Stands};
 ghost use Rattle.store_core.specs.Keeping.{Kept};
 ghost use Rattle.store_core.specs.State.{State};
-ghost use Rattle.xcap_app.specs.Replays.{ReplaysCommand, ServesInput, exit_of_connection};
+ghost use Rattle.xcap_app.specs.Replays.{ReplaysCommand, ServesInput};
+ghost use Rattle.xcap_app.specs.inner.Replays.{exit_of_connection};
 
 use crate::exit::Exit;
 use http_serve::Ended;

@@ -3,7 +3,7 @@ ghost use Rattle.std.specs.Prelude.{◌≡◌, []};
 ghost use Rattle.xcap_io.specs.Causes.{OnlyWrites};
 ghost use Rattle.xcap_io.specs.Streams.{WritesAll};
 ghost use Rattle.xcap_app.specs.Serves.{served_line, ServesCommand};
-ghost use Rattle.xcap_app.specs.Telling.{Prints};
+ghost use Rattle.xcap_app.specs.inner.Telling.{Prints};
 
 use crate::exit::Exit;
 use http_serve::Stop;

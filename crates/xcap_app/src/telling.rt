@@ -1,6 +1,7 @@
 // What is written on the output, and told on the stream for errors.
 ghost use Rattle.xcap_app.specs.Exits.{words_of};
-ghost use Rattle.xcap_app.specs.Telling.{IsToldAs, Prints, Tells};
+ghost use Rattle.xcap_app.specs.Telling.{IsToldAs, Tells};
+ghost use Rattle.xcap_app.specs.inner.Telling.{Prints};
 
 use crate::exit::Exit;
 use std::alloc::{AllocError, Global};

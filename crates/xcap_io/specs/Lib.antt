@@ -8,3 +8,4 @@ pub mod Pairs
 pub mod Passing
 pub mod Sockets
 pub mod Streams
+pub mod inner

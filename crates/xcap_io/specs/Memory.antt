@@ -1,5 +1,5 @@
 -- Lines in memory, and ports and peers made of them, as their callers see them. This is the project's own.
-use Rattle.std.specs.Prelude.{◌≡◌, ◌≢◌, ℕ, zero, suc, ◌+◌, ◌-◌, ◌<◌, ◌≤◌, ◌==◌, min, List, [], ◌∷◌, ◌++◌, length, map, take, drop, Bool, true, false, Option, None, Some, Result, Ok, Err, option_map, unwrap_or, IsErr, ◌⊎◌, slice_index_or, slice_set}
+use Rattle.std.specs.Prelude.{◌≡◌, ◌≢◌, ℕ, zero, suc, ◌+◌, ◌-◌, ◌<◌, ◌==◌, min, List, [], ◌∷◌, ◌++◌, length, map, take, drop, Bool, true, false, Option, None, Some, Result, Ok, Err, option_map, unwrap_or, IsErr, ◌⊎◌, slice_index_or, slice_set}
 use Rattle.xcap_io.specs.Causes.{Begun, LineState, greatest_count, no_port, no_peer}
 use Rattle.xcap_io.specs.Histories.{Traffic}
 
@@ -26,12 +26,6 @@ one_more faults = min (faults + 1) greatest_count
 -- how many bytes a read into so much room gives, where it doesn't fail
 abbrev pub given_by : MemoryLine → ℕ → ℕ
 given_by line wanted = min (min wanted line.step) (min (unwrap_or line.until_fault (length line.left)) (length line.left))
-
--- how many of the wanted bytes may be given before the place where reads fail
-abbrev pub Gives : ℕ → ℕ → Option ℕ → Option ℕ → Type 0
-Gives wanted given None result = result ≡ Some wanted
-Gives wanted given (Some place) None = place ≤ given
-Gives wanted given (Some place) (Some most) = (given < place) × (most ≡ min wanted (place - given))
 
 -- the line after a read of so many bytes
 abbrev pub after_read : MemoryLine → ℕ → MemoryLine

@@ -2,7 +2,8 @@
 ghost use Rattle.std.specs.Prelude.{◌≡◌, ◌<◌, ◌≤◌, [], false, length, IfOk, IfSome, Some, min};
 ghost use Rattle.std.specs.Io.{ReadsAtMost};
 ghost use Rattle.xcap_io.specs.Causes.{OnlyReads, OnlyWrites};
-ghost use Rattle.xcap_io.specs.Memory.{begun_anew, Gives, MemoryRead, MemoryWrite, line_state};
+ghost use Rattle.xcap_io.specs.Memory.{begun_anew, MemoryRead, MemoryWrite, line_state};
+ghost use Rattle.xcap_io.specs.inner.Memory.{Gives};
 ghost use Rattle.xcap_io.specs.Passing.{ReadGave, WriteTook};
 ghost use Rattle.xcap_io.specs.Streams.{WritesSome};
 

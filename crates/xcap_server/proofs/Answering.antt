@@ -10,7 +10,8 @@ use Rattle.store_core.specs.Held.{Stock as Content}
 use Rattle.document_writes.specs.Deciding.{Decides, answer_of}
 use Rattle.document_writes.specs.declared.decision.Decision.{Decision}
 use Rattle.http_serve.specs.declared.machine.Answered.{Answered}
-use Rattle.xcap_server.specs.Servers.{AnswersRequest, ServerState}
+use Rattle.xcap_server.specs.Servers.{ServerState}
+use Rattle.xcap_server.specs.inner.Servers.{AnswersRequest}
 
 pub answered_so : (old new : ServerState) (request : Request) (s : Stored) (d : Decision) (a : Answered Edit) → s.content ≡ old.content → Decides (IsAnswer old.root old.content request) s d
     → answer_as a.reply a.edit ≡ answer_of d → new.content ≡ content_after_answer s.content (answer_of d).made → new.root ≡ old.root → AnswersRequest old request a.reply new a.edit

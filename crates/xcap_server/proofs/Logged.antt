@@ -36,7 +36,8 @@ use Rattle.logged_serve.specs.Ports.{ServesLogged}
 use Rattle.logged_serve.proofs.Balancing.{holds_after, holds_so}
 use Rattle.xcap_server.specs.Logged.{AnswersLogged, Logs, ServesPortLogged, with_answer}
 use Rattle.xcap_server.specs.Redoing.{Redoing}
-use Rattle.xcap_server.specs.Servers.{AnswersRequest, ServerState}
+use Rattle.xcap_server.specs.Servers.{ServerState}
+use Rattle.xcap_server.specs.inner.Servers.{AnswersRequest}
 use Rattle.xcap_server.proofs.Answering.{answered_so}
 use Rattle.xcap_server.proofs.Reclosed.{makes_too}
 use Rattle.xcap_server.proofs.Standing.{IsRooted, StandsAt, follows_at}

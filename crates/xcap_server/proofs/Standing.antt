@@ -22,7 +22,8 @@ use Rattle.http_serve.specs.Ports.{ServesPort}
 use Rattle.http_serve.specs.Written.{InBytes}
 use Rattle.http_serve.proofs.Simulations.{line_by, port_by}
 use Rattle.xcap_uri.specs.Roots.{IsRoot, authority_of, path_of}
-use Rattle.xcap_server.specs.Servers.{AnswersRequest, ServerState}
+use Rattle.xcap_server.specs.Servers.{ServerState}
+use Rattle.xcap_server.specs.inner.Servers.{AnswersRequest}
 
 -- a server of this root, whose store stands for a kept state
 pub record StandsAt (root : List ℕ) (s : ServerState) (m : State) : Type 0 where

@@ -1,3 +1,4 @@
 pub mod Servers
 pub mod Redoing
 pub mod Logged
+pub mod inner

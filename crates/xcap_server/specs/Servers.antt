@@ -1,21 +1,8 @@
--- A server as its callers see it, and what it answers to a request. RFC 4825, section 8.
-use Rattle.std.specs.Prelude.{◌≡◌, ℕ, List, Option}
+-- A server as its callers see it. RFC 4825, section 8.
+use Rattle.std.specs.Prelude.{ℕ, List}
 use Rattle.store_core.specs.Held.{Stock}
-use Rattle.reply_text.specs.Heads.{Sent}
-use Rattle.http_wire.specs.declared.request.Request.{Request}
-use Rattle.notes.specs.declared.edit.Edit.{Edit}
-use Rattle.machine_words.specs.Machine.{Does}
 
 -- its root, and what it holds
 pub record ServerState : Type 0 where
   pub root : List ℕ
   pub content : Stock
-
--- It answers a request by this reply, tells this change, if it made one, and then holds what is left, under the same root.
-pub record AnswersRequest (old : ServerState) (request : Request) (reply : Sent) (new : ServerState) (edit : Option Edit) : Type 0 where
-  pub does : Does old.root old.content request reply new.content edit
-  pub same_root : new.root ≡ old.root
-
--- nothing was done, for want of memory
-abbrev pub IsAsBefore : ServerState → ServerState → Type 0
-IsAsBefore old new = new ≡ old

@@ -36,7 +36,7 @@ fn not_entered(request: &Request) -> Answered<Edit>
 }
 
 impl LoggedMachine for Service {
-    ghost use Rattle.xcap_server.specs.Servers.{AnswersRequest};
+    ghost use Rattle.xcap_server.specs.inner.Servers.{AnswersRequest};
 
     type Edit = Edit;
 

@@ -7,7 +7,7 @@ ghost use Rattle.store_core.specs.Keeping.{Kept};
 ghost use Rattle.store_core.specs.State.{State};
 ghost use Rattle.machine_words.specs.Machine.{answer_as, content_after_answer};
 ghost use Rattle.document_writes.specs.Deciding.{IsReadyFor, answer_of};
-ghost use Rattle.xcap_server.specs.Servers.{AnswersRequest, IsAsBefore};
+ghost use Rattle.xcap_server.specs.inner.Servers.{AnswersRequest, IsAsBefore};
 
 use crate::requests::decide;
 use document_writes::Decision;
@@ -114,7 +114,7 @@ pub(crate) fn commit(store: &mut Store, decision: Decision) -> Answered<Edit>
 }
 
 impl Machine for Service {
-    ghost use Rattle.xcap_server.specs.Servers.{AnswersRequest};
+    ghost use Rattle.xcap_server.specs.inner.Servers.{AnswersRequest};
 
     type Edit = Edit;
 

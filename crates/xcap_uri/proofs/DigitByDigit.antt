@@ -5,7 +5,8 @@ use Rattle.std.specs.List.{list_all}
 use Rattle.std.specs.Char.{is_ascii_digit as is_digit}
 use Rattle.grammar_rules.specs.Digits.{decimal_digits}
 use Rattle.grammar_rules.specs.Rules.{number_from}
-use Rattle.xcap_uri.specs.Numerals.{begins_with_digit, number_behind, numeral_of}
+use Rattle.xcap_uri.specs.Numerals.{begins_with_digit, numeral_of}
+use Rattle.xcap_uri.specs.inner.Numerals.{number_behind}
 
 -- the greatest number of 64 bits
 abbrev top : ℕ

@@ -13,7 +13,7 @@ use Rattle.xml_tree.specs.declared.names.Decl.{Decl}
 use Rattle.xml_tree.specs.declared.read_error.ReadError.TheVariants.{Fault}
 use Rattle.tree_text.proofs.ReadParts.{space_no_name}
 use Rattle.xcap_uri.specs.Cuts.{rest_after_front}
-use Rattle.xcap_uri.specs.Gives.{UriError, ◌>>=◌}
+use Rattle.xcap_uri.specs.readers.Steps.{UriError, ◌>>=◌}
 use Rattle.xcap_uri.specs.Queries.{is_bracket_or_caret, is_blank, SpellsUri, ends, plain, escaped, nested, IsItem, AreItems, IsQuery}
 use Rattle.xcap_uri.specs.readers.Queries.{Read, past, equals_past, prefix_read, is_reserved, unreserved, free_prefix_read, some_uri, uri_chars, uri_read, item_read, items_read, optional_bindings_read}
 use Rattle.xcap_uri.specs.readers.UriSteps.{with_chars}

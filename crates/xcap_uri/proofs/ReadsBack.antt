@@ -15,7 +15,7 @@ use Rattle.doc_names.specs.declared.doc_id.Auid.TheVariants.{ResourceLists, RlsS
 use Rattle.doc_names.specs.declared.doc_id.Home.{Home}
 use Rattle.doc_names.specs.declared.doc_id.Home.TheVariants.{Global, User}
 use Rattle.doc_names.specs.declared.doc_id.DocId.{DocId}
-use Rattle.xcap_uri.specs.Gives.{UriError}
+use Rattle.xcap_uri.specs.readers.Steps.{UriError}
 use Rattle.xcap_uri.specs.declared.shape.Shape.TheVariants as shapes
 use Rattle.xcap_uri.specs.declared.target.Target.TheVariants.{Document}
 use Rattle.xcap_uri.specs.Cuts.{pieces}

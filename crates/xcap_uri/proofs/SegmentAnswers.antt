@@ -8,7 +8,7 @@ use Rattle.doc_names.specs.Ids.{separator}
 use Rattle.xml_tree.specs.declared.read_error.ReadError.TheVariants.{Fault}
 use Rattle.xcap_uri.specs.Cuts.{pieces}
 use Rattle.xcap_uri.specs.Escapes.{StandsFor, StandForOptional}
-use Rattle.xcap_uri.specs.Gives.{UriError, ◌>>=◌}
+use Rattle.xcap_uri.specs.readers.Steps.{UriError, ◌>>=◌}
 use Rattle.xcap_uri.specs.Roots.{slash}
 use Rattle.xcap_uri.specs.Targets.{AreSegments, IsPath}
 use Rattle.xcap_uri.specs.readers.Escapes.{text_read, optional_text_read, stands_for_text}

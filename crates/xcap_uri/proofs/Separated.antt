@@ -7,7 +7,7 @@ use Rattle.std.specs.List.{onto_first as with_first, join_with_byte as joined}
 use Rattle.xml_tree.specs.declared.read_error.ReadError.TheVariants.{NoMemory}
 use Rattle.xcap_uri.specs.Cuts.{front_before, rest_behind, pieces}
 use Rattle.xcap_uri.specs.readers.Escapes.{text_read}
-use Rattle.xcap_uri.specs.Gives.{UriError, ◌>>=◌}
+use Rattle.xcap_uri.specs.readers.Steps.{UriError, ◌>>=◌}
 use Rattle.xcap_uri.specs.Roots.{slash}
 use Rattle.xcap_uri.specs.readers.Targets.{path_read, segments_read}
 use Rattle.doc_names.specs.Ids.{separator}

@@ -18,7 +18,7 @@ use Rattle.doc_names.specs.declared.doc_id.Auid.{Auid}
 use Rattle.doc_names.specs.declared.doc_id.DocId.{DocId}
 use Rattle.xcap_uri.specs.Cuts.{front_before, rest_behind}
 use Rattle.xcap_uri.specs.Escapes.{StandForOptional}
-use Rattle.xcap_uri.specs.Gives.{UriError, ◌>>=◌}
+use Rattle.xcap_uri.specs.readers.Steps.{UriError, ◌>>=◌}
 use Rattle.xcap_uri.specs.Order.{Where, Given}
 use Rattle.xcap_uri.specs.Queries.{IsQuery}
 use Rattle.xcap_uri.specs.readers.Queries.{optional_bindings_read}

@@ -1,7 +1,6 @@
 pub mod Ancestors
 pub mod Cuts
 pub mod Escapes
-pub mod Gives
 pub mod Numerals
 pub mod Order
 pub mod Queries

@@ -1,5 +1,5 @@
 -- Numerals, as tags and counts are written.
-use Rattle.std.specs.Prelude.{ℕ, ◌+◌, ◌-◌, ◌*◌, Bool, false, ◌&&◌, nat_le, List, [], ◌∷◌, Option, None, Some, if◌then◌else◌}
+use Rattle.std.specs.Prelude.{ℕ, Bool, false, ◌&&◌, nat_le, List, [], ◌∷◌, Option, None, Some, if◌then◌else◌}
 use Rattle.std.specs.List.{list_all}
 use Rattle.std.specs.Char.{is_ascii_digit}
 use Rattle.xml_tree.specs.Limits.{greatest_u64}
@@ -15,8 +15,3 @@ begins_with_digit (c ∷ cs) = is_ascii_digit c && nat_le 49 c
 abbrev pub numeral_of : List ℕ → Option ℕ
 numeral_of octets =
     if begins_with_digit octets && (list_all is_ascii_digit octets && nat_le (number_from decimal_digits 0 octets) greatest_u64) then Some (number_from decimal_digits 0 octets) else None
-
--- the same worked out digit by digit, from `0` (48) on, behind digits that are worth n
-abbrev pub number_behind : ℕ → List ℕ → Option ℕ
-number_behind n [] = Some n
-number_behind n (c ∷ cs) = if is_ascii_digit c && nat_le (n * 10 + (c - 48)) greatest_u64 then number_behind (n * 10 + (c - 48)) cs else None

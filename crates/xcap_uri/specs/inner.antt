@@ -1,2 +1,4 @@
 -- What private functions and proofs speak of. No clause of a public call needs it.
 pub mod Spelled
+pub mod Gives
+pub mod Numerals

@@ -7,3 +7,4 @@ pub mod Shapes
 pub mod Targets
 pub mod UriSteps
 pub mod Words
+pub mod Steps

@@ -1,7 +1,7 @@
 //! Escapes in parts of addresses (RFC 3986, section 2.1).
 ghost use Rattle.std.specs.Prelude.{◌≡◌, option_map};
 ghost use Rattle.xcap_uri.specs.Escapes.{has_whole_escapes};
-ghost use Rattle.xcap_uri.specs.Gives.{StatedOr};
+ghost use Rattle.xcap_uri.specs.inner.Gives.{StatedOr};
 ghost use Rattle.xcap_uri.specs.readers.Escapes.{optional_text_read, text_read};
 
 use crate::fault::UriFault;

@@ -1,6 +1,7 @@
 //! Numerals, as tags and counts are written: digits alone, of which the first is not 0.
 ghost use Rattle.std.specs.Prelude.{◌≡◌};
-ghost use Rattle.xcap_uri.specs.Numerals.{begins_with_digit, number_behind, numeral_of};
+ghost use Rattle.xcap_uri.specs.Numerals.{begins_with_digit, numeral_of};
+ghost use Rattle.xcap_uri.specs.inner.Numerals.{number_behind};
 
 // Whether the first octet is a digit other than 0.
 fn begins_with_digit(octets: &[u8]) -> bool

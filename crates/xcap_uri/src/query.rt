@@ -5,7 +5,7 @@ ghost use Rattle.grammar_rules.specs.Reading.{after_front, head_is};
 ghost use Rattle.xml_tree.specs.Characters.{is_name_char, is_name_start, is_space};
 ghost use Rattle.tree_text.specs.readers.Runs.{run_len};
 ghost use Rattle.xcap_uri.specs.Cuts.{rest_after_front};
-ghost use Rattle.xcap_uri.specs.Gives.{Gives, StatedOr};
+ghost use Rattle.xcap_uri.specs.inner.Gives.{Gives, StatedOr};
 ghost use Rattle.xcap_uri.specs.Queries.{is_blank, is_bracket_or_caret};
 ghost use Rattle.xcap_uri.specs.readers.Queries.{bindings_read, equals_past, is_reserved, item_read, optional_bindings_read, prefix_read, free_prefix_read, uri_chars, uri_read};
 ghost use Rattle.xcap_uri.specs.readers.UriSteps.{IsShorter, StepsTo, item_in};

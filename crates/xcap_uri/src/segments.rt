@@ -1,7 +1,7 @@
 //! The segments of a path (RFC 3986, section 3.3), decoded, up to the separator (RFC 4825, section 6).
 ghost use Rattle.std.specs.Prelude.{◌≡◌, [], option_map, unwrap_or};
 ghost use Rattle.std.specs.Str.{bytes_eq};
-ghost use Rattle.xcap_uri.specs.Gives.{Gives};
+ghost use Rattle.xcap_uri.specs.inner.Gives.{Gives};
 ghost use Rattle.xcap_uri.specs.readers.Targets.{path_read};
 ghost use Rattle.doc_names.specs.Ids.{separator};
 

@@ -1,8 +1,7 @@
 //! What the segments of an address name: a document or a node of one (RFC 4825, section 6.2), or under `~feed` and `~flat`, which are this
 //! server's own, what changed and the flat list of a service.
-ghost use Rattle.std.specs.Prelude.{◌≡◌, IfOk};
+ghost use Rattle.std.specs.Prelude.{◌≡◌};
 ghost use Rattle.std.specs.List.{list_any};
-ghost use Rattle.xcap_uri.specs.Gives.{StatedOr};
 ghost use Rattle.xcap_uri.specs.Shapes.{doc_of, tag_spelled};
 ghost use Rattle.xcap_uri.specs.readers.Shapes.{auid_of, document, document_feed, either_feed, element_feed, feed_shape, flat_shape, in_home, in_usage, is_empty, mode_of, named, of_usage, of_user, shape_of, stored_auid_of, stored_doc};
 
@@ -10,7 +9,9 @@ use crate::fault::UriFault;
 use crate::numerals::numeral;
 use crate::target::Mode;
 use doc_names::{Auid, DocId, Home};
-use std::alloc::{AllocError, Global};
+use std::alloc::Global;
+use std::mem;
+use tree_text::no_text;
 use xml_tree::{ReadError, Text};
 
 /// What the segments of an address name, called as the target that it means, with the text of the selector, which isn't read yet.
@@ -82,6 +83,13 @@ fn tag_of(text: &Text) -> Option<u64>
     numeral(text.as_str().as_bytes())
 }
 
+// The text of a segment, which is left empty.
+fn taken(alloc: Global, segment: &mut Text) -> Text
+    ensures text_that_stood_there { result ≡ segment.old }
+{
+    mem::replace(segment, no_text(alloc))
+}
+
 // A document, or with a selector a node of it.
 fn document(doc: DocId, selector: Option<Text>) -> Result<Shape, ReadError<UriFault>>
     ensures names_the_document { result ≡ document doc selector }
@@ -102,15 +110,15 @@ fn in_home(
     alloc: Global,
     auid: Auid,
     home: Home,
-    rest: &[Text],
+    rest: &mut [Text],
     selector: Option<Text>,
 ) -> Result<Shape, ReadError<UriFault>>
-    ensures names_what_is_in_the_home { StatedOr ReadError.NoMemory (in_home auid home rest.now selector) result }
+    ensures names_what_is_in_the_home { result ≡ in_home auid home rest.old selector }
 {
     match rest {
         [] => Err(ReadError::Fault(UriFault::BadShape)),
         [name] => {
-            let name = name.copy(alloc)?;
+            let name = taken(alloc, name);
             document(DocId { auid, home, name }, selector)
         }
         _ => Ok(Shape::Deep(auid, home)),
@@ -121,15 +129,15 @@ fn in_home(
 fn of_user(
     alloc: Global,
     auid: Auid,
-    rest: &[Text],
+    rest: &mut [Text],
     selector: Option<Text>,
 ) -> Result<Shape, ReadError<UriFault>>
-    ensures names_what_the_user_has { StatedOr ReadError.NoMemory (of_user auid rest.now selector) result }
+    ensures names_what_the_user_has { result ≡ of_user auid rest.old selector }
 {
-    match rest {
-        [] => Err(ReadError::Fault(UriFault::BadShape)),
-        [xui, rest @ ..] => {
-            let xui = xui.copy(alloc)?;
+    match rest.split_first_mut() {
+        None => Err(ReadError::Fault(UriFault::BadShape)),
+        Some((xui, rest)) => {
+            let xui = taken(alloc, xui);
             in_home(alloc, auid, Home::User(xui), rest, selector)
         }
     }
@@ -139,14 +147,14 @@ fn of_user(
 fn in_usage(
     alloc: Global,
     auid: Auid,
-    rest: &[Text],
+    rest: &mut [Text],
     selector: Option<Text>,
 ) -> Result<Shape, ReadError<UriFault>>
-    ensures names_what_is_in_the_usage { StatedOr ReadError.NoMemory (in_usage auid rest.now selector) result }
+    ensures names_what_is_in_the_usage { result ≡ in_usage auid rest.old selector }
 {
-    match rest {
-        [] => Err(ReadError::Fault(UriFault::BadShape)),
-        [tree, rest @ ..] => {
+    match rest.split_first_mut() {
+        None => Err(ReadError::Fault(UriFault::BadShape)),
+        Some((tree, rest)) => {
             if tree.is("global") {
                 return in_home(alloc, auid, Home::Global, rest, selector);
             }
@@ -163,21 +171,20 @@ fn stored_doc(
     alloc: Global,
     auid: &Text,
     tree: &Text,
-    xui: &Text,
-    name: &Text,
-) -> Result<Option<DocId>, AllocError>
-    ensures document_if_it_is_stored { IfOk result (λ doc. doc ≡ stored_doc auid.now tree.now xui.now name.now) }
+    xui: &mut Text,
+    name: &mut Text,
+) -> Option<DocId>
+    ensures document_if_it_is_stored { result ≡ stored_doc auid.now tree.now xui.old name.old }
 {
     if !tree.is("users") {
-        return Ok(None);
+        return None;
     }
     match stored_auid_of(auid) {
-        None => Ok(None),
+        None => None,
         Some(auid) => {
-            let xui = xui.copy(alloc)?;
-            let name = name.copy(alloc)?;
-            let home = Home::User(xui);
-            Ok(Some(DocId { auid, home, name }))
+            let home = Home::User(taken(alloc, xui));
+            let name = taken(alloc, name);
+            Some(DocId { auid, home, name })
         }
     }
 }
@@ -236,14 +243,29 @@ fn either_feed(
 // What is named behind `~feed`.
 fn feed_shape(
     alloc: Global,
-    rest: &[Text],
+    rest: &mut [Text],
     selector: Option<Text>,
 ) -> Result<Shape, ReadError<UriFault>>
-    ensures names_the_feed { StatedOr ReadError.NoMemory (feed_shape rest.now selector) result }
+    ensures names_the_feed { result ≡ feed_shape rest.old selector }
 {
+    let Some((mode, rest)) = rest.split_first_mut() else {
+        return Err(ReadError::Fault(UriFault::BadShape));
+    };
+    let Some((tag, rest)) = rest.split_first_mut() else {
+        return Err(ReadError::Fault(UriFault::BadShape));
+    };
+    let Some((auid, rest)) = rest.split_first_mut() else {
+        return Err(ReadError::Fault(UriFault::BadShape));
+    };
+    let Some((tree, rest)) = rest.split_first_mut() else {
+        return Err(ReadError::Fault(UriFault::BadShape));
+    };
+    let Some((xui, rest)) = rest.split_first_mut() else {
+        return Err(ReadError::Fault(UriFault::BadShape));
+    };
     match rest {
-        [mode, tag, auid, tree, xui, name] => {
-            let doc = stored_doc(alloc, auid, tree, xui, name)?;
+        [name] => {
+            let doc = stored_doc(alloc, auid, tree, xui, name);
             either_feed(mode, tag_of(tag), doc, selector)
         }
         _ => Err(ReadError::Fault(UriFault::BadShape)),
@@ -251,33 +273,33 @@ fn feed_shape(
 }
 
 // The flat list of a service of this document.
-fn flat_list(alloc: Global, xui: &Text, name: &Text, service: &Text) -> Result<Shape, AllocError>
-    ensures names_the_flat_list { IfOk result (λ shape. shape ≡ Shape.Flat (doc_of Auid.RlsServices (Home.User xui.now) name.now) service.now) }
+fn flat_list(alloc: Global, xui: &mut Text, name: &mut Text, service: &mut Text) -> Shape
+    ensures names_the_flat_list { result ≡ Shape.Flat (doc_of Auid.RlsServices (Home.User xui.old) name.old) service.old }
 {
-    let xui = xui.copy(alloc)?;
-    let name = name.copy(alloc)?;
-    let service = service.copy(alloc)?;
     let doc = DocId {
         auid: Auid::RlsServices,
-        home: Home::User(xui),
-        name,
+        home: Home::User(taken(alloc, xui)),
+        name: taken(alloc, name),
     };
-    Ok(Shape::Flat(doc, service))
+    Shape::Flat(doc, taken(alloc, service))
 }
 
 // What is named behind `~flat`.
 fn flat_shape(
     alloc: Global,
-    rest: &[Text],
+    rest: &mut [Text],
     selector: Option<Text>,
 ) -> Result<Shape, ReadError<UriFault>>
-    ensures names_what_is_flat { StatedOr ReadError.NoMemory (flat_shape rest.now selector) result }
+    ensures names_what_is_flat { result ≡ flat_shape rest.old selector }
 {
+    let Some((xui, rest)) = rest.split_first_mut() else {
+        return Err(ReadError::Fault(UriFault::BadShape));
+    };
+    let Some((name, rest)) = rest.split_first_mut() else {
+        return Err(ReadError::Fault(UriFault::BadShape));
+    };
     match (rest, selector) {
-        ([xui, name, service], None) => {
-            let shape = flat_list(alloc, xui, name, service)?;
-            Ok(shape)
-        }
+        ([service], None) => Ok(flat_list(alloc, xui, name, service)),
         _ => Err(ReadError::Fault(UriFault::BadShape)),
     }
 }
@@ -286,10 +308,10 @@ fn flat_shape(
 fn of_usage(
     alloc: Global,
     auid: Option<Auid>,
-    rest: &[Text],
+    rest: &mut [Text],
     selector: Option<Text>,
 ) -> Result<Shape, ReadError<UriFault>>
-    ensures names_what_the_usage_has { StatedOr ReadError.NoMemory (of_usage auid rest.now selector) result }
+    ensures names_what_the_usage_has { result ≡ of_usage auid rest.old selector }
 {
     match auid {
         None => Err(ReadError::Fault(UriFault::UnknownAuid)),
@@ -300,14 +322,14 @@ fn of_usage(
 // What segments name that aren't empty.
 fn named(
     alloc: Global,
-    segments: &[Text],
+    segments: &mut [Text],
     selector: Option<Text>,
 ) -> Result<Shape, ReadError<UriFault>>
-    ensures names_by_its_segments { StatedOr ReadError.NoMemory (named segments.now selector) result }
+    ensures names_by_its_segments { result ≡ named segments.old selector }
 {
-    match segments {
-        [] => Err(ReadError::Fault(UriFault::UnknownAuid)),
-        [first, rest @ ..] => {
+    match segments.split_first_mut() {
+        None => Err(ReadError::Fault(UriFault::UnknownAuid)),
+        Some((first, rest)) => {
             if first.is("~feed") {
                 return feed_shape(alloc, rest, selector);
             }
@@ -335,14 +357,16 @@ fn has_empty(segments: &[Text]) -> bool
 
 /// What the segments of an address name, decoded, with the text of the selector behind them.
 ///
+/// Names are moved out of the segments, so this wants no memory.
+///
 /// # Errors
-/// `BadShape` or `UnknownAuid`, the first that applies; `NoMemory` for want of memory.
+/// `BadShape` or `UnknownAuid`, the first that applies.
 pub fn shape_of(
     alloc: Global,
-    segments: &[Text],
+    segments: &mut [Text],
     selector: Option<Text>,
 ) -> Result<Shape, ReadError<UriFault>>
-    ensures shape_of_the_segments { StatedOr ReadError.NoMemory (shape_of segments.now selector) result }
+    ensures shape_of_the_segments { result ≡ shape_of segments.old selector }
 {
     if has_empty(segments) {
         return Err(ReadError::Fault(UriFault::BadShape));

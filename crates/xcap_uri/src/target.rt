@@ -2,7 +2,7 @@
 ghost use Rattle.std.specs.Prelude.{◌≡◌, ◌++◌, None, Err, option_map, IfOk, OnOk, string_bytes};
 ghost use Rattle.doc_names.specs.Escapes.{escaped, is_visible};
 ghost use Rattle.xcap_uri.specs.Roots.{path_of};
-ghost use Rattle.xcap_uri.specs.Gives.{StatedOr};
+ghost use Rattle.xcap_uri.specs.inner.Gives.{StatedOr};
 ghost use Rattle.xml_tree.specs.Memory.{Answered};
 ghost use Rattle.xcap_uri.specs.Targets.{IsReadableTarget, TargetAnswer, raw_text, rest_under, under_root, with_query};
 ghost use Rattle.xcap_uri.specs.readers.Targets.{about_element, part_read, rest_read, target_of, target_read};
@@ -184,10 +184,10 @@ fn read_rest(alloc: Global, rest: &[u8]) -> Result<Target, ReadError<UriFault>>
     ensures reads_what_is_under_the_root { StatedOr ReadError.NoMemory (rest_read rest.now) result }
 {
     let (path, raw_query) = cut(rest, b'?');
-    let (segments, raw_selector) = read_path(alloc, path)?;
+    let (mut segments, raw_selector) = read_path(alloc, path)?;
     let selector = read_optional_part(alloc, raw_selector)?;
     let query = read_optional_part(alloc, raw_query)?;
-    let shape = shape_of(alloc, &segments, selector)?;
+    let shape = shape_of(alloc, &mut segments, selector)?;
     let bindings = read_query(alloc, &query)?;
     target_of(alloc, shape, &bindings, raw_selector, raw_query)
 }

@@ -4,7 +4,8 @@ use Rattle.std.specs.List.{slice_get}
 use Rattle.xml_tree.specs.Tree.{Content, last, more, note, more_of, Tree, tree_of, kids, content_height}
 use Rattle.xml_tree.specs.Edits.{with_text_before, put, change, with_comment, with_elem, with_text, IsFull}
 use Rattle.xml_tree.specs.inner.Falls.{content_height-before}
-use Rattle.xml_tree.specs.Nodes.{content_of, nodes_of, text_node, ends_in_text, is_text, node_with, node_height, StartsApart, AreNormal, place, gap_place, elem_of}
+use Rattle.xml_tree.specs.Nodes.{content_of, nodes_of, text_node, is_text, node_height, StartsApart, AreNormal, place, gap_place, elem_of}
+use Rattle.xml_tree.specs.inner.Nodes.{ends_in_text, node_with}
 use Rattle.xml_tree.specs.declared.tree.Node.{Node}
 use Rattle.xml_tree.specs.declared.tree.Node.TheVariants.{Elem, Chars, Comment}
 

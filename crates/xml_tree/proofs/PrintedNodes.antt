@@ -6,7 +6,8 @@ use Rattle.xml_tree.specs.Edits.{with_text_before}
 use Rattle.xml_tree.specs.Nodes.{content_of, AreNormal}
 use Rattle.xml_tree.specs.declared.tree.Node.{Node}
 use Rattle.xml_tree.specs.declared.tree.Node.TheVariants.{Elem, Chars, Comment}
-use Rattle.xml_tree.specs.Print.{byte_len, closing, ending, is_empty, opening, print, print_comment, print_content, print_node, print_text, text_escape}
+use Rattle.xml_tree.specs.Print.{byte_len, closing, ending, is_empty, opening, print, print_comment, print_content, print_text, text_escape}
+use Rattle.xml_tree.specs.inner.Print.{print_node}
 use Rattle.xml_tree.proofs.ScopeLemmas.{drop_item}
 use Rattle.xml_tree.proofs.PrintLengths.{byte_len-append, ascii}
 

@@ -3,7 +3,8 @@ use Rattle.std.proofs.Common.{◌≡◌, ℕ, zero, suc, ◌+◌, ◌<◌, List,
 use Rattle.std.specs.List.{slice_get}
 use Rattle.xml_tree.specs.Tree.{Content, last, more, note, more_of, Tree}
 use Rattle.xml_tree.specs.Edits.{with_text_before, cut, IsFull, first_text, TextsMeet}
-use Rattle.xml_tree.specs.Nodes.{content_of, StartsApart, AreNormal, place, is_text, elem_of, text_of, text_at, joined_beside, removed_joined, text_of_both as joined}
+use Rattle.xml_tree.specs.Nodes.{content_of, StartsApart, AreNormal, place, is_text, elem_of, text_of, text_at, joined_beside, text_of_both as joined}
+use Rattle.xml_tree.specs.inner.Nodes.{removed_joined}
 use Rattle.xml_tree.specs.declared.tree.Node.{Node}
 use Rattle.xml_tree.specs.declared.tree.Node.TheVariants.{Elem, Chars, Comment}
 use Rattle.xml_tree.proofs.Places.{before-nil, before-before, kids-before, kids_in, IsFull-append}

@@ -2,7 +2,8 @@
 use Rattle.std.proofs.Common.{◌≡◌, ℕ, zero, suc, ◌<◌, ◌≤◌, List, [], ◌∷◌, ◌++◌, length, take, drop, Some, None, false, true≢false, refl, sym, ap, ◌∙◌, arith}
 use Rattle.xml_tree.specs.Tree.{Content, last, more, note, more_of}
 use Rattle.xml_tree.specs.Edits.{with_text_before}
-use Rattle.xml_tree.specs.Nodes.{content_of, StartsApart, AreNormal, ends_in_text, is_text, text_at}
+use Rattle.xml_tree.specs.Nodes.{content_of, StartsApart, AreNormal, is_text, text_at}
+use Rattle.xml_tree.specs.inner.Nodes.{ends_in_text}
 use Rattle.xml_tree.specs.declared.tree.Node.{Node}
 use Rattle.xml_tree.specs.declared.tree.Node.TheVariants.{Elem, Chars, Comment}
 use Rattle.xml_tree.proofs.Places.{AreNormal-append, before-nil, before-before}

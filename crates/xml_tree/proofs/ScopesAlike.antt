@@ -8,7 +8,8 @@ use Rattle.xml_tree.specs.declared.names.Attr.{Attr}
 use Rattle.xml_tree.specs.Tree.{Content, last, more, note, Tree}
 use Rattle.xml_tree.specs.Expanded.{attr_name, same_expanded}
 use Rattle.xml_tree.specs.Scopes.{bound, declared, joined, some_text, xml_prefix, xml_uri}
-use Rattle.xml_tree.specs.Proper.{IsAttribute, IsNamed, IsTag, Proper, ProperIn}
+use Rattle.xml_tree.specs.Proper.{IsAttribute, IsNamed, IsTag, ProperIn}
+use Rattle.xml_tree.specs.inner.Proper.{Proper}
 use Rattle.xml_tree.proofs.ScopeLemmas.{declared-append}
 
 pub joined-append : (c d : List (List Decl)) → joined (c ++ d) ≡ joined c ++ joined d

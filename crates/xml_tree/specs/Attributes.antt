@@ -26,11 +26,6 @@ abbrev pub remove_first : {A : Type 0} → (A → Bool) → List A → List A
 remove_first p [] = []
 remove_first p (y ∷ ys) = if p y then ys else (y ∷ remove_first p ys)
 
--- the place of the first item that passes the test, or the number of items
-abbrev pub first_place : {A : Type 0} → (A → Bool) → List A → ℕ
-first_place p [] = 0
-first_place p (y ∷ ys) = if p y then 0 else suc (first_place p ys)
-
 -- the i-th item, counted from 0, is changed by f
 abbrev pub change_item : {A : Type 0} → ℕ → (A → A) → List A → List A
 change_item i f [] = []

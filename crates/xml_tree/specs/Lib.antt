@@ -14,4 +14,5 @@ pub mod Proper
 pub mod Rooms
 pub mod Scopes
 pub mod Tree
+pub mod Lending
 pub mod inner

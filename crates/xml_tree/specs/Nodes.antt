@@ -1,5 +1,5 @@
 -- A list of nodes, and the content that it stands for.
-use Rattle.std.specs.Prelude.{ℕ, zero, suc, Bool, true, false, List, [], ◌∷◌, ◌++◌, Option, None, Some, take, drop, option_and_then, slice_get, slice_set, remove}
+use Rattle.std.specs.Prelude.{ℕ, zero, suc, Bool, true, false, List, [], ◌∷◌, ◌++◌, Option, None, Some, take, drop, option_and_then, slice_get}
 use Rattle.xml_tree.specs.Tree.{Content, last, more, note, more_of, Tree, tree_of, height}
 use Rattle.xml_tree.specs.Edits.{with_text_before, IsFull}
 use Rattle.xml_tree.specs.declared.tree.Node.{Node}
@@ -63,18 +63,6 @@ text_of (Elem e) = None
 text_of (Chars t) = Some t
 text_of (Comment c) = None
 
--- a text with these characters added; other nodes as they are
-abbrev pub node_with : List ℕ → Node → Node
-node_with s (Elem e) = Elem e
-node_with s (Chars t) = Chars (t ++ s)
-node_with s (Comment c) = Comment c
-
--- whether a text stands last
-abbrev pub ends_in_text : List Node → Bool
-ends_in_text [] = false
-ends_in_text (x ∷ []) = is_text x
-ends_in_text (x ∷ y ∷ ns) = ends_in_text (y ∷ ns)
-
 -- the element that is the last node, where it is one
 abbrev pub last_elem : List Node → Option Tree
 last_elem [] = None
@@ -110,12 +98,6 @@ text_of_both (Some t) (Some u) = Some (t ++ u)
 abbrev pub joined_beside : ℕ → List Node → Option (List ℕ)
 joined_beside zero ns = None
 joined_beside (suc i) ns = text_of_both (text_at i ns) (text_at (suc (suc i)) ns)
-
--- without the i-th node; the texts beside it are exchanged for one, where one is given
-abbrev pub removed_joined : ℕ → Option (List ℕ) → List Node → List Node
-removed_joined zero t ns = remove ns 0
-removed_joined (suc i) None ns = remove ns (suc i)
-removed_joined (suc i) (Some t) ns = slice_set (remove (remove ns (suc i)) (suc i)) i (Chars t)
 
 -- ---- runs of nodes
 

@@ -6,8 +6,6 @@ use Rattle.xml_tree.specs.Tree.{Content, last, more, note, Tree}
 use Rattle.xml_tree.specs.declared.names.Name.{Name}
 use Rattle.xml_tree.specs.declared.names.Decl.{Decl}
 use Rattle.xml_tree.specs.declared.names.Attr.{Attr}
-use Rattle.xml_tree.specs.declared.tree.Node.{Node}
-use Rattle.xml_tree.specs.declared.tree.Node.TheVariants.{Elem, Chars, Comment}
 
 -- a character of a text: `&` (38), `<` (60), `>` (62) and CR (13) are references
 abbrev pub text_escape : ℕ → List ℕ
@@ -75,11 +73,13 @@ print_content (note t x rest) = print_text t ++ (print_comment x ++ print_conten
 abbrev pub print : Tree → List ℕ
 print e = opening e.name e.decls e.attrs ++ ending e.name (is_empty e.content) (print_content e.content)
 
--- a node
-abbrev pub print_node : Node → List ℕ
-print_node (Elem e) = print e
-print_node (Chars t) = print_text t
-print_node (Comment x) = print_comment x
+-- the XML declaration, and a line feed
+abbrev pub header : List ℕ
+header = codes "<?xml version=\"1.0\" encoding=\"UTF-8\"?>\n"
+
+-- a document: the declaration, and its root element; nothing follows
+abbrev pub document_print : Tree → List ℕ
+document_print root = header ++ print root
 
 -- the length of a text in bytes, as UTF-8
 abbrev pub byte_len : List ℕ → ℕ

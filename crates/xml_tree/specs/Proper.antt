@@ -90,9 +90,6 @@ IsProperPart c (letter x) = IsTrue (is_char x)
 IsProperPart c (remark t) = IsTrue (is_comment t)
 IsProperPart c (tag n ds ats) = IsTag c n ds ats
 
--- a proper content, and a proper element in the scope around it
-abbrev pub Proper : List (List Decl) → Content → Type 0
-Proper = Everywhere IsProperPart
-
+-- a proper element, in the scope around it
 abbrev pub ProperIn : List (List Decl) → Tree → Type 0
 ProperIn = Throughout IsProperPart

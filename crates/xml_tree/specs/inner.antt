@@ -6,3 +6,7 @@ pub mod Gathering
 pub mod Lending
 pub mod Spelled
 pub mod Words
+pub mod Attributes
+pub mod Print
+pub mod Nodes
+pub mod Proper

@@ -1,8 +1,10 @@
 //! Names, declarations and attributes, as they are written (Namespaces in XML 1.0, 3 and 4).
-ghost use Rattle.std.specs.Prelude.{◌≡◌, ◌↔◌, ◌≤◌, length, IsTrue, IfOk};
+ghost use Rattle.std.specs.Prelude.{◌≡◌, ◌↔◌, ◌≤◌, [], length, IsTrue, IfOk};
 ghost use Rattle.std.specs.List.{find};
 ghost use Rattle.std.specs.Option.{option_copied};
-ghost use Rattle.xml_tree.specs.Attributes.{first_place, same_name, is_written_so};
+ghost use Rattle.std.specs.Str.{bytes_eq};
+ghost use Rattle.xml_tree.specs.Attributes.{same_name, is_written_so};
+ghost use Rattle.xml_tree.specs.inner.Attributes.{first_place};
 
 use crate::text::Text;
 use crate::word::Word;
@@ -54,6 +56,13 @@ impl Name {
         ensures tells_by_the_test { result ≡ same_name self.now other.now }
     {
         self.prefix == other.prefix && self.local == other.local
+    }
+
+    /// Whether it has no prefix. Takes no memory.
+    pub fn has_no_prefix(&self) -> bool
+        ensures tells_whether_it_lacks_a_prefix { result ≡ bytes_eq self.now.prefix [] }
+    {
+        self.prefix.is("")
     }
 }
 

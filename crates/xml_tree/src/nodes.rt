@@ -5,8 +5,10 @@ ghost use Rattle.std.specs.Borrow.{sem};
 ghost use Rattle.std.specs.Option.{option_copied};
 ghost use Rattle.xml_tree.specs.Tree.{kids};
 ghost use Rattle.xml_tree.specs.Edits.{TextsMeet, cut, put, with_comment, with_elem, with_text};
-ghost use Rattle.xml_tree.specs.Nodes.{AreNormal, content_of, ends_in_text, gap_place, joined_beside, last_elem, place, removed_joined, text_at};
-ghost use Rattle.xml_tree.specs.inner.Lending.{LendsKid, LendsLast};
+ghost use Rattle.xml_tree.specs.Nodes.{AreNormal, content_of, gap_place, joined_beside, last_elem, place, text_at};
+ghost use Rattle.xml_tree.specs.inner.Nodes.{ends_in_text, removed_joined};
+ghost use Rattle.xml_tree.specs.Lending.{LendsLast};
+ghost use Rattle.xml_tree.specs.inner.Lending.{LendsKid};
 ghost use Rattle.xml_tree.specs.Rooms.{HasRoom};
 
 use crate::text::Text;

@@ -1,6 +1,7 @@
 //! The length of the print of an element. It is counted from the tree, and nothing is printed.
 ghost use Rattle.std.specs.Prelude.{◌≡◌, flat_map, length, min, IsTrue};
-ghost use Rattle.xml_tree.specs.Print.{byte_len, declaring, opening, print, print_attr, print_comment, print_decl, print_name, print_node, text_escape, value_escape, quoted_text};
+ghost use Rattle.xml_tree.specs.Print.{byte_len, declaring, opening, print, print_attr, print_comment, print_decl, print_name, text_escape, value_escape, quoted_text};
+ghost use Rattle.xml_tree.specs.inner.Print.{print_node};
 
 use crate::names::{Attr, Decl, Name, Prefix};
 use crate::references::{text_reference, value_reference};

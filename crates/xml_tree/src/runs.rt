@@ -1,6 +1,7 @@
 //! Runs of nodes: how one is exchanged for another so that no two texts meet.
 ghost use Rattle.std.specs.Prelude.{◌≡◌, ◌≤◌, ◌++◌, ◌∷◌, [], false, length, IfOk, OnOk, OnErr, take, drop};
-ghost use Rattle.xml_tree.specs.Nodes.{AreNormal, StartsApart, content_of, ends_in_text};
+ghost use Rattle.xml_tree.specs.Nodes.{AreNormal, StartsApart, content_of};
+ghost use Rattle.xml_tree.specs.inner.Nodes.{ends_in_text};
 
 use crate::nodes::{push_comment_node, push_elem_node, push_own_text, text_at};
 use crate::tree::Node;

@@ -273,7 +273,8 @@ impl Element {
 impl Node {
     ghost use Rattle.std.specs.Borrow.{sem};
     ghost use Rattle.xml_tree.specs.inner.Lending.{LendsElem};
-    ghost use Rattle.xml_tree.specs.Nodes.{elem_of, is_text, node_with, text_of};
+    ghost use Rattle.xml_tree.specs.Nodes.{elem_of, is_text, text_of};
+    ghost use Rattle.xml_tree.specs.inner.Nodes.{node_with};
 
     pub(crate) fn elem_mut(&mut self) -> &mut Element
         requires { IsSome (elem_of self.old) }

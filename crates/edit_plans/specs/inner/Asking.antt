@@ -15,13 +15,14 @@ use Rattle.usage_docs.specs.Keys.{attrs_pass}
 use Rattle.usage_docs.specs.Rows.{Scope, root_kind}
 use Rattle.usage_docs.specs.Clashes.{RepeatsAt}
 use Rattle.usage_docs.specs.Forms.{IsNodeFormed}
-use Rattle.usage_docs.specs.Reading.Siblings.{IsFirst}
+use Rattle.usage_docs.specs.readers.Siblings.{IsFirst}
 use Rattle.usage_docs.specs.declared.judging.Fault.TheVariants.{Invalid, Unformed, Repeated}
 use Rattle.plan_words.specs.declared.refusal.EditRefusal.{EditRefusal}
 use Rattle.plan_words.specs.declared.refusal.EditRefusal.TheVariants.{CannotInsert, CannotDelete, Faulty}
 use Rattle.plan_words.specs.Beside.{ClashesBeside}
 use Rattle.plan_words.specs.Removals.{ClosesUp, StillSelects}
-use Rattle.plan_words.specs.Tags.{AttrsFormed, AttrsPass, value_in}
+use Rattle.plan_words.specs.Tags.{AttrsFormed, AttrsPass}
+use Rattle.plan_words.specs.inner.Tags.{value_in}
 use Rattle.edit_plans.specs.declared.asking.Asked.{Asked}
 use Rattle.edit_plans.specs.declared.asking.Asked.TheVariants.{Put, Exchange, TakeOut, Retag}
 use Rattle.edit_plans.specs.declared.retagging.Sought.{Sought}

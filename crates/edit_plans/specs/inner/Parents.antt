@@ -4,7 +4,7 @@ use Rattle.xml_tree.specs.Scopes.{scope_below}
 use Rattle.xml_tree.specs.Tree.{Tree, at}
 use Rattle.usage_docs.specs.declared.rows.Kind.{Kind}
 use Rattle.usage_docs.specs.Rows.{Scope}
-use Rattle.usage_docs.specs.Kinds.{row_below}
+use Rattle.usage_docs.specs.inner.Kinds.{row_below}
 
 -- the way leads from an element of this row, if it has one, in the scope inside it, to a parent of which P holds, in the scope inside that and
 -- by its row

@@ -4,9 +4,9 @@ use Rattle.std.specs.Option.{ForSome}
 use Rattle.xml_tree.specs.Tree.{Content, Tree}
 use Rattle.usage_docs.specs.declared.rows.Kind.{Kind}
 use Rattle.usage_docs.specs.Rows.{Scope}
-use Rattle.usage_docs.specs.Reading.Parts.{follows}
+use Rattle.usage_docs.specs.readers.Parts.{follows}
 use Rattle.usage_docs.specs.Validity.{ValidChild}
-use Rattle.usage_docs.specs.Reading.Gaps.{FollowsGap, part_after, part_before, part_of_kid}
+use Rattle.usage_docs.specs.readers.Gaps.{FollowsGap, part_after, part_before, part_of_kid}
 
 -- the part of a child of an element of this row; of one without a row it is 0, and nothing asks for it
 abbrev pub part_in : Option Kind → Scope → Tree → ℕ

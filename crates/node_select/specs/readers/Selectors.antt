@@ -3,7 +3,8 @@
 use Rattle.std.specs.Prelude.{ℕ, Bool, not, ◌&&◌, ◌||◌, ◌==◌, codes, List, ◌++◌, Option, None, Some}
 use Rattle.xml_tree.specs.declared.names.Name.{Name}
 use Rattle.std.specs.Char.{is_ascii_digit}
-use Rattle.grammar_rules.specs.Reading.{Reader, head_is, starts, read_word, read_sequence, read_either, read_many, read_valued, read_sized, read_only, read_optional, read_between, read_some_of, read_before, read_behind, read_quoted}
+use Rattle.grammar_rules.specs.Reading.{Reader, head_is, starts, read_word, read_sequence, read_valued, read_some_of}
+use Rattle.grammar_rules.specs.readers.Functions.{read_either, read_many, read_sized, read_only, read_optional, read_between, read_before, read_behind, read_quoted}
 use Rattle.tree_text.specs.declared.kind.Kind.{Kind}
 use Rattle.tree_text.specs.Grammar.{is_quote}
 use Rattle.tree_text.specs.readers.Texts.{read_qname, read_reference, read_raw, reference_follows}

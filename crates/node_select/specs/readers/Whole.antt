@@ -1,6 +1,7 @@
 -- What reading a whole text answers, from left to right.
 use Rattle.std.specs.Prelude.{ℕ, List, Option, None, Some, Result, Ok, Err, chars}
-use Rattle.grammar_rules.specs.Reading.{Stop, read_whole}
+use Rattle.grammar_rules.specs.Reading.{Stop}
+use Rattle.grammar_rules.specs.readers.Functions.{read_whole}
 use Rattle.tree_text.specs.declared.kind.Kind.{Kind}
 use Rattle.xml_tree.specs.declared.names.Decl.{Decl}
 use Rattle.node_select.specs.declared.fault.SelectorFault.{SelectorFault}

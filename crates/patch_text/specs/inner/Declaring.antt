@@ -11,7 +11,7 @@ use Rattle.xml_tree.specs.declared.tree.Node.TheVariants.{Elem, Chars, Comment}
 use Rattle.edit_ops.specs.declared.change.Change.{Change}
 use Rattle.edit_ops.specs.declared.change.Change.TheVariants.{CreateDocument, Insert, Replace, Remove, SetAttr, DropAttr, RemoveDocument}
 use Rattle.notes.specs.Notes.{Note}
-use Rattle.patch_words.specs.Declaring.{prefixes, prefixes_in}
+use Rattle.patch_words.specs.inner.Declaring.{prefixes, prefixes_in}
 
 -- ---- as a list
 

@@ -3,7 +3,8 @@ use Rattle.std.specs.Prelude.{ℕ, List, [], Option, None, Some, is_some, unwrap
 use Rattle.xml_tree.specs.Scopes.{bindings_in, bound}
 use Rattle.xml_tree.specs.Tree.{Tree}
 use Rattle.xml_tree.specs.declared.names.Decl.{Decl}
-use Rattle.grammar_rules.specs.Reading.{Stop, read_whole}
+use Rattle.grammar_rules.specs.Reading.{Stop}
+use Rattle.grammar_rules.specs.readers.Functions.{read_whole}
 use Rattle.tree_text.specs.declared.kind.Kind.{Kind}
 use Rattle.node_select.specs.declared.selector.PatchSelector.{PatchSelector}
 use Rattle.node_select.specs.readers.Raw.{RawPatchSelector, first_unbound_in_patch, patch_selector_of}

@@ -3,7 +3,7 @@ use Rattle.std.specs.Prelude.{◌≡◌, ℕ, List, Option, None, Some, encode_u
 use Rattle.edit_ops.specs.declared.change.Change.{Change}
 use Rattle.notes.specs.Brought.{BringsElement, brought}
 use Rattle.xml_tree.specs.Tree.{Tree}
-use Rattle.tree_text.specs.Printing.{document_print}
+use Rattle.xml_tree.specs.Print.{document_print}
 
 -- if a print is there, it is that of the document with this tree
 abbrev pub IsPrintOf : Tree → Option (List ℕ) → Type 0

@@ -7,7 +7,8 @@ use Rattle.xml_tree.specs.Tree.{Content, last, Tree}
 use Rattle.xml_tree.specs.declared.names.Name.{Name}
 use Rattle.xml_tree.specs.declared.names.Decl.{Decl}
 use Rattle.grammar_rules.specs.Digits.{decimal_digits, hexadecimal}
-use Rattle.grammar_rules.specs.Reading.{Reader, head_is, starts, spaced, read_never, read_empty, read_one, read_word, read_run, read_run_without, read_up_to, read_number, read_sequence, read_either, read_many, read_valued, read_sized, read_only, read_atomic, read_marked, read_judged, read_trap, read_optional, read_between, read_some_of, read_name_of, read_before, read_behind, read_quoted}
+use Rattle.grammar_rules.specs.Reading.{Reader, head_is, starts, read_one, read_word, read_run, read_sequence, read_valued, read_some_of}
+use Rattle.grammar_rules.specs.readers.Functions.{spaced, read_never, read_empty, read_run_without, read_up_to, read_number, read_either, read_many, read_sized, read_only, read_atomic, read_marked, read_judged, read_trap, read_optional, read_between, read_name_of, read_before, read_behind, read_quoted}
 use Rattle.tree_text.specs.readers.Words.{less, greater, empty_end, end_start, equals_sign, colon, ampersand, semicolon, hash, small_x, amp, lt, gt, quot, apos, comment_start, dashes, section_start, section_end, instruction_start, instruction_end, declaration_start, version, one_dot, encoding, standalone, yes, not_alone, bang, bang_bracket, doctype, byte_order_mark}
 use Rattle.tree_text.specs.declared.kind.Kind.{Kind}
 use Rattle.tree_text.specs.declared.kind.Kind.TheVariants.{Encoded, Doctyped, Depth}

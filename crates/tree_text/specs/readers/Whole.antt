@@ -1,7 +1,8 @@
 -- What reading all bytes answers, from left to right.
 use Rattle.std.specs.Prelude.{◌≡◌, ℕ, ◌-◌, List, Result, Err, if◌then◌else◌, chars}
 use Rattle.std.specs.Str.{is_utf8}
-use Rattle.grammar_rules.specs.Reading.{Syntax, Faulty, read_whole}
+use Rattle.grammar_rules.specs.Reading.{Syntax, Faulty}
+use Rattle.grammar_rules.specs.readers.Functions.{read_whole}
 use Rattle.xml_tree.specs.Tree.{Tree}
 use Rattle.xml_tree.specs.declared.names.Decl.{Decl}
 use Rattle.xml_tree.specs.declared.read_error.ReadError.{ReadError}

@@ -4,7 +4,7 @@ use Rattle.xml_tree.specs.Tree.{Tree, kids_of}
 use Rattle.xml_tree.specs.declared.tree.Node.TheVariants.{Elem}
 use Rattle.xml_tree.specs.Limits.{greatest_u64}
 use Rattle.usage_docs.specs.Services.{index_of}
-use Rattle.usage_docs.specs.Reading.Listing.{elems_len}
+use Rattle.usage_docs.specs.readers.Listing.{elems_len}
 
 -- the element is the index of its children, and their printed length is this
 pub record IsIndex (root : Tree) (inner : ℕ) : Type 0 where

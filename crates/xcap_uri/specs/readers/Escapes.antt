@@ -4,7 +4,7 @@ use Rattle.std.specs.Str.{is_utf8}
 use Rattle.percent_encoding.specs.Percent.{percent_decode}
 use Rattle.xml_tree.specs.declared.read_error.ReadError.TheVariants.{Fault}
 use Rattle.xcap_uri.specs.Escapes.{has_whole_escapes}
-use Rattle.xcap_uri.specs.Gives.{UriError, ◌>>=◌}
+use Rattle.xcap_uri.specs.readers.Steps.{UriError, ◌>>=◌}
 use Rattle.xcap_uri.specs.declared.fault.UriFault.TheVariants.{BadEscape}
 
 -- whether a part of an address stands for a text

@@ -7,7 +7,7 @@ use Rattle.xml_tree.specs.Characters.{is_name_start, is_name_char, is_space}
 use Rattle.xml_tree.specs.declared.names.Decl.{Decl}
 use Rattle.xml_tree.specs.declared.read_error.ReadError.TheVariants.{Fault}
 use Rattle.xcap_uri.specs.Cuts.{rest_after_front}
-use Rattle.xcap_uri.specs.Gives.{UriError, ◌>>=◌}
+use Rattle.xcap_uri.specs.readers.Steps.{UriError, ◌>>=◌}
 use Rattle.xcap_uri.specs.Queries.{is_bracket_or_caret, is_blank}
 use Rattle.xcap_uri.specs.declared.fault.UriFault.TheVariants.{BadQuery}
 

@@ -3,7 +3,7 @@ use Rattle.std.specs.Prelude.{ℕ, Bool, true, false, List, [], ◌∷◌, Optio
 use Rattle.std.specs.List.{list_any}
 use Rattle.std.specs.Str.{bytes_eq}
 use Rattle.xml_tree.specs.declared.read_error.ReadError.TheVariants.{Fault}
-use Rattle.xcap_uri.specs.Gives.{UriError}
+use Rattle.xcap_uri.specs.readers.Steps.{UriError}
 use Rattle.xcap_uri.specs.Shapes.{doc_of, tag_spelled}
 use Rattle.xcap_uri.specs.Words.{global, users, feed, flat, element_word}
 use Rattle.xcap_uri.specs.readers.Words.{resource_lists, rls_services, xcap_caps, no_patching, xcap_patching, aggregate}

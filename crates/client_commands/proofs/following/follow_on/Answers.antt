@@ -1,5 +1,6 @@
 use Rattle.std.proofs.Common.{◌≡◌, Option, subst, arith}
-use Rattle.client_commands.specs.Follows.{MakesRound, RoundMade, stops_in_a_round}
+use Rattle.client_commands.specs.Follows.{RoundMade, stops_in_a_round}
+use Rattle.client_commands.specs.inner.Follows.{MakesRound}
 use Rattle.client_commands.specs.declared.ended.Ended.{Ended}
 use Rattle.patch_apply.specs.Views.{held_in}
 use Rattle.client_commands.proofs.Rounds.{followed_to_the_end, rounds_more}

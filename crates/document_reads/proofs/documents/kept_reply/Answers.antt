@@ -1,6 +1,6 @@
 use Rattle.std.proofs.Common.{◌≡◌, encode_utf8_all, sym, ◌∙◌}
 use Rattle.std.proofs.lemmas.Option.{same_Some}
-use Rattle.tree_text.specs.Printing.{document_print}
+use Rattle.xml_tree.specs.Print.{document_print}
 use Rattle.store_core.specs.Changing.{document_in, held_name}
 use Rattle.document_reads.proofs.HeldOnes.{printed}
 use Rattle.document_reads.proofs.documents.kept_reply.Goals as goal

@@ -2,7 +2,7 @@ use Rattle.std.proofs.Common.{subst}
 use Rattle.xml_tree.specs.Memory.{OfFault}
 use Rattle.xml_tree.specs.declared.read_error.ReadError.{ReadError}
 use Rattle.usage_docs.specs.declared.listing.IndexFault.{IndexFault}
-use Rattle.document_reads.specs.Finding.{HasLongIndex}
+use Rattle.document_reads.specs.inner.Finding.{HasLongIndex}
 use Rattle.document_reads.proofs.Leading.{leads_beyond, leads_index}
 use Rattle.document_reads.proofs.finding.index_found.Goals as goal
 

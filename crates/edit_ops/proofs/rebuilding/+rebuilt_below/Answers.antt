@@ -2,7 +2,7 @@ use Rattle.std.proofs.Common.{◌≡◌, ◌∷◌, ◌-◌, take, drop, get_or,
 use Rattle.std.proofs.lemmas.Grind.{common_steps}
 use Rattle.std.proofs.lemmas.Result.{IfOk-weaker}
 use Rattle.xml_tree.specs.Edits.{change_at}
-use Rattle.edit_ops.specs.Rebuilding.{made_here}
+use Rattle.edit_ops.specs.inner.Here.{made_here}
 use Rattle.edit_ops.proofs.SiteLemmas.{made_below}
 use Rattle.edit_ops.proofs.rebuilding.+rebuilt_below.Goals as goal
 

@@ -1,6 +1,6 @@
 use Rattle.std.proofs.Common.{IsSomeAnd, sym, subst, ◌∙◌}
 use Rattle.xml_tree.specs.Tree.{at}
-use Rattle.edit_ops.specs.Rebuilding.{FitsHere}
+use Rattle.edit_ops.specs.inner.Here.{FitsHere}
 use Rattle.edit_ops.proofs.SiteLemmas.{fits_there}
 use Rattle.edit_ops.proofs.rebuilding.rebuilt.Goals as goal
 

@@ -2,7 +2,8 @@ use Rattle.std.proofs.Common.{IsSome, sym, ap, ◌∙◌, subst}
 use Rattle.xml_tree.specs.Tree.{at}
 use Rattle.xml_tree.proofs.PathLemmas.{from_there}
 use Rattle.edit_ops.specs.Moves.{KeepsTheOthers}
-use Rattle.edit_ops.specs.Rebuilding.{FitsHere, made_here, site}
+use Rattle.edit_ops.specs.Rebuilding.{site}
+use Rattle.edit_ops.specs.inner.Here.{FitsHere, made_here}
 use Rattle.edit_ops.specs.Staging.{IsStagedHere}
 use Rattle.edit_ops.proofs.MoveLaws.{others_stay}
 use Rattle.edit_ops.proofs.StageLemmas.{fits_at, made_there, site_there}

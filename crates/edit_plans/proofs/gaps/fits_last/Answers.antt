@@ -1,4 +1,4 @@
-use Rattle.usage_docs.specs.Reading.Parts.{end}
+use Rattle.usage_docs.specs.readers.Parts.{end}
 use Rattle.edit_plans.proofs.SideLemmas.{end_behind, fits_is}
 use Rattle.edit_plans.proofs.gaps.fits_last.Goals as goal
 

@@ -4,7 +4,7 @@ use Rattle.step_laws.proofs.Planned.{plan_more}
 use Rattle.xml_tree.specs.Tree.{kids_of}
 use Rattle.node_select.specs.Selection.{is_named, is_tested}
 use Rattle.node_select.proofs.Walked.{at_elem, at_other, at_end, count_next, at_most_one, no_element}
-use Rattle.usage_docs.specs.Reading.Parts.{end}
+use Rattle.usage_docs.specs.readers.Parts.{end}
 use Rattle.edit_plans.specs.inner.Sides.{FitsIn}
 use Rattle.edit_plans.specs.declared.gaps.NoGap.TheVariants.{Unlawful, Invalid}
 use Rattle.edit_plans.proofs.SideLemmas.{after_kid, before_kid, end_behind, fits_is, lawful_here, plan_at}

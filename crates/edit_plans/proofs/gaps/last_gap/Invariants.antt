@@ -4,7 +4,7 @@ use Rattle.step_laws.specs.Places.{Lawful, PlanIs}
 use Rattle.xml_tree.specs.Tree.{kids, kids_of}
 use Rattle.xml_tree.specs.Nodes.{content_of}
 use Rattle.node_select.specs.Selection.{is_named, is_tested}
-use Rattle.usage_docs.specs.Reading.Gaps.{part_before}
+use Rattle.usage_docs.specs.readers.Gaps.{part_before}
 use Rattle.edit_plans.specs.inner.Sides.{FitsIn}
 use Rattle.edit_plans.specs.declared.gaps.NoGap.TheVariants.{Unlawful, Invalid}
 use Rattle.edit_plans.proofs.gaps.last_gap.Given as goal

@@ -1,7 +1,7 @@
 use Rattle.std.proofs.Common.{Option, IsTrue, subst}
 use Rattle.xml_tree.specs.Tree.{kids_of}
 use Rattle.usage_docs.specs.declared.keys.Clash.{Clash}
-use Rattle.usage_docs.specs.Reading.Siblings.{IsFirst}
+use Rattle.usage_docs.specs.readers.Siblings.{IsFirst}
 use Rattle.plan_words.specs.Beside.{ClashesBeside}
 use Rattle.edit_plans.specs.inner.Asking.{others}
 use Rattle.edit_plans.proofs.Judging.{judged_clash, judged_foreign, judged_ok, judged_unformed, true_false}

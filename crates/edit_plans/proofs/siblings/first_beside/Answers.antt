@@ -1,7 +1,7 @@
 use Rattle.std.proofs.Common.{◌++◌, ◌∷◌, [], ℕ, List, Option, Some, ap, ◌∙◌, subst, add-one}
 use Rattle.xml_tree.specs.Tree.{kids_of}
 use Rattle.usage_docs.specs.declared.keys.Clash.{Clash}
-use Rattle.usage_docs.specs.Reading.Siblings.{IsFirst}
+use Rattle.usage_docs.specs.readers.Siblings.{IsFirst}
 use Rattle.plan_words.specs.Beside.{ClashesInside}
 use Rattle.edit_plans.specs.inner.Asking.{others}
 use Rattle.plan_words.proofs.FirstBeside.{first_in_new, first_behind, no_first}

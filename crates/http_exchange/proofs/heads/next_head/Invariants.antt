@@ -1,6 +1,6 @@
 use Rattle.std.proofs.Common.{◌≡◌, ◌≤◌, length, take, ◌-◌}
 use Rattle.xcap_io.specs.Causes.{Reads}
-use Rattle.http_wire.specs.Inflow.{Gains}
+use Rattle.http_wire.specs.inner.Inflow.{Gains}
 use Rattle.http_exchange.specs.Heads.{HasNoHead}
 use Rattle.http_exchange.proofs.heads.next_head.Given as goal
 

@@ -1,7 +1,7 @@
 use Rattle.std.proofs.Common.{◌≡◌, length}
 use Rattle.xcap_io.specs.Causes.{Reads}
-use Rattle.http_wire.specs.Decoding.{bytes_left}
-use Rattle.http_wire.specs.Inflow.{DecodesSoFar}
+use Rattle.http_wire.specs.inner.Decoding.{bytes_left}
+use Rattle.http_wire.specs.inner.Inflow.{DecodesSoFar}
 use Rattle.http_wire.proofs.decoding.decode.Given as goal
 
 abbrev pub invariant-decoding : goal.invariant-decoding

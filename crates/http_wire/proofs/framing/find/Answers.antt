@@ -1,7 +1,6 @@
 use Rattle.std.proofs.Common.{◌∷◌, [], map, take, List, ℕ, ◌++◌, ap, sym, subst, ◌∙◌}
 use Rattle.httparse.specs.Spans.{header_bytes}
-use Rattle.http_wire.specs.Fields.{same_word, values_of}
-use Rattle.http_wire.specs.Inflow.{Found}
+use Rattle.http_wire.specs.Fields.{same_word, values_of, Found}
 use Rattle.http_wire.proofs.FieldSteps.{value_named, value_other}
 use Rattle.http_wire.proofs.framing.find.Goals as goal
 use Rattle.http_wire.proofs.framing.find.Goals.{then-is_same_word, else-is_same_word}

@@ -1,7 +1,6 @@
 use Rattle.std.proofs.Common.{take, map}
 use Rattle.httparse.specs.Spans.{header_bytes}
-use Rattle.http_wire.specs.Fields.{values_of}
-use Rattle.http_wire.specs.Inflow.{Found}
+use Rattle.http_wire.specs.Fields.{values_of, Found}
 use Rattle.http_wire.proofs.framing.find.Given as goal
 
 abbrev pub invariant-fields : goal.invariant-fields

@@ -1,7 +1,7 @@
 use Rattle.std.proofs.Common.{◌≡◌, ◌≤◌, length, take, ◌-◌}
 use Rattle.xcap_io.specs.Causes.{Reads}
 use Rattle.http_wire.specs.Heads.{HasNoHead}
-use Rattle.http_wire.specs.Inflow.{Gains}
+use Rattle.http_wire.specs.inner.Inflow.{Gains}
 use Rattle.http_wire.proofs.heads.next_head.Given as goal
 
 abbrev pub invariant-looking : goal.invariant-looking

@@ -1,7 +1,7 @@
 use Rattle.std.proofs.Common.{◌≡◌, ℕ, List, ◌∙◌, inl, inr}
 use Rattle.std.proofs.lemmas.Result.{err_from_is_err_and}
 use Rattle.http_wire.specs.Items.{request_of}
-use Rattle.http_wire.specs.Inflow.{IsHeadAt}
+use Rattle.http_wire.specs.inner.Inflow.{IsHeadAt}
 use Rattle.http_wire.proofs.Fronts.{head_at_same}
 use Rattle.http_wire.proofs.ItemLemmas.{chunks_unfinished, chunks_bad, chunks_cut, chunks_long, chunks_whole, chunks_no_memory, request_at}
 use Rattle.http_wire.proofs.requests.read_chunked.Goals as goal

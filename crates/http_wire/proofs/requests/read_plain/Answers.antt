@@ -5,7 +5,7 @@ use Rattle.http_wire.specs.declared.request.Asked.TheVariants.{Request as Reques
 use Rattle.http_wire.specs.declared.request.Request.{Request}
 use Rattle.std.specs.Prelude.{Ok}
 use Rattle.http_wire.specs.Items.{request_of}
-use Rattle.http_wire.specs.Inflow.{IsOpenAt}
+use Rattle.http_wire.specs.inner.Inflow.{IsOpenAt}
 use Rattle.http_wire.proofs.ItemLemmas.{open_gains, asks_after, asks_now, asks_cut, asks_unfinished, asks_plain, request_at}
 use Rattle.http_wire.proofs.requests.read_plain.Goals as goal
 

@@ -1,7 +1,8 @@
 use Rattle.std.proofs.Common.{ℕ, refl, sym, ◌∙◌, take, count_by, add-one, arith}
 use Rattle.xml_tree.specs.Tree.{kids_of}
 use Rattle.step_laws.proofs.OnePass.{only_is_selected, second_is_none}
-use Rattle.node_select.specs.Selection.{MatchesChild, is_named, is_tested}
+use Rattle.node_select.specs.Selection.{is_named, is_tested}
+use Rattle.node_select.specs.inner.Selection.{MatchesChild}
 use Rattle.node_select.proofs.Walked.{at_elem, at_other, at_end, here, only_hit, only_miss, no_element}
 use Rattle.node_select.proofs.choice.select_anywhere.Goals as goal
 use Rattle.node_select.proofs.choice.select_anywhere.Goals.{in-Elem, then-is_match_anywhere+else-is_some, else-is_match_anywhere, in_default}

@@ -4,7 +4,8 @@ use Rattle.xml_tree.specs.declared.names.Decl.{Decl}
 use Rattle.node_select.specs.declared.selector.Step.{Step}
 use Rattle.step_laws.specs.Selection.{child_matches}
 use Rattle.step_laws.proofs.OnePass.{only_is_selected, second_is_none}
-use Rattle.node_select.specs.Selection.{MatchesChild, is_named, is_tested}
+use Rattle.node_select.specs.Selection.{is_named, is_tested}
+use Rattle.node_select.specs.inner.Selection.{MatchesChild}
 use Rattle.node_select.proofs.Walked.{at_elem, at_other, at_end, count_next, here, only_hit, only_miss, at_most_one, no_element}
 use Rattle.node_select.proofs.choice.select_counted.Goals as goal
 use Rattle.node_select.proofs.choice.select_counted.Goals.{in-Elem, then-is_match_if+else-is_some, else-is_match_if, in_default}

@@ -2,7 +2,8 @@ use Rattle.std.proofs.Common.{◌≡◌, ◌≤◌, length, drop, take, count_by
 use Rattle.xml_tree.specs.Tree.{kids, kids_of}
 use Rattle.xml_tree.specs.Nodes.{content_of}
 use Rattle.step_laws.proofs.OnePass.{OnlyBelow}
-use Rattle.node_select.specs.Selection.{MatchesChild, is_named}
+use Rattle.node_select.specs.Selection.{is_named}
+use Rattle.node_select.specs.inner.Selection.{MatchesChild}
 use Rattle.node_select.proofs.choice.select_counted.Given as goal
 
 abbrev pub invariant-loop-node : goal.invariant-loop-node

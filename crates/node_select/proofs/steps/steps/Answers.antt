@@ -2,7 +2,8 @@ use Rattle.std.proofs.Common.{rules, ◌≡◌, ℕ, ◌-◌, Bool, List, [], �
 use denote.Text.{Utf8}
 use denote.Shadow.{shadow}
 use Rattle.std.proofs.lemmas.Str.{encodes-chars}
-use Rattle.grammar_rules.specs.Reading.{Stop, ◌>>=◌, read_many}
+use Rattle.grammar_rules.specs.Reading.{Stop, ◌>>=◌}
+use Rattle.grammar_rules.specs.readers.Functions.{read_many}
 use Rattle.tree_text.specs.declared.kind.Kind.{Kind}
 use Rattle.node_select.specs.readers.Made.{first_step_of}
 use Rattle.std.proofs.lemmas.List.{append-nil, map_push}

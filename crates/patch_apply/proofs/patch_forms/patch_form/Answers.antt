@@ -1,6 +1,6 @@
 use Rattle.std.proofs.Common.{◌∙◌, ap}
 use Rattle.std.proofs.lemmas.Result.{IfOk-weaker}
-use Rattle.grammar_rules.specs.Reading.{read_whole}
+use Rattle.grammar_rules.specs.readers.Functions.{read_whole}
 use Rattle.node_select.specs.readers.Selectors.{read_patch_selector}
 use Rattle.node_select.specs.readers.Whole.{patch_form_read, raw_form_told}
 use Rattle.node_select.proofs.PatchForms.{form_answer, one_form}

@@ -1,5 +1,5 @@
 use Rattle.std.proofs.Common.{Err, sym, ap, ◌∙◌}
-use Rattle.grammar_rules.specs.Reading.{read_whole}
+use Rattle.grammar_rules.specs.readers.Functions.{read_whole}
 use Rattle.node_select.specs.readers.Selectors.{read_patch_selector}
 use Rattle.patch_apply.specs.inner.Seen.{task_in}
 use Rattle.patch_apply.proofs.Selecting.{meaningless_so, named_form, no_named_form}

@@ -1,7 +1,7 @@
 use Rattle.std.proofs.Common.{◌≡◌, ◌++◌, ℕ, List, [], IfOk, codes, encode_utf8_all, subst, ap, ◌∙◌}
 use Rattle.xml_tree.specs.Tree.{Tree}
 use Rattle.doc_names.specs.Ids.{id_text}
-use Rattle.tree_text.specs.Printing.{document_print}
+use Rattle.xml_tree.specs.Print.{document_print}
 use Rattle.patch_words.specs.Notices.{diff}
 use Rattle.patch_text.proofs.BuiltElements.{notice_is}
 use Rattle.patch_text.proofs.elements.notice_of_element.Goals as goal

@@ -2,7 +2,7 @@ use Rattle.std.proofs.Common.{◌≡◌, ℕ, List, [], IfOk, encode_utf8_all, s
 use Rattle.notes.specs.Recorded.{all_notes as joined}
 use Rattle.xml_tree.specs.Tree.{Tree}
 use Rattle.doc_names.specs.Ids.{id_text}
-use Rattle.tree_text.specs.Printing.{document_print}
+use Rattle.xml_tree.specs.Print.{document_print}
 use Rattle.patch_words.specs.Notices.{diff}
 use Rattle.patch_text.proofs.Built.{notice_is}
 use Rattle.patch_text.proofs.notices.notice.Goals as goal

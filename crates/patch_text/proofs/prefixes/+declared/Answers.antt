@@ -1,4 +1,4 @@
-use Rattle.patch_words.specs.Declaring.{prefixes}
+use Rattle.patch_words.specs.inner.Declaring.{prefixes}
 use Rattle.patch_text.specs.inner.Declaring.{prefixes_at}
 use Rattle.patch_text.proofs.Gaining.{gains-decls, gains-end, gains-next, gains-nodes}
 use Rattle.patch_text.proofs.prefixes.+declared.Goals as goal

@@ -1,5 +1,5 @@
 use Rattle.std.proofs.Common.{◌++◌, flat_map, take}
-use Rattle.patch_words.specs.Declaring.{prefixes}
+use Rattle.patch_words.specs.inner.Declaring.{prefixes}
 use Rattle.patch_text.specs.inner.Declaring.{Gains, prefixes_at}
 use Rattle.patch_text.proofs.prefixes.+declared.Given as goal
 

@@ -1,5 +1,5 @@
 use Rattle.std.proofs.Common.{[]}
-use Rattle.patch_words.specs.Declaring.{prefixes}
+use Rattle.patch_words.specs.inner.Declaring.{prefixes}
 use Rattle.patch_text.specs.inner.Declaring.{prefixes_put, prefixes_told}
 use Rattle.patch_text.proofs.Gaining.{gains-end, gains-next, gains-none, gains-then}
 use Rattle.patch_text.proofs.prefixes.add_notes.Goals as goal

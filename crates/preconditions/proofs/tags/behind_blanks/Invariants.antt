@@ -1,5 +1,5 @@
 use Rattle.std.proofs.Common.{◌≡◌, ◌≤◌, length}
-use Rattle.preconditions.specs.Reading.{behind_blanks}
+use Rattle.preconditions.specs.readers.Fields.{behind_blanks}
 use Rattle.preconditions.proofs.tags.behind_blanks.Given as goal
 
 abbrev pub invariant-blanks : goal.invariant-blanks

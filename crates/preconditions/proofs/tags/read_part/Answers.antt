@@ -1,5 +1,5 @@
 use Rattle.std.proofs.Common.{sym, subst, List, ℕ}
-use Rattle.preconditions.specs.Reading.{IsTrimmed, entity_tag as tag_of}
+use Rattle.preconditions.specs.readers.Fields.{IsTrimmed, entity_tag as tag_of}
 use Rattle.preconditions.proofs.Fronts.{part-none, part-some, trimmed}
 use Rattle.preconditions.proofs.tags.read_part.Goals as goal
 

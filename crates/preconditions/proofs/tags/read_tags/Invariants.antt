@@ -1,5 +1,5 @@
 use Rattle.std.proofs.Common.{◌≡◌, length}
-use Rattle.preconditions.specs.Reading.{Before, tags_from, with_tags}
+use Rattle.preconditions.specs.readers.Fields.{Before, tags_from, with_tags}
 use Rattle.preconditions.proofs.tags.read_tags.Given as goal
 
 abbrev pub invariant-parts : goal.invariant-parts

@@ -1,6 +1,6 @@
 use Rattle.std.proofs.Common.{◌≡◌, ◌++◌, length}
 use Rattle.usage_docs.specs.Services.{service_uris}
-use Rattle.usage_docs.specs.Reading.Uris.{uris_left}
+use Rattle.usage_docs.specs.readers.Uris.{uris_left}
 use Rattle.store_core.proofs.addresses.service_addresses.Given as goal
 
 abbrev pub invariant-each : goal.invariant-each

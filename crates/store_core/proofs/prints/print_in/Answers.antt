@@ -3,7 +3,7 @@ use Rattle.std.specs.Map.{lookup, set_value}
 use Rattle.std.specs.Option.{option_map}
 use Rattle.doc_names.specs.Same.{same_id}
 use Rattle.doc_names.specs.contracts.doc_id.DocIdPartialEq.TheImpl.{eq-value}
-use Rattle.tree_text.specs.Printing.{document_print}
+use Rattle.xml_tree.specs.Print.{document_print}
 use Rattle.store_core.specs.declared.entry.Entry.{Entry}
 use Rattle.store_core.proofs.Keyed.{looked-up, same-set}
 use Rattle.store_core.proofs.prints.print_in.Goals as goal

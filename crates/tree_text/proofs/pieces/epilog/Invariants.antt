@@ -1,7 +1,8 @@
 use Rattle.std.proofs.Common.{◌≡◌, ◌-◌, chars}
 use denote.Text.{Utf8}
 use denote.Shadow.{shadow}
-use Rattle.grammar_rules.specs.Reading.{read_sequence, read_at_most}
+use Rattle.grammar_rules.specs.Reading.{read_sequence}
+use Rattle.grammar_rules.specs.readers.Functions.{read_at_most}
 use Rattle.tree_text.specs.readers.Members.{nothing_with}
 use Rattle.tree_text.specs.readers.Texts.{less_follows, read_dropped, read_spaces, read_misc, read_epilog}
 use Rattle.tree_text.proofs.Loops.{finish}

@@ -1,7 +1,8 @@
 use Rattle.std.proofs.Common.{◌≡◌, ◌-◌, chars}
 use denote.Text.{Utf8}
 use denote.Shadow.{shadow}
-use Rattle.grammar_rules.specs.Reading.{read_sequence, read_at_most}
+use Rattle.grammar_rules.specs.Reading.{read_sequence}
+use Rattle.grammar_rules.specs.readers.Functions.{read_at_most}
 use Rattle.tree_text.specs.readers.Members.{nothing_with}
 use Rattle.tree_text.specs.readers.Texts.{misc_follows, read_dropped, read_spaces, read_prolog_misc, read_prolog}
 use Rattle.tree_text.proofs.Loops.{finish}

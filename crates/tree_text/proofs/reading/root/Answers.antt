@@ -1,5 +1,6 @@
 use Rattle.std.proofs.Common.{◌≡◌, ℕ, ◌==◌, false, List, [], ◌∷◌, length, chars, Ok, Err, refl, sym, subst}
-use Rattle.grammar_rules.specs.Reading.{Reader, Syntax, read_whole}
+use Rattle.grammar_rules.specs.Reading.{Reader, Syntax}
+use Rattle.grammar_rules.specs.readers.Functions.{read_whole}
 use Rattle.xml_tree.specs.declared.names.Decl.{Decl}
 use Rattle.tree_text.specs.declared.kind.Kind.{Kind}
 use Rattle.tree_text.specs.readers.Texts.{read_mark_if, read_declaration_if, read_prolog, read_element, read_epilog, read_text}

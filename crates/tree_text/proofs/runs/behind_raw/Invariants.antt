@@ -1,7 +1,7 @@
 use Rattle.std.proofs.Common.{◌≡◌, chars, length}
 use denote.Text.{Utf8}
 use denote.Shadow.{shadow}
-use Rattle.grammar_rules.specs.Reading.{after_without}
+use Rattle.grammar_rules.specs.readers.Functions.{after_without}
 use Rattle.tree_text.specs.Grammar.{is_raw}
 use Rattle.tree_text.specs.readers.Words.{section_end}
 use Rattle.tree_text.proofs.runs.behind_raw.Given as goal

@@ -1,5 +1,5 @@
 use Rattle.std.proofs.Common.{◌≡◌, ◌++◌, ℕ, List, chars, refl, sym, ap, ◌∙◌}
-use Rattle.grammar_rules.specs.Reading.{front_without, after_without}
+use Rattle.grammar_rules.specs.readers.Functions.{front_without, after_without}
 use Rattle.tree_text.specs.Grammar.{is_raw}
 use Rattle.tree_text.specs.readers.Words.{section_end}
 use Rattle.tree_text.proofs.RunLemmas.{without_whole}

@@ -1,7 +1,7 @@
 use Rattle.std.proofs.Common.{◌≡◌, ℕ, List, ◌++◌, chars, length}
 use denote.Text.{Utf8}
 use denote.Shadow.{shadow}
-use Rattle.grammar_rules.specs.Reading.{read_up_to}
+use Rattle.grammar_rules.specs.readers.Functions.{read_up_to}
 use Rattle.xml_tree.specs.Characters.{is_char}
 use Rattle.tree_text.specs.declared.kind.Kind.{Kind}
 use Rattle.tree_text.proofs.RunLemmas.{with_front}

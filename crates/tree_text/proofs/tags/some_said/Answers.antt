@@ -1,6 +1,7 @@
 use Rattle.std.proofs.Common.{rules, ◌≡◌, ℕ, ◌-◌, List, [], ◌∷◌, ◌++◌, length, chars, encode_utf8_all, Result, Ok, Err, refl, sym, ap, subst, ◌∙◌, append_assoc, arith}
 use Rattle.std.proofs.lemmas.Str.{encodes-chars}
-use Rattle.grammar_rules.specs.Reading.{Stop, ◌>>=◌, read_sized, read_valued}
+use Rattle.grammar_rules.specs.Reading.{Stop, ◌>>=◌, read_valued}
+use Rattle.grammar_rules.specs.readers.Functions.{read_sized}
 use Rattle.xml_tree.specs.declared.names.Name.{Name}
 use Rattle.tree_text.specs.declared.kind.Kind.{Kind}
 use Rattle.std.proofs.lemmas.List.{append-nil}

@@ -2,7 +2,8 @@ use Rattle.std.proofs.Common.{rules, ◌≡◌, ℕ, ◌-◌, List, [], ◌∷�
 use Rattle.std.proofs.lemmas.Str.{encodes-chars}
 use Rattle.std.proofs.lemmas.List.{append-nil}
 use Rattle.std.proofs.lemmas.Result.{err_from_is_err_and}
-use Rattle.grammar_rules.specs.Reading.{read_many, read_valued}
+use Rattle.grammar_rules.specs.Reading.{read_valued}
+use Rattle.grammar_rules.specs.readers.Functions.{read_many}
 use Rattle.tree_text.specs.Pieces.{raw, more_value}
 use Rattle.tree_text.specs.readers.Members.{read_piece, value_with}
 use Rattle.tree_text.specs.readers.Texts.{read_reference, read_raw, reference_follows}

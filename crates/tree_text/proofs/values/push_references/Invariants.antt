@@ -1,7 +1,8 @@
 use Rattle.std.proofs.Common.{◌≡◌, ◌-◌, chars}
 use denote.Text.{Utf8}
 use denote.Shadow.{shadow}
-use Rattle.grammar_rules.specs.Reading.{read_at_most, read_many, read_valued}
+use Rattle.grammar_rules.specs.Reading.{read_valued}
+use Rattle.grammar_rules.specs.readers.Functions.{read_at_most, read_many}
 use Rattle.tree_text.specs.readers.Members.{read_piece, value_with}
 use Rattle.tree_text.specs.readers.Texts.{reference_follows}
 use Rattle.tree_text.proofs.Loops.{finish}

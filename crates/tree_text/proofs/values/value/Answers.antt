@@ -1,7 +1,8 @@
 use Rattle.std.proofs.Common.{◌≡◌, ℕ, List, [], length, chars, encode_utf8_all, Result, Ok, sym, ap, subst, ◌∙◌}
 use Rattle.std.proofs.lemmas.List.{append-nil}
 use Rattle.std.proofs.lemmas.Result.{err_from_is_err_and}
-use Rattle.grammar_rules.specs.Reading.{Stop, read_many}
+use Rattle.grammar_rules.specs.Reading.{Stop}
+use Rattle.grammar_rules.specs.readers.Functions.{read_many}
 use Rattle.tree_text.specs.declared.kind.Kind.{Kind}
 use Rattle.tree_text.specs.Pieces.{raw, value_spelled as value_of}
 use Rattle.tree_text.specs.readers.Gives.{Fails}

@@ -12,11 +12,11 @@ use Rattle.usage_docs.specs.Forms.{AllFormed, IsNodeFormed, is_formed}
 use Rattle.usage_docs.specs.Keys.{attrs_pass}
 use Rattle.usage_docs.specs.Rows.{Scope, kind_of}
 use Rattle.usage_docs.specs.Validity.{ValidInRow, text_passes}
-use Rattle.usage_docs.specs.Reading.Findings.{IsFirstAfter, IsFirstSoFar, IsKnownFormed, PassesClash, PassesKey, RepeatsKnown}
-use Rattle.usage_docs.specs.Reading.Parts.{follows, part_of}
-use Rattle.usage_docs.specs.Reading.Repeats.{Enters, Holds}
-use Rattle.usage_docs.specs.Reading.Siblings.{node_kids, one_more}
-use Rattle.usage_docs.specs.Reading.Walks.{HoldsRow, IsNodeValid, part_behind}
+use Rattle.usage_docs.specs.readers.Findings.{IsFirstAfter, IsFirstSoFar, IsKnownFormed, PassesClash, PassesKey, RepeatsKnown}
+use Rattle.usage_docs.specs.readers.Parts.{follows, part_of}
+use Rattle.usage_docs.specs.readers.Repeats.{Enters, Holds}
+use Rattle.usage_docs.specs.readers.Siblings.{node_kids, one_more}
+use Rattle.usage_docs.specs.readers.Walks.{HoldsRow, IsNodeValid, part_behind}
 use Rattle.usage_docs.proofs.ClashLemmas.{kids_are, kind_is, scope_is}
 use Rattle.usage_docs.proofs.FindingLemmas.{And, and_both, and_equal, and_same, and_then, clash_next, counts_next, formed_end, formed_next, key_next, marked_by, none_clash, none_found_yet, none_known, nothing_more, one_more_at_most, same_test, some_known, under_test, valid_end, valid_in_row, valid_next}
 use Rattle.usage_docs.proofs.NodesFormed.{nodes_formed}

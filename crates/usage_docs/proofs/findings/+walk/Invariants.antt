@@ -2,10 +2,10 @@ use Rattle.std.proofs.Common.{◌≡◌, ◌≤◌, ◌*◌, ◌+◌, drop, leng
 use Rattle.xml_tree.specs.Nodes.{node_height}
 use Rattle.xml_tree.specs.Tree.{content_height, height, kids_of}
 use Rattle.usage_docs.specs.Forms.{AllFormed}
-use Rattle.usage_docs.specs.Reading.Findings.{IsFirstSoFar}
-use Rattle.usage_docs.specs.Reading.Repeats.{Holds}
-use Rattle.usage_docs.specs.Reading.Siblings.{node_kids}
-use Rattle.usage_docs.specs.Reading.Walks.{HoldsRow}
+use Rattle.usage_docs.specs.readers.Findings.{IsFirstSoFar}
+use Rattle.usage_docs.specs.readers.Repeats.{Holds}
+use Rattle.usage_docs.specs.readers.Siblings.{node_kids}
+use Rattle.usage_docs.specs.readers.Walks.{HoldsRow}
 use Rattle.usage_docs.proofs.FindingLemmas.{Stands}
 use Rattle.usage_docs.proofs.NodesFormed.{FormedNodes}
 use Rattle.usage_docs.proofs.NodesValid.{ValidNodes}

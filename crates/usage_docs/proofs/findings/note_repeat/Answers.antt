@@ -2,7 +2,7 @@ use Rattle.std.proofs.Common.{◌≡◌, ◌≤◌, List, ℕ, Option, IsSome, I
 use Rattle.std.proofs.lemmas.Bool.{false≢true}
 use Rattle.xml_tree.specs.Tree.{kids_of}
 use Rattle.usage_docs.specs.declared.keys.Repeat.{Repeat}
-use Rattle.usage_docs.specs.Reading.Repeats.{IsFirstRepeat}
+use Rattle.usage_docs.specs.readers.Repeats.{IsFirstRepeat}
 use Rattle.usage_docs.proofs.FindingLemmas.{none_repeats, repeats_first, repeats_later, repeats_low}
 use Rattle.usage_docs.proofs.findings.note_repeat.Goals as goal
 

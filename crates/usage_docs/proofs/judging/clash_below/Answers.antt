@@ -2,7 +2,7 @@ use Rattle.std.proofs.Common.{◌+◌, ◌≤◌, List, ℕ, Option, length, sym
 use Rattle.xml_tree.specs.Tree.{content_height, kids_of}
 use Rattle.usage_docs.specs.Clashes.{RepeatsAt}
 use Rattle.usage_docs.specs.declared.keys.Clash.{Clash}
-use Rattle.usage_docs.specs.Reading.Findings.{IsFirstAfter}
+use Rattle.usage_docs.specs.readers.Findings.{IsFirstAfter}
 use Rattle.usage_docs.proofs.judging.clash_below.Goals as goal
 
 pub returns : goal.returns

@@ -2,7 +2,7 @@ use Rattle.std.proofs.Common.{Option, refl, subst, sym}
 use Rattle.std.specs.Option.{ForSome}
 use Rattle.xml_tree.specs.Scopes.{inside}
 use Rattle.usage_docs.specs.declared.rows.Kind.{Kind}
-use Rattle.usage_docs.specs.Reading.Findings.{IsKnownFormed}
+use Rattle.usage_docs.specs.readers.Findings.{IsKnownFormed}
 use Rattle.usage_docs.specs.Rows.{Scope}
 use Rattle.usage_docs.specs.Validity.{ValidInRow}
 use Rattle.usage_docs.proofs.ClashLemmas.{kind_is, scope_is}

@@ -5,8 +5,8 @@ use Rattle.usage_docs.specs.declared.keys.Clash.{Clash}
 use Rattle.usage_docs.specs.declared.rows.Kind.{Kind}
 use Rattle.usage_docs.specs.Forms.{AllFormed}
 use Rattle.usage_docs.specs.Keys.{attrs_pass}
-use Rattle.usage_docs.specs.Reading.Findings.{IsFirstAfter}
-use Rattle.usage_docs.specs.Reading.Walks.{HoldsRow}
+use Rattle.usage_docs.specs.readers.Findings.{IsFirstAfter}
+use Rattle.usage_docs.specs.readers.Walks.{HoldsRow}
 use Rattle.usage_docs.specs.Rows.{Scope, is_root, root_kind}
 use Rattle.usage_docs.proofs.FindingLemmas.{And, formed_root, valid_root}
 use Rattle.usage_docs.proofs.Judgements.{from_top}

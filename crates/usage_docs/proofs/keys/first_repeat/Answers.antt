@@ -1,7 +1,7 @@
 use Rattle.std.proofs.Common.{ℕ, List, Option, length, sym, subst, ◌∙◌}
 use Rattle.usage_docs.specs.declared.keys.Keyed.{Keyed}
 use Rattle.usage_docs.specs.declared.rows.Kind.{Kind}
-use Rattle.usage_docs.specs.Reading.Repeats.{IsLeastPair}
+use Rattle.usage_docs.specs.readers.Repeats.{IsLeastPair}
 use Rattle.usage_docs.proofs.RepeatLemmas.{first_keyless, first_none, first_some}
 use Rattle.usage_docs.proofs.keys.first_repeat.Goals as goal
 

@@ -1,7 +1,7 @@
 use Rattle.std.proofs.Common.{ℕ, ◌+◌, Option, Some, add-one, ap, arith, subst, sym, ◌∙◌}
 use Rattle.std.proofs.lemmas.Bool.{false≢true}
 use Rattle.usage_docs.specs.declared.rows.Kind.{Kind}
-use Rattle.usage_docs.specs.Reading.Repeats.{IsLeastPair}
+use Rattle.usage_docs.specs.readers.Repeats.{IsLeastPair}
 use Rattle.usage_docs.proofs.RepeatLemmas.{lesser_pair, no_pair_yet, other_pair, pairs_end}
 use Rattle.usage_docs.proofs.keys.least_pair.Goals as goal
 use Rattle.usage_docs.proofs.keys.least_pair.Goals.{then-is_pair, else-is_pair}

@@ -1,4 +1,4 @@
-use Rattle.usage_docs.specs.Reading.Repeats.{IsLeastPair}
+use Rattle.usage_docs.specs.readers.Repeats.{IsLeastPair}
 use Rattle.usage_docs.proofs.keys.least_pair.Given as goal
 
 abbrev pub invariant-loop-at : goal.invariant-loop-at

@@ -2,7 +2,7 @@ use Rattle.std.proofs.Common.{List, [], ◌∷◌, ◌≡◌, ◌∙◌, rules, 
 use Rattle.std.proofs.lemmas.Fn.{always_returns_same}
 use Rattle.xml_tree.specs.Print.{print_decl, byte_len}
 use Rattle.xml_tree.specs.declared.names.Decl.{Decl}
-use Rattle.usage_docs.specs.Reading.Lengths.{binding_of, decls_len}
+use Rattle.usage_docs.specs.readers.Lengths.{binding_of, decls_len}
 use Rattle.usage_docs.proofs.HiddenLemmas.{found, not_found, to_prefix}
 use Rattle.usage_docs.proofs.LengthLemmas.{only_one}
 use Rattle.usage_docs.proofs.lengths.binding_len.Goals as goal

@@ -1,5 +1,5 @@
 use Rattle.std.proofs.Common.{◌≡◌, take, min}
-use Rattle.usage_docs.specs.Reading.Lengths.{decls_len, hidden}
+use Rattle.usage_docs.specs.readers.Lengths.{decls_len, hidden}
 use Rattle.usage_docs.proofs.HiddenLemmas.{HasSeen}
 use Rattle.usage_docs.proofs.lengths.hidden_len.Given as goal
 

@@ -1,7 +1,7 @@
 use Rattle.std.proofs.Common.{◌≡◌, true, fold, ap, ◌∙◌, arith}
 use Rattle.std.proofs.lemmas.Grind.{common_steps}
 use Rattle.usage_docs.specs.declared.letters.Address.TheVariants.{Start}
-use Rattle.usage_docs.specs.Reading.Letters.{white, address_after, is_address}
+use Rattle.usage_docs.specs.readers.Letters.{white, address_after, is_address}
 use Rattle.usage_docs.specs.Texts.{text_of}
 use Rattle.usage_docs.proofs.Addresses.{trimmed_is}
 use Rattle.usage_docs.proofs.TextsRead.{all_read}

@@ -1,6 +1,6 @@
 use Rattle.std.proofs.Common.{◌≡◌, true, drop, fold}
 use Rattle.usage_docs.specs.declared.letters.Address.TheVariants.{Start}
-use Rattle.usage_docs.specs.Reading.Letters.{white, address_after}
+use Rattle.usage_docs.specs.readers.Letters.{white, address_after}
 use Rattle.usage_docs.specs.Texts.{text_of}
 use Rattle.usage_docs.proofs.TextsRead.{after_nodes}
 use Rattle.usage_docs.proofs.letters.is_http_inside.Given as goal

@@ -1,6 +1,6 @@
 use Rattle.std.proofs.Common.{◌∷◌, [], ◌++◌, ap, ◌∙◌}
 use Rattle.usage_docs.specs.Rows.{Scope}
-use Rattle.usage_docs.specs.Reading.Listing.{listed_nodes}
+use Rattle.usage_docs.specs.readers.Listing.{listed_nodes}
 use Rattle.usage_docs.proofs.ListingLemmas.{all_listed}
 use Rattle.usage_docs.proofs.listing.listed_in.Goals as goal
 

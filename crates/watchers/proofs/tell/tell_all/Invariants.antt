@@ -1,5 +1,5 @@
 use Rattle.std.proofs.Common.{length, ◌-◌}
-use Rattle.watchers.specs.Telling.{AreToldAsFarAs}
+use Rattle.watchers.specs.inner.Telling.{AreToldAsFarAs}
 use Rattle.watchers.proofs.tell.tell_all.Given as goal
 
 abbrev pub invariant-watchers : goal.invariant-watchers

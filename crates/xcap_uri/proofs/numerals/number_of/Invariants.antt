@@ -1,5 +1,5 @@
 use Rattle.std.proofs.Common.{◌≡◌, ◌≤◌, drop}
-use Rattle.xcap_uri.specs.Numerals.{number_behind}
+use Rattle.xcap_uri.specs.inner.Numerals.{number_behind}
 use Rattle.xcap_uri.proofs.numerals.number_of.Given as goal
 
 abbrev pub invariant-loop-b : goal.invariant-loop-b

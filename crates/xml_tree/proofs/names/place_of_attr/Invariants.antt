@@ -1,5 +1,6 @@
 use Rattle.std.proofs.Common.{◌≡◌, ◌+◌, drop}
-use Rattle.xml_tree.specs.Attributes.{first_place, is_written_so as is_named}
+use Rattle.xml_tree.specs.Attributes.{is_written_so as is_named}
+use Rattle.xml_tree.specs.inner.Attributes.{first_place}
 use Rattle.xml_tree.proofs.names.place_of_attr.Given as goal
 
 abbrev pub invariant-loop-i : goal.invariant-loop-i

@@ -1,5 +1,6 @@
 use Rattle.std.proofs.Common.{sym, ap, ◌∙◌, subst}
-use Rattle.xml_tree.specs.Nodes.{AreNormal, content_of, joined_beside, removed_joined}
+use Rattle.xml_tree.specs.Nodes.{AreNormal, content_of, joined_beside}
+use Rattle.xml_tree.specs.inner.Nodes.{removed_joined}
 use Rattle.xml_tree.proofs.Places.{place_there}
 use Rattle.xml_tree.proofs.Removals.{AreNormal-removed_joined, IsSome-place, beside_within, content_of-removed_joined, elem_of-place}
 use Rattle.xml_tree.proofs.nodes.take_elem_joining.Goals as goal

@@ -1,5 +1,5 @@
 use Rattle.std.proofs.Common.{◌≡◌, suc, ◌-◌, ◌++◌, ◌∷◌, take, false, sym, ap, ◌∙◌, subst, arith}
-use Rattle.xml_tree.specs.Nodes.{ends_in_text}
+use Rattle.xml_tree.specs.inner.Nodes.{ends_in_text}
 use Rattle.xml_tree.specs.declared.tree.Node.TheVariants.{Chars}
 use Rattle.xml_tree.proofs.RunLemmas.{ends-take_none, ends-take_some, take-text}
 use Rattle.xml_tree.proofs.runs.with_text_before.Goals as goal

@@ -1,5 +1,5 @@
 use Rattle.std.proofs.Common.{length, ◌-◌, ◌≤◌, take}
-use Rattle.http_wire.specs.Decoding.{ReadsOn}
+use Rattle.http_wire.specs.inner.Decoding.{ReadsOn}
 use Rattle.http_wire.proofs.chunks.Decoder.feed.Given as goal
 
 abbrev pub invariant-loop-used : goal.invariant-loop-used

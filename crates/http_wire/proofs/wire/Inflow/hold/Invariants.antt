@@ -1,6 +1,6 @@
 use Rattle.std.proofs.Common.{◌≡◌, length, ◌-◌}
 use Rattle.xcap_io.specs.Causes.{Reads}
-use Rattle.http_wire.specs.Inflow.{Gains}
+use Rattle.http_wire.specs.inner.Inflow.{Gains}
 use Rattle.http_wire.proofs.wire.Inflow.hold.Given as goal
 
 abbrev pub invariant-reading : goal.invariant-reading

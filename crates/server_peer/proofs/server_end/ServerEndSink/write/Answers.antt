@@ -1,7 +1,7 @@
 use Rattle.std.proofs.Common.{◌≡◌, ℕ, ◌+◌, ◌-◌, nat_lt, Bool, ◌||◌, List, ◌++◌, length, take, drop, refl, sym, ap, ◌∙◌, arith, subst}
 use Rattle.std.proofs.lemmas.List.{drop-drop}
 use Rattle.xcap_io.specs.Histories.{History}
-use Rattle.server_peer.specs.Ends.{KeepsFront}
+use Rattle.server_peer.specs.inner.Ends.{KeepsFront}
 use Rattle.server_peer.proofs.Keeping.{keeps_more}
 use Rattle.server_peer.proofs.server_end.ServerEndSink.write.Goals as goal
 

@@ -2,7 +2,7 @@ use Rattle.std.proofs.Common.{Bool, List, Result, Ok, Err, sym, subst}
 use Rattle.doc_names.specs.declared.doc_id.DocId.{DocId}
 use Rattle.store_core.specs.Asking.{Asks}
 use Rattle.store_core.specs.Held.{Stock as Content}
-use Rattle.store_core.specs.Making.{IsOwn}
+use Rattle.store_core.specs.inner.Making.{IsOwn}
 use Rattle.store_core.specs.Preparing.{Readied}
 use Rattle.store_core.specs.declared.refusal.StoreRefusal.{StoreRefusal}
 use Rattle.store_core.specs.inner.Planning.{Plans}

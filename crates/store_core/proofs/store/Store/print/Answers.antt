@@ -2,7 +2,7 @@ use Rattle.std.proofs.Common.{◌≡◌, ℕ, List, Option, IfOk, encode_utf8_al
 use Rattle.std.specs.Map.{lookup}
 use Rattle.std.specs.Option.{option_map}
 use Rattle.doc_names.specs.Same.{same_id}
-use Rattle.tree_text.specs.Printing.{document_print}
+use Rattle.xml_tree.specs.Print.{document_print}
 use Rattle.store_core.specs.declared.entry.Entry.{Entry}
 use Rattle.store_core.specs.Changing.{document_in, held_name}
 use Rattle.store_core.specs.Held.{Held}

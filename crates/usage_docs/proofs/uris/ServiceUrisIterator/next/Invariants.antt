@@ -1,5 +1,5 @@
 use Rattle.std.proofs.Common.{◌≡◌, length}
-use Rattle.usage_docs.specs.Reading.Uris.{uris_left}
+use Rattle.usage_docs.specs.readers.Uris.{uris_left}
 use Rattle.usage_docs.proofs.uris.ServiceUrisIterator.next.Given as goal
 
 abbrev pub invariant-loop-node : goal.invariant-loop-node

@@ -1,0 +1,2 @@
+-- What private functions and proofs speak of. No clause of a public call needs it.
+pub mod Tags

@@ -1,0 +1,69 @@
+-- What one walk over a tree finds, added to what was found before.
+use Rattle.std.specs.Prelude.{◌≡◌, ◌<◌, ℕ, suc, List, [], ◌∷◌, ◌++◌, Option, None, Some, IsTrue, is_some, option_map, if◌then◌else◌}
+use Rattle.xml_tree.specs.Tree.{Tree, kids_of}
+use Rattle.xml_tree.specs.declared.tree.Node.{Node}
+use Rattle.xml_tree.specs.declared.tree.Node.TheVariants.{Elem, Chars, Comment}
+use Rattle.xml_tree.specs.Scopes.{inside}
+use Rattle.usage_docs.specs.declared.judging.Fault.{Fault}
+use Rattle.usage_docs.specs.declared.judging.Fault.TheVariants.{Invalid, Unformed, Repeated}
+use Rattle.usage_docs.specs.declared.keys.Clash.{Clash}
+use Rattle.usage_docs.specs.declared.rows.Key.{Key}
+use Rattle.usage_docs.specs.declared.rows.Kind.{Kind}
+use Rattle.usage_docs.specs.declared.findings.Found.{Found}
+use Rattle.usage_docs.specs.declared.findings.Passed.{Passed}
+use Rattle.usage_docs.specs.Clashes.{NoLater, RepeatsAt, mark_of}
+use Rattle.usage_docs.specs.Forms.{AllFormed, is_formed}
+use Rattle.usage_docs.specs.Rows.{Scope, kind_of}
+use Rattle.usage_docs.specs.readers.Repeats.{Enters}
+use Rattle.usage_docs.specs.readers.Siblings.{IsFirst}
+
+-- the references of an element of this kind, and those in it, have their form
+abbrev pub IsKnownFormed : Kind → Scope → Tree → Type 0
+IsKnownFormed kind c e = IsTrue (is_formed kind e.attrs e.content) × AllFormed kind c e.content
+
+-- ---- clashes
+
+-- a clash that was found before stays; else the first that there is, seen from a base
+abbrev pub IsFirstAfter : Option Clash → (List ℕ → Key → Type 0) → List ℕ → Option Clash → Type 0
+IsFirstAfter (Some clash) R base new = new ≡ Some clash
+IsFirstAfter None R base new = IsFirst R base new
+
+-- a sibling's key is repeated below an element that has this kind; below one without a kind none is
+abbrev pub RepeatsKnown : Option Kind → Scope → Tree → List ℕ → Key → Type 0
+RepeatsKnown None c e p key = ⊥
+RepeatsKnown (Some kind) c e p key = RepeatsAt kind c (kids_of e) p key
+
+-- a sibling's key is repeated below one of these children
+abbrev pub RepeatsBelow : Kind → Scope → List Tree → List ℕ → Key → Type 0
+RepeatsBelow row c kids [] key = ⊥
+RepeatsBelow row c kids (i ∷ []) key = ⊥
+RepeatsBelow row c kids (i ∷ n ∷ p) key = RepeatsAt row c kids (i ∷ n ∷ p) key
+
+-- the first clash below the first n of these children, if none was found before; so many stand before the one that it is below
+abbrev pub IsFirstSoFar : Kind → Scope → List Tree → List ℕ → ℕ → ℕ → Option Clash → Option Clash → Type 0
+IsFirstSoFar row c kids base n clear (Some clash) new = (new ≡ Some clash) × (clear ≡ 0)
+IsFirstSoFar row c kids base n clear None None = (clear ≡ n) × ((i : ℕ) (p : List ℕ) (key : Key) → i < n → RepeatsBelow row c kids (i ∷ p) key → ⊥)
+IsFirstSoFar row c kids base n clear None (Some clash) =
+    (p : List ℕ) × ((clash.path ≡ base ++ clear ∷ p) × RepeatsBelow row c kids (clear ∷ p) clash.key × ((q : List ℕ) (key : Key) → RepeatsBelow row c kids q key → NoLater (clear ∷ p) q))
+
+-- ---- one node more
+
+-- its key is held with those of the children that were passed
+abbrev pub PassesKey : Kind → Scope → Node → Passed → Passed → Type 0
+PassesKey row c (Elem e) old new = Enters (mark_of row c e) old.count old.keys.items new.keys.items
+PassesKey row c (Chars t) old new = new.keys.items ≡ old.keys.items
+PassesKey row c (Comment t) old new = new.keys.items ≡ old.keys.items
+
+-- the first clash below it is found, if none was found before
+abbrev pub PassesClash : Kind → Scope → List ℕ → Node → Passed → Option Clash → Passed → Option Clash → Type 0
+PassesClash row c base (Elem e) old before new found =
+    IsFirstAfter before (RepeatsKnown (kind_of row (inside c e) e.name) (inside c e) e) (base ++ old.count ∷ []) found
+    × (new.clear ≡ (if is_some found then old.clear else suc old.clear))
+PassesClash row c base (Chars t) old before new found = (found ≡ before) × (new.clear ≡ old.clear)
+PassesClash row c base (Comment t) old before new found = (found ≡ before) × (new.clear ≡ old.clear)
+
+-- ---- the judgement
+
+-- the first fault by what is found in a root
+abbrev pub fault_of : Found → Option Fault
+fault_of found = if found.valid then (if found.formed then option_map (λ clash. Repeated clash) found.clash else Some Unformed) else Some Invalid

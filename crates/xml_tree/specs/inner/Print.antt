@@ -1,0 +1,11 @@
+-- The print of a node.
+use Rattle.std.specs.Prelude.{ℕ, List}
+use Rattle.xml_tree.specs.declared.tree.Node.{Node}
+use Rattle.xml_tree.specs.declared.tree.Node.TheVariants.{Elem, Chars, Comment}
+use Rattle.xml_tree.specs.Print.{print, print_comment, print_text}
+
+-- a node
+abbrev pub print_node : Node → List ℕ
+print_node (Elem e) = print e
+print_node (Chars t) = print_text t
+print_node (Comment x) = print_comment x

@@ -1,0 +1,9 @@
+-- Contents that are proper as a whole.
+use Rattle.std.specs.Prelude.{List}
+use Rattle.xml_tree.specs.Tree.{Content}
+use Rattle.xml_tree.specs.declared.names.Decl.{Decl}
+use Rattle.xml_tree.specs.Proper.{Everywhere, IsProperPart}
+
+-- a proper content, in the scope inside its element
+abbrev pub Proper : List (List Decl) → Content → Type 0
+Proper = Everywhere IsProperPart
