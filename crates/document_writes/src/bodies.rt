@@ -58,7 +58,7 @@ fn judged(alloc: Global, usage: Usage, root: Element, closes: bool) -> Result<Bo
     requires low { height root ≤ most_levels }
     ensures comes_of_the_tree { IfOk result (λ body. Comes (λ answer a. PutsText usage (Ok root) closes answer a) usage body) }
 {
-    match judge(alloc, usage, &root)? {
+    match judge(alloc, usage, &root) {
         None => Ok(Body::Document(root)),
         Some(fault) => {
             let body = fault_conflict(alloc, &fault)?;

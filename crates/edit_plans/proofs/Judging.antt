@@ -1,8 +1,6 @@
 -- What is answered at a parent, line by line.
 use Rattle.std.proofs.Common.{◌≡◌, ◌↔◌, inl, inr, ◌+◌, ℕ, Bool, false, List, length, Option, Some, None, Result, Ok, Err, IsTrue, refl, sym, ap, ◌∙◌, subst}
 use Rattle.std.specs.Option.{ForSome}
-use Rattle.std.specs.Result.{IfOk}
-use Rattle.std.proofs.lemmas.Result.{IfOk-weaker}
 use Rattle.std.proofs.lemmas.Option.{same_Some, none-some}
 use Rattle.step_laws.specs.Places.{Lawful, PlanIs}
 use Rattle.doc_names.specs.declared.usages.Usage.{Usage}
@@ -57,12 +55,11 @@ judged_by F G row c kids new q gap r same (inr (inl h)) = inr (inl (h.0, (h.1.0,
 judged_by F G row c kids new q gap r same (inr (inr h)) = inr (inr (h.0, same.0 h.1, h.2))
 
 -- by the row, which there is
-pub formed_by_row : {E : Type 0} (row : Option Kind) (kind : Kind) (c : Scope) (new : Tree) → row ≡ Some kind → (r : Result Bool E) → IfOk r (λ formed. IsTrue formed ↔ IsNodeFormed kind c (Elem new)) → IfOk r (λ formed. IsTrue formed ↔ FormedIn row c new)
-formed_by_row row kind c new is r =
-    IfOk-weaker r (λ formed. IsTrue formed ↔ IsNodeFormed kind c (Elem new)) (λ formed. IsTrue formed ↔ FormedIn row c new) (λ formed h. (
-      λ t k at. subst (λ (x : Kind). IsNodeFormed x c (Elem new)) (same_Some kind k (sym is ∙ at)) (h.0 t),
-      λ f. h.1 (f kind is),
-    ))
+pub formed_by_row : (row : Option Kind) (kind : Kind) (c : Scope) (new : Tree) → row ≡ Some kind → (formed : Bool) → IsTrue formed ↔ IsNodeFormed kind c (Elem new) → IsTrue formed ↔ FormedIn row c new
+formed_by_row row kind c new is formed h = (
+  λ t k at. subst (λ (x : Kind). IsNodeFormed x c (Elem new)) (same_Some kind k (sym is ∙ at)) (h.0 t),
+  λ f. h.1 (f kind is),
+)
 
 -- ---- the gap of a parent
 

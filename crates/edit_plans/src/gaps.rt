@@ -83,7 +83,7 @@ pub(crate) fn is_valid_in(
 {
     match row {
         None => Ok(true),
-        Some(row) => is_valid_child(alloc, row, scope, new),
+        Some(row) => Ok(is_valid_child(alloc, row, scope, new)),
     }
 }
 

@@ -23,7 +23,7 @@ fn is_formed_in(
 {
     match row {
         None => Ok(true),
-        Some(row) => is_formed_child(alloc, row, scope, new),
+        Some(row) => Ok(is_formed_child(alloc, row, scope, new)),
     }
 }
 

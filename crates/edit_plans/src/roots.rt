@@ -34,7 +34,7 @@ pub(crate) fn root_exchanged(
     if select_steps(alloc, new, steps).is_none() {
         return Ok(Err(EditRefusal::CannotInsert));
     }
-    match judge(alloc, usage, new)? {
+    match judge(alloc, usage, new) {
         Some(fault) => Ok(Err(EditRefusal::Faulty(fault))),
         None => Ok(Ok(0)),
     }

@@ -256,7 +256,7 @@ fn first_in_new(
     let Some(kind) = kind_of(row, &inside, new.name()) else {
         return Ok(None);
     };
-    clash_below(alloc, kind, &inside, new, here)
+    Ok(clash_below(alloc, kind, &inside, new, here))
 }
 
 /// The first clash that a new element makes in a gap among its siblings, which don't clash: their

@@ -2,10 +2,9 @@
 ghost use Rattle.std.specs.Prelude.{◌≡◌, ◌++◌, ◌∷◌, [], OnOk, OnErr, chars, option_map};
 ghost use Rattle.node_select.specs.Names.{prefix_uri};
 
-use crate::choice::declared_in;
 use std::alloc::{AllocError, Global};
 use std::marker::Model;
-use xml_tree::{Decl, Declared, Prefix, Scope, Text, is_xmlns};
+use xml_tree::{Decl, Declared, Prefix, Scope, Text, declared_in, is_xmlns};
 
 /// Prefixes with their URIs, as declarations: the last one of a prefix counts, and an empty URI binds nothing. `xml` is always bound to
 /// its own namespace, and `xmlns` never.

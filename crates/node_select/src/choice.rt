@@ -12,17 +12,7 @@ ghost use Rattle.node_select.specs.Selection.{has_asked, is_asked, is_attr, is_n
 
 use crate::selector::{AttrTest, NameTest, Step};
 use std::alloc::Global;
-use xml_tree::{Around, Attr, Decl, Declared, Element, Name, Node, Scope, Text};
-
-/// Declarations, with an index where they are many and there is memory for one. What they declare doesn't depend on that.
-pub fn declared_in<'a>(alloc: Global, decls: &'a [Decl]) -> Declared<'a>
-    ensures holds_the_declarations { result ≡ decls.now }
-{
-    match Declared::indexed(alloc, decls) {
-        Ok(declared) => declared,
-        Err(_) => Declared::new(alloc, decls),
-    }
-}
+use xml_tree::{Around, Attr, Decl, Declared, Element, Name, Node, Scope, Text, declared_in};
 
 /// The number of the first attribute of this namespace and local name, in the scope at the element: none exactly where there is no such
 /// attribute. An attribute without prefix is in no namespace, whose URI is empty. Memory is taken for an index of declarations alone, and the

@@ -5,10 +5,10 @@ ghost use Rattle.xml_tree.specs.Tree.{height, kids_of};
 ghost use Rattle.node_select.specs.inner.LongestWays.{ReachesBelow};
 ghost use Rattle.node_select.specs.Selection.{IsLongestMatch, SelectsPath};
 
-use crate::choice::{declared_in, is_match, select_child};
+use crate::choice::{is_match, select_child};
 use crate::selector::Step;
 use std::alloc::Global;
-use xml_tree::{Around, Element, Path};
+use xml_tree::{Around, Element, Path, declared_in};
 
 /// How far steps lead from the document on.
 #[derive(Debug, Drop)]

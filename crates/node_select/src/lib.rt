@@ -18,7 +18,7 @@ mod selector;
 mod steps;
 
 pub use bindings::Bindings;
-pub use choice::{attr_in, declared_in, find_attr, is_at_position, same_text};
+pub use choice::{attr_in, find_attr, is_at_position, same_text};
 pub use fault::SelectorFault;
 pub use laws::paths;
 pub use leading::{Reached, reach};

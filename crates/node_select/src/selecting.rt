@@ -4,10 +4,10 @@ ghost use Rattle.xml_tree.specs.Limits.{most_levels};
 ghost use Rattle.xml_tree.specs.Tree.{height, kids_of};
 ghost use Rattle.node_select.specs.Selection.{IsLongestMatch, SelectsPath, depth_among, longest_in, selected_among, selected_in};
 
-use crate::choice::{declared_in, is_match, select_child};
+use crate::choice::{is_match, select_child};
 use crate::selector::{Selector, Step};
 use std::alloc::Global;
-use xml_tree::{Around, Element, Path};
+use xml_tree::{Around, Element, Path, declared_in};
 
 /// The element that a selector's steps select: none exactly where some step matches no element or several. Each level is passed once. Memory is
 /// taken for indexes of declarations alone, and the answer is the same without it.

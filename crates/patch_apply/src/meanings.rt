@@ -6,9 +6,9 @@ ghost use Rattle.patch_words.specs.Applied.{means_alike};
 ghost use Rattle.patch_apply.specs.inner.ByNodes.{element_alike, node_alike};
 
 use crate::names::resolved;
-use node_select::{declared_in, same_text};
+use node_select::same_text;
 use std::alloc::Global;
-use xml_tree::{Around, Attr, Element, LocalName, Name, Node, Scope};
+use xml_tree::{Around, Attr, Element, LocalName, Name, Node, Scope, declared_in};
 
 // The same where there may be none.
 fn same_uri(a: Option<&str>, b: Option<&str>) -> bool

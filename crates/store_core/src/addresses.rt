@@ -20,7 +20,7 @@ fn service_addresses(alloc: Global, root: &Element) -> Result<List<Text>, AllocE
     ensures addresses_in_order { IfOk result (λ made. made ≡ service_uris root.now) }
 {
     let mut made = List::empty(alloc);
-    let mut left = services(alloc, root)?;
+    let mut left = services(alloc, root);
     'each: while let Some(uri) = left.next() {
         made.push(Text::from(alloc, uri)?)?;
     }

@@ -50,7 +50,7 @@ fn read(alloc: Global, text: &str) -> Result<Element>
     ensures may_be_stored { IfOk result (λ root. MayBe usages.RlsServices root) }
 {
     let root = read_document(alloc, text.as_bytes(), MAX_LEVELS)?;
-    match judge(alloc, Usage::RlsServices, &root)? {
+    match judge(alloc, Usage::RlsServices, &root) {
         None => Ok(root),
         Some(_) => bail!("no document of services"),
     }
@@ -196,7 +196,7 @@ fn push_changes(alloc: Global, store: &mut Store, lines: &str, text: &mut String
 // ---- what is held
 
 fn first_service(alloc: Global, root: &Element) -> Result<&str> {
-    let mut left = services(alloc, root)?;
+    let mut left = services(alloc, root);
     Ok(left.next().unwrap_or(""))
 }
 

@@ -32,7 +32,7 @@ fn named(usage: &str) -> Result<Usage> {
 fn found(alloc: Global, usage: &Field, text: &Field) -> Result<String> {
     let usage = named(usage.text()?)?;
     let root = document(alloc, text)?;
-    if schema(alloc, usage, &root)? {
+    if schema(alloc, usage, &root) {
         return valid(alloc, usage, &root);
     }
     Ok(String::from_str(alloc, "invalid")?)
@@ -40,7 +40,7 @@ fn found(alloc: Global, usage: &Field, text: &Field) -> Result<String> {
 
 // What a valid document is beyond that.
 fn valid(alloc: Global, usage: Usage, root: &Element) -> Result<String> {
-    let formed = if constraints(alloc, usage, root)? {
+    let formed = if constraints(alloc, usage, root) {
         "formed"
     } else {
         "unformed"
@@ -53,7 +53,7 @@ fn distinct(alloc: Global, usage: Usage, root: &Element, formed: &str) -> Result
     if depth(root) > MAX_LEVELS {
         bail!("too deep a document");
     }
-    match first_clash(alloc, usage, root)? {
+    match first_clash(alloc, usage, root) {
         None => Ok(format!(in alloc; "valid {formed} distinct")?),
         Some(clash) => clashing(alloc, formed, &clash),
     }
@@ -75,7 +75,7 @@ fn addresses(alloc: Global, text: &Field) -> Result<String> {
 }
 
 fn push_addresses(alloc: Global, shown: &mut String, root: &Element) -> Result<()> {
-    for uri in services(alloc, root)? {
+    for uri in services(alloc, root) {
         write!(shown, "<{uri}>")?;
     }
     Ok(())

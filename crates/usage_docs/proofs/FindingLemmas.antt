@@ -280,11 +280,13 @@ module _ (row : Kind) (c : Scope) (xs : List Tree) (base : List ℕ) where
     kid_here : (n : Node) (kid : Tree) → i < length ns → n ≡ get_or ns i n → n ≡ Elem kid → slice_get xs count ≡ Some kid
     kid_here n kid within is elem = ap (λ (ks : List Tree). slice_get ks count) kids_is ∙ ap (slice_get (node_kids ns)) counted ∙ kid_at ns i n kid within is elem
 
-    pub key_next : (n : Node) (old new : Passed) → i < length ns → n ≡ get_or ns i n → old.count ≡ count → new.count ≡ one_more n old.count → PassesKey row c n old new → Holds row c xs old.count old.keys.items → Holds row c xs new.count new.keys.items
-    key_next (Elem kid) old new within is from next passes held =
-        held_next row c xs kid old.count new.count (subst (λ (k : ℕ). slice_get xs k ≡ Some kid) (sym from) (kid_here (Elem kid) kid within is refl)) next old.keys.items new.keys.items held passes
-    key_next (Chars t) old new within is from next passes held = subst (λ (k : ℕ). Holds row c xs k new.keys.items) (sym next) (subst (λ (ks : List Keyed). Holds row c xs old.count ks) (sym passes) held)
-    key_next (Comment x) old new within is from next passes held = subst (λ (k : ℕ). Holds row c xs k new.keys.items) (sym next) (subst (λ (ks : List Keyed). Holds row c xs old.count ks) (sym passes) held)
+    pub key_next : (n : Node) (old new : Passed) → i < length ns → n ≡ get_or ns i n → old.count ≡ count → new.count ≡ one_more n old.count → PassesKey row c n old new → (old.holds_all ≡ true → Holds row c xs old.count old.keys.items)
+        → new.holds_all ≡ true → Holds row c xs new.count new.keys.items
+    key_next (Elem kid) old new within is from next passes held all =
+        let entered = passes all in
+        held_next row c xs kid old.count new.count (subst (λ (k : ℕ). slice_get xs k ≡ Some kid) (sym from) (kid_here (Elem kid) kid within is refl)) next old.keys.items new.keys.items (held entered.0) entered.1
+    key_next (Chars t) old new within is from next passes held all = subst (λ (k : ℕ). Holds row c xs k new.keys.items) (sym next) (subst (λ (ks : List Keyed). Holds row c xs old.count ks) (sym passes.1) (held (sym passes.0 ∙ all)))
+    key_next (Comment x) old new within is from next passes held all = subst (λ (k : ℕ). Holds row c xs k new.keys.items) (sym next) (subst (λ (ks : List Keyed). Holds row c xs old.count ks) (sym passes.1) (held (sym passes.0 ∙ all)))
 
     pub clash_next : (n : Node) (old new : Passed) (before found found_new : Option Clash) → i < length ns → n ≡ get_or ns i n → old.count ≡ count → new.count ≡ one_more n old.count → PassesClash row c base n old found new found_new
         → IsFirstSoFar row c xs base old.count old.clear before found → IsFirstSoFar row c xs base new.count new.clear before found_new

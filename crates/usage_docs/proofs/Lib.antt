@@ -20,3 +20,4 @@ pub mod TextsRead
 pub mod UriLemmas
 pub mod Walking
 pub mod Words
+pub mod ScanLemmas

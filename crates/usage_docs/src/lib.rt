@@ -17,6 +17,7 @@ mod listing;
 mod making;
 mod parts;
 mod rows;
+mod scanning;
 mod trails;
 mod uris;
 mod validity;

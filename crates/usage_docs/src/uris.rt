@@ -1,5 +1,5 @@
 //! The addresses of a document's services (RFC 4826, section 4).
-ghost use Rattle.std.specs.Prelude.{◌≡◌, ◌∷◌, [], chars, option_map, IfOk};
+ghost use Rattle.std.specs.Prelude.{◌≡◌, ◌∷◌, [], chars, option_map};
 ghost use Rattle.std.specs.Iterator.{YieldsFirstBy, item_count};
 ghost use Rattle.usage_docs.specs.Services.{service_uri, service_uris};
 ghost use Rattle.usage_docs.specs.readers.Uris.{node_uri, uris_left};
@@ -8,7 +8,7 @@ use crate::attributes::value_of;
 use crate::listing::is_service;
 use crate::rows::Key;
 use std::alloc::Global;
-use xml_tree::{Around, Declared, Element, NoMemory, Node};
+use xml_tree::{Around, Declared, Element, Node, declared_in};
 
 /// The addresses of the services that a document has, in order.
 #[derive(Drop)]
@@ -19,18 +19,14 @@ pub struct ServiceUris<'a> {
 }
 
 /// The `uri` of each service of a document, in order.
-///
-/// # Errors
-/// `NoMemory` for want of memory.
-pub fn services(alloc: Global, root: &Element) -> Result<ServiceUris<'_>, NoMemory>
-    ensures addresses_in_order { IfOk result (λ uris. uris_left uris ≡ service_uris root.now) }
+pub fn services(alloc: Global, root: &Element) -> ServiceUris<'_>
+    ensures addresses_in_order { uris_left result ≡ service_uris root.now }
 {
-    let declared = Declared::indexed(alloc, root.decls())?;
-    Ok(ServiceUris {
+    ServiceUris {
         alloc,
-        declared,
+        declared: declared_in(alloc, root.decls()),
         nodes: root.nodes(),
-    })
+    }
 }
 
 // The address of a child of a root with these declarations, if it is a service.

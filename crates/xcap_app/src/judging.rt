@@ -27,7 +27,7 @@ fn judge_tree(alloc: Global, usage: Usage, root: &Element) -> Result<Exit, Alloc
     requires { height root.now ≤ most_levels }
     ensures judges_the_tree { IfOk result (λ exit. AnswerVerdict usage (Ok root.now) exit) }
 {
-    let fault = usage_docs::judge(alloc, usage, root)?;
+    let fault = usage_docs::judge(alloc, usage, root);
     Ok(exit_of(fault))
 }
 

@@ -105,3 +105,13 @@ fn look_up<'a>(index: &[&'a Decl], prefix: &Prefix) -> Option<&'a Text>
         Err(_) => None,
     }
 }
+
+/// Declarations, with an index where they are many and there is memory for one. What they declare doesn't depend on that.
+pub fn declared_in<'a>(alloc: Global, decls: &'a [Decl]) -> Declared<'a>
+    ensures holds_the_declarations { result ≡ decls.now }
+{
+    match Declared::indexed(alloc, decls) {
+        Ok(declared) => declared,
+        Err(_) => Declared::new(alloc, decls),
+    }
+}

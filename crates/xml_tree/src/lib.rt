@@ -36,7 +36,7 @@ mod word_bytes;
 
 pub use around::Around;
 pub use characters::{is_char, is_name, is_name_char, is_name_start, is_space};
-pub use declared::Declared;
+pub use declared::{Declared, declared_in};
 pub use laws::{
     heights_after_edits, kids_after_edits, nodes_are_the_content, other_places_stay,
     paths_are_short, paths_go_on, what_was_made_is_there,

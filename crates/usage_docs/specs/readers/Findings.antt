@@ -1,5 +1,5 @@
 -- What one walk over a tree finds, added to what was found before.
-use Rattle.std.specs.Prelude.{◌≡◌, ◌<◌, ℕ, suc, List, [], ◌∷◌, ◌++◌, Option, None, Some, IsTrue, is_some, option_map, if◌then◌else◌}
+use Rattle.std.specs.Prelude.{◌≡◌, ◌<◌, ℕ, suc, List, [], ◌∷◌, ◌++◌, Option, None, Some, IsTrue, true, is_some, option_map, if◌then◌else◌}
 use Rattle.xml_tree.specs.Tree.{Tree, kids_of}
 use Rattle.xml_tree.specs.declared.tree.Node.{Node}
 use Rattle.xml_tree.specs.declared.tree.Node.TheVariants.{Elem, Chars, Comment}
@@ -48,11 +48,11 @@ IsFirstSoFar row c kids base n clear None (Some clash) =
 
 -- ---- one node more
 
--- its key is held with those of the children that were passed
+-- its key is held with those of the children that were passed, as long as there is memory for all of them
 abbrev pub PassesKey : Kind → Scope → Node → Passed → Passed → Type 0
-PassesKey row c (Elem e) old new = Enters (mark_of row c e) old.count old.keys.items new.keys.items
-PassesKey row c (Chars t) old new = new.keys.items ≡ old.keys.items
-PassesKey row c (Comment t) old new = new.keys.items ≡ old.keys.items
+PassesKey row c (Elem e) old new = new.holds_all ≡ true → (old.holds_all ≡ true) × Enters (mark_of row c e) old.count old.keys.items new.keys.items
+PassesKey row c (Chars t) old new = (new.holds_all ≡ old.holds_all) × (new.keys.items ≡ old.keys.items)
+PassesKey row c (Comment t) old new = (new.holds_all ≡ old.holds_all) × (new.keys.items ≡ old.keys.items)
 
 -- the first clash below it is found, if none was found before
 abbrev pub PassesClash : Kind → Scope → List ℕ → Node → Passed → Option Clash → Passed → Option Clash → Type 0

@@ -8,5 +8,5 @@ pub returns-in-None : goal.returns-in-None
 returns-in-None c = record {
   comes_of_the_tree =
       tree_comes c.args.usage c.args.closes c.args.root c.requires.proper c.requires.low
-      (subst (λ (fault : Option Fault). Judged c.args.usage c.args.root fault) c.in-None.is c.in_ok-judge.ensures.judges_the_tree);
+      (subst (λ (fault : Option Fault). Judged c.args.usage c.args.root fault) c.in-None.is c.judge.ensures.judges_the_tree);
 }

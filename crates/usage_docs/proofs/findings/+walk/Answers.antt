@@ -1,4 +1,4 @@
-use Rattle.std.proofs.Common.{◌≡◌, ◌≤◌, ◌<◌, ◌+◌, ◌∷◌, [], ℕ, List, ◌&&◌, Bool, cond, Option, OnOk, length, take, drop, suc, add-one, refl, sym, ap, subst, ◌∙◌, arith, length-append}
+use Rattle.std.proofs.Common.{◌≡◌, ◌≤◌, ◌<◌, ◌+◌, ◌∷◌, [], ℕ, List, ◌&&◌, Bool, cond, Option, true, length, take, drop, suc, add-one, refl, sym, ap, subst, ◌∙◌, arith, length-append}
 use Rattle.std.specs.Option.{ForSome}
 use Rattle.std.proofs.lemmas.Grind.{common_steps}
 use Rattle.xml_tree.specs.Nodes.{node_height}
@@ -38,7 +38,7 @@ walk_inside-loop-node-init t c =
       counted = refl;
       small = omega arith;
       clear = omega arith;
-      held = subst (λ (ks : List Keyed). Holds c.args.row c.args.scope.now (kids_of e) 0 ks) (sym c.new.ensures.items) (none_held c.args.row c.args.scope.now (kids_of e));
+      held = λ _. subst (λ (ks : List Keyed). Holds c.args.row c.args.scope.now (kids_of e) 0 ks) (sym c.new.ensures.items) (none_held c.args.row c.args.scope.now (kids_of e));
       first = λ low. none_found_yet c.args.row c.args.scope.now (kids_of e) c.args.trail.now c.args.found.now.clash;
     }
 
@@ -52,7 +52,7 @@ walk_inside-loop-node-preserved t c =
     let i = c.loop-node.node-index in
     let n = c.node-item.result in
     let inv = c.loop-node.invariant in
-    let done = c.in_ok-walk_node.ensures in
+    let done = c.walk_node.ensures in
     let old = c.loop-node.passed in
     let new = c.walk_node.new.passed in
     let first = c.args.found.now in
@@ -94,7 +94,7 @@ walk_inside-returns t c =
     record {
       valid_inside = valid_end row scope (drop i ns) passed.part found.valid c.follows.result c.note_repeat.new.found.valid first.valid (HoldsRow row scope e.content) none stay.0 c.follows.ensures.tells_whether_it_may_follow inv.valid;
       formed_inside = subst (λ (b : Bool). And b first.formed (AllFormed row scope e.content)) (sym stay.1) (formed_end row scope (drop i ns) found.formed first.formed (AllFormed row scope e.content) none inv.formed);
-      first_clash_inside = λ low. c.note_repeat.ensures.first_of_all row scope e first.clash (subst (λ (k : ℕ). Holds row scope xs k passed.keys.items) count inv.held) low
+      first_clash_inside = λ low. c.note_repeat.ensures.first_of_all row scope e first.clash (c.repeat_among-repeat.ensures.finds_the_first (λ all. subst (λ (k : ℕ). Holds row scope xs k passed.keys.items) count (inv.held all))) low
           (subst (λ (k : ℕ). IsFirstSoFar row scope xs trail k passed.clear first.clash found.clash) count (inv.first low));
     }
 
@@ -104,7 +104,6 @@ pub walk_node-returns-in-Elem : goal.walk_node-returns-in-Elem
 walk_node-returns-in-Elem t c =
     let row = c.args.row in
     let scope = c.args.scope.now in
-    let r = c.walk_child.result in
     let old = c.args.passed.now in
     let new = c.walk_child.new.passed in
     let found = c.args.found.now in
@@ -112,13 +111,13 @@ walk_node-returns-in-Elem t c =
     let is = sym c.in-Elem.is in
     let done = c.walk_child.ensures in
     record {
-      valid_with_the_node = subst (λ (n : Node). OnOk r (And next.valid found.valid (IsNodeValid row scope old.part n))) is done.valid_with_the_child;
-      formed_with_the_node = subst (λ (n : Node). OnOk r (And next.formed found.formed (IsNodeFormed row scope n))) is done.formed_with_the_child;
-      part_before_the_next = subst (λ (n : Node). OnOk r (new.part ≡ part_behind row scope old.part n)) is done.part_before_the_next;
-      counts_the_node = subst (λ (n : Node). OnOk r (new.count ≡ one_more n old.count)) is done.counts_the_child;
+      valid_with_the_node = subst (λ (n : Node). (And next.valid found.valid (IsNodeValid row scope old.part n))) is done.valid_with_the_child;
+      formed_with_the_node = subst (λ (n : Node). (And next.formed found.formed (IsNodeFormed row scope n))) is done.formed_with_the_child;
+      part_before_the_next = subst (λ (n : Node). (new.part ≡ part_behind row scope old.part n)) is done.part_before_the_next;
+      counts_the_node = subst (λ (n : Node). (new.count ≡ one_more n old.count)) is done.counts_the_child;
       no_more_are_clear = done.no_more_are_clear;
-      enters_the_key = subst (λ (n : Node). OnOk r (PassesKey row scope n old new)) is done.enters_the_key;
-      first_clash_in_the_node = subst (λ (n : Node). OnOk r (length c.args.trail.now + node_height n ≤ 64 → PassesClash row scope c.args.trail.now n old found.clash new next.clash)) is done.first_clash_in_the_child;
+      enters_the_key = subst (λ (n : Node). (PassesKey row scope n old new)) is done.enters_the_key;
+      first_clash_in_the_node = subst (λ (n : Node). (length c.args.trail.now + node_height n ≤ 64 → PassesClash row scope c.args.trail.now n old found.clash new next.clash)) is done.first_clash_in_the_child;
     }
 
 pub walk_node-returns-in-Chars : goal.walk_node-returns-in-Chars
@@ -136,7 +135,7 @@ walk_node-returns-in-Chars t c =
       part_before_the_next = subst (λ (n : Node). old.part ≡ part_behind row scope old.part n) is refl;
       counts_the_node = subst (λ (n : Node). old.count ≡ one_more n old.count) is refl;
       no_more_are_clear = c.requires.clear;
-      enters_the_key = subst (λ (n : Node). PassesKey row scope n old old) is refl;
+      enters_the_key = subst (λ (n : Node). PassesKey row scope n old old) is (refl, refl);
       first_clash_in_the_node = λ low. subst (λ (n : Node). PassesClash row scope c.args.trail.now n old found.clash old found.clash) is (refl, refl);
     }
 
@@ -153,7 +152,7 @@ walk_node-returns-in-Comment t c =
       part_before_the_next = subst (λ (n : Node). old.part ≡ part_behind row scope old.part n) is refl;
       counts_the_node = subst (λ (n : Node). old.count ≡ one_more n old.count) is refl;
       no_more_are_clear = c.requires.clear;
-      enters_the_key = subst (λ (n : Node). PassesKey row scope n old old) is refl;
+      enters_the_key = subst (λ (n : Node). PassesKey row scope n old old) is (refl, refl);
       first_clash_in_the_node = λ low. subst (λ (n : Node). PassesClash row scope c.args.trail.now n old found.clash old found.clash) is (refl, refl);
     }
 
@@ -171,13 +170,13 @@ walk_child-returns t c =
     let found = c.args.found.now in
     let mid = found.valid && c.follows.result in
     let next = c.walk_known.new.found in
-    let is = scope_is scope e c.inside-inside.result c.in_ok-declared.declared c.decls.result.now c.inside-inside.ensures.adds_the_declarations c.in_ok-declared.ensures.holds_the_declarations c.decls.ensures.lends_the_declarations in
+    let is = scope_is scope e c.inside-inside.result c.declared_in-declared.result c.decls.result.now c.inside-inside.ensures.adds_the_declarations c.declared_in-declared.ensures.holds_the_declarations c.decls.ensures.lends_the_declarations in
     let kind = kind_is row scope e c.inside-inside.result c.name.result.now child.kind child.kind c.place_of-child.ensures.kind_of_the_child is c.name.ensures.lends_the_name refl in
     let part : child.part ≡ part_of row (inside scope e) e.name =
     c.place_of-child.ensures.part_of_the_child ∙ ap (λ (s : Scope). part_of row s c.name.result.now) is ∙ ap (part_of row (inside scope e)) c.name.ensures.lends_the_name in
     let follow = same_test c.follows.result (follows row old.part (part_of row (inside scope e) e.name)) (c.follows.ensures.tells_whether_it_may_follow ∙ ap (follows row old.part) part) in
-    let walked = c.in_ok-walk_known.ensures in
-    let added = c.in_ok-add.ensures in
+    let walked = c.walk_known.ensures in
+    let added = c.add.ensures in
     let valid = subst (λ (o : Option Kind). And next.valid mid (ForSome o (λ k. ValidInRow k (inside scope e) e))) (sym kind)
     (subst (λ (s : Scope). And next.valid mid (ForSome child.kind (λ k. ValidInRow k s e))) is walked.valid_with_the_element) in
     let formed = subst (λ (o : Option Kind). And next.formed found.formed (ForSome o (λ k. IsKnownFormed k (inside scope e) e))) (sym kind)
@@ -189,7 +188,7 @@ walk_child-returns t c =
       part_before_the_next = added.passes_the_part ∙ part;
       counts_the_child = added.counts_the_child;
       no_more_are_clear = added.no_more_are_clear;
-      enters_the_key = subst (λ (m : Option Mark). Enters m old.count old.keys.items new.keys.items) (marked_by row scope e child.kind c.attrs.result.now kind c.attrs.ensures.lends_the_attributes) added.enters_the_key;
+      enters_the_key = subst (λ (m : Option Mark). new.holds_all ≡ true → (old.holds_all ≡ true) × Enters m old.count old.keys.items new.keys.items) (marked_by row scope e child.kind c.attrs.result.now kind c.attrs.ensures.lends_the_attributes) added.enters_the_key;
       first_clash_in_the_child = λ low.
           (let long = ap length here ∙ length-append trail (old.count ∷ []) in
           let below = walked.first_clash_below (omega (arith, low, long)) in
@@ -222,7 +221,7 @@ walk_known-returns t c =
     let valid = found.valid && c.attrs_pass.result in
     let formed = found.formed && c.is_formed.result in
     let next = c.walk_inside.new.found in
-    let walked = c.in_ok-walk_inside.ensures in
+    let walked = c.walk_inside.ensures in
     let attrs = same_test c.attrs_pass.result (attrs_pass known scope e.attrs) (c.attrs_pass.ensures.tells_whether_they_pass ∙ ap (attrs_pass known scope) c.attrs.ensures.lends_the_attributes) in
     let form = same_test c.is_formed.result (is_formed known e.attrs e.content) c.is_formed.ensures.tells_whether_it_is_formed in
     record {

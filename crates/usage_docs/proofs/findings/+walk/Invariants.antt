@@ -1,4 +1,4 @@
-use Rattle.std.proofs.Common.{◌≡◌, ◌≤◌, ◌*◌, ◌+◌, drop, length, take}
+use Rattle.std.proofs.Common.{◌≡◌, ◌≤◌, ◌*◌, ◌+◌, drop, length, take, true}
 use Rattle.xml_tree.specs.Nodes.{node_height}
 use Rattle.xml_tree.specs.Tree.{content_height, height, kids_of}
 use Rattle.usage_docs.specs.Forms.{AllFormed}
@@ -31,6 +31,6 @@ invariant-walk_inside-loop-node l = record {
   counted : l.passed.count ≡ length (node_kids (take l.node-index l.nodes));
   small : l.passed.count ≤ l.node-index;
   clear : l.passed.clear ≤ l.passed.count;
-  held : Holds l.row l.scope (kids_of l.element) l.passed.count l.passed.keys.items;
+  held : l.passed.holds_all ≡ true → Holds l.row l.scope (kids_of l.element) l.passed.count l.passed.keys.items;
   first : length l.trail + content_height l.element.content ≤ 64 → IsFirstSoFar l.row l.scope (kids_of l.element) l.trail l.passed.count l.passed.clear l.fn.found.clash l.found.clash;
 }

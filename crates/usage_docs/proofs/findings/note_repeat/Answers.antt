@@ -10,23 +10,23 @@ pub returns-in_default : goal.returns-in_default
 returns-in_default c = record {
   others_stay = (refl, refl);
   first_of_all = λ row s e before held low so.
-      none_repeats row s (kids_of e) c.args.trail.now c.args.passed.clear before c.args.found.now.clash
-      (subst (λ (o : Option Repeat). IsFirstRepeat row s (kids_of e) o) c.in_default.is (c.first_repeat.ensures.finds_the_first row s (kids_of e) held)) so;
+      none_repeats row s (kids_of e) c.args.trail.now c.args.clear before c.args.found.now.clash
+      (subst (λ (o : Option Repeat). IsFirstRepeat row s (kids_of e) o) c.in_default.is held) so;
 }
 
-pub returns-then-passed-repeat : goal.returns-then-passed-repeat
-returns-then-passed-repeat c = record {
+pub returns-then-clear-repeat : goal.returns-then-clear-repeat
+returns-then-clear-repeat c = record {
   others_stay = (refl, refl);
   first_of_all = λ row s e before held low so.
-      repeats_later row s (kids_of e) c.args.trail.now c.in-Some.repeat (subst (λ (o : Option Repeat). IsFirstRepeat row s (kids_of e) o) c.in-Some.is (c.first_repeat.ensures.finds_the_first row s (kids_of e) held))
-      c.args.passed.clear before c.args.found.now.clash c.if-passed-repeat.true so;
+      repeats_later row s (kids_of e) c.args.trail.now c.in-Some.repeat (subst (λ (o : Option Repeat). IsFirstRepeat row s (kids_of e) o) c.in-Some.is held)
+      c.args.clear before c.args.found.now.clash c.if-clear-repeat.true so;
 }
 
 pub returns-in_default-path : goal.returns-in_default-path
 returns-in_default-path c = record {
   others_stay = (refl, refl);
   first_of_all = λ row s e before held low so.
-      (let first = subst (λ (o : Option Repeat). IsFirstRepeat row s (kids_of e) o) c.in-Some.is (c.first_repeat.ensures.finds_the_first row s (kids_of e) held) in
+      (let first = subst (λ (o : Option Repeat). IsFirstRepeat row s (kids_of e) o) c.in-Some.is held in
       let short = repeats_low row s (kids_of e) c.args.trail.now c.in-Some.repeat first e.content refl low in
       let there = c.path.ensures.is_there_if_it_is_short (subst (λ (p : List ℕ). length p ≤ 64) (sym c.child-here.ensures.leads_to_the_child) short) in
       absurd (false≢true (subst (λ (o : Option (List ℕ)). IsSome o) c.in_default-path.is there)));
@@ -36,7 +36,7 @@ pub returns : goal.returns
 returns c = record {
   others_stay = (refl, refl);
   first_of_all = λ row s e before held low so.
-      (let first = subst (λ (o : Option Repeat). IsFirstRepeat row s (kids_of e) o) c.in-Some.is (c.first_repeat.ensures.finds_the_first row s (kids_of e) held) in
+      (let first = subst (λ (o : Option Repeat). IsFirstRepeat row s (kids_of e) o) c.in-Some.is held in
       let path = subst (λ (o : Option (List ℕ)). IfSome o (λ p. p ≡ c.child-here.result)) c.in-Some-path.is c.path.ensures.path_to_the_place in
-      repeats_first row s (kids_of e) c.args.trail.now c.in-Some.repeat first c.args.passed.clear before c.args.found.now.clash c.in-Some-path.path c.if-passed-repeat.false (path ∙ c.child-here.ensures.leads_to_the_child) so);
+      repeats_first row s (kids_of e) c.args.trail.now c.in-Some.repeat first c.args.clear before c.args.found.now.clash c.in-Some-path.path c.if-clear-repeat.false (path ∙ c.child-here.ensures.leads_to_the_child) so);
 }

@@ -11,7 +11,7 @@ returns c =
     let at = c.at.ensures.begins_at_the_place in
     let found = c.walk_inside.new.found in
     let low = subst (λ (p : List ℕ). length p + content_height e.content ≤ 64) (sym at) c.requires.low in
-    let first = c.in_ok-walk_inside.ensures.first_clash_inside low in
+    let first = c.walk_inside.ensures.first_clash_inside low in
     record {
       tells_the_first =
           subst (λ (o : Option Clash). IsFirstAfter o (RepeatsAt c.args.row c.args.scope.now (kids_of e)) c.args.path.now found.clash) c.nothing-found.ensures.no_clash_so_far

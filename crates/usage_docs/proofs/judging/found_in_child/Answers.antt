@@ -16,8 +16,8 @@ returns c =
     let e = c.args.kid.now in
     let found = c.walk_known.new.found in
     let start = c.nothing-found.result in
-    let walked = c.in_ok-walk_known.ensures in
-    let is = scope_is scope e c.inside-inside.result c.in_ok-declared.declared c.decls.result.now c.inside-inside.ensures.adds_the_declarations c.in_ok-declared.ensures.holds_the_declarations c.decls.ensures.lends_the_declarations in
+    let walked = c.walk_known.ensures in
+    let is = scope_is scope e c.inside-inside.result c.declared_in-declared.result c.decls.result.now c.inside-inside.ensures.adds_the_declarations c.declared_in-declared.ensures.holds_the_declarations c.decls.ensures.lends_the_declarations in
     let kind = kind_is row scope e c.inside-inside.result c.name.result.now c.kind_of-kind.result c.kind_of-kind.result c.kind_of-kind.ensures.kind_of_the_child is c.name.ensures.lends_the_name refl in
     record {
       valid_as_a_child = from_start found.valid start.valid c.nothing-found.ensures.valid_so_far

@@ -19,7 +19,7 @@ returns c =
     let scope = c.args.scope.now in
     let kind = c.root_kind-kind.ensures.kind_of_the_root in
     let found = c.walk_inside.new.found in
-    let walked = c.in_ok-walk_inside.ensures in
+    let walked = c.walk_inside.ensures in
     let start = c.nothing-found.ensures in
     let tests = c.is_root.result && c.attrs_pass.result in
     record {
