@@ -8,6 +8,6 @@ use Rattle.usage_docs.proofs.uris.services.Goals as goal
 pub returns : goal.returns
 returns c = record {
   addresses_in_order =
-      uris_are (c.in_ok-declared.declared ∷ []) c.nodes.result.now c.args.root.now.content c.nodes.ensures.content_of_the_nodes
-      ∙ ap (λ (ds : List Decl). filter_map (service_uri (ds ∷ [])) (kids_of c.args.root.now)) (c.in_ok-declared.ensures.holds_the_declarations ∙ c.decls.ensures.lends_the_declarations);
+      uris_are (c.declared_in.result ∷ []) c.nodes.result.now c.args.root.now.content c.nodes.ensures.content_of_the_nodes
+      ∙ ap (λ (ds : List Decl). filter_map (service_uri (ds ∷ [])) (kids_of c.args.root.now)) (c.declared_in.ensures.holds_the_declarations ∙ c.decls.ensures.lends_the_declarations);
 }
