@@ -23,15 +23,15 @@ fn fits_over(
     parent: &Element,
     child: usize,
     new: &Element,
-) -> Result<bool, NoMemory>
+) -> bool
     requires there { child < length (kids_of parent.now) }
-    ensures tells_whether_it_fits_over { IfOk result (λ fits. IsTrue fits ↔ FitsOver row scope.now parent.now.content new.now child) }
+    ensures tells_whether_it_fits_over { IsTrue result ↔ FitsOver row scope.now parent.now.content new.now child }
 {
-    let itself = is_valid_in(alloc, row, scope, new)?;
+    let itself = is_valid_in(alloc, row, scope, new);
     let part = part_in(alloc, row, scope, new);
     let left = part_left(alloc, row, scope, parent, child);
     let right = part_right(alloc, row, scope, parent, child);
-    Ok(fits(row, itself, left, part, right))
+    fits(row, itself, left, part, right)
 }
 
 /// What is answered of a new element in the place of a child, which the step selects: the parent is
@@ -57,7 +57,7 @@ pub(crate) fn exchanged_in(
     if !passes(alloc, scope, step, new) {
         return Ok(Err(EditRefusal::CannotInsert));
     }
-    if !fits_over(alloc, row, scope, parent, child, new)? {
+    if !fits_over(alloc, row, scope, parent, child, new) {
         return Ok(Err(EditRefusal::Faulty(Fault::Invalid)));
     }
     let siblings = Siblings::without(parent, child);

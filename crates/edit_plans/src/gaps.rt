@@ -1,6 +1,6 @@
 //! The last gap of an element at which a step selects a new child and the element stays valid: the
 //! one behind all children without more ado, where there is no position; else by one pass over them.
-ghost use Rattle.std.specs.Prelude.{◌≡◌, ◌↔◌, ◌<◌, ◌+◌, ◌^◌, ℕ, IsTrue, IfOk, None, cond, length};
+ghost use Rattle.std.specs.Prelude.{◌≡◌, ◌↔◌, ◌<◌, ◌+◌, ◌^◌, ℕ, IsTrue, None, cond, length};
 ghost use Rattle.std.specs.Option.{ForSome};
 ghost use Rattle.step_laws.specs.Selection.{Matches};
 ghost use Rattle.step_laws.specs.Places.{IsFree, Lawful, PlanIs, plan_with};
@@ -14,7 +14,7 @@ use crate::removing::part_left;
 use node_select::{Step, is_at_position};
 use std::alloc::Global;
 use usage_docs::{END, Kind, follows, is_valid_child, part_of};
-use xml_tree::{Around, Declared, Element, NoMemory, Node};
+use xml_tree::{Around, Declared, Element, Node};
 
 /// Why no gap is taken.
 #[derive(Clone, Copy, Debug, Drop)]
@@ -70,20 +70,17 @@ pub(crate) fn fits(row: Option<Kind>, itself: bool, before: u8, part: u8, after:
 }
 
 /// Whether a new child is valid by itself, where there is a row.
-///
-/// # Errors
-/// `NoMemory` for want of memory.
 pub(crate) fn is_valid_in(
     alloc: Global,
     row: Option<Kind>,
     scope: &Around<'_>,
     new: &Element,
-) -> Result<bool, NoMemory>
-    ensures tells_whether_it_is_valid { IfOk result (λ valid. ForSome row (λ kind. IsTrue valid ↔ ValidChild kind scope.now new.now)) }
+) -> bool
+    ensures tells_whether_it_is_valid { ForSome row (λ kind. IsTrue result ↔ ValidChild kind scope.now new.now) }
 {
     match row {
-        None => Ok(true),
-        Some(row) => Ok(is_valid_child(alloc, row, scope, new)),
+        None => true,
+        Some(row) => is_valid_child(alloc, row, scope, new),
     }
 }
 
@@ -247,9 +244,6 @@ fn last_gap(
 
 /// The last gap of an element, in the scope inside it and by its row, if it has one, at which the
 /// step selects the new child and the element stays valid.
-///
-/// # Errors
-/// `NoMemory` for want of memory.
 pub(crate) fn choose_gap(
     alloc: Global,
     row: Option<Kind>,
@@ -257,19 +251,19 @@ pub(crate) fn choose_gap(
     step: &Step,
     parent: &Element,
     new: &Element,
-) -> Result<Result<usize, NoGap>, NoMemory>
-    ensures chooses_the_last_gap { IfOk result (λ plan. PlanIs Unlawful Invalid (Lawful (is_named scope.now step.now) (is_tested scope.now step.now) step.now.position (kids_of parent.now) new.now)
-        (FitsIn row scope.now parent.now.content new.now) (length (kids_of parent.now) + 1) plan) }
+) -> Result<usize, NoGap>
+    ensures chooses_the_last_gap { PlanIs Unlawful Invalid (Lawful (is_named scope.now step.now) (is_tested scope.now step.now) step.now.position (kids_of parent.now) new.now)
+        (FitsIn row scope.now parent.now.content new.now) (length (kids_of parent.now) + 1) result }
 {
     if !step.names(alloc, scope, new) {
-        return Ok(Err(NoGap::Unlawful));
+        return Err(NoGap::Unlawful);
     }
     if !step.tests(alloc, scope, new) {
-        return Ok(Err(NoGap::Unlawful));
+        return Err(NoGap::Unlawful);
     }
     if !is_free(alloc, scope, step, parent) {
-        return Ok(Err(NoGap::Unlawful));
+        return Err(NoGap::Unlawful);
     }
-    let itself = is_valid_in(alloc, row, scope, new)?;
-    Ok(greatest_gap(alloc, row, scope, step, parent, new, itself))
+    let itself = is_valid_in(alloc, row, scope, new);
+    greatest_gap(alloc, row, scope, step, parent, new, itself)
 }

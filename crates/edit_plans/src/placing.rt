@@ -18,12 +18,12 @@ fn is_formed_in(
     row: Option<Kind>,
     scope: &Around<'_>,
     new: &Element,
-) -> Result<bool, NoMemory>
-    ensures tells_whether_it_is_formed { IfOk result (λ formed. IsTrue formed ↔ FormedIn row scope.now new.now) }
+) -> bool
+    ensures tells_whether_it_is_formed { IsTrue result ↔ FormedIn row scope.now new.now }
 {
     match row {
-        None => Ok(true),
-        Some(row) => Ok(is_formed_child(alloc, row, scope, new)),
+        None => true,
+        Some(row) => is_formed_child(alloc, row, scope, new),
     }
 }
 
@@ -78,7 +78,7 @@ pub(crate) fn judged_new(
     requires unique { NoClash row scope.now siblings.now.parent.now }
     ensures judges_the_new_element { IfOk result (IsJudgedIn (FormedIn row scope.now new.now) row scope.now (others siblings.now.left_out (kids_of siblings.now.parent.now)) new.now place.now gap) }
 {
-    let formed = is_formed_in(alloc, row, scope, new)?;
+    let formed = is_formed_in(alloc, row, scope, new);
     judged(alloc, row, scope, siblings, place, new, gap, formed)
 }
 
@@ -101,7 +101,7 @@ pub(crate) fn placed_in(
     requires unique { NoClash row scope.now parent.now }
     ensures answers_the_gap { IfOk result (IsPlacedIn row scope.now step.now parent.now new.now place.now) }
 {
-    match choose_gap(alloc, row, scope, step, parent, new)? {
+    match choose_gap(alloc, row, scope, step, parent, new) {
         Ok(gap) => judged_new(alloc, row, scope, &Siblings::all(parent), place, new, gap),
         Err(NoGap::Unlawful) => Ok(Err(EditRefusal::CannotInsert)),
         Err(NoGap::Invalid) => Ok(Err(EditRefusal::Faulty(Fault::Invalid))),

@@ -1,7 +1,6 @@
 -- How a command ends, by what it did.
-use Rattle.std.proofs.Common.{◌≡◌, ℕ, List, [], Option, None, Some, Result, Ok, Err, encode_utf8_all, IfOk, ◌⊎◌, inl, inr, refl, sym, subst, arith, ⊎_elim}
+use Rattle.std.proofs.Common.{◌≡◌, ℕ, List, [], Option, None, Some, Result, Ok, Err, encode_utf8_all, ◌⊎◌, inl, inr, refl, sym, subst, arith, ⊎_elim}
 use Rattle.xcap_io.proofs.Passing.{gave_none}
-use Rattle.std.specs.Result.{result_unwrap_or}
 use Rattle.tree_text.specs.Faults.{TextAnswer}
 use Rattle.xml_tree.specs.Memory.{Answered}
 use Rattle.xml_tree.specs.declared.read_error.ReadError.{ReadError}
@@ -49,11 +48,9 @@ fault_judged usage text read error fault exit is told_so answers verdict =
     let of_fault : TextAnswer 64 [] text (Err fault) = subst (λ (e : ReadError TextFault). Answered (TextAnswer 64 [] text) (Err e)) told_so of_error in
     inl (record { answer = Err fault; by_grammar = of_fault; verdict = verdict })
 
--- and that on a tree that it spells, unless memory is wanted for that
-pub tree_judged : {E : Type 0} → (usage : TheUsage) (text : List ℕ) (t : Tree) (r : Result Exit E) (exit : Exit) → TextAnswer 64 [] text (Ok t)
-    → IfOk r (λ e. AnswerVerdict usage (Ok t) e) → exit ≡ result_unwrap_or r OutOfMemory → TextVerdict usage text exit ⊎ (exit ≡ OutOfMemory)
-tree_judged usage text t (Ok e) exit read verdict is = inl (record { answer = Ok t; by_grammar = read; verdict = subst (AnswerVerdict usage (Ok t)) (sym is) verdict })
-tree_judged usage text t (Err e) exit read verdict is = inr is
+-- and that on a tree that it spells
+pub tree_judged : (usage : TheUsage) (text : List ℕ) (t : Tree) (exit : Exit) → TextAnswer 64 [] text (Ok t) → AnswerVerdict usage (Ok t) exit → TextVerdict usage text exit ⊎ (exit ≡ OutOfMemory)
+tree_judged usage text t exit read verdict = inl (record { answer = Ok t; by_grammar = read; verdict = verdict })
 
 -- ---- commands of the client
 

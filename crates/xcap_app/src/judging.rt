@@ -1,5 +1,5 @@
 // Whether a text is a document of a usage, and why it isn't.
-ghost use Rattle.std.specs.Prelude.{◌≡◌, ◌≤◌, ◌⊎◌, IfOk, Ok};
+ghost use Rattle.std.specs.Prelude.{◌≡◌, ◌≤◌, ◌⊎◌, Ok};
 ghost use Rattle.xml_tree.specs.Limits.{most_levels};
 ghost use Rattle.xml_tree.specs.Tree.{height};
 ghost use Rattle.xcap_app.specs.Verdicts.{AnswerVerdict, TextVerdict, exit_of_judgement, refusal_of_text};
@@ -7,7 +7,7 @@ ghost use Rattle.xcap_app.specs.Verdicts.{AnswerVerdict, TextVerdict, exit_of_ju
 use crate::exit::Exit;
 use crate::refusal::Refusal;
 use doc_names::Usage;
-use std::alloc::{AllocError, Global};
+use std::alloc::Global;
 use tree_text::{TextFault, read_document};
 use usage_docs::Fault;
 use xml_tree::{Element, MAX_LEVELS, ReadError};
@@ -23,12 +23,12 @@ fn exit_of(judged: Option<Fault>) -> Exit
 }
 
 // How it ends where a text spells this tree.
-fn judge_tree(alloc: Global, usage: Usage, root: &Element) -> Result<Exit, AllocError>
+fn judge_tree(alloc: Global, usage: Usage, root: &Element) -> Exit
     requires { height root.now ≤ most_levels }
-    ensures judges_the_tree { IfOk result (λ exit. AnswerVerdict usage (Ok root.now) exit) }
+    ensures judges_the_tree { AnswerVerdict usage (Ok root.now) result }
 {
     let fault = usage_docs::judge(alloc, usage, root);
-    Ok(exit_of(fault))
+    exit_of(fault)
 }
 
 // How the command ends where a text spells no tree.
@@ -50,7 +50,7 @@ pub(crate) fn judge(alloc: Global, usage: Usage, text: &[u8]) -> Exit
     ensures judges_the_text { TextVerdict usage text.now result ⊎ (result ≡ Exit.OutOfMemory) }
 {
     match read_document(alloc, text, MAX_LEVELS) {
-        Ok(root) => judge_tree(alloc, usage, &root).unwrap_or(Exit::OutOfMemory),
+        Ok(root) => judge_tree(alloc, usage, &root),
         Err(ReadError::Fault(fault)) => judge_fault(fault),
         Err(ReadError::NoMemory) => Exit::OutOfMemory,
     }

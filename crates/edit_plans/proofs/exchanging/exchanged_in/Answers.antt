@@ -9,8 +9,8 @@ use Rattle.edit_plans.proofs.exchanging.exchanged_in.Goals as goal
 pub returns-then-not-passes : goal.returns-then-not-passes
 returns-then-not-passes c = record { answers_the_exchange = inl (refl, λ p. true_false c.passes.result (c.passes.ensures.tells_whether_it_passes_both.1 p) c.if-not-passes.true) }
 
-pub returns-then-not-branch : goal.returns-then-not-branch
-returns-then-not-branch c = record { answers_the_exchange = inr (inl (refl, c.passes.ensures.tells_whether_it_passes_both.0 c.if-not-passes.false, λ f. true_false c.in_ok-fits_over.field-0 ((c.in_ok-fits_over.ensures {u = tt}).tells_whether_it_fits_over.1 f) c.if-not-branch.true)) }
+pub returns-then-not-fits_over : goal.returns-then-not-fits_over
+returns-then-not-fits_over c = record { answers_the_exchange = inr (inl (refl, c.passes.ensures.tells_whether_it_passes_both.0 c.if-not-passes.false, λ f. true_false c.fits_over.result (c.fits_over.ensures.tells_whether_it_fits_over.1 f) c.if-not-fits_over.true)) }
 
 pub judged_new-requires-clause-gap : goal.judged_new-requires-clause-gap
 judged_new-requires-clause-gap c =
@@ -32,6 +32,6 @@ returns c = record {
       let F = FormedIn row scope new in
       let same = others_without c.without-siblings.result parent j c.without-siblings.ensures.has_the_parent c.without-siblings.ensures.but_one in
       IfOk-weaker c.judged_new.result (IsJudgedIn F row scope (remove (kids_of parent) j) new q j) (IsExchangedIn row scope c.args.step.now parent j new q)
-      (λ r h. inr (inr (c.passes.ensures.tells_whether_it_passes_both.0 c.if-not-passes.false, (c.in_ok-fits_over.ensures {u = tt}).tells_whether_it_fits_over.0 c.if-not-branch.false, h)))
+      (λ r h. inr (inr (c.passes.ensures.tells_whether_it_passes_both.0 c.if-not-passes.false, c.fits_over.ensures.tells_whether_it_fits_over.0 c.if-not-fits_over.false, h)))
       (subst (λ (xs : List Tree). IfOk c.judged_new.result (IsJudgedIn F row scope xs new q j)) same c.judged_new.ensures.judges_the_new_element);
 }

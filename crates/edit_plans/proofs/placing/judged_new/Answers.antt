@@ -14,8 +14,8 @@ returns c = record {
       let q = c.args.place.now in
       let gap = c.args.gap in
       let xs = others c.args.siblings.now.left_out (kids_of c.args.siblings.now.parent.now) in
-      let F = IsTrue c.in_ok-formed.formed in
+      let F = IsTrue c.is_formed_in-formed.result in
       let G = FormedIn row scope new in
       IfOk-weaker c.judged.result (IsJudgedIn F row scope xs new q gap) (IsJudgedIn G row scope xs new q gap)
-      (λ r h. judged_by F G row scope xs new q gap r (c.in_ok-formed.ensures {u = tt}).tells_whether_it_is_formed h) c.judged.ensures.judges_by_the_form;
+      (λ r h. judged_by F G row scope xs new q gap r c.is_formed_in-formed.ensures.tells_whether_it_is_formed h) c.judged.ensures.judges_by_the_form;
 }

@@ -10,7 +10,7 @@ use Rattle.edit_plans.proofs.placing.placed_in.Goals as goal
 pub returns-in-Ok : goal.returns-in-Ok
 returns-in-Ok c = record {
   answers_the_gap =
-      let chosen = subst (λ (r : Result ℕ NoGap). Chosen c.args.row c.args.scope.now c.args.step.now c.args.parent.now c.args.new.now c.args.place.now r) c.in-Ok.is (c.in_ok-gap.ensures {u = tt}).chooses_the_last_gap in
+      let chosen = subst (λ (r : Result ℕ NoGap). Chosen c.args.row c.args.scope.now c.args.step.now c.args.parent.now c.args.new.now c.args.place.now r) c.in-Ok.is c.choose_gap.ensures.chooses_the_last_gap in
       let row = c.args.row in
       let scope = c.args.scope.now in
       let new = c.args.new.now in
@@ -24,13 +24,13 @@ returns-in-Ok c = record {
 pub returns-in-Err-Unlawful : goal.returns-in-Err-Unlawful
 returns-in-Err-Unlawful c = record {
   answers_the_gap =
-      let chosen = subst (λ (r : Result ℕ NoGap). Chosen c.args.row c.args.scope.now c.args.step.now c.args.parent.now c.args.new.now c.args.place.now r) (c.in-Err-Unlawful.is ∙ ap (λ (e : NoGap). Err e) c.in-Err-Unlawful.field-0-is) (c.in_ok-gap.ensures {u = tt}).chooses_the_last_gap in
+      let chosen = subst (λ (r : Result ℕ NoGap). Chosen c.args.row c.args.scope.now c.args.step.now c.args.parent.now c.args.new.now c.args.place.now r) (c.in-Err-Unlawful.is ∙ ap (λ (e : NoGap). Err e) c.in-Err-Unlawful.field-0-is) c.choose_gap.ensures.chooses_the_last_gap in
       placed_unlawful c.args.row c.args.scope.now c.args.step.now c.args.parent.now c.args.new.now c.args.place.now chosen;
 }
 
 pub returns-in-Err-Invalid : goal.returns-in-Err-Invalid
 returns-in-Err-Invalid c = record {
   answers_the_gap =
-      let chosen = subst (λ (r : Result ℕ NoGap). Chosen c.args.row c.args.scope.now c.args.step.now c.args.parent.now c.args.new.now c.args.place.now r) (c.in-Err-Invalid.is ∙ ap (λ (e : NoGap). Err e) c.in-Err-Invalid.field-0-is) (c.in_ok-gap.ensures {u = tt}).chooses_the_last_gap in
+      let chosen = subst (λ (r : Result ℕ NoGap). Chosen c.args.row c.args.scope.now c.args.step.now c.args.parent.now c.args.new.now c.args.place.now r) (c.in-Err-Invalid.is ∙ ap (λ (e : NoGap). Err e) c.in-Err-Invalid.field-0-is) c.choose_gap.ensures.chooses_the_last_gap in
       placed_invalid c.args.row c.args.scope.now c.args.step.now c.args.parent.now c.args.new.now c.args.place.now chosen;
 }

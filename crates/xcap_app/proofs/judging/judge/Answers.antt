@@ -6,7 +6,7 @@ use Rattle.xcap_app.proofs.Ends.{fault_judged, tree_judged}
 use Rattle.xcap_app.proofs.judging.judge.Goals as goal
 
 pub returns-in-Ok : goal.returns-in-Ok
-returns-in-Ok c = record { judges_the_text = tree_judged c.args.usage c.args.text.now c.in-Ok.root c.judge_tree.result c.unwrap_or.result c.in-Ok.ensures.answer_by_the_grammar c.judge_tree.ensures.judges_the_tree c.unwrap_or.ensures }
+returns-in-Ok c = record { judges_the_text = tree_judged c.args.usage c.args.text.now c.in-Ok.root c.judge_tree.result c.in-Ok.ensures.answer_by_the_grammar c.judge_tree.ensures.judges_the_tree }
 
 pub returns-in-Err-Fault : goal.returns-in-Err-Fault
 returns-in-Err-Fault c = record {
