@@ -128,7 +128,7 @@ fn put_element(
 {
     match read_element(alloc, tree, spot, request.body.as_slice()) {
         Ok(element) => {
-            let planned = plan_put(alloc, usage, tree, selector, spot, element)?;
+            let planned = plan_put(alloc, usage, tree, selector, spot, element);
             plan_of(alloc, planned, exists, request.closes)
         }
         Err(ReadError::Fault(fault)) => refused_element(alloc, fault, request.closes),

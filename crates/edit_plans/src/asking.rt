@@ -1,5 +1,5 @@
 //! What is asked of a parent about a change among its children, and the way down to it.
-ghost use Rattle.std.specs.Prelude.{◌≡◌, ◌∷◌, [], Some, IfOk, IsSome, option_and_then};
+ghost use Rattle.std.specs.Prelude.{◌≡◌, ◌∷◌, [], Some, IsSome, option_and_then};
 ghost use Rattle.xml_tree.specs.Tree.{at};
 ghost use Rattle.usage_docs.specs.Rows.{kind_of, root_kind};
 ghost use Rattle.edit_plans.specs.inner.Asking.{Answers, MayAsk};
@@ -14,7 +14,7 @@ use node_select::Step;
 use plan_words::EditRefusal;
 use std::alloc::Global;
 use usage_docs::{Kind, kind_of, root_kind};
-use xml_tree::{Around, Declared, Element, Name, NoMemory, Path};
+use xml_tree::{Around, Element, Name, Path, declared_in};
 
 /// What is asked of a parent about a change among its children.
 #[derive(Drop)]
@@ -38,16 +38,16 @@ fn answer_in(
     parent: &Element,
     place: &Path,
     asked: &Asked<'_>,
-) -> Result<Result<usize, EditRefusal>, NoMemory>
+) -> Result<usize, EditRefusal>
     requires asked { MayAsk row scope.now step.now parent.now place.now asked.now }
-    ensures answers_what_was_asked { IfOk result (Answers row scope.now step.now parent.now place.now asked.now) }
+    ensures answers_what_was_asked { Answers row scope.now step.now parent.now place.now asked.now result }
 {
     match *asked {
         Asked::Put(new) => placed_in(alloc, row, scope, step, parent, place, new),
         Asked::Exchange(child, new) => {
             exchanged_in(alloc, row, scope, step, parent, child, place, new)
         }
-        Asked::TakeOut(child) => Ok(removed_in(alloc, row, scope, step, parent, child)),
+        Asked::TakeOut(child) => removed_in(alloc, row, scope, step, parent, child),
         Asked::Retag(child, tag, sought) => retagged_in(
             alloc, row, scope, step, parent, child, place, tag, sought,
         ),
@@ -75,10 +75,10 @@ fn answer_below(
     way: &[usize],
     place: &Path,
     asked: &Asked<'_>,
-) -> Result<Result<usize, EditRefusal>, NoMemory>
+) -> Result<usize, EditRefusal>
     requires there { IsSome (at way.now element.now) }
     requires asked { Below (λ r c parent. MayAsk r c step.now parent place.now asked.now) row scope.now element.now way.now }
-    ensures answers_below { IfOk result (λ answer. Below (λ r c parent. Answers r c step.now parent place.now asked.now answer) row scope.now element.now way.now) }
+    ensures answers_below { Below (λ r c parent. Answers r c step.now parent place.now asked.now result) row scope.now element.now way.now }
 {
     let [number, way @ ..] = way else {
         return answer_in(alloc, row, scope, step, element, place, asked);
@@ -86,7 +86,7 @@ fn answer_below(
     match element.kid(*number) {
         None => unreachable!(),
         Some(kid) => {
-            let declared = Declared::indexed(alloc, kid.decls())?;
+            let declared = declared_in(alloc, kid.decls());
             let inside = (&*scope).inside(&declared);
             let row = row_inside(row, &inside, kid.name());
             answer_below(alloc, row, &inside, step, kid, way, place, asked)
@@ -97,9 +97,6 @@ fn answer_below(
 /// What the element at a place answers about a change among its children, which the step is to
 /// select in: a gap or the number of the child, or why there is no change. Of the document only the
 /// way to it and its children are looked at.
-///
-/// # Errors
-/// `NoMemory` for want of memory.
 pub(crate) fn answer(
     alloc: Global,
     usage: Usage,
@@ -107,12 +104,12 @@ pub(crate) fn answer(
     step: &Step,
     place: &Path,
     asked: &Asked<'_>,
-) -> Result<Result<usize, EditRefusal>, NoMemory>
+) -> Result<usize, EditRefusal>
     requires there { IsSome (at place.now root.now) }
     requires asked { Below (λ r c parent. MayAsk r c step.now parent place.now asked.now) (Some (root_kind usage)) (root.now.decls ∷ []) root.now place.now }
-    ensures answers_at_the_place { IfOk result (λ answer. Below (λ r c parent. Answers r c step.now parent place.now asked.now answer) (Some (root_kind usage)) (root.now.decls ∷ []) root.now place.now) }
+    ensures answers_at_the_place { Below (λ r c parent. Answers r c step.now parent place.now asked.now result) (Some (root_kind usage)) (root.now.decls ∷ []) root.now place.now }
 {
-    let declared = Declared::indexed(alloc, root.decls())?;
+    let declared = declared_in(alloc, root.decls());
     answer_below(
         alloc,
         Some(root_kind(usage)),

@@ -53,20 +53,20 @@ fn plan_removal(
     root: &Element,
     selector: &Selector,
     path: Path,
-) -> Result<Result<Change, EditRefusal>, NoMemory>
+) -> Result<Change, EditRefusal>
     requires ends { selector.now.end ≡ ends.Element }
     requires selected { SelectsPath selector.now.steps root.now path }
     requires faultless { Judged usage root.now None }
-    ensures plans_the_removal { IfOk result (IsDeletePlan usage root.now selector.now) }
+    ensures plans_the_removal { IsDeletePlan usage root.now selector.now result }
 {
     let Some((place, child)) = path.split_last() else {
-        return Ok(Err(EditRefusal::Faulty(Fault::Invalid)));
+        return Err(EditRefusal::Faulty(Fault::Invalid));
     };
     let [.., step] = selector.steps.as_slice() else {
         unreachable!()
     };
-    let found = answer(alloc, usage, root, step, &place, &Asked::TakeOut(child))?;
-    Ok(removed(path, found))
+    let found = answer(alloc, usage, root, step, &place, &Asked::TakeOut(child));
+    removed(path, found)
 }
 
 // The plan for an attribute of the element at a path, which the steps select.
@@ -101,7 +101,7 @@ fn plan_drop<'a>(
         local,
         value: None,
     };
-    let found = retagged(alloc, usage, root, selector, &path, element, &tag, &sought)?;
+    let found = retagged(alloc, usage, root, selector, &path, element, &tag, &sought);
     Ok(dropped(path, name, found))
 }
 
@@ -128,7 +128,7 @@ pub fn plan_delete(
         return Ok(Err(EditRefusal::NotFound));
     };
     match &selector.end {
-        End::Element => plan_removal(alloc, usage, root, selector, path),
+        End::Element => Ok(plan_removal(alloc, usage, root, selector, path)),
         End::Attribute { uri, local } => {
             plan_drop(alloc, usage, root, selector, path, uri, local)
         }

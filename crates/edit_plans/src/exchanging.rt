@@ -1,6 +1,6 @@
 //! Whether another element may stand in the place of a child, seen from the parent alone (RFC 4825,
 //! section 8.2.4).
-ghost use Rattle.std.specs.Prelude.{◌↔◌, ◌<◌, IsTrue, IfOk, length};
+ghost use Rattle.std.specs.Prelude.{◌↔◌, ◌<◌, IsTrue, length};
 ghost use Rattle.xml_tree.specs.Tree.{kids_of};
 ghost use Rattle.edit_plans.specs.inner.Asking.{HasRoom, IsExchangedIn, IsSelected};
 ghost use Rattle.edit_plans.specs.inner.Sides.{FitsOver};
@@ -13,7 +13,7 @@ use node_select::Step;
 use plan_words::EditRefusal;
 use std::alloc::Global;
 use usage_docs::{Fault, Kind};
-use xml_tree::{Around, Element, NoMemory, Path};
+use xml_tree::{Around, Element, Path};
 
 // Whether a new element is valid by itself, and may stand between the neighbours of a child.
 fn fits_over(
@@ -37,9 +37,6 @@ fn fits_over(
 /// What is answered of a new element in the place of a child, which the step selects: the parent is
 /// at this place. `CannotInsert` where the step wouldn't select the new element, `Faulty` where the
 /// parent wouldn't be valid; then as `judged`.
-///
-/// # Errors
-/// `NoMemory` for want of memory.
 pub(crate) fn exchanged_in(
     alloc: Global,
     row: Option<Kind>,
@@ -49,16 +46,16 @@ pub(crate) fn exchanged_in(
     child: usize,
     place: &Path,
     new: &Element,
-) -> Result<Result<usize, EditRefusal>, NoMemory>
+) -> Result<usize, EditRefusal>
     requires selected { IsSelected row scope.now step.now parent.now child }
     requires room { HasRoom place.now new.now }
-    ensures answers_the_exchange { IfOk result (IsExchangedIn row scope.now step.now parent.now child new.now place.now) }
+    ensures answers_the_exchange { IsExchangedIn row scope.now step.now parent.now child new.now place.now result }
 {
     if !passes(alloc, scope, step, new) {
-        return Ok(Err(EditRefusal::CannotInsert));
+        return Err(EditRefusal::CannotInsert);
     }
     if !fits_over(alloc, row, scope, parent, child, new) {
-        return Ok(Err(EditRefusal::Faulty(Fault::Invalid)));
+        return Err(EditRefusal::Faulty(Fault::Invalid));
     }
     let siblings = Siblings::without(parent, child);
     judged_new(alloc, row, scope, &siblings, place, new, child)

@@ -1,6 +1,6 @@
 //! Whether a child may have other attributes, seen from the parent alone: what is asked of its new
 //! tag (RFC 4825, sections 8.2.4 and 8.4).
-ghost use Rattle.std.specs.Prelude.{◌≡◌, ◌↔◌, Some, IsTrue, IfOk, option_map};
+ghost use Rattle.std.specs.Prelude.{◌≡◌, ◌↔◌, Some, IsTrue, option_map};
 ghost use Rattle.xml_tree.specs.Scopes.{inside};
 ghost use Rattle.std.specs.List.{find};
 ghost use Rattle.std.specs.Option.{option_copied};
@@ -14,7 +14,7 @@ use node_select::{Step, attr_in};
 use plan_words::EditRefusal;
 use std::alloc::Global;
 use usage_docs::{Fault, Kind, attrs_pass, is_formed, kind_of};
-use xml_tree::{Around, Declared, Element, NoMemory, Path, Text};
+use xml_tree::{Around, Element, Path, Text, declared_in};
 
 /// An attribute that an address names, and what it is to be found with: this value, or not at all.
 #[derive(Drop)]
@@ -45,11 +45,11 @@ fn value_of<'a>(
     scope: &Around<'_>,
     tag: &'a Element,
     sought: &Sought<'_>,
-) -> Result<Option<&'a Text>, NoMemory>
-    ensures value_of_the_attribute { IfOk result (λ value. option_copied value
-        ≡ option_map (λ a. a.value) (find (is_attr (inside scope.now tag.now) sought.now.uri.now sought.now.local.now) tag.now.attrs)) }
+) -> Option<&'a Text>
+    ensures value_of_the_attribute { option_copied result
+        ≡ option_map (λ a. a.value) (find (is_attr (inside scope.now tag.now) sought.now.uri.now sought.now.local.now) tag.now.attrs) }
 {
-    let declared = Declared::indexed(alloc, tag.decls())?;
+    let declared = declared_in(alloc, tag.decls());
     let inside = (&*scope).inside(&declared);
     match attr_in(
         &inside,
@@ -57,8 +57,8 @@ fn value_of<'a>(
         sought.uri.as_str(),
         sought.local.as_str(),
     ) {
-        Some(attr) => Ok(Some(&attr.value)),
-        None => Ok(None),
+        Some(attr) => Some(&attr.value),
+        None => None,
     }
 }
 
@@ -76,23 +76,20 @@ fn is_wanted(value: Option<&Text>, wanted: Option<&Text>) -> bool
 }
 
 /// Whether the attribute is found in a child with this tag, which the step tests, as it should be.
-///
-/// # Errors
-/// `NoMemory` for want of memory.
 pub(crate) fn is_found_in(
     alloc: Global,
     scope: &Around<'_>,
     step: &Step,
     tag: &Element,
     sought: &Sought<'_>,
-) -> Result<bool, NoMemory>
-    ensures tells_whether_it_is_found { IfOk result (λ found. IsTrue found ↔ IsFoundIn scope.now step.now tag.now sought.now) }
+) -> bool
+    ensures tells_whether_it_is_found { IsTrue result ↔ IsFoundIn scope.now step.now tag.now sought.now }
 {
     if !step.tests(alloc, scope, tag) {
-        return Ok(is_wanted(None, sought.value));
+        return is_wanted(None, sought.value);
     }
-    let value = value_of(alloc, scope, tag, sought)?;
-    Ok(is_wanted(value, sought.value))
+    let value = value_of(alloc, scope, tag, sought);
+    is_wanted(value, sought.value)
 }
 
 /// The refusal where it isn't.
@@ -106,22 +103,17 @@ pub(crate) fn unfound(wanted: Option<&Text>) -> EditRefusal
 }
 
 // Whether the attributes may be those of the element's kind, if its parent has a row and it a kind.
-fn attrs_pass_in(
-    alloc: Global,
-    row: Option<Kind>,
-    scope: &Around<'_>,
-    tag: &Element,
-) -> Result<bool, NoMemory>
-    ensures tells_whether_they_pass { IfOk result (λ passes. IsTrue passes ↔ AttrsPass row scope.now tag.now) }
+fn attrs_pass_in(alloc: Global, row: Option<Kind>, scope: &Around<'_>, tag: &Element) -> bool
+    ensures tells_whether_they_pass { IsTrue result ↔ AttrsPass row scope.now tag.now }
 {
     let Some(row) = row else {
-        return Ok(true);
+        return true;
     };
-    let declared = Declared::indexed(alloc, tag.decls())?;
+    let declared = declared_in(alloc, tag.decls());
     let inside = (&*scope).inside(&declared);
     match kind_of(row, &inside, tag.name()) {
-        None => Ok(true),
-        Some(kind) => Ok(attrs_pass(kind, &inside, tag.attrs())),
+        None => true,
+        Some(kind) => attrs_pass(kind, &inside, tag.attrs()),
     }
 }
 
@@ -136,31 +128,23 @@ fn attrs_formed(kind: Kind, tag: &Element) -> bool
 }
 
 // Whether that of the element has, if its parent has a row and it a kind.
-fn attrs_formed_in(
-    alloc: Global,
-    row: Option<Kind>,
-    scope: &Around<'_>,
-    tag: &Element,
-) -> Result<bool, NoMemory>
-    ensures tells_whether_they_are_formed { IfOk result (λ formed. IsTrue formed ↔ AttrsFormed row scope.now tag.now) }
+fn attrs_formed_in(alloc: Global, row: Option<Kind>, scope: &Around<'_>, tag: &Element) -> bool
+    ensures tells_whether_they_are_formed { IsTrue result ↔ AttrsFormed row scope.now tag.now }
 {
     let Some(row) = row else {
-        return Ok(true);
+        return true;
     };
-    let declared = Declared::indexed(alloc, tag.decls())?;
+    let declared = declared_in(alloc, tag.decls());
     let inside = (&*scope).inside(&declared);
     match kind_of(row, &inside, tag.name()) {
-        None => Ok(true),
-        Some(kind) => Ok(attrs_formed(kind, tag)),
+        None => true,
+        Some(kind) => attrs_formed(kind, tag),
     }
 }
 
 /// What is answered of a child, which the step selects, with this tag: the parent is at this place.
 /// `CannotInsert` or `CannotDelete` where the attribute wouldn't be found as it should be, `Faulty`
 /// where it may not stand or has to be there; then as `judged`.
-///
-/// # Errors
-/// `NoMemory` for want of memory.
 pub(crate) fn retagged_in(
     alloc: Global,
     row: Option<Kind>,
@@ -171,18 +155,18 @@ pub(crate) fn retagged_in(
     place: &Path,
     tag: &Element,
     sought: &Sought<'_>,
-) -> Result<Result<usize, EditRefusal>, NoMemory>
+) -> Result<usize, EditRefusal>
     requires selected { IsSelected row scope.now step.now parent.now child }
     requires room { HasRoom place.now tag.now }
-    ensures answers_the_new_tag_of_a_child { IfOk result (IsRetaggedIn row scope.now step.now parent.now child tag.now sought.now place.now) }
+    ensures answers_the_new_tag_of_a_child { IsRetaggedIn row scope.now step.now parent.now child tag.now sought.now place.now result }
 {
-    if !is_found_in(alloc, scope, step, tag, sought)? {
-        return Ok(Err(unfound(sought.value)));
+    if !is_found_in(alloc, scope, step, tag, sought) {
+        return Err(unfound(sought.value));
     }
-    if !attrs_pass_in(alloc, row, scope, tag)? {
-        return Ok(Err(EditRefusal::Faulty(Fault::Invalid)));
+    if !attrs_pass_in(alloc, row, scope, tag) {
+        return Err(EditRefusal::Faulty(Fault::Invalid));
     }
-    let formed = attrs_formed_in(alloc, row, scope, tag)?;
+    let formed = attrs_formed_in(alloc, row, scope, tag);
     let siblings = Siblings::without(parent, child);
     judged(alloc, row, scope, &siblings, place, tag, child, formed)
 }

@@ -1,6 +1,6 @@
 //! Whether another root may stand in the place of the root, or the root may have other attributes
 //! (RFC 4825, sections 8.2.4 and 8.4).
-ghost use Rattle.std.specs.Prelude.{◌≡◌, ◌≤◌, [], ℕ, List, IfOk};
+ghost use Rattle.std.specs.Prelude.{◌≡◌, ◌≤◌, [], ℕ, List};
 ghost use Rattle.xml_tree.specs.Limits.{most_levels};
 ghost use Rattle.xml_tree.specs.Tree.{height};
 ghost use Rattle.node_select.specs.Selection.{SelectsPath};
@@ -14,55 +14,49 @@ use node_select::{Step, select_steps};
 use plan_words::EditRefusal;
 use std::alloc::Global;
 use usage_docs::{Fault, attrs_pass, judge, root_kind};
-use xml_tree::{Around, Declared, Element, NoMemory};
+use xml_tree::{Around, Element, declared_in};
 
 /// What is answered of another root, where the steps select the root and nothing below it:
 /// `CannotInsert` where they wouldn't select the new one; then `Faulty` by what is in it.
-///
-/// # Errors
-/// `NoMemory` for want of memory.
 pub(crate) fn root_exchanged(
     alloc: Global,
     usage: Usage,
     steps: &[Step],
     new: &Element,
-) -> Result<Result<usize, EditRefusal>, NoMemory>
+) -> Result<usize, EditRefusal>
     requires alone { (p : List ℕ) → SelectsPath steps.now new.now p → p ≡ [] }
     requires low { height new.now ≤ most_levels }
-    ensures answers_the_new_root { IfOk result (IsTestedAs CannotInsert (SelectsPath steps.now new.now []) usage new.now) }
+    ensures answers_the_new_root { IsTestedAs CannotInsert (SelectsPath steps.now new.now []) usage new.now result }
 {
     if select_steps(alloc, new, steps).is_none() {
-        return Ok(Err(EditRefusal::CannotInsert));
+        return Err(EditRefusal::CannotInsert);
     }
     match judge(alloc, usage, new) {
-        Some(fault) => Ok(Err(EditRefusal::Faulty(fault))),
-        None => Ok(Ok(0)),
+        Some(fault) => Err(EditRefusal::Faulty(fault)),
+        None => Ok(0),
     }
 }
 
 /// What is answered of the root, which the step selects and which is valid, within the constraints
 /// and unique, with this tag: `CannotInsert` or `CannotDelete` where the attribute wouldn't be found
 /// as it should be, `Faulty` where it may not stand.
-///
-/// # Errors
-/// `NoMemory` for want of memory.
 pub(crate) fn root_retagged(
     alloc: Global,
     usage: Usage,
     step: &Step,
     tag: &Element,
     sought: &Sought<'_>,
-) -> Result<Result<usize, EditRefusal>, NoMemory>
-    ensures answers_the_new_tag_of_the_root { IfOk result (IsRootRetagged usage step.now tag.now sought.now) }
+) -> Result<usize, EditRefusal>
+    ensures answers_the_new_tag_of_the_root { IsRootRetagged usage step.now tag.now sought.now result }
 {
-    if !is_found_in(alloc, &Around::empty(), step, tag, sought)? {
-        return Ok(Err(unfound(sought.value)));
+    if !is_found_in(alloc, &Around::empty(), step, tag, sought) {
+        return Err(unfound(sought.value));
     }
-    let declared = Declared::indexed(alloc, tag.decls())?;
+    let declared = declared_in(alloc, tag.decls());
     let empty = Around::empty();
     let inside = empty.inside(&declared);
     if !attrs_pass(root_kind(usage), &inside, tag.attrs()) {
-        return Ok(Err(EditRefusal::Faulty(Fault::Invalid)));
+        return Err(EditRefusal::Faulty(Fault::Invalid));
     }
-    Ok(Ok(0))
+    Ok(0)
 }

@@ -1,6 +1,6 @@
 //! What a new element is beside its siblings (RFC 4826, sections 3.2 and 4.2): the first clash that
 //! it makes.
-ghost use Rattle.std.specs.Prelude.{◌≡◌, ◌↔◌, ◌<◌, ◌≤◌, ◌+◌, ◌++◌, ◌∷◌, ◌^◌, ℕ, List, [], chars, length, IsTrue, IfOk, IfSome, Some, None};
+ghost use Rattle.std.specs.Prelude.{◌≡◌, ◌↔◌, ◌<◌, ◌≤◌, ◌+◌, ◌++◌, ◌∷◌, ◌^◌, ℕ, List, [], chars, length, IsTrue, IfSome, Some, None};
 ghost use Rattle.xml_tree.specs.Limits.{most_levels};
 ghost use Rattle.xml_tree.specs.declared.path.TheConstants.{PATH_LIMIT};
 ghost use Rattle.xml_tree.specs.Tree.{height, kids_of};
@@ -16,7 +16,7 @@ ghost use Rattle.edit_plans.specs.declared.siblings.Twin.{Twin};
 use node_select::same_text;
 use std::alloc::Global;
 use usage_docs::{Clash, Key, Kind, clash_below, key_of, kind_of, value_of};
-use xml_tree::{Around, Declared, Element, NoMemory, Node, Path};
+use xml_tree::{Around, Declared, Element, Node, Path, declared_in};
 
 /// The siblings of a new element: the children of its parent, but for the one that it is exchanged
 /// for.
@@ -247,23 +247,18 @@ fn first_in_new(
     scope: &Around<'_>,
     new: &Element,
     here: &Path,
-) -> Result<Option<Clash>, NoMemory>
+) -> Option<Clash>
     requires { length here.now + height new.now ≤ most_levels }
-    ensures finds_the_first_in_the_new { IfOk result (λ found. IsFirst (ClashesInside row scope.now new.now) here.now found) }
+    ensures finds_the_first_in_the_new { IsFirst (ClashesInside row scope.now new.now) here.now result }
 {
-    let declared = Declared::indexed(alloc, new.decls())?;
+    let declared = declared_in(alloc, new.decls());
     let inside = (&*scope).inside(&declared);
-    let Some(kind) = kind_of(row, &inside, new.name()) else {
-        return Ok(None);
-    };
-    Ok(clash_below(alloc, kind, &inside, new, here))
+    let kind = kind_of(row, &inside, new.name())?;
+    clash_below(alloc, kind, &inside, new, here)
 }
 
 /// The first clash that a new element makes in a gap among its siblings, which don't clash: their
 /// parent is at this place.
-///
-/// # Errors
-/// `NoMemory` for want of memory.
 pub(crate) fn first_beside(
     alloc: Global,
     row: Kind,
@@ -272,25 +267,25 @@ pub(crate) fn first_beside(
     new: &Element,
     gap: usize,
     place: &Path,
-) -> Result<Option<Clash>, NoMemory>
+) -> Option<Clash>
     requires room { HasRoom place.now new.now }
     requires gap { gap ≤ length (others siblings.now.left_out (kids_of siblings.now.parent.now)) }
     requires unique { (r : List ℕ) (key : Key) → RepeatsAt row scope.now (others siblings.now.left_out (kids_of siblings.now.parent.now)) r key → ⊥ }
-    ensures finds_the_first_beside_the_new { IfOk result (λ found. IsFirst (ClashesBeside row scope.now (others siblings.now.left_out (kids_of siblings.now.parent.now)) new.now gap) place.now found) }
+    ensures finds_the_first_beside_the_new { IsFirst (ClashesBeside row scope.now (others siblings.now.left_out (kids_of siblings.now.parent.now)) new.now gap) place.now result }
 {
     let twin = twin_of(alloc, row, scope, siblings, new);
     let here = below(place, gap);
     if let Some(key) = key_before(twin, gap) {
-        return Ok(Some(Clash { path: here, key }));
+        return Some(Clash { path: here, key });
     }
-    if let Some(clash) = first_in_new(alloc, row, scope, new, &here)? {
-        return Ok(Some(clash));
+    if let Some(clash) = first_in_new(alloc, row, scope, new, &here) {
+        return Some(clash);
     }
     match twin {
-        Some(twin) => Ok(Some(Clash {
+        Some(twin) => Some(Clash {
             path: below(place, twin.child + 1),
             key: twin.key,
-        })),
-        None => Ok(None),
+        }),
+        None => None,
     }
 }

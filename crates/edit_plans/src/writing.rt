@@ -171,7 +171,7 @@ fn plan_value(
     };
     let tag = tag_written(alloc, element, &name, &value)?;
     let sought = Sought::with_value(uri, local, &value);
-    let found = retagged(alloc, usage, root, selector, path, element, &tag, &sought)?;
+    let found = retagged(alloc, usage, root, selector, path, element, &tag, &sought);
     Ok(written(path, name, value, found))
 }
 

@@ -32,12 +32,7 @@ pub enum Fault {
 }
 
 // What is found in a root, in the scope of its declarations.
-fn found_in_scope(
-    alloc: Global,
-    usage: Usage,
-    scope: &Around<'_>,
-    root: &Element,
-) -> Found
+fn found_in_scope(alloc: Global, usage: Usage, scope: &Around<'_>, root: &Element) -> Found
     requires { scope.now ≡ root.now.decls ∷ [] }
     ensures valid_as_a_root { IsTrue result.valid ↔ Schema usage root.now }
     ensures formed_as_a_root { IsTrue result.formed ↔ Constraints usage root.now }
@@ -62,12 +57,7 @@ fn found_in_root(alloc: Global, usage: Usage, root: &Element) -> Found
 }
 
 // What is found in a child, in the scope around it and by the row of its parent.
-fn found_in_child(
-    alloc: Global,
-    row: Kind,
-    scope: &Around<'_>,
-    kid: &Element,
-) -> Found
+fn found_in_child(alloc: Global, row: Kind, scope: &Around<'_>, kid: &Element) -> Found
     ensures valid_as_a_child { IsTrue result.valid ↔ ValidChild row scope.now kid.now }
     ensures formed_as_a_child { IsTrue result.formed ↔ IsNodeFormed row scope.now (Elem kid.now) }
 {
@@ -133,24 +123,14 @@ pub fn first_clash(alloc: Global, usage: Usage, root: &Element) -> Option<Clash>
 
 /// Whether a child is valid by itself, in the scope around it and by the row of its parent: it is foreign, or valid by its own
 /// row.
-pub fn is_valid_child(
-    alloc: Global,
-    row: Kind,
-    scope: &Around<'_>,
-    kid: &Element,
-) -> bool
+pub fn is_valid_child(alloc: Global, row: Kind, scope: &Around<'_>, kid: &Element) -> bool
     ensures tells_whether_the_child_is_valid { IsTrue result ↔ ValidChild row scope.now kid.now }
 {
     found_in_child(alloc, row, scope, kid).valid
 }
 
 /// Whether the references of a child, and of those in it, have their form, in the scope around it and by the row of its parent.
-pub fn is_formed_child(
-    alloc: Global,
-    row: Kind,
-    scope: &Around<'_>,
-    kid: &Element,
-) -> bool
+pub fn is_formed_child(alloc: Global, row: Kind, scope: &Around<'_>, kid: &Element) -> bool
     ensures tells_whether_the_child_is_formed { IsTrue result ↔ IsNodeFormed row scope.now (Elem kid.now) }
 {
     found_in_child(alloc, row, scope, kid).formed

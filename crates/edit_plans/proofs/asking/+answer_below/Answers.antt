@@ -1,5 +1,4 @@
 use Rattle.std.proofs.Common.{◌≡◌, ◌-◌, ◌++◌, ◌∷◌, [], ℕ, List, Option, Some, Result, IsSome, length, take, drop, get_or, slice_get, option_and_then, sym, ap, ◌∙◌, subst, rules}
-use Rattle.std.proofs.lemmas.Result.{IfOk-weaker}
 use Rattle.std.specs.Option.{option_copied}
 use Rattle.xml_tree.specs.Tree.{Tree, at, kids_of}
 use Rattle.xml_tree.specs.declared.names.Decl.{Decl}
@@ -27,9 +26,8 @@ pub returns-in_default : goal.returns-in_default
 returns-in_default t c = record {
   answers_below =
       let P : Result ℕ EditRefusal → Option Kind → Scope → Tree → Type 0 = λ x r d parent. Answers r d c.args.step.now parent c.args.place.now c.args.asked.now x in
-      IfOk-weaker c.answer_in.result (Answers c.args.row c.args.scope.now c.args.step.now c.args.element.now c.args.place.now c.args.asked.now) (λ x. Below (P x) c.args.row c.args.scope.now c.args.element.now c.args.way.now)
-      (λ x h. subst (λ (w : List ℕ). Below (P x) c.args.row c.args.scope.now c.args.element.now w) (sym (empty_way c.args.way.now c.in_default.len_below)) (below_here (P x) c.args.row c.args.scope.now c.args.element.now h))
-      c.answer_in.ensures.answers_what_was_asked;
+      let x = c.answer_in.result in
+      subst (λ (w : List ℕ). Below (P x) c.args.row c.args.scope.now c.args.element.now w) (sym (empty_way c.args.way.now c.in_default.len_below)) (below_here (P x) c.args.row c.args.scope.now c.args.element.now c.answer_in.ensures.answers_what_was_asked);
 }
 
 -- one child further
@@ -45,7 +43,7 @@ answer_below-requires t c =
     let rest = take (length way - 1) (drop 1 way) in
     let parts = way_parts way c.in-len1-up.len_at_least in
     let there : slice_get (kids_of e) n ≡ Some kid = sym c.kid.ensures.child_of_that_number ∙ ap option_copied c.in-Some.is in
-    let scope_is : c.inside-inside.result ≡ inside scope kid = c.inside-inside.ensures.adds_the_declarations ∙ ap (λ (ds : List Decl). scope ++ ds ∷ []) ((c.in_ok-declared-in-Some.ensures {u = tt}).holds_the_declarations ∙ c.decls.ensures.lends_the_declarations) in
+    let scope_is : c.inside-inside.result ≡ inside scope kid = c.inside-inside.ensures.adds_the_declarations ∙ ap (λ (ds : List Decl). scope ++ ds ∷ []) (c.declared_in-declared.ensures.holds_the_declarations ∙ c.decls.ensures.lends_the_declarations) in
     let row_is : c.row_inside-row.result ≡ option_and_then (λ kind. kind_of kind (inside scope kid) kid.name) row =
     c.row_inside-row.ensures.row_of_the_child
     ∙ ap (λ (d : List (List Decl)). option_and_then (λ kind. kind_of kind d c.name.result.now) row) scope_is
@@ -68,14 +66,13 @@ returns t c = record {
       let n = get_or way 0 0 in
       let rest = take (length way - 1) (drop 1 way) in
       let there : slice_get (kids_of e) n ≡ Some kid = sym c.kid.ensures.child_of_that_number ∙ ap option_copied c.in-Some.is in
-      let scope_is : c.inside-inside.result ≡ inside scope kid = c.inside-inside.ensures.adds_the_declarations ∙ ap (λ (ds : List Decl). scope ++ ds ∷ []) ((c.in_ok-declared-in-Some.ensures {u = tt}).holds_the_declarations ∙ c.decls.ensures.lends_the_declarations) in
+      let scope_is : c.inside-inside.result ≡ inside scope kid = c.inside-inside.ensures.adds_the_declarations ∙ ap (λ (ds : List Decl). scope ++ ds ∷ []) (c.declared_in-declared.ensures.holds_the_declarations ∙ c.decls.ensures.lends_the_declarations) in
       let row_is : c.row_inside-row.result ≡ option_and_then (λ kind. kind_of kind (inside scope kid) kid.name) row =
       c.row_inside-row.ensures.row_of_the_child
       ∙ ap (λ (d : List (List Decl)). option_and_then (λ kind. kind_of kind d c.name.result.now) row) scope_is
       ∙ ap (λ (m : Name). option_and_then (λ kind. kind_of kind (inside scope kid) m) row) c.name.ensures.lends_the_name in
-      IfOk-weaker c.answer_below.result (λ x. Below (P x) c.row_inside-row.result c.inside-inside.result kid rest) (λ x. Below (P x) row scope e way)
-      (λ x h. subst (λ (w : List ℕ). Below (P x) row scope e w) (sym (way_parts way c.in-len1-up.len_at_least))
+      let x = c.answer_below.result in
+      subst (λ (w : List ℕ). Below (P x) row scope e w) (sym (way_parts way c.in-len1-up.len_at_least))
       (below_next (P x) row scope n rest e kid there
-      (subst (λ (o : Option Kind). Below (P x) o (inside scope kid) kid rest) row_is (subst (λ (d : List (List Decl)). Below (P x) c.row_inside-row.result d kid rest) scope_is h))))
-      c.answer_below.ensures.answers_below;
+      (subst (λ (o : Option Kind). Below (P x) o (inside scope kid) kid rest) row_is (subst (λ (d : List (List Decl)). Below (P x) c.row_inside-row.result d kid rest) scope_is c.answer_below.ensures.answers_below)));
 }

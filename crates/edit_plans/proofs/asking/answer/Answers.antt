@@ -1,4 +1,4 @@
-use Rattle.std.proofs.Common.{◌≡◌, ◌++◌, ◌∷◌, [], ℕ, List, Option, Some, Result, IfOk, sym, ap, ◌∙◌, subst}
+use Rattle.std.proofs.Common.{◌≡◌, ◌++◌, ◌∷◌, [], ℕ, List, Option, Some, Result, sym, ap, ◌∙◌, subst}
 use Rattle.xml_tree.specs.Tree.{Tree}
 use Rattle.xml_tree.specs.declared.names.Decl.{Decl}
 use Rattle.usage_docs.specs.declared.rows.Kind.{Kind}
@@ -12,7 +12,7 @@ pub answer_below-requires-clause-asked : goal.answer_below-requires-clause-asked
 answer_below-requires-clause-asked c =
     let P : Option Kind → Scope → Tree → Type 0 = λ r d parent. MayAsk r d c.args.step.now parent c.args.place.now c.args.asked.now in
     let t = c.args.root.now in
-    let scope : c.inside.result ≡ t.decls ∷ [] = c.inside.ensures.adds_the_declarations ∙ ap (λ (d : List (List Decl)). d ++ c.in_ok-declared.declared ∷ []) c.empty.ensures.declares_nothing ∙ ap (λ (ds : List Decl). ds ∷ []) ((c.in_ok-declared.ensures {u = tt}).holds_the_declarations ∙ c.decls.ensures.lends_the_declarations) in
+    let scope : c.inside.result ≡ t.decls ∷ [] = c.inside.ensures.adds_the_declarations ∙ ap (λ (d : List (List Decl)). d ++ c.declared_in-declared.result ∷ []) c.empty.ensures.declares_nothing ∙ ap (λ (ds : List Decl). ds ∷ []) (c.declared_in-declared.ensures.holds_the_declarations ∙ c.decls.ensures.lends_the_declarations) in
     subst (λ (k : Kind). Below P (Some k) c.inside.result t c.numbers.result.now) (sym c.root_kind.ensures.kind_of_the_root)
     (subst (λ (d : List (List Decl)). Below P (Some (root_kind c.args.usage)) d t c.numbers.result.now) (sym scope)
     (subst (λ (q : List ℕ). Below P (Some (root_kind c.args.usage)) (t.decls ∷ []) t q) (sym c.numbers.ensures.lends_the_numbers) c.requires.asked))
@@ -22,8 +22,8 @@ returns c = record {
   answers_at_the_place =
       let P : Result ℕ EditRefusal → Option Kind → Scope → Tree → Type 0 = λ x r d parent. Answers r d c.args.step.now parent c.args.place.now c.args.asked.now x in
       let t = c.args.root.now in
-      let scope : c.inside.result ≡ t.decls ∷ [] = c.inside.ensures.adds_the_declarations ∙ ap (λ (d : List (List Decl)). d ++ c.in_ok-declared.declared ∷ []) c.empty.ensures.declares_nothing ∙ ap (λ (ds : List Decl). ds ∷ []) ((c.in_ok-declared.ensures {u = tt}).holds_the_declarations ∙ c.decls.ensures.lends_the_declarations) in
-      subst (λ (q : List ℕ). IfOk c.answer_below.result (λ x. Below (P x) (Some (root_kind c.args.usage)) (t.decls ∷ []) t q)) c.numbers.ensures.lends_the_numbers
-      (subst (λ (d : List (List Decl)). IfOk c.answer_below.result (λ x. Below (P x) (Some (root_kind c.args.usage)) d t c.numbers.result.now)) scope
-      (subst (λ (k : Kind). IfOk c.answer_below.result (λ x. Below (P x) (Some k) c.inside.result t c.numbers.result.now)) c.root_kind.ensures.kind_of_the_root c.answer_below.ensures.answers_below));
+      let scope : c.inside.result ≡ t.decls ∷ [] = c.inside.ensures.adds_the_declarations ∙ ap (λ (d : List (List Decl)). d ++ c.declared_in-declared.result ∷ []) c.empty.ensures.declares_nothing ∙ ap (λ (ds : List Decl). ds ∷ []) (c.declared_in-declared.ensures.holds_the_declarations ∙ c.decls.ensures.lends_the_declarations) in
+      subst (λ (q : List ℕ). Below (P c.answer_below.result) (Some (root_kind c.args.usage)) (t.decls ∷ []) t q) c.numbers.ensures.lends_the_numbers
+      (subst (λ (d : List (List Decl)). Below (P c.answer_below.result) (Some (root_kind c.args.usage)) d t c.numbers.result.now) scope
+      (subst (λ (k : Kind). Below (P c.answer_below.result) (Some k) c.inside.result t c.numbers.result.now) c.root_kind.ensures.kind_of_the_root c.answer_below.ensures.answers_below));
 }

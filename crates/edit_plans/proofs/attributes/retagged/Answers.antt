@@ -1,14 +1,11 @@
-use Rattle.std.proofs.Common.{◌≡◌, ◌++◌, ◌∷◌, [], ℕ, List, Some, IfOk, sym, ap, ◌∙◌, subst}
+use Rattle.std.proofs.Common.{◌≡◌, ◌++◌, ◌∷◌, [], ℕ, List, Some, sym, ap, ◌∙◌, subst}
 use Rattle.std.proofs.lemmas.Option.{same_Some}
-use Rattle.std.proofs.lemmas.Result.{IfOk-weaker}
 use Rattle.xml_tree.specs.Tree.{Tree, at}
 use Rattle.xml_tree.specs.Scopes.{scope_at}
 use Rattle.node_select.specs.Selection.{SelectsPath}
 use Rattle.usage_docs.specs.Kinds.{kind_at}
-use Rattle.usage_docs.specs.Rows.{root_kind}
 use Rattle.plan_words.specs.Tags.{tag_with}
 use Rattle.edit_plans.specs.inner.Asking.{HasRoom, IsRootRetagged, IsRetaggedIn, IsSelected}
-use Rattle.edit_plans.specs.inner.Parents.{Below}
 use Rattle.edit_plans.specs.inner.Tested.{IsRetaggedAt}
 use Rattle.edit_plans.proofs.PlanAt.{empty_path, ends_with, may_select, parent_of, parent_there}
 use Rattle.edit_plans.proofs.PlanTag.{retag_by, root_alone, root_retag_is, tag_room}
@@ -32,11 +29,10 @@ returns-in_default-split_last c = record {
       let sel = subst (λ (p : List ℕ). SelectsPath steps t p) root c.requires.selected in
       let same : t ≡ element = same_Some t element (subst (λ (p : List ℕ). at p t ≡ Some element) root c.requires.there) in
       let is : tag ≡ tag_with tag.attrs t = c.requires.tag ∙ ap (tag_with tag.attrs) (sym same) in
-      subst (λ (p : List ℕ). IfOk c.root_retagged.result (IsRetaggedAt u t selector p element tag.attrs sought)) (sym root)
-      (subst (λ (x : Tree). IfOk c.root_retagged.result (IsRetaggedAt u t selector [] x tag.attrs sought)) same
-      (IfOk-weaker c.root_retagged.result (IsRootRetagged u s tag sought) (IsRetaggedAt u t selector [] t tag.attrs sought)
-      (λ r h. root_retag_is u t selector s tag.attrs sought r (root_alone t steps e.0 s e.1 sel) sel c.requires.ends c.requires.faultless (subst (λ (x : Tree). IsRootRetagged u s x sought r) is h))
-      c.root_retagged.ensures.answers_the_new_tag_of_the_root));
+      let r = c.root_retagged.result in
+      subst (λ (p : List ℕ). IsRetaggedAt u t selector p element tag.attrs sought r) (sym root)
+      (subst (λ (x : Tree). IsRetaggedAt u t selector [] x tag.attrs sought r) same
+      (root_retag_is u t selector s tag.attrs sought r (root_alone t steps e.0 s e.1 sel) sel c.requires.ends c.requires.faultless (subst (λ (x : Tree). IsRootRetagged u s x sought r) is c.root_retagged.ensures.answers_the_new_tag_of_the_root)));
 }
 
 -- below it
@@ -82,10 +78,8 @@ returns c = record {
       let sel = subst (λ (p : List ℕ). SelectsPath steps t p) at_p c.requires.selected in
       let there = subst (λ (p : List ℕ). at p t ≡ Some element) at_p c.requires.there in
       let p = parent_of t steps e.0 s q j e.1 sel in
-      IfOk-weaker c.answer.result (λ r. Below (λ row d parent. IsRetaggedIn row d s parent j tag sought q r) (Some (root_kind u)) (t.decls ∷ []) t q) (IsRetaggedAt u t selector c.args.path.now element tag.attrs sought)
-      (λ r told.
-      let answered = subst (λ (x : Tree). (parent : Tree) → at q t ≡ Some parent → IsRetaggedIn (kind_at u t q) (scope_at q t) s parent j x sought q r) c.requires.tag (told_at_root u t q (λ row d parent. IsRetaggedIn row d s parent j tag sought q r) told) in
+      let r = c.answer.result in
+      let answered = subst (λ (x : Tree). (parent : Tree) → at q t ≡ Some parent → IsRetaggedIn (kind_at u t q) (scope_at q t) s parent j x sought q r) c.requires.tag (told_at_root u t q (λ row d parent. IsRetaggedIn row d s parent j tag sought q r) c.answer.ensures.answers_at_the_place) in
       subst (λ (l : List ℕ). IsRetaggedAt u t selector l element tag.attrs sought r) (sym at_p)
-      (retag_by u t element selector e.0 s q j p tag.attrs sought c.requires.ends c.requires.faultless there sel r answered))
-      c.answer.ensures.answers_at_the_place;
+      (retag_by u t element selector e.0 s q j p tag.attrs sought c.requires.ends c.requires.faultless there sel r answered);
 }

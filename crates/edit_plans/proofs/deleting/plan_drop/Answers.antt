@@ -47,6 +47,6 @@ returns c = record {
       let named = (c.in_ok-name.ensures {u = tt}).makes_an_equal_name ∙ ap (λ (x : Attr). x.name) (sym c.index-attrs-place.is) in
       let without = ap (λ (x : Tree). x.attrs) (c.in_ok-tag.ensures {u = tt}).tag_without_the_attribute in
       let sought : Sought = record { uri = c.args.uri; local = c.args.local; value = None } in
-      dropped_by c.args.usage t e c.args.selector.now p uri local attr c.in_ok-name.name tag.attrs sought c.in_ok-found.found c.dropped.result
-      c.requires.ends c.requires.selected there that named without refl (c.in_ok-found.ensures {u = tt}).answers_the_new_tag c.dropped.ensures.drops_if_it_may;
+      dropped_by c.args.usage t e c.args.selector.now p uri local attr c.in_ok-name.name tag.attrs sought c.retagged-found.result c.dropped.result
+      c.requires.ends c.requires.selected there that named without refl c.retagged-found.ensures.answers_the_new_tag c.dropped.ensures.drops_if_it_may;
 }

@@ -55,6 +55,6 @@ returns c = record {
       let e = ends_with steps c.as_slice.result.now s c.as_slice.ensures.lends_the_items c.in-len1-up.len_at_least c.step-item.is in
       let sel = subst (λ (p : List ℕ). SelectsPath steps t p) at_p c.requires.selected in
       let p = parent_of t steps e.0 s q j e.1 sel in
-      let found = told_at_root c.args.usage t q (λ row scope parent. IsRemovedIn row scope s parent j c.in_ok-found.found) (c.in_ok-found.ensures {u = tt}).answers_at_the_place in
-      removal_by c.args.usage t selector e.0 s q j p c.requires.ends c.requires.faultless sel c.in_ok-found.found c.removed.result found (c.removed.ensures.removes_if_it_may ∙ ap (λ (l : List ℕ). made (Remove l) c.in_ok-found.found) at_p);
+      let found = told_at_root c.args.usage t q (λ row scope parent. IsRemovedIn row scope s parent j c.answer-found.result) c.answer-found.ensures.answers_at_the_place in
+      removal_by c.args.usage t selector e.0 s q j p c.requires.ends c.requires.faultless sel c.answer-found.result c.removed.result found (c.removed.ensures.removes_if_it_may ∙ ap (λ (l : List ℕ). made (Remove l) c.answer-found.result) at_p);
 }

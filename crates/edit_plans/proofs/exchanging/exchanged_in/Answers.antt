@@ -1,7 +1,6 @@
-use Rattle.std.proofs.Common.{inl, inr, List, IfOk, remove, refl, subst}
-use Rattle.xml_tree.specs.Tree.{Tree, kids_of}
-use Rattle.std.proofs.lemmas.Result.{IfOk-weaker}
-use Rattle.edit_plans.specs.inner.Asking.{FormedIn, IsExchangedIn, IsJudgedIn}
+use Rattle.std.proofs.Common.{inl, inr, List, refl, subst}
+use Rattle.xml_tree.specs.Tree.{Tree}
+use Rattle.edit_plans.specs.inner.Asking.{FormedIn, IsJudgedIn}
 use Rattle.edit_plans.proofs.Judging.{true_false}
 use Rattle.edit_plans.proofs.SiblingLemmas.{clean_by, gap_without, others_without}
 use Rattle.edit_plans.proofs.exchanging.exchanged_in.Goals as goal
@@ -31,7 +30,5 @@ returns c = record {
       let j = c.args.child in
       let F = FormedIn row scope new in
       let same = others_without c.without-siblings.result parent j c.without-siblings.ensures.has_the_parent c.without-siblings.ensures.but_one in
-      IfOk-weaker c.judged_new.result (IsJudgedIn F row scope (remove (kids_of parent) j) new q j) (IsExchangedIn row scope c.args.step.now parent j new q)
-      (λ r h. inr (inr (c.passes.ensures.tells_whether_it_passes_both.0 c.if-not-passes.false, c.fits_over.ensures.tells_whether_it_fits_over.0 c.if-not-fits_over.false, h)))
-      (subst (λ (xs : List Tree). IfOk c.judged_new.result (IsJudgedIn F row scope xs new q j)) same c.judged_new.ensures.judges_the_new_element);
+      inr (inr (c.passes.ensures.tells_whether_it_passes_both.0 c.if-not-passes.false, c.fits_over.ensures.tells_whether_it_fits_over.0 c.if-not-fits_over.false, subst (λ (xs : List Tree). IsJudgedIn F row scope xs new q j c.judged_new.result) same c.judged_new.ensures.judges_the_new_element));
 }

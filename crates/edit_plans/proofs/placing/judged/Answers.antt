@@ -30,7 +30,7 @@ pub returns-in-Some-2 : goal.returns-in-Some-2
 returns-in-Some-2 c = record {
   judges_by_the_form =
       let xs = others c.args.siblings.now.left_out (kids_of c.args.siblings.now.parent.now) in
-      let first = subst (λ (o : Option Clash). IsFirst (ClashesBeside c.in-Some.kind c.args.scope.now xs c.args.new.now c.args.gap) c.args.place.now o) c.in-Some-2.is (c.in_ok-clash.ensures {u = tt}).finds_the_first_beside_the_new in
+      let first = subst (λ (o : Option Clash). IsFirst (ClashesBeside c.in-Some.kind c.args.scope.now xs c.args.new.now c.args.gap) c.args.place.now o) c.in-Some-2.is c.first_beside.ensures.finds_the_first_beside_the_new in
       judged_clash (IsTrue c.args.formed) c.args.row c.args.scope.now xs c.args.new.now c.args.place.now c.args.gap c.in-Some.kind c.in-Some-2.clash c.in-Some.is c.if-not-formed.false first;
 }
 
@@ -38,6 +38,6 @@ pub returns-in-None : goal.returns-in-None
 returns-in-None c = record {
   judges_by_the_form =
       let xs = others c.args.siblings.now.left_out (kids_of c.args.siblings.now.parent.now) in
-      let first = subst (λ (o : Option Clash). IsFirst (ClashesBeside c.in-Some.kind c.args.scope.now xs c.args.new.now c.args.gap) c.args.place.now o) c.in-None.is (c.in_ok-clash.ensures {u = tt}).finds_the_first_beside_the_new in
+      let first = subst (λ (o : Option Clash). IsFirst (ClashesBeside c.in-Some.kind c.args.scope.now xs c.args.new.now c.args.gap) c.args.place.now o) c.in-None.is c.first_beside.ensures.finds_the_first_beside_the_new in
       judged_ok (IsTrue c.args.formed) c.args.row c.args.scope.now xs c.args.new.now c.args.place.now c.args.gap c.in-Some.kind c.in-Some.is c.if-not-formed.false first;
 }

@@ -1,7 +1,6 @@
 use Rattle.std.proofs.Common.{IsTrue}
-use Rattle.std.proofs.lemmas.Result.{IfOk-weaker}
 use Rattle.xml_tree.specs.Tree.{kids_of}
-use Rattle.edit_plans.specs.inner.Asking.{FormedIn, IsJudgedIn, others}
+use Rattle.edit_plans.specs.inner.Asking.{FormedIn, others}
 use Rattle.edit_plans.proofs.Judging.{judged_by}
 use Rattle.edit_plans.proofs.placing.judged_new.Goals as goal
 
@@ -16,6 +15,5 @@ returns c = record {
       let xs = others c.args.siblings.now.left_out (kids_of c.args.siblings.now.parent.now) in
       let F = IsTrue c.is_formed_in-formed.result in
       let G = FormedIn row scope new in
-      IfOk-weaker c.judged.result (IsJudgedIn F row scope xs new q gap) (IsJudgedIn G row scope xs new q gap)
-      (λ r h. judged_by F G row scope xs new q gap r c.is_formed_in-formed.ensures.tells_whether_it_is_formed h) c.judged.ensures.judges_by_the_form;
+      judged_by F G row scope xs new q gap c.judged.result c.is_formed_in-formed.ensures.tells_whether_it_is_formed c.judged.ensures.judges_by_the_form;
 }

@@ -1,7 +1,6 @@
-use Rattle.std.proofs.Common.{◌∙◌, ap, ℕ, List, Result, Err, IfOk, subst}
-use Rattle.std.proofs.lemmas.Result.{IfOk-weaker}
+use Rattle.std.proofs.Common.{◌∙◌, ap, ℕ, List, Result, Err, subst}
 use Rattle.xml_tree.specs.Tree.{Tree, kids_of}
-use Rattle.edit_plans.specs.inner.Asking.{FormedIn, IsJudgedIn, IsPlacedIn}
+use Rattle.edit_plans.specs.inner.Asking.{FormedIn, IsJudgedIn}
 use Rattle.edit_plans.specs.declared.gaps.NoGap.{NoGap}
 use Rattle.edit_plans.proofs.Judging.{Chosen, placed_invalid, placed_ok, placed_unlawful}
 use Rattle.edit_plans.proofs.SiblingLemmas.{others_all}
@@ -15,10 +14,9 @@ returns-in-Ok c = record {
       let scope = c.args.scope.now in
       let new = c.args.new.now in
       let q = c.args.place.now in
-      let judged = subst (λ (xs : List Tree). IfOk c.judged_new.result (IsJudgedIn (FormedIn row scope new) row scope xs new q c.in-Ok.gap))
+      let judged = subst (λ (xs : List Tree). IsJudgedIn (FormedIn row scope new) row scope xs new q c.in-Ok.gap c.judged_new.result)
       (others_all c.all.result c.args.parent.now c.all.ensures.has_the_parent c.all.ensures.leaves_out_none) c.judged_new.ensures.judges_the_new_element in
-      IfOk-weaker c.judged_new.result (IsJudgedIn (FormedIn row scope new) row scope (kids_of c.args.parent.now) new q c.in-Ok.gap) (IsPlacedIn row scope c.args.step.now c.args.parent.now new q)
-      (λ r h. placed_ok row scope c.args.step.now c.args.parent.now new q c.in-Ok.gap r chosen h) judged;
+      placed_ok row scope c.args.step.now c.args.parent.now new q c.in-Ok.gap c.judged_new.result chosen judged;
 }
 
 pub returns-in-Err-Unlawful : goal.returns-in-Err-Unlawful

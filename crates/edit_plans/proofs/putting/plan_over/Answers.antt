@@ -30,7 +30,7 @@ returns-in_default c = record {
       let new = c.args.element in
       let root : c.args.path.now ≡ [] = empty_path c.split_last.result c.args.path.now c.split_last.ensures.only_below_the_root c.in_default.is in
       subst (λ (l : List ℕ). IsTested CannotInsert (LawfulOver steps t new l) u t (Replace l new) c.replaced.result) (sym root)
-      (root_over u t new steps c.in_ok-found.found c.replaced.result (c.in_ok-found.ensures {u = tt}).answers_the_new_root (c.replaced.ensures.replaces_if_it_may ∙ ap (λ (l : List ℕ). made (Replace l new) c.in_ok-found.found) root));
+      (root_over u t new steps c.root_exchanged-found.result c.replaced.result c.root_exchanged-found.ensures.answers_the_new_root (c.replaced.ensures.replaces_if_it_may ∙ ap (λ (l : List ℕ). made (Replace l new) c.root_exchanged-found.result) root));
 }
 
 -- what the code has: the parent and the last step
@@ -74,5 +74,5 @@ returns c = record {
       let sel = subst (λ (p : List ℕ). SelectsPath steps t p) at_p c.requires.selected in
       let p = parent_of t steps e.0 s q j e.1 sel in
       subst (λ (l : List ℕ). IsTested CannotInsert (LawfulOver steps t new l) u t (Replace l new) c.replaced-2.result) (sym at_p)
-      (over_by u t new steps e.0 s q j p c.requires.faultless sel c.in_ok-found-2.found c.replaced-2.result (told_at_root u t q (λ row d x. IsExchangedIn row d s x j new q c.in_ok-found-2.found) (c.in_ok-found-2.ensures {u = tt}).answers_at_the_place) (c.replaced-2.ensures.replaces_if_it_may ∙ ap (λ (l : List ℕ). made (Replace l new) c.in_ok-found-2.found) at_p));
+      (over_by u t new steps e.0 s q j p c.requires.faultless sel c.answer-found.result c.replaced-2.result (told_at_root u t q (λ row d x. IsExchangedIn row d s x j new q c.answer-found.result) c.answer-found.ensures.answers_at_the_place) (c.replaced-2.ensures.replaces_if_it_may ∙ ap (λ (l : List ℕ). made (Replace l new) c.answer-found.result) at_p));
 }

@@ -29,7 +29,7 @@ returns c = record {
       let parent = c.requires.parent in
       let le = c.in-len1-up.len_at_least in
       let same : c.step-item.result ≡ parent.step = c.step-item.is ∙ last_step_is steps parent.before parent.step c.step-item.result (length steps - 1) parent.are (omega arith) in
-      let placed = subst (λ (s : Step). Below (λ row d x. IsPlacedIn row d s x new q c.in_ok-gap.gap) (Some (root_kind u)) (t.decls ∷ []) t q) same (c.in_ok-gap.ensures {u = tt}).answers_at_the_place in
-      planned u t new q steps parent.before parent.step c.in_ok-gap.gap c.inserted.result parent.are parent.selects c.requires.faultless
-      (told_at_root u t q (λ row d x. IsPlacedIn row d parent.step x new q c.in_ok-gap.gap) placed) c.inserted.ensures.inserts_at_the_gap;
+      let placed = subst (λ (s : Step). Below (λ row d x. IsPlacedIn row d s x new q c.answer-gap.result) (Some (root_kind u)) (t.decls ∷ []) t q) same c.answer-gap.ensures.answers_at_the_place in
+      planned u t new q steps parent.before parent.step c.answer-gap.result c.inserted.result parent.are parent.selects c.requires.faultless
+      (told_at_root u t q (λ row d x. IsPlacedIn row d parent.step x new q c.answer-gap.result) placed) c.inserted.ensures.inserts_at_the_gap;
 }

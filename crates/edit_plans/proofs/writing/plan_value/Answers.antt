@@ -23,6 +23,6 @@ returns c = record {
       let has_name = ap (λ (d : List (List Decl)). written_name d uri local element.attrs) (sym scope) ∙ sym (c.in_ok-name.ensures {u = tt}).name_that_is_written ∙ c.in-Some-2.is in
       let attrs = ap (λ (x : Tree). x.attrs) (c.in_ok-tag.ensures {u = tt}).tag_with_the_attribute in
       let sought = c.with_value-sought in
-      value_plan c.args.usage t element c.args.selector.now p uri local c.args.value there c.in-Some-2.name c.in_ok-tag.tag.attrs sought.result c.in_ok-found.found c.written.result has_name attrs
-      sought.ensures.has_the_uri sought.ensures.has_the_local_name sought.ensures.has_the_value (c.in_ok-found.ensures {u = tt}).answers_the_new_tag c.written.ensures.writes_if_it_may;
+      value_plan c.args.usage t element c.args.selector.now p uri local c.args.value there c.in-Some-2.name c.in_ok-tag.tag.attrs sought.result c.retagged-found.result c.written.result has_name attrs
+      sought.ensures.has_the_uri sought.ensures.has_the_local_name sought.ensures.has_the_value c.retagged-found.ensures.answers_the_new_tag c.written.ensures.writes_if_it_may;
 }

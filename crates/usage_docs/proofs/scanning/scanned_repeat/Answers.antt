@@ -48,14 +48,14 @@ loop-node-preserved c =
           let kid = w.in-Elem.kid in
           let here = marked_here row scope ns i n kid child c.loop-node-test.true c.node-item.is w.in-Elem.is inv.counted in
           let none : (key : Key) → Repeats row scope (node_kids ns) child key → ⊥ =
-              elim w.match-mark_of.branch [
-                | in-Some+else-first_marked-child w' ↦
-                    (let no = w'.if-first_marked-child.false in
-                    λ key rep. repeats_none row scope (node_kids ns) child (mark w'.in-Some.kind w'.in-Some.value.now) w'.first_marked.result key (here ∙ sym w'.in-Some.ensures.mark_of_the_child) (omega (arith, no)) w'.first_marked.ensures.none_before rep)
-                | in_default-mark_of w' ↦
-                    (let said = rw w'.in_default-mark_of.is at w.mark_of.ensures.mark_of_the_child in
-                    λ key rep. unmarked row scope (node_kids ns) child key (here ∙ sym said) rep)
-              ] in
+          elim w.match-mark_of.branch [
+            | in-Some+else-first_marked-child w' ↦
+                (let no = w'.if-first_marked-child.false in
+                λ key rep. repeats_none row scope (node_kids ns) child (mark w'.in-Some.kind w'.in-Some.value.now) w'.first_marked.result key (here ∙ sym w'.in-Some.ensures.mark_of_the_child) (omega (arith, no)) w'.first_marked.ensures.none_before rep)
+            | in_default-mark_of w' ↦
+                (let said = rw w'.in_default-mark_of.is at w.mark_of.ensures.mark_of_the_child in
+                λ key rep. unmarked row scope (node_kids ns) child key (here ∙ sym said) rep)
+          ] in
           record {
             counted = counts_next row scope ns n i c.loop-node-test.true c.node-item.is child new (i + 1) (add-one i) (one_elem n kid child new w.in-Elem.is more) inv.counted;
             small = omega (arith, more, small);
