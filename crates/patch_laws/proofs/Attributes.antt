@@ -18,7 +18,7 @@ use Rattle.tree_text.proofs.PrintedValues.{both as parts}
 use Rattle.node_select.specs.Names.{attr_uri, is_unbound, prefix_uri, uri_of}
 use Rattle.node_select.specs.Selection.{is_attr}
 use Rattle.patch_words.proofs.Cutting.{cut_from_front}
-use Rattle.patch_words.specs.Applied.{attr_of, no_declaration, name_of_text, rewritten, type_of, with_prefix}
+use Rattle.patch_words.specs.Applied.{attr_of, no_declaration, rewritten, type_of, with_prefix}
 use Rattle.patch_words.specs.inner.Cutting.{cut_onto}
 use Rattle.notes.specs.Operations.{attr_name_text}
 use Rattle.patch_laws.specs.Premises.{Meets}

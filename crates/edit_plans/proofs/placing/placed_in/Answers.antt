@@ -1,5 +1,5 @@
 use Rattle.std.proofs.Common.{◌∙◌, ap, ℕ, List, Result, Err, subst}
-use Rattle.xml_tree.specs.Tree.{Tree, kids_of}
+use Rattle.xml_tree.specs.Tree.{Tree}
 use Rattle.edit_plans.specs.inner.Asking.{FormedIn, IsJudgedIn}
 use Rattle.edit_plans.specs.declared.gaps.NoGap.{NoGap}
 use Rattle.edit_plans.proofs.Judging.{Chosen, placed_invalid, placed_ok, placed_unlawful}
