@@ -112,8 +112,8 @@ fn plan_over(
 /// The change that a PUT of an element makes at the spot of its address. The document is one that
 /// its usage accepts, and the levels of the element below its place are within `MAX_LEVELS`.
 /// Neither the document nor the element is copied, and of the document only the way to the parent
-/// and the parent's children are looked at. Memory is taken for indexes alone, and the answer is
-/// the same without it.
+/// and the parent's children are looked at. Memory is taken for keys and indexes alone, and the
+/// answer is the same without it.
 ///
 /// # Errors
 /// `CannotInsert` exactly where the address wouldn't select the element afterwards, wherever it is
