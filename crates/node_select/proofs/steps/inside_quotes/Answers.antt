@@ -7,7 +7,8 @@ use Rattle.std.proofs.lemmas.Result.{err_from_is_err_and}
 use Rattle.tree_text.specs.readers.Texts.{read_reference, read_raw, reference_follows}
 use Rattle.tree_text.proofs.Loops.{start, both_ok, first_stops, goes_on, ends, is_done, is_stopped}
 use Rattle.node_select.specs.Grammar.{literal_value, more_plain}
-use Rattle.node_select.specs.readers.Members.{read_piece, value_with}
+use Rattle.tree_text.specs.readers.Members.{read_piece}
+use Rattle.node_select.specs.readers.Members.{value_with}
 use Rattle.node_select.specs.readers.Selectors.{read_inside_quotes}
 use Rattle.node_select.proofs.steps.inside_quotes.Goals as goal
 use Rattle.node_select.proofs.steps.inside_quotes.Goals.{else-loop-test, then-loop-test+then-not-reference_follows}

@@ -4,7 +4,8 @@ use denote.Shadow.{shadow}
 use Rattle.grammar_rules.specs.readers.Functions.{read_at_most}
 use Rattle.tree_text.specs.readers.Texts.{reference_follows}
 use Rattle.tree_text.proofs.Loops.{finish}
-use Rattle.node_select.specs.readers.Members.{read_piece, value_with}
+use Rattle.tree_text.specs.readers.Members.{read_piece}
+use Rattle.node_select.specs.readers.Members.{value_with}
 use Rattle.node_select.specs.readers.Selectors.{read_inside_quotes}
 use Rattle.node_select.proofs.steps.inside_quotes.Given as goal
 
