@@ -1,9 +1,11 @@
 //! Whether another root may stand in the place of the root, or the root may have other attributes
 //! (RFC 4825, sections 8.2.4 and 8.4).
-ghost use Rattle.std.specs.Prelude.{◌≡◌, ◌≤◌, [], ℕ, List};
+ghost use Rattle.std.specs.Prelude.{◌≡◌, ◌≤◌, [], ◌∷◌, ℕ, List};
 ghost use Rattle.xml_tree.specs.Limits.{most_levels};
 ghost use Rattle.xml_tree.specs.Tree.{height};
 ghost use Rattle.node_select.specs.Selection.{SelectsPath};
+ghost use Rattle.usage_docs.specs.Keys.{attrs_pass};
+ghost use Rattle.usage_docs.specs.Rows.{root_kind};
 ghost use Rattle.plan_words.specs.declared.refusal.EditRefusal.TheVariants.{CannotInsert};
 ghost use Rattle.edit_plans.specs.inner.Asking.{IsRootRetagged};
 ghost use Rattle.edit_plans.specs.inner.Tested.{IsTestedAs};
@@ -37,6 +39,18 @@ pub(crate) fn root_exchanged(
     }
 }
 
+// Whether the attributes may be those of the root.
+fn attrs_pass_in_root(alloc: Global, usage: Usage, tag: &Element) -> bool
+    ensures tells_whether_they_pass { result ≡ attrs_pass (root_kind usage) (tag.now.decls ∷ []) tag.now.attrs }
+{
+    let declared = declared_in(alloc, tag.decls());
+    attrs_pass(
+        root_kind(usage),
+        &Around::empty().inside(&declared),
+        tag.attrs(),
+    )
+}
+
 /// What is answered of the root, which the step selects and which is valid, within the constraints
 /// and unique, with this tag: `CannotInsert` or `CannotDelete` where the attribute wouldn't be found
 /// as it should be, `Faulty` where it may not stand.
@@ -52,10 +66,7 @@ pub(crate) fn root_retagged(
     if !is_found_in(alloc, &Around::empty(), step, tag, sought) {
         return Err(unfound(sought.value));
     }
-    let declared = declared_in(alloc, tag.decls());
-    let empty = Around::empty();
-    let inside = empty.inside(&declared);
-    if !attrs_pass(root_kind(usage), &inside, tag.attrs()) {
+    if !attrs_pass_in_root(alloc, usage, tag) {
         return Err(EditRefusal::Faulty(Fault::Invalid));
     }
     Ok(0)

@@ -19,8 +19,8 @@ returns-in_default c = record {
       delete_by c.args.usage t selector c.args.path (Err (refusals.Faulty Invalid)) c.requires.ends c.requires.selected (subst (λ (p : List ℕ). IsRemoval c.args.usage t selector p (Err (refusals.Faulty Invalid))) (sym root) refl);
 }
 
-pub answer-requires-clause-there : goal.answer-requires-clause-there
-answer-requires-clause-there c =
+pub answer-found-requires-clause-there : goal.answer-found-requires-clause-there
+answer-found-requires-clause-there c =
     let t = c.args.root.now in
     let steps = c.args.selector.now.steps in
     let q = c.in-Some.place in
@@ -30,8 +30,8 @@ answer-requires-clause-there c =
     let e = ends_with steps c.as_slice.result.now s c.as_slice.ensures.lends_the_items c.in-len1-up.len_at_least c.step-item.is in
     parent_there t steps e.0 s q j (parent_of t steps e.0 s q j e.1 (subst (λ (p : List ℕ). SelectsPath steps t p) at_p c.requires.selected))
 
-pub answer-requires-clause-asked : goal.answer-requires-clause-asked
-answer-requires-clause-asked c =
+pub answer-found-requires-clause-asked : goal.answer-found-requires-clause-asked
+answer-found-requires-clause-asked c =
     let t = c.args.root.now in
     let steps = c.args.selector.now.steps in
     let q = c.in-Some.place in

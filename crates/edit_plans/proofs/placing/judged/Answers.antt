@@ -26,12 +26,12 @@ pub first_beside-requires-clause-unique : goal.first_beside-requires-clause-uniq
 first_beside-requires-clause-unique c =
     clean_others c.in-Some.kind c.args.scope.now c.args.siblings.now.left_out (kids_of c.args.siblings.now.parent.now) (c.requires.unique c.in-Some.kind c.in-Some.is)
 
-pub returns-in-Some-2 : goal.returns-in-Some-2
-returns-in-Some-2 c = record {
+pub returns-in-Some-first_beside : goal.returns-in-Some-first_beside
+returns-in-Some-first_beside c = record {
   judges_by_the_form =
       let xs = others c.args.siblings.now.left_out (kids_of c.args.siblings.now.parent.now) in
-      let first = subst (λ (o : Option Clash). IsFirst (ClashesBeside c.in-Some.kind c.args.scope.now xs c.args.new.now c.args.gap) c.args.place.now o) c.in-Some-2.is c.first_beside.ensures.finds_the_first_beside_the_new in
-      judged_clash (IsTrue c.args.formed) c.args.row c.args.scope.now xs c.args.new.now c.args.place.now c.args.gap c.in-Some.kind c.in-Some-2.clash c.in-Some.is c.if-not-formed.false first;
+      let first = subst (λ (o : Option Clash). IsFirst (ClashesBeside c.in-Some.kind c.args.scope.now xs c.args.new.now c.args.gap) c.args.place.now o) c.in-Some-first_beside.is c.first_beside.ensures.finds_the_first_beside_the_new in
+      judged_clash (IsTrue c.args.formed) c.args.row c.args.scope.now xs c.args.new.now c.args.place.now c.args.gap c.in-Some.kind c.in-Some-first_beside.clash c.in-Some.is c.if-not-formed.false first;
 }
 
 pub returns-in-None : goal.returns-in-None

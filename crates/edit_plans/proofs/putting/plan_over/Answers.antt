@@ -13,8 +13,8 @@ use Rattle.edit_plans.proofs.Ways.{tell_at_root, told_at_root}
 use Rattle.edit_plans.proofs.putting.plan_over.Goals as goal
 
 -- the root
-pub root_exchanged-requires-clause-alone : goal.root_exchanged-requires-clause-alone
-root_exchanged-requires-clause-alone c =
+pub root_exchanged-found-requires-clause-alone : goal.root_exchanged-found-requires-clause-alone
+root_exchanged-found-requires-clause-alone c =
     let t = c.args.root.now in
     let steps = c.args.steps.now in
     let root : c.args.path.now ≡ [] = empty_path c.split_last.result c.args.path.now c.split_last.ensures.only_below_the_root c.in_default.is in
@@ -34,8 +34,8 @@ returns-in_default c = record {
 }
 
 -- what the code has: the parent and the last step
-pub answer-requires-clause-there : goal.answer-requires-clause-there
-answer-requires-clause-there c =
+pub answer-found-requires-clause-there : goal.answer-found-requires-clause-there
+answer-found-requires-clause-there c =
     let t = c.args.root.now in
     let steps = c.args.steps.now in
     let q = c.in-Some.place in
@@ -45,8 +45,8 @@ answer-requires-clause-there c =
     let e = ends_with steps steps s refl c.in-len1-up.len_at_least c.step-item.is in
     parent_there t steps e.0 s q j (parent_of t steps e.0 s q j e.1 (subst (λ (p : List ℕ). SelectsPath steps t p) at_p c.requires.selected))
 
-pub answer-requires-clause-asked : goal.answer-requires-clause-asked
-answer-requires-clause-asked c =
+pub answer-found-requires-clause-asked : goal.answer-found-requires-clause-asked
+answer-found-requires-clause-asked c =
     let t = c.args.root.now in
     let steps = c.args.steps.now in
     let q = c.in-Some.place in

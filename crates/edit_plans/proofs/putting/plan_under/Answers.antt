@@ -8,11 +8,11 @@ use Rattle.edit_plans.proofs.PlanUnder.{parent_is_there, planned, last_step_is}
 use Rattle.edit_plans.proofs.Ways.{tell_at_root, told_at_root}
 use Rattle.edit_plans.proofs.putting.plan_under.Goals as goal
 
-pub answer-requires-clause-there : goal.answer-requires-clause-there
-answer-requires-clause-there c = parent_is_there c.args.root.now c.args.place.now c.requires.parent.before c.requires.parent.selects
+pub answer-gap-requires-clause-there : goal.answer-gap-requires-clause-there
+answer-gap-requires-clause-there c = parent_is_there c.args.root.now c.args.place.now c.requires.parent.before c.requires.parent.selects
 
-pub answer-requires-clause-asked : goal.answer-requires-clause-asked
-answer-requires-clause-asked c =
+pub answer-gap-requires-clause-asked : goal.answer-gap-requires-clause-asked
+answer-gap-requires-clause-asked c =
     let u = c.args.usage in
     let t = c.args.root.now in
     let q = c.args.place.now in
