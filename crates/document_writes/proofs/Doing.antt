@@ -1,11 +1,11 @@
 -- What a decision comes to.
-use Rattle.std.proofs.Common.{◌≡◌, Bool, Some, Result, Ok, Err, IfOk, sym, ap, ◌∙◌}
+use Rattle.std.proofs.Common.{◌≡◌, Bool, Some, Result, Ok, Err, IfErr, IfOk, sym, ap, subst, ◌∙◌}
 use Rattle.doc_names.specs.declared.doc_id.DocId.{DocId}
 use Rattle.edit_ops.specs.declared.change.Change.{Change}
 use Rattle.notes.specs.Notes.{Note}
 use Rattle.reply_text.specs.Heads.{Sent}
-use Rattle.store_core.specs.Changing.{changing}
-use Rattle.store_core.specs.Preparing.{Readied}
+use Rattle.store_core.specs.Changing.{changing, content_after}
+use Rattle.store_core.specs.Preparing.{IsReady, Readied}
 use Rattle.store_core.specs.Stored.{Stored}
 use Rattle.store_core.specs.declared.refusal.StoreRefusal.{StoreRefusal}
 use Rattle.store_core.specs.Held.{Stock as Content}
@@ -13,7 +13,6 @@ use Rattle.machine_words.specs.Answers.{Answer, unchanged}
 use Rattle.machine_words.specs.Writing.{change_answer, refused}
 use Rattle.machine_words.proofs.Changed.{as_the_store, told_by_store}
 use Rattle.document_writes.specs.Deciding.{Decides, answer_of}
-use Rattle.document_writes.specs.inner.Making.{IsPrepared}
 use Rattle.document_writes.specs.declared.decision.Decision.{Decision}
 use Rattle.document_writes.specs.declared.decision.Decision.TheVariants.{Stays, Changes}
 
@@ -35,16 +34,20 @@ module _ (c : Content) (id : DocId) (change : Change) (closes : Bool) (reply_to 
   abbrev Is : Answer → Type 0
   Is a = a ≡ change_answer c id change closes reply_to
 
-  -- a change that has all its memory
-  pub makes : (reply : Sent) (name : DocId) (p : Readied) → IsPrepared c id change s name p → reply ≡ reply_to p.note → Decides Is s (Changes reply name p)
-  makes reply name p m is =
-      let with_reply : Sent → Answer = λ r. record { reply = r; made = Some (name, p.note) } in
+  -- what the store was asked to prepare has all its memory
+  pub makes : (reply : Sent) (r : Result Readied StoreRefusal) (p : Readied) → r ≡ Ok p
+      → IfOk r (λ q. (q.doc ≡ id) × (changing c id change ≡ Ok (q.note, content_after c id change)) × (q.note.change ≡ change)) → IfOk r (λ q. IsReady s q) → reply ≡ reply_to p.note → Decides Is s (Changes reply p)
+  makes reply r p is prepared ready told =
+      let of_p = subst (λ (x : Result Readied StoreRefusal). IfOk x (λ q. (q.doc ≡ id) × (changing c id change ≡ Ok (q.note, content_after c id change)) × (q.note.change ≡ change))) is prepared in
+      let with_reply : Sent → Answer = λ r. record { reply = r; made = Some (p.doc, p.note) } in
       let with_name : DocId → Answer = λ d. record { reply = reply_to p.note; made = Some (d, p.note) } in
       record {
-        answers = ap with_reply is ∙ ap with_name m.named ∙ sym (as_the_store c id change closes reply_to ∙ ap (λ (x : Result (Note × Content) StoreRefusal). told_by_store id closes reply_to x) m.answered);
-        ready = (m.of_document ∙ sym m.named, m.ready);
+        answers = ap with_reply told ∙ ap with_name of_p.0 ∙ sym (as_the_store c id change closes reply_to ∙ ap (λ (x : Result (Note × Content) StoreRefusal). told_by_store id closes reply_to x) of_p.1);
+        ready = subst (λ (x : Result Readied StoreRefusal). IfOk x (λ q. IsReady s q)) is ready;
       }
 
   -- a change that is refused
-  pub refuses : (reply : Sent) (refusal : StoreRefusal) → changing c id change ≡ Err refusal → reply ≡ refused refusal closes → Decides Is s (Stays reply)
-  refuses reply refusal e told = stays Is s reply (ap unchanged told ∙ sym (as_the_store c id change closes reply_to ∙ ap (λ (x : Result (Note × Content) StoreRefusal). told_by_store id closes reply_to x) e))
+  pub refuses : (reply : Sent) (r : Result Readied StoreRefusal) (refusal : StoreRefusal) → r ≡ Err refusal → IfErr r (λ e. changing c id change ≡ Err e) → reply ≡ refused refusal closes → Decides Is s (Stays reply)
+  refuses reply r refusal is against told =
+      let e = subst (λ (x : Result Readied StoreRefusal). IfErr x (λ e. changing c id change ≡ Err e)) is against in
+      stays Is s reply (ap unchanged told ∙ sym (as_the_store c id change closes reply_to ∙ ap (λ (x : Result (Note × Content) StoreRefusal). told_by_store id closes reply_to x) e))

@@ -1,4 +1,3 @@
 -- What private functions and proofs speak of. No clause of a public call needs it.
 pub mod Bodies
-pub mod Making
 pub mod Planning

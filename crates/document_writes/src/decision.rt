@@ -1,5 +1,4 @@
 //! What a request comes to, before anything is changed.
-use doc_names::DocId;
 use reply_text::Reply;
 use store_core::Prepared;
 
@@ -8,10 +7,6 @@ use store_core::Prepared;
 pub enum Decision {
     /// It gets this reply, and changes nothing.
     Stays(Reply),
-    /// It makes this change of the document of this name, which has all its memory, and gets this reply once it is made.
-    Changes {
-        reply: Reply,
-        doc: DocId,
-        prepared: Prepared,
-    },
+    /// It makes this change, which has all its memory, and gets this reply once it is made.
+    Changes { reply: Reply, prepared: Prepared },
 }

@@ -12,7 +12,7 @@ ghost use Rattle.machine_words.specs.inner.Cases.{version_tag};
 ghost use Rattle.document_writes.specs.Deciding.{Decides};
 
 use crate::bodies::{Body, body_of};
-use crate::making::{prepare, write};
+use crate::making::write;
 use crate::refusals::refused;
 use crate::{Decision, NoMemory};
 use doc_names::{DocId, Usage};
@@ -51,19 +51,19 @@ fn put_change(exists: bool, root: Element) -> Change
 fn put_tree(
     alloc: Global,
     store: &mut Store,
-    doc: &DocId,
+    doc: DocId,
     usage: Usage,
     root: Element,
     closes: bool,
 ) -> Result<Decision, NoMemory>
-    requires readable { IsReadable doc.now }
-    requires users { IsUsers doc.now.home }
-    requires usage { usage_of doc.now.auid ≡ Some usage }
+    requires readable { IsReadable doc }
+    requires users { IsUsers doc.home }
+    requires usage { usage_of doc.auid ≡ Some usage }
     requires may_be { MayBe usage root }
-    ensures decides_the_put { IfOk result (λ d. Decides (λ a. a ≡ put_answer store.old.content doc.now closes root) store.new d) }
+    ensures decides_the_put { IfOk result (λ d. Decides (λ a. a ≡ put_answer store.old.content doc closes root) store.new d) }
     ensures holds_the_same { store.new.content ≡ store.old.content }
 {
-    let exists = tag_of(store, doc).is_some();
+    let exists = tag_of(store, &doc).is_some();
     write(alloc, store, doc, put_change(exists, root), exists, closes)
 }
 
@@ -71,15 +71,15 @@ fn put_tree(
 fn put_body(
     alloc: Global,
     store: &mut Store,
-    doc: &DocId,
+    doc: DocId,
     usage: Usage,
     request: &Request,
 ) -> Result<Decision, NoMemory>
-    requires readable { IsReadable doc.now }
-    requires users { IsUsers doc.now.home }
-    requires usage { usage_of doc.now.auid ≡ Some usage }
+    requires readable { IsReadable doc }
+    requires users { IsUsers doc.home }
+    requires usage { usage_of doc.auid ≡ Some usage }
     ensures decides_by_the_body { IfOk result (λ d.
-        Decides (PutsBody usage (document_media doc.now.auid) request.now (put_answer store.old.content doc.now request.now.closes)) store.new d) }
+        Decides (PutsBody usage (document_media doc.auid) request.now (put_answer store.old.content doc request.now.closes)) store.new d) }
     ensures holds_the_same { store.new.content ≡ store.old.content }
 {
     let media = document_media(doc.auid);
@@ -98,17 +98,17 @@ fn put_body(
 pub fn put_document(
     alloc: Global,
     store: &mut Store,
-    doc: &DocId,
+    doc: DocId,
     usage: Usage,
     request: &Request,
 ) -> Result<Decision, NoMemory>
-    requires readable { IsReadable doc.now }
-    requires users { IsUsers doc.now.home }
-    requires usage { usage_of doc.now.auid ≡ Some usage }
-    ensures decides_the_put { IfOk result (λ d. Decides (PutsDocument store.old.content doc.now usage request.now) store.new d) }
+    requires readable { IsReadable doc }
+    requires users { IsUsers doc.home }
+    requires usage { usage_of doc.auid ≡ Some usage }
+    ensures decides_the_put { IfOk result (λ d. Decides (PutsDocument store.old.content doc usage request.now) store.new d) }
     ensures holds_the_same { store.new.content ≡ store.old.content }
 {
-    let tag = tag_of(store, doc);
+    let tag = tag_of(store, &doc);
     match stop(alloc, request, tag, tag.is_some(), false)? {
         Some(reply) => Ok(Decision::Stays(reply)),
         None => put_body(alloc, store, doc, usage, request),
@@ -118,16 +118,15 @@ pub fn put_document(
 // ---- DELETE
 
 // Removes a document that is held.
-fn remove(alloc: Global, store: &mut Store, doc: &DocId, closes: bool) -> Result<Decision, NoMemory>
-    requires held { Asks store.old.content doc.now changes.RemoveDocument }
+fn remove(alloc: Global, store: &mut Store, doc: DocId, closes: bool) -> Result<Decision, NoMemory>
+    requires held { Asks store.old.content doc changes.RemoveDocument }
     ensures decides_the_removal { IfOk result (λ d.
-        Decides (λ a. a ≡ change_answer store.old.content doc.now changes.RemoveDocument closes (deleted_reply closes)) store.new d) }
+        Decides (λ a. a ≡ change_answer store.old.content doc changes.RemoveDocument closes (deleted_reply closes)) store.new d) }
     ensures holds_the_same { store.new.content ≡ store.old.content }
 {
-    match prepare(alloc, store, doc, Change::RemoveDocument)? {
-        Ok((name, prepared)) => Ok(Decision::Changes {
+    match store.prepare(doc, Change::RemoveDocument)? {
+        Ok(prepared) => Ok(Decision::Changes {
             reply: Reply::fixed(200, closes),
-            doc: name,
             prepared,
         }),
         Err(refusal) => {
@@ -141,12 +140,12 @@ fn remove(alloc: Global, store: &mut Store, doc: &DocId, closes: bool) -> Result
 fn delete_held(
     alloc: Global,
     store: &mut Store,
-    doc: &DocId,
+    doc: DocId,
     tag: u64,
     request: &Request,
 ) -> Result<Decision, NoMemory>
-    requires tagged { Some tag ≡ version_tag (version_of store.old.content doc.now) }
-    ensures decides_the_removal { IfOk result (λ d. Decides (DeletesDocument store.old.content doc.now request.now) store.new d) }
+    requires tagged { Some tag ≡ version_tag (version_of store.old.content doc) }
+    ensures decides_the_removal { IfOk result (λ d. Decides (DeletesDocument store.old.content doc request.now) store.new d) }
     ensures holds_the_same { store.new.content ≡ store.old.content }
 {
     match stop(alloc, request, Some(tag), true, false)? {
@@ -163,13 +162,13 @@ fn delete_held(
 pub fn delete_document(
     alloc: Global,
     store: &mut Store,
-    doc: &DocId,
+    doc: DocId,
     request: &Request,
 ) -> Result<Decision, NoMemory>
-    ensures decides_the_removal { IfOk result (λ d. Decides (DeletesDocument store.old.content doc.now request.now) store.new d) }
+    ensures decides_the_removal { IfOk result (λ d. Decides (DeletesDocument store.old.content doc request.now) store.new d) }
     ensures holds_the_same { store.new.content ≡ store.old.content }
 {
-    match tag_of(store, doc) {
+    match tag_of(store, &doc) {
         Some(tag) => delete_held(alloc, store, doc, tag, request),
         None => Ok(Decision::Stays(Reply::fixed(404, request.closes))),
     }

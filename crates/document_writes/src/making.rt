@@ -4,7 +4,6 @@ ghost use Rattle.store_core.specs.Asking.{Asks};
 ghost use Rattle.machine_words.specs.Answers.{tagged};
 ghost use Rattle.machine_words.specs.Writing.{change_answer, put_reply};
 ghost use Rattle.document_writes.specs.Deciding.{Decides};
-ghost use Rattle.document_writes.specs.inner.Making.{PreparesOrRefuses};
 ghost use Rattle.document_writes.specs.inner.Planning.{AsksBy, answer_by};
 
 use crate::plan::Plan;
@@ -14,32 +13,8 @@ use doc_names::DocId;
 use edit_ops::Change;
 use reply_text::Reply;
 use std::alloc::Global;
-use store_core::{Prepared, Store, StoreRefusal};
+use store_core::Store;
 use xcap_io::Bytes;
-
-/// Takes all memory of a change of a document, which isn't made yet, and copies the document's name, under which it is told; or answers the
-/// first reason against the change.
-///
-/// # Errors
-/// `NoMemory` for want of memory.
-pub(crate) fn prepare(
-    alloc: Global,
-    store: &mut Store,
-    doc: &DocId,
-    change: Change,
-) -> Result<Result<(DocId, Prepared), StoreRefusal>, NoMemory>
-    requires asked { Asks store.old.content doc.now change }
-    ensures holds_the_same { store.new.content ≡ store.old.content }
-    ensures prepared_or_refused { IfOk result (PreparesOrRefuses store.old.content doc.now change store.new) }
-{
-    match store.prepare(doc, change)? {
-        Ok(prepared) => {
-            let name = doc.copy(alloc)?;
-            Ok(Ok((name, prepared)))
-        }
-        Err(refusal) => Ok(Err(refusal)),
-    }
-}
 
 // The reply to what was written: new, or in the place of what was there.
 fn put_reply(alloc: Global, exists: bool, tag: u64, closes: bool) -> Reply
@@ -60,20 +35,19 @@ fn put_reply(alloc: Global, exists: bool, tag: u64, closes: bool) -> Reply
 pub(crate) fn write(
     alloc: Global,
     store: &mut Store,
-    doc: &DocId,
+    doc: DocId,
     change: Change,
     exists: bool,
     closes: bool,
 ) -> Result<Decision, NoMemory>
-    requires asked { Asks store.old.content doc.now change }
+    requires asked { Asks store.old.content doc change }
     ensures decides_the_change { IfOk result (λ d.
-        Decides (λ a. a ≡ change_answer store.old.content doc.now change closes (put_reply exists closes)) store.new d) }
+        Decides (λ a. a ≡ change_answer store.old.content doc change closes (put_reply exists closes)) store.new d) }
     ensures holds_the_same { store.new.content ≡ store.old.content }
 {
-    match prepare(alloc, store, doc, change)? {
-        Ok((name, prepared)) => Ok(Decision::Changes {
+    match store.prepare(doc, change)? {
+        Ok(prepared) => Ok(Decision::Changes {
             reply: put_reply(alloc, exists, prepared.note().next(), closes),
-            doc: name,
             prepared,
         }),
         Err(refusal) => {
@@ -90,12 +64,12 @@ pub(crate) fn write(
 pub(crate) fn make(
     alloc: Global,
     store: &mut Store,
-    doc: &DocId,
+    doc: DocId,
     plan: Plan,
     closes: bool,
 ) -> Result<Decision, NoMemory>
-    requires asked { AsksBy store.old.content doc.now plan }
-    ensures decides_by_the_plan { IfOk result (λ d. Decides (λ a. a ≡ answer_by store.old.content doc.now closes plan) store.new d) }
+    requires asked { AsksBy store.old.content doc plan }
+    ensures decides_by_the_plan { IfOk result (λ d. Decides (λ a. a ≡ answer_by store.old.content doc closes plan) store.new d) }
     ensures holds_the_same { store.new.content ≡ store.old.content }
 {
     match plan {

@@ -120,20 +120,20 @@ pub fn put_node(
     alloc: Global,
     store: &mut Store,
     root: &Root,
-    doc: &DocId,
+    doc: DocId,
     usage: Usage,
     selector: &Selector,
     request: &Request,
 ) -> Result<Decision, NoMemory>
-    requires usage { usage_of doc.now.auid ≡ Some usage }
+    requires usage { usage_of doc.auid ≡ Some usage }
     requires node { selector.now.end ≡ ends.Namespaces → ⊥ }
     requires writable { MayBeWritten selector.now }
-    ensures decides_the_put { IfOk result (λ d. Decides (PutsNode root.now store.old.content doc.now usage selector.now request.now) store.new d) }
+    ensures decides_the_put { IfOk result (λ d. Decides (PutsNode root.now store.old.content doc usage selector.now request.now) store.new d) }
     ensures holds_the_same { store.new.content ≡ store.old.content }
 {
-    match version_of(store, doc, usage) {
+    match version_of(store, &doc, usage) {
         Some(held) => {
-            let plan = plan_put_in(alloc, root, doc, usage, held, selector, request)?;
+            let plan = plan_put_in(alloc, root, &doc, usage, held, selector, request)?;
             make(alloc, store, doc, plan, request.closes)
         }
         None => {
@@ -233,17 +233,17 @@ fn plan_delete_in(
 pub fn delete_node(
     alloc: Global,
     store: &mut Store,
-    doc: &DocId,
+    doc: DocId,
     usage: Usage,
     selector: &Selector,
     request: &Request,
 ) -> Result<Decision, NoMemory>
-    requires usage { usage_of doc.now.auid ≡ Some usage }
+    requires usage { usage_of doc.auid ≡ Some usage }
     requires node { selector.now.end ≡ ends.Namespaces → ⊥ }
-    ensures decides_the_removal { IfOk result (λ d. Decides (DeletesNode store.old.content doc.now usage selector.now request.now) store.new d) }
+    ensures decides_the_removal { IfOk result (λ d. Decides (DeletesNode store.old.content doc usage selector.now request.now) store.new d) }
     ensures holds_the_same { store.new.content ≡ store.old.content }
 {
-    match version_of(store, doc, usage) {
+    match version_of(store, &doc, usage) {
         Some(held) => {
             let plan = plan_delete_in(alloc, usage, held, selector, request)?;
             make(alloc, store, doc, plan, request.closes)

@@ -91,12 +91,12 @@ creation-room c doc root missing h =
 
 pub creation-planned : (c : Content) (doc : DocId) (root : Tree) (number total : ℕ) (enters : List (List ℕ)) → Asks c doc (CreateDocument root) → against_tree c doc true root ≡ None → against_number c ≡ None → number ≡ c.next
     → enters ≡ addresses_in doc.auid root → total ≡ total_of c + document_len root
-    → Plans c doc (CreateDocument root) (Ok (record { doc = doc; note = record { previous = 0; next = number; bindings = []; change = CreateDocument root; fresh = false }; step = Make (entry_of number root); leaves = []; enters = enters; total = total }))
+    → Plans c doc (CreateDocument root) (Ok (record { doc = doc; note = record { previous = 0; next = number; bindings = []; change = CreateDocument root; fresh = false }; step = Make doc (entry_of number root); leaves = []; enters = enters; total = total }))
 creation-planned c doc root number total enters asks tree free numbered uris sum =
     let change = CreateDocument root in
     let found = document_in held_name c.documents doc in
     let note : ℕ → Note = λ n. record { previous = 0; next = n; bindings = []; change = change; fresh = false } in
-    let p : Readied = record { doc = doc; note = note number; step = Make (entry_of number root); leaves = []; enters = enters; total = total } in
+    let p : Readied = record { doc = doc; note = note number; step = Make doc (entry_of number root); leaves = []; enters = enters; total = total } in
     let noted : note_for c doc change found ≡ note number = ap (λ (o : Option Held). note_for c doc change o) asks.0 ∙ ap note (sym numbered) in
     plans-made c doc change p refl refl (record {
       asks = asks;
@@ -104,7 +104,7 @@ creation-planned c doc root number total enters asks tree free numbered uris sum
           not-refused-at-all (against_tree c doc true root) (against_number c) (note_for c doc change found) (content_after c doc change) tree free
           ∙ ap (λ (n : Note). let x : Note × Content = (n, content_after c doc change) in let r : Result (Note × Content) StoreRefusal = Ok x in r) noted;
       number = numbered;
-      step = (asks.0, refl, ap (λ (n : ℕ). entry_of n root) numbered, refl, uris, sum);
+      step = (asks.0, refl, ap (λ (n : ℕ). entry_of n root) numbered, refl, uris, sum, refl);
     })
 
 -- ---- a document that is edited
@@ -225,7 +225,7 @@ prepared-ok c doc change p h =
 
 -- only an edit within the root is made in place
 has-tree : (c : Content) (p : Readied) (step : Step) (trees : List (DocId × Bool)) → IsStepOf c p step → (is_within p.note.change ≡ true → IsOwn trees p.doc) → HasTree step (lookup (same_id p.doc) trees)
-has-tree c p (Make entry) trees h own = tt
+has-tree c p (Make key entry) trees h own = tt
 has-tree c p (Edit (Whole root) kept len) trees h own = λ b is. tt
 has-tree c p (Edit (InPlace staged) kept len) trees h own = own h.3.1
 has-tree c p End trees h own = tt

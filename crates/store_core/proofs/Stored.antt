@@ -93,9 +93,9 @@ HasLen e = e.1.len ≡ len_in e
 
 -- ---- a document that is made
 
-made-content : (es : List Row) (last : ℕ) (p : Readied) (entry : Entry) → p.note.next ≡ last + 1 → IsStepOf (content_in es last) p (Make entry)
+made-content : (es : List Row) (last : ℕ) (p : Readied) (key : DocId) (entry : Entry) → p.note.next ≡ last + 1 → IsStepOf (content_in es last) p (Make key entry)
     → content_in (es ++ (p.doc, entry) ∷ []) p.note.next ≡ content_after (content_in es last) p.doc p.note.change
-made-content es last p entry number step =
+made-content es last p key entry number step =
     let c = content_in es last in
     let root = entry.tree.root in
     let new : Held = record { id = p.doc; tag = c.next; tree = root; notes = [] } in
@@ -105,14 +105,14 @@ made-content es last p entry number step =
     ∙ ap (λ (h : Held). content (map held_in es ++ h ∷ []) (c.next + 1)) held
     ∙ sym (ap (λ (change : Change). content_after c p.doc change) step.1)
 
-made-stored : (es : List Row) (rs : List (List ℕ × ℕ)) (last total : ℕ) (p : Readied) (entry : Entry) (rows : List (List ℕ × ℕ))
-    → IsStoring es rs last total → IsPlanned (content_in es last) p → IsStepOf (content_in es last) p (Make entry)
+made-stored : (es : List Row) (rs : List (List ℕ × ℕ)) (last total : ℕ) (p : Readied) (key : DocId) (entry : Entry) (rows : List (List ℕ × ℕ))
+    → IsStoring es rs last total → IsPlanned (content_in es last) p → IsStepOf (content_in es last) p (Make key entry)
     → ((uri : List ℕ) → registered rows uri ≡ exchanged p.leaves p.enters entry.created (registered rs uri) uri)
     → IsStoring (es ++ (p.doc, entry) ∷ []) rows p.note.next p.total
-made-stored es rs last total p entry rows s planned step reg =
+made-stored es rs last total p key entry rows s planned step reg =
     let c = content_in es last in
     let row : Row = (p.doc, entry) in
-    let kept = kept-next es (es ++ row ∷ []) last p s.kept planned (made-content es last p entry planned.number step) in
+    let kept = kept-next es (es ++ row ∷ []) last p s.kept planned (made-content es last p key entry planned.number step) in
     let apart = (known (es ++ row ∷ []) p.note.next kept.0 kept.1 kept.2).services in
     let created : entry.created ≡ c.next = ap (λ (x : Entry). x.created) step.2 in
     let n : number_in row ≡ last + 1 = created in
@@ -287,11 +287,11 @@ pub stored : (es : List Row) (rs : List (List ℕ × ℕ)) (last total : ℕ) (p
     → IsStoring es rs last total → IsPlanned (content_in es last) p → IsStepOf (content_in es last) p step → Stepped es p.doc p.note.next step created next
     → ((uri : List ℕ) → registered rows uri ≡ exchanged p.leaves p.enters created (registered rs uri) uri)
     → (content_in next p.note.next ≡ content_after (content_in es last) p.doc p.note.change) × IsStoring next rows p.note.next p.total
-stored es rs last total p (Make entry) created next rows s planned step stepped reg =
-    let row : Row = (p.doc, entry) in
+stored es rs last total p (Make key entry) created next rows s planned step stepped reg =
+    let behind : next ≡ es ++ (p.doc, entry) ∷ [] = stepped.0 ∙ ap (λ (d : DocId). es ++ (d, entry) ∷ []) step.6 in
     let registered-as = λ (uri : List ℕ). reg uri ∙ ap (λ (n : ℕ). exchanged p.leaves p.enters n (registered rs uri) uri) stepped.1 in (
-      ap (λ (ds : List Row). content_in ds p.note.next) stepped.0 ∙ made-content es last p entry planned.number step,
-      subst (λ (ds : List Row). IsStoring ds rows p.note.next p.total) (sym stepped.0) (made-stored es rs last total p entry rows s planned step registered-as),
+      ap (λ (ds : List Row). content_in ds p.note.next) behind ∙ made-content es last p key entry planned.number step,
+      subst (λ (ds : List Row). IsStoring ds rows p.note.next p.total) (sym behind) (made-stored es rs last total p key entry rows s planned step registered-as),
     )
 stored es rs last total p (Edit staged kept len) created next rows s planned step stepped reg =
     let v = stepped.0 in
@@ -364,7 +364,8 @@ may-edit es rs last total p staged kept len v s planned step found =
 
 pub steppable : (es : List Row) (rs : List (List ℕ × ℕ)) (last total : ℕ) (p : Readied) (step : Step) → IsStoring es rs last total → IsPlanned (content_in es last) p → IsStepOf (content_in es last) p step
     → HasTree step (lookup (same_id p.doc) (trees_in es)) → Steppable es p.doc step
-steppable es rs last total p (Make entry) s planned step has = not-there es rs last total p.doc (lookup (same_id p.doc) es) s refl step.0
+steppable es rs last total p (Make key entry) s planned step has =
+    subst (λ (d : DocId). lookup (same_id d) es ≡ None) (sym step.6) (not-there es rs last total p.doc (lookup (same_id p.doc) es) s refl step.0)
 steppable es rs last total p (Edit staged kept len) s planned step has =
     let found = found-entry es p.doc step.0 (lookup (same_id p.doc) es) refl step.1 in
     let may = may-edit es rs last total p staged kept len found.0 s planned step found.1 in

@@ -37,9 +37,10 @@ total_of c = sum_by (λ h. document_len h.tree) c.documents
 
 -- the step is that of the change
 abbrev pub IsStepOf : Stock → Readied → Step → Type 0
-IsStepOf c p (Make entry) =
+IsStepOf c p (Make key entry) =
     (document_in held_name c.documents p.doc ≡ None) × (p.note.change ≡ CreateDocument entry.tree.root) × (entry ≡ entry_of c.next entry.tree.root) × (p.leaves ≡ [])
     × (p.enters ≡ addresses_in p.doc.auid entry.tree.root) × (p.total ≡ total_of c + document_len entry.tree.root)
+    × (key ≡ p.doc)
 IsStepOf c p (Edit staged kept len) =
     (h : Held) × (document_in held_name c.documents p.doc ≡ Some h) × (act_of p.note.change ≡ Edits) × IsStagedIn h.tree p.note.change staged
     × (len ≡ document_len (edited h.tree p.note.change)) × (kept ≡ p.note) × (p.note ≡ note_of h.tag c.next h.tree p.note.change)
@@ -58,7 +59,7 @@ pub record IsPlanned (c : Stock) (p : Readied) : Type 0 where
 
 -- where the step changes the tree of its document in place, nobody shares that tree, if this is what is told of it
 abbrev pub HasTree : Step → Option Bool → Type 0
-HasTree (Make entry) found = Unit {0}
+HasTree (Make key entry) found = Unit {0}
 HasTree (Edit staged kept len) found = (own : Bool) → found ≡ Some own → IsOwnWhere staged own
 HasTree End found = Unit {0}
 

@@ -12,14 +12,15 @@ use crate::registry::{enter, leave};
 use crate::store::Store;
 use doc_names::DocId;
 use edit_ops::Change;
-use notes::EditNote;
+use notes::{Edit, EditNote};
 
 impl Store {
-    /// Makes a change that has all its memory, and answers its note. Nothing may have changed since `prepare`. Takes no memory.
-    pub fn commit(&mut self, prepared: Prepared) -> EditNote
+    /// Makes a change that has all its memory, and answers the document's name and the note of the change, moved out of it. Nothing may have
+    /// changed since `prepare`. Takes no memory.
+    pub fn commit(&mut self, prepared: Prepared) -> Edit
         requires { IsReady self.old prepared }
         ensures holds_the_prepared_change { self.new.content ≡ content_after self.old.content prepared.doc prepared.note.change }
-        ensures note_that_was_prepared { result ≡ prepared.note }
+        ensures edit_that_was_prepared { result ≡ record { doc = prepared.doc; note = prepared.note } }
         ensures keeps_key_addresses { KeepsAddressesOf self.old.content prepared.doc prepared.note.change self.new.content }
     {
         let Prepared {
@@ -32,11 +33,11 @@ impl Store {
         } = prepared;
         leave(&mut self.services, leaves.as_slice());
         let number = note.next();
-        let created = step.take(&mut self.documents, doc, number);
+        let created = step.take(&mut self.documents, &doc, number);
         enter(&mut self.services, enters.into_vec(), created);
         self.last = number;
         self.total = total;
-        note
+        Edit { doc, note }
     }
 
     /// Makes a change of a document, under the next number, and answers its note; or the first reason against it, in the order of
@@ -46,16 +47,16 @@ impl Store {
     /// `NoMemory` for want of memory.
     pub fn change(
         &mut self,
-        doc: &DocId,
+        doc: DocId,
         change: Change,
     ) -> Result<Result<EditNote, StoreRefusal>, NoMemory>
-        requires { Asks self.old.content doc.now change }
-        ensures makes_the_change_or_refuses { IfOk result (λ r. Steps (changing self.old.content doc.now change) r self.old.content self.new.content) }
+        requires { Asks self.old.content doc change }
+        ensures makes_the_change_or_refuses { IfOk result (λ r. Steps (changing self.old.content doc change) r self.old.content self.new.content) }
         ensures want_of_memory_changes_nothing { OnErr result (self.new.content ≡ self.old.content) }
-        ensures keeps_key_addresses { IfOk result (λ r. OnOk r (KeepsAddressesOf self.old.content doc.now change self.new.content)) }
+        ensures keeps_key_addresses { IfOk result (λ r. OnOk r (KeepsAddressesOf self.old.content doc change self.new.content)) }
     {
         match self.prepare(doc, change)? {
-            Ok(prepared) => Ok(Ok(self.commit(prepared))),
+            Ok(prepared) => Ok(Ok(self.commit(prepared).note)),
             Err(refusal) => Ok(Err(refusal)),
         }
     }

@@ -104,7 +104,7 @@ fn refused_for(place: Option<usize>, len: usize, is_full: bool, others: u64) -> 
 // A document that is made, whose print, addresses and total are known. It shares its tree with the note.
 fn creation(
     alloc: Global,
-    doc: &DocId,
+    doc: DocId,
     root: Element,
     print: Option<Bytes>,
     number: u64,
@@ -115,15 +115,15 @@ fn creation(
     requires print { IsPrintOf root print }
     requires len { len ≡ document_len root }
     ensures prepares_the_creation { IfOk result (λ p. p ≡ record {
-      doc = doc.now;
+      doc = doc;
       note = record { previous = 0; next = number; bindings = []; change = changes.CreateDocument root; fresh = false };
-      step = steps.Make (entry_of number root);
+      step = steps.Make doc (entry_of number root);
       leaves = [];
       enters = enters;
       total = total;
     }) }
 {
-    let doc = doc.copy(alloc)?;
+    let key = doc.copy(alloc)?;
     let change = Change::CreateDocument { root };
     let note = EditNote::of_document(alloc, 0, number, change)?;
     let noted = NotedTree::of(&note)?;
@@ -132,7 +132,7 @@ fn creation(
     Ok(Prepared {
         doc,
         note,
-        step: Step::Make(entry),
+        step: Step::Make(key, entry),
         leaves: List::empty(alloc),
         enters,
         total,
@@ -142,7 +142,7 @@ fn creation(
 // A document that is edited, with the note of the change and what it brings.
 fn edit(
     alloc: Global,
-    doc: &DocId,
+    doc: DocId,
     staged: StagedTree,
     note: EditNote,
     len: usize,
@@ -151,7 +151,7 @@ fn edit(
     total: u64,
 ) -> Result<Prepared, NoMemory>
     ensures prepares_the_edit { IfOk result (λ p. p ≡ record {
-      doc = doc.now;
+      doc = doc;
       note = note;
       step = steps.Edit staged note len;
       leaves = leaves;
@@ -159,7 +159,6 @@ fn edit(
       total = total;
     }) }
 {
-    let doc = doc.copy(alloc)?;
     let kept = note.copy()?;
     Ok(Prepared {
         doc,
@@ -174,14 +173,14 @@ fn edit(
 // A document that is taken away.
 fn removal(
     alloc: Global,
-    doc: &DocId,
+    doc: DocId,
     tag: u64,
     number: u64,
     leaves: List<Text>,
     total: u64,
 ) -> Result<Prepared, NoMemory>
     ensures prepares_the_removal { IfOk result (λ p. p ≡ record {
-      doc = doc.now;
+      doc = doc;
       note = record { previous = tag; next = number; bindings = []; change = changes.RemoveDocument; fresh = false };
       step = steps.End;
       leaves = leaves;
@@ -189,7 +188,6 @@ fn removal(
       total = total;
     }) }
 {
-    let doc = doc.copy(alloc)?;
     let note = EditNote::of_document(alloc, tag, number, Change::RemoveDocument)?;
     Ok(Prepared {
         doc,
@@ -226,7 +224,7 @@ fn staged(
 // A document that is edited, whose addresses, lengths and total are known.
 fn noted(
     alloc: Global,
-    doc: &DocId,
+    doc: DocId,
     entry: &Entry,
     number: u64,
     change: Change,
@@ -239,7 +237,7 @@ fn noted(
     requires fits { Fits entry.now.tree.root change }
     requires put { put.len ≡ min (element_len change) usize.MAX }
     requires print { IsPrintBrought change put.print }
-    ensures notes_the_edit { IfOk result (λ p. IsNoted doc.now entry.now number change len leaves enters total p) }
+    ensures notes_the_edit { IfOk result (λ p. IsNoted doc entry.now number change len leaves enters total p) }
 {
     let tree = entry.tree.root();
     let note = EditNote::of(alloc, entry.tag, number, tree, change, put.len)?;
@@ -316,16 +314,16 @@ impl Store {
     // Plans to make a document.
     fn plan_creation(
         &self,
-        doc: &DocId,
+        doc: DocId,
         root: Element,
     ) -> Result<Result<Prepared, StoreRefusal>, NoMemory>
-        requires { Asks self.now.content doc.now (changes.CreateDocument root) }
-        ensures plans_the_creation { IfOk result (Plans self.now.content doc.now (changes.CreateDocument root)) }
+        requires { Asks self.now.content doc (changes.CreateDocument root) }
+        ensures plans_the_creation { IfOk result (Plans self.now.content doc (changes.CreateDocument root)) }
     {
         let enters = addresses(self.alloc, doc.auid, &root)?;
         let put = put_root(self.alloc, &root);
         let len = document_len(put.len);
-        if let Some(refusal) = self.refusal_of_new(doc, len, enters.as_slice()) {
+        if let Some(refusal) = self.refusal_of_new(&doc, len, enters.as_slice()) {
             return Ok(Err(refusal));
         }
         let Some(number) = self.next_number() else {
@@ -340,27 +338,27 @@ impl Store {
     // Plans to edit a document.
     fn plan_edit(
         &self,
-        doc: &DocId,
+        doc: DocId,
         change: Change,
     ) -> Result<Result<Prepared, StoreRefusal>, NoMemory>
-        requires asks { Asks self.now.content doc.now change }
+        requires asks { Asks self.now.content doc change }
         requires edits { act_of change ≡ Edits }
-        ensures plans_the_edit { IfOk result (Plans self.now.content doc.now change) }
+        ensures plans_the_edit { IfOk result (Plans self.now.content doc change) }
     {
-        let entry = self.held(doc);
+        let entry = self.held(&doc);
         let tree = entry.tree.root();
         let leaves = leaving(self.alloc, doc.auid, tree, &change)?;
         let enters = entering(self.alloc, doc.auid, &change)?;
         let put = put_by(self.alloc, &change);
         let len = len_after(tree, entry.len, &change, put.len);
         let first = first_number(&change);
-        if let Some(refusal) = self.refusal_of_edit(doc, len, first, enters.as_slice()) {
+        if let Some(refusal) = self.refusal_of_edit(&doc, len, first, enters.as_slice()) {
             return Ok(Err(refusal));
         }
         let Some(number) = self.next_number() else {
             return Ok(Err(StoreRefusal::NoNumber));
         };
-        let others = self.total_without(doc);
+        let others = self.total_without(&doc);
         let total = others.saturating_add(len as u64);
         let prepared = noted(
             self.alloc, doc, entry, number, change, put, len, leaves, enters, total,
@@ -369,26 +367,26 @@ impl Store {
     }
 
     // Plans to take a document away.
-    fn plan_removal(&self, doc: &DocId) -> Result<Result<Prepared, StoreRefusal>, NoMemory>
-        requires { Asks self.now.content doc.now changes.RemoveDocument }
-        ensures plans_the_removal { IfOk result (Plans self.now.content doc.now changes.RemoveDocument) }
+    fn plan_removal(&self, doc: DocId) -> Result<Result<Prepared, StoreRefusal>, NoMemory>
+        requires { Asks self.now.content doc changes.RemoveDocument }
+        ensures plans_the_removal { IfOk result (Plans self.now.content doc changes.RemoveDocument) }
     {
-        let Some((tree, tag)) = self.get(doc) else {
+        let Some((tree, tag)) = self.get(&doc) else {
             unreachable!()
         };
         let Some(number) = self.next_number() else {
             return Ok(Err(StoreRefusal::NoNumber));
         };
         let leaves = addresses(self.alloc, doc.auid, tree)?;
-        let total = self.total_without(doc);
+        let total = self.total_without(&doc);
         let prepared = removal(self.alloc, doc, tag, number, leaves, total)?;
         Ok(Ok(prepared))
     }
 
     // Plans any change.
-    fn plan(&self, doc: &DocId, change: Change) -> Result<Result<Prepared, StoreRefusal>, NoMemory>
-        requires { Asks self.now.content doc.now change }
-        ensures plans_the_change { IfOk result (Plans self.now.content doc.now change) }
+    fn plan(&self, doc: DocId, change: Change) -> Result<Result<Prepared, StoreRefusal>, NoMemory>
+        requires { Asks self.now.content doc change }
+        ensures plans_the_change { IfOk result (Plans self.now.content doc change) }
     {
         match change {
             Change::CreateDocument { root } => self.plan_creation(doc, root),
@@ -410,24 +408,25 @@ impl Store {
 
     /// Takes all memory of a change of a document, which isn't made yet: `commit` makes it; or answers
     /// the first reason against it, in the order of `StoreRefusal`. A document that is made isn't held yet, and
-    /// another change is one of a document that is held; what is left may be a document, if it isn't too long.
+    /// another change is one of a document that is held; what is left may be a document, if it isn't too long. The name is moved; only the
+    /// name of a new document is copied, since the store keeps one.
     ///
     /// # Errors
     /// `NoMemory` for want of memory.
     pub fn prepare(
         &mut self,
-        doc: &DocId,
+        doc: DocId,
         change: Change,
     ) -> Result<Result<Prepared, StoreRefusal>, NoMemory>
-        requires { Asks self.old.content doc.now change }
+        requires { Asks self.old.content doc change }
         ensures holds_the_same { self.new.content ≡ self.old.content }
-        ensures prepares_the_change { IfOk result (λ r. IfOk r (λ p. (p.doc ≡ doc.now) × (changing self.old.content doc.now change ≡ Ok (p.note, content_after self.old.content doc.now change)) × (p.note.change ≡ change))) }
+        ensures prepares_the_change { IfOk result (λ r. IfOk r (λ p. (p.doc ≡ doc) × (changing self.old.content doc change ≡ Ok (p.note, content_after self.old.content doc change)) × (p.note.change ≡ change))) }
         ensures prepared_change_is_ready { IfOk result (λ r. IfOk r (λ p. IsReady self.new p)) }
-        ensures keeps_key_addresses { IfOk result (λ r. OnOk r (KeepsAddressesOf self.old.content doc.now change (content_after self.old.content doc.now change))) }
-        ensures refused_with_the_first_reason { IfOk result (λ r. IfErr r (λ e. changing self.old.content doc.now change ≡ Err e)) }
+        ensures keeps_key_addresses { IfOk result (λ r. OnOk r (KeepsAddressesOf self.old.content doc change (content_after self.old.content doc change))) }
+        ensures refused_with_the_first_reason { IfOk result (λ r. IfErr r (λ e. changing self.old.content doc change ≡ Err e)) }
     {
         self.stands();
-        self.unshare_for(doc, &change)?;
+        self.unshare_for(&doc, &change)?;
         match self.plan(doc, change)? {
             Ok(prepared) => {
                 self.reserve(prepared.addresses_more())?;

@@ -22,8 +22,8 @@ pub(crate) type Documents = IndexMap<DocId, Entry>;
 /// What is done to the entry of a document, with all its memory.
 #[derive(Drop)]
 pub enum Step {
-    /// It is made.
-    Make(Entry),
+    /// It is made, under this name.
+    Make(DocId, Entry),
     /// The edit of a note is made in it, which leaves so many bytes, and the note is kept.
     Edit {
         staged: StagedTree,
@@ -102,22 +102,22 @@ impl Step {
     ghost use Rattle.store_core.specs.inner.Planning.{Stepped, Steppable};
 
     /// Does it under a number, and answers the number of the document's creation.
-    pub(crate) fn take(self, documents: &mut Documents, doc: DocId, number: u64) -> u64
-        requires fits { Steppable documents.old.entries doc self }
+    pub(crate) fn take(self, documents: &mut Documents, doc: &DocId, number: u64) -> u64
+        requires fits { Steppable documents.old.entries doc.now self }
         requires room { 0 < spare documents.old }
-        ensures takes_the_step { Stepped documents.old.entries doc number self result documents.new.entries }
+        ensures takes_the_step { Stepped documents.old.entries doc.now number self result documents.new.entries }
     {
         match self {
-            Step::Make(entry) => {
+            Step::Make(key, entry) => {
                 let created = entry.created;
-                make(documents, doc, entry);
+                make(documents, key, entry);
                 created
             }
             Step::Edit { staged, kept, len } => {
-                exchange(documents, &doc, number, staged, kept, len)
+                exchange(documents, doc, number, staged, kept, len)
             }
             Step::End => {
-                end(documents, &doc);
+                end(documents, doc);
                 number
             }
         }

@@ -81,15 +81,15 @@ fn put_change(is_held: bool, root: Element) -> Change
 
 fn put(
     store: &mut Store,
-    doc: &DocId,
+    doc: DocId,
     root: Element,
 ) -> Result<Result<EditNote, StoreRefusal>, NoMemory>
-    requires services { doc.now.auid ≡ auids.RlsServices }
-    requires readable { IsReadable doc.now }
-    requires users { IsUsers doc.now.home }
+    requires services { doc.auid ≡ auids.RlsServices }
+    requires readable { IsReadable doc }
+    requires users { IsUsers doc.home }
     requires may_be { MayBe usages.RlsServices root }
 {
-    let is_held = store.get(doc).is_some();
+    let is_held = store.get(&doc).is_some();
     let change = put_change(is_held, root);
     store.change(doc, change)
 }
@@ -113,12 +113,12 @@ fn push_refusal(text: &mut String, refusal: &StoreRefusal) -> Result<()> {
 }
 
 // Takes a document away, in two steps; 0 where it isn't held.
-fn remove(store: &mut Store, doc: &DocId) -> Result<Result<u64, StoreRefusal>> {
-    if store.get(doc).is_none() {
+fn remove(store: &mut Store, doc: DocId) -> Result<Result<u64, StoreRefusal>> {
+    if store.get(&doc).is_none() {
         return Ok(Ok(0));
     }
     match store.prepare(doc, Change::RemoveDocument)? {
-        Ok(prepared) => Ok(Ok(store.commit(prepared).next())),
+        Ok(prepared) => Ok(Ok(store.commit(prepared).note.next())),
         Err(refusal) => Ok(Err(refusal)),
     }
 }
@@ -140,12 +140,12 @@ fn number_of(made: Result<EditNote, StoreRefusal>) -> Result<u64, StoreRefusal> 
 fn put_root(
     alloc: Global,
     store: &mut Store,
-    doc: &DocId,
+    doc: DocId,
     uri: &str,
 ) -> Result<Result<u64, StoreRefusal>>
-    requires services { doc.now.auid ≡ auids.RlsServices }
-    requires readable { IsReadable doc.now }
-    requires users { IsUsers doc.now.home }
+    requires services { doc.auid ≡ auids.RlsServices }
+    requires readable { IsReadable doc }
+    requires users { IsUsers doc.home }
 {
     let root = root_of(alloc, uri)?;
     Ok(number_of(put(store, doc, root)?))
@@ -159,12 +159,12 @@ fn put_service(
     uri: &str,
 ) -> Result<Result<u64, StoreRefusal>> {
     let doc = index_of(alloc, user)?;
-    put_root(alloc, store, &doc, uri)
+    put_root(alloc, store, doc, uri)
 }
 
 fn remove_index(alloc: Global, store: &mut Store, user: &str) -> Result<Result<u64, StoreRefusal>> {
     let doc = index_of(alloc, user)?;
-    remove(store, &doc)
+    remove(store, doc)
 }
 
 // Makes the change of a line, a removal where it has no address.

@@ -88,23 +88,23 @@ fn put_target(
     alloc: Global,
     root: &Root,
     store: &mut Store,
-    target: &Target,
+    target: Target,
     usage: Usage,
     request: &Request,
 ) -> Result<Decision, AllocError>
-    requires readable { IsReadableTarget target.now }
-    requires writable { IsWritableTarget target.now }
-    requires users { IsUsers (home_of target.now) }
-    requires usage { usage_of (auid_of target.now) ≡ Some usage }
-    requires taken { takes target.now methods.Put ≡ true }
-    ensures decides_as_the_machine { IfOk result (λ d. Decides (Puts root.now store.old.content target.now usage request.now) store.new d) }
+    requires readable { IsReadableTarget target }
+    requires writable { IsWritableTarget target }
+    requires users { IsUsers (home_of target) }
+    requires usage { usage_of (auid_of target) ≡ Some usage }
+    requires taken { takes target methods.Put ≡ true }
+    ensures decides_as_the_machine { IfOk result (λ d. Decides (Puts root.now store.old.content target usage request.now) store.new d) }
     ensures holds_the_same { store.new.content ≡ store.old.content }
 {
     match target {
         Target::Document(doc) => put_document(alloc, store, doc, usage, request),
-        Target::Node(doc, selector) => put_node(alloc, store, root, doc, usage, selector, request),
+        Target::Node(doc, selector) => put_node(alloc, store, root, doc, usage, &selector, request),
         Target::Deep(auid, home) => {
-            let reply = put_deeper(alloc, root, *auid, home, request)?;
+            let reply = put_deeper(alloc, root, auid, &home, request)?;
             Ok(Decision::Stays(reply))
         }
         Target::Feed { .. } | Target::ElementFeed { .. } | Target::Flat { .. } => unreachable!(),
@@ -115,18 +115,18 @@ fn put_target(
 fn delete_target(
     alloc: Global,
     store: &mut Store,
-    target: &Target,
+    target: Target,
     usage: Usage,
     request: &Request,
 ) -> Result<Decision, AllocError>
-    requires usage { usage_of (auid_of target.now) ≡ Some usage }
-    requires taken { takes target.now methods.Delete ≡ true }
-    ensures decides_as_the_machine { IfOk result (λ d. Decides (Deletes store.old.content target.now usage request.now) store.new d) }
+    requires usage { usage_of (auid_of target) ≡ Some usage }
+    requires taken { takes target methods.Delete ≡ true }
+    ensures decides_as_the_machine { IfOk result (λ d. Decides (Deletes store.old.content target usage request.now) store.new d) }
     ensures holds_the_same { store.new.content ≡ store.old.content }
 {
     match target {
         Target::Document(doc) => delete_document(alloc, store, doc, request),
-        Target::Node(doc, selector) => delete_node(alloc, store, doc, usage, selector, request),
+        Target::Node(doc, selector) => delete_node(alloc, store, doc, usage, &selector, request),
         Target::Deep(_, _) => Ok(plain(404, request)),
         Target::Feed { .. } | Target::ElementFeed { .. } | Target::Flat { .. } => unreachable!(),
     }
@@ -137,19 +137,19 @@ fn decide_write(
     alloc: Global,
     root: &Root,
     store: &mut Store,
-    target: &Target,
+    target: Target,
     method: Method,
     request: &Request,
 ) -> Result<Decision, AllocError>
-    requires readable { IsReadableTarget target.now }
-    requires writable { IsWritableTarget target.now }
-    requires users { IsUsers (home_of target.now) }
+    requires readable { IsReadableTarget target }
+    requires writable { IsWritableTarget target }
+    requires users { IsUsers (home_of target) }
     requires writes { is_reading method ≡ false }
-    requires taken { takes target.now method ≡ true }
-    ensures decides_as_the_machine { IfOk result (λ d. Decides (ByMethod root.now store.old.content target.now method request.now) store.new d) }
+    requires taken { takes target method ≡ true }
+    ensures decides_as_the_machine { IfOk result (λ d. Decides (ByMethod root.now store.old.content target method request.now) store.new d) }
     ensures holds_the_same { store.new.content ≡ store.old.content }
 {
-    let Some(usage) = auid_of(target).stored() else {
+    let Some(usage) = auid_of(&target).stored() else {
         return Ok(plain(403, request));
     };
     match method {
@@ -163,19 +163,19 @@ fn decide_method(
     alloc: Global,
     root: &Root,
     store: &mut Store,
-    target: &Target,
+    target: Target,
     method: Method,
     request: &Request,
 ) -> Result<Decision, AllocError>
-    requires readable { IsReadableTarget target.now }
-    requires writable { IsWritableTarget target.now }
-    requires users { is_reading method ≡ false → IsUsers (home_of target.now) }
-    requires taken { takes target.now method ≡ true }
-    ensures decides_as_the_machine { IfOk result (λ d. Decides (ByMethod root.now store.old.content target.now method request.now) store.new d) }
+    requires readable { IsReadableTarget target }
+    requires writable { IsWritableTarget target }
+    requires users { is_reading method ≡ false → IsUsers (home_of target) }
+    requires taken { takes target method ≡ true }
+    ensures decides_as_the_machine { IfOk result (λ d. Decides (ByMethod root.now store.old.content target method request.now) store.new d) }
     ensures holds_the_same { store.new.content ≡ store.old.content }
 {
     if method.reads() {
-        let reply = get_target(alloc, root, store, target, method, request)?;
+        let reply = get_target(alloc, root, store, &target, method, request)?;
         return Ok(Decision::Stays(reply));
     }
     decide_write(alloc, root, store, target, method, request)
@@ -193,17 +193,17 @@ fn decide_user(
     alloc: Global,
     root: &Root,
     store: &mut Store,
-    target: &Target,
+    target: Target,
     method: Method,
     request: &Request,
 ) -> Result<Decision, AllocError>
-    requires readable { IsReadableTarget target.now }
-    requires writable { IsWritableTarget target.now }
-    requires taken { takes target.now method ≡ true }
-    ensures decides_as_the_machine { IfOk result (λ d. Decides (ByUser root.now store.old.content target.now method request.now) store.new d) }
+    requires readable { IsReadableTarget target }
+    requires writable { IsWritableTarget target }
+    requires taken { takes target method ≡ true }
+    ensures decides_as_the_machine { IfOk result (λ d. Decides (ByUser root.now store.old.content target method request.now) store.new d) }
     ensures holds_the_same { store.new.content ≡ store.old.content }
 {
-    if !may_ask(target, method, request) {
+    if !may_ask(&target, method, request) {
         return Ok(plain(403, request));
     }
     decide_method(alloc, root, store, target, method, request)
@@ -213,17 +213,17 @@ fn decide_target(
     alloc: Global,
     root: &Root,
     store: &mut Store,
-    target: &Target,
+    target: Target,
     method: Method,
     request: &Request,
 ) -> Result<Decision, AllocError>
-    requires readable { IsReadableTarget target.now }
-    requires writable { IsWritableTarget target.now }
-    ensures decides_as_the_machine { IfOk result (λ d. Decides (ByTarget root.now store.old.content target.now method request.now) store.new d) }
+    requires readable { IsReadableTarget target }
+    requires writable { IsWritableTarget target }
+    ensures decides_as_the_machine { IfOk result (λ d. Decides (ByTarget root.now store.old.content target method request.now) store.new d) }
     ensures holds_the_same { store.new.content ≡ store.old.content }
 {
-    if !takes(target, method) {
-        let reply = Reply::method(is_read_only(target), request.closes);
+    if !takes(&target, method) {
+        let reply = Reply::method(is_read_only(&target), request.closes);
         return Ok(Decision::Stays(reply));
     }
     decide_user(alloc, root, store, target, method, request)
@@ -255,7 +255,7 @@ pub(crate) fn decide(
     ensures holds_the_same { store.new.content ≡ store.old.content }
 {
     match read_target(alloc, root, request.target.as_slice()) {
-        Ok(target) => decide_target(alloc, root, store, &target, Method::of(request), request),
+        Ok(target) => decide_target(alloc, root, store, target, Method::of(request), request),
         Err(ReadError::Fault(fault)) => Ok(decide_fault(fault, request)),
         Err(ReadError::NoMemory) => Err(AllocError),
     }

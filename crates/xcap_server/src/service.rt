@@ -99,15 +99,11 @@ pub(crate) fn commit(store: &mut Store, decision: Decision) -> Answered<Edit>
 {
     match decision {
         Decision::Stays(reply) => Answered { reply, edit: None },
-        Decision::Changes {
-            reply,
-            doc,
-            prepared,
-        } => {
-            let note = store.commit(prepared);
+        Decision::Changes { reply, prepared } => {
+            let edit = store.commit(prepared);
             Answered {
                 reply,
-                edit: Some(Edit { doc, note }),
+                edit: Some(edit),
             }
         }
     }

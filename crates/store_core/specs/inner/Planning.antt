@@ -49,7 +49,7 @@ Plans c doc change (Err e) = changing c doc change ≡ Err e
 
 -- the number is that under which the document's addresses are entered
 abbrev pub Stepped : List (DocId × Entry) → DocId → ℕ → Step → ℕ → List (DocId × Entry) → Type 0
-Stepped old doc number (Make entry) created new = (new ≡ old ++ (doc, entry) ∷ []) × (created ≡ entry.created)
+Stepped old doc number (Make key entry) created new = (new ≡ old ++ (key, entry) ∷ []) × (created ≡ entry.created)
 Stepped old doc number (Edit staged kept len) created new =
     (v : Entry) × (w : Entry) × (lookup (same_id doc) old ≡ Some v) × IsRenewed v number kept len w × (new ≡ map (λ e. if same_id doc e.0 then (e.0, w) else e) old)
     × (created ≡ w.created)
@@ -57,7 +57,7 @@ Stepped old doc number End created new = new ≡ filter (λ e. not (same_id doc 
 
 -- what a step wants of the entries
 abbrev pub Steppable : List (DocId × Entry) → DocId → Step → Type 0
-Steppable old doc (Make entry) = lookup (same_id doc) old ≡ None
+Steppable old doc (Make key entry) = lookup (same_id key) old ≡ None
 Steppable old doc (Edit staged kept len) =
     (v : Entry) × (lookup (same_id doc) old ≡ Some v) × Fits v.tree.root kept.change × IsStagedIn v.tree.root kept.change staged × IsOwnWhere staged v.tree.own
 Steppable old doc End = Unit {0}

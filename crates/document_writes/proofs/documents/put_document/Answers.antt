@@ -9,17 +9,17 @@ use Rattle.document_writes.proofs.documents.put_document.Goals as goal
 pub returns-in-Some-clause-decides_the_put : goal.returns-in-Some-clause-decides_the_put
 returns-in-Some-clause-decides_the_put c =
     let content = c.args.store.now.content in
-    let answer = put_answer content c.args.doc.now c.args.request.now.closes in
-    stays (PutsDocument content c.args.doc.now c.args.usage c.args.request.now) c.args.store.now c.in-Some.reply
-    (put_stops c.args.request.now (version_of content c.args.doc.now) c.tag_of-tag.result c.is_some.result c.tag_of-tag.ensures.tag_now c.is_some.ensures _ c.in_ok-reply.ensures.is_the_reply c.in-Some.reply
-    (PutsBody c.args.usage (document_media c.args.doc.now.auid) c.args.request.now answer (unchanged c.in-Some.reply)) c.in-Some.is)
+    let answer = put_answer content c.args.doc c.args.request.now.closes in
+    stays (PutsDocument content c.args.doc c.args.usage c.args.request.now) c.args.store.now c.in-Some.reply
+    (put_stops c.args.request.now (version_of content c.args.doc) c.tag_of-tag.result c.is_some.result c.tag_of-tag.ensures.tag_now c.is_some.ensures _ c.in_ok-reply.ensures.is_the_reply c.in-Some.reply
+    (PutsBody c.args.usage (document_media c.args.doc.auid) c.args.request.now answer (unchanged c.in-Some.reply)) c.in-Some.is)
 
 pub returns-in-None-clause-decides_the_put : goal.returns-in-None-clause-decides_the_put
 returns-in-None-clause-decides_the_put c =
     let content = c.args.store.now.content in
-    let media = document_media c.args.doc.now.auid in
-    let answer = put_answer content c.args.doc.now c.args.request.now.closes in
-    all_so (PutsBody c.args.usage media c.args.request.now answer) c.put_body.new.store (PutsDocument content c.args.doc.now c.args.usage c.args.request.now)
-    (λ a is. put_goes_on c.args.request.now (version_of content c.args.doc.now) c.tag_of-tag.result c.is_some.result c.tag_of-tag.ensures.tag_now c.is_some.ensures _ c.in_ok-reply.ensures.is_the_reply a
+    let media = document_media c.args.doc.auid in
+    let answer = put_answer content c.args.doc c.args.request.now.closes in
+    all_so (PutsBody c.args.usage media c.args.request.now answer) c.put_body.new.store (PutsDocument content c.args.doc c.args.usage c.args.request.now)
+    (λ a is. put_goes_on c.args.request.now (version_of content c.args.doc) c.tag_of-tag.result c.is_some.result c.tag_of-tag.ensures.tag_now c.is_some.ensures _ c.in_ok-reply.ensures.is_the_reply a
     (PutsBody c.args.usage media c.args.request.now answer a) c.in-None.is is)
     c.put_body.result c.put_body.ensures.decides_by_the_body

@@ -14,22 +14,22 @@ make-requires c = record {
   asked =
       let t = c.in-Some.held.0.now in
       let tag = c.in-Some.held.1 in
-      asks_for c.args.store.now.content c.args.doc.now c.args.usage t tag c.args.request.now.closes
-      (λ d a. DeletesNodeOf d c.args.doc.now c.args.usage c.args.selector.now t tag c.args.request.now a) c.in_ok-plan-in-Some.plan c.requires.usage (sym c.in-Some.ensures.version_now)
-      (c.in_ok-plan-in-Some.ensures.plans_the_removal c.args.doc.now);
+      asks_for c.args.store.now.content c.args.doc c.args.usage t tag c.args.request.now.closes
+      (λ d a. DeletesNodeOf d c.args.doc c.args.usage c.args.selector.now t tag c.args.request.now a) c.in_ok-plan-in-Some.plan c.requires.usage (sym c.in-Some.ensures.version_now)
+      (c.in_ok-plan-in-Some.ensures.plans_the_removal c.args.doc);
 }
 
 pub returns-in_ok-plan-in-Some-clause-decides_the_removal : goal.returns-in_ok-plan-in-Some-clause-decides_the_removal
 returns-in_ok-plan-in-Some-clause-decides_the_removal c =
     let content = c.args.store.now.content in
-    let P : Option (Tree × ℕ) → Answer → Type 0 = λ v a. DeletesNodeIn content c.args.doc.now c.args.usage c.args.selector.now v c.args.request.now a in
-    decides_planned content c.args.doc.now c.args.request.now.closes (Some (c.in-Some.held.0.now, c.in-Some.held.1)) P c.in-Some.ensures.version_now c.in_ok-plan-in-Some.plan
-    ((c.in_ok-plan-in-Some.ensures.plans_the_removal c.args.doc.now).answers content) c.make.new.store c.make.result c.make.ensures.decides_by_the_plan
+    let P : Option (Tree × ℕ) → Answer → Type 0 = λ v a. DeletesNodeIn content c.args.doc c.args.usage c.args.selector.now v c.args.request.now a in
+    decides_planned content c.args.doc c.args.request.now.closes (Some (c.in-Some.held.0.now, c.in-Some.held.1)) P c.in-Some.ensures.version_now c.in_ok-plan-in-Some.plan
+    ((c.in_ok-plan-in-Some.ensures.plans_the_removal c.args.doc).answers content) c.make.new.store c.make.result c.make.ensures.decides_by_the_plan
 
 pub returns-in-None-clause-decides_the_removal : goal.returns-in-None-clause-decides_the_removal
 returns-in-None-clause-decides_the_removal c =
     let content = c.args.store.now.content in
     let reply = c.fixed.result in
-    let P : Option (Tree × ℕ) → Type 0 = λ v. DeletesNodeIn content c.args.doc.now c.args.usage c.args.selector.now v c.args.request.now (unchanged reply) in
-    stays (DeletesNode content c.args.doc.now c.args.usage c.args.selector.now c.args.request.now) c.args.store.now reply
-    (of_version content c.args.doc.now None P c.in-None.ensures.version_now (ap unchanged c.fixed.ensures.bare_reply_of_the_status))
+    let P : Option (Tree × ℕ) → Type 0 = λ v. DeletesNodeIn content c.args.doc c.args.usage c.args.selector.now v c.args.request.now (unchanged reply) in
+    stays (DeletesNode content c.args.doc c.args.usage c.args.selector.now c.args.request.now) c.args.store.now reply
+    (of_version content c.args.doc None P c.in-None.ensures.version_now (ap unchanged c.fixed.ensures.bare_reply_of_the_status))

@@ -14,22 +14,22 @@ make-requires c = record {
   asked =
       let t = c.in-Some.held.0.now in
       let tag = c.in-Some.held.1 in
-      asks_for c.args.store.now.content c.args.doc.now c.args.usage t tag c.args.request.now.closes
-      (λ d a. PutsNodeOf d c.args.doc.now c.args.usage c.args.selector.now t c.args.root.now tag c.args.request.now a) c.in_ok-plan-in-Some.plan c.requires.usage (sym c.in-Some.ensures.version_now)
+      asks_for c.args.store.now.content c.args.doc c.args.usage t tag c.args.request.now.closes
+      (λ d a. PutsNodeOf d c.args.doc c.args.usage c.args.selector.now t c.args.root.now tag c.args.request.now a) c.in_ok-plan-in-Some.plan c.requires.usage (sym c.in-Some.ensures.version_now)
       c.in_ok-plan-in-Some.ensures.plans_the_put;
 }
 
 pub returns-in_ok-plan-in-Some-clause-decides_the_put : goal.returns-in_ok-plan-in-Some-clause-decides_the_put
 returns-in_ok-plan-in-Some-clause-decides_the_put c =
     let content = c.args.store.now.content in
-    let P : Option (Tree × ℕ) → Answer → Type 0 = λ v a. PutsNodeIn c.args.root.now content c.args.doc.now c.args.usage c.args.selector.now v c.args.request.now a in
-    decides_planned content c.args.doc.now c.args.request.now.closes (Some (c.in-Some.held.0.now, c.in-Some.held.1)) P c.in-Some.ensures.version_now c.in_ok-plan-in-Some.plan
+    let P : Option (Tree × ℕ) → Answer → Type 0 = λ v a. PutsNodeIn c.args.root.now content c.args.doc c.args.usage c.args.selector.now v c.args.request.now a in
+    decides_planned content c.args.doc c.args.request.now.closes (Some (c.in-Some.held.0.now, c.in-Some.held.1)) P c.in-Some.ensures.version_now c.in_ok-plan-in-Some.plan
     (c.in_ok-plan-in-Some.ensures.plans_the_put.answers content) c.make.new.store c.make.result c.make.ensures.decides_by_the_plan
 
 pub returns-in_ok-reply-in-None-clause-decides_the_put : goal.returns-in_ok-reply-in-None-clause-decides_the_put
 returns-in_ok-reply-in-None-clause-decides_the_put c =
     let content = c.args.store.now.content in
     let reply = c.in_ok-reply-in-None.reply in
-    let P : Option (Tree × ℕ) → Type 0 = λ v. PutsNodeIn c.args.root.now content c.args.doc.now c.args.usage c.args.selector.now v c.args.request.now (unchanged reply) in
-    stays (PutsNode c.args.root.now content c.args.doc.now c.args.usage c.args.selector.now c.args.request.now) c.args.store.now reply
-    (of_version content c.args.doc.now None P c.in-None.ensures.version_now (sym c.in_ok-reply-in-None.ensures.names_the_home))
+    let P : Option (Tree × ℕ) → Type 0 = λ v. PutsNodeIn c.args.root.now content c.args.doc c.args.usage c.args.selector.now v c.args.request.now (unchanged reply) in
+    stays (PutsNode c.args.root.now content c.args.doc c.args.usage c.args.selector.now c.args.request.now) c.args.store.now reply
+    (of_version content c.args.doc None P c.in-None.ensures.version_now (sym c.in_ok-reply-in-None.ensures.names_the_home))

@@ -31,9 +31,9 @@ returns c = record {
       let n : Note = record { previous = 0; next = c.args.number; bindings = []; change = CreateDocument c.args.root; fresh = false } in
       let note : c.in_ok-note.note ≡ n = c.in_ok-note.ensures.tells_of_the_change_in_any_tree c.args.root in
       let tree : c.of-tree.result ≡ c.args.root = c.of-tree.ensures.has_the_tree ∙ c.in_ok-noted.ensures.element_of_the_change ∙ ap (λ (x : Note). brought x.change) note in
-      let made : DocId → Note → Entry → List (List ℕ) → Readied = λ d x e us. record { doc = d; note = x; step = Make e; leaves = us; enters = c.args.enters; total = c.args.total } in
-      let d = c.args.doc.now in
-      ap (λ (x : DocId). made x c.in_ok-note.note c.in_ok-entry.entry c.empty.result) c.in_ok-doc.ensures.makes_an_equal_name
+      let made : DocId → Note → Entry → List (List ℕ) → Readied = λ d x e us. record { doc = c.args.doc; note = x; step = Make d e; leaves = us; enters = c.args.enters; total = c.args.total } in
+      let d = c.args.doc in
+      ap (λ (x : DocId). made x c.in_ok-note.note c.in_ok-entry.entry c.empty.result) c.in_ok-key.ensures.makes_an_equal_name
       ∙ ap (λ (x : Note). made d x c.in_ok-entry.entry c.empty.result) note
       ∙ ap (λ (x : Entry). made d n x c.empty.result) (c.in_ok-entry.ensures.made_with_the_number ∙ ap (λ (t : Tree). entry_of c.args.number t) tree)
       ∙ ap (λ (us : List (List ℕ)). made d n (entry_of c.args.number c.args.root) us) c.empty.ensures.holds_no_items;

@@ -1,6 +1,5 @@
 use Rattle.std.proofs.Common.{◌≡◌, ℕ, List, [], false, ap, ◌∙◌}
 use Rattle.xml_tree.specs.Tree.{Tree, last}
-use Rattle.doc_names.specs.declared.doc_id.DocId.{DocId}
 use Rattle.edit_ops.specs.declared.change.Change.TheVariants.{RemoveDocument}
 use Rattle.notes.specs.Notes.{Note}
 use Rattle.store_core.specs.declared.step.Step.TheVariants.{End}
@@ -13,7 +12,6 @@ returns c = record {
       let t : Tree = record { name = record { prefix = []; local = [] }; decls = []; attrs = []; content = last [] } in
       let n : Note = record { previous = c.args.tag; next = c.args.number; bindings = []; change = RemoveDocument; fresh = false } in
       let note : c.in_ok-note.note ≡ n = c.in_ok-note.ensures.tells_of_the_change_in_any_tree t in
-      let made : DocId → Note → List (List ℕ) → Readied = λ d x us. record { doc = d; note = x; step = End; leaves = c.args.leaves; enters = us; total = c.args.total } in
-      let d = c.args.doc.now in
-      ap (λ (x : DocId). made x c.in_ok-note.note c.empty.result) c.in_ok-doc.ensures.makes_an_equal_name ∙ ap (λ (x : Note). made d x c.empty.result) note ∙ ap (λ (us : List (List ℕ)). made d n us) c.empty.ensures.holds_no_items;
+      let made : Note → List (List ℕ) → Readied = λ x us. record { doc = c.args.doc; note = x; step = End; leaves = c.args.leaves; enters = us; total = c.args.total } in
+      ap (λ (x : Note). made x c.empty.result) note ∙ ap (λ (us : List (List ℕ)). made n us) c.empty.ensures.holds_no_items;
 }

@@ -9,7 +9,7 @@ use Rattle.store_core.proofs.store.Store.change.Goals as goal
 pub returns-in-Ok-clause-keeps_key_addresses : goal.returns-in-Ok-clause-keeps_key_addresses
 returns-in-Ok-clause-keeps_key_addresses c =
     let content = c.args.self.now.content in
-    let doc = c.args.doc.now in
+    let doc = c.args.doc in
     let change = c.args.change in
     let after = content_after content doc change in
     let p = c.in-Ok.prepared in

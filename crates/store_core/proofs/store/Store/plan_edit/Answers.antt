@@ -13,7 +13,7 @@ use Rattle.store_core.proofs.PlanAnswers.{edit-exchanged, edit-planned, edit-ref
 use Rattle.store_core.proofs.store.Store.plan_edit.Goals as goal
 
 pub held-entry-requires : goal.held-entry-requires
-held-entry-requires c = asks-held c.args.self.now.content c.args.doc.now c.args.change c.requires.edits c.requires.asks
+held-entry-requires c = asks-held c.args.self.now.content c.args.doc c.args.change c.requires.edits c.requires.asks
 
 pub returns-in-Some : goal.returns-in-Some
 returns-in-Some c = record {
@@ -23,23 +23,23 @@ returns-in-Some c = record {
       let counts = c.len_after-len.ensures.counts_the_changed_document
       ∙ ap (λ (t : Tree). min (document_len (edited t c.args.change)) 18446744073709551615) c.root-tree.ensures.lends_the_root in
       let exchanged =
-      edit-exchanged c.args.self.now.content c.args.doc.now c.args.change h.0 c.held-entry.result.now.tree.root c.first_number-first.result c.in_ok-leaves.leaves c.as_slice.result.now c.requires.asks c.requires.edits h.1 h.2
+      edit-exchanged c.args.self.now.content c.args.doc c.args.change h.0 c.held-entry.result.now.tree.root c.first_number-first.result c.in_ok-leaves.leaves c.as_slice.result.now c.requires.asks c.requires.edits h.1 h.2
       c.held-entry.ensures.tree_is_sound c.first_number-first.ensures.first_that_comes (rw c.root-tree.ensures.lends_the_root at c.in_ok-leaves.ensures.addresses_of_the_usage_that_leave)
       (c.as_slice.ensures.lends_the_items ∙ c.in_ok-enters.ensures.addresses_of_the_usage_that_enter) in
-      edit-refused c.args.self.now.content c.args.doc.now c.args.change h.0 tree c.in-Some.refusal c.requires.edits h.1 (ap (λ (t : Tree). edited t c.args.change) (sym h.2))
+      edit-refused c.args.self.now.content c.args.doc c.args.change h.0 tree c.in-Some.refusal c.requires.edits h.1 (ap (λ (t : Tree). edited t c.args.change) (sym h.2))
       (sym (c.in-Some.ensures.first_reason_against_an_edited_one h.0 tree c.in_ok-leaves.leaves h.1 counts exchanged));
 }
 
 pub len_after-len-requires-clause-fits : goal.len_after-len-requires-clause-fits
 len_after-len-requires-clause-fits c =
     let h = c.held-entry.ensures.entry_that_is_held in
-    subst (λ (t : Tree). Fits t c.args.change) (h.2 ∙ sym c.root-tree.ensures.lends_the_root) (asked c.args.self.now.content c.args.doc.now c.args.change h.0 c.requires.edits h.1 c.requires.asks).0
+    subst (λ (t : Tree). Fits t c.args.change) (h.2 ∙ sym c.root-tree.ensures.lends_the_root) (asked c.args.self.now.content c.args.doc c.args.change h.0 c.requires.edits h.1 c.requires.asks).0
 
 pub len_after-len-requires-clause-len : goal.len_after-len-requires-clause-len
 len_after-len-requires-clause-len c = c.held-entry.ensures.entry_that_is_held.4 ∙ ap document_len (sym c.root-tree.ensures.lends_the_root)
 
 pub refusal_of_edit-requires : goal.refusal_of_edit-requires
-refusal_of_edit-requires c = some-held (document_in held_name c.args.self.now.content.documents c.args.doc.now) c.held-entry.ensures.entry_that_is_held.0 c.held-entry.ensures.entry_that_is_held.1
+refusal_of_edit-requires c = some-held (document_in held_name c.args.self.now.content.documents c.args.doc) c.held-entry.ensures.entry_that_is_held.0 c.held-entry.ensures.entry_that_is_held.1
 
 pub returns-in_default-next_number : goal.returns-in_default-next_number
 returns-in_default-next_number c = record {
@@ -49,26 +49,26 @@ returns-in_default-next_number c = record {
       let counts = c.len_after-len.ensures.counts_the_changed_document
       ∙ ap (λ (t : Tree). min (document_len (edited t c.args.change)) 18446744073709551615) c.root-tree.ensures.lends_the_root in
       let exchanged =
-      edit-exchanged c.args.self.now.content c.args.doc.now c.args.change h.0 c.held-entry.result.now.tree.root c.first_number-first.result c.in_ok-leaves.leaves c.as_slice.result.now c.requires.asks c.requires.edits h.1 h.2
+      edit-exchanged c.args.self.now.content c.args.doc c.args.change h.0 c.held-entry.result.now.tree.root c.first_number-first.result c.in_ok-leaves.leaves c.as_slice.result.now c.requires.asks c.requires.edits h.1 h.2
       c.held-entry.ensures.tree_is_sound c.first_number-first.ensures.first_that_comes (rw c.root-tree.ensures.lends_the_root at c.in_ok-leaves.ensures.addresses_of_the_usage_that_leave)
       (c.as_slice.ensures.lends_the_items ∙ c.in_ok-enters.ensures.addresses_of_the_usage_that_enter) in
-      edit-unnumbered c.args.self.now.content c.args.doc.now c.args.change h.0 tree NoNumber c.requires.edits h.1 (ap (λ (t : Tree). edited t c.args.change) (sym h.2))
+      edit-unnumbered c.args.self.now.content c.args.doc c.args.change h.0 tree NoNumber c.requires.edits h.1 (ap (λ (t : Tree). edited t c.args.change) (sym h.2))
       (sym (c.refusal_of_edit.ensures.first_reason_against_an_edited_one h.0 tree c.in_ok-leaves.leaves h.1 counts exchanged) ∙ c.in_default.is) (c.next_number.ensures.none_where_the_numbers_end c.in_default-next_number.is);
 }
 
 pub total_without-others-requires : goal.total_without-others-requires
-total_without-others-requires c = some-held (document_in held_name c.args.self.now.content.documents c.args.doc.now) c.held-entry.ensures.entry_that_is_held.0 c.held-entry.ensures.entry_that_is_held.1
+total_without-others-requires c = some-held (document_in held_name c.args.self.now.content.documents c.args.doc) c.held-entry.ensures.entry_that_is_held.0 c.held-entry.ensures.entry_that_is_held.1
 
 pub noted-requires-clause-fits : goal.noted-requires-clause-fits
 noted-requires-clause-fits c =
     let h = c.held-entry.ensures.entry_that_is_held in
-    subst (λ (t : Tree). Fits t c.args.change) h.2 (asked c.args.self.now.content c.args.doc.now c.args.change h.0 c.requires.edits h.1 c.requires.asks).0
+    subst (λ (t : Tree). Fits t c.args.change) h.2 (asked c.args.self.now.content c.args.doc c.args.change h.0 c.requires.edits h.1 c.requires.asks).0
 
 pub returns : goal.returns
 returns c = record {
   plans_the_edit =
       let content = c.args.self.now.content in
-      let doc = c.args.doc.now in
+      let doc = c.args.doc in
       let change = c.args.change in
       let h = c.held-entry.ensures.entry_that_is_held in
       let v = c.held-entry.result.now in
@@ -76,7 +76,7 @@ returns c = record {
       let counts = c.len_after-len.ensures.counts_the_changed_document
       ∙ ap (λ (t : Tree). min (document_len (edited t c.args.change)) 18446744073709551615) c.root-tree.ensures.lends_the_root in
       let exchanged =
-      edit-exchanged c.args.self.now.content c.args.doc.now c.args.change h.0 c.held-entry.result.now.tree.root c.first_number-first.result c.in_ok-leaves.leaves c.as_slice.result.now c.requires.asks c.requires.edits h.1 h.2
+      edit-exchanged c.args.self.now.content c.args.doc c.args.change h.0 c.held-entry.result.now.tree.root c.first_number-first.result c.in_ok-leaves.leaves c.as_slice.result.now c.requires.asks c.requires.edits h.1 h.2
       c.held-entry.ensures.tree_is_sound c.first_number-first.ensures.first_that_comes (rw c.root-tree.ensures.lends_the_root at c.in_ok-leaves.ensures.addresses_of_the_usage_that_leave)
       (c.as_slice.ensures.lends_the_items ∙ c.in_ok-enters.ensures.addresses_of_the_usage_that_enter) in
       let free = sym (c.refusal_of_edit.ensures.first_reason_against_an_edited_one h.0 tree c.in_ok-leaves.leaves h.1 counts exchanged) ∙ c.in_default.is in

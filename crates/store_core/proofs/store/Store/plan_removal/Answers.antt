@@ -12,10 +12,10 @@ use Rattle.store_core.specs.inner.Planning.{Plans}
 use Rattle.store_core.proofs.store.Store.plan_removal.Goals as goal
 
 pub unreachable-requires : goal.unreachable-requires
-unreachable-requires c = nothing-read (document_in held_name c.args.self.now.content.documents c.args.doc.now) (rw c.in_default.is at c.get.ensures.version_that_is_held) c.requires
+unreachable-requires c = nothing-read (document_in held_name c.args.self.now.content.documents c.args.doc) (rw c.in_default.is at c.get.ensures.version_that_is_held) c.requires
 
 pub returns-in_default-next_number : goal.returns-in_default-next_number
-returns-in_default-next_number c = record { plans_the_removal = removal-unnumbered c.args.self.now.content c.args.doc.now NoNumber (c.next_number.ensures.none_where_the_numbers_end c.in_default-next_number.is) }
+returns-in_default-next_number c = record { plans_the_removal = removal-unnumbered c.args.self.now.content c.args.doc NoNumber (c.next_number.ensures.none_where_the_numbers_end c.in_default-next_number.is) }
 
 pub total_without-total-requires : goal.total_without-total-requires
 total_without-total-requires c = c.requires
@@ -24,7 +24,7 @@ pub returns : goal.returns
 returns c = record {
   plans_the_removal =
       let content = c.args.self.now.content in
-      let doc = c.args.doc.now in
+      let doc = c.args.doc in
       let h = held-of (document_in held_name content.documents doc) c.in-Some.tree.now c.in-Some.tag c.in-Some.ensures.version_that_is_held in
       let total = c.total_without-total.result in
       subst (λ (p : Readied). Plans content doc RemoveDocument (Ok p)) (sym c.in_ok-prepared.ensures.prepares_the_removal)
