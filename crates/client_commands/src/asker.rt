@@ -6,7 +6,7 @@ use xcap_uri::Root;
 use xml_tree::Text;
 
 /// Who asks a server as its client, if that is said, and the root under which it is asked.
-#[derive(Debug, Drop)]
+#[derive(Drop)]
 pub struct Asker {
     pub user: Option<Text>,
     pub root: Root,

@@ -5,7 +5,7 @@ use feed_follower::FollowerFault;
 use xcap_io::{Failed, Line, Sink, write_all};
 
 /// How a command of the client ends.
-#[derive(Debug, Drop)]
+#[derive(Drop)]
 pub enum Ended {
     /// Its output was written.
     Done,

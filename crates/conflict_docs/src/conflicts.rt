@@ -8,7 +8,7 @@ use xcap_io::Bytes;
 use xml_tree::{NoMemory, Text, text_reference, value_reference};
 
 /// Why a request conflicts with the document that it is made on.
-#[derive(Debug, Drop)]
+#[derive(Drop)]
 pub enum ErrorBody {
     NotUtf8,
     NotWellFormed,

@@ -6,7 +6,7 @@ use std::alloc::{AllocError, Global};
 use xml_tree::Text;
 
 /// An application usage.
-#[derive(Clone, Copy, Debug, PartialEq, Eq, Hash)]
+#[derive(Clone, Copy, PartialEq, Eq, Hash)]
 pub enum Auid {
     ResourceLists,
     RlsServices,
@@ -14,7 +14,7 @@ pub enum Auid {
 }
 
 /// Where a document of a usage lies.
-#[derive(Debug, Drop, PartialEq, Eq, Hash)]
+#[derive(Drop, PartialEq, Eq, Hash)]
 pub enum Home {
     /// Under `global`.
     Global,
@@ -23,7 +23,7 @@ pub enum Home {
 }
 
 /// The name of a document.
-#[derive(Debug, Drop, PartialEq, Eq, Hash)]
+#[derive(Drop, PartialEq, Eq, Hash)]
 pub struct DocId {
     pub auid: Auid,
     pub home: Home,

@@ -5,7 +5,7 @@ ghost use Rattle.doc_names.specs.Usages.{auid_text, namespace_of, usage_of};
 use crate::doc_id::Auid;
 
 /// A usage whose documents are stored.
-#[derive(Debug, Clone, Copy, PartialEq, Eq)]
+#[derive(Clone, Copy, PartialEq, Eq)]
 pub enum Usage {
     /// Lists of a user's contacts (RFC 4826, section 3).
     ResourceLists,

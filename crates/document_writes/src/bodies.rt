@@ -61,6 +61,7 @@ fn judged(alloc: Global, usage: Usage, root: Element, closes: bool) -> Result<Bo
     match judge(alloc, usage, &root) {
         None => Ok(Body::Document(root)),
         Some(fault) => {
+            drop(root);
             let body = fault_conflict(alloc, &fault)?;
             let reply = conflict(alloc, &body, closes)?;
             Ok(Body::Refused(reply))

@@ -217,9 +217,16 @@ fn plan_delete_in(
     let Some(plan) = plan_cut(alloc, usage, tree, selector, request)? else {
         return Ok(Plan::Stops(Reply::fixed(404, request.closes)));
     };
-    match stop(alloc, request, Some(tag), true, false)? {
-        Some(reply) => Ok(Plan::Stops(reply)),
-        None => Ok(plan),
+    match stop(alloc, request, Some(tag), true, false) {
+        Ok(None) => Ok(plan),
+        Ok(Some(reply)) => {
+            drop(plan);
+            Ok(Plan::Stops(reply))
+        }
+        Err(error) => {
+            drop(plan);
+            Err(error)
+        }
     }
 }
 

@@ -9,7 +9,7 @@ use http_wire::Request;
 use std::alloc::Global;
 
 /// What stands at the front of some bytes.
-#[derive(Debug, Drop)]
+#[derive(Drop)]
 pub(crate) enum Front {
     /// A whole record, of this request, and how many bytes it has.
     Whole(Request, usize),

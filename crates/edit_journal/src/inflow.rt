@@ -12,7 +12,7 @@ use std::marker::Model;
 use xcap_io::{Failed, Line, NoMemory, Source};
 
 /// What a read for more found.
-#[derive(Clone, Copy, Debug, PartialEq, Eq)]
+#[derive(Clone, Copy, PartialEq, Eq)]
 pub(crate) enum More {
     /// Bytes that are taken.
     Some,

@@ -17,7 +17,7 @@ use std::marker::Model;
 use xcap_io::Failed;
 
 /// The length of the whole records that a journal holds, and whether a piece of one may stand behind them.
-#[derive(Debug, Drop)]
+#[derive(Drop)]
 pub struct Log {
     len: u64,
     is_torn: bool,
@@ -32,7 +32,7 @@ impl Model for Log {
 }
 
 /// Why a record wasn't added.
-#[derive(Clone, Copy, Debug, PartialEq, Eq)]
+#[derive(Clone, Copy, PartialEq, Eq)]
 pub enum AppendFault {
     /// The journal failed, and its count rose. A piece of the record may stand behind the whole ones.
     Failed,

@@ -4,7 +4,7 @@ ghost use Rattle.httparse.specs.Grammar.{is_token_byte, AllPass};
 ghost use Rattle.edit_journal.specs.inner.Reading.{Reads, Number, Short, Block, Name, worth, short_worth};
 
 /// Why no part was read.
-#[derive(Clone, Copy, Debug, PartialEq, Eq)]
+#[derive(Clone, Copy, PartialEq, Eq)]
 pub(crate) enum Stop {
     /// The bytes break off in it.
     Open,

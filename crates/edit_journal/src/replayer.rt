@@ -6,7 +6,7 @@ ghost use Rattle.edit_journal.specs.Replaying.{Redoes};
 use http_wire::Request;
 
 /// What came of a request that was to be done again.
-#[derive(Clone, Copy, Debug, PartialEq, Eq)]
+#[derive(Clone, Copy, PartialEq, Eq)]
 pub enum Redone {
     /// It was done.
     Done,

@@ -14,7 +14,7 @@ use std::alloc::Global;
 use xcap_io::{Failed, Line, Source};
 
 /// Why a restart ended before the old journal was read to its end.
-#[derive(Clone, Copy, Debug, PartialEq, Eq)]
+#[derive(Clone, Copy, PartialEq, Eq)]
 pub enum RestartFault {
     /// The source failed, and its count of such faults rose.
     ReadFailed,

@@ -6,7 +6,7 @@ use std::alloc::{AllocError, Global};
 use xml_tree::{Element, Name, Path, Text, copy_tree};
 
 /// A change of a document.
-#[derive(Debug, Drop)]
+#[derive(Drop)]
 pub enum Change {
     /// The document is made, with this root.
     CreateDocument {

@@ -1,5 +1,5 @@
 //! The tree after a change as a new one, built from the nodes up: the plain program of the edited tree.
-ghost use Rattle.std.specs.Prelude.{◌≡◌, ◌<◌, ◌≤◌, ◌++◌, [], ◌∷◌, length, IfOk, IsSomeAnd};
+ghost use Rattle.std.specs.Prelude.{◌≡◌, ◌<◌, ◌≤◌, ◌++◌, [], ◌∷◌, length, IfOk, IsSomeAnd, OnOk};
 ghost use Rattle.xml_tree.specs.Tree.{at, kids_of, last, tree_of};
 ghost use Rattle.xml_tree.specs.Attributes.{with_attr, without_attr};
 ghost use Rattle.xml_tree.specs.Edits.{change_at, change_kid, cut_kid, drop_attr, put_kid, write_attr};
@@ -10,7 +10,9 @@ ghost use Rattle.edit_ops.specs.inner.Here.{FitsHere, made_here};
 
 use crate::change::{Change, site_of};
 use std::alloc::{AllocError, Global};
-use xml_tree::{Attr, Element, Name, Node, Text, copy_nodes, copy_tree, place_of, place_of_gap};
+use xml_tree::{
+    Attr, Decl, Element, Name, Node, Text, copy_nodes, copy_tree, place_of, place_of_gap,
+};
 
 // ---- an element, part by part
 
@@ -19,84 +21,110 @@ fn opened(alloc: Global, element: &Element) -> Result<Element, AllocError>
     ensures opens_an_equal_tag { IfOk result (λ made. made ≡ tree_of element.now.name element.now.decls [] (last [])) }
 {
     let mut made = Element::new(alloc, element.name().copy(alloc)?);
-    for decl in element.decls() {
-        made.push_decl(decl.copy(alloc)?)?;
-    }
+    push_decls(alloc, &mut made, element.decls())?;
     Ok(made)
 }
 
-// An element with copies of attributes behind its own.
-fn with_attrs(alloc: Global, element: Element, attrs: &[Attr]) -> Result<Element, AllocError>
-    ensures adds_the_attributes { IfOk result (λ made. made ≡ record element { attrs = element.attrs ++ attrs.now }) }
+// Adds copies of declarations.
+fn push_decls(alloc: Global, made: &mut Element, decls: &[Decl]) -> Result<(), AllocError>
+    ensures adds_the_declarations { OnOk result (made.new ≡ record made.old { decls = made.old.decls ++ decls.now }) }
 {
-    let mut made = element;
-    for attr in attrs {
-        made.push_attr(attr.copy(alloc)?)?;
+    for decl in decls {
+        let copy = decl.copy(alloc)?;
+        made.push_decl(copy)?;
     }
-    Ok(made)
+    Ok(())
 }
 
-// An attribute of copies.
-fn attr_of(alloc: Global, name: &Name, value: &Text) -> Result<Attr, AllocError>
-    ensures copies_name_and_value { IfOk result (λ made. made ≡ record { name = name.now; value = value.now }) }
+// Adds a copy of an attribute.
+fn push_attr(alloc: Global, made: &mut Element, attr: &Attr) -> Result<(), AllocError>
+    ensures adds_the_attribute { OnOk result (made.new ≡ record made.old { attrs = made.old.attrs ++ attr.now ∷ [] }) }
+{
+    let copy = attr.copy(alloc)?;
+    made.push_attr(copy)
+}
+
+// Adds copies of attributes.
+fn push_attrs(alloc: Global, made: &mut Element, attrs: &[Attr]) -> Result<(), AllocError>
+    ensures adds_the_attributes { OnOk result (made.new ≡ record made.old { attrs = made.old.attrs ++ attrs.now }) }
+{
+    for attr in attrs {
+        push_attr(alloc, made, attr)?;
+    }
+    Ok(())
+}
+
+// Adds an attribute of a copied name and value.
+fn push_new_attr(
+    alloc: Global,
+    made: &mut Element,
+    name: &Name,
+    value: &Text,
+) -> Result<(), AllocError>
+    ensures adds_one_of_name_and_value { OnOk result (made.new ≡ record made.old { attrs = made.old.attrs ++ record { name = name.now; value = value.now } ∷ [] }) }
 {
     let name = name.copy(alloc)?;
     let value = value.copy(alloc)?;
-    Ok(Attr { name, value })
+    made.push_attr(Attr { name, value })
 }
 
-// An element with copies of attributes behind its own, of which the one of this name gets the value, or else a new one does.
-fn with_attrs_written(
+// Adds copies of attributes, of which the one of this name gets the value, or else a new one does.
+fn push_attrs_written(
     alloc: Global,
-    element: Element,
+    made: &mut Element,
     attrs: &[Attr],
     name: &Name,
     value: &Text,
-) -> Result<Element, AllocError>
-    ensures adds_them_with_the_written_one { IfOk result (λ made. made ≡ record element { attrs = element.attrs ++ with_attr name.now value.now attrs.now }) }
+) -> Result<(), AllocError>
+    ensures adds_them_with_the_written_one { OnOk result (made.new ≡ record made.old { attrs = made.old.attrs ++ with_attr name.now value.now attrs.now }) }
 {
-    let mut made = element;
     for (i, attr) in attrs.iter().enumerate() {
         if attr.name.same(name) {
-            made.push_attr(attr_of(alloc, &attr.name, value)?)?;
-            return with_attrs(alloc, made, attrs.split_at(i + 1).1);
+            push_new_attr(alloc, made, &attr.name, value)?;
+            return push_attrs(alloc, made, attrs.split_at(i + 1).1);
         }
-        made.push_attr(attr.copy(alloc)?)?;
+        push_attr(alloc, made, attr)?;
     }
-    made.push_attr(attr_of(alloc, name, value)?)?;
-    Ok(made)
+    push_new_attr(alloc, made, name, value)
 }
 
-// An element with copies of attributes behind its own, but for the one of this name.
-fn with_other_attrs(
+// Adds copies of attributes, but for the one of this name.
+fn push_other_attrs(
     alloc: Global,
-    element: Element,
+    made: &mut Element,
     attrs: &[Attr],
     name: &Name,
-) -> Result<Element, AllocError>
-    ensures adds_them_without_the_named_one { IfOk result (λ made. made ≡ record element { attrs = element.attrs ++ without_attr name.now attrs.now }) }
+) -> Result<(), AllocError>
+    ensures adds_them_without_the_named_one { OnOk result (made.new ≡ record made.old { attrs = made.old.attrs ++ without_attr name.now attrs.now }) }
 {
-    let mut made = element;
     for (i, attr) in attrs.iter().enumerate() {
         if attr.name.same(name) {
-            return with_attrs(alloc, made, attrs.split_at(i + 1).1);
+            return push_attrs(alloc, made, attrs.split_at(i + 1).1);
         }
-        made.push_attr(attr.copy(alloc)?)?;
+        push_attr(alloc, made, attr)?;
     }
-    Ok(made)
+    Ok(())
 }
 
-// An element with nodes behind its tag, which had none.
-fn closed(element: Element, nodes: Vec<Node>) -> Result<Element, AllocError>
-    requires { element.content ≡ last [] }
-    ensures closes_with_the_nodes { IfOk result (λ made. made ≡ record element { content = content_of nodes.items }) }
+// Gives an element that has no nodes copies of those of another.
+fn close_like(alloc: Global, made: &mut Element, element: &Element) -> Result<(), AllocError>
+    requires { made.old.content ≡ last [] }
+    ensures adds_equal_nodes { OnOk result (made.new ≡ record made.old { content = element.now.content }) }
 {
-    let mut made = element;
-    made.exchange_nodes(0, 0, nodes)?;
-    Ok(made)
+    let nodes = copy_nodes(alloc, element.nodes())?;
+    made.exchange_nodes(0, 0, nodes)
 }
 
 // ---- nodes
+
+// Adds copies of nodes.
+fn push_nodes(alloc: Global, made: &mut Vec<Node>, nodes: &[Node]) -> Result<(), AllocError>
+    ensures adds_equal_nodes { OnOk result (made.new.items ≡ made.old.items ++ nodes.now) }
+{
+    let mut rest = copy_nodes(alloc, nodes)?;
+    made.append(&mut rest)?;
+    Ok(())
+}
 
 // Copies of nodes, an element, and copies of further nodes.
 fn around(
@@ -109,8 +137,7 @@ fn around(
 {
     let mut made = copy_nodes(alloc, before)?;
     made.push(Node::Elem(element))?;
-    let mut rest = copy_nodes(alloc, behind)?;
-    made.append(&mut rest)?;
+    push_nodes(alloc, &mut made, behind)?;
     Ok(made)
 }
 
@@ -119,8 +146,7 @@ fn together(alloc: Global, before: &[Node], behind: &[Node]) -> Result<Vec<Node>
     ensures joins_both_lists { IfOk result (λ made. made.items ≡ before.now ++ behind.now) }
 {
     let mut made = copy_nodes(alloc, before)?;
-    let mut rest = copy_nodes(alloc, behind)?;
-    made.append(&mut rest)?;
+    push_nodes(alloc, &mut made, behind)?;
     Ok(made)
 }
 
@@ -130,9 +156,9 @@ fn together(alloc: Global, before: &[Node], behind: &[Node]) -> Result<Vec<Node>
 fn with_nodes(alloc: Global, element: &Element, nodes: Vec<Node>) -> Result<Element, AllocError>
     ensures has_these_nodes { IfOk result (λ made. made ≡ record element.now { content = content_of nodes.items }) }
 {
-    let opened = opened(alloc, element)?;
-    let tag = with_attrs(alloc, opened, element.attrs())?;
-    closed(tag, nodes)
+    let mut made = tag_of(alloc, element)?;
+    made.exchange_nodes(0, 0, nodes)?;
+    Ok(made)
 }
 
 // With an element in a gap.
@@ -191,18 +217,20 @@ fn with_attr(
 ) -> Result<Element, AllocError>
     ensures writes_the_attribute { IfOk result (λ made. made ≡ write_attr name.now value.now element.now) }
 {
-    let opened = opened(alloc, element)?;
-    let tag = with_attrs_written(alloc, opened, element.attrs(), name, value)?;
-    closed(tag, copy_nodes(alloc, element.nodes())?)
+    let mut made = opened(alloc, element)?;
+    push_attrs_written(alloc, &mut made, element.attrs(), name, value)?;
+    close_like(alloc, &mut made, element)?;
+    Ok(made)
 }
 
 // Without the attribute of this name.
 fn without_attr(alloc: Global, element: &Element, name: &Name) -> Result<Element, AllocError>
     ensures leaves_out_the_attribute { IfOk result (λ made. made ≡ drop_attr name.now element.now) }
 {
-    let opened = opened(alloc, element)?;
-    let tag = with_other_attrs(alloc, opened, element.attrs(), name)?;
-    closed(tag, copy_nodes(alloc, element.nodes())?)
+    let mut made = opened(alloc, element)?;
+    push_other_attrs(alloc, &mut made, element.attrs(), name)?;
+    close_like(alloc, &mut made, element)?;
+    Ok(made)
 }
 
 // ---- the element on the way
@@ -269,6 +297,7 @@ pub fn rebuilt(alloc: Global, root: &Element, change: &Change) -> Result<Element
 pub fn tag_of(alloc: Global, element: &Element) -> Result<Element, AllocError>
     ensures tag_alone { IfOk result (λ tag. tag ≡ tree_of element.now.name element.now.decls element.now.attrs (last [])) }
 {
-    let opened = opened(alloc, element)?;
-    with_attrs(alloc, opened, element.attrs())
+    let mut made = opened(alloc, element)?;
+    push_attrs(alloc, &mut made, element.attrs())?;
+    Ok(made)
 }

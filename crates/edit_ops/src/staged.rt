@@ -19,7 +19,7 @@ use std::alloc::{AllocError, Global};
 use xml_tree::{Attr, Element, Name, Node, Path, Text, copy_tree, element_at};
 
 /// What a change brings into a tree, with all memory that it wants there.
-#[derive(Debug, Drop)]
+#[derive(Drop)]
 pub enum Staged {
     /// An element that is put in, and room for the nodes that its parent has and one more.
     Child {

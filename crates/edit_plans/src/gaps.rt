@@ -17,7 +17,7 @@ use usage_docs::{END, Kind, follows, is_valid_child, part_of};
 use xml_tree::{Around, Declared, Element, Node};
 
 /// Why no gap is taken.
-#[derive(Clone, Copy, Debug, Drop)]
+#[derive(Clone, Copy, Drop)]
 pub(crate) enum NoGap {
     /// The step would select the new child at none.
     Unlawful,

@@ -51,7 +51,7 @@ impl<'a> Siblings<'a> {
 }
 
 /// A sibling that has the kind and the key of a new element, by its number among the siblings.
-#[derive(Clone, Copy, Debug, Drop)]
+#[derive(Clone, Copy, Drop)]
 pub(crate) struct Twin {
     pub(crate) child: usize,
     pub(crate) key: Key,

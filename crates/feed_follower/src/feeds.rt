@@ -13,7 +13,7 @@ use xcap_client::ClientFault;
 use xml_tree::ReadError;
 
 /// What a round came to.
-#[derive(Clone, Copy, Debug, Drop, PartialEq, Eq)]
+#[derive(Clone, Copy, Drop, PartialEq, Eq)]
 pub enum Round {
     /// The copy is the present version.
     Same,

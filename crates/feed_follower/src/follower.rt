@@ -20,7 +20,7 @@ use xml_tree::Text;
 
 /// A follower of a document under a root, with the copy that it holds. Contracts see the root, the user who asks, the
 /// document's name and what is held of it.
-#[derive(Debug, Drop)]
+#[derive(Drop)]
 pub struct Follower {
     alloc: Global,
     root: Root,

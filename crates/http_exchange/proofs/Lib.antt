@@ -1,3 +1,5 @@
+pub mod Bodies
+pub mod Counts
 pub mod Fronts
 pub mod Answering
 pub mod KnownBytes

@@ -34,7 +34,7 @@ pub enum ResponseFault {
 }
 
 // Why reading can't go on.
-#[derive(Clone, Copy, Debug, PartialEq, Eq)]
+#[derive(Clone, Copy, PartialEq, Eq)]
 pub(crate) enum Stop {
     ReadFailed,
     NoMemory,

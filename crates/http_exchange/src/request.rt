@@ -12,7 +12,7 @@ use xcap_uri::Root;
 use xml_tree::Text;
 
 /// What is asked of a server: a method, a path under its root, who asks, and of a PUT the media type of the body and the body.
-#[derive(Debug, Drop)]
+#[derive(Drop)]
 pub struct Ask {
     pub method: Text,
     /// Behind the root and a slash, with its escapes.

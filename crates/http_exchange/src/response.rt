@@ -2,6 +2,7 @@
 ghost use Rattle.std.specs.Prelude.{◌+◌, Option, Ok};
 ghost use Rattle.xcap_io.specs.Causes.{Reads};
 ghost use Rattle.http_exchange.specs.Stops.{CountsFault};
+ghost use Rattle.http_exchange.specs.declared.extents.Extent.{Extent};
 ghost use Rattle.http_exchange.specs.Responses.{AnswersRead};
 ghost use Rattle.http_exchange.specs.inner.Responses.{GivesBody};
 
@@ -17,7 +18,7 @@ use xcap_io::{Bytes, Line, Source};
 use xml_tree::Text;
 
 /// A response with its whole body.
-#[derive(Debug, Drop)]
+#[derive(Drop)]
 pub struct Response {
     pub status: u16,
     /// What stands between the quotes of its entity tag, if it has one that is UTF-8.
@@ -25,11 +26,40 @@ pub struct Response {
     pub body: Bytes,
 }
 
+// The body of so many bytes, from the bytes held on.
+fn read_exactly<S: Source>(
+    source: &mut S,
+    mut inflow: Inflow,
+    len: usize,
+) -> Result<Bytes, ResponseFault>
+    ensures gives_the_body { GivesBody (Extent.Exactly len) inflow (S.state source.old).inward (S.state source.new).inward result }
+    ensures only_reads_of_the_source { Reads (S.state source.old) (S.state source.new) }
+    ensures counts_each_failure { CountsFault (S.state source.old).read_faults (S.state source.new).read_faults result }
+{
+    if !inflow.hold(source, len)? {
+        return Err(ResponseFault::Short(inflow.len() as u64, len as u64));
+    }
+    Ok(inflow.into_front(len))
+}
+
+// The body that goes to the end of the bytes, from the bytes held on.
+fn read_to_end<S: Source>(source: &mut S, mut inflow: Inflow) -> Result<Bytes, ResponseFault>
+    ensures gives_the_body { GivesBody Extent.ToEnd inflow (S.state source.old).inward (S.state source.new).inward result }
+    ensures only_reads_of_the_source { Reads (S.state source.old) (S.state source.new) }
+    ensures counts_each_failure { CountsFault (S.state source.old).read_faults (S.state source.new).read_faults result }
+{
+    if inflow.hold(source, MAX_RESPONSE_BODY + 1)? {
+        return Err(ResponseFault::TooLong(MAX_RESPONSE_BODY as u64 + 1));
+    }
+    let len = inflow.len();
+    Ok(inflow.into_front(len))
+}
+
 // The body that goes so far, from the bytes held on.
 fn read_body<S: Source>(
     alloc: Global,
     source: &mut S,
-    mut inflow: Inflow,
+    inflow: Inflow,
     extent: Extent,
 ) -> Result<Bytes, ResponseFault>
     ensures gives_the_body { GivesBody extent inflow (S.state source.old).inward (S.state source.new).inward result }
@@ -38,19 +68,8 @@ fn read_body<S: Source>(
 {
     match extent {
         Extent::Empty => Ok(Bytes::new(alloc)),
-        Extent::Exactly(len) => {
-            if !inflow.hold(source, len)? {
-                return Err(ResponseFault::Short(inflow.len() as u64, len as u64));
-            }
-            Ok(inflow.into_front(len))
-        }
-        Extent::ToEnd => {
-            if inflow.hold(source, MAX_RESPONSE_BODY + 1)? {
-                return Err(ResponseFault::TooLong(MAX_RESPONSE_BODY as u64 + 1));
-            }
-            let len = inflow.len();
-            Ok(inflow.into_front(len))
-        }
+        Extent::Exactly(len) => read_exactly(source, inflow, len),
+        Extent::ToEnd => read_to_end(source, inflow),
     }
 }
 

@@ -1,5 +1,5 @@
 -- Connections of a port, served one after the other.
-use Rattle.std.proofs.Common.{◌≡◌, ℕ, ◌+◌, ◌<◌, Bool, true, false, true≢false, List, [], ◌∷◌, ◌++◌, length, Option, None, Some, IfSome, Ok, refl, sym, ap, subst, ◌∙◌, arith, append_assoc, append-nil}
+use Rattle.std.proofs.Common.{◌≡◌, ℕ, ◌+◌, ◌<◌, Bool, true, false, true≢false, List, [], ◌∷◌, ◌++◌, length, Option, None, Some, Ok, refl, sym, ap, subst, ◌∙◌, arith, append_assoc, append-nil}
 use Rattle.std.proofs.lemmas.List.{length_push}
 use Rattle.std.specs.Io.KnownBytes.{Consumes, IsAtEnd}
 use Rattle.xcap_io.specs.Causes.{Begun, Inward, LineState, PortState, Rose, RoseBy}
@@ -141,7 +141,7 @@ pub has_begun : (E : Type 0) (old new : LineState) (begun : Bool) → OnlyNext {
 has_begun E old new true n is = n
 has_begun E old new false n is = let no : ⊥ = cc in absurd no
 
-pub has_ended : (E : Type 0) (old new : LineState) (begun : Bool) → OnlyNext {E = E} old new (Ok begun) → begun ≡ false → (new ≡ old) × IfSome old.port.to_come (λ all. all ≡ [])
+pub has_ended : (E : Type 0) (old new : LineState) (begun : Bool) → OnlyNext {E = E} old new (Ok begun) → begun ≡ false → (new ≡ old) × (old.port.to_come ≡ Some [])
 has_ended E old new true n is = let no : ⊥ = cc in absurd no
 has_ended E old new false n is = n
 
@@ -241,7 +241,7 @@ module _ {M W E : Type 0} (Step : M → Request → List ℕ → M → Option E 
     all_served all = stopped Count (all, s.same_faults)
 
     -- none was to come
-    pub none_to_come : (new : LineState) → count < most → (new ≡ mid) × IfSome mid.port.to_come (λ all. all ≡ []) → ServesPort Step Keeps most (served NoMore) machine now old new a b
+    pub none_to_come : (new : LineState) → count < most → (new ≡ mid) × (mid.port.to_come ≡ Some []) → ServesPort Step Keeps most (served NoMore) machine now old new a b
     none_to_come new few (same, none) = subst (λ (l : LineState). ServesPort Step Keeps most (served NoMore) machine now old l a b) (sym same) (stopped NoMore (few, none, s.same_faults))
 
     -- the next one didn't begin

@@ -18,12 +18,12 @@ last_of [] = Closed
 last_of (ending ∷ []) = ending
 last_of (ending ∷ next ∷ endings) = last_of (next ∷ endings)
 
--- Why no further connection was served, of so many at most: that many were; none was to come; or `next` failed, and the
--- count of such faults rose.
+-- Why no further connection was served, of so many at most: that many were; none was to come, as the port tells; or `next` failed,
+-- and the count of such faults rose.
 abbrev pub Stops : Stop → ℕ → ℕ → LineState → LineState → Type 0
 Stops Count most connections old new = (connections ≡ most) × (new.port.faults ≡ old.port.faults)
 Stops NoMore most connections old new =
-    (connections < most) × IfSome new.port.to_come (λ all. all ≡ []) × (new.port.faults ≡ old.port.faults)
+    (connections < most) × (new.port.to_come ≡ Some []) × (new.port.faults ≡ old.port.faults)
 Stops PortFailed most connections old new = (connections < most) × Rose old.port.faults new.port.faults
 
 -- Of connections over which this passed, all bytes were the next ones to come, where the port tells them, and the other

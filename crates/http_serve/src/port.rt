@@ -11,7 +11,7 @@ use watchers::Watchers;
 use xcap_io::{Failed, Line, Port};
 
 /// Why no further connection was served.
-#[derive(Clone, Copy, Debug, PartialEq, Eq)]
+#[derive(Clone, Copy, PartialEq, Eq)]
 pub enum Stop {
     /// As many as were wanted have been served.
     Count,
@@ -22,7 +22,7 @@ pub enum Stop {
 }
 
 /// What was served on a port.
-#[derive(Clone, Copy, Debug, PartialEq, Eq)]
+#[derive(Clone, Copy, PartialEq, Eq)]
 pub struct Served {
     /// How many connections.
     pub connections: u64,

@@ -1,15 +1,16 @@
 -- Items, by what was found at the front of the bytes given.
 use Rattle.std.proofs.Common.{◌≡◌, ℕ, ◌+◌, ◌<◌, ◌≤◌, inl, inr, Bool, ◌==◌, ◌||◌, List, [], ◌++◌, length, take, drop, map, slice_range, Result, Ok, Err, MatchResult, refl, sym, ap, subst, ◌∙◌, arith, length-drop, append_assoc, take-append-drop}
 use Rattle.std.proofs.lemmas.List.{append-nil, drop-drop, length-take-le}
+use Rattle.xcap_io.proofs.Lines.{counts_on, reads_on}
 use Rattle.xcap_io.proofs.Passing.{gave_none, gave_on}
-use Rattle.xcap_io.specs.Causes.{Inward}
+use Rattle.xcap_io.specs.Causes.{Inward, LineState, Reads, OnlyReads}
 use Rattle.xcap_io.specs.Passing.{Gave, IsEnded}
 use Rattle.httparse.specs.Grammar.{RequestHead}
 use Rattle.httparse.specs.Spans.{header_bytes, span_bytes, name_and_value}
 use Rattle.httparse.specs.declared.spans.HeaderSpan.{HeaderSpan}
 use Rattle.httparse.specs.declared.spans.RequestSpans.{RequestSpans}
 use Rattle.http_wire.specs.declared.framing.Framing.{Framing}
-use Rattle.http_wire.specs.declared.framing.Framing.TheVariants.{Bad as BadFields, Coded as OtherCoding, Length, Chunked}
+use Rattle.http_wire.specs.declared.framing.Framing.TheVariants.{Bad as BadFields, Coded as OtherCoding, TooLong as LongBody, Length, Chunked}
 use Rattle.http_wire.specs.declared.decoding.Decoded.TheVariants.{Whole, TooLong as LongChunks, Bad as BadChunks, Cut}
 use Rattle.http_wire.specs.declared.request.Field.{Field}
 use Rattle.http_wire.specs.declared.request.Request.{Request}
@@ -18,7 +19,7 @@ use Rattle.http_wire.specs.declared.request.Asked.TheVariants.{Request as Reques
 use Rattle.http_wire.specs.Fields.{asks_to_close}
 use Rattle.http_wire.specs.Framing.{framing}
 use Rattle.http_wire.specs.Chunked.{print_line, print_chunks, HasNoBody, MayBecomeBody, PassesLimit}
-use Rattle.http_wire.specs.Items.{bad, coded, field_of, request_of, Opens, BehindHead, IsFramed, AsksFor, with_length, in_chunks, IsBad, bad_fields, body_cut, no_body, IsTooLong, long_chunks, IsUnfinished, lacks_body, lacks_chunks}
+use Rattle.http_wire.specs.Items.{bad, too_long, coded, field_of, request_of, Opens, BehindHead, IsFramed, AsksFor, with_length, in_chunks, IsBad, bad_fields, body_cut, no_body, IsTooLong, long_body, long_chunks, IsUnfinished, lacks_body, lacks_chunks}
 use Rattle.http_wire.specs.Asking.{IsNext, IsAsked, Asks}
 use Rattle.http_wire.specs.inner.Inflow.{Gains, IsHeadAt, IsOpenAt, HasBody, HasNoBodyYet, Decodes}
 use Rattle.http_wire.proofs.Fronts.{begins-append, head_at-append}
@@ -33,6 +34,20 @@ gains_on a b c l m n first next = record {
   read = first.read ++ next.read;
   added = next.added ∙ ap (λ (s : List ℕ). s ++ next.read) first.added ∙ append_assoc a first.read next.read;
   given = gave_on l m n first.read next.read first.given next.given;
+}
+
+-- a read after reads that did not fail
+pub only_reads_on : {T E : Type 0} (old mid new : LineState) (result : Result T E) → Reads old mid → mid.read_faults ≡ old.read_faults → OnlyReads mid new result → OnlyReads old new result
+only_reads_on old mid new result first stayed next = record {
+  reads = reads_on old mid new first next.reads;
+  counts = counts_on old.read_faults mid.read_faults new.read_faults result stayed next.counts;
+}
+
+-- the same, where it failed, for whatever is answered otherwise
+pub failed_on : {T U E : Type 0} (old mid new : LineState) (e : E) → Reads old mid → mid.read_faults ≡ old.read_faults → OnlyReads {T = T} mid new (Err e) → OnlyReads {T = U} old new (Err e)
+failed_on {T} old mid new e first stayed next = record {
+  reads = reads_on old mid new first next.reads;
+  counts = counts_on {T = T} old.read_faults mid.read_faults new.read_faults (Err e) stayed next.counts;
 }
 
 -- an answer by the bytes that are held
@@ -166,6 +181,9 @@ given_and_more held read more = sym (append_assoc held read more)
 -- the fields can't be taken, or name another coding, or a length beyond the limit
 pub next_bad : (before : ℕ) (held : List ℕ) (left : Inward) (held' : List ℕ) (headers : List HeaderSpan) (spans : RequestSpans) → IsOpenAt held headers spans BadFields → IsNext before held left bad held'
 next_bad before held left held' headers spans o = inl (λ more. bad_fields (framed_on held more headers spans BadFields o))
+
+pub next_long : (before : ℕ) (held : List ℕ) (left : Inward) (held' : List ℕ) (headers : List HeaderSpan) (spans : RequestSpans) → IsOpenAt held headers spans LongBody → IsNext before held left too_long held'
+next_long before held left held' headers spans o = inl (λ more. long_body (framed_on held more headers spans LongBody o))
 
 pub next_coded : (before : ℕ) (held : List ℕ) (left : Inward) (held' : List ℕ) (headers : List HeaderSpan) (spans : RequestSpans) → IsOpenAt held headers spans OtherCoding → IsNext before held left coded held'
 next_coded before held left held' headers spans o = inl (λ more. framed_on held more headers spans OtherCoding o)

@@ -1,7 +1,7 @@
 // How a connection that was served ended.
 
 /// How a connection ended (RFC 9112, section 9).
-#[derive(Clone, Copy, Debug, PartialEq, Eq)]
+#[derive(Clone, Copy, PartialEq, Eq)]
 pub enum Ended {
     /// Behind a reply that closes it, or with its bytes.
     Closed,

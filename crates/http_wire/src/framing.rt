@@ -12,7 +12,7 @@ use httparse::is_space_or_tab;
 use httparse::spans::HeaderSpan;
 
 /// What the fields of a head say of the body behind it.
-#[derive(Clone, Copy, Debug, PartialEq, Eq)]
+#[derive(Clone, Copy, PartialEq, Eq)]
 pub enum Framing {
     /// They can't be taken as they stand.
     Bad,

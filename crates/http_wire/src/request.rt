@@ -13,14 +13,14 @@ use xml_tree::{List, Text};
 
 /// A field line of a head (RFC 9110, section 5): the name as it was spelled, and the value without the spaces and tabs at
 /// its ends.
-#[derive(Debug, Drop)]
+#[derive(Drop)]
 pub struct Field {
     pub name: Text,
     pub value: Bytes,
 }
 
 /// A request with its whole body.
-#[derive(Debug, Drop)]
+#[derive(Drop)]
 pub struct Request {
     pub method: Text,
     /// The target as it was sent, escapes and all.
@@ -33,7 +33,7 @@ pub struct Request {
 }
 
 /// What stands next in the bytes of a connection.
-#[derive(Debug, Drop)]
+#[derive(Drop)]
 pub enum Asked {
     Request(Request),
     /// No request of HTTP/1.1 as this server takes it: 400.

@@ -1,7 +1,8 @@
 // The next request of a connection.
 ghost use Rattle.std.specs.Prelude.{◌≡◌, ◌≤◌, ◌+◌, true, false, Ok};
 ghost use Rattle.xcap_io.specs.Causes.{OnlyReads};
-ghost use Rattle.http_wire.specs.inner.Inflow.{IsOpenAt};
+ghost use Rattle.httparse.specs.Grammar.{RequestHead};
+ghost use Rattle.http_wire.specs.inner.Inflow.{IsHeadAt, IsOpenAt};
 ghost use Rattle.http_wire.specs.Asking.{Asks, StandsAfter};
 
 use crate::chunks::Decoder;
@@ -80,6 +81,29 @@ fn read_chunked<S: Source>(
     }
 }
 
+// The item behind a head that was found, by what its fields say of the body.
+fn read_behind<S: Source>(
+    alloc: Global,
+    source: &mut S,
+    inflow: &mut Inflow,
+    decoder: &mut Decoder,
+    headers: &[HeaderSpan],
+    spans: &RequestSpans,
+    before: usize,
+) -> Result<Asked, ReadFault>
+    requires { (head : RequestHead) × IsHeadAt inflow.old headers.now spans.now head }
+    ensures asks_for_the_first_item { Asks before inflow.old (S.state source.old).inward result inflow.new (S.state source.new).inward }
+    ensures only_reads { OnlyReads (S.state source.old) (S.state source.new) result }
+{
+    match read_framing(inflow.bytes(), &headers[..spans.headers], spans.version) {
+        Framing::Bad => Ok(Asked::Bad),
+        Framing::Coded => Ok(Asked::Coded),
+        Framing::TooLong => Ok(Asked::TooLong),
+        Framing::Length(len) => read_plain(alloc, source, inflow, headers, spans, len, before),
+        Framing::Chunked => read_chunked(alloc, source, inflow, decoder, headers, spans, before),
+    }
+}
+
 // The next item, behind so many requests.
 fn read_item<S: Source>(
     alloc: Global,
@@ -92,19 +116,10 @@ fn read_item<S: Source>(
     ensures only_reads { OnlyReads (S.state source.old) (S.state source.new) result }
 {
     let mut headers = [EMPTY_HEADER_SPAN; MAX_FIELDS];
-    let Some(spans) = next_head(source, inflow, &mut headers)? else {
-        return Ok(if inflow.is_empty() {
-            Asked::End
-        } else {
-            Asked::Bad
-        });
-    };
-    match read_framing(inflow.bytes(), &headers[..spans.headers], spans.version) {
-        Framing::Bad => Ok(Asked::Bad),
-        Framing::Coded => Ok(Asked::Coded),
-        Framing::TooLong => Ok(Asked::TooLong),
-        Framing::Length(len) => read_plain(alloc, source, inflow, &headers, &spans, len, before),
-        Framing::Chunked => read_chunked(alloc, source, inflow, decoder, &headers, &spans, before),
+    match next_head(source, inflow, &mut headers)? {
+        Some(spans) => read_behind(alloc, source, inflow, decoder, &headers, &spans, before),
+        None if inflow.is_empty() => Ok(Asked::End),
+        None => Ok(Asked::Bad),
     }
 }
 

@@ -11,7 +11,7 @@ use std::marker::Model;
 use xcap_io::{Failed, Line, NoMemory, Source};
 
 /// A read of the source failed, and its count of such faults rose.
-#[derive(Clone, Copy, Debug, PartialEq, Eq)]
+#[derive(Clone, Copy, PartialEq, Eq)]
 pub struct ReadFault;
 
 // The bytes read and not used yet. They lie between two places of a buffer that has room for a head and a body.

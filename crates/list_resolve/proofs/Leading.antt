@@ -119,6 +119,15 @@ if_own g wanted doc selector l true true e h = found_own g wanted doc selector l
 if_own g wanted doc selector l true false e h = absurd cc
 if_own g wanted doc selector l false element e h = absurd cc
 
+-- only the address of a node leads anywhere
+pub leads_nowhere : (g : Ground) (wanted : Wanted) (target : Target) → ((doc : DocId) (selector : Selector) → target ≡ Node doc selector → ⊥) → None ≡ lead_of g wanted (Ok target)
+leads_nowhere g wanted (Node doc selector) h = absurd (h doc selector refl)
+leads_nowhere g wanted (Document doc) h = refl
+leads_nowhere g wanted (Deep auid home) h = refl
+leads_nowhere g wanted (Feed mode tag doc) h = refl
+leads_nowhere g wanted (ElementFeed tag doc selector raw) h = refl
+leads_nowhere g wanted (Flat doc service) h = refl
+
 lead_there : (g : Ground) (wanted : Wanted) (read : Result Target UriFault) (l : Lead) → lead_of g wanted read ≡ Some l → spot_at g l.place ≡ Some l.spot
 lead_there g wanted (Ok (Node doc selector)) l h = if_own g wanted doc selector l (is_own g.home doc) (is_element selector.end) refl h
 lead_there g wanted (Ok (Document doc)) l h = absurd cc

@@ -1,9 +1,10 @@
 //! The document that shows a flat list (RFC 4826, section 3.2).
-ghost use Rattle.std.specs.Prelude.{◌≡◌, [], IfOk, IsTrue, min};
+ghost use Rattle.std.specs.Prelude.{◌≡◌, [], ◌∷◌, ◌++◌, IfOk, IsTrue, OnOk, codes, min};
 ghost use Rattle.usage_docs.specs.Services.{document_len};
 ghost use Rattle.usage_docs.specs.Words.{is_ascii};
 ghost use Rattle.xml_tree.specs.Expanded.{name_of};
 ghost use Rattle.xml_tree.specs.Memory.{Answered};
+ghost use Rattle.xml_tree.specs.Tree.{of_kids, tree_of};
 ghost use Rattle.list_resolve.specs.Documents.{entry_tree, flat_document, flat_tree, list_tree};
 
 use crate::fault::FlatFault;
@@ -48,40 +49,75 @@ fn plain(alloc: Global, local: &str) -> Result<Name, NoMemory>
     Ok(Name { prefix, local })
 }
 
+// An element of this name, with nothing in it.
+fn empty(alloc: Global, local: &str) -> Result<Element, NoMemory>
+    requires { IsTrue (is_ascii local.now) }
+    ensures has_the_name_alone { IfOk result (λ made. made ≡ tree_of (name_of [] local.now) [] [] (of_kids [])) }
+{
+    let name = plain(alloc, local)?;
+    Ok(Element::new(alloc, name))
+}
+
+// Adds an address to an entry.
+fn push_uri(alloc: Global, entry: &mut Element, uri: &Text) -> Result<(), NoMemory>
+    ensures adds_the_address { OnOk result (entry.new ≡ record entry.old { attrs = entry.old.attrs ++ record { name = name_of [] (codes "uri"); value = uri.now } ∷ [] }) }
+{
+    let name = plain(alloc, "uri")?;
+    let value = uri.copy(alloc)?;
+    entry.push_attr(Attr { name, value })
+}
+
 // The entry of an address.
 fn entry(alloc: Global, uri: &Text) -> Result<Element, NoMemory>
     ensures entry_of_the_address { IfOk result (λ made. made ≡ entry_tree uri.now) }
 {
-    let name = plain(alloc, "uri")?;
-    let value = uri.copy(alloc)?;
-    let mut entry = Element::new(alloc, plain(alloc, "entry")?);
-    entry.push_attr(Attr { name, value })?;
+    let mut entry = empty(alloc, "entry")?;
+    push_uri(alloc, &mut entry, uri)?;
     Ok(entry)
+}
+
+// Adds the entries of these addresses to a list that has none.
+fn push_entries(alloc: Global, list: &mut Element, uris: &[Text]) -> Result<(), NoMemory>
+    requires { list.old ≡ list_tree [] }
+    ensures adds_the_entries { OnOk result (list.new ≡ list_tree uris.now) }
+{
+    for uri in uris {
+        let entry = entry(alloc, uri)?;
+        list.push_elem(entry)?;
+    }
+    Ok(())
 }
 
 // The list of the entries of these addresses.
 fn list(alloc: Global, uris: &[Text]) -> Result<Element, NoMemory>
     ensures list_of_the_entries { IfOk result (λ made. made ≡ list_tree uris.now) }
 {
-    let mut list = Element::new(alloc, plain(alloc, "list")?);
-    for uri in uris {
-        list.push_elem(entry(alloc, uri)?)?;
-    }
+    let mut list = empty(alloc, "list")?;
+    push_entries(alloc, &mut list, uris)?;
     Ok(list)
 }
 
-// The root with this list and nothing else.
+// Declares the namespace of lists, and adds this list.
 #[tactic(auto, unfolding(usage_docs::specs::Rows::lists_space))]
-fn tree(alloc: Global, uris: &[Text]) -> Result<Element, NoMemory>
-    ensures root_with_the_list { IfOk result (λ made. made ≡ flat_tree uris.now) }
+fn push_list(alloc: Global, root: &mut Element, uris: &[Text]) -> Result<(), NoMemory>
+    requires { root.old ≡ tree_of (name_of [] (codes "resource-lists")) [] [] (of_kids []) }
+    ensures declares_and_adds { OnOk result (root.new ≡ flat_tree uris.now) }
 {
     let uri = word(alloc, LISTS)?;
-    let mut root = Element::new(alloc, plain(alloc, "resource-lists")?);
     root.push_decl(Decl {
         prefix: Prefix::empty(),
         uri,
     })?;
-    root.push_elem(list(alloc, uris)?)?;
+    let list = list(alloc, uris)?;
+    root.push_elem(list)
+}
+
+// The root with this list and nothing else.
+fn tree(alloc: Global, uris: &[Text]) -> Result<Element, NoMemory>
+    ensures root_with_the_list { IfOk result (λ made. made ≡ flat_tree uris.now) }
+{
+    let mut root = empty(alloc, "resource-lists")?;
+    push_list(alloc, &mut root, uris)?;
     Ok(root)
 }
 

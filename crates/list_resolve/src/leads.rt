@@ -118,19 +118,15 @@ fn lead_to<'a>(
     lead_by(ground.alloc, wanted, doc.name, selector, root)
 }
 
-// Where a target leads.
+// Where a target leads: the address of a node, if anywhere.
 fn lead_of<'a>(ground: &Ground<'a>, wanted: Wanted, target: Target) -> Option<Lead<'a>>
     ensures leads_where_it_is_due { option_map lead_in result ≡ lead_of (ground_in ground.now) wanted (Ok target) }
     ensures is_low_enough { IfSome result (λ l. height l.spot.element.now ≤ most_levels) }
 {
-    match target {
-        Target::Node(doc, selector) => lead_to(ground, wanted, doc, &selector),
-        Target::Document(_) => None,
-        Target::Deep(_, _) => None,
-        Target::Feed { .. } => None,
-        Target::ElementFeed { .. } => None,
-        Target::Flat { .. } => None,
-    }
+    let Target::Node(doc, selector) = target else {
+        return None;
+    };
+    lead_to(ground, wanted, doc, &selector)
 }
 
 /// Where a reference leads.

@@ -6,7 +6,7 @@ use std::hash::{Hash, Hasher};
 use xml_tree::{Path, Text};
 
 /// The name of a document, and the path of an element in it.
-#[derive(Debug, Drop)]
+#[derive(Drop)]
 pub(crate) struct Place {
     pub(crate) name: Text,
     pub(crate) path: Path,

@@ -15,14 +15,14 @@ use xcap_uri::Root;
 use xml_tree::{Attr, Element, NoMemory, Node, Text, is_space};
 
 /// What has to stand where a reference leads.
-#[derive(Debug, Clone, Copy)]
+#[derive(Clone, Copy)]
 pub(crate) enum Wanted {
     AnEntry,
     AList,
 }
 
 /// A reference: the target that it is, and what has to stand there.
-#[derive(Debug, Drop)]
+#[derive(Drop)]
 pub(crate) struct Reference {
     pub(crate) wanted: Wanted,
     pub(crate) target: Text,

@@ -11,7 +11,7 @@ use std::alloc::Global;
 use xml_tree::{Around, Element, Path, declared_in};
 
 /// How far steps lead from the document on.
-#[derive(Debug, Drop)]
+#[derive(Drop)]
 pub struct Reached {
     /// So many first steps select an element, and no greater number does.
     pub steps: usize,

@@ -15,7 +15,7 @@ use tree_text::{Written, split_first};
 use xml_tree::{Around, Declared, List, Prefix, Text, is_xmlns};
 
 /// Why names can't be resolved.
-#[derive(Debug, Drop)]
+#[derive(Drop)]
 pub enum Unresolved {
     /// So many characters stand before the first name whose prefix isn't bound.
     Prefix(usize),

@@ -3,21 +3,21 @@ use tree_text::Written;
 use xml_tree::Text;
 
 /// Which of the two grammars is read.
-#[derive(Clone, Copy, Debug)]
+#[derive(Clone, Copy)]
 pub enum Form {
     Node,
     Patch,
 }
 
 /// The test of a step.
-#[derive(Debug, Drop)]
+#[derive(Drop)]
 pub struct RawTest<'a> {
     pub name: Written<'a>,
     pub value: Text,
 }
 
 /// A step.
-#[derive(Debug, Drop)]
+#[derive(Drop)]
 pub struct RawStep<'a> {
     /// None for `*`.
     pub name: Option<Written<'a>>,
@@ -30,7 +30,7 @@ pub struct RawStep<'a> {
 }
 
 /// What a selector ends in.
-#[derive(Clone, Copy, Debug)]
+#[derive(Clone, Copy)]
 pub enum RawEnd<'a> {
     Element,
     Attribute(Written<'a>),
@@ -38,7 +38,7 @@ pub enum RawEnd<'a> {
 }
 
 /// What a selector of a patch ends in.
-#[derive(Clone, Copy, Debug)]
+#[derive(Clone, Copy)]
 pub enum RawPatchEnd<'a> {
     Element,
     Attribute(Written<'a>),
@@ -46,14 +46,14 @@ pub enum RawPatchEnd<'a> {
 }
 
 /// A selector as it stands in a text.
-#[derive(Debug, Drop)]
+#[derive(Drop)]
 pub struct RawSelector<'a> {
     pub steps: Vec<RawStep<'a>>,
     pub end: RawEnd<'a>,
 }
 
 /// A selector of a patch as it stands in a text.
-#[derive(Debug, Drop)]
+#[derive(Drop)]
 pub struct RawPatchSelector<'a> {
     /// How many characters a slash in front has.
     pub slash: usize,

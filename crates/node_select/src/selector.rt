@@ -5,7 +5,7 @@ use std::alloc::{AllocError, Global};
 use xml_tree::{List, Text};
 
 /// What a step asks of an element's name.
-#[derive(Debug, Drop)]
+#[derive(Drop)]
 pub enum NameTest {
     /// `*`: nothing.
     Any,
@@ -14,7 +14,7 @@ pub enum NameTest {
 }
 
 /// An attribute that a step asks for, with its value.
-#[derive(Debug, Drop)]
+#[derive(Drop)]
 pub struct AttrTest {
     pub uri: Text,
     pub local: Text,
@@ -22,7 +22,7 @@ pub struct AttrTest {
 }
 
 /// A step: from an element to one of its element children.
-#[derive(Debug, Drop)]
+#[derive(Drop)]
 pub struct Step {
     pub name: NameTest,
     /// Counted from 1 among the children of that name. No child has the position 0.
@@ -31,7 +31,7 @@ pub struct Step {
 }
 
 /// What a selector selects of the element that its steps lead to.
-#[derive(Debug, Drop)]
+#[derive(Drop)]
 pub enum End {
     Element,
     Attribute { uri: Text, local: Text },
@@ -39,14 +39,14 @@ pub enum End {
 }
 
 /// A selector of a node of a document.
-#[derive(Debug, Drop)]
+#[derive(Drop)]
 pub struct Selector {
     pub steps: List<Step>,
     pub end: End,
 }
 
 /// What a patch operation's selector selects of the element that its steps lead to.
-#[derive(Debug, Drop)]
+#[derive(Drop)]
 pub enum PatchEnd {
     Element,
     Attribute { uri: Text, local: Text },
@@ -55,7 +55,7 @@ pub enum PatchEnd {
 }
 
 /// What a patch operation's selector ends in, whatever its names mean.
-#[derive(Clone, Copy, Debug, Drop, PartialEq, Eq)]
+#[derive(Clone, Copy, Drop, PartialEq, Eq)]
 pub enum PatchForm {
     /// Its steps: it selects an element.
     Element,
@@ -64,7 +64,7 @@ pub enum PatchForm {
 }
 
 /// A selector of a patch operation.
-#[derive(Debug, Drop)]
+#[derive(Drop)]
 pub struct PatchSelector {
     pub steps: List<Step>,
     pub end: PatchEnd,

@@ -3,7 +3,7 @@ use crate::edit_note::EditNote;
 use doc_names::DocId;
 
 /// An accepted change of a document: its name, and the note of the change.
-#[derive(Debug, Drop)]
+#[derive(Drop)]
 pub struct Edit {
     pub doc: DocId,
     pub note: EditNote,

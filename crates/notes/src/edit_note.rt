@@ -19,13 +19,13 @@ use xml_tree::{Decl, Element, List};
 
 /// What is kept of a change of a document. A copy shares it, so what was put stands in memory once for the notes that are retained and
 /// for those that are told, and a whole document for its tree, too (`NotedTree`). Contracts see the note.
-#[derive(Debug, Drop)]
+#[derive(Drop)]
 pub struct EditNote {
     kept: Rc<KeptNote>,
 }
 
 // A note, and its weight.
-#[derive(Debug, Drop)]
+#[derive(Drop)]
 pub struct KeptNote {
     previous: u64,
     next: u64,

@@ -10,7 +10,7 @@ use xml_tree::Element;
 
 /// The element that the change of a note brings: the root of a document that is made, an element that is put in, or one that takes another's
 /// place. It stands in memory once, for the note and for whoever has it. Contracts see the element.
-#[derive(Debug, Drop)]
+#[derive(Drop)]
 pub struct NotedTree {
     note: EditNote,
 }

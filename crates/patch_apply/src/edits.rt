@@ -19,7 +19,7 @@ use xml_tree::{Element, MAX_LEVELS, Node, Path, Scope, depth, element_at, place_
 // ---- places
 
 /// A place among nodes: the path of their element, and the number of the node that it is before.
-#[derive(Debug, Drop)]
+#[derive(Drop)]
 pub struct Gap {
     pub path: Path,
     pub place: usize,

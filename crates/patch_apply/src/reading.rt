@@ -15,7 +15,7 @@ use xml_tree::{Element, MAX_LEVELS, ReadError};
 const NOTICE_DEPTH: usize = MAX_LEVELS + 3;
 
 /// A notice. Contracts see its tree.
-#[derive(Debug, Drop)]
+#[derive(Drop)]
 pub struct Notice {
     root: Element,
 }

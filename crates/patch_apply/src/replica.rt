@@ -6,21 +6,21 @@ use std::alloc::{AllocError, Global};
 use xml_tree::{Element, Text, copy_tree};
 
 /// A version of a document: its tag, and its tree.
-#[derive(Debug, Drop)]
+#[derive(Drop)]
 pub struct Held {
     pub tag: Text,
     pub root: Element,
 }
 
 /// A copy of a document, if one is held.
-#[derive(Debug, Drop)]
+#[derive(Drop)]
 pub struct Replica {
     pub doc: DocId,
     pub held: Option<Held>,
 }
 
 /// What came of a notice.
-#[derive(Debug, Drop, PartialEq, Eq)]
+#[derive(Drop, PartialEq, Eq)]
 pub enum Applied {
     /// It tells of no document.
     Same,

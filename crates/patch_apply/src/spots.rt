@@ -13,7 +13,7 @@ use std::alloc::Global;
 use xml_tree::{Element, Path, Scope, Text, element_at};
 
 /// What is selected: an element, one of its attributes by its number, or one of its nodes, a text, by its number.
-#[derive(Debug, Drop)]
+#[derive(Drop)]
 pub enum Spot {
     AtElement(Path),
     AtAttr(Path, usize),

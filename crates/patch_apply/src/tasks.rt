@@ -11,7 +11,7 @@ use tree_text::{decoded, name_part};
 use xml_tree::{Attr, LocalName, Name, Prefix, Text, is_name};
 
 /// Where an addition puts its content.
-#[derive(Clone, Copy, Debug, PartialEq, Eq, Drop)]
+#[derive(Clone, Copy, PartialEq, Eq, Drop)]
 pub enum Position {
     Behind,
     Prepend,
@@ -20,7 +20,7 @@ pub enum Position {
 }
 
 // The word that an operation is named by.
-#[derive(Clone, Copy, Debug, PartialEq, Eq, Drop)]
+#[derive(Clone, Copy, PartialEq, Eq, Drop)]
 pub enum Word {
     Add,
     Exchange,
@@ -28,7 +28,7 @@ pub enum Word {
 }
 
 /// What is to be done.
-#[derive(Debug, Drop)]
+#[derive(Drop)]
 pub enum Task {
     /// The content is put there.
     Put(Position),

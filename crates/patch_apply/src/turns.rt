@@ -20,7 +20,7 @@ use std::alloc::Global;
 use xml_tree::{Element, ReadError, Scope, Text};
 
 /// What a document makes of what is held.
-#[derive(Debug, Drop)]
+#[derive(Drop)]
 pub enum Turn {
     /// What is held now.
     Now(Option<Held>),

@@ -15,7 +15,7 @@ use xcap_uri::Root;
 use xml_tree::{Element, Prefix, Text};
 
 /// What is told of an element since a version of its document that is known.
-#[derive(Clone, Copy, Debug, PartialEq, Eq)]
+#[derive(Clone, Copy, PartialEq, Eq)]
 pub enum ElementState {
     /// Nothing: it is as it was.
     Unchanged,

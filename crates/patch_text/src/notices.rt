@@ -1,11 +1,15 @@
 //! Notices of documents (RFC 5874, section 3).
-ghost use Rattle.std.specs.Prelude.{◌≡◌, [], ◌∷◌, IfOk, OnOk, chars, false, encode_utf8_all};
+ghost use Rattle.std.specs.Prelude.{◌≡◌, [], ◌∷◌, ◌++◌, IfOk, OnOk, chars, codes, decimal, false, encode_utf8_all};
 ghost use Rattle.doc_names.specs.Ids.{id_text};
+ghost use Rattle.xml_tree.specs.Edits.{with_elem};
+ghost use Rattle.xml_tree.specs.Expanded.{name_of};
 ghost use Rattle.xml_tree.specs.Print.{document_print};
+ghost use Rattle.xml_tree.specs.Scopes.{decl_of};
+ghost use Rattle.xml_tree.specs.Tree.{last, tree_of};
 ghost use Rattle.notes.specs.Notes.{tag_after};
-ghost use Rattle.notes.specs.Operations.{operation};
+ghost use Rattle.notes.specs.Operations.{operation, plain_attr, sel_attr};
 ghost use Rattle.notes.specs.Recorded.{all_notes};
-ghost use Rattle.patch_words.specs.Notices.{all_at_once, diff, document, gone_notice, one_by_one, operations, removed_document, tags_alone};
+ghost use Rattle.patch_words.specs.Notices.{all_at_once, candidate, diff, diff_uri, document, gone_notice, one_by_one, operations, prefix_for, removed_document, tags_alone};
 ghost use Rattle.patch_text.specs.Modes.{notice_of};
 ghost use Rattle.patch_text.specs.inner.Modes.{documents_of, told_notes};
 ghost use Rattle.patch_text.specs.inner.Lists.{is_none, with_all};
@@ -58,26 +62,47 @@ fn push_operations(
     Ok(())
 }
 
-// A document that has these tags, before it has any operation.
+// The document itself, before it has any tag.
 #[tactic(auto, using(crate::proofs::Words::words))]
+fn named(alloc: Global, names: &Names) -> Result<Element, AllocError>
+    ensures document_of_the_name { IfOk result (λ made. made ≡ tree_of (name_of names.now.prefix (codes "document")) [] (sel_attr names.now.sel ∷ []) (last [])) }
+{
+    let sel = names.sel.copy(alloc)?;
+    let mut made = element_of(alloc, &names.prefix, "document")?;
+    push_plain(alloc, &mut made, "sel", sel)?;
+    Ok(made)
+}
+
+// Adds a tag, under this word.
+fn push_tag(alloc: Global, document: &mut Element, word: &str, tag: u64) -> Result<(), AllocError>
+    ensures adds_the_tag { OnOk result (document.new ≡ record document.old { attrs = document.old.attrs ++ plain_attr (chars word.now) (decimal tag) ∷ [] }) }
+{
+    push_plain(alloc, document, word, tag_text(alloc, tag)?)
+}
+
+// Adds the tags after and before the changes.
+fn push_both(alloc: Global, document: &mut Element, from: u64, to: u64) -> Result<(), AllocError>
+    ensures adds_the_tags { OnOk result (document.new ≡ record document.old { attrs = (document.old.attrs ++ plain_attr (codes "new-etag") (decimal to) ∷ []) ++ plain_attr (codes "previous-etag") (decimal from) ∷ [] }) }
+{
+    push_tag(alloc, document, "new-etag", to)?;
+    push_tag(alloc, document, "previous-etag", from)
+}
+
+// A document that has these tags, before it has any operation.
 fn tagged(alloc: Global, names: &Names, from: u64, to: u64) -> Result<Element, AllocError>
     ensures document_of_these_tags { IfOk result (λ made. made ≡ document names.now.prefix names.now.sel from to []) }
 {
-    let mut made = element_of(alloc, &names.prefix, "document")?;
-    push_plain(alloc, &mut made, "sel", names.sel.copy(alloc)?)?;
-    push_plain(alloc, &mut made, "new-etag", tag_text(alloc, to)?)?;
-    push_plain(alloc, &mut made, "previous-etag", tag_text(alloc, from)?)?;
+    let mut made = named(alloc, names)?;
+    push_both(alloc, &mut made, from, to)?;
     Ok(made)
 }
 
 // A document that was removed.
-#[tactic(auto, using(crate::proofs::Words::words))]
 fn removed(alloc: Global, names: &Names, from: u64) -> Result<Element, AllocError>
     ensures document_that_was_removed { IfOk result (λ made. made ≡ removed_document names.now.prefix names.now.sel from) }
 {
-    let mut gone = element_of(alloc, &names.prefix, "document")?;
-    push_plain(alloc, &mut gone, "sel", names.sel.copy(alloc)?)?;
-    push_plain(alloc, &mut gone, "previous-etag", tag_text(alloc, from)?)?;
+    let mut gone = named(alloc, names)?;
+    push_tag(alloc, &mut gone, "previous-etag", from)?;
     Ok(gone)
 }
 
@@ -137,8 +162,29 @@ fn push_each(
 
 // ---- the whole notice
 
+// The address of the server's root, as a notice has it.
+fn root_text(alloc: Global, root: &str) -> Result<Text, AllocError>
+    ensures ends_with_a_slash { IfOk result (λ text. text ≡ chars root.now ++ codes "/") }
+{
+    let mut text = Text::from(alloc, root)?;
+    text.push('/')?;
+    Ok(text)
+}
+
+// Declares the namespace of notices, and names the server's root.
+fn begin(alloc: Global, notice: &mut Element, prefix: &Prefix, root: &str) -> Result<(), AllocError>
+    ensures declares_and_names { OnOk result (notice.new ≡ record notice.old {
+      decls = notice.old.decls ++ decl_of prefix.now diff_uri ∷ [];
+      attrs = notice.old.attrs ++ plain_attr (codes "xcap-root") (chars root.now ++ codes "/") ∷ [];
+    }) }
+{
+    let prefix = prefix.copy(alloc)?;
+    let uri = Text::from(alloc, DIFF_URI)?;
+    notice.push_decl(Decl { prefix, uri })?;
+    push_plain(alloc, notice, "xcap-root", root_text(alloc, root)?)
+}
+
 // A notice without documents, under the server's root.
-#[tactic(auto, using(crate::proofs::Words::words))]
 pub(crate) fn empty_notice(
     alloc: Global,
     prefix: &Prefix,
@@ -147,13 +193,7 @@ pub(crate) fn empty_notice(
     ensures notice_without_documents { IfOk result (λ made. made ≡ diff prefix.now (chars root.now) []) }
 {
     let mut made = element_of(alloc, prefix, "xcap-diff")?;
-    made.push_decl(Decl {
-        prefix: prefix.copy(alloc)?,
-        uri: Text::from(alloc, DIFF_URI)?,
-    })?;
-    let mut value = Text::from(alloc, root)?;
-    value.push('/')?;
-    push_plain(alloc, &mut made, "xcap-root", value)?;
+    begin(alloc, &mut made, prefix, root)?;
     Ok(made)
 }
 
@@ -254,6 +294,32 @@ fn told(mode: Mode, notes: Notes<'_>) -> Notes<'_>
     }
 }
 
+// How a notice of these notes names things.
+fn names_for(alloc: Global, doc: &DocId, notes: Notes<'_>) -> Result<Names, AllocError>
+    ensures prefix_of_the_notes { IfOk result (λ names. names.prefix ≡ prefix_for (all_notes notes.entry.older.now notes.entry.newer.now)) }
+    ensures prints_the_name { IfOk result (λ names. names.sel ≡ id_text doc.now) }
+{
+    let prefix = prefix_for(alloc, notes)?;
+    let sel = print_doc_id(alloc, doc)?;
+    Ok(Names { prefix, sel })
+}
+
+// The notice of these notes.
+fn notice_tree(
+    alloc: Global,
+    names: &Names,
+    mode: Mode,
+    root: &Root,
+    from: u64,
+    notes: Notes<'_>,
+) -> Result<Element, AllocError>
+    ensures tells_of_the_notes { IfOk result (λ made. made ≡ with_all (documents_of mode names.now.prefix names.now.sel from (all_notes notes.entry.older.now notes.entry.newer.now)) (diff names.now.prefix root.now [])) }
+{
+    let mut notice = empty_notice(alloc, &names.prefix, root.text())?;
+    push_documents(alloc, &mut notice, names, mode, from, notes)?;
+    Ok(notice)
+}
+
 /// The notice of a document's notes from the tag `from` on, as a document: what became of it since
 /// the version with that tag. Without notes nothing is told. `no-patching` tells the tags alone,
 /// `xcap-patching` each change by itself, and `aggregate` all changes at once, from the first tag to
@@ -271,28 +337,52 @@ pub fn notice(
 ) -> Result<Bytes, AllocError>
     ensures prints_the_notice { IfOk result (λ bytes. bytes ≡ encode_utf8_all (document_print (notice_of mode root.now (id_text doc.now) from (all_notes notes.entry.older.now notes.entry.newer.now)))) }
 {
-    let names = Names {
-        prefix: prefix_for(alloc, told(mode, notes))?,
-        sel: print_doc_id(alloc, doc)?,
-    };
-    let mut notice = empty_notice(alloc, &names.prefix, root.text())?;
-    push_documents(alloc, &mut notice, &names, mode, from, notes)?;
+    let names = names_for(alloc, doc, told(mode, notes))?;
+    let notice = notice_tree(alloc, &names, mode, root, from, notes)?;
     print_document(alloc, &notice)
+}
+
+// How a notice without operations names things.
+#[tactic(auto, using(crate::proofs::Words::words))]
+fn plain_names(alloc: Global, doc: &DocId) -> Result<Names, AllocError>
+    ensures first_prefix { IfOk result (λ names. names.prefix ≡ candidate 0) }
+    ensures prints_the_name { IfOk result (λ names. names.sel ≡ id_text doc.now) }
+{
+    let prefix = Prefix::from(alloc, "d")?;
+    let sel = print_doc_id(alloc, doc)?;
+    Ok(Names { prefix, sel })
+}
+
+// Adds a document that was removed.
+fn push_removed(
+    alloc: Global,
+    notice: &mut Element,
+    names: &Names,
+    from: u64,
+) -> Result<(), AllocError>
+    ensures adds_the_document { OnOk result (notice.new ≡ record notice.old { content = with_elem (removed_document names.now.prefix names.now.sel from) notice.old.content }) }
+{
+    let gone = removed(alloc, names, from)?;
+    notice.push_elem(gone)
+}
+
+// The notice that tells of a document that was removed.
+fn gone_tree(alloc: Global, names: &Names, root: &Root, from: u64) -> Result<Element, AllocError>
+    ensures tells_of_the_removal { IfOk result (λ made. made ≡ diff names.now.prefix root.now (removed_document names.now.prefix names.now.sel from ∷ [])) }
+{
+    let mut notice = empty_notice(alloc, &names.prefix, root.text())?;
+    push_removed(alloc, &mut notice, names, from)?;
+    Ok(notice)
 }
 
 /// The notice that a document is gone, to one who holds the version with the tag `from`.
 ///
 /// # Errors
 /// `NoMemory` for want of memory.
-#[tactic(auto, using(crate::proofs::Words::words))]
 pub fn gone_notice(alloc: Global, root: &Root, doc: &DocId, from: u64) -> Result<Bytes, AllocError>
     ensures prints_that_it_is_gone { IfOk result (λ bytes. bytes ≡ encode_utf8_all (document_print (gone_notice root.now (id_text doc.now) from))) }
 {
-    let names = Names {
-        prefix: Prefix::from(alloc, "d")?,
-        sel: print_doc_id(alloc, doc)?,
-    };
-    let mut notice = empty_notice(alloc, &names.prefix, root.text())?;
-    notice.push_elem(removed(alloc, &names, from)?)?;
+    let names = plain_names(alloc, doc)?;
+    let notice = gone_tree(alloc, &names, root, from)?;
     print_document(alloc, &notice)
 }

@@ -1,10 +1,11 @@
 //! The operation of a note (RFC 5261, sections 4.3 to 4.5).
-ghost use Rattle.std.specs.Prelude.{◌≡◌, [], ◌∷◌, ◌++◌, IfOk, OnOk, chars, codes, false};
+ghost use Rattle.std.specs.Prelude.{◌≡◌, [], ◌∷◌, ◌++◌, IfOk, OnOk, chars, codes, false, true};
 ghost use Rattle.edit_ops.specs.declared.change.Change.TheVariants as change;
+ghost use Rattle.xml_tree.specs.Edits.{with_elem};
 ghost use Rattle.xml_tree.specs.PathTexts.{path_text};
 ghost use Rattle.xml_tree.specs.Print.{print_name};
 ghost use Rattle.xml_tree.specs.Tree.{last};
-ghost use Rattle.notes.specs.Operations.{attr_name_text, attr_path_text, gap_attrs, operation, operation_of, sel_attr, change_told};
+ghost use Rattle.notes.specs.Operations.{attr_name_text, attr_path_text, gap_attrs, operation, operation_of, plain_attr, sel_attr, change_told};
 
 use crate::parts::{element_of, push_plain};
 use edit_ops::Change;
@@ -61,6 +62,25 @@ fn attribute_text(alloc: Global, at: &Path, name: &Name) -> Result<Text, AllocEr
 
 // ---- each operation
 
+// Declares bindings in an element that declares nothing.
+fn push_bindings(alloc: Global, made: &mut Element, bindings: &[Decl]) -> Result<(), AllocError>
+    requires { made.old.decls ≡ [] }
+    ensures declares_the_bindings { OnOk result (made.new ≡ record made.old { decls = bindings.now }) }
+{
+    for binding in bindings {
+        made.push_decl(binding.copy(alloc)?)?;
+    }
+    Ok(())
+}
+
+// Adds a copy of an element that was put.
+fn push_copy(alloc: Global, made: &mut Element, element: &Element) -> Result<(), AllocError>
+    ensures adds_the_element { OnOk result (made.new ≡ record made.old { content = with_elem element.now made.old.content }) }
+{
+    let copy = copy_tree(alloc, element)?;
+    made.push_elem(copy)
+}
+
 // Its word, and the note's bindings as declarations.
 fn bare(
     alloc: Global,
@@ -71,9 +91,7 @@ fn bare(
     ensures declares_the_bindings { IfOk result (λ made. made ≡ operation_of prefix.now bindings.now (chars word.now) [] (last [])) }
 {
     let mut made = element_of(alloc, prefix, word)?;
-    for binding in bindings {
-        made.push_decl(binding.copy(alloc)?)?;
-    }
+    push_bindings(alloc, &mut made, bindings)?;
     Ok(made)
 }
 
@@ -105,7 +123,24 @@ fn insertion(
     ensures tells_the_insertion { IfOk result (λ made. made ≡ change_told prefix.now bindings.now false (change.Insert parent.now gap element.now)) }
 {
     let mut made = placed(alloc, prefix, bindings, parent, gap)?;
-    made.push_elem(copy_tree(alloc, element)?)?;
+    push_copy(alloc, &mut made, element)?;
+    Ok(made)
+}
+
+// An operation that adds something at a place, by a selector and a word.
+#[tactic(auto, using(crate::proofs::Words::words))]
+fn placed_at(
+    alloc: Global,
+    prefix: &Prefix,
+    bindings: &[Decl],
+    sel: Text,
+    pos: &str,
+) -> Result<Element, AllocError>
+    ensures tells_both { IfOk result (λ made. made ≡ operation_of prefix.now bindings.now (codes "add") (sel_attr sel ∷ plain_attr (codes "pos") (chars pos.now) ∷ []) (last [])) }
+{
+    let pos = Text::from(alloc, pos)?;
+    let mut made = beginning(alloc, prefix, bindings, "add", sel)?;
+    push_plain(alloc, &mut made, "pos", pos)?;
     Ok(made)
 }
 
@@ -122,14 +157,10 @@ fn placed(
 {
     if gap == 0 {
         let sel = print_path(alloc, parent)?;
-        let mut made = beginning(alloc, prefix, bindings, "add", sel)?;
-        push_plain(alloc, &mut made, "pos", Text::from(alloc, "prepend")?)?;
-        return Ok(made);
+        return placed_at(alloc, prefix, bindings, sel, "prepend");
     }
     let sel = child_text(alloc, parent, gap - 1)?;
-    let mut made = beginning(alloc, prefix, bindings, "add", sel)?;
-    push_plain(alloc, &mut made, "pos", Text::from(alloc, "after")?)?;
-    Ok(made)
+    placed_at(alloc, prefix, bindings, sel, "after")
 }
 
 // An element is exchanged.
@@ -145,7 +176,7 @@ fn replacement(
 {
     let sel = print_path(alloc, at)?;
     let mut made = beginning(alloc, prefix, bindings, "replace", sel)?;
-    made.push_elem(copy_tree(alloc, element)?)?;
+    push_copy(alloc, &mut made, element)?;
     Ok(made)
 }
 
@@ -180,7 +211,25 @@ fn writing(
     Ok(made)
 }
 
-// The same without the value.
+// An attribute is added, without its value.
+#[tactic(auto, using(crate::proofs::Words::words))]
+fn added_at(
+    alloc: Global,
+    prefix: &Prefix,
+    bindings: &[Decl],
+    at: &Path,
+    name: &Name,
+) -> Result<Element, AllocError>
+    ensures tells_where_it_is_added { IfOk result (λ made. made ≡ change_told prefix.now bindings.now true (change.SetAttr at.now name.now [])) }
+{
+    let sel = print_path(alloc, at)?;
+    let kind = name_text(alloc, name)?;
+    let mut made = beginning(alloc, prefix, bindings, "add", sel)?;
+    push_plain(alloc, &mut made, "type", kind)?;
+    Ok(made)
+}
+
+// An attribute is added or exchanged, without its value.
 #[tactic(auto, using(crate::proofs::Words::words))]
 fn written_at(
     alloc: Global,
@@ -193,10 +242,7 @@ fn written_at(
     ensures tells_where_it_is_written { IfOk result (λ made. made ≡ change_told prefix.now bindings.now fresh (change.SetAttr at.now name.now [])) }
 {
     if fresh {
-        let sel = print_path(alloc, at)?;
-        let mut made = beginning(alloc, prefix, bindings, "add", sel)?;
-        push_plain(alloc, &mut made, "type", name_text(alloc, name)?)?;
-        return Ok(made);
+        return added_at(alloc, prefix, bindings, at, name);
     }
     let sel = attribute_text(alloc, at, name)?;
     beginning(alloc, prefix, bindings, "replace", sel)

@@ -3,7 +3,7 @@
 use xml_tree::Path;
 
 /// What the address of a PUT means in a document.
-#[derive(Debug, Drop)]
+#[derive(Drop)]
 pub enum Spot {
     /// It selects the element at this path.
     Over(Path),
@@ -16,7 +16,7 @@ pub enum Spot {
 }
 
 /// It means none: so many of its first steps select an element, and no greater number does.
-#[derive(Clone, Copy, Debug)]
+#[derive(Clone, Copy)]
 pub struct NoParent {
     pub steps: usize,
 }

@@ -5,7 +5,7 @@ ghost use Rattle.preconditions.specs.declared.faults.ConditionFault.TheVariants 
 use std::alloc::AllocError;
 
 /// Why condition fields aren't read.
-#[derive(Clone, Copy, Debug, Drop, PartialEq, Eq)]
+#[derive(Clone, Copy, Drop, PartialEq, Eq)]
 pub enum ConditionFault {
     /// A field is neither `*` nor a list of one entity tag or more.
     BadCondition,

@@ -11,7 +11,7 @@ use std::marker::Model;
 use xcap_io::Bytes;
 
 // What a field says.
-#[derive(Debug, Drop)]
+#[derive(Drop)]
 pub(crate) enum Field {
     Missing,
     Star,
@@ -19,7 +19,7 @@ pub(crate) enum Field {
 }
 
 /// What the two condition fields of a request say.
-#[derive(Debug, Drop)]
+#[derive(Drop)]
 pub struct Conditions {
     pub(crate) if_match: Field,
     pub(crate) if_none_match: Field,

@@ -9,7 +9,7 @@ use std::alloc::Global;
 use xcap_io::Bytes;
 
 /// An entity tag.
-#[derive(Debug, Drop)]
+#[derive(Drop)]
 pub struct EntityTag {
     /// Whether `W/` stands before it.
     pub weak: bool,

@@ -10,7 +10,7 @@ use crate::{Conditions, EntityTag};
 use itoa::Buffer;
 
 /// What the conditions of a request say.
-#[derive(Clone, Copy, Debug, Drop, PartialEq, Eq)]
+#[derive(Clone, Copy, Drop, PartialEq, Eq)]
 pub enum Verdict {
     /// They hold.
     Go,

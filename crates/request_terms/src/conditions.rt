@@ -1,7 +1,7 @@
 //! What the conditions of a request make of it.
 
 /// What the conditions of a request make of it (RFC 9110, section 13.2.2).
-#[derive(Clone, Copy, Debug, PartialEq, Eq)]
+#[derive(Clone, Copy, PartialEq, Eq)]
 pub enum Outcome {
     /// A field of conditions can't be read.
     Unreadable,

@@ -5,7 +5,7 @@ ghost use Rattle.request_terms.specs.Methods.{method_of, is_reading, is_known};
 use http_wire::Request;
 
 /// What a request asks to be done (RFC 9110, section 9.3).
-#[derive(Clone, Copy, Debug, PartialEq, Eq)]
+#[derive(Clone, Copy, PartialEq, Eq)]
 pub enum Method {
     Get,
     Head,

@@ -29,7 +29,7 @@ none_left Count all came rest connections count old new f g t is have many stops
     is_none : (xs : List (List ℕ)) → length xs ≡ 0 → xs ≡ []
     is_none [] none = refl
     is_none (x ∷ xs) none = absurd (omega (arith, none))
-none_left NoMore all came rest connections count old new f g t is have many stops = subst (λ (o : Option (List (List ℕ))). IfSome o (λ l. l ≡ [])) t stops.1
+none_left NoMore all came rest connections count old new f g t is have many stops = subst (λ (o : Option (List (List ℕ))). IfSome o (λ l. l ≡ [])) (sym stops.1 ∙ t) refl
 none_left PortFailed all came rest connections count old new f g t is have many stops = absurd (omega (arith, f, g, stops.1))
 
 -- no read failed

@@ -62,9 +62,11 @@ impl Noting {
         ensures is_new { IfOk result (λ noting. noting ≡ is_new room) }
     {
         let root = sample_root(alloc)?;
+        let room = vec![in alloc; 0; room]?;
+        let server = Server::new(alloc, &root, 1)?;
         Ok(Noting {
-            server: Server::new(alloc, &root, 1)?,
-            room: vec![in alloc; 0; room]?,
+            server,
+            room,
             len: 0,
         })
     }

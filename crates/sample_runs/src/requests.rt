@@ -80,14 +80,21 @@ fn put_document(alloc: Global, user: &str) -> Result<String, AllocError>
     )
 }
 
+// The path of the user's entry with this URI.
+fn path_to(alloc: Global, user: &str, uri: &str) -> Result<String, AllocError>
+    ensures path_to_the_entry { IfOk result (λ text. string_bytes text ≡ entry_path (document_path user.now) uri.now) }
+{
+    let document = document_path(alloc, user)?;
+    entry_path(alloc, document.as_str(), uri)
+}
+
 // The user puts the entry of the round.
 fn put_entry(alloc: Global, user: &str, round: u64) -> Result<String, AllocError>
     ensures puts_the_entry { IfOk result (λ text. string_bytes text
         ≡ put_bytes user.now (entry_path (document_path user.now) (entry_uri round)) (codes "application/xcap-el+xml") (entry_body (entry_uri round))) }
 {
-    let document = document_path(alloc, user)?;
     let uri = entry_uri(alloc, round)?;
-    let path = entry_path(alloc, document.as_str(), uri.as_str())?;
+    let path = path_to(alloc, user, uri.as_str())?;
     let body = entry_body(alloc, uri.as_str())?;
     put(
         alloc,
@@ -102,9 +109,8 @@ fn put_entry(alloc: Global, user: &str, round: u64) -> Result<String, AllocError
 fn delete_entry(alloc: Global, user: &str, round: u64) -> Result<String, AllocError>
     ensures deletes_the_entry { IfOk result (λ text. string_bytes text ≡ delete_bytes user.now (entry_path (document_path user.now) (entry_uri round))) }
 {
-    let document = document_path(alloc, user)?;
     let uri = entry_uri(alloc, round)?;
-    let path = entry_path(alloc, document.as_str(), uri.as_str())?;
+    let path = path_to(alloc, user, uri.as_str())?;
     delete(alloc, user, path.as_str())
 }
 

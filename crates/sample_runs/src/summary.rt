@@ -5,7 +5,7 @@ ghost use Rattle.sample_runs.specs.Samples.{answered_text, held_text, summary_te
 use std::alloc::{AllocError, Global};
 
 /// What came of the requests of a sample.
-#[derive(Clone, Copy, Debug, PartialEq, Eq)]
+#[derive(Clone, Copy, PartialEq, Eq)]
 pub struct Summary {
     /// How many requests were made.
     pub requests: u64,

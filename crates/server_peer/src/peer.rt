@@ -1,5 +1,5 @@
 //! A peer over a server in memory.
-ghost use Rattle.std.specs.Prelude.{◌≡◌, ◌<◌, length, IfOk};
+ghost use Rattle.std.specs.Prelude.{◌≡◌, ◌<◌, [], false, length, IfOk};
 ghost use Rattle.std.specs.Io.{ReadsAtMost};
 ghost use Rattle.xcap_io.specs.Causes.{OnlyReads, OnlyWrites};
 ghost use Rattle.xcap_io.specs.Connections.{OnlyConnects};
@@ -59,6 +59,16 @@ impl Model for ServerPeer {
         × (p.given ≤ length p.replies.bytes) };
 }
 
+// Room for what is written and for the replies, so many bytes each.
+fn rooms(alloc: Global, room: usize) -> Result<(Written, Replies), NoMemory>
+    ensures both_are_empty { IfOk result (λ both. (both.0 ≡ record { bytes = []; served = 0; room = room })
+        × (both.1 ≡ record { bytes = []; more = false; room = room })) }
+{
+    let written = Written::new(alloc, room)?;
+    let replies = Replies::new(alloc, room)?;
+    Ok((written, replies))
+}
+
 impl ServerPeer {
     /// A peer over this server. It takes memory for `room` bytes that are written on a connection and for `room` bytes of
     /// replies, and keeps `alloc`, from which the server's replies are taken.
@@ -68,8 +78,10 @@ impl ServerPeer {
     pub fn new(alloc: Global, server: Server, room: usize) -> Result<ServerPeer, NoMemory>
         ensures leads_to_the_server { IfOk result (λ peer. peer ≡ new_peer server room) }
     {
-        let written = Written::new(alloc, room)?;
-        let replies = Replies::new(alloc, room)?;
+        let Ok((written, replies)) = rooms(alloc, room) else {
+            drop(server);
+            return Err(NoMemory);
+        };
         Ok(ServerPeer {
             alloc,
             server,

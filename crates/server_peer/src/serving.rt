@@ -7,7 +7,7 @@ use watchers::Watcher;
 use xcap_server::{Server, serve_connection};
 
 // How many bytes of the replies were kept, and whether there are others.
-#[derive(Clone, Copy, Debug, PartialEq, Eq)]
+#[derive(Clone, Copy, PartialEq, Eq)]
 pub(crate) struct Replied {
     pub(crate) held: usize,
     pub(crate) is_over: bool,

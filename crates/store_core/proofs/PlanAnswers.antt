@@ -23,7 +23,7 @@ use Rattle.store_core.specs.Asking.{Asks, MayBeFor}
 use Rattle.store_core.specs.Changing.{Act, Edits, act_of, against, against_number, against_tree, answered, changing, content_after, document_in, held_name, note_for, other_lengths}
 use Rattle.store_core.specs.Making.{IsStagedIn, is_within}
 use Rattle.store_core.specs.inner.Making.{IsOwn}
-use Rattle.store_core.specs.Preparing.{HasTree, IsPlanned, IsReady, IsStepOf, Readied, total_of}
+use Rattle.store_core.specs.Preparing.{Exchanges, HasTree, IsPlanned, IsReady, IsStepOf, Readied, total_of}
 use Rattle.store_core.proofs.Accepted.{passes, unfound}
 use Rattle.store_core.proofs.Apart.{none-filtered}
 use Rattle.store_core.proofs.Asked.{asked, found-name}
@@ -31,7 +31,8 @@ use Rattle.store_core.proofs.Exchanging.{exchanged-by}
 use Rattle.store_core.proofs.Planning.{refused-first, refused-last, not-refused-at-all}
 use Rattle.store_core.specs.Stored.{Stored, entry_of}
 use Rattle.store_core.specs.inner.Addresses.{AreExchanged, enter_in, first_number, leave_in}
-use Rattle.store_core.specs.inner.Planning.{IsHeldAs, IsNoted, Plans}
+use Rattle.store_core.specs.declared.outlines.Outline.{Outline}
+use Rattle.store_core.specs.inner.Planning.{IsHeldAs, IsNewOutline, IsNoted, IsOutline, Plans}
 
 -- ---- any change
 
@@ -89,22 +90,21 @@ creation-room c doc root missing h =
     let p = passes c doc true root h in
     (omega (arith, p.room, other-lengths-new c doc missing), p.short)
 
-pub creation-planned : (c : Content) (doc : DocId) (root : Tree) (number total : ℕ) (enters : List (List ℕ)) → Asks c doc (CreateDocument root) → against_tree c doc true root ≡ None → against_number c ≡ None → number ≡ c.next
-    → enters ≡ addresses_in doc.auid root → total ≡ total_of c + document_len root
-    → Plans c doc (CreateDocument root) (Ok (record { doc = doc; note = record { previous = 0; next = number; bindings = []; change = CreateDocument root; fresh = false }; step = Make doc (entry_of number root); leaves = []; enters = enters; total = total }))
-creation-planned c doc root number total enters asks tree free numbered uris sum =
+pub creation-planned : (c : Content) (doc : DocId) (root : Tree) (o : Outline) → Asks c doc (CreateDocument root) → IsNewOutline c doc root o
+    → Plans c doc (CreateDocument root) (Ok (record { doc = doc; note = record { previous = 0; next = o.number; bindings = []; change = CreateDocument root; fresh = false }; step = Make doc (entry_of o.number root); leaves = o.leaves; enters = o.enters; total = o.total }))
+creation-planned c doc root o asks outlined =
     let change = CreateDocument root in
     let found = document_in held_name c.documents doc in
     let note : ℕ → Note = λ n. record { previous = 0; next = n; bindings = []; change = change; fresh = false } in
-    let p : Readied = record { doc = doc; note = note number; step = Make doc (entry_of number root); leaves = []; enters = enters; total = total } in
-    let noted : note_for c doc change found ≡ note number = ap (λ (o : Option Held). note_for c doc change o) asks.0 ∙ ap note (sym numbered) in
+    let p : Readied = record { doc = doc; note = note o.number; step = Make doc (entry_of o.number root); leaves = o.leaves; enters = o.enters; total = o.total } in
+    let noted : note_for c doc change found ≡ note o.number = ap (λ (h : Option Held). note_for c doc change h) asks.0 ∙ ap note (sym outlined.number) in
     plans-made c doc change p refl refl (record {
       asks = asks;
       made =
-          not-refused-at-all (against_tree c doc true root) (against_number c) (note_for c doc change found) (content_after c doc change) tree free
+          not-refused-at-all (against_tree c doc true root) (against_number c) (note_for c doc change found) (content_after c doc change) outlined.free outlined.numbered
           ∙ ap (λ (n : Note). let x : Note × Content = (n, content_after c doc change) in let r : Result (Note × Content) StoreRefusal = Ok x in r) noted;
-      number = numbered;
-      step = (asks.0, refl, ap (λ (n : ℕ). entry_of n root) numbered, refl, uris, sum, refl);
+      number = outlined.number;
+      step = (asks.0, refl, ap (λ (n : ℕ). entry_of n root) outlined.number, outlined.leaves, outlined.enters, outlined.total, refl);
     })
 
 -- ---- a document that is edited
@@ -150,29 +150,31 @@ edit-exchanged c doc change h t first leaves enters asks edits found tree sound 
     (subst (λ (us : List (List ℕ)). AreExchanged (first_number change) (addresses_in doc.auid t) (leave_in doc.auid t change) us new) (sym entered)
     (exchanged-by doc.auid t change fits sound may))))
 
+-- so they are exchanged between the same others
+pub exchanged-between : (first : ℕ) (old now leaves enters new : List (List ℕ)) → now ≡ old → AreExchanged first old leaves enters new → Exchanges now leaves enters new
+exchanged-between first old now leaves enters new same x = (x.before, x.behind, same ∙ x.was, x.becomes)
+
 -- with its memory and its note
-pub edit-planned : (c : Content) (doc : DocId) (change : Change) (v : Entry) (number len total : ℕ) (leaves enters : List (List ℕ)) (p : Readied) → Asks c doc change → act_of change ≡ Edits → (held : IsHeldAs c doc v)
-    → against_tree c doc false (edited v.tree.root change) ≡ None → against_number c ≡ None → number ≡ c.next → len ≡ document_len (edited v.tree.root change)
-    → (first : ℕ) → AreExchanged first (addresses_in doc.auid held.0.tree) leaves enters (addresses_in doc.auid (edited v.tree.root change))
-    → total + document_len v.tree.root ≡ total_of c + len → IsNoted doc v number change len leaves enters total p → Plans c doc change (Ok p)
-edit-planned c doc change v number len total leaves enters p asks edits held free free_number numbered long first exchanged sum noted =
+pub edit-planned : (c : Content) (doc : DocId) (change : Change) (v : Entry) (o : Outline) (p : Readied) → Asks c doc change → act_of change ≡ Edits → IsHeldAs c doc v
+    → IsOutline c doc v.tree.root change o → IsNoted doc v change o p → Plans c doc change (Ok p)
+edit-planned c doc change v o p asks edits held outlined noted =
     let h = held.0 in
     let note = noted.0 in
-    let staged = noted.1 in
-    let q : Readied = record { doc = doc; note = note; step = Edit staged note len; leaves = leaves; enters = enters; total = total } in
+    let staged = noted.3.0 in
+    let with-step : Step → Readied = λ s. record { doc = doc; note = note; step = s; leaves = o.leaves; enters = o.enters; total = o.total } in
     let tree : v.tree.root ≡ h.tree = sym held.2 in
     let full : note ≡ note_of h.tag c.next h.tree change =
-    noted.2 ∙ ap (λ (t : ℕ). note_of t number v.tree.root change) (sym held.3) ∙ ap (λ (t : Tree). note_of h.tag number t change) tree ∙ ap (λ (n : ℕ). note_of h.tag n h.tree change) numbered in
+    noted.2 ∙ ap (λ (t : ℕ). note_of t o.number v.tree.root change) (sym held.3) ∙ ap (λ (t : Tree). note_of h.tag o.number t change) tree ∙ ap (λ (n : ℕ). note_of h.tag n h.tree change) outlined.number in
     let same : change ≡ note.change = sym (ap (λ (n : Note). n.change) full) in
     let after : edited v.tree.root change ≡ edited h.tree note.change = ap (λ (t : Tree). edited t change) tree ∙ ap (λ (x : Change). edited h.tree x) same in
     let made : changing c doc change ≡ Ok (note, content_after c doc change) =
     edit-changing c doc change h edits held.1
     ∙ not-refused-at-all (against_tree c doc false (edited h.tree change)) (against_number c) (note_of h.tag c.next h.tree change) (content_after c doc change)
-    (ap (λ (t : Tree). against_tree c doc false (edited t change)) (sym tree) ∙ free) free_number
+    (ap (λ (t : Tree). against_tree c doc false (edited t change)) (sym tree) ∙ outlined.free) outlined.numbered
     ∙ ap (λ (n : Note). let x : Note × Content = (n, content_after c doc change) in let r : Result (Note × Content) StoreRefusal = Ok x in r) (sym full) in
-    let memory : IsStagedIn h.tree note.change staged = subst (λ (x : Change). IsStagedIn h.tree x staged) same (subst (λ (t : Tree). IsStagedIn t change staged) tree noted.3) in
-    subst (λ (x : Readied). Plans c doc change (Ok x)) (sym noted.4)
-    (plans-made c doc change q refl (sym same) (record {
+    let memory : IsStagedIn h.tree note.change staged = subst (λ (t : Tree). IsStagedIn t note.change staged) tree noted.3.1 in
+    subst (λ (x : Readied). Plans c doc change (Ok x)) (sym (noted.4 ∙ ap with-step noted.3.2))
+    (plans-made c doc change (with-step (Edit staged note o.len)) refl (sym same) (record {
       asks = subst (λ (x : Change). Asks c doc x) same asks;
       made = subst (λ (x : Change). changing c doc x ≡ Ok (note, content_after c doc x)) same made;
       number = ap (λ (n : Note). n.next) full;
@@ -181,11 +183,16 @@ edit-planned c doc change v number len total leaves enters p asks edits held fre
         held.1,
         ap act_of (sym same) ∙ edits,
         memory,
-        long ∙ ap document_len after,
+        outlined.len ∙ ap document_len after,
         refl,
         full ∙ ap (λ (x : Change). note_of h.tag c.next h.tree x) same,
-        (exchanged.before, exchanged.behind, exchanged.was, ap (λ (t : Tree). addresses_in doc.auid t) (sym after) ∙ exchanged.becomes),
-        ap (λ (t : Tree). total + document_len t) (sym tree) ∙ sum,
+        (
+          outlined.addresses.0,
+          outlined.addresses.1,
+          ap (λ (t : Tree). addresses_in doc.auid t) (sym tree) ∙ outlined.addresses.2,
+          ap (λ (t : Tree). addresses_in doc.auid t) (sym after) ∙ outlined.addresses.3,
+        ),
+        ap (λ (t : Tree). o.total + document_len t) (sym tree) ∙ outlined.total,
       );
     }))
 
@@ -230,13 +237,13 @@ has-tree c p (Edit (Whole root) kept len) trees h own = λ b is. tt
 has-tree c p (Edit (InPlace staged) kept len) trees h own = own h.3.1
 has-tree c p End trees h own = tt
 
-pub prepared-ready : (s t : Stored) (doc : DocId) (change : Change) (p : Readied) (n : ℕ) → Plans s.content doc change (Ok p) → t.content ≡ s.content → 1 ≤ t.room.documents → n ≤ t.room.services → n ≡ length p.enters
-    → (is_within change ≡ true → IsOwn t.room.trees doc) → IsReady t p
-prepared-ready s t doc change p n h same document services count own =
+pub prepared-ready : (s t : Stored) (doc : DocId) (change : Change) (p : Readied) → Plans s.content doc change (Ok p) → t.content ≡ s.content → 1 ≤ t.room.documents → length p.enters ≤ t.room.services
+    → (is_within p.note.change ≡ true → IsOwn t.room.trees p.doc) → IsReady t p
+prepared-ready s t doc change p h same document services own =
     let plan = plan-of s.content doc change p h in
     record {
       planned = subst (λ (c : Content). IsPlanned c p) (sym same) plan.2;
       document = document;
-      services = omega (arith, services, count);
-      tree = has-tree s.content p p.step t.room.trees plan.2.step (λ within. subst (λ (d : DocId). IsOwn t.room.trees d) (sym plan.0) (own (ap is_within (sym plan.1) ∙ within)));
+      services = services;
+      tree = has-tree s.content p p.step t.room.trees plan.2.step own;
     }

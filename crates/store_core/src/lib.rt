@@ -10,6 +10,7 @@ mod indexes;
 mod kept_tree;
 mod laws;
 mod limits;
+mod outlines;
 mod prepared;
 mod preparing;
 mod printed_tree;

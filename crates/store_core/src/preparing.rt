@@ -1,7 +1,6 @@
 //! Changes of documents: each first takes all its memory, and then can't fail.
-ghost use Rattle.std.specs.Prelude.{◌≡◌, ℕ, ◌≤◌, ◌+◌, [], ◌∷◌, Err, IfErr, IfOk, IfSome, IsSome, IsSomeAnd, None, Ok, OnOk, List, Some, false, max, min, option_map, true};
-ghost use Rattle.store_core.specs.inner.Planning.{refused_for, IsHeldAs, IsNoted, Plans};
-ghost use Rattle.store_core.specs.inner.Prints.{IsPrintBrought, IsPrintOf};
+ghost use Rattle.std.specs.Prelude.{◌≡◌, ℕ, ◌≤◌, ◌+◌, [], ◌∷◌, Err, IfErr, IfOk, IfSome, IsSome, IsSomeAnd, None, Ok, OnOk, List, Some, false, length, max, min, option_map, true};
+ghost use Rattle.store_core.specs.inner.Planning.{refused_for, IsHeldAs, IsNewOutline, IsOutline, Plans};
 ghost use Rattle.xml_tree.specs.Tree.{Tree};
 ghost use Rattle.usage_docs.specs.Services.{document_len};
 ghost use Rattle.usage_docs.specs.declared.rows.Key.TheVariants as keys;
@@ -14,33 +13,27 @@ ghost use Rattle.store_core.specs.Held.{Held};
 ghost use Rattle.store_core.specs.Keeping.{IsSoundFor, addresses_in};
 ghost use Rattle.store_core.specs.inner.Addresses.{AreExchanged};
 ghost use Rattle.store_core.specs.KeyAddresses.{KeepsAddressesOf};
-ghost use Rattle.store_core.specs.Making.{IsStagedIn, is_within};
+ghost use Rattle.store_core.specs.Making.{is_within};
 ghost use Rattle.store_core.specs.inner.Making.{IsOwn};
 ghost use Rattle.edit_ops.specs.Changes.{Fits, edited};
 ghost use Rattle.edit_ops.specs.Lengths.{element_len};
 ghost use Rattle.store_core.specs.Preparing.{IsReady, total_of};
-ghost use Rattle.store_core.specs.Stored.{entry_of};
-ghost use Rattle.store_core.specs.declared.step.Step.TheVariants as steps;
 
 use crate::NoMemory;
 use crate::addresses::{addresses, entering, first_number, leaving};
 use crate::entry::Entry;
 use crate::limits::{MOST_BYTES, MOST_BYTES_TOGETHER, MOST_DOCUMENTS};
+use crate::outlines::{Outline, creation, edit, removal};
 use crate::prepared::Prepared;
-use crate::printed_tree::PrintedTree;
-use crate::put::{HEAD_LEN, Put, document_len, put_by, put_root};
+use crate::put::{HEAD_LEN, document_len, put_by, put_root};
 use crate::refusal::StoreRefusal;
 use crate::registry::first_taken;
-use crate::staged_tree::StagedTree;
-use crate::step::{Step, find, unshare};
+use crate::step::{find, unshare};
 use crate::store::Store;
 use crate::within::is_within;
 use doc_names::DocId;
-use edit_ops::{Change, printed_len_after, stage};
-use notes::{EditNote, NotedTree};
-use std::alloc::Global;
+use edit_ops::{Change, printed_len_after};
 use usage_docs::{Clash, Key};
-use xcap_io::Bytes;
 use xml_tree::{Element, List, Path, Text};
 
 // How many bytes a document that has so many has after a change, where the element that the change brings has so many; the greatest
@@ -97,152 +90,6 @@ fn refused_for(place: Option<usize>, len: usize, is_full: bool, others: u64) -> 
         return Some(StoreRefusal::StoreFull(total));
     }
     None
-}
-
-// ---- a change with all its memory
-
-// A document that is made, whose print, addresses and total are known. It shares its tree with the note.
-fn creation(
-    alloc: Global,
-    doc: DocId,
-    root: Element,
-    print: Option<Bytes>,
-    number: u64,
-    len: usize,
-    enters: List<Text>,
-    total: u64,
-) -> Result<Prepared, NoMemory>
-    requires print { IsPrintOf root print }
-    requires len { len ≡ document_len root }
-    ensures prepares_the_creation { IfOk result (λ p. p ≡ record {
-      doc = doc;
-      note = record { previous = 0; next = number; bindings = []; change = changes.CreateDocument root; fresh = false };
-      step = steps.Make doc (entry_of number root);
-      leaves = [];
-      enters = enters;
-      total = total;
-    }) }
-{
-    let key = doc.copy(alloc)?;
-    let change = Change::CreateDocument { root };
-    let note = EditNote::of_document(alloc, 0, number, change)?;
-    let noted = NotedTree::of(&note)?;
-    let tree = PrintedTree::of(noted, print);
-    let entry = Entry::new(alloc, number, tree, len)?;
-    Ok(Prepared {
-        doc,
-        note,
-        step: Step::Make(key, entry),
-        leaves: List::empty(alloc),
-        enters,
-        total,
-    })
-}
-
-// A document that is edited, with the note of the change and what it brings.
-fn edit(
-    alloc: Global,
-    doc: DocId,
-    staged: StagedTree,
-    note: EditNote,
-    len: usize,
-    leaves: List<Text>,
-    enters: List<Text>,
-    total: u64,
-) -> Result<Prepared, NoMemory>
-    ensures prepares_the_edit { IfOk result (λ p. p ≡ record {
-      doc = doc;
-      note = note;
-      step = steps.Edit staged note len;
-      leaves = leaves;
-      enters = enters;
-      total = total;
-    }) }
-{
-    let kept = note.copy()?;
-    Ok(Prepared {
-        doc,
-        note,
-        step: Step::Edit { staged, kept, len },
-        leaves,
-        enters,
-        total,
-    })
-}
-
-// A document that is taken away.
-fn removal(
-    alloc: Global,
-    doc: DocId,
-    tag: u64,
-    number: u64,
-    leaves: List<Text>,
-    total: u64,
-) -> Result<Prepared, NoMemory>
-    ensures prepares_the_removal { IfOk result (λ p. p ≡ record {
-      doc = doc;
-      note = record { previous = tag; next = number; bindings = []; change = changes.RemoveDocument; fresh = false };
-      step = steps.End;
-      leaves = leaves;
-      enters = [];
-      total = total;
-    }) }
-{
-    let note = EditNote::of_document(alloc, tag, number, Change::RemoveDocument)?;
-    Ok(Prepared {
-        doc,
-        note,
-        step: Step::End,
-        leaves,
-        enters: List::empty(alloc),
-        total,
-    })
-}
-
-// What the change of a note brings into the tree that it is one of. Where it exchanges the root, the tree is shared with the note, and
-// its print comes with it.
-fn staged(
-    alloc: Global,
-    root: &Element,
-    note: &EditNote,
-    print: Option<Bytes>,
-) -> Result<StagedTree, NoMemory>
-    requires fits { Fits root.now note.now.change }
-    requires print { IsPrintBrought note.now.change print }
-    ensures stages_the_change { IfOk result (λ made. IsStagedIn root.now note.now.change made) }
-{
-    let change = note.change();
-    if is_within(change) {
-        let staged = stage(alloc, root, change)?;
-        return Ok(StagedTree::InPlace(staged));
-    }
-    let noted = NotedTree::of(note)?;
-    let tree = PrintedTree::of(noted, print);
-    Ok(StagedTree::Whole(tree))
-}
-
-// A document that is edited, whose addresses, lengths and total are known.
-fn noted(
-    alloc: Global,
-    doc: DocId,
-    entry: &Entry,
-    number: u64,
-    change: Change,
-    put: Put,
-    len: usize,
-    leaves: List<Text>,
-    enters: List<Text>,
-    total: u64,
-) -> Result<Prepared, NoMemory>
-    requires fits { Fits entry.now.tree.root change }
-    requires put { put.len ≡ min (element_len change) usize.MAX }
-    requires print { IsPrintBrought change put.print }
-    ensures notes_the_edit { IfOk result (λ p. IsNoted doc entry.now number change len leaves enters total p) }
-{
-    let tree = entry.tree.root();
-    let note = EditNote::of(alloc, entry.tag, number, tree, change, put.len)?;
-    let staged = staged(alloc, tree, &note, put.print)?;
-    edit(alloc, doc, staged, note, len, leaves, enters, total)
 }
 
 impl Store {
@@ -311,6 +158,38 @@ impl Store {
         refused_for(number_at(first, place), len, false, others)
     }
 
+    // The outline of a document that isn't held, with this tree, or the first reason against it.
+    fn outline_creation(
+        &self,
+        doc: &DocId,
+        root: &Element,
+    ) -> Result<Result<Outline, StoreRefusal>, NoMemory>
+        requires { Asks self.now.content doc.now (changes.CreateDocument root.now) }
+        ensures outlines_the_creation { IfOk result (λ r. IfOk r (λ o. IsNewOutline self.now.content doc.now root.now o)) }
+        ensures refuses_the_creation { IfOk result (λ r. IfErr r (λ e. Plans self.now.content doc.now (changes.CreateDocument root.now) (Err e))) }
+    {
+        let enters = addresses(self.alloc, doc.auid, root)?;
+        let put = put_root(self.alloc, root);
+        let len = document_len(put.len);
+        if let Some(refusal) = self.refusal_of_new(doc, len, enters.as_slice()) {
+            return Ok(Err(refusal));
+        }
+        let Some(number) = self.next_number() else {
+            return Ok(Err(StoreRefusal::NoNumber));
+        };
+        let sum = self.total();
+        let total = sum.saturating_add(len as u64);
+        let leaves = List::empty(self.alloc);
+        Ok(Ok(Outline {
+            number,
+            put,
+            len,
+            total,
+            leaves,
+            enters,
+        }))
+    }
+
     // Plans to make a document.
     fn plan_creation(
         &self,
@@ -320,19 +199,51 @@ impl Store {
         requires { Asks self.now.content doc (changes.CreateDocument root) }
         ensures plans_the_creation { IfOk result (Plans self.now.content doc (changes.CreateDocument root)) }
     {
-        let enters = addresses(self.alloc, doc.auid, &root)?;
-        let put = put_root(self.alloc, &root);
-        let len = document_len(put.len);
-        if let Some(refusal) = self.refusal_of_new(&doc, len, enters.as_slice()) {
+        match self.outline_creation(&doc, &root)? {
+            Ok(outline) => {
+                let prepared = creation(self.alloc, doc, root, outline)?;
+                Ok(Ok(prepared))
+            }
+            Err(refusal) => Ok(Err(refusal)),
+        }
+    }
+
+    // The outline of what is held as this entry after an edit, or the first reason against it.
+    fn outline_edit(
+        &self,
+        doc: &DocId,
+        entry: &Entry,
+        change: &Change,
+    ) -> Result<Result<Outline, StoreRefusal>, NoMemory>
+        requires asks { Asks self.now.content doc.now change.now }
+        requires edits { act_of change.now ≡ Edits }
+        requires held { IsHeldAs self.now.content doc.now entry.now }
+        requires sound { IsSoundFor (usage_of doc.now.auid) entry.now.tree.root }
+        ensures outlines_the_edit { IfOk result (λ r. IfOk r (λ o. IsOutline self.now.content doc.now entry.now.tree.root change.now o)) }
+        ensures refuses_the_edit { IfOk result (λ r. IfErr r (λ e. Plans self.now.content doc.now change.now (Err e))) }
+    {
+        let tree = entry.tree.root();
+        let enters = entering(self.alloc, doc.auid, change)?;
+        let put = put_by(self.alloc, change);
+        let len = len_after(tree, entry.len, change, put.len);
+        let first = first_number(change);
+        if let Some(refusal) = self.refusal_of_edit(doc, len, first, enters.as_slice()) {
             return Ok(Err(refusal));
         }
         let Some(number) = self.next_number() else {
             return Ok(Err(StoreRefusal::NoNumber));
         };
-        let sum = self.total();
-        let total = sum.saturating_add(len as u64);
-        let prepared = creation(self.alloc, doc, root, put.print, number, len, enters, total)?;
-        Ok(Ok(prepared))
+        let others = self.total_without(doc);
+        let total = others.saturating_add(len as u64);
+        let leaves = leaving(self.alloc, doc.auid, tree, change)?;
+        Ok(Ok(Outline {
+            number,
+            put,
+            len,
+            total,
+            leaves,
+            enters,
+        }))
     }
 
     // Plans to edit a document.
@@ -346,24 +257,13 @@ impl Store {
         ensures plans_the_edit { IfOk result (Plans self.now.content doc change) }
     {
         let entry = self.held(&doc);
-        let tree = entry.tree.root();
-        let leaves = leaving(self.alloc, doc.auid, tree, &change)?;
-        let enters = entering(self.alloc, doc.auid, &change)?;
-        let put = put_by(self.alloc, &change);
-        let len = len_after(tree, entry.len, &change, put.len);
-        let first = first_number(&change);
-        if let Some(refusal) = self.refusal_of_edit(&doc, len, first, enters.as_slice()) {
-            return Ok(Err(refusal));
+        match self.outline_edit(&doc, entry, &change)? {
+            Ok(outline) => {
+                let prepared = edit(self.alloc, doc, entry, change, outline)?;
+                Ok(Ok(prepared))
+            }
+            Err(refusal) => Ok(Err(refusal)),
         }
-        let Some(number) = self.next_number() else {
-            return Ok(Err(StoreRefusal::NoNumber));
-        };
-        let others = self.total_without(&doc);
-        let total = others.saturating_add(len as u64);
-        let prepared = noted(
-            self.alloc, doc, entry, number, change, put, len, leaves, enters, total,
-        )?;
-        Ok(Ok(prepared))
     }
 
     // Plans to take a document away.
@@ -406,6 +306,17 @@ impl Store {
         Ok(())
     }
 
+    // Sees to it that nobody shares the tree of a change's document, where it is made in place, and makes room for what it brings.
+    fn take_room(&mut self, prepared: &Prepared) -> Result<(), NoMemory>
+        ensures holds_the_same { self.new.content ≡ self.old.content }
+        ensures room_for_a_document { OnOk result (1 ≤ self.new.room.documents) }
+        ensures room_for_its_addresses { OnOk result (length prepared.now.enters ≤ self.new.room.services) }
+        ensures nobody_shares_its_tree { OnOk result (is_within prepared.now.note.change ≡ true → IsOwn self.new.room.trees prepared.now.doc) }
+    {
+        self.unshare_for(&prepared.doc, prepared.note.change())?;
+        self.reserve(prepared.addresses_more())
+    }
+
     /// Takes all memory of a change of a document, which isn't made yet: `commit` makes it; or answers
     /// the first reason against it, in the order of `StoreRefusal`. A document that is made isn't held yet, and
     /// another change is one of a document that is held; what is left may be a document, if it isn't too long. The name is moved; only the
@@ -426,10 +337,9 @@ impl Store {
         ensures refused_with_the_first_reason { IfOk result (λ r. IfErr r (λ e. changing self.old.content doc change ≡ Err e)) }
     {
         self.stands();
-        self.unshare_for(&doc, &change)?;
         match self.plan(doc, change)? {
             Ok(prepared) => {
-                self.reserve(prepared.addresses_more())?;
+                self.take_room(&prepared)?;
                 Ok(Ok(prepared))
             }
             Err(refusal) => Ok(Err(refusal)),

@@ -3,7 +3,7 @@
 use usage_docs::Clash;
 
 /// Why the store refuses a change. Of several reasons the first one in this order is told.
-#[derive(Debug, Drop)]
+#[derive(Drop)]
 pub enum StoreRefusal {
     /// Another document holds the address of this service.
     ServiceTaken(Clash),

@@ -9,7 +9,7 @@ use std::alloc::{AllocError, Global};
 use xcap_io::{Failed, Line, Source};
 
 /// Why an input isn't read as a text.
-#[derive(Clone, Copy, Debug, PartialEq, Eq)]
+#[derive(Clone, Copy, PartialEq, Eq)]
 pub enum InputFault {
     /// A read failed, and the input's count of such faults rose.
     Failed,

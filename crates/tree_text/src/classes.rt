@@ -15,7 +15,7 @@ use crate::values::{is_raw, is_raw_in};
 use xml_tree::is_space;
 
 /// A class of characters.
-#[derive(Clone, Copy, Debug)]
+#[derive(Clone, Copy)]
 pub enum Class {
     /// White space.
     Space,

@@ -7,7 +7,7 @@ use std::alloc::AllocError;
 use xml_tree::{is_plain_text, is_plain_value, text_reference, value_reference};
 
 /// Where a text is printed.
-#[derive(Clone, Copy, Debug)]
+#[derive(Clone, Copy)]
 pub enum Place {
     /// Between tags.
     Content,

@@ -1,7 +1,7 @@
 //! What may be wrong with a text beside its form.
 
 /// A kind of fault, which stands at a place of the text.
-#[derive(Clone, Copy, Debug, PartialEq, Eq)]
+#[derive(Clone, Copy, PartialEq, Eq)]
 pub enum Kind {
     /// The XML declaration names an encoding that isn't read.
     Encoded,

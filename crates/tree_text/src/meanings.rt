@@ -10,7 +10,7 @@ use crate::said::Said;
 use xml_tree::{LocalName, Name};
 
 /// What a name in a tag says.
-#[derive(Debug, Drop, PartialEq, Eq, PartialOrd, Ord)]
+#[derive(Drop, PartialEq, Eq, PartialOrd, Ord)]
 pub enum Meaning<'a> {
     /// Of a declaration: the prefix that it declares.
     Declared(&'a str),

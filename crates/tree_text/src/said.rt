@@ -3,7 +3,7 @@ use crate::size::Size;
 use xml_tree::{Name, Text};
 
 /// An attribute or a declaration in a tag.
-#[derive(Debug, Drop)]
+#[derive(Drop)]
 pub struct Said<'a> {
     pub name: Name,
     /// Its value, as it is read.

@@ -6,7 +6,7 @@ use crate::stepping::{count, text_before};
 use std::marker::Model;
 
 /// How many characters a text has. They are counted when they are asked for, which few are. Contracts see the number.
-#[derive(Debug, Drop)]
+#[derive(Drop)]
 pub struct Size<'a> {
     text: &'a str,
 }

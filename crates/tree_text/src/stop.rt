@@ -6,7 +6,7 @@ use crate::kind::Kind;
 use std::alloc::{AllocError, AllocFailed};
 
 /// Why reading stops, and before which rest of the text.
-#[derive(Debug, Drop)]
+#[derive(Drop)]
 pub enum Stop<'a> {
     /// Behind the longest beginning.
     Syntax(&'a str),

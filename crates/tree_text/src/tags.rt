@@ -22,7 +22,7 @@ use std::alloc::Global;
 use xml_tree::{Name, Text};
 
 /// A start tag, or the tag of an empty element, but for what it says behind its name.
-#[derive(Clone, Copy, Debug)]
+#[derive(Clone, Copy)]
 pub struct Tag<'a> {
     /// The text from its name on.
     pub from: &'a str,

@@ -16,7 +16,7 @@ use std::alloc::{AllocError, Global};
 use xml_tree::{LocalName, Name, Prefix};
 
 /// A name in a text: its prefix, empty where it has none, and its local part.
-#[derive(Clone, Copy, Debug)]
+#[derive(Clone, Copy)]
 pub struct Written<'a> {
     pub prefix: &'a str,
     pub local: &'a str,

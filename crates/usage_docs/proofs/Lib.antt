@@ -7,6 +7,7 @@ pub mod FindingLemmas
 pub mod GapLemmas
 pub mod HiddenLemmas
 pub mod Judgements
+pub mod KindOrder
 pub mod KindTests
 pub mod LengthLemmas
 pub mod ListingLemmas

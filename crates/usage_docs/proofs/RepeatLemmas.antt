@@ -22,48 +22,17 @@ use Rattle.usage_docs.specs.contracts.rows.KindOrd.TheImpl as kinds
 use Rattle.usage_docs.specs.declared.keys.Keyed.{Keyed}
 use Rattle.usage_docs.specs.declared.rows.Key.{Key}
 use Rattle.usage_docs.specs.declared.rows.Kind.{Kind}
-use Rattle.usage_docs.specs.declared.rows.Kind.TheVariants.{ResourceLists, EntryList, Entry, EntryRef, External, DisplayName, RlsServices, Service, ResourceList, Packages, Package}
 use Rattle.usage_docs.specs.Clashes.{Mark, Repeats, mark, mark_at, mark_of}
 use Rattle.usage_docs.specs.Keys.{key_of}
 use Rattle.usage_docs.specs.Rows.{Scope}
 use Rattle.usage_docs.specs.readers.Repeats.{Enters, Holds, IsFirstRepeat, IsLeastPair, IsPair, lesser, mark_in}
+use Rattle.usage_docs.proofs.KindOrder.{kinds_total, kind_tie, kind_same}
 use Rattle.usage_docs.proofs.ClashLemmas.{mark_parts, mark_within, no_key}
 
 -- ---- the order of marks and of keys
 
 abbrev mark_cmp : Keyed → Keyed → Ordering
 mark_cmp a b = ordering_then (kinds.cmp-value.it a.kind b.kind) (slice_cmp nat_cmp a.value.now b.value.now)
-
--- kinds are in order by their numbers
-abbrev rank : Kind → ℕ
-rank ResourceLists = 0
-rank EntryList = 1
-rank Entry = 2
-rank EntryRef = 3
-rank External = 4
-rank DisplayName = 5
-rank RlsServices = 6
-rank Service = 7
-rank ResourceList = 8
-rank Packages = 9
-rank Package = 10
-
-by_rank : (k q : Kind) → kinds.cmp-value.it k q ≡ nat_cmp (rank k) (rank q)
-by_rank ResourceLists ResourceLists = refl
-by_rank EntryList EntryList = refl
-by_rank Entry Entry = refl
-by_rank EntryRef EntryRef = refl
-by_rank External External = refl
-by_rank DisplayName DisplayName = refl
-by_rank RlsServices RlsServices = refl
-by_rank Service Service = refl
-by_rank ResourceList ResourceList = refl
-by_rank Packages Packages = refl
-by_rank Package Package = refl
-by_rank _ _ = refl
-
-kinds_total : IsTotalOrder kinds.cmp-value.it
-kinds_total = subst (λ (R : Kind → Kind → Ordering). IsTotalOrder R) (λ i k q. sym (by_rank k q) i) (on_total rank nat_cmp_total)
 
 marks_total : IsTotalOrder mark_cmp
 marks_total = then_total (on_total (λ (k : Keyed). k.kind) kinds_total) (on_total (λ (k : Keyed). k.value.now) nat_list_cmp_total)
@@ -114,24 +83,6 @@ both_true : (a b : Bool) → IsTrue (a && b) → IsTrue a × IsTrue b
 both_true true true h = (refl, refl)
 both_true true false h = cc
 both_true false b h = cc
-
-kind_tie : (k q : Kind) → IsTrue (is_eq (kinds.cmp-value.it k q)) → k ≡ q
-kind_tie ResourceLists ResourceLists h = refl
-kind_tie EntryList EntryList h = refl
-kind_tie Entry Entry h = refl
-kind_tie EntryRef EntryRef h = refl
-kind_tie External External h = refl
-kind_tie DisplayName DisplayName h = refl
-kind_tie RlsServices RlsServices h = refl
-kind_tie Service Service h = refl
-kind_tie ResourceList ResourceList h = refl
-kind_tie Packages Packages h = refl
-kind_tie Package Package h = refl
-kind_tie _ _ h = cc
-
-kind_same : (k : Kind) → kinds.cmp-value.it k k ≡ Equal
-kind_same ResourceLists = refl
-kind_same _ = refl
 
 tie_is : (a b : Keyed) → is_eq (mark_cmp a b) ≡ (is_eq (kinds.cmp-value.it a.kind b.kind) && bytes_eq a.value.now b.value.now)
 tie_is a b =

@@ -1,5 +1,6 @@
 //! The capabilities document (RFC 4825, section 12).
-ghost use Rattle.std.specs.Prelude.{◌≡◌, [], IfOk, IsTrue};
+ghost use Rattle.std.specs.Prelude.{◌≡◌, [], IfOk, OnOk, IsTrue, codes};
+ghost use Rattle.xml_tree.specs.Edits.{with_elem};
 ghost use Rattle.xml_tree.specs.Tree.{last, of_kids};
 ghost use Rattle.xml_tree.specs.Print.{print};
 ghost use Rattle.usage_docs.specs.Words.{is_ascii};
@@ -29,15 +30,46 @@ fn text_elem(alloc: Global, local: &str, text: &str) -> Result<Element, NoMemory
     Ok(made)
 }
 
+// Adds an element of this name, with this text, behind all nodes.
+fn push_word(alloc: Global, made: &mut Element, local: &str, text: &str) -> Result<(), NoMemory>
+    requires local { IsTrue (is_ascii local.now) }
+    requires text { IsTrue (is_ascii text.now) }
+    ensures adds_the_word { OnOk result (made.new ≡ record made.old { content = with_elem (around local.now (last text.now)) made.old.content }) }
+{
+    let word = text_elem(alloc, local, text)?;
+    made.push_elem(word)
+}
+
+// Adds the application usages to an element without nodes.
+fn push_auids(alloc: Global, made: &mut Element) -> Result<(), NoMemory>
+    requires { made.old.content ≡ of_kids [] }
+    ensures adds_the_usages { OnOk result (made.new ≡ record made.old { content = auids.content }) }
+{
+    push_word(alloc, made, "auid", "resource-lists")?;
+    push_word(alloc, made, "auid", "rls-services")?;
+    push_word(alloc, made, "auid", "xcap-caps")
+}
+
 // The application usages.
 fn auids(alloc: Global) -> Result<Element, NoMemory>
     ensures lists_the_usages { IfOk result (λ made. made ≡ auids) }
 {
     let mut made = empty(alloc, "auids")?;
-    made.push_elem(text_elem(alloc, "auid", "resource-lists")?)?;
-    made.push_elem(text_elem(alloc, "auid", "rls-services")?)?;
-    made.push_elem(text_elem(alloc, "auid", "xcap-caps")?)?;
+    push_auids(alloc, &mut made)?;
     Ok(made)
+}
+
+// Adds the namespaces to an element without nodes.
+fn push_namespaces(alloc: Global, made: &mut Element) -> Result<(), NoMemory>
+    requires { made.old.content ≡ of_kids [] }
+    ensures adds_the_namespaces { OnOk result (made.new ≡ record made.old { content = namespaces.content }) }
+{
+    let local = "namespace";
+    push_word(alloc, made, local, "urn:ietf:params:xml:ns:resource-lists")?;
+    push_word(alloc, made, local, "urn:ietf:params:xml:ns:rls-services")?;
+    push_word(alloc, made, local, "urn:ietf:params:xml:ns:xcap-caps")?;
+    push_word(alloc, made, local, "urn:ietf:params:xml:ns:xcap-diff")?;
+    push_word(alloc, made, local, "urn:ietf:params:xml:ns:xcap-error")
 }
 
 // The namespaces.
@@ -45,12 +77,17 @@ fn namespaces(alloc: Global) -> Result<Element, NoMemory>
     ensures lists_the_namespaces { IfOk result (λ made. made ≡ namespaces) }
 {
     let mut made = empty(alloc, "namespaces")?;
-    made.push_elem(text_elem(alloc, "namespace", "urn:ietf:params:xml:ns:resource-lists")?)?;
-    made.push_elem(text_elem(alloc, "namespace", "urn:ietf:params:xml:ns:rls-services")?)?;
-    made.push_elem(text_elem(alloc, "namespace", "urn:ietf:params:xml:ns:xcap-caps")?)?;
-    made.push_elem(text_elem(alloc, "namespace", "urn:ietf:params:xml:ns:xcap-diff")?)?;
-    made.push_elem(text_elem(alloc, "namespace", "urn:ietf:params:xml:ns:xcap-error")?)?;
+    push_namespaces(alloc, &mut made)?;
     Ok(made)
+}
+
+// Adds the parts of the document behind all nodes.
+fn push_parts(alloc: Global, made: &mut Element) -> Result<(), NoMemory>
+    ensures adds_the_parts { OnOk result (made.new ≡ record made.old { content = with_elem namespaces (with_elem (around (codes "extensions") (of_kids [])) (with_elem auids made.old.content)) }) }
+{
+    made.push_elem(auids(alloc)?)?;
+    made.push_elem(empty(alloc, "extensions")?)?;
+    made.push_elem(namespaces(alloc)?)
 }
 
 // The document, made part by part.
@@ -59,9 +96,7 @@ fn capabilities(alloc: Global) -> Result<Element, NoMemory>
 {
     let mut made = empty(alloc, "xcap-caps")?;
     made.push_decl(declaration(alloc, "", "urn:ietf:params:xml:ns:xcap-caps")?)?;
-    made.push_elem(auids(alloc)?)?;
-    made.push_elem(empty(alloc, "extensions")?)?;
-    made.push_elem(namespaces(alloc)?)?;
+    push_parts(alloc, &mut made)?;
     Ok(made)
 }
 

@@ -29,7 +29,7 @@ use std::alloc::Global;
 use xml_tree::{Around, Attr, Element, Node, declared_in};
 
 /// What is found in a tree.
-#[derive(Debug, Drop)]
+#[derive(Drop)]
 pub(crate) struct Found {
     /// Whether all is valid.
     pub valid: bool,

@@ -1,7 +1,7 @@
 //! The length of services as the index shows them, which is counted before they are made.
 ghost use Rattle.std.specs.Prelude.{◌≡◌, [], ◌∷◌, map, min, IfOk};
 ghost use Rattle.xml_tree.specs.Print.{print, byte_len};
-ghost use Rattle.xml_tree.specs.Scopes.{AreInOrder};
+ghost use Rattle.xml_tree.specs.Scopes.{AreInOrder, bindings_in};
 ghost use Rattle.xml_tree.specs.declared.tree.Node.TheVariants.{Elem};
 ghost use Rattle.usage_docs.specs.Services.{listed, listed_as};
 ghost use Rattle.usage_docs.specs.readers.Listing.{elems_len, listed_nodes};
@@ -68,6 +68,22 @@ fn hidden_len(alloc: Global, bindings: &[Decl], own: &[Decl]) -> Result<usize, N
     Ok(total)
 }
 
+// The printed length of all that these declarations bind.
+fn bindings_len(alloc: Global, own: &[Decl]) -> Result<usize, NoMemory>
+    ensures counts_the_bindings { IfOk result (λ len. len ≡ min (decls_len (bindings_in (own.now ∷ []))) usize.MAX) }
+{
+    let bindings = Scope::empty().with(own).bindings(alloc)?;
+    Ok(decls_len(&bindings))
+}
+
+// The printed length of a service as the index shows it, which is made for that.
+fn made_len(alloc: Global, outer: &Outer<'_>, kid: &Element) -> Result<usize, NoMemory>
+    ensures counts_the_listed_service { IfOk result (λ len. len ≡ min (byte_len (print (listed_as (outer.now.decls.now ∷ []) kid.now))) usize.MAX) }
+{
+    let made = listed_as(alloc, outer.decls, kid)?;
+    Ok(printed_len(&made))
+}
+
 // The printed length of a service as the index shows it: what the root binds is added, what the service hides of it is taken off, and its own
 // bindings stand for its declarations.
 fn service_len(alloc: Global, outer: &Outer<'_>, kid: &Element) -> Result<usize, NoMemory>
@@ -81,11 +97,11 @@ fn service_len(alloc: Global, outer: &Outer<'_>, kid: &Element) -> Result<usize,
     }
     // Nothing can be taken off a sum that is cut off.
     if whole == usize::MAX {
-        return Ok(printed_len(&listed_as(alloc, outer.decls, kid)?));
+        return made_len(alloc, outer, kid);
     }
     let hidden = hidden_len(alloc, &outer.bindings, own)?;
-    let bindings = Scope::empty().with(own).bindings(alloc)?;
-    Ok((whole - hidden - decls_len(own)).saturating_add(decls_len(&bindings)))
+    let shown = bindings_len(alloc, own)?;
+    Ok((whole - hidden - decls_len(own)).saturating_add(shown))
 }
 
 // The printed length of a node as the index shows it, if it is a service; else 0.

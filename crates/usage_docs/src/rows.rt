@@ -9,7 +9,7 @@ use doc_names::Usage;
 use xml_tree::{Around, LocalName, Name};
 
 /// A kind of element: a row of the table.
-#[derive(Debug, Clone, Copy, PartialEq, Eq, PartialOrd, Ord)]
+#[derive(Clone, Copy, PartialEq, Eq, PartialOrd, Ord)]
 pub enum Kind {
     /// The root of a resource-lists document.
     ResourceLists,
@@ -37,7 +37,7 @@ pub enum Key {
 }
 
 /// What attributes without a namespace an element may have.
-#[derive(Debug, Clone, Copy, PartialEq, Eq)]
+#[derive(Clone, Copy, PartialEq, Eq)]
 pub(crate) enum Attribute {
     Nothing,
     /// This one may be there.

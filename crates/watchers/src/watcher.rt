@@ -14,7 +14,7 @@ use notes::EditNote;
 use xml_tree::Element;
 
 /// What a watcher answers to a change.
-#[derive(Clone, Copy, Debug, PartialEq, Eq)]
+#[derive(Clone, Copy, PartialEq, Eq)]
 pub enum Told {
     /// It was told, and goes on.
     Kept,

@@ -8,8 +8,11 @@ use Rattle.http_wire.specs.declared.ended.Ended.TheVariants.{Closed}
 use Rattle.http_serve.specs.Fixed.{fixed}
 use Rattle.feed_laws.specs.Holding.{FollowedStep}
 use Rattle.http_serve.specs.Written.{InBytes}
+use Rattle.http_serve.specs.Ports.{Stops}
+use Rattle.http_serve.specs.declared.port.Stop.{Stop}
+use Rattle.http_serve.specs.declared.port.Stop.TheVariants.{Count, NoMore, PortFailed}
 use Rattle.xcap_io.specs.Causes.{Begun, LineState, none_begun}
-use Rattle.xcap_io.specs.Connections.{carried, traffic}
+use Rattle.xcap_io.specs.Connections.{carried, listening_at, traffic}
 use Rattle.xcap_io.specs.Histories.{Traffic, carried_by}
 use Rattle.xcap_io.specs.Passing.{Took}
 use Rattle.xcap_client.specs.Asks.{getting, removing}
@@ -34,7 +37,7 @@ use Rattle.edit_journal.specs.declared.restarting.RestartFault.{RestartFault}
 use Rattle.edit_journal.specs.declared.restarting.RestartFault.TheVariants as restart_faults
 use Rattle.logged_serve.specs.Books.{LoggedStep}
 use Rattle.xcap_app.specs.Runs.{Runs}
-use Rattle.xcap_app.specs.Serves.{served_line, ServesCommand as Serves}
+use Rattle.xcap_app.specs.Serves.{IsComplete, served_line, ServesCommand as Serves}
 use Rattle.xcap_app.specs.System.{AnswersAll, AnswersInput, AnswersKept, FollowsNamed, IsDone}
 use Rattle.xcap_app.specs.Verdicts.{TextVerdict}
 use Rattle.sample_runs.specs.Samples.{summary_text}
@@ -69,6 +72,13 @@ is_done OutOfMemory zero = absurd (omega arith)
 -- what was taken by an output that had taken nothing
 took_all : (old new bytes : List ℕ) → old ≡ [] → Took old new bytes → new ≡ bytes
 took_all old new bytes none took = took ∙ ap (λ (l : List ℕ). l ++ bytes) none
+
+-- a port that doesn't tell what is to come didn't end, so as many connections were carried as were wanted
+carried_all : (stop : Stop) (most connections : ℕ) (all served : List Traffic) (old new : LineState) → new.port.to_come ≡ None → Stops stop most connections old new → IsComplete stop
+    → all ≡ served → length served ≡ connections → length all ≡ most
+carried_all Count most connections all served old new untold stops complete same many = ap (λ (l : List Traffic). length l) same ∙ many ∙ stops.0
+carried_all NoMore most connections all served old new untold stops complete same many = let no : ⊥ = cc (sym untold ∙ stops.1) in absurd no
+carried_all PortFailed most connections all served old new untold stops complete same many = absurd complete
 
 -- a command of the client that ended well
 ended_well : (ended : Ended) → Done ≡ exit_of_client ended → ended ≡ ends.Done
@@ -115,20 +125,23 @@ module _ {W : Type 0} (Keeps : List Edit → W → W → Type 0) where
         told = r.told;
       }
 
-  port_done : (address root : List ℕ) (count : ℕ) (port port' output output' : LineState) (w w' : W) → port.port.begun ≡ none_begun → output.taken ≡ []
-      → Serves Keeps address root count Done port port' output output' w w' → AnswersAll Keeps root port port' w w' × (output'.taken ≡ served_line (length (carried port')))
-  port_done address root count port port' output output' w w' none_yet none_taken (served, s, complete, takes) =
+  port_done : (address root : List ℕ) (count : ℕ) (port port' output output' : LineState) (w w' : W) → port.port.begun ≡ none_begun → output.taken ≡ [] → port'.port.to_come ≡ None
+      → Serves Keeps address root count Done port port' output output' w w' → AnswersAll Keeps root port port' w w' × (length (carried port') ≡ count) × (output'.taken ≡ served_line count)
+  port_done address root count port port' output output' w w' none_yet none_taken untold (served, s, complete, takes) =
       let v = s.serves in
-      let all : carried port' ≡ v.connections = v.all_carried ∙ ap (λ (b : Begun). carried_by b.earlier b.is_present (traffic port) ++ v.connections) none_yet in (
+      let all : carried port' ≡ v.connections = v.all_carried ∙ ap (λ (b : Begun). carried_by b.earlier b.is_present (traffic port) ++ v.connections) none_yet in
+      let counted = carried_all served.stop count served.connections (carried port') v.connections (listening_at port address) port' untold v.stop complete all v.count in (
         record {
           state = s.state;
           edits = v.edits;
           serves = subst (λ (l : List Traffic). ServesAll (InBytes (FollowedStep root)) fixed (first_state 1) l s.state v.edits port.read_faults port'.read_faults port.write_faults port'.write_faults) (sym all) v.serves;
           told = v.kept;
         },
+        counted,
         took_all output.taken output'.taken (served_line served.connections) none_taken takes.taken
             ∙ ap served_line (sym v.count)
-            ∙ ap (λ (l : List Traffic). served_line (length l)) (sym all),
+            ∙ ap (λ (l : List Traffic). served_line (length l)) (sym all)
+            ∙ ap served_line counted,
       )
 
   never_done : (fault : RestartFault) {X : Type 0} → IsToldAs (exit_of_restart fault) Done → X
@@ -143,11 +156,11 @@ module _ {W : Type 0} (Keeps : List Edit → W → W → Type 0) where
       not_done restart_faults.NoMemory is = let no : ⊥ = cc in absurd no
   never_done fault (inr out) = let no : ⊥ = cc (out.1) in absurd no
 
-  kept_done : (address root : List ℕ) (count : ℕ) (port port' input input' output output' : LineState) (w w' : W) → port.port.begun ≡ none_begun → input.inward.given ≡ [] → output.taken ≡ []
-      → KeepsCommand Keeps address root count Done port port' input input' output output' w w' → AnswersKept Keeps root port port' input' output' w w'
-  kept_done address root count port port' input input' output output' w w' none_yet none_given none_taken (no_server out p i o same) = let no : ⊥ = cc in absurd no
-  kept_done address root count port port' input input' output output' w w' none_yet none_given none_taken (no_journal fault told breaks p same) = never_done fault told
-  kept_done address root count port port' input input' output output' w w' none_yet none_given none_taken (keeps_on requests state reads just (served, kept, complete)) =
+  kept_done : (address root : List ℕ) (count : ℕ) (port port' input input' output output' : LineState) (w w' : W) → port.port.begun ≡ none_begun → input.inward.given ≡ [] → output.taken ≡ [] → port'.port.to_come ≡ None
+      → KeepsCommand Keeps address root count Done port port' input input' output output' w w' → AnswersKept Keeps root count port port' input' output' w w'
+  kept_done address root count port port' input input' output output' w w' none_yet none_given none_taken untold (no_server out p i o same) = let no : ⊥ = cc in absurd no
+  kept_done address root count port port' input input' output output' w w' none_yet none_given none_taken untold (no_journal fault told breaks p same) = never_done fault told
+  kept_done address root count port port' input input' output output' w w' none_yet none_given none_taken untold (keeps_on requests state reads just (served, kept, complete)) =
       let v = kept.serves in
       let all : carried port' ≡ v.connections = v.all_carried ∙ ap (λ (b : Begun). carried_by b.earlier b.is_present (traffic port) ++ v.connections) none_yet in
       let given : input'.inward.given ≡ reads.bytes = took_all input.inward.given input'.inward.given reads.bytes none_given reads.records.given.behind in
@@ -163,38 +176,39 @@ module _ {W : Type 0} (Keeps : List Edit → W → W → Type 0) where
         redone = reads.records.redone;
         serves = subst (λ (l : List Traffic). ServesAll (InBytes (LoggedStep (FollowedStep root))) fixed (record { machine = state; requests = requests; failures = 0 }) l (record { machine = kept.next; requests = kept.accepted; failures = 0 }) v.edits
             port.read_faults port'.read_faults port.write_faults port'.write_faults) (sym all) v.serves;
+        counted = carried_all served.stop count served.connections (carried port') v.connections (listening_at port address) port' untold v.stop complete all v.count;
         all_redone = kept.redone;
         took = took_all output.taken output'.taken (text kept.accepted ++ []) none_taken kept.written ∙ append-nil (text kept.accepted);
         told = v.kept;
       }
 
-  by_command : (command : Option Command) (port port' peer peer' input input' output output' : LineState) (w w' : W) → port.port.begun ≡ none_begun → input.inward.given ≡ [] → output.taken ≡ []
+  by_command : (command : Option Command) (port port' peer peer' input input' output output' : LineState) (w w' : W) → port.port.begun ≡ none_begun → input.inward.given ≡ [] → output.taken ≡ [] → port'.port.to_come ≡ None
       → Runs Keeps command Done port port' peer peer' input input' output output' w w' → IsDone Keeps command port port' peer peer' input input' output output' w w'
-  by_command None port port' peer peer' input input' output output' w w' none_yet none_given none_taken r = ⊎_elim never_usage never_out r.0
-  by_command (Some (Replay root)) port port' peer peer' input input' output output' w w' none_yet none_given none_taken r = input_done root input input' output output' w w' none_given none_taken r.0
-  by_command (Some (Serve address root count)) port port' peer peer' input input' output output' w w' none_yet none_given none_taken r =
-      port_done (encode_utf8_all address) root count port port' output output' w w' none_yet none_taken r.0
-  by_command (Some (Keep address root count)) port port' peer peer' input input' output output' w w' none_yet none_given none_taken r = kept_done (encode_utf8_all address) root count port port' input input' output output' w w' none_yet none_given none_taken r.0
-  by_command (Some (Check usage)) port port' peer peer' input input' output output' w w' none_yet none_given none_taken r =
+  by_command None port port' peer peer' input input' output output' w w' none_yet none_given none_taken untold r = ⊎_elim never_usage never_out r.0
+  by_command (Some (Replay root)) port port' peer peer' input input' output output' w w' none_yet none_given none_taken untold r = input_done root input input' output output' w w' none_given none_taken r.0
+  by_command (Some (Serve address root count)) port port' peer peer' input input' output output' w w' none_yet none_given none_taken untold r =
+      port_done (encode_utf8_all address) root count port port' output output' w w' none_yet none_taken untold r.0
+  by_command (Some (Keep address root count)) port port' peer peer' input input' output output' w w' none_yet none_given none_taken untold r = kept_done (encode_utf8_all address) root count port port' input input' output output' w w' none_yet none_given none_taken untold r.0
+  by_command (Some (Check usage)) port port' peer peer' input input' output output' w w' none_yet none_given none_taken untold r =
       let judged = r.0.0 in (
         subst (λ (text : List ℕ). TextVerdict usage text Done) (sym (took_all input.inward.given input'.inward.given judged.0 none_given judged.1.gave.consumed.behind)) judged.2,
         took_all output.taken output'.taken (codes "valid\n") none_taken r.0.1.taken,
         r.3,
       )
-  by_command (Some (Sample requests)) port port' peer peer' input input' output output' w w' none_yet none_given none_taken r =
+  by_command (Some (Sample requests)) port port' peer peer' input input' output output' w w' none_yet none_given none_taken untold r =
       (r.0.0, r.0.1, took_all output.taken output'.taken (summary_text r.0.0) none_taken r.0.2.taken, r.4)
-  by_command (Some (Fetch asker path)) port port' peer peer' input input' output output' w w' none_yet none_given none_taken r =
+  by_command (Some (Fetch asker path)) port port' peer peer' input input' output output' w w' none_yet none_given none_taken untold r =
       (command_done (λ ended. MakesOneCall asker.root (getting asker.user path) (λ response. response.body) ended peer peer' output output') (AsksNothing peer peer' output output') Done refl r.0, r.3)
-  by_command (Some (Put asker path media)) port port' peer peer' input input' output output' w w' none_yet none_given none_taken r =
+  by_command (Some (Put asker path media)) port port' peer peer' input input' output output' w w' none_yet none_given none_taken untold r =
       (command_done (λ ended. Puts asker.root asker.user path media ended peer peer' input input' output output') ((input' ≡ input) × AsksNothing peer peer' output output') Done refl r.0, r.2)
-  by_command (Some (Delete asker path)) port port' peer peer' input input' output output' w w' none_yet none_given none_taken r =
+  by_command (Some (Delete asker path)) port port' peer peer' input input' output output' w w' none_yet none_given none_taken untold r =
       (command_done (λ ended. MakesOneCall asker.root (removing asker.user path) (λ response. line_of_status response.status) ended peer peer' output output') (AsksNothing peer peer' output output') Done refl r.0, r.3)
-  by_command (Some (Follow asker document rounds)) port port' peer peer' input input' output output' w w' none_yet none_given none_taken r =
+  by_command (Some (Follow asker document rounds)) port port' peer peer' input input' output output' w w' none_yet none_given none_taken untold r =
       (follow_done asker document rounds Done peer peer' output output' refl r.0, r.3)
 
   -- a run that answered 0
-  pub done_by : (command : Option Command) (exit : Exit) (port port' peer peer' input input' output output' : LineState) (w w' : W) → port.port.begun ≡ none_begun → input.inward.given ≡ [] → output.taken ≡ []
+  pub done_by : (command : Option Command) (exit : Exit) (port port' peer peer' input input' output output' : LineState) (w w' : W) → port.port.begun ≡ none_begun → input.inward.given ≡ [] → output.taken ≡ [] → port'.port.to_come ≡ None
       → status_of exit ≡ 0 → Runs Keeps command exit port port' peer peer' input input' output output' w w' → IsDone Keeps command port port' peer peer' input input' output output' w w'
-  done_by command exit port port' peer peer' input input' output output' w w' none_yet none_given none_taken zero r =
-      by_command command port port' peer peer' input input' output output' w w' none_yet none_given none_taken
+  done_by command exit port port' peer peer' input input' output output' w w' none_yet none_given none_taken untold zero r =
+      by_command command port port' peer peer' input input' output output' w w' none_yet none_given none_taken untold
       (subst (λ (x : Exit). Runs Keeps command x port port' peer peer' input input' output output' w w') (is_done exit zero) r)

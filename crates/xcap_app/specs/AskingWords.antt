@@ -43,20 +43,24 @@ asker_of user root =
 unfoldable pub numeral_up_to : ℕ → List ℕ → Option ℕ
 numeral_up_to most word = option_and_then (λ n. if nat_le n most then Some n else None) (numeral_of word)
 
+-- `USER ROOT` and a word behind them
+abbrev pub asked_of : List ℕ → List ℕ → List ℕ → Option (Asker × List ℕ)
+asked_of user root word = option_and_then (λ w. option_map (λ asker. (asker, w)) (asker_of user root)) (word_text word)
+
 -- `fetch USER ROOT PATH`
 abbrev pub fetch_of : List ℕ → List ℕ → List ℕ → Option Command
-fetch_of user root path = option_and_then (λ asker. option_map (λ p. Fetch asker p) (word_text path)) (asker_of user root)
+fetch_of user root path = option_map (λ asked. Fetch asked.0 asked.1) (asked_of user root path)
 
 -- `delete USER ROOT PATH`
 abbrev pub delete_of : List ℕ → List ℕ → List ℕ → Option Command
-delete_of user root path = option_and_then (λ asker. option_map (λ p. Delete asker p) (word_text path)) (asker_of user root)
+delete_of user root path = option_map (λ asked. Delete asked.0 asked.1) (asked_of user root path)
 
 -- `put USER ROOT PATH TYPE`
 abbrev pub put_of : List ℕ → List ℕ → List ℕ → List ℕ → Option Command
 put_of user root path media =
-    option_and_then (λ asker. option_and_then (λ p. option_map (λ m. Put asker p m) (word_text media)) (word_text path)) (asker_of user root)
+    option_and_then (λ m. option_map (λ asked. Put asked.0 asked.1 m) (asked_of user root path)) (word_text media)
 
 -- `follow USER ROOT DOCUMENT ROUNDS`, where ROUNDS is a numeral of at most `GREATEST_ROUNDS`
 abbrev pub follow_of : List ℕ → List ℕ → List ℕ → List ℕ → Option Command
 follow_of user root document rounds =
-    option_and_then (λ asker. option_and_then (λ d. option_map (λ n. Follow asker d n) (numeral_up_to GREATEST_ROUNDS rounds)) (word_text document)) (asker_of user root)
+    option_and_then (λ n. option_map (λ asked. Follow asked.0 asked.1 n) (asked_of user root document)) (numeral_up_to GREATEST_ROUNDS rounds)

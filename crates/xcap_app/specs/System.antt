@@ -57,8 +57,8 @@ module _ {W : Type 0} (Keeps : List Edit → W → W → Type 0) where
     pub told : Keeps edits watchers watchers'
 
   -- What came in over the input is the records of some requests, and a torn rest, in which none lies whole; from what they come to on,
-  -- the machine answered on all connections of the port, and accepted further requests. The output took the records of all.
-  pub record AnswersKept (root : List ℕ) (port port' input' output' : LineState) (watchers watchers' : W) : Type 0 where
+  -- the machine answered on all connections of the port, so many, and accepted further requests. The output took the records of all.
+  pub record AnswersKept (root : List ℕ) (count : ℕ) (port port' input' output' : LineState) (watchers watchers' : W) : Type 0 where
     pub requests : List Request
     pub rest : List ℕ
     pub state : State
@@ -70,6 +70,7 @@ module _ {W : Type 0} (Keeps : List Edit → W → W → Type 0) where
     pub redone : Redoing root (first_state 1) requests state
     pub serves : ServesAll (InBytes (LoggedStep (FollowedStep root))) fixed (record { machine = state; requests = requests; failures = 0 }) (carried port') (record { machine = next; requests = accepted; failures = 0 }) edits
         port.read_faults port'.read_faults port.write_faults port'.write_faults
+    pub counted : length (carried port') ≡ count
     pub all_redone : Redoing root (first_state 1) accepted next
     pub took : output'.taken ≡ text accepted
     pub told : Keeps edits watchers watchers'
@@ -79,8 +80,8 @@ module _ {W : Type 0} (Keeps : List Edit → W → W → Type 0) where
   IsDone None port port' peer peer' input input' output output' watchers watchers' = ⊥
   IsDone (Some (Replay root)) port port' peer peer' input input' output output' watchers watchers' = AnswersInput root input' output' watchers watchers'
   IsDone (Some (Serve address root count)) port port' peer peer' input input' output output' watchers watchers' =
-      AnswersAll root port port' watchers watchers' × (output'.taken ≡ served_line (length (carried port')))
-  IsDone (Some (Keep address root count)) port port' peer peer' input input' output output' watchers watchers' = AnswersKept root port port' input' output' watchers watchers'
+      AnswersAll root port port' watchers watchers' × (length (carried port') ≡ count) × (output'.taken ≡ served_line count)
+  IsDone (Some (Keep address root count)) port port' peer peer' input input' output output' watchers watchers' = AnswersKept root count port port' input' output' watchers watchers'
   IsDone (Some (Check usage)) port port' peer peer' input input' output output' watchers watchers' =
       TextVerdict usage input'.inward.given Done × (output'.taken ≡ codes "valid\n") × (watchers' ≡ watchers)
   IsDone (Some (Sample requests)) port port' peer peer' input input' output output' watchers watchers' =

@@ -130,7 +130,11 @@ fn meant(alloc: Global, root: &Root, target: &Text) -> Result<Option<DocId>, All
     ensures document_by_the_rules { IfOk result (λ doc. MeansDocument root.now target.now doc) }
 {
     match read_target(alloc, root, target.as_str().as_bytes()) {
-        Ok(target) => copied(alloc, document_to_follow(&target)),
+        Ok(target) => {
+            let doc = copied(alloc, document_to_follow(&target));
+            drop(target);
+            doc
+        }
         Err(ReadError::Fault(_)) => Ok(None),
         Err(ReadError::NoMemory) => Err(AllocError),
     }

@@ -3,7 +3,7 @@ ghost use Rattle.std.specs.Prelude.{◌≡◌, IfOk, codes};
 ghost use Rattle.std.specs.List.{list_all};
 ghost use Rattle.std.specs.Str.{bytes_eq};
 ghost use Rattle.xcap_uri.specs.Cuts.{front_before};
-ghost use Rattle.xcap_app.specs.AskingWords.{asker_of, delete_of, fetch_of, follow_of, has_scheme_http, http_root_of, is_word_octet, is_word, numeral_up_to, put_of, word_text, user_of};
+ghost use Rattle.xcap_app.specs.AskingWords.{asked_of, asker_of, delete_of, fetch_of, follow_of, has_scheme_http, http_root_of, is_word_octet, is_word, numeral_up_to, put_of, word_text, user_of};
 
 use crate::command::Command;
 use client_commands::Asker;
@@ -104,6 +104,24 @@ fn rounds_of(word: &str) -> Option<u64>
     Some(number)
 }
 
+// What USER, ROOT and a word behind them spell.
+fn asked_of(
+    alloc: Global,
+    user: &str,
+    root: &str,
+    word: &str,
+) -> Result<Option<(Asker, Text)>, AllocError>
+    ensures reads_who_asks_for_what { IfOk result (λ asked. asked ≡ asked_of user.now root.now word.now) }
+{
+    let Some(word) = word_text(alloc, word)? else {
+        return Ok(None);
+    };
+    match asker_of(alloc, user, root)? {
+        Some(asker) => Ok(Some((asker, word))),
+        None => Ok(None),
+    }
+}
+
 // What `fetch` and three words spell.
 pub(crate) fn fetch_of(
     alloc: Global,
@@ -113,13 +131,10 @@ pub(crate) fn fetch_of(
 ) -> Result<Option<Command>, AllocError>
     ensures reads_a_fetch { IfOk result (λ command. command ≡ fetch_of user.now root.now path.now) }
 {
-    let Some(asker) = asker_of(alloc, user, root)? else {
-        return Ok(None);
-    };
-    let Some(path) = word_text(alloc, path)? else {
-        return Ok(None);
-    };
-    Ok(Some(Command::Fetch { asker, path }))
+    match asked_of(alloc, user, root, path)? {
+        Some((asker, path)) => Ok(Some(Command::Fetch { asker, path })),
+        None => Ok(None),
+    }
 }
 
 // What `delete` and three words spell.
@@ -131,13 +146,10 @@ pub(crate) fn delete_of(
 ) -> Result<Option<Command>, AllocError>
     ensures reads_a_delete { IfOk result (λ command. command ≡ delete_of user.now root.now path.now) }
 {
-    let Some(asker) = asker_of(alloc, user, root)? else {
-        return Ok(None);
-    };
-    let Some(path) = word_text(alloc, path)? else {
-        return Ok(None);
-    };
-    Ok(Some(Command::Delete { asker, path }))
+    match asked_of(alloc, user, root, path)? {
+        Some((asker, path)) => Ok(Some(Command::Delete { asker, path })),
+        None => Ok(None),
+    }
 }
 
 // What `put` and four words spell.
@@ -150,16 +162,13 @@ pub(crate) fn put_of(
 ) -> Result<Option<Command>, AllocError>
     ensures reads_a_put { IfOk result (λ command. command ≡ put_of user.now root.now path.now media.now) }
 {
-    let Some(asker) = asker_of(alloc, user, root)? else {
-        return Ok(None);
-    };
-    let Some(path) = word_text(alloc, path)? else {
-        return Ok(None);
-    };
     let Some(media) = word_text(alloc, media)? else {
         return Ok(None);
     };
-    Ok(Some(Command::Put { asker, path, media }))
+    match asked_of(alloc, user, root, path)? {
+        Some((asker, path)) => Ok(Some(Command::Put { asker, path, media })),
+        None => Ok(None),
+    }
 }
 
 // What `follow` and four words spell.
@@ -172,18 +181,15 @@ pub(crate) fn follow_of(
 ) -> Result<Option<Command>, AllocError>
     ensures reads_a_follow { IfOk result (λ command. command ≡ follow_of user.now root.now document.now rounds.now) }
 {
-    let Some(asker) = asker_of(alloc, user, root)? else {
-        return Ok(None);
-    };
-    let Some(document) = word_text(alloc, document)? else {
-        return Ok(None);
-    };
     let Some(rounds) = rounds_of(rounds) else {
         return Ok(None);
     };
-    Ok(Some(Command::Follow {
-        asker,
-        document,
-        rounds,
-    }))
+    match asked_of(alloc, user, root, document)? {
+        Some((asker, document)) => Ok(Some(Command::Follow {
+            asker,
+            document,
+            rounds,
+        })),
+        None => Ok(None),
+    }
 }

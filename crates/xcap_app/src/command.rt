@@ -5,7 +5,7 @@ use xcap_uri::Root;
 use xml_tree::Text;
 
 /// A command, with what its words say.
-#[derive(Debug, Drop)]
+#[derive(Drop)]
 pub enum Command {
     /// Serves the input as one connection, whose replies go to the output, by a server of this root.
     Replay {

@@ -9,7 +9,7 @@ use feed_follower::FollowerFault;
 use std::alloc::{AllocError, Global};
 
 /// How a run of the program ends.
-#[derive(Debug, Drop)]
+#[derive(Drop)]
 pub enum Exit {
     /// The command ended.
     Done,

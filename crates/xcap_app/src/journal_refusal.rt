@@ -5,7 +5,7 @@ ghost use Rattle.xcap_app.specs.Exits.{journal_words};
 use std::alloc::{AllocError, Global};
 
 /// Why the input of `keep` is no journal that a server can be brought back from.
-#[derive(Clone, Copy, Debug, PartialEq, Eq)]
+#[derive(Clone, Copy, PartialEq, Eq)]
 pub enum JournalRefusal {
     /// From this place on its bytes begin no record.
     Damaged(u64),

@@ -147,7 +147,7 @@ pub(crate) fn keep<P: Port, I: Source, O: Sink, W: Watchers<Edit>>(
     let Ok(mut server) = Server::new(alloc, root, 1) else {
         return Exit::OutOfMemory;
     };
-    keep_by(
+    let exit = keep_by(
         alloc,
         &mut server,
         address,
@@ -156,5 +156,7 @@ pub(crate) fn keep<P: Port, I: Source, O: Sink, W: Watchers<Edit>>(
         input,
         output,
         watchers,
-    )
+    );
+    drop(server);
+    exit
 }

@@ -24,5 +24,5 @@ pub use command::Command;
 pub use exit::Exit;
 pub use journal_refusal::JournalRefusal;
 pub use refusal::Refusal;
-pub use system::run_on_system;
+pub use system::{run_on_system, start};
 pub use top::run;

@@ -7,7 +7,7 @@ use usage_docs::{Clash, Fault};
 use xml_tree::print_path;
 
 /// Why the input of `check` is no valid document, the first reason in this order.
-#[derive(Debug, Drop)]
+#[derive(Drop)]
 pub enum Refusal {
     /// It has more than `MOST_BYTES` bytes.
     TooLarge,

@@ -69,5 +69,7 @@ pub(crate) fn replay<I: Source, O: Sink, W: Watchers<Edit>>(
     let Ok(mut server) = Server::new(alloc, root, 1) else {
         return Exit::OutOfMemory;
     };
-    replay_by(&mut server, input, output, watchers)
+    let exit = replay_by(&mut server, input, output, watchers);
+    drop(server);
+    exit
 }

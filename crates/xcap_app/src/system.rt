@@ -1,5 +1,5 @@
-// The top call over sockets and streams of the system.
-ghost use Rattle.std.specs.Prelude.{◌≡◌, [], map, string_bytes};
+// The top calls over sockets and streams of the system.
+ghost use Rattle.std.specs.Prelude.{◌≡◌, [], None, map, option_and_then, string_bytes};
 ghost use Rattle.xcap_io.specs.Causes.{none_begun};
 ghost use Rattle.xcap_app.specs.Commands.{command_of};
 ghost use Rattle.xcap_app.specs.Exits.{status_of, words_of};
@@ -8,13 +8,15 @@ ghost use Rattle.xcap_app.specs.System.{IsDone};
 ghost use Rattle.xcap_app.specs.Telling.{Tells};
 ghost use Rattle.xcap_app.specs.declared.exit.Exit.{Exit};
 
+use crate::exit::Exit;
+use crate::telling::tell_exit;
 use crate::top::run;
 use notes::Edit;
 use std::alloc::Global;
 use std::io::{Read, Write};
 use std::net::Net;
 use std::time::Clock;
-use watchers::Watchers;
+use watchers::{Audit, Watchers};
 use xcap_io::{Line, StdSink, StdSource, TcpPeer, TcpPort};
 
 /// Runs the command that the words spell, as `run` does, over sockets and streams over which nothing has passed yet. Where it
@@ -51,4 +53,41 @@ pub fn run_on_system<N: Net + Clock + Drop, I: Read, O: Write, E: Write, W: Watc
         × Tells (words_of exit) (⟦<StdSink<E> as Line>⟧.state errors.old) (⟦<StdSink<E> as Line>⟧.state errors.new) }
 {
     run(alloc, words, port, peer, input, output, errors, watchers)
+}
+
+/// Runs the command that the words spell, as `run_on_system` does, and tells one audit the changes. Where there are no words, as there
+/// was no memory for them, nothing is done, and the run ends with the status and the words of that. It is all that the program calls.
+pub fn start<N: Net + Clock + Drop, I: Read, O: Write, E: Write + Drop>(
+    alloc: Global,
+    words: Option<Vec<String>>,
+    port: &mut TcpPort<N>,
+    peer: &mut TcpPeer<N>,
+    input: &mut StdSource<I>,
+    output: &mut StdSink<O>,
+    errors: &mut StdSink<E>,
+    audit: &mut Option<Audit<StdSink<E>>>,
+) -> u8
+    requires none_begun { (⟦<TcpPort<N> as Line>⟧.state port.old).port.begun ≡ none_begun }
+    requires none_given { (⟦<StdSource<I> as Line>⟧.state input.old).inward.given ≡ [] }
+    requires none_taken { (⟦<StdSink<O> as Line>⟧.state output.old).taken ≡ [] }
+    ensures done_at_status_0 { result ≡ 0
+        → IsDone ⟦<Option<Audit<StdSink<E>>> as Watchers<Edit>>⟧.keeps (option_and_then (λ words. command_of (map string_bytes words.items)) words)
+        (⟦<TcpPort<N> as Line>⟧.state port.old) (⟦<TcpPort<N> as Line>⟧.state port.new)
+        (⟦<TcpPeer<N> as Line>⟧.state peer.old) (⟦<TcpPeer<N> as Line>⟧.state peer.new)
+        (⟦<StdSource<I> as Line>⟧.state input.old) (⟦<StdSource<I> as Line>⟧.state input.new)
+        (⟦<StdSink<O> as Line>⟧.state output.old) (⟦<StdSink<O> as Line>⟧.state output.new)
+        audit.old audit.new }
+    ensures ends_with_the_status_of_its_exit { (exit : Exit) × (result ≡ status_of exit)
+        × Runs ⟦<Option<Audit<StdSink<E>>> as Watchers<Edit>>⟧.keeps (option_and_then (λ words. command_of (map string_bytes words.items)) words) exit
+        (⟦<TcpPort<N> as Line>⟧.state port.old) (⟦<TcpPort<N> as Line>⟧.state port.new)
+        (⟦<TcpPeer<N> as Line>⟧.state peer.old) (⟦<TcpPeer<N> as Line>⟧.state peer.new)
+        (⟦<StdSource<I> as Line>⟧.state input.old) (⟦<StdSource<I> as Line>⟧.state input.new)
+        (⟦<StdSink<O> as Line>⟧.state output.old) (⟦<StdSink<O> as Line>⟧.state output.new) audit.old audit.new
+        × Tells (words_of exit) (⟦<StdSink<E> as Line>⟧.state errors.old) (⟦<StdSink<E> as Line>⟧.state errors.new) }
+    ensures out_of_memory_without_words { words ≡ None → result ≡ status_of Exit.OutOfMemory }
+{
+    let Some(words) = words else {
+        return tell_exit(alloc, errors, Exit::OutOfMemory).status();
+    };
+    run_on_system(alloc, &words, port, peer, input, output, errors, audit)
 }

@@ -35,6 +35,7 @@ pub(crate) fn tell_exit<E: Sink>(alloc: Global, errors: &mut E, exit: Exit) -> E
             exit
         }
         Err(AllocError) => {
+            drop(exit);
             tell(errors, b"out of memory\n");
             Exit::OutOfMemory
         }

@@ -92,7 +92,11 @@ fn execute_words<P: Port, C: Peer, I: Source, O: Sink, W: Watchers<Edit>>(
         (C.state peer.old) (C.state peer.new) (I.state input.old) (I.state input.new) (O.state output.old) (O.state output.new) watchers.old watchers.new }
 {
     match command_of(alloc, words) {
-        Ok(Some(command)) => execute(alloc, &command, port, peer, input, output, watchers),
+        Ok(Some(command)) => {
+            let exit = execute(alloc, &command, port, peer, input, output, watchers);
+            drop(command);
+            exit
+        }
         Ok(None) => Exit::Usage,
         Err(_) => Exit::OutOfMemory,
     }

@@ -1,3 +1,4 @@
-pub mod Words
 pub mod Causes
+pub mod Naming
 pub mod Passed
+pub mod Words

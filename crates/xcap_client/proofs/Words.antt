@@ -1,7 +1,8 @@
 -- Texts of the code, read as characters, and which of the client's requests are lawful.
-use Rattle.std.proofs.Common.{◌≡◌, ℕ, List, [], ◌∷◌, Option, codes, refl, sym, ap, arith}
+use Rattle.std.proofs.Common.{◌≡◌, ℕ, List, [], ◌∷◌, Option, Result, Ok, Err, IfOk, codes, refl, sym, ap, subst, arith}
 use Rattle.std.proofs.lemmas.Bool.{true≢false}
 use Rattle.std.specs.Str.{chars}
+use Rattle.http_exchange.specs.declared.request.Ask.{Ask}
 use Rattle.http_exchange.specs.Requests.{IsLawful}
 use Rattle.xcap_client.specs.Asks.{bare, getting, removing, putting}
 
@@ -26,6 +27,11 @@ unfolding chars
 xcap_error = refl
 
 -- ---- lawful requests
+
+-- what is asked is lawful, where it is what was said
+pub is_lawful : {E : Type 0} (said : Ask) (result : Result Ask E) → IsLawful said → IfOk result (λ ask. ask ≡ said) → IfOk result IsLawful
+is_lawful said (Ok ask) lawful same = subst IsLawful (sym same) lawful
+is_lawful said (Err fault) lawful none = tt
 
 abbrev first : List ℕ → ℕ
 first [] = 0

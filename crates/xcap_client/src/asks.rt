@@ -1,7 +1,7 @@
 // What the calls of the client ask.
 ghost use Rattle.std.specs.Prelude.{◌≡◌, chars, option_map, IfOk};
 ghost use Rattle.http_exchange.specs.Requests.{IsLawful};
-ghost use Rattle.xcap_client.specs.Asks.{getting, removing, putting};
+ghost use Rattle.xcap_client.specs.Asks.{bare, getting, removing, putting};
 
 use http_exchange::Ask;
 use std::alloc::Global;
@@ -21,12 +21,12 @@ pub fn copy_user(alloc: Global, user: Option<&str>) -> Result<Option<Text>, NoMe
     }
 }
 
-pub fn getting(alloc: Global, user: Option<&str>, path: &str) -> Result<Ask, NoMemory>
-    ensures asks_as_said { IfOk result (λ ask. ask ≡ getting (option_map (λ name. chars name.now) user.entry) (chars path.now)) }
-    ensures ask_is_lawful { IfOk result IsLawful }
+// A request without a body.
+fn bare(alloc: Global, method: &str, user: Option<&str>, path: &str) -> Result<Ask, NoMemory>
+    ensures asks_without_a_body { IfOk result (λ ask. ask ≡ bare (chars method.now) (option_map (λ name. chars name.now) user.entry) (chars path.now)) }
 {
     Ok(Ask {
-        method: Text::from(alloc, "GET")?,
+        method: Text::from(alloc, method)?,
         path: Text::from(alloc, path)?,
         user: copy_user(alloc, user)?,
         media: None,
@@ -34,17 +34,18 @@ pub fn getting(alloc: Global, user: Option<&str>, path: &str) -> Result<Ask, NoM
     })
 }
 
+pub fn getting(alloc: Global, user: Option<&str>, path: &str) -> Result<Ask, NoMemory>
+    ensures asks_as_said { IfOk result (λ ask. ask ≡ getting (option_map (λ name. chars name.now) user.entry) (chars path.now)) }
+    ensures ask_is_lawful { IfOk result IsLawful }
+{
+    bare(alloc, "GET", user, path)
+}
+
 pub fn removing(alloc: Global, user: Option<&str>, path: &str) -> Result<Ask, NoMemory>
     ensures asks_as_said { IfOk result (λ ask. ask ≡ removing (option_map (λ name. chars name.now) user.entry) (chars path.now)) }
     ensures ask_is_lawful { IfOk result IsLawful }
 {
-    Ok(Ask {
-        method: Text::from(alloc, "DELETE")?,
-        path: Text::from(alloc, path)?,
-        user: copy_user(alloc, user)?,
-        media: None,
-        body: Bytes::new(alloc),
-    })
+    bare(alloc, "DELETE", user, path)
 }
 
 pub fn putting(
@@ -57,11 +58,10 @@ pub fn putting(
     ensures asks_as_said { IfOk result (λ ask. ask ≡ putting (option_map (λ name. chars name.now) user.entry) (chars path.now) (chars media.now) body.now) }
     ensures ask_is_lawful { IfOk result IsLawful }
 {
-    Ok(Ask {
-        method: Text::from(alloc, "PUT")?,
-        path: Text::from(alloc, path)?,
-        user: copy_user(alloc, user)?,
-        media: Some(Text::from(alloc, media)?),
-        body: Bytes::from(alloc, body)?,
-    })
+    let media = Text::from(alloc, media)?;
+    let body = Bytes::from(alloc, body)?;
+    let mut ask = bare(alloc, "PUT", user, path)?;
+    ask.media = Some(media);
+    ask.body = body;
+    Ok(ask)
 }

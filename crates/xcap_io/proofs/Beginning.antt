@@ -57,7 +57,7 @@ next_of E old new false b listening faults =
     let is : record old { lines = new.lines; until_fault = new.until_fault; listen_fails = new.listen_fails } ≡ new =
     λ i. record { lines = new.lines; listen_fails = new.listen_fails; until_fault = new.until_fault; listening = sym listening i; faults = sym faults i } in (
       sym (ap port_state is) ∙ ap (λ (l : MemoryLines). port_state (record old { lines = l })) b.1,
-      ap (map (λ (m : MemoryLine). m.left)) (drop_all (next_number old.lines.present) old.lines.lines (omega (arith, b.0))),
+      ap (λ l. Some (map (λ (m : MemoryLine). m.left) l)) (drop_all (next_number old.lines.present) old.lines.lines (omega (arith, b.0))),
     )
 
 -- and a connection of the peer

@@ -26,7 +26,7 @@ pub record Begun : Type 0 where
 pub record PortState : Type 0 where
   -- the address of the last `listen` that answered `Ok`, and none before that, where the port tells it
   pub listening : Option (Option (List ℕ))
-  -- the bytes that each connection still to come will give, where the port tells them
+  -- the bytes that each connection still to come will give, where the port tells them; one that doesn't never ends
   pub to_come : Option (List (List ℕ))
   -- the connections that have begun
   pub begun : Begun

@@ -59,10 +59,11 @@ pub record NextFailed (old new : LineState) : Type 0 where
   pub same_aside : new.aside ≡ old.aside
   pub same_peer : new.peer ≡ old.peer
 
--- On `Ok(true)` the next connection began. `Ok(false)` changes nothing and says that none is left.
+-- On `Ok(true)` the next connection began. `Ok(false)` changes nothing and comes only where the port tells that none is left: a port
+-- that doesn't tell what is to come never ends.
 abbrev pub OnlyNext : {E : Type 0} → LineState → LineState → Result Bool E → Type 0
 OnlyNext old new (Ok true) = Next old new
-OnlyNext old new (Ok false) = (new ≡ old) × IfSome old.port.to_come (λ all. all ≡ [])
+OnlyNext old new (Ok false) = (new ≡ old) × (old.port.to_come ≡ Some [])
 OnlyNext old new (Err e) = NextFailed old new
 
 -- The present connection of a peer ended, and one at this address began.

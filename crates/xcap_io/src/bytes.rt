@@ -7,7 +7,7 @@ use std::hash::{Hash, Hasher};
 use std::marker::Model;
 
 /// Bytes of its own.
-#[derive(Debug, Drop)]
+#[derive(Drop)]
 pub struct Bytes {
     inner: Vec<u8>,
 }

@@ -8,7 +8,7 @@ ghost use Rattle.xcap_io.specs.Passing.{ReadGave, WriteTook};
 ghost use Rattle.xcap_io.specs.Streams.{WritesSome};
 
 /// A call on a line failed. The line's count of such faults rose in that call, or stands at the greatest `u64`.
-#[derive(Clone, Copy, Debug, PartialEq, Eq)]
+#[derive(Clone, Copy, PartialEq, Eq)]
 pub struct Failed;
 
 /// Counts one fault more, which the greatest `u64` bounds.

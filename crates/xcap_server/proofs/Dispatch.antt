@@ -17,7 +17,7 @@ use Rattle.request_terms.specs.declared.method.Method.TheVariants.{Get, Head, Pu
 use Rattle.store_core.specs.Stored.{Stored}
 use Rattle.store_core.specs.Held.{Stock as Content}
 use Rattle.machine_words.specs.Answers.{Answer, not_allowed, unchanged}
-use Rattle.machine_words.specs.Requests.{ByMethod, ByTarget, ByUser, Deletes, IsAnswer, Puts, auid_of, fault_status, home_of, is_read_only, takes, ReadsTarget as Reads}
+use Rattle.machine_words.specs.Requests.{ByMethod, ByTarget, Deletes, IsAnswer, Puts, auid_of, fault_status, home_of, is_read_only, takes, ReadsTarget as Reads}
 use Rattle.machine_words.proofs.Cases.{at_false, at_true, not_stored, stored}
 use Rattle.document_writes.specs.Deciding.{Decides}
 use Rattle.document_writes.specs.declared.decision.Decision.{Decision}
@@ -67,18 +67,22 @@ module _ (root : List ℕ) (c : Content) (target : Target) (request : Request) (
 
   -- ---- all in order
 
-  pub user_refused : (method : Method) (d : Decision) → is_allowed (not (is_reading method)) (auid_of target) (home_of target) request.fields ≡ false → d ≡ Stays (plain 403 request.closes) → Decides (ByUser root c target method request) s d
-  user_refused method d is so = by_reply (ByUser root c target method request) d (plain 403 request.closes) so (at_false _ _ _ is refl)
+  pub turned : (method : Method) (reply : Sent) → ByTarget root c target method request (unchanged reply) → Decides (ByTarget root c target method request) s (Stays reply)
+  turned method reply so = stays (ByTarget root c target method request) s reply so
 
-  pub user_allowed : {E : Type 0} (method : Method) (r : Result Decision E) → is_allowed (not (is_reading method)) (auid_of target) (home_of target) request.fields ≡ true
-      → IfOk r (λ d. Decides (ByMethod root c target method request) s d) → IfOk r (λ d. Decides (ByUser root c target method request) s d)
-  user_allowed method r is decides = all_so (ByMethod root c target method request) s (ByUser root c target method request) (λ a so. at_true _ _ _ is so) r decides
+  pub goes_on : {E : Type 0} (method : Method) (r : Result Decision E) → takes target method ≡ true → is_allowed (not (is_reading method)) (auid_of target) (home_of target) request.fields ≡ true
+      → IfOk r (λ d. Decides (ByMethod root c target method request) s d) → IfOk r (λ d. Decides (ByTarget root c target method request) s d)
+  goes_on method r taken allowed decides = all_so (ByMethod root c target method request) s (ByTarget root c target method request) (λ a so. at_true _ _ _ taken (at_true _ _ _ allowed so)) r decides
 
-  pub not_taken : (method : Method) (reply : Sent) → takes target method ≡ false → reply ≡ not_allowed (is_read_only target) request.closes → Decides (ByTarget root c target method request) s (Stays reply)
-  not_taken method reply is so = stays (ByTarget root c target method request) s reply (at_false _ _ _ is (ap unchanged so))
+module _ (root : List ℕ) (c : Content) (target : Target) (request : Request) where
+  -- the target doesn't take the method
+  pub not_taken : (method : Method) (reply : Sent) → takes target method ≡ false → reply ≡ not_allowed (is_read_only target) request.closes → ByTarget root c target method request (unchanged reply)
+  not_taken method reply is so = at_false _ _ _ is (ap unchanged so)
 
-  pub taken : {E : Type 0} (method : Method) (r : Result Decision E) → takes target method ≡ true → IfOk r (λ d. Decides (ByUser root c target method request) s d) → IfOk r (λ d. Decides (ByTarget root c target method request) s d)
-  taken method r is decides = all_so (ByUser root c target method request) s (ByTarget root c target method request) (λ a so. at_true _ _ _ is so) r decides
+  -- whoever asks may not
+  pub user_refused : (method : Method) (reply : Sent) → takes target method ≡ true → is_allowed (not (is_reading method)) (auid_of target) (home_of target) request.fields ≡ false → reply ≡ plain 403 request.closes
+      → ByTarget root c target method request (unchanged reply)
+  user_refused method reply taken is so = at_true _ _ _ taken (at_false _ _ _ is (ap unchanged so))
 
 module _ (root : List ℕ) (c : Content) (request : Request) (s : Stored) where
   target_so : (target : Target) (method : Method) (a : Answer) → TargetAnswer root request.target (Ok target) → method ≡ method_of request.method → ByTarget root c target method request a → IsAnswer root c request a

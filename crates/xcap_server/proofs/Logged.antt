@@ -12,7 +12,8 @@ use Rattle.xcap_uri.specs.Roots.{IsRoot, authority_of, path_of}
 use Rattle.edit_journal.specs.Journals.{JournalState}
 use Rattle.edit_journal.specs.Logs.{AddsRecord, LogState}
 use Rattle.edit_journal.specs.Records.{IsRecordable, method_number, record_of, recorded}
-use Rattle.edit_journal.specs.declared.log.AppendFault.TheVariants.{Failed}
+use Rattle.edit_journal.specs.declared.log.AppendFault.{AppendFault}
+use Rattle.edit_journal.specs.declared.log.AppendFault.TheVariants.{Failed, NoMemory}
 use Rattle.store_core.specs.Held.{Stands, Stock, stock_of}
 use Rattle.store_core.specs.Keeping.{Kept}
 use Rattle.store_core.specs.State.{State, first_state}
@@ -37,7 +38,7 @@ use Rattle.logged_serve.proofs.Balancing.{holds_after, holds_so}
 use Rattle.xcap_server.specs.Logged.{AnswersLogged, Logs, ServesPortLogged, with_answer}
 use Rattle.xcap_server.specs.Redoing.{Redoing}
 use Rattle.xcap_server.specs.Servers.{ServerState}
-use Rattle.xcap_server.specs.inner.Servers.{AnswersRequest}
+use Rattle.xcap_server.specs.inner.Servers.{AnswersRequest, CarriesOut}
 use Rattle.xcap_server.proofs.Answering.{answered_so}
 use Rattle.xcap_server.proofs.Reclosed.{makes_too}
 use Rattle.xcap_server.proofs.Standing.{IsRooted, StandsAt, follows_at}
@@ -152,6 +153,38 @@ module _ (old new : ServerState) (request : Request) (s : Stored) (d : Decision)
   answered_failed a log log' journal journal' some reply none holds loggable adds =
       let made = some_made (answer_of d).made some in
       not_entered none (accepts_so old request (answer_of d) made.0 made.1 decides.answers) reply (same_server old new root (holds ∙ same)) (is_recordable some loggable) adds
+
+  module _ {E : Type 0} (r : Result (Answered Edit) E) (s' : Stored) (holds : new.content ≡ s'.content) where
+    -- it was entered, or it couldn't be
+    pub carried_out : (fault : Result (Unit {0}) AppendFault) (log log' : LogState) (journal journal' : JournalState) → is_some (answer_of d).made ≡ true → CarriesOut s d request fault r s'
+        → IsLoggable request → AddsRecord log journal (record_of request) fault log' journal' → IfOk r (λ a. Answers AnswersRequest old log journal request a.reply a.edit new log' journal')
+    carried_out fault log log' journal journal' some does loggable adds = by r fault does adds
+      where
+        by : (r : Result (Answered Edit) E) (fault : Result (Unit {0}) AppendFault) → CarriesOut s d request fault r s' → AddsRecord log journal (record_of request) fault log' journal' → IfOk r (λ a. Answers AnswersRequest old log journal request a.reply a.edit new log' journal')
+        by (Ok a) (Ok x) does adds = answered_entered a log log' journal journal' some does.0 (holds ∙ does.1) loggable adds
+        by (Ok a) (Err Failed) does adds = answered_failed a log log' journal journal' some does.0 does.1 (holds ∙ does.2) loggable adds
+        by (Ok a) (Err NoMemory) does adds = absurd does
+        by (Err e) fault does adds = tt
+
+    pub carried_closes : (fault : Result (Unit {0}) AppendFault) → CarriesOut s d request fault r s' → IfOk r (λ a. a.reply.closes ≡ request.closes)
+    carried_closes fault does = by r fault does
+      where
+        by : (r : Result (Answered Edit) E) (fault : Result (Unit {0}) AppendFault) → CarriesOut s d request fault r s' → IfOk r (λ a. a.reply.closes ≡ request.closes)
+        by (Ok a) (Ok x) does = decided_closes a does.0
+        by (Ok a) (Err Failed) does = ap (λ (x : Sent). x.closes) does.0
+        by (Ok a) (Err NoMemory) does = absurd does
+        by (Err e) fault does = tt
+
+    -- memory ran out before anything was done
+    pub carried_nothing : {J : Type 0} (fault : Result (Unit {0}) AppendFault) (log log' : LogState) (journal journal' : JournalState) (j j' : J) → CarriesOut s d request fault r s' → (fault ≡ Err NoMemory → j' ≡ j)
+        → AddsRecord log journal (record_of request) fault log' journal' → OnErr r ((new ≡ old) × (log' ≡ log) × (j' ≡ j))
+    carried_nothing {J} fault log log' journal journal' j j' does quiet adds = by r fault does quiet adds
+      where
+        by : (r : Result (Answered Edit) E) (fault : Result (Unit {0}) AppendFault) → CarriesOut s d request fault r s' → (fault ≡ Err NoMemory → j' ≡ j) → AddsRecord log journal (record_of request) fault log' journal' → OnErr r ((new ≡ old) × (log' ≡ log) × (j' ≡ j))
+        by (Ok a) fault does quiet adds = tt
+        by (Err e) (Ok x) does quiet adds = absurd does
+        by (Err e) (Err Failed) does quiet adds = absurd does
+        by (Err e) (Err NoMemory) does quiet adds = (same_server old new root (holds ∙ does ∙ same), adds.0, quiet refl)
 
 -- one request more
 pub redoing_more : (root : List ℕ) (requests : List Request) (m n n' : State) (request : Request) (reply : Sent) (e : Edit) → Redoing root m requests n → KeptStep root n request reply n' (Some e) → Redoing root m (requests ++ request ∷ []) n'

@@ -1,7 +1,10 @@
 // The documents under a root, as what answers requests and enters those that it accepts in a log.
-ghost use Rattle.std.specs.Prelude.{◌≡◌, None, is_some};
+ghost use Rattle.std.specs.Prelude.{◌≡◌, None, Err, is_some};
 ghost use Rattle.reply_text.specs.Heads.{plain};
-ghost use Rattle.document_writes.specs.Deciding.{answer_of};
+ghost use Rattle.store_core.specs.Stored.{Stored};
+ghost use Rattle.document_writes.specs.declared.decision.Decision.{Decision as TheDecision};
+ghost use Rattle.document_writes.specs.Deciding.{IsReadyFor, answer_of};
+ghost use Rattle.xcap_server.specs.inner.Servers.{CarriesOut};
 
 use crate::requests::decide;
 use crate::service::{Service, commit};
@@ -13,6 +16,7 @@ use logged_serve::LoggedMachine;
 use notes::Edit;
 use reply_text::Reply;
 use std::alloc::AllocError;
+use store_core::Store;
 
 // Whether a change was decided.
 fn changes(decision: &Decision) -> bool
@@ -35,6 +39,35 @@ fn not_entered(request: &Request) -> Answered<Edit>
     }
 }
 
+// The answer where a change isn't made.
+fn unmade(fault: AppendFault, request: &Request) -> Result<Answered<Edit>, AllocError>
+    ensures makes_nothing { (s : Stored) (d : TheDecision) → CarriesOut s d request.now (Err fault) result s }
+{
+    match fault {
+        AppendFault::Failed => Ok(not_entered(request)),
+        AppendFault::NoMemory => Err(AllocError),
+    }
+}
+
+// The answer, by what was decided and by how the request was entered.
+fn carry_out(
+    store: &mut Store,
+    decision: Decision,
+    entered: Result<(), AppendFault>,
+    request: &Request,
+) -> Result<Answered<Edit>, AllocError>
+    requires ready { IsReadyFor store.old decision }
+    ensures makes_what_was_entered { CarriesOut store.old decision request.now entered result store.new }
+{
+    match entered {
+        Ok(()) => Ok(commit(store, decision)),
+        Err(fault) => {
+            drop(decision);
+            unmade(fault, request)
+        }
+    }
+}
+
 impl LoggedMachine for Service {
     ghost use Rattle.xcap_server.specs.inner.Servers.{AnswersRequest};
 
@@ -52,10 +85,7 @@ impl LoggedMachine for Service {
         if !changes(&decision) {
             return Ok(commit(&mut self.store, decision));
         }
-        match log.append(self.alloc, journal, request) {
-            Ok(()) => Ok(commit(&mut self.store, decision)),
-            Err(AppendFault::Failed) => Ok(not_entered(request)),
-            Err(AppendFault::NoMemory) => Err(AllocError),
-        }
+        let entered = log.append(self.alloc, journal, request);
+        carry_out(&mut self.store, decision, entered, request)
     }
 }

@@ -1,6 +1,6 @@
 // What a request comes to where documents are held (RFC 4825, section 8): the first line that applies decides.
 // Each function is one line, or hands on to the next. Nothing is changed here.
-ghost use Rattle.std.specs.Prelude.{◌≡◌, ◌≢◌, not, true, false, None, Some, IsOk, IsTrue, IfOk};
+ghost use Rattle.std.specs.Prelude.{◌≡◌, ◌≢◌, ℕ, not, true, false, List, None, Some, IsOk, IsTrue, IfOk, MatchOption};
 ghost use Rattle.doc_names.specs.Usages.{usage_of};
 ghost use Rattle.reply_text.specs.Statuses.{is_status};
 ghost use Rattle.reply_text.specs.Heads.{plain};
@@ -8,9 +8,10 @@ ghost use Rattle.xcap_uri.specs.Targets.{IsReadableTarget, under_root};
 ghost use Rattle.request_terms.specs.Methods.{is_reading};
 ghost use Rattle.request_terms.specs.Rights.{is_allowed};
 ghost use Rattle.request_terms.specs.declared.method.Method.TheVariants as methods;
+ghost use Rattle.store_core.specs.Held.{Stock};
 ghost use Rattle.store_core.specs.Keeping.{IsUsers};
 ghost use Rattle.machine_words.specs.Answers.{unchanged};
-ghost use Rattle.machine_words.specs.Requests.{ByMethod, ByTarget, ByUser, Deletes, IsAnswer, IsWritableTarget, Puts, auid_of, fault_status, home_of, takes, ReadsTarget};
+ghost use Rattle.machine_words.specs.Requests.{ByMethod, ByTarget, Deletes, IsAnswer, IsWritableTarget, Puts, auid_of, fault_status, home_of, takes, ReadsTarget};
 ghost use Rattle.document_writes.specs.Deciding.{Decides};
 
 use crate::targets::{auid_of, home_of, is_read_only, takes};
@@ -150,6 +151,7 @@ fn decide_write(
     ensures holds_the_same { store.new.content ≡ store.old.content }
 {
     let Some(usage) = auid_of(&target).stored() else {
+        drop(target);
         return Ok(plain(403, request));
     };
     match method {
@@ -157,6 +159,23 @@ fn decide_write(
         Method::Delete => delete_target(alloc, store, target, usage, request),
         Method::Get | Method::Head | Method::Other => unreachable!(),
     }
+}
+
+// What GET and HEAD come to.
+fn decide_read(
+    alloc: Global,
+    root: &Root,
+    store: &mut Store,
+    target: &Target,
+    method: Method,
+    request: &Request,
+) -> Result<Decision, AllocError>
+    requires reads { is_reading method ≡ true }
+    ensures decides_as_the_machine { IfOk result (λ d. Decides (ByMethod root.now store.old.content target.now method request.now) store.new d) }
+    ensures holds_the_same { store.new.content ≡ store.old.content }
+{
+    let reply = get_target(alloc, root, store, target, method, request)?;
+    Ok(Decision::Stays(reply))
 }
 
 fn decide_method(
@@ -175,8 +194,9 @@ fn decide_method(
     ensures holds_the_same { store.new.content ≡ store.old.content }
 {
     if method.reads() {
-        let reply = get_target(alloc, root, store, &target, method, request)?;
-        return Ok(Decision::Stays(reply));
+        let decision = decide_read(alloc, root, store, &target, method, request);
+        drop(target);
+        return decision;
     }
     decide_write(alloc, root, store, target, method, request)
 }
@@ -189,24 +209,19 @@ fn may_ask(target: &Target, method: Method, request: &Request) -> bool
     is_allowed(!method.reads(), auid_of(target), home_of(target), request)
 }
 
-fn decide_user(
-    alloc: Global,
-    root: &Root,
-    store: &mut Store,
-    target: Target,
-    method: Method,
-    request: &Request,
-) -> Result<Decision, AllocError>
-    requires readable { IsReadableTarget target }
-    requires writable { IsWritableTarget target }
-    requires taken { takes target method ≡ true }
-    ensures decides_as_the_machine { IfOk result (λ d. Decides (ByUser root.now store.old.content target method request.now) store.new d) }
-    ensures holds_the_same { store.new.content ≡ store.old.content }
+// The reply where the target doesn't take the method, or whoever asks may not; None where the request goes on.
+fn turned_away(target: &Target, method: Method, request: &Request) -> Option<Reply>
+    ensures goes_on_or_is_replied { MatchOption result
+        ((takes target.now method ≡ true) × (is_allowed (not (is_reading method)) (auid_of target.now) (home_of target.now) request.now.fields ≡ true))
+        (λ reply. (root : List ℕ) (c : Stock) → ByTarget root c target.now method request.now (unchanged reply)) }
 {
-    if !may_ask(&target, method, request) {
-        return Ok(plain(403, request));
+    if !takes(target, method) {
+        return Some(Reply::method(is_read_only(target), request.closes));
     }
-    decide_method(alloc, root, store, target, method, request)
+    if !may_ask(target, method, request) {
+        return Some(Reply::fixed(403, request.closes));
+    }
+    None
 }
 
 fn decide_target(
@@ -222,11 +237,13 @@ fn decide_target(
     ensures decides_as_the_machine { IfOk result (λ d. Decides (ByTarget root.now store.old.content target method request.now) store.new d) }
     ensures holds_the_same { store.new.content ≡ store.old.content }
 {
-    if !takes(&target, method) {
-        let reply = Reply::method(is_read_only(&target), request.closes);
-        return Ok(Decision::Stays(reply));
+    match turned_away(&target, method, request) {
+        Some(reply) => {
+            drop(target);
+            Ok(Decision::Stays(reply))
+        }
+        None => decide_method(alloc, root, store, target, method, request),
     }
-    decide_user(alloc, root, store, target, method, request)
 }
 
 // What a target that can't be read comes to.

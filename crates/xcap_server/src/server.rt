@@ -55,8 +55,8 @@ impl Server {
         ensures under_the_root { IfOk result (λ server. server.root ≡ root.now) }
         ensures without_documents { IfOk result (λ server. server.content ≡ record { documents = []; next = first }) }
     {
-        let service = Service::new(alloc, root, first)?;
         let buffers = Buffers::new(alloc)?;
+        let service = Service::new(alloc, root, first)?;
         Ok(Server { service, buffers })
     }
 

@@ -33,6 +33,19 @@ fn without_last(text: &str) -> &str
     letters.as_str()
 }
 
+// The id of a document without a name, which is that of its home and a slash.
+fn unnamed_id(alloc: Global, auid: Auid, home: &Home) -> Result<Text, NoMemory>
+    ensures id_without_a_name { IfOk result (λ id. id ≡ id_text (record { auid = auid; home = home.now; name = [] })) }
+{
+    let home = home.copy(alloc)?;
+    let unnamed = DocId {
+        auid,
+        home,
+        name: no_text(alloc),
+    };
+    print_doc_id(alloc, &unnamed)
+}
+
 /// The URI of a home: the root, the usage, and `global` or `users` and the user, escaped.
 ///
 /// # Errors
@@ -40,14 +53,7 @@ fn without_last(text: &str) -> &str
 pub fn home_uri(alloc: Global, root: &Root, auid: Auid, home: &Home) -> Result<Text, NoMemory>
     ensures uri_of_the_home { IfOk result (λ uri. uri ≡ home_uri root.now auid home.now) }
 {
-    // The id of a document without a name is that of its home and a slash.
-    let home = home.copy(alloc)?;
-    let unnamed = DocId {
-        auid,
-        home,
-        name: no_text(alloc),
-    };
-    let id = print_doc_id(alloc, &unnamed)?;
+    let id = unnamed_id(alloc, auid, home)?;
     uri_under(alloc, root, without_last(id.as_str()))
 }
 

@@ -15,7 +15,7 @@ use xml_tree::Text;
 const GREATEST_LENGTH: usize = 256;
 
 /// A root. Contracts see its text, whose characters are ASCII.
-#[derive(Debug, Drop)]
+#[derive(Drop)]
 pub struct Root {
     text: Text,
     authority: Text,

@@ -15,7 +15,7 @@ use tree_text::no_text;
 use xml_tree::{ReadError, Text};
 
 /// What the segments of an address name, called as the target that it means, with the text of the selector, which isn't read yet.
-#[derive(Debug, Drop)]
+#[derive(Drop)]
 pub enum Shape {
     /// A document.
     Document(DocId),

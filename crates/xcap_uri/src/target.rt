@@ -21,7 +21,7 @@ use tree_text::no_text;
 use xml_tree::{ReadError, Text};
 
 /// How the changes of a document are told (RFC 5875, section 4.3).
-#[derive(Clone, Copy, Debug, PartialEq, Eq)]
+#[derive(Clone, Copy, PartialEq, Eq)]
 pub enum Mode {
     NoPatching,
     XcapPatching,
@@ -29,7 +29,7 @@ pub enum Mode {
 }
 
 /// What a target means.
-#[derive(Debug, Drop)]
+#[derive(Drop)]
 pub enum Target {
     /// A document.
     Document(DocId),

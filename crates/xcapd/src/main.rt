@@ -1,5 +1,5 @@
-//! The program `xcapd`: it makes the real streams and sockets and an audit of changes on the stream for errors, runs the
-//! command that its words spell, and ends with the status of that run. What it promises is what `run_on_system` promises; it
+//! The program `xcapd`: it reads the words of the command line, makes the real streams and sockets and an audit of changes on the
+//! stream for errors, and ends with the status that `start` answers over them. What it promises is what `start` promises; it
 //! adds nothing of its own.
 //! RFC 4825 is the standard that its commands follow.
 #![tactic(auto)]
@@ -7,46 +7,37 @@
 use std::process::ExitCode;
 use std::rt::Env;
 use std::{env, io};
-use watchers::{Audit, Watcher};
-use xcap_app::run_on_system;
+use watchers::Audit;
+use xcap_app::start;
 use xcap_io::{StdSink, StdSource, TcpPeer, TcpPort};
 
-// The words of the command line, without the program's name. A word that is no text spells no command, so there are
-// no words then.
-fn words_of<R: Env + Alloc>(rt: &R) -> io::Result<Vec<String<R::A>, R::A>> {
+// The words of the command line, without the program's name. A word that is no text spells no command, so there are no words
+// then. None without memory for them, for which alone `args` fails otherwise.
+fn words_of<R: Env + Alloc>(rt: &R) -> Option<Vec<String<R::A>, R::A>> {
     let mut words = Vec::new(rt.alloc());
     match env::args(rt) {
         Ok(args) => {
             for word in args.skip(1) {
-                words.push(word)?;
+                words.push(word).ok()?;
             }
-            Ok(words)
+            Some(words)
         }
-        Err(fault) if fault.kind() == io::ErrorKind::InvalidData => Ok(words),
-        Err(fault) => Err(fault),
+        Err(fault) if fault.kind() == io::ErrorKind::InvalidData => Some(words),
+        Err(_) => None,
     }
 }
 
-fn main(rt: HostRuntime) -> io::Result<ExitCode> {
+fn main(rt: HostRuntime) -> ExitCode {
     let alloc = rt.alloc();
-    let words = words_of(&rt)?;
-    let mut port = TcpPort::new(&rt);
-    let mut peer = TcpPeer::new(&rt);
-    let mut input = StdSource::new(rt.stdin());
-    let mut output = StdSink::new(rt.stdout());
-    let mut errors = StdSink::new(rt.stderr());
-    let mut watchers: Vec<Box<dyn Watcher>> = Vec::new(alloc);
-    let audit = Audit::new(alloc, StdSink::new(rt.stderr()));
-    watchers.push(Box::new(alloc, audit)?)?;
-    let status = run_on_system(
+    let status = start(
         alloc,
-        &words,
-        &mut port,
-        &mut peer,
-        &mut input,
-        &mut output,
-        &mut errors,
-        &mut watchers,
+        words_of(&rt),
+        &mut TcpPort::new(&rt),
+        &mut TcpPeer::new(&rt),
+        &mut StdSource::new(rt.stdin()),
+        &mut StdSink::new(rt.stdout()),
+        &mut StdSink::new(rt.stderr()),
+        &mut Some(Audit::new(alloc, StdSink::new(rt.stderr()))),
     );
-    Ok(ExitCode::from(status))
+    ExitCode::from(status)
 }

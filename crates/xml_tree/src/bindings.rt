@@ -3,7 +3,7 @@ ghost use Rattle.std.specs.Prelude.{◌≡◌, map, filter, IfOk, OnOk};
 ghost use Rattle.xml_tree.specs.Scopes.{binds};
 ghost use Rattle.xml_tree.specs.inner.Gathering.{AreKeyed, gathered, gathered_bindings, values_in};
 
-use crate::names::Decl;
+use crate::names::{Decl, push_decl_copy};
 use crate::scope::is_xml;
 use std::alloc::{AllocError, Global};
 use std::collections::BTreeMap;
@@ -48,7 +48,7 @@ fn binding_ones(alloc: Global, found: &BTreeMap<&str, &Decl>) -> Result<Vec<Decl
     let mut ones = Vec::new(alloc);
     for decl in found.values() {
         if binds(decl) {
-            ones.push(decl.copy(alloc)?)?;
+            push_decl_copy(alloc, &mut ones, decl)?;
         }
     }
     Ok(ones)

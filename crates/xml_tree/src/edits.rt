@@ -7,7 +7,8 @@ ghost use Rattle.xml_tree.specs.Tree.{at, kids_of};
 ghost use Rattle.xml_tree.specs.Edits.{TextsMeet, TextsMeetAt, attr_at, change_attr, cut_kid, cut_out, drop_at, drop_attr, put_in, put_kid, put_over, set_at, take_in, write_attr};
 ghost use Rattle.xml_tree.specs.Nodes.{exchange_nodes, nodes_of};
 
-use crate::names::{Attr, Name, attr_of, place_of_attr};
+use crate::attrs;
+use crate::names::{Attr, Name, attr_of};
 use crate::nodes::{put_elem, take_elem};
 use crate::path::Path;
 use crate::runs::exchange;
@@ -80,7 +81,7 @@ impl Element {
         ensures former_value { option_map (λ attr. attr.value) (slice_get self.old.attrs at) ≡ Some result }
         ensures value_is_exchanged { self.new ≡ change_attr at value self.old }
     {
-        mem::replace(&mut self.attrs[at].value, value)
+        attrs::exchange_value(&mut self.attrs, at, value)
     }
 
     /// Takes an attribute out, counted from 0. Takes no memory.
@@ -89,14 +90,13 @@ impl Element {
         ensures attribute_that_was_there { slice_get self.old.attrs at ≡ Some result }
         ensures attribute_is_gone { self.new ≡ record self.old { attrs = remove self.old.attrs at } }
     {
-        self.attrs.remove(at)
+        attrs::take_at(&mut self.attrs, at)
     }
 
     /// Writes the attribute of this prefix and local name, behind the others if it is new, and answers the old value.
     ///
     /// # Errors
     /// `NoMemory` for want of memory, which comes only for a new attribute. The element is then as before.
-    #[tactic(auto, using(crate::proofs::AttrLemmas::by_place))]
     pub fn set_attr(&mut self, name: Name, value: Text) -> Result<Option<Text>, AllocError>
         ensures former_value { IfOk result
             (λ old. old ≡ option_map (λ attr. attr.value) (find (is_written_so name) self.old.attrs)) }
@@ -104,25 +104,15 @@ impl Element {
         ensures failure_changes_nothing { OnErr result (self.new ≡ self.old) }
         ensures only_for_new { OnErr result (find (is_written_so name) self.old.attrs ≡ None) }
     {
-        let place = place_of_attr(&self.attrs, &name);
-        if place < self.attrs.len() {
-            return Ok(Some(self.exchange_value(place, value)));
-        }
-        self.push_attr(Attr { name, value })?;
-        Ok(None)
+        attrs::set(&mut self.attrs, name, value)
     }
 
     /// Takes out the attribute of this prefix and local name: None where there is none. Takes no memory.
-    #[tactic(auto, using(crate::proofs::AttrLemmas::by_place))]
     pub fn drop_attr(&mut self, name: &Name) -> Option<Attr>
         ensures attribute_that_was_there { result ≡ find (is_written_so name.now) self.old.attrs }
         ensures attribute_is_gone { self.new ≡ drop_attr name.now self.old }
     {
-        let place = place_of_attr(&self.attrs, name);
-        if place < self.attrs.len() {
-            return Some(self.take_attr(place));
-        }
-        None
+        attrs::take(&mut self.attrs, name)
     }
 }
 

@@ -4,6 +4,7 @@
 #![tactic(auto)]
 
 mod around;
+mod attrs;
 mod bindings;
 mod characters;
 mod declarations;

@@ -1,5 +1,5 @@
 //! Names, declarations and attributes, as they are written (Namespaces in XML 1.0, 3 and 4).
-ghost use Rattle.std.specs.Prelude.{◌≡◌, ◌↔◌, ◌≤◌, [], length, IsTrue, IfOk};
+ghost use Rattle.std.specs.Prelude.{◌≡◌, ◌↔◌, ◌≤◌, ◌++◌, ◌∷◌, [], length, IsTrue, IfOk, OnErr, OnOk};
 ghost use Rattle.std.specs.List.{find};
 ghost use Rattle.std.specs.Option.{option_copied};
 ghost use Rattle.std.specs.Str.{bytes_eq};
@@ -17,21 +17,21 @@ pub type Prefix = Word<14>;
 pub type LocalName = Word<22>;
 
 /// A name as it is written: a prefix, which is empty where there is none, and a local name.
-#[derive(Debug, Drop)]
+#[derive(Drop)]
 pub struct Name {
     pub prefix: Prefix,
     pub local: LocalName,
 }
 
 /// A declaration of a prefix. The empty prefix is the default namespace, and an empty URI undeclares it.
-#[derive(Debug, Drop)]
+#[derive(Drop)]
 pub struct Decl {
     pub prefix: Prefix,
     pub uri: Text,
 }
 
 /// An attribute that is no declaration.
-#[derive(Debug, Drop)]
+#[derive(Drop)]
 pub struct Attr {
     pub name: Name,
     pub value: Text,
@@ -170,9 +170,30 @@ pub fn copy_decls(alloc: Global, decls: &[Decl]) -> Result<Vec<Decl>, AllocError
 {
     let mut made = Vec::with_capacity(alloc, decls.len())?;
     for decl in decls {
-        made.push(decl.copy(alloc)?)?;
+        push_decl_copy(alloc, &mut made, decl)?;
     }
     Ok(made)
+}
+
+// Adds an equal declaration.
+pub(crate) fn push_decl_copy(
+    alloc: Global,
+    made: &mut Vec<Decl>,
+    decl: &Decl,
+) -> Result<(), AllocError>
+    ensures adds_an_equal_declaration { OnOk result (made.new.items ≡ made.old.items ++ decl.now ∷ []) }
+{
+    let copy = decl.copy(alloc)?;
+    push_decl(made, copy)
+}
+
+// Adds a declaration at the end.
+pub(crate) fn push_decl(decls: &mut Vec<Decl>, decl: Decl) -> Result<(), AllocError>
+    ensures adds_the_declaration { OnOk result (decls.new.items ≡ decls.old.items ++ decl ∷ []) }
+    ensures failure_changes_nothing { OnErr result (decls.new.items ≡ decls.old.items) }
+{
+    decls.push(decl)?;
+    Ok(())
 }
 
 pub(crate) fn copy_attrs(alloc: Global, attrs: &[Attr]) -> Result<Vec<Attr>, AllocError>

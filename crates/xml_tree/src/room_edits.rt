@@ -4,7 +4,8 @@ ghost use Rattle.xml_tree.specs.Tree.{kids_of};
 ghost use Rattle.xml_tree.specs.Edits.{TextsMeet, cut_kid, put_kid, write_attr};
 ghost use Rattle.xml_tree.specs.Rooms.{HasAttrRoom, HasNodeRoom, joined_around};
 
-use crate::names::{Attr, Name, place_of_attr};
+use crate::attrs;
+use crate::names::{Attr, Name};
 use crate::nodes::{joined_around, put_elem_in_room, take_elem_joining};
 use crate::text::Text;
 use crate::tree::{Element, Node};
@@ -48,19 +49,10 @@ impl Element {
     /// Writes the attribute of this prefix and local name, as `set_attr` does. Where it is new,
     /// the attributes move into `room`, which is empty and then has room for them and one more.
     /// Takes no memory.
-    #[tactic(auto, using(crate::proofs::AttrLemmas::by_place))]
     pub fn set_attr_in_room(&mut self, name: Name, value: Text, room: Vec<Attr>)
         requires { HasAttrRoom name self.old room }
         ensures writes_the_attribute { self.new ≡ write_attr name value self.old }
     {
-        let place = place_of_attr(&self.attrs, &name);
-        if place < self.attrs.len() {
-            let _old = self.exchange_value(place, value);
-            return;
-        }
-        let mut moved = room;
-        moved.append(&mut self.attrs).unwrap();
-        moved.push(Attr { name, value }).unwrap();
-        self.attrs = moved;
+        attrs::set_in_room(&mut self.attrs, name, value, room)
     }
 }

@@ -3,7 +3,8 @@ ghost use Rattle.std.specs.Prelude.{◌≡◌, ◌<◌, [], ◌∷◌, ◌++◌,
 ghost use Rattle.std.specs.Option.{option_copied};
 ghost use Rattle.xml_tree.specs.Tree.{height};
 
-use crate::names::{Attr, Decl, Name};
+use crate::attrs;
+use crate::names::{Attr, Decl, Name, push_decl};
 use crate::nodes::{kid_in, kid_of, push_comment_node, push_elem_node, push_own_text, push_text};
 use crate::path::Path;
 use crate::text::Text;
@@ -13,7 +14,7 @@ use std::mem;
 
 /// A node of an element.
 #[cycle(tree)]
-#[derive(Debug, Drop)]
+#[derive(Drop)]
 pub enum Node {
     Elem(Element),
     Chars(Text),
@@ -23,7 +24,7 @@ pub enum Node {
 /// An element. Contracts see a plain tree: its name, declarations, attributes and content. No text in it is empty, and no
 /// two texts stand side by side.
 #[cycle(tree)]
-#[derive(Debug, Drop)]
+#[derive(Drop)]
 pub struct Element {
     pub(crate) name: Name,
     pub(crate) decls: Vec<Decl>,
@@ -81,8 +82,7 @@ impl Element {
         ensures adds_the_declaration { OnOk result (self.new ≡ record self.old { decls = self.old.decls ++ decl ∷ [] }) }
         ensures failure_changes_nothing { OnErr result (self.new ≡ self.old) }
     {
-        self.decls.push(decl)?;
-        Ok(())
+        push_decl(&mut self.decls, decl)
     }
 
     /// Adds an attribute behind the others.
@@ -93,8 +93,7 @@ impl Element {
         ensures adds_the_attribute { OnOk result (self.new ≡ record self.old { attrs = self.old.attrs ++ attr ∷ [] }) }
         ensures failure_changes_nothing { OnErr result (self.new ≡ self.old) }
     {
-        self.attrs.push(attr)?;
-        Ok(())
+        attrs::push(&mut self.attrs, attr)
     }
 
     /// Adds an element behind all nodes.

@@ -1,6 +1,6 @@
 //! What is asked of a whole tree: its depth, a copy of it, and whether it is another one.
 ghost use Rattle.std.specs.Prelude.{◌≡◌, ◌↔◌, ◌++◌, ◌∷◌, [], IsTrue, IfOk, OnOk, min};
-ghost use Rattle.xml_tree.specs.Tree.{height};
+ghost use Rattle.xml_tree.specs.Tree.{height, last};
 
 use crate::names::{copy_attrs, copy_decls, same_attrs, same_decls};
 use crate::tree::{Element, Node};
@@ -27,12 +27,24 @@ pub fn depth(element: &Element) -> usize
 pub fn copy_tree(alloc: Global, element: &Element) -> Result<Element, AllocError>
     ensures makes_an_equal_tree { IfOk result (λ made. made ≡ element.now) }
 {
+    let mut made = copy_tag(alloc, element)?;
     let nodes = copy_nodes(alloc, &element.nodes)?;
+    made.put_nodes(nodes);
+    Ok(made)
+}
+
+// A copy of an element without its nodes.
+fn copy_tag(alloc: Global, element: &Element) -> Result<Element, AllocError>
+    ensures copies_all_but_the_nodes { IfOk result (λ made. made ≡ record element.now { content = last [] }) }
+{
+    let name = element.name.copy(alloc)?;
+    let decls = copy_decls(alloc, &element.decls)?;
+    let attrs = copy_attrs(alloc, &element.attrs)?;
     Ok(Element {
-        name: element.name.copy(alloc)?,
-        decls: copy_decls(alloc, &element.decls)?,
-        attrs: copy_attrs(alloc, &element.attrs)?,
-        nodes,
+        name,
+        decls,
+        attrs,
+        nodes: Vec::new(alloc),
     })
 }
 
@@ -46,14 +58,21 @@ pub fn copy_nodes(alloc: Global, nodes: &[Node]) -> Result<Vec<Node>, AllocError
 {
     let mut made = Vec::with_capacity(alloc, nodes.len())?;
     for node in nodes {
-        // What is made goes to its place at once, as nodes are large.
-        match node {
-            Node::Elem(kid) => push_node(&mut made, Node::Elem(copy_tree(alloc, kid)?))?,
-            Node::Chars(text) => push_node(&mut made, Node::Chars(text.copy(alloc)?))?,
-            Node::Comment(text) => push_node(&mut made, Node::Comment(text.copy(alloc)?))?,
-        }
+        push_copy(alloc, node, &mut made)?;
     }
     Ok(made)
+}
+
+// Adds a copy of a node. What is made goes to its place at once, as nodes are large.
+#[cycle(copy)]
+fn push_copy(alloc: Global, node: &Node, made: &mut Vec<Node>) -> Result<(), AllocError>
+    ensures adds_an_equal_node { OnOk result (made.new.items ≡ made.old.items ++ node.now ∷ []) }
+{
+    match node {
+        Node::Elem(kid) => push_node(made, Node::Elem(copy_tree(alloc, kid)?)),
+        Node::Chars(text) => push_node(made, Node::Chars(text.copy(alloc)?)),
+        Node::Comment(text) => push_node(made, Node::Comment(text.copy(alloc)?)),
+    }
 }
 
 // Adds a node.

@@ -1,13 +1,16 @@
 -- How a change is planned: why a tree is refused, by what was found of it; what planning answers; what a step makes of the entries.
-use Rattle.std.specs.Prelude.{◌≡◌, ℕ, ◌+◌, nat_lt, Bool, not, List, [], ◌∷◌, ◌++◌, map, filter, Option, None, Some, option_map, Result, Ok, Err, if◌then◌else◌}
+use Rattle.std.specs.Prelude.{◌≡◌, ℕ, ◌+◌, min, nat_lt, Bool, true, false, not, List, [], ◌∷◌, ◌++◌, map, filter, Option, None, Some, option_map, Result, Ok, Err, if◌then◌else◌}
 use Rattle.std.specs.Map.{lookup}
 use Rattle.std.specs.Option.{option_or}
+use Rattle.xml_tree.specs.Limits.{greatest_u64}
+use Rattle.xml_tree.specs.Tree.{Tree}
 use Rattle.usage_docs.specs.Services.{document_len}
 use Rattle.usage_docs.specs.declared.keys.Clash.{Clash}
 use Rattle.usage_docs.specs.declared.rows.Key.TheVariants.{Uri}
 use Rattle.doc_names.specs.Same.{same_id}
 use Rattle.doc_names.specs.declared.doc_id.DocId.{DocId}
-use Rattle.edit_ops.specs.Changes.{Fits}
+use Rattle.edit_ops.specs.Changes.{Fits, edited}
+use Rattle.edit_ops.specs.Lengths.{element_len}
 use Rattle.edit_ops.specs.declared.change.Change.{Change}
 use Rattle.notes.specs.Notes.{Note, note_of}
 use Rattle.store_core.specs.Limits.{most_bytes, most_bytes_together}
@@ -18,10 +21,13 @@ use Rattle.store_core.specs.declared.step.Step.TheVariants.{Make, Edit, End}
 use Rattle.store_core.specs.declared.refusal.StoreRefusal.{StoreRefusal}
 use Rattle.store_core.specs.declared.refusal.StoreRefusal.TheVariants.{ServiceTaken, TooLarge, TooMany, StoreFull}
 use Rattle.store_core.specs.Held.{Held, Stock}
-use Rattle.store_core.specs.Changing.{changing, document_in, held_name, only_if}
+use Rattle.store_core.specs.Changing.{against_number, against_tree, changing, document_in, held_name, only_if}
+use Rattle.store_core.specs.Keeping.{addresses_in}
 use Rattle.store_core.specs.Making.{IsOwnWhere, IsStagedIn}
 use Rattle.store_core.specs.inner.Storing.{IsRenewed}
-use Rattle.store_core.specs.Preparing.{Readied, IsPlanned}
+use Rattle.store_core.specs.declared.outlines.Outline.{Outline}
+use Rattle.store_core.specs.inner.Prints.{IsPrintBrought, IsPrintOf}
+use Rattle.store_core.specs.Preparing.{Exchanges, IsPlanned, Readied, total_of}
 
 -- the place among its services of the first address that another document has; its length; whether a document more would be too many;
 -- and the lengths of the other documents together
@@ -36,11 +42,37 @@ refused_for place len is_full others =
 abbrev pub IsHeldAs : Stock → DocId → Entry → Type 0
 IsHeldAs c doc v = (h : Held) × (document_in held_name c.documents doc ≡ Some h) × (h.tree ≡ v.tree.root) × (h.tag ≡ v.tag) × (v.len ≡ document_len v.tree.root)
 
--- an edit of what this entry holds, with its note and its memory, before the store has the room for it
-abbrev pub IsNoted : DocId → Entry → ℕ → Change → ℕ → List (List ℕ) → List (List ℕ) → ℕ → Readied → Type 0
-IsNoted doc v number change len leaves enters total p =
-    (note : Note) × (staged : StagedTree) × (note ≡ note_of v.tag number v.tree.root change) × IsStagedIn v.tree.root change staged
-    × (p ≡ record { doc = doc; note = note; step = Edit staged note len; leaves = leaves; enters = enters; total = total })
+-- the outline of a document that is made with this root, against which there is no reason
+pub record IsNewOutline (c : Stock) (doc : DocId) (root : Tree) (o : Outline) : Type 0 where
+  pub free : against_tree c doc true root ≡ None
+  pub numbered : against_number c ≡ None
+  pub number : o.number ≡ c.next
+  pub print : IsPrintOf root o.put.print
+  pub len : o.len ≡ document_len root
+  pub total : o.total ≡ total_of c + document_len root
+  pub leaves : o.leaves ≡ []
+  pub enters : o.enters ≡ addresses_in doc.auid root
+
+-- the outline of a document that is held with the tree t after an edit, against which there is no reason
+pub record IsOutline (c : Stock) (doc : DocId) (t : Tree) (change : Change) (o : Outline) : Type 0 where
+  pub free : against_tree c doc false (edited t change) ≡ None
+  pub numbered : against_number c ≡ None
+  pub number : o.number ≡ c.next
+  pub put : o.put.len ≡ min (element_len change) greatest_u64
+  pub print : IsPrintBrought change o.put.print
+  pub len : o.len ≡ document_len (edited t change)
+  pub total : o.total + document_len t ≡ total_of c + o.len
+  pub addresses : Exchanges (addresses_in doc.auid t) o.leaves o.enters (addresses_in doc.auid (edited t change))
+
+-- the edit of a note in the tree t, after which the document has this length
+abbrev pub IsStepOfEdit : Tree → Note → ℕ → Step → Type 0
+IsStepOfEdit t note len step = (staged : StagedTree) × IsStagedIn t note.change staged × (step ≡ Edit staged note len)
+
+-- an edit of what this entry holds, by its outline, with its note and its memory, before the store has the room for it
+abbrev pub IsNoted : DocId → Entry → Change → Outline → Readied → Type 0
+IsNoted doc v change o p =
+    (note : Note) × (step : Step) × (note ≡ note_of v.tag o.number v.tree.root change) × IsStepOfEdit v.tree.root note o.len step
+    × (p ≡ record { doc = doc; note = note; step = step; leaves = o.leaves; enters = o.enters; total = o.total })
 
 -- what planning a change answers: the change with its memory, as it was asked for; or the reason against it
 unfoldable pub Plans : Stock → DocId → Change → Result Readied StoreRefusal → Type 0

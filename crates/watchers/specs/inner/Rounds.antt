@@ -7,7 +7,7 @@ use Rattle.watchers.specs.Lines.{line_bytes}
 use Rattle.watchers.specs.Writing.{Wrote, with_lines}
 use Rattle.watchers.specs.declared.watcher.Told.{Told}
 use Rattle.watchers.specs.declared.watcher.Told.TheVariants.{Kept}
-use Rattle.watchers.specs.Telling.{AreKept, AreTold, HasKeptAll, with_edits}
+use Rattle.watchers.specs.Telling.{AreKept, AreTold, HasKeptAll, HasLeft, with_edits}
 
 no_more : (told : Option (List Edit)) → told ≡ with_edits told []
 no_more None = refl
@@ -70,6 +70,10 @@ module _ {B : Type 0} (told_list : B → Option (List Edit)) (faults : B → ℕ
         one_round edit bs new k.1 k.4,
       ))
       h
+
+  -- one change, at which the one watcher left
+  pub one_left : (edit : Edit) (b last : B) → HasLeft told_list faults never_refuses answers written edit b last → Keeping (edit ∷ []) (b ∷ []) []
+  one_left edit b last left = one_round edit (b ∷ []) [] 1 (inr (last, 0, refl, left, (refl, refl)))
 
   -- changes, and then others
   pub more_rounds : (xs ys : List Edit) (old mid new : List B) → Keeping xs old mid → Keeping ys mid new → Keeping (xs ++ ys) old new

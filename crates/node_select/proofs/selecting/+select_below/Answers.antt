@@ -1,6 +1,11 @@
-use Rattle.std.proofs.Common.{◌≡◌, ◌∷◌, [], length, length-append, Some, slice_get, sym, ap, ◌∙◌, arith, rules}
-use Rattle.std.specs.Option.{option_copied}
-use Rattle.xml_tree.specs.Tree.{kids_of}
+use Rattle.std.proofs.Common.{◌≡◌, ℕ, ◌-◌, List, [], ◌∷◌, ◌++◌, Option, None, Some, length, length-append, take, drop, slice_get, refl, sym, ap, ◌∙◌, append_assoc, arith, rules}
+use Rattle.std.proofs.lemmas.Grind.{common_steps}
+use Rattle.std.specs.Option.{option_copied, option_map}
+use Rattle.xml_tree.specs.Scopes.{inside}
+use Rattle.xml_tree.specs.Tree.{Tree, kids_of}
+use Rattle.xml_tree.specs.declared.names.Decl.{Decl}
+use Rattle.node_select.specs.Selection.{selected_among, selected_child}
+use Rattle.node_select.specs.declared.selector.Step.{Step}
 use Rattle.node_select.proofs.Walked.{kid_lower}
 use Rattle.node_select.proofs.selecting.+select_below.Goals as goal
 
@@ -10,3 +15,30 @@ select_below-requires t c =
     let lower = kid_lower c.args.element.now c.in_ok-child.child c.in_ok-kid.kid.now there in
     let longer = ap length c.in_ok-path.ensures.path_to_the_child ∙ length-append c.args.path (c.in_ok-child.child ∷ []) in
     (search rules, omega arith)
+
+-- behind a path that is one number longer
+one_longer : (path : List ℕ) (i : ℕ) (below : Option (List ℕ)) → option_map (λ q. (path ++ i ∷ []) ++ q) below ≡ option_map (λ q. path ++ q) (option_map (λ q. i ∷ q) below)
+one_longer path i None = refl
+one_longer path i (Some q) = ap Some (append_assoc path (i ∷ []) q)
+
+-- what the other steps select from the one child on that the first step selects
+from_child : (scope at : List (List Decl)) (e kid : Tree) (steps rest : List Step) (step : Step) (i : ℕ) (path on : List ℕ) (result : Option (List ℕ)) → steps ≡ step ∷ rest
+    → selected_child scope step (kids_of e) ≡ Some i → slice_get (kids_of e) i ≡ Some kid → on ≡ path ++ i ∷ [] → at ≡ inside scope kid
+    → result ≡ option_map (λ q. on ++ q) (selected_among at (kids_of kid) rest) → result ≡ option_map (λ q. path ++ q) (selected_among scope (kids_of e) steps)
+from_child scope at e kid steps rest step i path on result parts one there way inner found =
+    let below = selected_among (inside scope kid) (kids_of kid) rest in
+    rw (parts, one, there)
+    (found ∙ ap (λ (l : List ℕ). option_map (λ q. l ++ q) (selected_among at (kids_of kid) rest)) way
+    ∙ ap (λ (s : List (List Decl)). option_map (λ q. (path ++ i ∷ []) ++ q) (selected_among s (kids_of kid) rest)) inner ∙ one_longer path i below)
+
+pub returns : goal.returns
+returns t c = record {
+  selects_below_the_element =
+      let scope = c.args.scope.now in let steps = c.args.steps.now in let kid = c.in_ok-kid.kid.now in
+      let step = c.step-item.result in let rest = take (length steps - 1) (drop 1 steps) in
+      let parts : steps ≡ step ∷ rest = grind (arith, common_steps, c.in-len1-up.len_at_least, c.step-item.is) in
+      let inner : c.inside.result ≡ inside scope kid = c.inside.ensures.adds_the_declarations ∙ ap (λ (ds : List Decl). scope ++ ds ∷ []) (c.declared_in-declared.ensures.holds_the_declarations ∙ c.decls.ensures.lends_the_declarations) in
+      from_child scope c.inside.result c.args.element.now kid steps rest step c.in_ok-child.child c.args.path c.in_ok-path.path c.select_below.result parts
+      (sym c.in_ok-child.ensures.selects_the_one_that_matches) (sym c.in_ok-kid.ensures.child_of_that_number) c.in_ok-path.ensures.path_to_the_child inner
+      c.select_below.ensures.selects_below_the_element;
+}

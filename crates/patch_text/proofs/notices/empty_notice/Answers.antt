@@ -1,10 +1,18 @@
-use Rattle.patch_text.proofs.Built.{empty_is}
-use Rattle.std.specs.Str.{chars}
+use Rattle.std.proofs.Common.{[], ◌∷◌, ◌++◌, chars, codes, ap, ◌∙◌}
+use Rattle.xml_tree.specs.Expanded.{name_of}
+use Rattle.xml_tree.specs.Scopes.{decl_of}
+use Rattle.xml_tree.specs.Tree.{Tree, last, tree_of}
+use Rattle.notes.specs.Operations.{plain_attr}
+use Rattle.patch_words.specs.Notices.{diff_uri}
+use Rattle.patch_text.proofs.Words.{diff as diff_word}
 use Rattle.patch_text.proofs.notices.empty_notice.Goals as goal
 
 pub returns : goal.returns
 returns c = record {
   notice_without_documents =
-      empty_is c.args.prefix.now c.in_ok-copy.field-0 c.in_ok-from.field-0 c.in_ok-value.value c.push.new.self (chars c.args.root.now) c.in_ok-made.made c.push_decl.new.self c.push_plain.new.element
-      c.in_ok-made.ensures.has_the_word_alone c.in_ok-copy.ensures.makes_an_equal_text c.in_ok-from.ensures.copies_the_text c.in_ok-value.ensures.copies_the_text c.in_ok-push.ensures.adds_it_behind c.in_ok-push_decl.ensures.adds_the_declaration c.in_ok-push_plain.ensures.adds_the_plain_attribute;
+      let prefix = c.args.prefix.now in
+      let root = plain_attr (codes "xcap-root") (chars c.args.root.now ++ codes "/") in
+      c.in_ok-begin.ensures.declares_and_names
+      ∙ ap (λ (t : Tree). record t { decls = t.decls ++ decl_of prefix diff_uri ∷ []; attrs = t.attrs ++ root ∷ [] }) c.in_ok-made.ensures.has_the_word_alone
+      ∙ (λ i. tree_of (name_of prefix (diff_word i)) (decl_of prefix diff_uri ∷ []) (root ∷ []) (last []));
 }

@@ -1,5 +1,7 @@
-use Rattle.std.proofs.Common.{◌≡◌, [], ◌∷◌, ◌++◌, length, ap, sym, subst, ◌∙◌, eqb-true}
+use Rattle.std.proofs.Common.{◌≡◌, List, [], ◌∷◌, length, min, refl, ap, sym, subst, ◌∙◌, eqb-true}
+use Rattle.xml_tree.specs.declared.names.Decl.{Decl}
 use Rattle.xml_tree.specs.Scopes.{AreInOrder, bindings_in}
+use Rattle.usage_docs.specs.readers.Lengths.{decls_len}
 use Rattle.xml_tree.proofs.BindingWords.{AreInOrder-bindings_in}
 use Rattle.usage_docs.proofs.HiddenLemmas.{hid_within, own_within, shown_len}
 use Rattle.usage_docs.proofs.LengthLemmas.{plain_service, two_capped}
@@ -32,10 +34,10 @@ overflow_sub-whole-2 c =
 pub returns : goal.returns
 returns c = record {
   counts_the_listed_service =
-      let own = c.args.kid.now.decls in
-      let scope : c.with.result ≡ own ∷ [] = c.with.ensures.adds_the_list ∙ (λ i. c.empty.ensures.declares_nothing i ++ c.decls-own.ensures.lends_the_declarations i ∷ []) in
-      let binds : c.deref-2.result.now ≡ bindings_in (own ∷ []) = c.deref-2.ensures.value ∙ c.in_ok-bindings.ensures.all_bindings_in_scope ∙ ap bindings_in scope in
-      shown_len c.args.outer.now.decls.now c.args.kid.now _ _ _ _ _ _ c.decls-own.ensures.lends_the_declarations (c.deref.ensures.value ∙ c.requires.bindings) c.printed_len.ensures.counts_the_printed_element c.requires.counted
-      c.saturating_add-whole.ensures c.if-whole.false c.in_ok-hidden.ensures.counts_what_is_hidden c.decls_len.result c.decls_len-2.result c.saturating_add.result
-      c.deref-2.result.now c.decls_len.ensures.counts_the_printed_declarations c.decls_len-2.ensures.counts_the_printed_declarations binds c.saturating_add.ensures;
+      let own : List Decl = c.args.kid.now.decls in
+      let is = c.decls-own.ensures.lends_the_declarations in
+      shown_len c.args.outer.now.decls.now c.args.kid.now _ _ _ _ _ _ is (c.deref.ensures.value ∙ c.requires.bindings) c.printed_len.ensures.counts_the_printed_element c.requires.counted
+      c.saturating_add-whole.ensures c.if-whole.false c.in_ok-hidden.ensures.counts_what_is_hidden c.decls_len.result c.in_ok-shown.shown c.saturating_add.result
+      (bindings_in (own ∷ [])) c.decls_len.ensures.counts_the_printed_declarations
+      (c.in_ok-shown.ensures.counts_the_bindings ∙ ap (λ (ds : List Decl). min (decls_len (bindings_in (ds ∷ []))) 18446744073709551615) is) refl c.saturating_add.ensures;
 }

@@ -1,13 +1,11 @@
-use Rattle.std.proofs.Common.{Bool, ap, sym, ◌∙◌}
-use Rattle.machine_words.specs.Answers.{not_allowed}
-use Rattle.xcap_server.proofs.Dispatch.{not_taken, taken}
+use Rattle.xcap_server.proofs.Dispatch.{goes_on, turned}
 use Rattle.xcap_server.proofs.requests.decide_target.Goals as goal
 
-pub returns-then-not-takes-clause-decides_as_the_machine : goal.returns-then-not-takes-clause-decides_as_the_machine
-returns-then-not-takes-clause-decides_as_the_machine c =
-    not_taken c.args.root.now c.args.store.now.content c.args.target c.args.request.now c.args.store.now c.args.method c.method-reply.result (sym c.takes.ensures.takes_the_method ∙ c.if-not-takes.true)
-    (c.method-reply.ensures.names_the_methods ∙ ap (λ (b : Bool). not_allowed b c.args.request.now.closes) c.is_read_only.ensures.can_only_be_read)
+pub returns-in-Some-clause-decides_as_the_machine : goal.returns-in-Some-clause-decides_as_the_machine
+returns-in-Some-clause-decides_as_the_machine c =
+    turned c.args.root.now c.args.store.now.content c.args.target c.args.request.now c.args.store.now c.args.method c.in-Some.reply (c.in-Some.ensures.goes_on_or_is_replied c.args.root.now c.args.store.now.content)
 
-pub returns-clause-decides_as_the_machine : goal.returns-clause-decides_as_the_machine
-returns-clause-decides_as_the_machine c =
-    taken c.args.root.now c.args.store.now.content c.args.target c.args.request.now c.decide_user.new.store c.args.method c.decide_user.result (sym c.takes.ensures.takes_the_method ∙ c.if-not-takes.false) c.decide_user.ensures.decides_as_the_machine
+pub returns-in-None-clause-decides_as_the_machine : goal.returns-in-None-clause-decides_as_the_machine
+returns-in-None-clause-decides_as_the_machine c =
+    goes_on c.args.root.now c.args.store.now.content c.args.target c.args.request.now c.decide_method.new.store c.args.method c.decide_method.result c.in-None.ensures.goes_on_or_is_replied.0 c.in-None.ensures.goes_on_or_is_replied.1
+    c.decide_method.ensures.decides_as_the_machine

@@ -1,6 +1,4 @@
 use Rattle.std.proofs.Common.{◌≡◌, List, ℕ, [], ◌∷◌, ◌++◌, codes, IfOk, ap, ◌∙◌, subst}
-use Rattle.doc_names.specs.Ids.{id_text}
-use Rattle.doc_names.specs.declared.doc_id.Home.{Home}
 use Rattle.xcap_uri.proofs.HomeIds.{home_front, uri_of_front, unnamed_id}
 use Rattle.xcap_uri.proofs.ancestors.home_uri.Goals as goal
 
@@ -9,9 +7,7 @@ returns c = record {
   uri_of_the_home =
       let auid = c.args.auid in let home = c.args.home.now in let root = c.args.root.now in
       let made : c.in_ok-id.id ≡ home_front auid home ++ 47 ∷ [] =
-      c.in_ok-id.ensures.prints_the_id ∙ ap (λ (n : List ℕ). id_text (record { auid = auid; home = c.in_ok-home.home; name = n })) c.no_text.ensures.holds_no_characters
-      ∙ ap (λ (h : Home). id_text (record { auid = auid; home = h; name = [] })) c.in_ok-home.ensures.makes_an_equal_home
-      ∙ unnamed_id auid home in
+      c.in_ok-id.ensures.id_without_a_name ∙ unnamed_id auid home in
       let short = c.without_last.ensures.leaves_out_the_last (home_front auid home) 47 (c.as_str.ensures.characters_of_the_text ∙ made) in
       subst (λ (z : List ℕ). IfOk c.uri_under.result (λ uri. uri ≡ z)) (ap (λ (z : List ℕ). root ++ (codes "/" ++ z)) short ∙ uri_of_front root auid home) c.uri_under.ensures.path_under_the_root;
 }

@@ -1,8 +1,29 @@
-use Rattle.http_wire.proofs.ItemLemmas.{gains_on}
+use Rattle.std.proofs.Common.{◌∙◌}
+use Rattle.std.proofs.lemmas.Result.{err_from_is_err_and}
+use Rattle.xcap_io.proofs.Lines.{reads_on}
+use Rattle.http_wire.proofs.ItemLemmas.{gains_on, only_reads_on}
 use Rattle.http_wire.proofs.wire.Inflow.hold.Goals as goal
 
 pub returns-in_err-fill-clause-gains_what_the_source_gave : goal.returns-in_err-fill-clause-gains_what_the_source_gave
 returns-in_err-fill-clause-gains_what_the_source_gave g c = gains_on _ _ _ _ _ _ c.reading.invariant.gains c.in_err-fill.ensures.gains_what_the_source_gave
 
+pub returns-in_err-fill-clause-only_reads : goal.returns-in_err-fill-clause-only_reads
+returns-in_err-fill-clause-only_reads g c =
+    let p = err_from_is_err_and c.from_residual.result c.from_residual.ensures.1 in
+    rw p.1 (only_reads_on _ _ _ _ c.reading.invariant.reads c.reading.invariant.no_fault c.in_err-fill.ensures.only_reads)
+
 pub returns-then-not-branch-clause-gains_what_the_source_gave : goal.returns-then-not-branch-clause-gains_what_the_source_gave
 returns-then-not-branch-clause-gains_what_the_source_gave g c = gains_on _ _ _ _ _ _ c.reading.invariant.gains c.in_ok-fill.ensures.gains_what_the_source_gave
+
+pub returns-then-not-branch-clause-only_reads : goal.returns-then-not-branch-clause-only_reads
+returns-then-not-branch-clause-only_reads g c = record {
+  reads = reads_on _ _ _ c.reading.invariant.reads c.in_ok-fill.ensures.only_reads.reads;
+  counts = c.in_ok-fill.ensures.only_reads.counts ∙ c.reading.invariant.no_fault;
+}
+
+pub reading-preserved : goal.reading-preserved
+reading-preserved g c = record {
+  gains = gains_on _ _ _ _ _ _ c.reading.invariant.gains c.in_ok-fill.ensures.gains_what_the_source_gave;
+  reads = reads_on _ _ _ c.reading.invariant.reads c.in_ok-fill.ensures.only_reads.reads;
+  no_fault = c.in_ok-fill.ensures.only_reads.counts ∙ c.reading.invariant.no_fault;
+}

@@ -1,0 +1,87 @@
+//! The lines of a run.
+use crate::files::bytes_of;
+use crate::way::Way;
+use anyhow::Result;
+use std::alloc::{AllocError, Global};
+use xcap_io::{MemLine, MemPeer, MemPort};
+
+/// The room of each line, which is more than any run takes.
+pub const ROOM: usize = 1_000_000;
+
+/// The lines of a run, but for the one that its audit writes to.
+#[derive(Drop)]
+pub struct Lines {
+    pub port: MemPort,
+    pub peer: MemPeer,
+    pub input: MemLine,
+    pub output: MemLine,
+    pub errors: MemLine,
+}
+
+fn repeated(alloc: Global, once: &[u8], repeat: usize) -> Result<Vec<u8>, AllocError> {
+    let mut bytes = Vec::new(alloc);
+    for _ in 0..repeat {
+        bytes.extend_from_slice(once)?;
+    }
+    Ok(bytes)
+}
+
+// A line that gives these bytes, in pieces of this size.
+fn line_of(alloc: Global, bytes: &[u8], size: usize) -> Result<MemLine, AllocError> {
+    MemLine::new(alloc, bytes, size.max(1), None, ROOM)
+}
+
+// The line that gives the bytes of the file with an ending.
+fn line(rt: &HostRuntime, name: &str, ending: &str, size: usize) -> Result<MemLine> {
+    let bytes = bytes_of(rt, name, ending)?;
+    Ok(line_of(rt.alloc(), &bytes, size)?)
+}
+
+// The line that gives the bytes of the input so many times.
+fn input(rt: &HostRuntime, name: &str, repeat: usize, size: usize) -> Result<MemLine> {
+    let once = bytes_of(rt, name, "in")?;
+    let bytes = repeated(rt.alloc(), &once, repeat)?;
+    Ok(line_of(rt.alloc(), &bytes, size)?)
+}
+
+// Adds the line of a kind with a number, from 0.
+fn push_line(
+    rt: &HostRuntime,
+    lines: &mut Vec<MemLine>,
+    name: &str,
+    kind: &str,
+    index: usize,
+    size: usize,
+) -> Result<()> {
+    let ending = format!(in rt.alloc(); "{kind}{}.in", index as u128 + 1)?;
+    lines.push(line(rt, name, ending.as_str(), size)?)?;
+    Ok(())
+}
+
+// The lines of a kind, of which there are so many.
+fn lines_of(
+    rt: &HostRuntime,
+    name: &str,
+    kind: &str,
+    count: usize,
+    size: usize,
+) -> Result<Vec<MemLine>> {
+    let mut lines = Vec::new(rt.alloc());
+    for index in 0..count {
+        push_line(rt, &mut lines, name, kind, index, size)?;
+    }
+    Ok(lines)
+}
+
+impl Lines {
+    /// The lines of a run whose bytes come in pieces of this size.
+    pub fn new(rt: &HostRuntime, name: &str, way: &Way, size: usize) -> Result<Lines> {
+        Ok(Lines {
+            port: MemPort::new(lines_of(rt, name, "", way.connections, size)?, false, None),
+            peer: MemPeer::new(lines_of(rt, name, "peer", way.peers, size)?, None),
+            input: input(rt, name, way.repeat, size)?,
+            output: line_of(rt.alloc(), b"", 1)?,
+            errors: line_of(rt.alloc(), b"", 1)?,
+        })
+    }
+}

@@ -1,0 +1,60 @@
+//! Whole conversations with the program in memory, as files: what is run, the bytes that come, and
+//! those that are written. It promises nothing upward: it writes a line for each case that goes as
+//! written, says what differs in any other, and then ends with the status 1.
+//! The standards are RFC 4825 and RFC 9112.
+//!
+//! The words of the command line name the cases. README.md says in which files a case stands, and
+//! what its lines say. Here those are run that need no more than streams and connections: the keys
+//! that they may have are `shows`, `only in memory`, `words`, `status`, `repeat`, `connection` and
+//! `peer`. Each run is made twice: with the bytes in one piece and byte by byte. All cases are run
+//! over the real program by `tools/cases`.
+#![tactic(auto)]
+
+mod files;
+mod lines;
+mod run;
+mod shared_line;
+mod way;
+
+use crate::files::bytes_of;
+use crate::run::leaves;
+use crate::way::{Way, ways_of};
+use anyhow::Result;
+use std::env;
+use std::process::ExitCode;
+
+// The size of a piece that holds whatever comes.
+const WHOLE: usize = 1_000_000;
+
+// Whether a run of a case goes as written, whole and byte by byte.
+fn is_as_written(rt: &HostRuntime, name: &str, way: &Way) -> Result<bool> {
+    let whole = leaves(rt, name, way, WHOLE)?;
+    Ok(leaves(rt, name, way, 1)? && whole)
+}
+
+// The ways in which a case is run.
+fn ways(rt: &HostRuntime, name: &str) -> Result<Vec<Way>> {
+    let bytes = bytes_of(rt, name, "case")?;
+    ways_of(rt.alloc(), str::from_utf8(&bytes)?)
+}
+
+// Whether all runs of a case go as written.
+fn holds(rt: &HostRuntime, name: &str) -> Result<bool> {
+    let mut alike = true;
+    for way in &ways(rt, name)? {
+        alike &= is_as_written(rt, name, way)?;
+    }
+    Ok(alike)
+}
+
+fn main(rt: HostRuntime) -> Result<ExitCode> {
+    let mut failed = false;
+    for name in env::args(&rt)?.skip(1) {
+        if holds(&rt, name.as_str())? {
+            println!(rt; "{name}: as written")?;
+        } else {
+            failed = true;
+        }
+    }
+    Ok(ExitCode::from(u8::from(failed)))
+}

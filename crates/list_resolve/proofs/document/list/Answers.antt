@@ -1,7 +1,0 @@
-use Rattle.list_resolve.proofs.Documents.{list_next}
-use Rattle.list_resolve.proofs.document.list.Goals as goal
-
-pub loop-uri-preserved : goal.loop-uri-preserved
-loop-uri-preserved c =
-    list_next c.args.uris.now c.loop-uri.uri-index c.uri-item.result c.loop-uri.list c.push_elem.new.self c.in_ok-entry.field-0 c.loop-uri.invariant c.loop-uri-test.true c.uri-item.is
-    c.in_ok-entry.ensures.entry_of_the_address c.in_ok-push_elem.ensures.adds_the_element
