@@ -1,6 +1,7 @@
 """Requests by curl, and clients that are slow on purpose."""
 import contextlib
 import dataclasses
+import re
 import socket
 import ssl
 import subprocess
@@ -11,6 +12,8 @@ from deployment.stage import HOST, PASSWORD, ROOT
 LISTS = "application/resource-lists+xml"
 ELEMENT = "application/xcap-el+xml"
 NAMESPACE = "urn:ietf:params:xml:ns:resource-lists"
+# A head that a further one follows: of 100 (Continue), or of the first 401 of Digest.
+INTERIM = re.compile(r"\AHTTP/[\d.]+ (?:100|401)(?s:.*?)\n\n(?=HTTP/)")
 
 
 @dataclasses.dataclass
@@ -49,16 +52,18 @@ def curl(*words, sent=None):
     ran = subprocess.run(command, input=sent, stdout=subprocess.PIPE, text=True)
     reply, _, told = ran.stdout.rpartition("\n")
     status, seconds = told.split()
-    head, _, body = reply.replace("\r\n", "\n").partition("\n\n")
+    reply = INTERIM.sub("", reply.replace("\r\n", "\n"))
+    head, _, body = reply.partition("\n\n")
     return Answer(int(status), float(seconds), head, body)
 
 
 class Client:
     """A client of the proxy, known by a password, by a certificate, or not at all."""
 
-    def __init__(self, stage, name=None, certificate=None, password=PASSWORD):
+    def __init__(self, stage, name=None, certificate=None, password=PASSWORD, how=()):
         self.stage = stage
-        self.credentials = ["-u", f"{name}:{password}"] if name else []
+        self.credentials = [*how, "-u", f"{name}:{password}"] if name else []
+        self.port = stage.reader_port if certificate == "reader" else stage.port
         if certificate:
             kept = f"{stage.folder}/{certificate}"
             self.credentials = ["--cert", f"{kept}.pem", "--key", f"{kept}.key"]
@@ -67,7 +72,7 @@ class Client:
         fields = [*fields, f"Content-Type: {media}"] if media else [*fields]
         given = [word for field in fields for word in ("-H", field)]
         how = ["--head"] if method == "HEAD" else ["-X", method]
-        to = ["--connect-to", f"{HOST}:443:127.0.0.1:{self.stage.port}"]
+        to = ["--connect-to", f"{HOST}:443:127.0.0.1:{self.port}"]
         trusted = ["--cacert", f"{self.stage.folder}/clients.pem"]
         return curl(*how, *to, *trusted, *self.credentials, *given, ROOT + path, sent=body)
 

@@ -19,6 +19,7 @@ mkdir $root/sys/fs/cgroup/systemd $root/sys/fs/cgroup/unified
 mount -t cgroup -o none,name=systemd cgroup $root/sys/fs/cgroup/systemd || true
 mount -t cgroup2 cgroup2 $root/sys/fs/cgroup/unified || mount -t cgroup2 cgroup2 $root/sys/fs/cgroup
 install {program} $root/usr/local/bin/xcapd
+install -D {units}/../keep-journal $root/usr/local/lib/xcapd/keep-journal
 install -m 644 {units}/*.service $root/etc/systemd/system/
 for kept in {keeping}; do install -D -m 644 {units}/keep.conf $root/etc/systemd/system/$kept.d/keep.conf; done
 printf '[Unit]\\nRequires=systemd-journald.service {wanted}\\n' > $root/etc/systemd/system/trial.target

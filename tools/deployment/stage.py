@@ -1,31 +1,18 @@
 """A folder with certificates and users, and the processes that are tried in it."""
+import hashlib
 import pathlib
-import re
-import shutil
 import signal
 import socket
 import subprocess
 import time
 
+from deployment import proxies
+
 TOP = pathlib.Path(__file__).resolve().parent.parent.parent
-SITES = TOP / "deploy" / "nginx"
 HOST = "xcap.example.com"
 ROOT = f"https://{HOST}/xcap"
 PASSWORD = "a password"
 USERS = ["joe", "ann", *(f"user{n}" for n in range(20)), "joe@example.com"]
-LISTENS = "listen 443 ssl;"
-PROCESS = re.compile(r"^ *server 127\.0\.0\.1:8081 max_fails=0;\n", re.M)
-MAIN = """\
-daemon off; worker_processes 2; pid {folder}/nginx.pid; error_log {folder}/nginx.log;
-events {{ worker_connections 1024; }}
-http {{
-  log_format told '$status $upstream_status';
-  access_log {folder}/requests.log told;
-  client_body_temp_path {folder}/body; proxy_temp_path {folder}/proxy;
-  fastcgi_temp_path {folder}/f; uwsgi_temp_path {folder}/u; scgi_temp_path {folder}/s;
-  include {folder}/site.conf;
-}}
-"""
 
 
 def free_port():
@@ -49,7 +36,9 @@ class Stage:
         self.program = pathlib.Path(program).resolve()
         self.started = []
         self.proxy = None
-        self.port = None
+        self.port = self.reader_port = None
+        self.users = USERS
+        self.free_port = free_port
 
     def __enter__(self):
         return self
@@ -80,28 +69,23 @@ class Stage:
         self.run("openssl", "x509", "-req", "-in", f"{name}.csr", *by, *signed)
 
     def make_certificates(self):
-        for authority in ("clients", "strangers"):
+        for authority in ("clients", "strangers", "readers"):
             self.make_authority(authority)
         self.make_certificate("server", f"/CN={HOST}", "clients")
+        both = ((self.folder / f"server.{it}").read_text() for it in ("pem", "key"))
+        (self.folder / "haproxy.pem").write_text("".join(both))
         self.make_certificate("joe", "/CN=joe", "clients")
+        self.make_certificate("reader", "/CN=a list server", "readers")
         # Which nginx shows from its end, so that it ends in joe's name.
         self.make_certificate("longer", "/CN=joe/O=a company", "clients")
         self.make_certificate("stranger", "/CN=joe", "strangers")
 
     def make_users(self):
-        kept = self.run("openssl", "passwd", "-6", PASSWORD).strip()
-        (self.folder / "users").write_text("".join(f"{name}:{kept}\n" for name in USERS))
-
-    def make_site(self, name, ports):
-        """The site of deploy/ as it stands, but for its port, its folder and its processes."""
-        text = (SITES / name).read_text().replace("/etc/xcapd/", f"{self.folder}/")
-        servers = "".join(f"    server 127.0.0.1:{port} max_fails=0;\n" for port in ports)
-        if text.count(LISTENS) != 1 or len(PROCESS.findall(text)) != 1:
-            raise SystemExit(f"{name} lists no port or no process as it should")
-        text = text.replace(LISTENS, f"listen 127.0.0.1:{self.port} ssl;")
-        (self.folder / "site.conf").write_text(PROCESS.sub(servers, text))
-        (self.folder / "nginx.conf").write_text(MAIN.format(folder=self.folder))
-        shutil.copytree(SITES, self.folder / "snippets", dirs_exist_ok=True)
+        self.kept = self.run("openssl", "passwd", "-6", PASSWORD).strip()
+        (self.folder / "users").write_text("".join(f"{name}:{self.kept}\n" for name in USERS))
+        digests = (f"{name}:{HOST}:" for name in USERS)
+        known = (it + hashlib.md5(f"{it}{PASSWORD}".encode()).hexdigest() for it in digests)
+        (self.folder / "digests").write_text("\n".join(known) + "\n")
 
     # ---- processes
 
@@ -126,14 +110,15 @@ class Stage:
     def audit(self, port):
         return (self.folder / f"audit-{port}").read_text().splitlines()
 
-    def start_proxy(self, site, ports):
+    def start_proxy(self, site, ports, **changed):
+        """Starts the proxy of a file of deploy/, over processes at these ports."""
         if self.proxy:
             self.end(self.proxy)
         self.port = free_port()
-        self.make_site(site, ports)
-        log = (self.folder / "nginx.log").open("a")
-        self.proxy = self.start(["nginx", "-c", self.folder / "nginx.conf"], stderr=log)
-        self.wait_for(lambda: is_open(self.port), "nginx")
+        words = proxies.prepare(self, site, ports, **changed)
+        with (self.folder / "proxy.log").open("a") as log:
+            self.proxy = self.start(words, stdout=log, stderr=log)
+        self.wait_for(lambda: is_open(self.port), site)
 
     @staticmethod
     def wait_for(holds, what):

@@ -1,17 +1,10 @@
 """Edits in rounds, each of which ends with the process killed at a random moment."""
-import subprocess
 import threading
 import time
 
 from restarting.documents import Documents
-from restarting.server import Ended, Kept
-
-# As docs/JOURNAL.md and deploy/systemd/keep.conf have it.
-NEWER_JOURNAL = """\
-touch journal; test ! -e journal.new \\
-  || cmp -s -n "$(stat -c %s journal.new)" journal journal.new || mv journal.new journal
-"""
-
+from restarting.loop import Looped
+from restarting.server import Ended
 
 class Rounds:
     """What was acknowledged, and what may or may not have been done when the process was killed."""
@@ -30,14 +23,13 @@ class Rounds:
         self.kills_in_restarts = 0
 
     def start(self):
-        subprocess.run(["sh", "-c", NEWER_JOURNAL], cwd=self.folder, check=True)
-        return Kept(self.program, self.folder / "journal", self.folder / "journal.new")
+        return Looped(self.program, self.folder)
 
     def restart(self):
         """Starts it from its journal; now and then it is killed in reading that, or soon after."""
         while self.random.random() < 0.5:
             kept = self.start()
-            time.sleep(self.random.random() * 0.02)
+            time.sleep(self.random.random() * 0.1)
             kept.kill()
             self.kills_in_restarts += 1
         kept = self.start()
@@ -66,7 +58,7 @@ class Rounds:
         self.edits += 1
 
     def edit_until_killed(self, kept):
-        threading.Timer(0.02 + self.random.random() * 0.4, kept.process.kill).start()
+        threading.Timer(0.02 + self.random.random() * 0.4, kept.strike).start()
         try:
             while True:
                 self.edit(kept)
@@ -84,7 +76,7 @@ class Rounds:
         kept.end()
         seen = (
             f"{self.edits} edits acknowledged, {self.done_unheard} done without a reply,"
-            f" {self.kills_in_restarts} more kills in and behind restarts, a journal of"
+            f" {self.kills_in_restarts} more kills in and after restarts, a journal of"
             f" {(self.folder / 'journal.new').stat().st_size} bytes"
         )
         self.report.holds(

@@ -1,20 +1,15 @@
 """The program with a journal in a file, and its one client."""
 import http.client
-import os
 import pathlib
 import resource
 import signal
-import socket
 import subprocess
 import time
 
+from following.server import free_port
+
 ROOT = "http://xcap.example.com/xcap"
 MOST_REQUESTS = 900
-
-
-def free_port():
-    with socket.create_server(("127.0.0.1", 0)) as found:
-        return found.getsockname()[1]
 
 
 class Ended(Exception):
@@ -24,7 +19,7 @@ class Ended(Exception):
 class Kept:
     """A process of `keep`. Its old journal is one file, its new one another."""
 
-    def __init__(self, program, old, new, connections=1000, limit=None, around=None):
+    def __init__(self, program, old, new, connections=1000, limit=None):
         self.port = free_port()
         self.errors = pathlib.Path(f"{new}.errors")
         words = ["keep", f"127.0.0.1:{self.port}", ROOT, str(connections)]
@@ -41,7 +36,6 @@ class Kept:
                 stdout=sink,
                 stderr=errors,
                 preexec_fn=bounded,
-                env={**os.environ, **(around or {})},
             )
         self.connection = None
         self.asked = 0
@@ -90,8 +84,12 @@ class Kept:
             self.connection.close()
             self.connection = None
 
-    def kill(self):
+    def strike(self):
+        """Kills it, and doesn't wait for its end."""
         self.process.kill()
+
+    def kill(self):
+        self.strike()
         self.process.wait()
 
     def end(self):
